@@ -1,0 +1,5 @@
+pub mod Walk
+pub mod Descent
+pub mod Steps
+pub mod Visits
+pub mod Weaving
