@@ -1,5 +1,5 @@
-use Rattle.std.proofs.Common.{◌≡◌, ◌+◌, length, arith, ap, ◌∙◌, length-append, [], ◌∷◌}
-use Rattle.page_store.specs.Stored.{Stored, joined}
+use Rattle.std.proofs.Common.{length, arith, ap, ◌∙◌, length-append, [], ◌∷◌}
+use Rattle.page_store.specs.Stored.{joined}
 use Rattle.page_store.proofs.Cuts.{IsCut-push, length-joined-push}
 use Rattle.page_store.proofs.stored.Pages.add.Goals as goal
 
