@@ -67,4 +67,4 @@ sum_rises f (x ∷ xs) (y ∷ ys) (suc i) kept l h =
 
 -- so it does where the door to one of the providers did
 pub sum_rises_at : {D : Type 0} (f : D → ℕ) (xs ys : List D) (provider : ℕ) → NoneFell (map f xs) (map f ys) → IsProvider (length xs) provider → RoseAt (map f xs) (map f ys) provider → HasRisen (sum_by f xs) (sum_by f ys)
-sum_rises_at f xs ys provider kept known h = let within : provider - 1 < length xs = omega (arith, known.from_one, known.within) in sum_rises f xs ys (provider - 1) kept within h
+sum_rises_at f xs ys provider kept known h = let within : provider - 1 < length xs = omega (arith, known.0, known.1) in sum_rises f xs ys (provider - 1) kept within h

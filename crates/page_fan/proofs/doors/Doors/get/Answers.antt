@@ -10,5 +10,5 @@ pub returns-clause-failed : goal.returns-clause-failed
 returns-clause-failed g c =
     let served = rw (← c.self.view_is) at c.requires.served in
     let same = c.provider-provider.ensures in
-    let within : c.provider-provider.result - 1 < length c.self.inside.doors.items = omega (arith, same, served.from_one, served.within) in
+    let within : c.provider-provider.result - 1 < length c.self.inside.doors.items = omega (arith, same, served.0, served.1) in
     rw (← c.self.view_is, ← same) (OnGetFailed-weaken _ _ (rises_at g.D.Door.faults c.self.inside.doors.items (c.provider-provider.result - 1) _ c.get.new.self within c.index_mut-door.ensures.value) c.get.result c.get.ensures.failed)

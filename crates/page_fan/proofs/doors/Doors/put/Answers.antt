@@ -9,5 +9,5 @@ returns-clause-none_fell g c = rw (← c.self.view_is) (none_falls g.D.Door.faul
 pub returns-clause-failed : goal.returns-clause-failed
 returns-clause-failed g c =
     let door = rw (← c.self.view_is) at c.requires.door in
-    let within : c.args.provider - 1 < length c.self.inside.doors.items = omega (arith, door.from_one, door.within) in
+    let within : c.args.provider - 1 < length c.self.inside.doors.items = omega (arith, door.0, door.1) in
     rw (← c.self.view_is) (OnPutFailed-weaken _ _ (rises_at g.D.Door.faults c.self.inside.doors.items (c.args.provider - 1) _ c.put.new.self within c.index_mut-door.ensures.value) c.put.result c.put.ensures.failed)
