@@ -1,5 +1,5 @@
 -- Pages that are cut at multiples of one length.
-use Rattle.std.proofs.Common.{◌≡◌, ℕ, zero, suc, ◌+◌, ◌*◌, ◌<◌, ◌≤◌, ◌-◌, sym, take, drop, List, [], ◌∷◌, ◌++◌, length, arith, ap, ◌∙◌, append-nil, length-append}
+use Rattle.std.proofs.Common.{◌≡◌, ℕ, zero, suc, ◌+◌, ◌*◌, ◌≤◌, ◌-◌, sym, take, drop, List, [], ◌∷◌, ◌++◌, length, arith, ap, ◌∙◌, append-nil, length-append}
 use Rattle.std.proofs.Math.Seq.{take-append_seam, drop-append-add}
 use Rattle.std.specs.Prelude.{Some, slice_get, slice_range, min}
 use Rattle.std.proofs.lemmas.List.Concat.{flat_map-append}

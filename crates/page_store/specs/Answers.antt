@@ -1,5 +1,5 @@
 -- What a door's answers say.
-use Rattle.std.specs.Prelude.{ℕ, List, Bool, true, false}
+use Rattle.std.specs.Prelude.{Bool, true, false}
 use Rattle.page_store.specs.Page.{Page}
 use Rattle.page_store.specs.declared.door.PutAnswer.{PutAnswer}
 use Rattle.page_store.specs.declared.door.PutAnswer.TheVariants as put

@@ -1,5 +1,5 @@
 -- What a clause sees of a door that fails by a list, and of the maker of such doors.
-use Rattle.std.specs.Prelude.{◌≡◌, ℕ, ◌+◌, ◌-◌, ◌^◌, ◌==◌, min, Bool, if◌then◌else◌, List, [], slice_index_or}
+use Rattle.std.specs.Prelude.{ℕ, ◌+◌, ◌-◌, ◌^◌, ◌==◌, min, Bool, if◌then◌else◌, List, [], slice_index_or}
 use Rattle.std.specs.List.{list_any}
 use Rattle.std.specs.Coded.{Coded, coded×, coded_ℕ, coded_list}
 use base.Stored.{coded_via}

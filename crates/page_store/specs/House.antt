@@ -12,10 +12,9 @@ pub record House : Type 0 where
 abbrev pub house_coded : Coded House
 house_coded = coded_via (coded× coded_ℕ shelves_coded) (λ (h : House). (h.provider, h.shelves)) (λ x y e i. record { provider = (e i).0; shelves = (e i).1 })
 
--- a provider is one of the first `count`, which are numbered from 1
-pub record IsProvider (count provider : ℕ) : Type 0 where
-  pub from_one : 1 ≤ provider
-  pub within : provider ≤ count
+-- a provider is one of so many, which are numbered from 1
+abbrev pub IsProvider : ℕ → ℕ → Type 0
+IsProvider count provider = (1 ≤ provider) × (provider ≤ count)
 
 -- the first house is that of provider 1, and so on
 abbrev pub AreNumbered : List House → Type 0

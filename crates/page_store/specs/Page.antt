@@ -1,5 +1,5 @@
 -- What a clause sees of a reference to a page, and where a page lies.
-use Rattle.std.specs.Prelude.{◌≡◌, ℕ, ◌-◌, ◌≤◌, List, length, Option, Some, None, slice_get, IsSomeAnd}
+use Rattle.std.specs.Prelude.{◌≡◌, ℕ, ◌-◌, List, length, Option, Some, None, slice_get, IsSomeAnd}
 use Rattle.std.specs.Coded.{Coded, coded×, coded_ℕ, coded_list}
 use base.Stored.{coded_via}
 use Rattle.boxcar.specs.Table.{id_at}

@@ -77,7 +77,7 @@ impl PageHouse {
         ensures bytes { IfOk result (λ page. page.bytes ≡ bytes.now) }
     {
         let copy = Vec::from_slice(self.alloc, bytes)?;
-        let len = bytes.len() as u32;
+        let len = copy.len() as u32;
         match self.pages.push_shown(rt, copy) {
             Ok(pushed) => Ok(PageRef {
                 provider: self.provider,

@@ -127,7 +127,8 @@ impl Pages {
         requires full { AllFull self.old.page_size self.old.pages }
         requires some { 1 ≤ length page.bytes }
         requires fits { length page.bytes ≤ self.old.page_size }
-        ensures { self.new ≡ record { page_size = self.old.page_size; room = self.old.room; pages = self.old.pages ++ page ∷ [] } }
+        ensures added { self.new ≡ record { page_size = self.old.page_size; room = self.old.room; pages = self.old.pages ++ page ∷ [] } }
+        ensures cut { IsCut self.new.page_size self.new.pages }
     {
         self.len += u64::from(page.len());
         self.pages.push_reserved(page);

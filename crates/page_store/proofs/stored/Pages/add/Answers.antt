@@ -1,5 +1,5 @@
-use Rattle.std.proofs.Common.{◌≡◌, ◌+◌, length, arith, ap, ◌∙◌, length-append, [], ◌∷◌}
-use Rattle.page_store.specs.Stored.{Stored, joined}
+use Rattle.std.proofs.Common.{length, arith, ap, ◌∙◌, length-append, [], ◌∷◌}
+use Rattle.page_store.specs.Stored.{joined}
 use Rattle.page_store.proofs.Cuts.{IsCut-push, length-joined-push}
 use Rattle.page_store.proofs.stored.Pages.add.Goals as goal
 
@@ -22,3 +22,9 @@ invariant_of-self c =
       bounded = rw count (omega arith);
       cut = rw more (IsCut-push c.self.inside.page_size pages c.args.page full c.requires.some fits);
     }
+
+pub returns-clause-cut : goal.returns-clause-cut
+returns-clause-cut c =
+    let full = rw (← c.self.view_is) at c.requires.full in
+    let fits = rw (← c.self.view_is) at c.requires.fits in
+    rw c.push_reserved.ensures.items (IsCut-push c.self.inside.page_size c.self.inside.pages.items c.args.page full c.requires.some fits)
