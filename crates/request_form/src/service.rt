@@ -5,7 +5,7 @@ use std::thread::Threads;
 /// One session of a store. Other sessions may change the store between and within its answers.
 pub trait Service {
     ghost use Rattle.std.specs.Prelude.{◌≡◌, ℕ, false};
-    ghost use Rattle.ports.specs.Stream.{RoseBy};
+    ghost use Rattle.ports.specs.Counts.{RoseBy};
     ghost use Rattle.request_form.specs.Session.{Session, AllOther};
     ghost use Rattle.request_form.specs.Answers.{Answers};
     ghost use Rattle.request_form.specs.Replies.{fault_count};
