@@ -2,3 +2,4 @@ pub mod Fields
 pub mod Requests
 pub mod Lines
 pub mod Said
+pub mod Begun
