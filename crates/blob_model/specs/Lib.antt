@@ -1,0 +1,5 @@
+pub mod Limits
+pub mod Content
+pub mod Store
+pub mod Answer
+pub mod History
