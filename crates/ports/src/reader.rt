@@ -34,6 +34,18 @@ impl<R: Read> ReaderSource<R> {
             ends: 0,
         }
     }
+
+    /// The reader, with what it has left.
+    pub fn into_inner(self) -> R
+        ensures { R.remaining result ≡ ⟦<ReaderSource<R> as Ends>⟧.left self }
+    {
+        let ReaderSource {
+            reader,
+            faults: _,
+            ends: _,
+        } = self;
+        reader
+    }
 }
 
 // One read, tried again where it was interrupted.
