@@ -35,19 +35,27 @@ links_step p v j us r half pos bounds in_list node newest large which begins =
     let some : 1 ≤ newest_of p log v half = newest_some p log v half g in_log (aligned_size p half pos d.0) (omega (arith, begins, size-touches p us v in_list)) in
     (link_stands p log j half pos g node.version.1 d.0 (omega (arith, d.1, node.within)) (omega (arith, agree, some)), agree)
 
-pub child_stands : ChildStands
-child_stands p v j h q c log pos is in_log node newest which begins =
-    let g : Grown p log = grown_log p log pos is in
-    let r : Range = tree_range p (suc h) q in
-    let half : Range = tree_range p h c in
+pub half_within : (p h q c : ℕ) → (c ≡ 2 * q) ⊎ (c ≡ 2 * q + 1) → Within (tree_range p h c) (tree_range p (suc h) q)
+half_within p h q c which =
     let size : p * 2 ^ suc h ≡ 2 * (p * 2 ^ h) = double p h in
     let low : q * (p * 2 ^ suc h) ≡ 2 * q * (p * 2 ^ h) = rw size (omega arith) in
     let mid : (2 * q + 1) * (p * 2 ^ h) ≡ 2 * q * (p * 2 ^ h) + p * 2 ^ h = omega arith in
-    let at_c : c * (p * 2 ^ h) ≡ 2 * q * (p * 2 ^ h) ⊎ (c * (p * 2 ^ h) ≡ (2 * q + 1) * (p * 2 ^ h)) = elim which [
-      | inl e ↦ inl (ap (λ n. n * (p * 2 ^ h)) e)
-      | inr e ↦ inr (ap (λ n. n * (p * 2 ^ h)) e)
-    ] in
-    let w : Within half r = elim at_c [ inl e ↦ (omega arith, omega arith) | inr e ↦ (omega arith, omega arith) ] in
-    let agree : newest_of p log j half ≡ newest_of p log v half = ap (λ i. newest_of p log i half) newest ∙ newest_within p log v half r w in
+    elim which [
+      | inl e ↦ (let at : c * (p * 2 ^ h) ≡ 2 * q * (p * 2 ^ h) = ap (λ n. n * (p * 2 ^ h)) e in (omega arith, omega arith))
+      | inr e ↦ (let at : c * (p * 2 ^ h) ≡ (2 * q + 1) * (p * 2 ^ h) = ap (λ n. n * (p * 2 ^ h)) e in (omega arith, omega arith))
+    ]
+
+-- a link of the newest node for a range is the newest for its half
+pub half_agrees : (p : ℕ) (log : List Touch) (v j h q c : ℕ) → j ≡ newest_of p log v (tree_range p (suc h) q) → (c ≡ 2 * q) ⊎ (c ≡ 2 * q + 1)
+    → newest_of p log j (tree_range p h c) ≡ newest_of p log v (tree_range p h c)
+half_agrees p log v j h q c newest which =
+    ap (λ i. newest_of p log i (tree_range p h c)) newest ∙ newest_within p log v (tree_range p h c) (tree_range p (suc h) q) (half_within p h q c which)
+
+pub child_stands : ChildStands
+child_stands p v j h q c log pos is in_log node newest which begins =
+    let g : Grown p log = grown_log p log pos is in
+    let half : Range = tree_range p h c in
+    let w : Within half (tree_range p (suc h) q) = half_within p h q c which in
+    let agree : newest_of p log j half ≡ newest_of p log v half = half_agrees p log v j h q c newest which in
     let some : 1 ≤ newest_of p log v half = newest_some p log v half g in_log (size_pos p h pos) begins in
     (link_stands p log j half pos g node.version.1 (h, c, refl) (omega (arith, w, node.within)) (omega (arith, agree, some)), agree)
