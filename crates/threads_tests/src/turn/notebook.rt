@@ -105,6 +105,11 @@ impl Notebook {
         (*by, text.len())
     }
 
+    /// How many texts a caller wrote.
+    pub fn count_by(&self, caller: u32) -> usize {
+        self.notes.iter().filter(|note| note.0 == caller).count()
+    }
+
     /// How many texts there are.
     pub fn len(&self) -> usize
         ensures { result ≡ length self.now.0 }
