@@ -1,0 +1,5 @@
+//! Tests that start threads.
+#![tactic(auto)]
+
+#[cfg(test)]
+mod placement;
