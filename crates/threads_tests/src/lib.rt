@@ -3,3 +3,6 @@
 
 #[cfg(test)]
 mod turn;
+
+#[cfg(test)]
+mod placement;
