@@ -148,7 +148,7 @@ impl Source for MemSource {
         ensures piece { IsPiece buf.old buf.new result }
         ensures given { Appends (Some self.old.given) (Some self.new.given) (taken_bytes buf.new result) }
         ensures left { Consumes (Some self.old.left) (Some self.new.left) (taken_bytes buf.new result) }
-        ensures end { EndsAtEnd (Some self.old.left) result }
+        ensures end { EndsAtEnd (Some self.new.left) result }
         ensures read_faults { RoseBy (read_fault_count result) self.old.faults self.new.faults }
         ensures ends { CountsEnd result self.old.ends self.new.ends }
 
