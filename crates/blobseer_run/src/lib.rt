@@ -1,0 +1,11 @@
+//! The program: one command, from the bytes that come in to the bytes that go out.
+#![tactic(auto)]
+
+ghost use Rattle.std.specs.Prelude.{◌≡◌};
+
+mod blob_end;
+mod flat;
+mod fold;
+mod take;
+
+pub use take::{TakeFault, take_all};
