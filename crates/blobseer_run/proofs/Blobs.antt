@@ -44,7 +44,7 @@ waiting_whole us = ap (λ (n : ℕ). length us - n) (published_whole us) ∙ ome
 
 -- ---- the first refusal of some
 
-none_of_one : (s : Store) (a : Test) (done : Answered) → a.refuses ≡ false → unless_refused s (a ∷ []) done ≡ done
+pub none_of_one : (s : Store) (a : Test) (done : Answered) → a.refuses ≡ false → unless_refused s (a ∷ []) done ≡ done
 none_of_one s a done p = rw p refl
 
 first_of_one : (s : Store) (a : Test) (done : Answered) → a.refuses ≡ true → unless_refused s (a ∷ []) done ≡ refuse s a.refusal
@@ -90,10 +90,10 @@ finishes_at s blob version b = unless_refused s (already b version ∷ []) (with
 
 -- ---- calls on a blob that is there
 
-in_blob_here : (s : Store) (blob : ℕ) (b : Blob) (f : Blob → Answered) → blob_at s blob ≡ Some b → in_blob s blob f ≡ f b
+pub in_blob_here : (s : Store) (blob : ℕ) (b : Blob) (f : Blob → Answered) → blob_at s blob ≡ Some b → in_blob s blob f ≡ f b
 in_blob_here s blob b f h = ap (λ (o : Option Blob). let a : Answered = elim o [ None ↦ refuse s (Refusals.NoBlob blob) | Some x ↦ f x ] in a) h
 
-in_blob_none : (s : Store) (blob : ℕ) (f : Blob → Answered) → blob_at s blob ≡ None → in_blob s blob f ≡ refuse s (Refusals.NoBlob blob)
+pub in_blob_none : (s : Store) (blob : ℕ) (f : Blob → Answered) → blob_at s blob ≡ None → in_blob s blob f ≡ refuse s (Refusals.NoBlob blob)
 in_blob_none s blob f h = ap (λ (o : Option Blob). let a : Answered = elim o [ None ↦ refuse s (Refusals.NoBlob blob) | Some x ↦ f x ] in a) h
 
 -- an append by the one caller

@@ -34,11 +34,11 @@ use Rattle.blobseer_run.proofs.Blobs.{whole_size, appending, IsAppended, IsCreat
 
 -- ---- histories that go on
 
-store_from-append : (s : Store) (xs ys : List Event) → store_from s (xs ++ ys) ≡ store_from (store_from s xs) ys
+pub store_from-append : (s : Store) (xs ys : List Event) → store_from s (xs ++ ys) ≡ store_from (store_from s xs) ys
 store_from-append s [] ys = refl
 store_from-append s (x ∷ xs) ys = store_from-append (answer s (caller_of x) (call_of x)).0 xs ys
 
-legal-append : (s : Store) (xs ys : List Event) → IsLegalFrom s xs → IsLegalFrom (store_from s xs) ys → IsLegalFrom s (xs ++ ys)
+pub legal-append : (s : Store) (xs ys : List Event) → IsLegalFrom s xs → IsLegalFrom (store_from s xs) ys → IsLegalFrom s (xs ++ ys)
 legal-append s [] ys h k = k
 legal-append s (x ∷ xs) ys h k = (h.0, legal-append (answer s (caller_of x) (call_of x)).0 xs ys h.1 k)
 

@@ -6,6 +6,9 @@ ghost use Rattle.std.specs.Prelude.{◌≡◌};
 mod blob_end;
 mod flat;
 mod fold;
+pub mod laws;
+mod status;
 mod take;
+mod taken;
 
 pub use take::{TakeFault, take_all};
