@@ -1,7 +1,7 @@
 -- Known bytes of std's readers over several tries.
 use Rattle.std.proofs.Common.{◌≡◌, ℕ, List, [], ◌++◌, None, Some, take, sym, ◌∙◌, ap}
 use Rattle.std.specs.Prelude.{Option}
-use Rattle.std.specs.Io.KnownBytes.{Keeps, Consumes, IsAtEnd}
+use Rattle.std.specs.Io.KnownBytes.{Keeps, Consumes}
 
 -- a read of no byte after reads that were interrupted took nothing
 pub Consumes-nothing : (a b c : Option (List ℕ)) (buf : List ℕ) (n : ℕ) → n ≡ 0 → Keeps a b → Consumes b c (take n buf) → Consumes a c []
@@ -9,10 +9,3 @@ Consumes-nothing None b c buf n none kept taken = tt
 Consumes-nothing (Some x) None c buf n none kept taken = absurd kept
 Consumes-nothing (Some x) (Some y) None buf n none kept taken = absurd taken
 Consumes-nothing (Some x) (Some y) (Some z) buf n none kept taken = sym kept ∙ (taken ∙ ap (λ (k : ℕ). take k buf ++ z) none)
-
--- and where nothing was left after it, nothing was left before
-pub IsAtEnd-before : (a b c : Option (List ℕ)) (buf : List ℕ) (n : ℕ) → n ≡ 0 → Keeps a b → Consumes b c (take n buf) → IsAtEnd c → IsAtEnd a
-IsAtEnd-before None b c buf n none kept taken end = tt
-IsAtEnd-before (Some x) None c buf n none kept taken end = absurd kept
-IsAtEnd-before (Some x) (Some y) None buf n none kept taken end = absurd taken
-IsAtEnd-before (Some x) (Some y) (Some z) buf n none kept taken end = sym kept ∙ (taken ∙ (ap (λ (k : ℕ). take k buf ++ z) none ∙ end))

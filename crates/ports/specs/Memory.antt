@@ -1,7 +1,9 @@
 -- Streams in memory.
-use Rattle.std.specs.Prelude.{ℕ, Bool, true, false, List, [], ◌∷◌, length, min}
+use Rattle.std.specs.Prelude.{ℕ, Bool, true, false, List, [], ◌∷◌, length, min, nat_le}
 use Rattle.ports.specs.declared.stream.Taken.{Taken}
 use Rattle.ports.specs.declared.stream.Taken.TheVariants as Takens
+use Rattle.ports.specs.declared.stream.Written.{Written}
+use Rattle.ports.specs.declared.stream.Written.TheVariants as Writtens
 
 -- A source in memory: the bytes that it gave and those that are left, the greatest length of a piece, which of its next calls fail, and its counts.
 pub record Reading : Type 0 where
@@ -32,3 +34,12 @@ pub record Kept : Type 0 where
   pub bytes : List ℕ
   pub limit : ℕ
   pub faults : ℕ
+
+-- what a write answers, by whether all bytes fit, and the room
+abbrev pub answer_of_room : Bool → ℕ → Written
+answer_of_room true room = Writtens.Whole
+answer_of_room false room = Writtens.Failed room
+
+-- what a write of so many bytes answers, by the room
+abbrev pub write_answer : ℕ → ℕ → Written
+write_answer count room = answer_of_room (nat_le count room) room

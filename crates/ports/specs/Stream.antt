@@ -25,7 +25,7 @@ IsPiece old new (Takens.Got n) = FillsFront n old new
 IsPiece old new Takens.End = new ≡ old
 IsPiece old new Takens.Failed = new ≡ old
 
--- a read answers End only where nothing is left
+-- a read answers End only where nothing is left, here after it
 abbrev pub EndsAtEnd : Option (List ℕ) → Taken → Type 0
 EndsAtEnd left (Takens.Got n) = ⊤
 EndsAtEnd left Takens.End = IsAtEnd left

@@ -135,7 +135,29 @@ impl Ends for MemSource {
 }
 
 impl Source for MemSource {
-    fn read(&mut self, buf: &mut [u8]) -> Taken {
+    ghost use Rattle.std.specs.Prelude.{Some, false};
+    ghost use Rattle.std.specs.Io.KnownBytes.{Appends, Consumes};
+    ghost use Rattle.ports.specs.Stream.{taken_bytes, IsPiece, EndsAtEnd, CountsEnd, read_fault_count};
+    ghost use Rattle.ports.specs.Memory.{fails_next, read_answer};
+
+    /// Takes the next piece, unless this call is one that fails.
+    fn read(&mut self, buf: &mut [u8]) -> Taken
+        requires { 0 < length buf.old }
+
+        // What each source ensures.
+        ensures piece { IsPiece buf.old buf.new result }
+        ensures given { Appends (Some self.old.given) (Some self.new.given) (taken_bytes buf.new result) }
+        ensures left { Consumes (Some self.old.left) (Some self.new.left) (taken_bytes buf.new result) }
+        ensures end { EndsAtEnd (Some self.new.left) result }
+        ensures read_faults { RoseBy (read_fault_count result) self.old.faults self.new.faults }
+        ensures ends { CountsEnd result self.old.ends self.new.ends }
+
+        // Which answer it is, and that only a failing call counts a fault.
+        ensures answer { result ≡ read_answer (fails_next self.old.plan) self.old.left self.old.piece (length buf.old) }
+        ensures plan { self.new.plan ≡ drop 1 self.old.plan }
+        ensures same_pieces { self.new.piece ≡ self.old.piece }
+        ensures calm { fails_next self.old.plan ≡ false → self.new.faults ≡ self.old.faults }
+    {
         if self.fails_now() {
             self.faults = count_up(self.faults);
             return Taken::Failed;
@@ -225,7 +247,23 @@ impl Ends for MemSink {
 }
 
 impl Sink for MemSink {
-    fn write(&mut self, bytes: &[u8]) -> Written {
+    ghost use Rattle.std.specs.Prelude.{Some};
+    ghost use Rattle.std.specs.Io.KnownBytes.{Appends};
+    ghost use Rattle.ports.specs.Stream.{appended_bytes, LeavesOut, write_fault_count};
+    ghost use Rattle.ports.specs.Memory.{write_answer};
+
+    /// Keeps the bytes, and fails before the first for which there is no room.
+    fn write(&mut self, bytes: &[u8]) -> Written
+        // What each sink ensures.
+        ensures part { LeavesOut bytes.now result }
+        ensures written { Appends (Some self.old.bytes) (Some self.new.bytes) (appended_bytes bytes.now result) }
+        ensures write_faults { RoseBy (write_fault_count result) self.old.faults self.new.faults }
+
+        // Which answer it is, and that only missing room counts a fault.
+        ensures answer { result ≡ write_answer (length bytes.now) (self.old.limit - length self.old.bytes) }
+        ensures limit { self.new.limit ≡ self.old.limit }
+        ensures calm { length bytes.now ≤ self.old.limit - length self.old.bytes → self.new.faults ≡ self.old.faults }
+    {
         let n = self.keep(bytes);
         if n == bytes.len() {
             return Written::Whole;

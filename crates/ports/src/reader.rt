@@ -34,6 +34,18 @@ impl<R: Read> ReaderSource<R> {
             ends: 0,
         }
     }
+
+    /// The reader, with what it has left.
+    pub fn into_inner(self) -> R
+        ensures { R.remaining result ≡ ⟦<ReaderSource<R> as Ends>⟧.left self }
+    {
+        let ReaderSource {
+            reader,
+            faults: _,
+            ends: _,
+        } = self;
+        reader
+    }
 }
 
 // One read, tried again where it was interrupted.
@@ -41,7 +53,7 @@ fn read_piece<R: Read>(reader: &mut R, piece: &mut [u8]) -> Taken
     requires { 0 < length piece.old }
     ensures within { IsWithin (length piece.old) result }
     ensures left { Consumes (R.remaining reader.old) (R.remaining reader.new) (taken_bytes piece.new result) }
-    ensures end { EndsAtEnd (R.remaining reader.old) result }
+    ensures end { EndsAtEnd (R.remaining reader.new) result }
 {
     for _ in 0..u64::MAX {
         match reader.read(piece) {
@@ -67,7 +79,7 @@ fn read_front<R: Read>(reader: &mut R, buf: &mut [u8]) -> Taken
     requires { 0 < length buf.old }
     ensures piece { IsPiece buf.old buf.new result }
     ensures left { Consumes (R.remaining reader.old) (R.remaining reader.new) (taken_bytes buf.new result) }
-    ensures end { EndsAtEnd (R.remaining reader.old) result }
+    ensures end { EndsAtEnd (R.remaining reader.new) result }
 {
     let mut piece = empty_piece();
     let room = buf.len().min(PIECE);

@@ -64,7 +64,7 @@ pub trait Source: Ends {
         ensures piece { IsPiece buf.old buf.new result }
         ensures given { Appends (Self.given self.old) (Self.given self.new) (taken_bytes buf.new result) }
         ensures left { Consumes (Self.left self.old) (Self.left self.new) (taken_bytes buf.new result) }
-        ensures end { EndsAtEnd (Self.left self.old) result }
+        ensures end { EndsAtEnd (Self.left self.new) result }
 
         // Its counts.
         ensures read_faults { RoseBy (read_fault_count result) (Self.read_faults self.old) (Self.read_faults self.new) }

@@ -25,6 +25,14 @@ impl<W: Write> WriterSink<W> {
     {
         WriterSink { writer, faults: 0 }
     }
+
+    /// The writer, with what was written.
+    pub fn into_inner(self) -> W
+        ensures { W.contents result ≡ ⟦<WriterSink<W> as Ends>⟧.written self }
+    {
+        let WriterSink { writer, faults: _ } = self;
+        writer
+    }
 }
 
 // One write, tried again where it was interrupted. No byte is a fault.

@@ -1,0 +1,17 @@
+use Rattle.std.proofs.Common.{◌-◌, ◌≡◌, ◌<◌, ◌≤◌, ℕ, length}
+use Rattle.std.specs.Prelude.{Some, slice_get}
+use Rattle.node_store.specs.Order.{Before}
+use Rattle.node_store.specs.Placed.{PlacedNode}
+use Rattle.node_store.proofs.row.Row.at.Given as goal
+
+-- the nodes below `low` stand before the range, and those from `high` on after it
+abbrev pub invariant-loop-low : goal.invariant-loop-low
+invariant-loop-low l = record {
+  meet : l.low ≤ l.high;
+  within : l.high ≤ length l.self.nodes;
+  below : (i : ℕ) (a : PlacedNode) → i < l.low → slice_get l.self.nodes i ≡ Some a → Before a.key.range l.range;
+  above : (i : ℕ) (a : PlacedNode) → l.high ≤ i → slice_get l.self.nodes i ≡ Some a → Before l.range a.key.range;
+}
+
+abbrev pub decreases-loop-low : goal.decreases-loop-low
+decreases-loop-low l = l.high - l.low

@@ -1,0 +1,46 @@
+-- What a clause sees of the row of one update.
+use Rattle.std.specs.Prelude.{◌≡◌, ◌≢◌, ℕ, ◌-◌, List, [], ◌∷◌, ◌++◌, length, Option, Some, slice_get, All}
+use Rattle.std.specs.List.{Contains}
+use Rattle.boxcar.specs.Table.{Shelves}
+use Rattle.tree_geom.specs.declared.range.Range.{Range}
+use Rattle.tree_geom.specs.declared.touch.Touch.{Touch}
+use Rattle.page_store.specs.House.{House}
+use Rattle.page_store.specs.Stored.{Cut, LieAmong}
+use Rattle.node_store.specs.House.{IsIn}
+use Rattle.node_store.specs.Placed.{PlacedNode}
+
+-- the row: the blob and the version of its nodes, what the update touches, how many nodes there is room for, the nodes,
+-- and the update's stored pages
+pub record UpdateRow : Type 0 where
+  pub blob : ℕ
+  pub version : ℕ
+  pub touch : Touch
+  pub room : ℕ
+  pub nodes : List PlacedNode
+  pub pages : Cut
+
+-- a row without nodes
+abbrev pub empty_row : ℕ → ℕ → Touch → ℕ → Cut → UpdateRow
+empty_row blob version touch room pages = record { blob = blob; version = version; touch = touch; room = room; nodes = []; pages = pages }
+
+-- the row with one node more at its end
+abbrev pub with_node : UpdateRow → PlacedNode → UpdateRow
+with_node row placed = record row { nodes = row.nodes ++ placed ∷ [] }
+
+-- the last of the nodes, if there are any
+abbrev pub last_node : List PlacedNode → Option PlacedNode
+last_node nodes = slice_get nodes (length nodes - 1)
+
+-- the row has no node of that range
+abbrev pub HasNoNodeFor : UpdateRow → Range → Type 0
+HasNoNodeFor row range = (i : ℕ) (placed : PlacedNode) → slice_get row.nodes i ≡ Some placed → placed.key.range ≢ range
+
+-- it is the row's node of that range, under the row's blob and version
+pub record IsNodeFor (row : UpdateRow) (range : Range) (placed : PlacedNode) : Type 0 where
+  pub among : Contains row.nodes placed
+  pub key : placed.key ≡ record { blob = row.blob; version = row.version; range = range }
+
+-- the row's nodes lie in this house, and its pages in these houses
+pub record IsRowIn (nodes : List Shelves) (houses : List House) (row : UpdateRow) : Type 0 where
+  pub nodes_here : All (IsIn nodes) row.nodes
+  pub pages_here : LieAmong houses row.pages.pages

@@ -1,0 +1,140 @@
+// The nodes of one update, by range.
+ghost use Rattle.std.specs.Prelude.{◌≡◌, ◌<◌, length, IfOk, IfSome, MatchOption, Some, slice_get};
+ghost use Rattle.std.specs.Arc.{arc_value};
+ghost use Rattle.std.specs.Ordering.{MatchOrdering};
+ghost use Rattle.node_store.specs.Order.{Before};
+ghost use Rattle.node_store.specs.Rows.{empty_row, with_node, last_node, IsNodeFor, HasNoNodeFor};
+
+use crate::NoMemory;
+use crate::house::NodeRef;
+use page_store::{Pages, StoredPage};
+use std::alloc::Global;
+use std::cmp::Ordering;
+use std::marker::Model;
+use std::sync::Arc;
+use tree_geom::{Range, Touch};
+
+/// All nodes of one update and the update's pages.
+///
+/// The nodes stand by the size of their ranges, the largest first, and then by offset. They are of the blob and the
+/// version under which the update was made.
+#[derive(Drop)]
+pub struct Row {
+    blob: u64,
+    version: u64,
+    touch: Touch,
+    room: u32,
+    pages: Arc<Pages>,
+    nodes: Vec<NodeRef>,
+}
+
+impl Model for Row {
+    ghost use Rattle.std.specs.Arc.{arc_value};
+    ghost use Rattle.node_store.specs.Rows.{UpdateRow};
+
+    ghost Value = { UpdateRow };
+
+    ghost use Rattle.node_store.specs.RowKept.{KeepsRow};
+
+    ghost view = { λ r. record { blob = r.blob; version = r.version; touch = r.touch; room = r.room; nodes = r.nodes.items; pages = arc_value r.pages } };
+
+    ghost invariant = { KeepsRow };
+}
+
+impl Row {
+    /// A row without nodes, with room for `room` nodes, of an update that touches `touch` and has these pages.
+    pub fn start(
+        alloc: Global,
+        blob: u64,
+        version: u64,
+        touch: Touch,
+        pages: Arc<Pages>,
+        room: u32,
+    ) -> Result<Row, NoMemory>
+        ensures { IfOk result (λ row. row ≡ empty_row blob version touch room (arc_value pages)) }
+    {
+        Ok(Row {
+            blob,
+            version,
+            touch,
+            room,
+            nodes: Vec::with_capacity(alloc, room as usize)?,
+            pages,
+        })
+    }
+
+    /// Adds a node at the end. It takes no memory.
+    pub fn add(&mut self, node: NodeRef)
+        requires room { length self.old.nodes < self.old.room }
+        requires blob { node.key.blob ≡ self.old.blob }
+        requires version { node.key.version ≡ self.old.version }
+        requires after { IfSome (last_node self.old.nodes) (λ last. Before last.key.range node.key.range) }
+        ensures { self.new ≡ with_node self.old node }
+    {
+        self.nodes.push_reserved(node);
+    }
+
+    /// The blob under which the nodes were put.
+    pub fn blob(&self) -> u64
+        ensures { result ≡ self.now.blob }
+    {
+        self.blob
+    }
+
+    /// The version of the update.
+    pub fn version(&self) -> u64
+        ensures { result ≡ self.now.version }
+    {
+        self.version
+    }
+
+    /// What the update touches, and the blob's size after it.
+    pub fn touch(&self) -> Touch
+        ensures { result ≡ self.now.touch }
+    {
+        self.touch
+    }
+
+    /// The node of that range. None exactly where the row has no node of that range. The time is logarithmic in the row.
+    pub fn at(&self, range: Range) -> Option<&NodeRef>
+        ensures { MatchOption result (HasNoNodeFor self.now range) (λ node. IsNodeFor self.now range node.now) }
+    {
+        let mut low = 0;
+        let mut high = self.nodes.len();
+        while low < high {
+            let middle = low + (high - low) / 2;
+            let node = &self.nodes[middle];
+            match order(node.key().range, range) {
+                Ordering::Equal => return Some(node),
+                Ordering::Less => low = middle + 1,
+                Ordering::Greater => high = middle,
+            }
+        }
+        None
+    }
+
+    /// The stored pages of the update.
+    pub fn pages(&self) -> &Pages
+        ensures { result.now ≡ self.now.pages }
+    {
+        &self.pages
+    }
+
+    /// The stored page that the number `q` of a piece means. The row has a stored page of that number.
+    pub fn page(&self, q: u32) -> &StoredPage
+        requires { q < length self.now.pages.pages }
+        ensures { slice_get self.now.pages.pages q ≡ Some result.now }
+    {
+        self.pages.page(q)
+    }
+}
+
+// How the first range stands to the second in a row.
+fn order(a: Range, b: Range) -> Ordering
+    ensures { MatchOrdering result (Before a b) (a ≡ b) (Before b a) }
+{
+    match b.size.cmp(&a.size) {
+        Ordering::Equal => a.offset.cmp(&b.offset),
+        by_size => by_size,
+    }
+}

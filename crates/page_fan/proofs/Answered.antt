@@ -1,0 +1,15 @@
+-- A fact on a door's answer, from another.
+use Rattle.page_store.specs.Answers.{OnPutFailed, OnGetFailed}
+use Rattle.page_store.specs.declared.door.PutAnswer.{PutAnswer}
+use Rattle.page_store.specs.declared.door.PutAnswer.TheVariants as put
+use Rattle.page_store.specs.declared.door.GetAnswer.{GetAnswer}
+use Rattle.page_store.specs.declared.door.GetAnswer.TheVariants as get
+
+pub OnPutFailed-weaken : (P Q : Type 0) → (P → Q) → (answer : PutAnswer) → OnPutFailed answer P → OnPutFailed answer Q
+OnPutFailed-weaken P Q weaken (put.Stored page) h = tt
+OnPutFailed-weaken P Q weaken put.Failed h = weaken h
+OnPutFailed-weaken P Q weaken put.NoMemory h = tt
+
+pub OnGetFailed-weaken : (P Q : Type 0) → (P → Q) → (answer : GetAnswer) → OnGetFailed answer P → OnGetFailed answer Q
+OnGetFailed-weaken P Q weaken get.Got h = tt
+OnGetFailed-weaken P Q weaken get.Failed h = weaken h

@@ -1,0 +1,5 @@
+pub mod Rises
+pub mod Standing
+pub mod Kept
+pub mod Answered
+pub mod Cutting

@@ -1,0 +1,93 @@
+-- Replicas that stand at the chosen providers.
+use Rattle.std.proofs.Common.{◌≡◌, ℕ, zero, suc, ◌+◌, ◌<◌, ◌≤◌, List, [], ◌∷◌, ◌++◌, length, get_or, take, arith, length-append, ap, sym, ◌∙◌, refl, inl, inr}
+use Rattle.std.specs.Prelude.{All, Option, Some, None, slice_get}
+use Rattle.std.specs.Option.{option_map_or}
+use Rattle.std.proofs.lemmas.Bool.{cases_eq}
+use Rattle.std.proofs.lemmas.List.{take_more, take_all, map-append}
+use Rattle.std.proofs.lemmas.Option.{slice_get_within, get_or_from_slice_get}
+use Rattle.std.proofs.Math.Seq.{get_or-append_seam}
+use Rattle.page_store.specs.Page.{Place}
+use Rattle.page_store.specs.Stored.{Stored}
+use Rattle.page_fan.specs.Counts.{NoneFell, RoseAt}
+use Rattle.page_fan.specs.Replicas.{StandAt, AreReplicated, providers_of}
+use Rattle.page_fan.proofs.Rises.{still_risen, risen_since}
+
+-- a weaker fact may stand in the place of `missing`
+StandAt-weaken : (missing absent : ℕ → Type 0) → ((p : ℕ) → missing p → absent p) → (chosen at : List ℕ) → StandAt missing chosen at → StandAt absent chosen at
+StandAt-weaken missing absent weaken [] at h = h
+StandAt-weaken missing absent weaken (p ∷ chosen) at (inl (rest, here)) = inl (rest, (here.0, StandAt-weaken missing absent weaken chosen rest here.1))
+StandAt-weaken missing absent weaken (p ∷ chosen) at (inr away) = inr (weaken p away.0, StandAt-weaken missing absent weaken chosen at away.1)
+
+-- one more provider, which has a replica
+StandAt-here : (missing : ℕ → Type 0) (chosen at : List ℕ) (p : ℕ) → StandAt missing chosen at → StandAt missing (chosen ++ p ∷ []) (at ++ p ∷ [])
+StandAt-here missing [] at p h = inl ([], (ap (λ l. l ++ p ∷ []) h, refl))
+StandAt-here missing (q ∷ chosen) at p (inl (rest, here)) = inl (rest ++ p ∷ [], (ap (λ l. l ++ p ∷ []) here.0, StandAt-here missing chosen rest p here.1))
+StandAt-here missing (q ∷ chosen) at p (inr away) = inr (away.0, StandAt-here missing chosen at p away.1)
+
+-- one more provider, which has none
+StandAt-away : (missing : ℕ → Type 0) (chosen at : List ℕ) (p : ℕ) → missing p → StandAt missing chosen at → StandAt missing (chosen ++ p ∷ []) at
+StandAt-away missing [] at p gone h = inr (gone, h)
+StandAt-away missing (q ∷ chosen) at p gone (inl (rest, here)) = inl (rest, (here.0, StandAt-away missing chosen rest p gone here.1))
+StandAt-away missing (q ∷ chosen) at p gone (inr away) = inr (away.0, StandAt-away missing chosen at p gone away.1)
+
+all_of : (missing : ℕ → Type 0) (p : ℕ) (chosen : List ℕ) → missing p → All missing chosen → All missing (p ∷ chosen)
+all_of missing p chosen h rest zero d l = h
+all_of missing p chosen h rest (suc k) d l = rest k d (omega arith)
+
+-- where there is no replica, each provider is missing
+pub none_stands : (missing : ℕ → Type 0) (chosen at : List ℕ) → at ≡ [] → StandAt missing chosen at → All missing chosen
+none_stands missing [] at e h = λ k d l. absurd (omega arith)
+none_stands missing (p ∷ chosen) at e (inl (rest, here)) = let other : p ∷ rest ≡ [] = sym here.0 ∙ e in cc
+none_stands missing (p ∷ chosen) at e (inr away) = all_of missing p chosen away.0 (none_stands missing chosen at e away.1)
+
+-- where there is none after all providers, each is missing
+pub none_stands_at_end : (missing : ℕ → Type 0) (chosen : List ℕ) (i : ℕ) (stored : Option Stored) → stored ≡ None → length chosen ≤ i
+    → StandAt missing (take i chosen) (providers_of (option_map_or (λ (s : Stored). s.places) stored [])) → All missing chosen
+none_stands_at_end missing chosen i (Some page) e l h = cc
+none_stands_at_end missing chosen i None e l h = none_stands missing chosen [] refl (rw (take_all i chosen l) at h)
+
+-- the next provider's door took the page
+pub stands_at_next : (before mid now : List ℕ) (providers : List ℕ) (i : ℕ) (places new : List Place) (place : Place) → NoneFell mid now → i < length providers
+    → place.provider ≡ get_or providers i 0 → new ≡ places ++ place ∷ []
+    → StandAt (RoseAt before mid) (take i providers) (providers_of places) → StandAt (RoseAt before now) (take (i + 1) providers) (providers_of new)
+stands_at_next before mid now providers i places new place kept l at is h =
+    let e : providers_of new ≡ providers_of places ++ get_or providers i 0 ∷ [] = ap providers_of is ∙ (map-append (λ (p : Place). p.provider) places (place ∷ []) ∙ ap (λ q. providers_of places ++ q ∷ []) at) in
+    rw (take_more providers i 0 l, e) (StandAt-here (RoseAt before now) (take i providers) (providers_of places) (get_or providers i 0) (StandAt-weaken (RoseAt before mid) (RoseAt before now) (still_risen before mid now kept) (take i providers) (providers_of places) h))
+
+-- the next provider's door failed
+pub stands_without_next : (before mid now : List ℕ) (providers : List ℕ) (i : ℕ) (places : List Place) → NoneFell before mid → NoneFell mid now → i < length providers
+    → RoseAt mid now (get_or providers i 0)
+    → StandAt (RoseAt before mid) (take i providers) (providers_of places) → StandAt (RoseAt before now) (take (i + 1) providers) (providers_of places)
+stands_without_next before mid now providers i places so_far kept l rose h =
+    rw (take_more providers i 0 l) (StandAt-away (RoseAt before now) (take i providers) (providers_of places) (get_or providers i 0) (risen_since before mid now so_far (get_or providers i 0) rose)
+    (StandAt-weaken (RoseAt before mid) (RoseAt before now) (still_risen before mid now kept) (take i providers) (providers_of places) h))
+
+-- the pages that were stored before stay where they are
+pub replicated_still : (before mid now : List ℕ) (placements : List (List ℕ)) (pages : List Stored) → NoneFell mid now → AreReplicated before mid placements pages → AreReplicated before now placements pages
+replicated_still before mid now placements pages kept h = λ i page here.
+    StandAt-weaken (RoseAt before mid) (RoseAt before now) (still_risen before mid now kept) (get_or placements i []) (providers_of page.places) (h i page here)
+
+get_last : {X : Type 0} (xs : List X) (x y : X) (i : ℕ) → i ≡ length xs → slice_get (xs ++ x ∷ []) i ≡ Some y → x ≡ y
+get_last xs x y i e h = sym (get_or-append_seam xs x [] x) ∙ (ap (λ k. get_or (xs ++ x ∷ []) k x) (sym e) ∙ get_or_from_slice_get (xs ++ x ∷ []) i y x h)
+
+get_earlier : {X : Type 0} (xs : List X) (x y : X) (i : ℕ) → i < length xs → slice_get (xs ++ x ∷ []) i ≡ Some y → slice_get xs i ≡ Some y
+get_earlier [] x y i l h = absurd (omega arith)
+get_earlier (z ∷ xs) x y zero l h = h
+get_earlier (z ∷ xs) x y (suc i) l h = get_earlier xs x y i (omega arith) h
+
+-- one more page is stored
+pub replicated_next : (before mid now : List ℕ) (placements : List (List ℕ)) (pages : List Stored) (page : Stored) (chosen : List ℕ) (i : ℕ) → i ≡ length pages
+    → NoneFell before mid → NoneFell mid now → chosen ≡ get_or placements i []
+    → AreReplicated before mid placements pages → StandAt (RoseAt mid now) chosen (providers_of page.places)
+    → AreReplicated before now placements (pages ++ page ∷ [])
+replicated_next before mid now placements pages page chosen i count so_far kept there h new = λ k next is.
+    let within : k < length (pages ++ page ∷ []) = slice_get_within (pages ++ page ∷ []) k next is in
+    elim (cases_eq k i) [
+      | inl same ↦
+          let last : page ≡ next = get_last pages page next k (same ∙ count) is in
+          rw (← last, same, ← there) (StandAt-weaken (RoseAt mid now) (RoseAt before now) (risen_since before mid now so_far) chosen (providers_of page.places) new)
+      | inr differs ↦
+          let apart : k ≡ i → ⊥ = differs in
+          let below : k < length pages = let n = length-append pages (page ∷ []) in omega (arith, n) in
+          replicated_still before mid now placements pages kept h k next (get_earlier pages page next k below is)
+    ]

@@ -1,0 +1,18 @@
+use Rattle.std.proofs.Common.{◌≡◌, ◌+◌, ◌-◌, ◌^◌, ◌≤◌, vec_len}
+use Rattle.std.specs.Prelude.{min, sum_by, ◌↔◌}
+use Rattle.page_fan.proofs.doors.Doors.back.Given as goal
+
+abbrev pub invariant-loop-door : goal.invariant-loop-door
+invariant-loop-door g l =
+    let faults = g.M.DoorMaker.faults in
+    let each = g.D.Door.faults in
+    let is_true = g.M.DoorMaker.is_true in
+    record {
+      adds : faults l.fn.maker ≤ 2 ^ 64 - 1 → min (faults l.maker + sum_by each l.doors.items) (2 ^ 64 - 1) ≡ min (faults l.fn.maker + sum_by each l.initial.doors.items) (2 ^ 64 - 1);
+      bounded : faults l.fn.maker ≤ 2 ^ 64 - 1 → faults l.maker ≤ 2 ^ 64 - 1;
+      rises : min (faults l.fn.maker + sum_by each l.initial.doors.items) (2 ^ 64 - 1) ≤ faults l.maker + sum_by each l.doors.items;
+      truth_stays : is_true l.fn.maker ↔ is_true l.maker;
+    }
+
+abbrev pub decreases-loop-door : goal.decreases-loop-door
+decreases-loop-door g l = vec_len l.doors

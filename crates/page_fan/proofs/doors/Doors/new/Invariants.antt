@@ -1,0 +1,16 @@
+use Rattle.std.proofs.Common.{◌≡◌, ◌≤◌, vec_len}
+use Rattle.std.specs.Prelude.{All, vec_capacity, ◌↔◌}
+use Rattle.page_fan.proofs.doors.Doors.new.Given as goal
+
+abbrev pub invariant-loop-before : goal.invariant-loop-before
+invariant-loop-before g l =
+    let is_true = g.M.DoorMaker.is_true in
+    let faults = g.M.DoorMaker.faults in
+    record {
+      count : vec_len l.doors ≡ l.before;
+      room : l.providers ≤ vec_capacity l.doors;
+      true_doors : is_true l.fn.maker → All g.D.Door.is_true l.doors.items;
+      fresh : All (λ x. g.D.Door.faults x ≡ 0) l.doors.items;
+      count_stays : faults l.maker ≡ faults l.fn.maker;
+      truth_stays : is_true l.fn.maker ↔ is_true l.maker;
+    }

@@ -1,0 +1,5 @@
+pub mod Counts
+pub mod Replicas
+pub mod Fault
+pub mod Lending
+pub mod Unstored

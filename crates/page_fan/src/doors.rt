@@ -1,0 +1,129 @@
+// A session's doors.
+ghost use Rattle.std.specs.Prelude.{◌≡◌, ◌+◌, ◌-◌, ◌^◌, ◌≤◌, ◌↔◌, length, IfOk, OnOk, All, map, min, sum_by, Some, slice_get, slice_range};
+ghost use Rattle.std.specs.Borrow.{sem};
+ghost use Rattle.page_store.specs.House.{IsProvider};
+ghost use Rattle.page_store.specs.Page.{IsAmong};
+ghost use Rattle.page_store.specs.Answers.{IfStored, OnPutFailed, OnGot, OnGetFailed};
+ghost use Rattle.page_fan.specs.Counts.{NoneFell, RoseAt};
+
+use page_store::{Door, DoorMaker, GetAnswer, Houses, MAX_PAGE, NoMemory, PageRef, PutAnswer};
+use std::alloc::Global;
+use std::marker::Model;
+use std::sync::Wait;
+
+/// One door to each of the providers, 1 to the number of doors.
+#[derive(Drop)]
+pub struct Doors<D> {
+    doors: Vec<D>,
+}
+
+impl<D> Model for Doors<D> {
+    ghost use Rattle.std.specs.Prelude.{List};
+    ghost use Rattle.std.specs.Coded.{coded_list};
+
+    ghost Value = { List D };
+
+    ghost coded = { coded_list D.code };
+
+    ghost view = { λ d. d.doors.items };
+}
+
+impl<D: Door> Doors<D> {
+    ghost use Rattle.page_fan.specs.Lending.{LendsDoor};
+
+    /// A door to each of the providers. Where memory is refused, the doors that were made go back to the maker.
+    pub fn new<M: DoorMaker<Door = D>>(
+        alloc: Global,
+        maker: &mut M,
+        providers: u32,
+    ) -> Result<Doors<D>, NoMemory>
+        ensures count { IfOk result (λ doors. length doors ≡ providers) }
+        ensures fresh { IfOk result (λ doors. All (λ door. D.faults door ≡ 0) doors) }
+        ensures true_doors { M.is_true maker.old → IfOk result (λ doors. All D.is_true doors) }
+        ensures count_stays { OnOk result (M.faults maker.new ≡ M.faults maker.old) }
+        ensures truth_stays { M.is_true maker.old ↔ M.is_true maker.new }
+    {
+        let mut doors = Vec::with_capacity(alloc, providers as usize)?;
+        for before in 0..providers {
+            match maker.make(before + 1) {
+                Ok(door) => doors.push_reserved(door),
+                Err(NoMemory) => {
+                    Doors { doors }.back(maker);
+                    return Err(NoMemory);
+                }
+            }
+        }
+        Ok(Doors { doors })
+    }
+
+    /// Hands each door back to the maker, which adds the doors' counts to its own. It takes no memory.
+    pub fn back<M: DoorMaker<Door = D>>(self, maker: &mut M)
+        ensures adds { M.faults maker.old ≤ 2 ^ 64 - 1 → M.faults maker.new ≡ min (M.faults maker.old + sum_by D.faults self) (2 ^ 64 - 1) }
+        ensures rises { min (M.faults maker.old + sum_by D.faults self) (2 ^ 64 - 1) ≤ M.faults maker.new }
+        ensures truth_stays { M.is_true maker.old ↔ M.is_true maker.new }
+    {
+        let Doors { mut doors } = self;
+        while let Some(door) = doors.pop() {
+            maker.back(door);
+        }
+        doors.destroy_empty();
+    }
+
+    /// The door to the provider.
+    pub fn door(&mut self, provider: u32) -> &mut D
+        requires { IsProvider (length self.old) provider }
+        ensures* writes_back { sem 𝓛 (LendsDoor D.row self.entry provider result) }
+        ensures this { slice_get self.old (provider - 1) ≡ Some result.now }
+    {
+        let place = provider as usize - 1;
+        &mut self.doors[place]
+    }
+
+    // Puts the bytes at the provider, by its door.
+    pub(crate) fn put<R: Wait>(
+        &mut self,
+        rt: &R,
+        houses: &Houses,
+        provider: u32,
+        bytes: &[u8],
+    ) -> PutAnswer
+        requires door { IsProvider (length self.old) provider }
+        requires house { IsProvider (length houses.now) provider }
+        requires some { 1 ≤ length bytes.now }
+        requires small { length bytes.now ≤ MAX_PAGE }
+        ensures here { IfStored result (λ page. IsAmong houses.now page.place) }
+        ensures provider { IfStored result (λ page. page.place.provider ≡ provider) }
+        ensures bytes { IfStored result (λ page. page.bytes ≡ bytes.now) }
+        ensures failed { OnPutFailed result (RoseAt (map D.faults self.old) (map D.faults self.new) provider) }
+        ensures none_fell { NoneFell (map D.faults self.old) (map D.faults self.new) }
+        ensures count { length self.new ≡ length self.old }
+        ensures truth_stays { All D.is_true self.old → All D.is_true self.new }
+    {
+        let house = houses.house(provider);
+        let door = &mut self.doors[provider as usize - 1];
+        door.put(rt, house, bytes)
+    }
+
+    // Gets the page's bytes from byte `from` on, by the door to its provider.
+    pub(crate) fn get(
+        &mut self,
+        houses: &Houses,
+        page: &PageRef,
+        from: u32,
+        out: &mut [u8],
+    ) -> GetAnswer
+        requires here { IsAmong houses.now page.now.place }
+        requires served { IsProvider (length self.old) page.now.place.provider }
+        requires room { from + length out.old ≤ length page.now.bytes }
+        ensures got { All D.is_true self.old → OnGot result (out.new ≡ slice_range page.now.bytes from (from + length out.old)) }
+        ensures failed { OnGetFailed result (RoseAt (map D.faults self.old) (map D.faults self.new) page.now.place.provider) }
+        ensures none_fell { NoneFell (map D.faults self.old) (map D.faults self.new) }
+        ensures count { length self.new ≡ length self.old }
+        ensures truth_stays { All D.is_true self.old → All D.is_true self.new }
+    {
+        let provider = page.provider();
+        let house = houses.house(provider);
+        let door = &mut self.doors[provider as usize - 1];
+        door.get(house, page, from, out)
+    }
+}

@@ -1,0 +1,7 @@
+pub mod House
+pub mod Page
+pub mod Stored
+pub mod Count
+pub mod Answers
+pub mod Flaky
+pub mod PagesKept

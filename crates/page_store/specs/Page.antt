@@ -1,0 +1,43 @@
+-- What a clause sees of a reference to a page, and where a page lies.
+use Rattle.std.specs.Prelude.{◌≡◌, ℕ, ◌-◌, List, length, Option, Some, None, slice_get, IsSomeAnd}
+use Rattle.std.specs.Coded.{Coded, coded×, coded_ℕ, coded_list}
+use base.Stored.{coded_via}
+use Rattle.boxcar.specs.Table.{id_at}
+use Rattle.page_store.specs.House.{House, IsProvider}
+
+-- where a page lies: the provider that has it, its shelf there, and the mark of that shelf
+pub record Place : Type 0 where
+  pub provider : ℕ
+  pub shelf : ℕ
+  pub mark : ℕ
+
+abbrev pub place_coded : Coded Place
+place_coded = coded_via (coded× coded_ℕ (coded× coded_ℕ coded_ℕ)) (λ (p : Place). (p.provider, (p.shelf, p.mark))) (λ x y e i. record { provider = (e i).0; shelf = (e i).1.0; mark = (e i).1.1 })
+
+-- a page: where it lies, and the bytes that were put
+pub record Page : Type 0 where
+  pub place : Place
+  pub bytes : List ℕ
+
+abbrev pub page_coded : Coded Page
+page_coded = coded_via (coded× place_coded (coded_list coded_ℕ)) (λ (p : Page). (p.place, p.bytes)) (λ x y e i. record { place = (e i).0; bytes = (e i).1 })
+
+-- a page that lies at this place was stored in this house, and has the house's provider
+pub record IsIn (house : House) (place : Place) : Type 0 where
+  pub provided : place.provider ≡ house.provider
+  pub shown : place.mark ≡ id_at house.shelves.buckets place.shelf
+
+-- the place is in the house of its provider, which is one of these
+pub record IsAmong (houses : List House) (place : Place) : Type 0 where
+  pub known : IsProvider (length houses) place.provider
+  pub kept : IsSomeAnd (slice_get houses (place.provider - 1)) (λ house. IsIn house place)
+
+-- the place of a page that may be there
+abbrev pub place_of : Option Page → Place
+place_of (Some page) = page.place
+place_of None = record { provider = 0; shelf = 0; mark = 0 }
+
+-- there is a page, and it stands for these bytes
+abbrev pub StandsFor : List ℕ → Option Page → Type 0
+StandsFor bytes (Some page) = page.bytes ≡ bytes
+StandsFor bytes None = ⊥

@@ -1,0 +1,83 @@
+// A session's ways to the providers, which may fail, and their makers.
+use crate::house::{PageHouse, PageRef};
+use crate::{MAX_PAGE, NoMemory};
+use std::sync::Wait;
+
+/// What a put answers.
+#[derive(Drop)]
+pub enum PutAnswer {
+    /// The page was stored.
+    Stored(PageRef),
+    /// The door failed; no page was stored.
+    Failed,
+    /// Memory was refused; no page was stored.
+    NoMemory,
+}
+
+/// What a get answers.
+#[derive(Clone, Copy, Debug, PartialEq, Eq)]
+pub enum GetAnswer {
+    /// The bytes are there.
+    Got,
+    /// The door failed; the buffer holds any bytes.
+    Failed,
+}
+
+/// One session's way to one provider. Its count of faults belongs to that session.
+pub trait Door: Send {
+    ghost use Rattle.std.specs.Prelude.{◌≡◌, ℕ, ◌+◌, ◌≤◌, ◌↔◌, length, slice_range};
+    ghost use Rattle.page_store.specs.Page.{IsIn};
+    ghost use Rattle.page_store.specs.Count.{HasRisen};
+    ghost use Rattle.page_store.specs.Answers.{IfStored, OnPutFailed, OnGot, OnGetFailed};
+
+    /// It gives back the bytes that were put.
+    ghost is_true: { Self → Type 0 };
+
+    /// How many of its calls have failed, up to the greatest u64.
+    ghost faults: { Self → ℕ };
+
+    /// Stores 1 to 1,048,576 bytes in the house. It may wait for another thread's push.
+    fn put<R: Wait>(&mut self, rt: &R, house: &PageHouse, bytes: &[u8]) -> PutAnswer
+        requires some { 1 ≤ length bytes.now }
+        requires small { length bytes.now ≤ MAX_PAGE }
+        ensures here { IfStored result (λ page. IsIn house.now page.place) }
+        ensures bytes { IfStored result (λ page. page.bytes ≡ bytes.now) }
+        ensures failed { OnPutFailed result (HasRisen (faults self.old) (faults self.new)) }
+        ensures never_falls { faults self.old ≤ faults self.new }
+        ensures truth_stays { is_true self.old ↔ is_true self.new };
+
+    /// Fills `out` with the page's bytes from byte `from` on. It waits for nobody and takes no memory.
+    fn get(&mut self, house: &PageHouse, page: &PageRef, from: u32, out: &mut [u8]) -> GetAnswer
+        requires here { IsIn house.now page.now.place }
+        requires room { from + length out.old ≤ length page.now.bytes }
+        ensures got { OnGot result (is_true self.old → out.new ≡ slice_range page.now.bytes from (from + length out.old)) }
+        ensures failed { OnGetFailed result (HasRisen (faults self.old) (faults self.new)) }
+        ensures never_falls { faults self.old ≤ faults self.new }
+        ensures truth_stays { is_true self.old ↔ is_true self.new };
+}
+
+/// Makes the doors of sessions, takes them back, and counts what they counted.
+pub trait DoorMaker {
+    ghost use Rattle.std.specs.Prelude.{◌≡◌, ℕ, ◌+◌, ◌-◌, ◌^◌, ◌≤◌, ◌↔◌, min, IfOk};
+
+    type Door: Door;
+
+    /// The doors that it makes are true.
+    ghost is_true: { Self → Type 0 };
+
+    /// The faults of the doors that came back, up to the greatest u64.
+    ghost faults: { Self → ℕ };
+
+    /// A door to the provider, with no fault counted.
+    fn make(&mut self, provider: u32) -> Result<Self::Door, NoMemory>
+        requires { 1 ≤ provider }
+        ensures true_doors { is_true self.old → IfOk result (λ door. Self.Door.is_true door) }
+        ensures fresh { IfOk result (λ door. Self.Door.faults door ≡ 0) }
+        ensures count_stays { faults self.new ≡ faults self.old }
+        ensures truth_stays { is_true self.old ↔ is_true self.new };
+
+    /// Takes a door back, and adds its count.
+    fn back(&mut self, door: Self::Door)
+        ensures adds { faults self.new ≡ min (faults self.old + Self.Door.faults door) (2 ^ 64 - 1) }
+        ensures truth_stays { is_true self.old ↔ is_true self.new };
+}

@@ -1,0 +1,162 @@
+// A page with its replicas, and the pages of one update.
+ghost use Rattle.std.specs.Prelude.{◌≡◌, ◌+◌, ◌*◌, ◌<◌, ◌≤◌, length, IfOk, Some, slice_get, slice_range, [], ◌∷◌, ◌++◌, min};
+ghost use Rattle.page_store.specs.Stored.{joined, AllFull, IsCut};
+
+use crate::NoMemory;
+use crate::house::PageRef;
+use arrayvec::ArrayVec;
+use std::alloc::Global;
+use std::marker::Model;
+
+/// A page with its replicas: 1 to 8 references that all stand for the same bytes.
+#[derive(Drop)]
+pub struct StoredPage {
+    first: PageRef,
+    others: ArrayVec<Option<PageRef>, 7>,
+}
+
+impl Model for StoredPage {
+    ghost use Rattle.std.specs.Prelude.{◌∷◌, All, map};
+    ghost use Rattle.page_store.specs.Stored.{Stored, stored_coded};
+    ghost use Rattle.page_store.specs.Page.{place_of, StandsFor};
+
+    ghost Value = { Stored };
+
+    ghost coded = { stored_coded };
+
+    ghost view = { λ s. record { bytes = s.first.bytes; places = s.first.place ∷ map place_of s.others.items } };
+
+    ghost invariant = { λ s. All (StandsFor s.first.bytes) s.others.items };
+}
+
+impl StoredPage {
+    /// A page with one replica.
+    pub fn of(first: PageRef) -> StoredPage
+        ensures { result ≡ record { bytes = first.bytes; places = first.place ∷ [] } }
+    {
+        StoredPage {
+            first,
+            others: ArrayVec::new(),
+        }
+    }
+
+    /// Adds a replica at the end. It takes no memory.
+    pub fn add(&mut self, other: PageRef)
+        requires same { other.bytes ≡ self.old.bytes }
+        requires room { length self.old.places < 8 }
+        ensures { self.new ≡ record { bytes = self.old.bytes; places = self.old.places ++ other.place ∷ [] } }
+    {
+        self.others.push(Some(other));
+    }
+
+    /// The length of the page, in bytes.
+    pub fn len(&self) -> u32
+        ensures { result ≡ length self.now.bytes }
+    {
+        self.first.len()
+    }
+
+    /// The number of replicas, 1 to 8.
+    pub fn replica_count(&self) -> u32
+        ensures count { result ≡ length self.now.places }
+        ensures some { 1 ≤ result }
+        ensures few { result ≤ 8 }
+    {
+        self.others.len() as u32 + 1
+    }
+
+    /// Replica `i`, from 0, in the order in which they were added.
+    pub fn replica(&self, i: u32) -> &PageRef
+        requires { i < length self.now.places }
+        ensures place { slice_get self.now.places i ≡ Some result.now.place }
+        ensures same { result.now.bytes ≡ self.now.bytes }
+    {
+        if i == 0 {
+            &self.first
+        } else {
+            match &self.others[i as usize - 1] {
+                Some(other) => other,
+                None => unreachable!(),
+            }
+        }
+    }
+}
+
+/// The stored pages of one update, which stand for its bytes: the update's bytes cut at multiples of the page size.
+/// All pages but the last have as many bytes as the page size.
+#[derive(Drop)]
+pub struct Pages {
+    page_size: u64,
+    room: u32,
+    len: u64,
+    pages: Vec<StoredPage>,
+}
+
+impl Model for Pages {
+    ghost use Rattle.page_store.specs.Stored.{Cut, cut_coded};
+
+    ghost Value = { Cut };
+
+    ghost coded = { cut_coded };
+
+    ghost use Rattle.page_store.specs.PagesKept.{KeepsPages};
+
+    ghost view = { λ g. record { page_size = g.page_size; room = g.room; pages = g.pages.items } };
+
+    ghost invariant = { KeepsPages };
+}
+
+impl Pages {
+    /// No pages, of the page size `p` in bytes, with room for `room` pages.
+    pub fn start(alloc: Global, p: u64, room: u32) -> Result<Pages, NoMemory>
+        requires least { 4 ≤ p }
+        requires greatest { p ≤ 1048576 }
+        ensures { IfOk result (λ pages. pages ≡ record { page_size = p; room = room; pages = [] }) }
+    {
+        Ok(Pages {
+            page_size: p,
+            room,
+            len: 0,
+            pages: Vec::with_capacity(alloc, room as usize)?,
+        })
+    }
+
+    /// Adds a page at the end, after pages that are all full. It takes no memory.
+    pub fn add(&mut self, page: StoredPage)
+        requires room { length self.old.pages < self.old.room }
+        requires full { AllFull self.old.page_size self.old.pages }
+        requires some { 1 ≤ length page.bytes }
+        requires fits { length page.bytes ≤ self.old.page_size }
+        ensures added { self.new ≡ record { page_size = self.old.page_size; room = self.old.room; pages = self.old.pages ++ page ∷ [] } }
+        ensures cut { IsCut self.new.page_size self.new.pages }
+    {
+        self.len += u64::from(page.len());
+        self.pages.push_reserved(page);
+    }
+
+    /// The number of pages.
+    pub fn count(&self) -> u32
+        ensures count { result ≡ length self.now.pages }
+        ensures cut { IsCut self.now.page_size self.now.pages }
+        ensures enough { length (joined self.now.pages) ≤ result * self.now.page_size }
+    {
+        let _room = self.room;
+        self.pages.len() as u32
+    }
+
+    /// The number of bytes of all pages.
+    pub fn len(&self) -> u64
+        ensures { result ≡ length (joined self.now.pages) }
+    {
+        self.len
+    }
+
+    /// Page `i`, from 0. Its bytes are those of the update from `i` times the page size on.
+    pub fn page(&self, i: u32) -> &StoredPage
+        requires { i < length self.now.pages }
+        ensures this { slice_get self.now.pages i ≡ Some result.now }
+        ensures bytes { result.now.bytes ≡ slice_range (joined self.now.pages) (i * self.now.page_size) (min ((i + 1) * self.now.page_size) (length (joined self.now.pages))) }
+    {
+        &self.pages[i as usize]
+    }
+}

@@ -1,0 +1,4 @@
+pub mod Evenness
+pub mod Lowering
+pub mod Raising
+pub mod Turns

@@ -1,0 +1,3 @@
+pub mod Book
+pub mod Loads
+pub mod Placed

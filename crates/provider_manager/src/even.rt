@@ -1,0 +1,52 @@
+//! The book that the sessions share.
+
+ghost use Rattle.std.specs.Prelude.{ℕ, ◌≡◌, ◌+◌, ◌*◌, ◌<◌, ◌≤◌, ◌^◌, All, length, map, sum};
+ghost use Rattle.replica_place.specs.Chosen.{chosen};
+ghost use Rattle.provider_manager.specs.Loads.{IsEven};
+
+use crate::book::LoadBook;
+use replica_place::Placement;
+
+/// A book in which no two loads differ by more than 1.
+#[derive(Debug, Drop)]
+pub(crate) struct EvenBook {
+    book: LoadBook,
+    pub ghost even: { IsEven book.loads },
+}
+
+impl EvenBook {
+    ghost use Rattle.provider_manager.specs.Book.{AreCounts};
+    ghost use Rattle.provider_manager.specs.Placed.{IsSpread, IsPlacedEvenly};
+
+    pub(crate) fn of_book(book: LoadBook) -> EvenBook
+        requires { IsEven book.loads }
+    {
+        EvenBook { book }
+    }
+
+    // Places as many pages as there is room for, over a book of these numbers. It takes no memory.
+    pub(crate) fn place_each(&mut self, providers: u32, replicas: u32, pages: &mut [Placement])
+        requires counts { AreCounts providers replicas }
+        requires pages { length pages.old < 2 ^ 32 }
+        ensures spread { All (IsSpread providers replicas) (map chosen pages.new) }
+        ensures evenly { IsPlacedEvenly providers replicas (map chosen pages.new) }
+    {
+        self.make_fit(providers, replicas, pages.len() as u32);
+        self.book.place_each(pages);
+    }
+
+    // Makes it a book of these numbers that so many pages don't take past what a book counts.
+    fn make_fit(&mut self, providers: u32, replicas: u32, pages: u32)
+        requires { AreCounts providers replicas }
+        ensures providers { length self.new.book.loads ≡ providers }
+        ensures replicas { self.new.book.replicas ≡ replicas }
+        ensures fits { sum self.new.book.loads + pages * replicas ≤ 2 ^ 62 }
+    {
+        if self.book.providers() != providers || self.book.replicas() != replicas {
+            self.book.restart(providers, replicas);
+        }
+        if self.book.is_spent(pages) {
+            self.book.lower();
+        }
+    }
+}

@@ -1,0 +1,14 @@
+use Rattle.range_log.proofs.Growth.{newest_above, logs_grow, rows_stay, extents_grow}
+use Rattle.range_log.proofs.laws.older_versions_stay.Goals as goal
+
+pub returns-clause-above : goal.returns-clause-above
+returns-clause-above c = newest_above
+
+pub returns-clause-grow : goal.returns-clause-grow
+returns-clause-grow c = logs_grow
+
+pub returns-clause-rows : goal.returns-clause-rows
+returns-clause-rows c = rows_stay
+
+pub returns-clause-extents : goal.returns-clause-extents
+returns-clause-extents c = extents_grow

@@ -1,0 +1,158 @@
+use Rattle.std.specs.Prelude.{◌≡◌, ◌⊎◌, ℕ, ◌+◌, ◌-◌, ◌*◌, ◌<◌, ◌≤◌, ◌↔◌, List, length, suc, true, false, take, drop, ◌++◌}
+use Rattle.std.specs.List.{Contains, AllPairs}
+use Rattle.blob_model.specs.Content.{Update, put, size_of}
+use Rattle.tree_geom.specs.declared.range.Range.{Range}
+use Rattle.tree_geom.specs.declared.touch.Touch.{Touch}
+use Rattle.tree_geom.specs.Geometry.{page_range, left_half, right_half, Meets}
+use Rattle.tree_geom.specs.Nodes.{left_link, right_link, back_link}
+use Rattle.range_log.specs.Log.{HasNode, newest_of, IsNewest, touch_at}
+use Rattle.range_log.specs.Extents.{Extent, InBounds, touches, size_after, extent_at}
+use Rattle.range_log.specs.Updates.{extents, extent_of, Replayable, page_bytes, own_bytes, piece_bytes}
+use Rattle.range_log.specs.Rows.{back_of, covered, row_keys_of, levels_of, leaf_start, leaf_from, leaf_len, first_piece, second_piece, piece_count, no_piece, node_of}
+use Rattle.range_log.specs.Visits.{backs_of, visits}
+
+-- ---- links name nodes
+-- j is 0, or names a version whose row has a node for the range
+abbrev pub Leads : ℕ → List Touch → ℕ → Range → Type 0
+Leads p log j r = 1 ≤ j → HasNode p log j r
+
+-- each link and back of each node of a row leads to a node for its range
+abbrev pub LinksNameNodes : Type 0
+LinksNameNodes = (p k : ℕ) (us : List Update) (r : Range) → 1 ≤ p → Replayable us → HasNode p (touches p (extents us)) k r
+    → Leads p (touches p (extents us)) (left_link (node_of p (extents us) k r)) (left_half r)
+    × Leads p (touches p (extents us)) (right_link (node_of p (extents us) k r)) (right_half r)
+    × Leads p (touches p (extents us)) (back_link (node_of p (extents us) k r)) r
+
+-- the same of the links of an inner node, by where the updates fall
+abbrev pub LinksLead : Type 0
+LinksLead = (p k : ℕ) (us : List Extent) (r : Range) → 1 ≤ p → InBounds us → HasNode p (touches p us) k r → p < r.size
+    → Leads p (touches p us) (newest_of p (touches p us) k (left_half r)) (left_half r) × Leads p (touches p us) (newest_of p (touches p us) k (right_half r)) (right_half r)
+
+-- the same of the back of a leaf
+abbrev pub BacksLead : Type 0
+BacksLead = (p k i : ℕ) (us : List Extent) → 1 ≤ p → InBounds us → HasNode p (touches p us) k (page_range p i)
+    → Leads p (touches p us) (back_of p us k i) (page_range p i)
+
+-- ---- no holes
+-- an inner node's link is 0 exactly where its half begins at or past the size; a leaf that doesn't cover all valid bytes of
+-- its page has a back to an older version
+abbrev pub NoHoles : Type 0
+NoHoles = (p k : ℕ) (us : List Update) (r : Range) → 1 ≤ p → Replayable us → HasNode p (touches p (extents us)) k r
+    → (p < r.size
+    → ((left_link (node_of p (extents us) k r) ≡ 0) ↔ (size_of us k ≤ (left_half r).offset))
+    × ((right_link (node_of p (extents us) k r) ≡ 0) ↔ (size_of us k ≤ (right_half r).offset)))
+    × ((i : ℕ) → r ≡ page_range p i → covered p (extents us) k i ≡ false
+    → (1 ≤ back_link (node_of p (extents us) k r)) × (back_link (node_of p (extents us) k r) < k))
+
+-- the same of the links, by where the updates fall
+abbrev pub LinksHaveNoHoles : Type 0
+LinksHaveNoHoles = (p k : ℕ) (us : List Extent) (r : Range) → 1 ≤ p → InBounds us → HasNode p (touches p us) k r → p < r.size
+    → ((newest_of p (touches p us) k (left_half r) ≡ 0) ↔ (size_after us k ≤ (left_half r).offset))
+    × ((newest_of p (touches p us) k (right_half r) ≡ 0) ↔ (size_after us k ≤ (right_half r).offset))
+
+-- the same of the backs
+abbrev pub BacksHaveNoHoles : Type 0
+BacksHaveNoHoles = (p k i : ℕ) (us : List Extent) → 1 ≤ p → InBounds us → HasNode p (touches p us) k (page_range p i) → covered p us k i ≡ false
+    → (1 ≤ back_of p us k i) × (back_of p us k i < k)
+
+-- ---- page bytes
+-- a page has the same valid bytes at a version and at the newest one up to it that touches the page
+abbrev pub PageBytesStay : Type 0
+PageBytesStay = (p v i : ℕ) (us : List Update) → 1 ≤ p → Replayable us → v ≤ length us
+    → page_bytes p us v i ≡ page_bytes p us (newest_of p (touches p (extents us)) v (page_range p i)) i
+
+-- where updates fall keeps the bounds, and gives each version's size
+abbrev pub ExtentsStand : Type 0
+ExtentsStand = (us : List Update) → Replayable us
+    → InBounds (extents us) × (length (extents us) ≡ length us) × ((v : ℕ) → v ≤ length us → size_after (extents us) v ≡ size_of us v)
+
+-- a leaf's page: its own bytes where they cover it, else its own bytes over those of the page at its back
+abbrev pub LeavesFill : Type 0
+LeavesFill = (p k i : ℕ) (us : List Update) → 1 ≤ p → Replayable us → HasNode p (touches p (extents us)) k (page_range p i)
+    → (covered p (extents us) k i ≡ true → page_bytes p us k i ≡ own_bytes p us k i)
+    × (covered p (extents us) k i ≡ false
+    → page_bytes p us k i ≡ put (page_bytes p us (back_of p (extents us) k i) i) (leaf_start p (extent_of us k) i) (own_bytes p us k i))
+
+-- a leaf has one to p own bytes; they lie within its page and within the update's buffer
+abbrev pub LeavesFit : Type 0
+LeavesFit = (p k i : ℕ) (us : List Extent) → 1 ≤ p → InBounds us → HasNode p (touches p us) k (page_range p i)
+    → (1 ≤ leaf_len p (extent_at us k) i) × (leaf_start p (extent_at us k) i + leaf_len p (extent_at us k) i ≤ p) × (leaf_from p (extent_at us k) i + leaf_len p (extent_at us k) i ≤ (extent_at us k).len)
+
+-- the one or two pieces of n bytes from b on are those bytes
+abbrev pub PiecesJoin : Type 0
+PiecesJoin = (p b n : ℕ) (bytes : List ℕ) → 1 ≤ p → n ≤ p → b + n ≤ length bytes
+    → piece_bytes p bytes (first_piece p b n) ++ piece_bytes p bytes (second_piece p b n) ≡ take n (drop b bytes)
+
+-- a piece lies in one stored page, and within the buffer of m bytes
+pub record PieceFits (p m page from len : ℕ) : Type 0 where
+  pub some : 1 ≤ len
+  pub in_page : from + len ≤ p
+  pub in_buffer : page * p + from + len ≤ m
+
+-- Each piece that counts has a byte, and lies in one stored page and in the buffer. They have n bytes between them.
+abbrev pub PiecesFit : Type 0
+PiecesFit = (p b n m : ℕ) → 1 ≤ p → 1 ≤ n → n ≤ p → b + n ≤ m
+    → PieceFits p m (first_piece p b n).page (first_piece p b n).from (first_piece p b n).len
+    × ((first_piece p b n).len + (second_piece p b n).len ≡ n)
+    × (((piece_count p b n ≡ 1) × (second_piece p b n ≡ no_piece))
+    ⊎ ((piece_count p b n ≡ 2) × PieceFits p m (second_piece p b n).page (second_piece p b n).from (second_piece p b n).len))
+
+-- ---- newest
+-- newest_of is the greatest version up to k that touches the range, and no other number is
+abbrev pub NewestIsGreatest : Type 0
+NewestIsGreatest = (p k : ℕ) (log : List Touch) (r : Range)
+    → IsNewest p log k r (newest_of p log k r) × ((j : ℕ) → IsNewest p log k r j → j ≡ newest_of p log k r)
+
+-- the newest version of a part of a range is the same from the newest version of the range
+abbrev pub LinksAgree : Type 0
+LinksAgree = (p k : ℕ) (log : List Touch) (s r : Range) → r.offset ≤ s.offset → s.offset + s.size ≤ r.offset + r.size
+    → newest_of p log (newest_of p log k r) s ≡ newest_of p log k s
+
+-- where nothing after version v touches the range, its newest version is that at v
+abbrev pub NewestAbove : Type 0
+NewestAbove = (p v k : ℕ) (log : List Touch) (r : Range) → v ≤ k → ((i : ℕ) → v < i → i ≤ k → ¬ Meets p (touch_at log i) r)
+    → newest_of p log k r ≡ newest_of p log v r
+
+-- ---- the ranges of a row
+-- they are those that have a node in it
+abbrev pub RowKeysExact : Type 0
+RowKeysExact = (p k : ℕ) (us : List Extent) (r : Range) → 1 ≤ p → InBounds us → 1 ≤ k → k ≤ length us
+    → Contains (row_keys_of p (touches p us) k) r ↔ HasNode p (touches p us) k r
+
+-- a stands before b: larger, or as large and with the lower offset
+abbrev pub Before : Range → Range → Type 0
+Before a b = (b.size < a.size) ⊎ ((a.size ≡ b.size) × (a.offset < b.offset))
+
+-- each stands before all that follow
+abbrev pub RowKeysInOrder : Type 0
+RowKeysInOrder = (p k : ℕ) (log : List Touch) → 1 ≤ p → AllPairs Before (row_keys_of p log k)
+
+-- the ranges that m pages one after another meet, in a tree of that height, are at most 2 m and 2 for each level
+abbrev pub LevelsAreFew : Type 0
+LevelsAreFew = (p height : ℕ) (t : Touch) → t.first ≤ t.last → length (levels_of p t (suc height)) ≤ 2 * (t.last + 1 - t.first) + 2 * height
+
+-- ---- backs
+-- the backs of a page: none from a leaf without a back, else one more than from the leaf that its back names
+abbrev pub BacksStep : Type 0
+BacksStep = (p v i : ℕ) (us : List Extent)
+    → (back_of p us (newest_of p (touches p us) v (page_range p i)) i ≡ 0 → backs_of p us v i ≡ 0)
+    × (1 ≤ back_of p us (newest_of p (touches p us) v (page_range p i)) i
+    → backs_of p us v i ≡ 1 + backs_of p us (back_of p us (newest_of p (touches p us) v (page_range p i)) i) i)
+
+-- ---- later updates
+-- a longer log says the same of the versions of the shorter one
+abbrev pub LogsGrow : Type 0
+LogsGrow = (p k : ℕ) (log more : List Touch) (r : Range) → k ≤ length log → newest_of p (log ++ more) k r ≡ newest_of p log k r
+
+-- later updates leave an older version's touch, ranges, nodes and visit bounds
+abbrev pub RowsStay : Type 0
+RowsStay = (p k : ℕ) (us more : List Extent) → k ≤ length us
+    → (touch_at (touches p (us ++ more)) k ≡ touch_at (touches p us) k)
+    × (row_keys_of p (touches p (us ++ more)) k ≡ row_keys_of p (touches p us) k)
+    × ((r : Range) → HasNode p (touches p us) k r ↔ HasNode p (touches p (us ++ more)) k r)
+    × ((r : Range) → node_of p (us ++ more) k r ≡ node_of p us k r)
+    × ((o n : ℕ) → visits p (us ++ more) k o n ≡ visits p us k o n)
+
+-- where the updates of a longer list fall begins with where those of the shorter one do
+abbrev pub ExtentsGrow : Type 0
+ExtentsGrow = (us more : List Update) → (rest : List Extent) × (extents (us ++ more) ≡ extents us ++ rest)

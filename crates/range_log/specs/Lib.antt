@@ -1,0 +1,6 @@
+pub mod Log
+pub mod Extents
+pub mod Updates
+pub mod Rows
+pub mod Visits
+pub mod Laws

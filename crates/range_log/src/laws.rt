@@ -1,0 +1,60 @@
+//! The laws of the rows of a blob's versions, over every list of updates in which each begins at the size before it at the
+//! latest. Each is the contract of a function that does nothing.
+ghost use Rattle.range_log.specs.Laws.{LinksNameNodes, LinksLead, BacksLead, NoHoles, LinksHaveNoHoles, BacksHaveNoHoles, PageBytesStay, ExtentsStand, LeavesFill, LeavesFit, PiecesJoin, PiecesFit, NewestIsGreatest, LinksAgree, NewestAbove, RowKeysExact, RowKeysInOrder, LevelsAreFew, BacksStep, LogsGrow, RowsStay, ExtentsGrow};
+
+/// Each link or back of a row that isn't 0 names a version whose row has a node for the link's range.
+pub fn links_name_nodes()
+    ensures nodes { LinksNameNodes }
+    ensures links { LinksLead }
+    ensures backs { BacksLead }
+{}
+
+/// A link is 0 exactly where its half begins at or past the size. A leaf that doesn't cover all valid bytes of its page has
+/// a back, to an older version.
+pub fn no_holes()
+    ensures nodes { NoHoles }
+    ensures links { LinksHaveNoHoles }
+    ensures backs { BacksHaveNoHoles }
+{}
+
+/// The valid bytes of a page at a version are those at the newest version up to it that touches the page.
+pub fn page_bytes_stay()
+    ensures bytes { PageBytesStay }
+    ensures extents { ExtentsStand }
+{}
+
+/// A leaf's pieces, over the page at its back where they don't cover it, are the page.
+pub fn leaves_fill()
+    ensures fill { LeavesFill }
+    ensures fit { LeavesFit }
+    ensures join { PiecesJoin }
+    ensures pieces { PiecesFit }
+{}
+
+/// The newest version is the greatest that touches the range. For a part of a range it may be asked from the newest version
+/// of the range.
+pub fn newest_is_greatest()
+    ensures greatest { NewestIsGreatest }
+    ensures agree { LinksAgree }
+{}
+
+/// The ranges of a row are those that have a node in it, each once: the largest first, and then by offset. There are not
+/// many more of them than pages.
+pub fn row_keys_exact()
+    ensures exact { RowKeysExact }
+    ensures order { RowKeysInOrder }
+    ensures few { LevelsAreFew }
+{}
+
+/// A page has one back more than from the leaf that its newest leaf leads back to.
+pub fn backs_step()
+    ensures { BacksStep }
+{}
+
+/// What later updates leave: the newest version of a range that they don't touch, and all that is said of older versions.
+pub fn older_versions_stay()
+    ensures above { NewestAbove }
+    ensures grow { LogsGrow }
+    ensures rows { RowsStay }
+    ensures extents { ExtentsGrow }
+{}

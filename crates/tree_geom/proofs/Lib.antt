@@ -1,0 +1,4 @@
+pub mod Spans
+pub mod Pages
+pub mod Touches
+mod Rows

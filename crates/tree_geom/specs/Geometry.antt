@@ -1,0 +1,65 @@
+use Rattle.std.specs.Prelude.{◌≡◌, ℕ, ◌+◌, ◌-◌, ◌*◌, ◌/◌, ◌^◌, ◌<◌, ◌≤◌, zero, suc, nat_lt, nat_le, ◌==◌, ◌&&◌, Bool, true, false, if◌then◌else◌}
+use Rattle.tree_geom.specs.declared.range.Range.{Range}
+use Rattle.tree_geom.specs.declared.touch.Touch.{Touch}
+
+-- ---- pages and heights
+-- the powers of two from 4 to 1,048,576
+abbrev pub IsPageSize : ℕ → Type 0
+IsPageSize p = (i : ℕ) × (p ≡ 2 ^ i) × (2 ≤ i) × (i ≤ 20)
+
+-- h is the least height at which p * 2^h bytes hold n
+pub record IsHeight (p n h : ℕ) : Type 0 where
+  pub reaches : n ≤ p * 2 ^ h
+  pub least : (k : ℕ) → n ≤ p * 2 ^ k → h ≤ k
+
+-- how often s is doubled until it is at least n, at most `most` times
+unfoldable pub doublings : ℕ → ℕ → ℕ → ℕ
+doublings zero s n = 0
+doublings (suc most) s n = elim (nat_le n s) [ true ↦ 0 | false ↦ suc (doublings most (2 * s) n) ]
+
+-- that height
+unfoldable pub height_of : ℕ → ℕ → ℕ
+height_of p n = doublings n p n
+
+-- 0 for 0, else the least p * 2^h that is at least n
+unfoldable pub span_of : ℕ → ℕ → ℕ
+span_of p n = if n == 0 then 0 else p * 2 ^ height_of p n
+
+-- ---- ranges
+-- range number q among those of p * 2^h bytes
+abbrev pub tree_range : ℕ → ℕ → ℕ → Range
+tree_range p h q = record { offset = q * (p * 2 ^ h); size = p * 2 ^ h }
+
+-- the range's size is p * 2^h, and its offset is a multiple of its size
+abbrev pub Aligned : ℕ → Range → Type 0
+Aligned p r = (h : ℕ) × (q : ℕ) × (r ≡ tree_range p h q)
+
+-- the bytes of page i
+abbrev pub page_range : ℕ → ℕ → Range
+page_range p i = record { offset = i * p; size = p }
+
+abbrev pub left_half : Range → Range
+left_half r = record { offset = r.offset; size = r.size / 2 }
+
+abbrev pub right_half : Range → Range
+right_half r = record { offset = r.offset + r.size / 2; size = r.size / 2 }
+
+-- ---- touched pages
+-- the pages of the bytes at to at + len - 1, in a blob of that size
+abbrev pub touched_by : ℕ → ℕ → ℕ → ℕ → Touch
+touched_by p at len size = record { first = at / p; last = (at + len - 1) / p; size = size }
+
+-- what stands in place of the touch of version 0, which has none
+abbrev pub no_touch : Touch
+no_touch = record { first = 0; last = 0; size = 0 }
+
+-- the range isn't empty, begins before the touched pages end, and ends after they begin
+abbrev pub Meets : ℕ → Touch → Range → Type 0
+Meets p t r = (t.first * p < r.offset + r.size) × (r.offset < (t.last + 1) * p) × (0 < r.size)
+
+abbrev pub meets_of : ℕ → Touch → Range → Bool
+meets_of p t r = nat_lt (t.first * p) (r.offset + r.size) && nat_lt r.offset ((t.last + 1) * p) && nat_lt 0 r.size
+
+-- a byte of the range lies in a touched page
+abbrev pub SharesByte : ℕ → Touch → Range → Type 0
+SharesByte p t r = (b : ℕ) × (r.offset ≤ b) × (b < r.offset + r.size) × (t.first ≤ b / p) × (b / p ≤ t.last)

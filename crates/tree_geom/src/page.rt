@@ -1,0 +1,83 @@
+// The size of a page, and the span and height of a tree over pages.
+ghost use Rattle.std.specs.Prelude.{◌≡◌, ℕ, ◌+◌, ◌*◌, ◌^◌, ◌<◌, ◌≤◌, MatchOption};
+ghost use Rattle.tree_geom.specs.Geometry.{IsPageSize, IsHeight, height_of, span_of};
+
+use std::marker::Model;
+
+/// How many bytes a page has: a power of two from 4 to 1,048,576.
+#[derive(Clone, Copy)]
+pub struct PageSize {
+    bytes: u64,
+}
+
+impl Model for PageSize {
+    ghost Value = { ℕ };
+
+    ghost view = { λ p. p.bytes };
+
+    ghost invariant = { λ p. IsPageSize p.bytes };
+
+    ghost inverse = { λ n. record { bytes = n } };
+}
+
+impl PageSize {
+    /// Pages of `p` bytes. None exactly where `p` isn't a power of two from 4 to 1,048,576.
+    pub fn new(p: u64) -> Option<PageSize>
+        ensures { MatchOption result (¬ IsPageSize p) (λ size. (size ≡ p) × IsPageSize p) }
+    {
+        let mut bytes = 4;
+        for log in 2..21u32 {
+            if p == bytes {
+                return Some(PageSize { bytes });
+            }
+            bytes *= 2;
+        }
+        None
+    }
+
+    /// How many bytes a page has.
+    pub fn bytes(&self) -> u64
+        ensures is { result ≡ self.now }
+        ensures bounds { (4 ≤ result) × (result ≤ 1048576) }
+        ensures power { IsPageSize result }
+    {
+        self.bytes
+    }
+}
+
+/// The height of the tree over `size` bytes: the least `h` for which `p * 2^h` is at least the size.
+///
+/// The size is from 1 to 2^40.
+pub fn height(p: PageSize, size: u64) -> u32
+    requires some { 1 ≤ size }
+    requires fits { size ≤ 2 ^ 40 }
+    ensures is { result ≡ height_of p size }
+    ensures least { IsHeight p size result }
+    ensures bound { result ≤ 38 }
+{
+    let mut range = p.bytes();
+    let mut height = 0;
+    while range < size {
+        range *= 2;
+        height += 1;
+    }
+    height
+}
+
+/// The bytes that the root covers of the tree over `size` bytes: 0 for size 0, else the least `p * 2^h` that is at least
+/// the size.
+///
+/// The size is at most 2^40, and so is the span.
+pub fn span(p: PageSize, size: u64) -> u64
+    requires { size ≤ 2 ^ 40 }
+    ensures none { size ≡ 0 → result ≡ 0 }
+    ensures least { 1 ≤ size → (h : ℕ) × IsHeight p size h × (result ≡ p * 2 ^ h) }
+    ensures is { result ≡ span_of p size }
+    ensures holds { size ≤ result }
+    ensures fits { result ≤ 2 ^ 40 }
+{
+    if size == 0 {
+        return 0;
+    }
+    p.bytes() * 2u64.pow(height(p, size))
+}

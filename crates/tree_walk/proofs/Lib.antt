@@ -1,0 +1,7 @@
+pub mod Walk
+pub mod Descent
+pub mod Steps
+pub mod Visits
+pub mod Weaving
+pub mod Bits
+pub mod Climb
