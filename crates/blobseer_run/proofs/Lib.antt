@@ -1,0 +1,5 @@
+mod Ids
+mod Blobs
+mod Kept
+mod Told
+mod Legal

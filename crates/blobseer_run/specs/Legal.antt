@@ -1,0 +1,12 @@
+-- What the history of a transcript is.
+use Rattle.std.specs.Prelude.{List}
+use Rattle.blob_model.specs.History.{IsLegal}
+use Rattle.request_form.specs.Session.{Fixed, Session, IsNobody}
+use Rattle.request_form.specs.Transcript.{Transcript, first_session}
+use Rattle.request_form.specs.declared.form.Reply.{Reply}
+use Rattle.request_form.specs.declared.form.Heard.{Heard}
+
+-- Where nobody else is there, what a first session has seen in the end is a legal history.
+abbrev pub LegalAlone : Type 0
+LegalAlone = (fixed : Fixed) (heard : List Heard) (replies : List Reply) (last : Session)
+    → Transcript IsNobody (first_session fixed 1) heard replies last → IsLegal fixed.limits last.seen

@@ -1,0 +1,4 @@
+pub mod Take
+pub mod Flat
+pub mod Status
+pub mod Legal
