@@ -4,7 +4,8 @@ ghost use Rattle.std.specs.Arc.{arc_value};
 ghost use Rattle.blob_model.specs.Content.{size_of};
 ghost use Rattle.range_log.specs.Updates.{Replayable};
 ghost use Rattle.page_store.specs.Stored.{joined};
-ghost use Rattle.snapshot.specs.Versions.{row_at, updates_of, next_version, older_version, under_blob, size_now, HasNodeFor, IsFound, root_key, IsRowOf, IsVersion};
+ghost use Rattle.node_store.specs.Rows.{cut_at};
+ghost use Rattle.snapshot.specs.Versions.{row_at, bytes_of, updates_of, next_version, older_version, under_blob, size_now, HasNodeFor, IsFound, root_key, IsRowOf, IsVersion};
 
 use node_store::{NoMemory, NodeRef, Row};
 use page_store::StoredPage;
@@ -184,11 +185,13 @@ impl Snapshot {
         self.row(j).at(range)
     }
 
-    /// The stored page of update `j` that the number `q` of a piece means.
+    /// The stored page of update `j` that the number `q` of a piece means. Its bytes are those of the update from `q` times
+    /// the page size on.
     pub fn page(&self, j: u64, q: u32) -> &StoredPage
         requires version { (1 ≤ j) × (j ≤ length self.now.rows) }
         requires number { q < length (row_at self.now.rows j).pages.pages }
         ensures this { slice_get (row_at self.now.rows j).pages.pages q ≡ Some result.now }
+        ensures bytes { result.now.bytes ≡ cut_at self.now.page_size (bytes_of (row_at self.now.rows j)) q }
     {
         self.row(j).page(q)
     }
