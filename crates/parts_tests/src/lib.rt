@@ -1,0 +1,9 @@
+//! Tests of the store's parts.
+#![tactic(auto)]
+
+#[cfg(test)]
+mod geometry;
+#[cfg(test)]
+mod links;
+#[cfg(test)]
+mod walks;
