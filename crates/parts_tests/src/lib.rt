@@ -3,3 +3,12 @@
 
 #[cfg(test)]
 mod placement;
+
+#[cfg(test)]
+mod geometry;
+
+#[cfg(test)]
+mod links;
+
+#[cfg(test)]
+mod walks;

@@ -1,5 +1,5 @@
 -- What a log says of a blob that grows from its end: facts on touches alone.
-use Rattle.std.proofs.Common.{◌≡◌, ℕ, ◌+◌, ◌-◌, ◌*◌, ◌/◌, ◌<◌, ◌≤◌, zero, suc, List, length, arith, refl, ap, ◌∙◌, max}
+use Rattle.std.proofs.Common.{◌≡◌, ℕ, ◌+◌, ◌-◌, ◌*◌, ◌/◌, ◌<◌, ◌≤◌, zero, suc, length, arith, refl, ap, ◌∙◌, max}
 use Rattle.std.specs.List.{range_with_len}
 use Rattle.std.proofs.lemmas.List.{length-map}
 use Rattle.std.proofs.lemmas.List.FromFn.{length-range_with_len, get_or-map-range_with_len}
@@ -7,8 +7,8 @@ use Rattle.std.proofs.lemmas.Nat.{le-div}
 use Rattle.tree_geom.specs.declared.touch.Touch.{Touch}
 use Rattle.tree_geom.specs.Geometry.{no_touch}
 use Rattle.range_log.specs.Log.{touch_at, size_at}
-use Rattle.range_log.specs.Laws.{Grown, TouchesAre, EachTouchIs, SizesAre, LogsAreGrown}
-use Rattle.range_log.specs.Extents.{Extent, extent_at, size_after, InBounds, touch_of, touches}
+use Rattle.range_log.specs.Laws.{TouchesAre, EachTouchIs, SizesAre, LogsAreGrown}
+use Rattle.range_log.specs.Extents.{extent_at, size_after, touch_of, touches}
 
 pub length-touches : TouchesAre
 unfolding touches

@@ -13,7 +13,6 @@ use Rattle.range_log.specs.Laws.{Grown}
 use Rattle.range_log.specs.Log.{newest_of, size_at, HasNode}
 use Rattle.range_log.specs.Extents.{IsLog}
 use Rattle.range_log.proofs.Greatest.{newest_hit}
-
 use Rattle.range_log.proofs.Links.{newest_some, newest_has_node}
 use Rattle.tree_walk.specs.Leaves.{WalkState, AtPage, bits_set}
 use Rattle.tree_walk.specs.Walk.{root_of}

@@ -1,5 +1,5 @@
 -- One step of a walk by links.
-use Rattle.std.proofs.Common.{◌≡◌, ◌⊎◌, ℕ, ◌+◌, ◌*◌, ◌/◌, ◌%◌, ◌^◌, ◌<◌, ◌≤◌, suc, List, length, arith, inl, inr, refl, ap, sym, subst, ◌∙◌, zero}
+use Rattle.std.proofs.Common.{◌≡◌, ◌⊎◌, ℕ, ◌+◌, ◌*◌, ◌%◌, ◌^◌, ◌<◌, ◌≤◌, suc, List, length, arith, inl, inr, refl, ap, sym, subst, ◌∙◌, zero}
 use Rattle.tree_geom.specs.declared.range.Range.{Range}
 use Rattle.tree_geom.specs.declared.touch.Touch.{Touch}
 use Rattle.tree_geom.specs.Geometry.{Aligned, tree_range, left_half, right_half}
