@@ -3,3 +3,6 @@ mod Blobs
 mod Kept
 mod Told
 mod Legal
+mod Scripts
+mod Words
+mod Runs

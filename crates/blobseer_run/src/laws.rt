@@ -1,8 +1,13 @@
-//! A law of transcripts.
+//! Laws of transcripts.
 
-ghost use Rattle.blobseer_run.specs.Legal.{LegalAlone};
+ghost use Rattle.blobseer_run.specs.Legal.{LegalAlone, AlwaysSays};
 
-/// The history of a transcript alone is legal.
+use request_form::laws::transcripts_hold;
+
+/// The history of a transcript alone is legal, and each list of items has such a transcript.
 pub fn transcripts_are_legal()
-    ensures { LegalAlone }
-{}
+    ensures legal { LegalAlone }
+    ensures always { AlwaysSays }
+{
+    transcripts_hold();
+}

@@ -52,11 +52,13 @@ impl Status {
         }
     }
 
-    /// Writes its line on the error output. A fault there is let be.
-    pub(crate) fn tell<E: Sink>(self, err: &mut E)
-        ensures told { Tells (code_of self) (E.written err.old) (E.written err.new) (E.write_faults err.old) (E.write_faults err.new) }
+    /// Writes its line on the error output, where a fault is let be, and gives its number.
+    pub(crate) fn end<E: Sink>(self, err: &mut E) -> u8
+        ensures code { result ≡ code_of self }
+        ensures tells { Tells result (E.written err.old) (E.written err.new) (E.write_faults err.old) (E.write_faults err.new) }
         ensures write_faults { RoseBy 0 (E.write_faults err.old) (E.write_faults err.new) }
     {
         let _ = err.write(self.line());
+        self.code()
     }
 }
