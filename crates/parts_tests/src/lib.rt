@@ -1,0 +1,5 @@
+//! Tests of the store's parts.
+#![tactic(auto)]
+
+#[cfg(test)]
+mod pages;

@@ -1,0 +1,5 @@
+//! Tests of what starts threads or waits for them.
+#![tactic(auto)]
+
+#[cfg(test)]
+mod pages;
