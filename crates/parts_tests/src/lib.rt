@@ -12,3 +12,6 @@ mod links;
 
 #[cfg(test)]
 mod walks;
+
+#[cfg(test)]
+mod pages;

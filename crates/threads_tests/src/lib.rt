@@ -6,3 +6,6 @@ mod turn;
 
 #[cfg(test)]
 mod placement;
+
+#[cfg(test)]
+mod pages;
