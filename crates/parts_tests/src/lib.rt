@@ -2,16 +2,12 @@
 #![tactic(auto)]
 
 #[cfg(test)]
-mod placement;
-
-#[cfg(test)]
 mod geometry;
-
 #[cfg(test)]
 mod links;
-
-#[cfg(test)]
-mod walks;
-
 #[cfg(test)]
 mod pages;
+#[cfg(test)]
+mod placement;
+#[cfg(test)]
+mod walks;

@@ -2,10 +2,8 @@
 #![tactic(auto)]
 
 #[cfg(test)]
-mod turn;
-
+mod pages;
 #[cfg(test)]
 mod placement;
-
 #[cfg(test)]
-mod pages;
+mod turn;
