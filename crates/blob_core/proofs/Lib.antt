@@ -1,0 +1,7 @@
+mod Example
+mod Lists
+mod Growing
+mod Finding
+mod Taken
+mod Keeping
+mod Running
