@@ -12,16 +12,18 @@ use Rattle.range_log.specs.Log.{touch_at, size_at, HasNode}
 use Rattle.range_log.specs.Extents.{Extent, no_extent, extent_at, size_after, InBounds, touches, touch_of}
 use Rattle.range_log.specs.Updates.{update_at, no_update, extent_of, extents, Replayable}
 use Rattle.range_log.specs.Rows.{node_of}
-use Rattle.range_log.specs.Laws.{LinksLead, BacksLead, BacksHaveNoHoles, ExtentsStand, LeavesFill, LeavesFit, PiecesJoin, NewestIsGreatest, RowKeysExact, BacksStep, RowsStay, ExtentsGrow}
-use Rattle.tree_walk.specs.Walk.{RootsStand, LinksFind, ChildStands, WeaverFinds, WalksAreBounded}
+use Rattle.range_log.specs.Laws.{LinksNameNodes, LinksLead, BacksLead, BacksHaveNoHoles, ExtentsStand, LeavesFill, LeavesFit, PiecesJoin, PageBytesStay, NewestIsGreatest, RowKeysExact, BacksStep, RowsStay, ExtentsGrow}
+use Rattle.tree_walk.specs.Walk.{RootsStand, LinksFind, ChildStands, WeaverFinds, VisitedNone, VisitedLeaf, VisitedInner, WalksAreBounded}
 use Rattle.range_log.specs.declared.«open».OpenTouch.{OpenTouch}
 use Rattle.blob_core.specs.World.{log_of, waiting_after}
 
 -- the laws of rows and walks
 pub record Cited : Type 0 where
+  pub name : LinksNameNodes
   pub lead : LinksLead
   pub backs_lead : BacksLead
   pub backs_hold : BacksHaveNoHoles
+  pub bytes : PageBytesStay
   pub stand : ExtentsStand
   pub fill : LeavesFill
   pub fit : LeavesFit
@@ -35,6 +37,9 @@ pub record Cited : Type 0 where
   pub find : LinksFind
   pub child : ChildStands
   pub weave : WeaverFinds
+  pub apart : VisitedNone
+  pub leaf : VisitedLeaf
+  pub inner : VisitedInner
   pub bounded : WalksAreBounded
 
 -- ---- where updates fall, and what they touch

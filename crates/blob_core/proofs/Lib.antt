@@ -5,3 +5,6 @@ mod Finding
 mod Taken
 mod Keeping
 mod Running
+mod Reaching
+mod Reading
+mod Promising
