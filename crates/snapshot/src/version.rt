@@ -150,6 +150,8 @@ impl Snapshot {
     pub fn root(&self) -> Option<NodeKey>
         ensures none { IsNone result ↔ (size_now self.now ≡ 0) }
         ensures key { IfSome result (λ key. key ≡ root_key self.now) }
+        ensures holds { IfSome result (λ key. size_now self.now ≤ key.range.size) }
+        ensures fits { IfSome result (λ key. key.range.size ≤ 2 ^ 40) }
     {
         laws::page_bytes_stay();
         let version = self.version();
