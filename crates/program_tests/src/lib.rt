@@ -3,3 +3,5 @@
 
 #[cfg(test)]
 mod outside;
+#[cfg(test)]
+mod run;
