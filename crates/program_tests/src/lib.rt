@@ -5,3 +5,5 @@
 mod outside;
 #[cfg(test)]
 mod run;
+#[cfg(test)]
+mod script;

@@ -47,15 +47,15 @@ fn data_line(alloc: Global, bytes: &[u8]) -> Result<Vec<u8>, AllocError>
     if bytes.is_empty() {
         return b"data -\n".to_vec(alloc);
     }
-    let Some(digits) = bytes.len().checked_mul(2) else {
+    let Some(room) = bytes.len().checked_mul(2).and_then(|n| n.checked_add(6)) else {
         return Err(AllocError);
     };
-    let mut text = vec![in alloc; 0u8; digits]?;
-    if encode_to_slice(bytes, text.as_mut_slice()).is_err() {
+    let mut line = Vec::with_capacity(alloc, room)?;
+    line.extend_from_slice(b"data ")?;
+    line.resize(room - 1, 0)?;
+    if encode_to_slice(bytes, &mut line.as_mut_slice()[5..]).is_err() {
         return Err(AllocError);
     }
-    let mut line = b"data ".to_vec(alloc)?;
-    line.extend_from_slice(text.as_slice())?;
     line.push(b'\n')?;
     Ok(line)
 }

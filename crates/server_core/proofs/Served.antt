@@ -3,7 +3,7 @@ use Rattle.std.proofs.Common.{◌≡◌, ℕ, ◌+◌, ◌<◌, ◌≤◌, true,
 use Rattle.std.specs.Prelude.{Option}
 use Rattle.std.specs.Io.KnownBytes.{IsAtEnd}
 use Rattle.ports.specs.Counts.{RoseBy}
-use Rattle.request_form.specs.Transcript.{until_quit, has_quit}
+use Rattle.request_form.specs.Transcript.{until_quit}
 use Rattle.request_form.specs.Stream.{Stream}
 use Rattle.request_form.specs.declared.form.Reply.{Reply}
 use Rattle.request_form.specs.declared.form.Heard.{Heard}
