@@ -1,5 +1,5 @@
 -- Where nobody else is there, each history that a session has seen is legal.
-use Rattle.std.proofs.Common.{◌≡◌, ℕ, ◌+◌, ◌-◌, ◌≤◌, ◌==◌, ◌⊎◌, inl, inr, Bool, true, false, if◌then◌else◌, List, [], ◌∷◌, ◌++◌, length, set, zero, suc, refl, sym, ◌∙◌, ap, subst, length-append, append_assoc, append-nil, arith}
+use Rattle.std.proofs.Common.{◌≡◌, ℕ, ◌+◌, ◌-◌, ◌≤◌, ◌==◌, Bool, true, false, if◌then◌else◌, List, [], ◌∷◌, ◌++◌, length, set, zero, suc, refl, sym, ◌∙◌, ap, subst, length-append, append_assoc, append-nil, arith}
 use Rattle.std.specs.Prelude.{Option, Some, None, slice_get, slice_index_or}
 use Rattle.std.proofs.Math.ListN.{length-set}
 use Rattle.std.proofs.lemmas.Option.{none-some, same_Some}
@@ -8,24 +8,22 @@ use Rattle.blob_model.specs.Limits.{Bounds}
 use Rattle.blob_model.specs.Content.{Update}
 use Rattle.blob_model.specs.Store.{Store, Blob, assigned, is_finished, finish, blob_at, and_blob, and_update, with_blob, published, size_now, size_with}
 use Rattle.blob_model.specs.Content.{offset_of}
-use Rattle.blob_model.specs.Answer.{Test, Answered, answer, refuse, in_blob, first_refusal, unless_refused, too_many_blobs, offset_past_size, blob_too_big, too_many_versions, too_many_open, already}
-use Rattle.blob_model.specs.History.{caller_of, call_of, store_from, store_of, is_refused, IsAccepted, IsNumbered, IsLegalFrom, IsLegal}
+use Rattle.blob_model.specs.Answer.{Answered, answer, refuse, first_refusal, unless_refused, too_many_blobs, offset_past_size, blob_too_big, too_many_versions, too_many_open, already}
+use Rattle.blob_model.specs.History.{caller_of, call_of, store_of, is_refused, IsAccepted, IsNumbered, IsLegal}
 use Rattle.blob_model.specs.declared.call.Place.{Place}
 use Rattle.blob_model.specs.declared.call.Place.TheVariants.{Append}
 use Rattle.blob_model.specs.declared.call.Call.TheVariants as Calls
 use Rattle.blob_model.specs.declared.call.Event.{Event}
 use Rattle.blob_model.specs.declared.call.Event.TheVariants as Events
-use Rattle.blob_model.specs.declared.call.Outcome.{Outcome}
 use Rattle.blob_model.specs.declared.call.Outcome.TheVariants as Outcomes
 use Rattle.blob_model.specs.declared.call.Refusal.{Refusal}
 use Rattle.blob_model.specs.declared.call.Refusal.TheVariants as Refusals
 use Rattle.request_form.specs.Session.{Fixed, Session, IsNobody}
 use Rattle.request_form.specs.Answers.{Updated, CreateAnswer, UpdateAnswer, ReadAnswer, Unless, update_fault, read_fault, finishes, Answers}
-use Rattle.request_form.specs.Transcript.{ItemReply, Run, until_quit, first_session}
+use Rattle.request_form.specs.Transcript.{ItemReply, Run}
 use Rattle.request_form.specs.declared.form.Request.{Request}
 use Rattle.request_form.specs.declared.form.Request.TheVariants as Requests
 use Rattle.request_form.specs.declared.form.Reply.{Reply}
-use Rattle.request_form.specs.declared.form.Reply.TheVariants as Replies
 use Rattle.request_form.specs.declared.form.Fault.{Fault}
 use Rattle.request_form.specs.declared.form.Heard.{Heard}
 use Rattle.request_form.specs.declared.form.Heard.TheVariants.{Asked, Wrong}

@@ -1,19 +1,18 @@
 -- What a run wrote, from what the stream's loop says, and how it ended then.
-use Rattle.std.proofs.Common.{◌≡◌, ◌⊎◌, ℕ, ◌+◌, ◌<◌, ◌≤◌, true, false, List, [], ◌++◌, length, refl, sym, ◌∙◌, ap, subst, inl, inr, append_assoc, append-nil, length-append, lit<, arith}
+use Rattle.std.proofs.Common.{◌≡◌, ◌⊎◌, ℕ, ◌+◌, ◌<◌, true, false, List, [], ◌++◌, length, refl, sym, ◌∙◌, ap, subst, inl, inr, append-nil, length-append, lit<, arith}
 use Rattle.std.specs.Prelude.{Option, Some, None, Ok, Err}
 use Rattle.std.specs.Io.KnownBytes.{Appends, Consumes, IsAtEnd}
 use Rattle.std.proofs.KnownBytes.{Appends-nil, Consumes-nil}
 use Rattle.ports.specs.Counts.{RoseBy}
 use Rattle.request_form.specs.Session.{AllOwn}
 use Rattle.request_form.specs.Stream.{Stream}
-use Rattle.request_form.specs.Transcript.{SaysAlone, has_quit, first_session}
-use Rattle.request_form.specs.declared.form.Reply.{Reply}
+use Rattle.request_form.specs.Transcript.{SaysAlone, has_quit}
 use Rattle.request_form.specs.declared.form.Heard.{Heard}
 use Rattle.script_text.specs.Lines.{heard}
 use Rattle.script_text.specs.Said.{said}
 use Rattle.server_core.specs.declared.step.End.{End}
 use Rattle.server_core.specs.declared.step.End.TheVariants as Ends
-use Rattle.server_core.specs.Progress.{Point, Progress}
+use Rattle.server_core.specs.Progress.{Point}
 use Rattle.server_core.specs.Served.{AnswersFront, Input, StaysFirst, Served, end_read_faults}
 use Rattle.server_core.specs.Laws.{ServedAlone}
 use Rattle.blobseer_run.specs.Flat.{store_fixed, session_of}
@@ -22,7 +21,7 @@ use Rattle.blobseer_run.specs.declared.take.TakeFault.{TakeFault}
 use Rattle.blobseer_run.specs.declared.take.TakeFault.TheVariants as TakeFaults
 use Rattle.blobseer_run.specs.declared.status.Status.{Status}
 use Rattle.blobseer_run.specs.Legal.{LegalAlone, AlwaysSays}
-use Rattle.blobseer_run.specs.Run.{input_limit, Says, SaysPart, SaysFront, Counts, IsDue, Ended, Ran}
+use Rattle.blobseer_run.specs.Run.{input_limit, Says, Counts, IsDue, Ended, Ran}
 use Rattle.blobseer_run.specs.Answering.{Answering, write_faults_of, status_or}
 use Rattle.blobseer_run.specs.Status.{code_of}
 use Rattle.blobseer_run.specs.declared.status.Status.TheVariants as Statuses

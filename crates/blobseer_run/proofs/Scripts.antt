@@ -1,5 +1,5 @@
 -- What a script says before its last line, and what no script says.
-use Rattle.std.proofs.Common.{◌≡◌, ◌≢◌, ℕ, ◌-◌, ◌<◌, ◌≤◌, zero, suc, get_or, take, drop, take-append-drop, take-suc, drop-cons, arith, ◌==◌, Bool, true, false, cond, if◌then◌else◌, List, [], ◌∷◌, ◌++◌, length, refl, sym, ◌∙◌, ap, subst}
+use Rattle.std.proofs.Common.{◌≡◌, ◌≢◌, ℕ, ◌-◌, ◌<◌, ◌≤◌, zero, suc, get_or, take, drop, take-append-drop, take-suc, drop-cons, arith, ◌==◌, Bool, true, false, cond, if◌then◌else◌, List, [], ◌∷◌, ◌++◌, length, refl, sym, ◌∙◌, ap}
 use Rattle.std.specs.Prelude.{Option, Some, None, ◌||◌, nat_lt, nat_le, ◌&&◌, codes}
 use Rattle.std.specs.List.{All, slice_split, onto_first}
 use Rattle.std.specs.Option.{option_to_list}
@@ -7,12 +7,12 @@ use Rattle.std.specs.Str.{bytes_eq}
 use Rattle.std.specs.Str.Lines.{strip_carriage_return}
 use Rattle.std.proofs.lemmas.List.Splits.{slice_split_none}
 use Rattle.request_form.specs.Answers.{max_update, max_read}
-use Rattle.request_form.specs.Stream.{Stream, after_item}
+use Rattle.request_form.specs.Stream.{Stream}
 use Rattle.request_form.specs.Transcript.{has_quit, is_last}
 use Rattle.request_form.specs.declared.form.Request.{Request}
 use Rattle.request_form.specs.declared.form.Request.TheVariants as Requests
 use Rattle.request_form.specs.declared.form.Heard.{Heard}
-use Rattle.request_form.specs.declared.form.Heard.TheVariants.{Asked, Wrong}
+use Rattle.request_form.specs.declared.form.Heard.TheVariants.{Wrong}
 use Rattle.request_form.specs.declared.form.Fault.TheVariants.{Malformed}
 use Rattle.script_text.specs.Fields.{number_of, bytes_of}
 use Rattle.script_text.specs.Requests.{create_of, append_with, append_of, read_with, read_of, request_of}

@@ -1,9 +1,7 @@
 -- The one word of a command.
-use Rattle.std.proofs.Common.{◌≡◌, ℕ, ◌≤◌, Bool, List, [], ◌∷◌, map, length, get_or, sym, ◌∙◌, ap, arith}
+use Rattle.std.proofs.Common.{◌≡◌, ℕ, Bool, List, [], ◌∷◌, map, length, get_or, sym, ◌∙◌, ap, arith}
 use Rattle.std.specs.Prelude.{codes}
 use Rattle.std.specs.Bool.{Decides}
-use Rattle.std.specs.Str.{bytes_eq}
-use Rattle.std.proofs.lemmas.Slice.Eq.{bytes_eq-Decides}
 
 pub one_word : {A : Type 0} (bytes_of : A → List ℕ) (words : List A) (word : A) (r : Bool) → length words ≡ 1 → word ≡ get_or words 0 word → Decides r (bytes_of word ≡ codes "run") →
     Decides r (map bytes_of words ≡ codes "run" ∷ [])

@@ -1,7 +1,6 @@
 -- What a run promises: from the bytes that came in to the bytes that went out.
-use Rattle.std.specs.Prelude.{◌≡◌, ◌⊎◌, ℕ, ◌<◌, Bool, false, List, [], ◌∷◌, ◌++◌, length, map, Option, codes}
+use Rattle.std.specs.Prelude.{◌≡◌, ℕ, ◌<◌, false, List, [], ◌∷◌, ◌++◌, length, Option, codes}
 use Rattle.std.specs.Io.KnownBytes.{Appends}
-use Rattle.std.specs.String.{string_bytes}
 use Rattle.ports.specs.Counts.{RoseBy}
 use Rattle.blob_model.specs.History.{IsLegal}
 use Rattle.request_form.specs.Transcript.{SaysAlone, has_quit}

@@ -63,7 +63,7 @@ fn take_piece<S: Source>(source: &mut S, buf: &mut [u8], room: usize) -> Taken
 
 /// Takes a source's bytes up to its end, and at most `limit` of them, which is at least 1.
 ///
-/// Nothing is set aside for more bytes than come. Each answer but `NoMemory` has the bytes that were taken.
+/// Memory is taken as bytes come, and not for the limit at once. Each answer but `NoMemory` has the bytes that were taken.
 pub fn take_all<S: Source>(alloc: Global, source: &mut S, limit: u64) -> Result<Bytes, TakeFault>
     requires { 1 ≤ limit }
 

@@ -4,4 +4,6 @@
 #[cfg(test)]
 mod outside;
 #[cfg(test)]
+mod run;
+#[cfg(test)]
 mod script;

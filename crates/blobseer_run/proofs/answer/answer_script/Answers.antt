@@ -1,9 +1,9 @@
-use Rattle.std.proofs.Common.{◌≡◌, ℕ, ◌+◌, List, [], ◌++◌, length, sym, ap, subst, arith}
+use Rattle.std.proofs.Common.{◌≡◌, ℕ, ◌+◌, List, ◌++◌, length, sym, ap, subst, arith}
 use Rattle.std.specs.Prelude.{Option}
 use Rattle.script_text.specs.Lines.{heard}
 use Rattle.blobseer_run.specs.Answering.{Answering}
 use Rattle.blobseer_run.specs.declared.answer.Answered.TheVariants as Answers
-use Rattle.blobseer_run.proofs.Runs.{answered_all, answered_part, answered_front, answered_none, never}
+use Rattle.blobseer_run.proofs.Runs.{answered_all, answered_part, answered_front, never}
 use Rattle.blobseer_run.proofs.answer.answer_script.Goals as goal
 
 pub returns-in-InputEnd-clause-answering : goal.returns-in-InputEnd-clause-answering

@@ -1,4 +1,4 @@
-use Rattle.std.proofs.Common.{List, [], ◌++◌, refl}
+use Rattle.std.proofs.Common.{refl}
 use Rattle.std.specs.Prelude.{flat_map}
 use Rattle.request_form.specs.Transcript.{until_quit, first_session}
 use Rattle.script_text.specs.Said.{said}

@@ -1,4 +1,4 @@
-use Rattle.std.proofs.Common.{◌≡◌, ◌≢◌, ℕ, ◌-◌, ◌≤◌, ◌==◌, false, List, length, take, drop, get_or, ap, ◌∙◌, subst}
+use Rattle.std.proofs.Common.{◌≡◌, ◌≢◌, ℕ, ◌-◌, ◌≤◌, ◌==◌, false, List, length, drop, get_or, ap, ◌∙◌, subst}
 use Rattle.std.specs.List.{All}
 use Rattle.script_text.specs.Lines.{heard}
 use Rattle.blobseer_run.proofs.Scripts.{kept_lines}

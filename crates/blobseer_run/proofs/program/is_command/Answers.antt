@@ -1,4 +1,4 @@
-use Rattle.std.proofs.Common.{◌≡◌, ◌≤◌, ℕ, List, length, subst, arith}
+use Rattle.std.proofs.Common.{◌≡◌, ℕ, List, length, subst, arith}
 use Rattle.std.specs.Prelude.{codes}
 use Rattle.std.specs.Bool.{Decides}
 use Rattle.std.specs.String.{string_bytes}

@@ -1,4 +1,4 @@
-use Rattle.std.proofs.Common.{◌≡◌, ℕ, sym, subst}
+use Rattle.std.proofs.Common.{ℕ, sym, subst}
 use Rattle.blobseer_run.specs.Status.{code_of, Tells}
 use Rattle.blobseer_run.proofs.Told.{tells}
 use Rattle.blobseer_run.proofs.status.Status.end.Goals as goal

@@ -1,4 +1,4 @@
-use Rattle.std.proofs.Common.{◌≡◌, ◌+◌, ℕ, List, ◌++◌, take, drop, sym, ◌∙◌, ap, arith, take-append-drop, drop-drop}
+use Rattle.std.proofs.Common.{◌≡◌, ℕ, List, ◌++◌, take, drop, sym, ◌∙◌, ap, take-append-drop, drop-drop}
 use Rattle.blobseer_run.proofs.taken.TakenBytesSource.read.Goals as goal
 
 pub returns-clause-left : goal.returns-clause-left
