@@ -3,3 +3,4 @@ pub mod Content
 pub mod Store
 pub mod Answer
 pub mod History
+pub mod Laws

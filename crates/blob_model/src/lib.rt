@@ -8,6 +8,7 @@ ghost use Rattle.std.specs.Prelude.{◌≡◌};
 
 mod bytes;
 mod call;
+pub mod laws;
 mod limits;
 
 pub use bytes::Bytes;

@@ -4,7 +4,7 @@ ghost use Rattle.std.specs.Prelude.{ℕ, ◌≡◌, ◌<◌, ◌^◌, List, [], 
 ghost use Rattle.replica_place.specs.Chosen.{chosen};
 
 use crate::NoMemory;
-use replica_place::Placement;
+use replica_place::{MOST_REPLICAS, Placement};
 use std::alloc::Global;
 use std::marker::Model;
 
@@ -57,7 +57,7 @@ pub(crate) fn room_for(alloc: Global, pages: u32) -> Result<Vec<Placement>, NoMe
 {
     let blank = Placement {
         count: 1,
-        providers: [1; 8],
+        providers: [1; MOST_REPLICAS],
     };
     Ok(vec![in alloc; blank; pages as usize]?)
 }

@@ -22,12 +22,12 @@ kept_twice before mid now x y z a b = record {
 }
 
 pub risen_since : (before mid now : ℕ) → before ≤ mid → HasRisen mid now → HasRisen before now
-risen_since before mid now le rose = omega (arith, rose)
+risen_since before mid now le rose = record { later = omega (arith, rose.later); by = λ lt. let f = rose.by lt in omega (arith, f) }
 
 pub all_since : (before mid now : List ℕ) (places : List Place) → NoneFell before mid → AllRose mid now places → AllRose before now places
 all_since before mid now places kept rose =
     All-weaker (λ (place : Place). RoseAt mid now place.provider) (λ (place : Place). RoseAt before now place.provider)
-    (λ place r. let f = kept.rises (place.provider - 1) in omega (arith, f, r)) places rose
+    (λ place r. risen_since _ _ _ (kept.rises (place.provider - 1)) r) places rose
 
 pub stored_since : (s : Version) (before mid now : List ℕ) (j q : ℕ) → NoneFell before mid → StoredFailed s mid now j q → StoredFailed s before now j q
 stored_since s before mid now j q kept f = record { stored = f.stored; is = f.is; failed = all_since before mid now f.stored.places kept f.failed }

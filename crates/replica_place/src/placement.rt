@@ -11,7 +11,7 @@ pub const MOST_REPLICAS: usize = 8;
 #[derive(Clone, Copy, Debug)]
 pub struct Placement {
     pub count: u32,
-    pub providers: [u32; 8],
+    pub providers: [u32; MOST_REPLICAS],
     pub ghost placed: { 1 ≤ count },
     pub ghost room: { count ≤ 8 },
 }

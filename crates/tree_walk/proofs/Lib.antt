@@ -1,5 +1,8 @@
+pub mod Parts
 pub mod Walk
 pub mod Descent
 pub mod Steps
 pub mod Visits
 pub mod Weaving
+pub mod Bits
+pub mod Climb

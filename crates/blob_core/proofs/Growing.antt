@@ -1,0 +1,184 @@
+-- What a longer list of updates says of the versions of the shorter one; and the laws that are cited.
+use Rattle.std.proofs.Common.{◌≡◌, ◌⊎◌, ℕ, ◌+◌, ◌-◌, ◌<◌, ◌≤◌, zero, suc, List, [], ◌∷◌, ◌++◌, length, take, drop, arith, inl, inr, refl, ap, sym, subst, ◌∙◌}
+use Rattle.std.proofs.lemmas.Bool.{cases_lt}
+use Rattle.std.proofs.lemmas.List.{get_or_append_left, take-append-le, take-append-drop, length-take-le, length-append}
+use Rattle.std.proofs.lemmas.List.FromFn.{get_or-map-range_with_len, length-map-range_with_len}
+use Rattle.std.proofs.Math.Seq.{get_or-append_seam, take-length}
+use Rattle.blob_model.specs.Content.{Update, content_from, size_of, offset_of}
+use Rattle.tree_geom.specs.declared.range.Range.{Range}
+use Rattle.tree_geom.specs.declared.touch.Touch.{Touch}
+use Rattle.tree_geom.specs.Geometry.{no_touch}
+use Rattle.range_log.specs.Log.{touch_at, size_at, HasNode}
+use Rattle.range_log.specs.Extents.{Extent, no_extent, extent_at, size_after, InBounds, touches, touch_of}
+use Rattle.range_log.specs.Updates.{update_at, no_update, extent_of, extents, Replayable}
+use Rattle.range_log.specs.Rows.{node_of}
+use Rattle.range_log.specs.Laws.{LinksNameNodes, LinksLead, BacksLead, BacksHaveNoHoles, ExtentsStand, LeavesFill, LeavesFit, PiecesJoin, PageBytesStay, NewestIsGreatest, RowKeysExact, BacksStep, RowsStay, ExtentsGrow}
+use Rattle.tree_walk.specs.Walk.{RootsStand, LinksFind, ChildStands, WeaverFinds, VisitedNone, VisitedLeaf, VisitedInner, WalksAreBounded}
+use Rattle.range_log.specs.declared.«open».OpenTouch.{OpenTouch}
+use Rattle.blob_core.specs.World.{log_of, waiting_after}
+
+-- the laws of rows and walks
+pub record Cited : Type 0 where
+  pub name : LinksNameNodes
+  pub lead : LinksLead
+  pub backs_lead : BacksLead
+  pub backs_hold : BacksHaveNoHoles
+  pub bytes : PageBytesStay
+  pub stand : ExtentsStand
+  pub fill : LeavesFill
+  pub fit : LeavesFit
+  pub join : PiecesJoin
+  pub greatest : NewestIsGreatest
+  pub exact : RowKeysExact
+  pub backs : BacksStep
+  pub rows : RowsStay
+  pub grow : ExtentsGrow
+  pub roots : RootsStand
+  pub find : LinksFind
+  pub child : ChildStands
+  pub weave : WeaverFinds
+  pub apart : VisitedNone
+  pub leaf : VisitedLeaf
+  pub inner : VisitedInner
+  pub bounded : WalksAreBounded
+
+-- ---- where updates fall, and what they touch
+pub length_extents : (us : List Update) → length (extents us) ≡ length us
+unfolding extents
+length_extents us = length-map-range_with_len (λ k. extent_of us k) 1 (length us)
+
+pub extent_is : (us : List Update) (k : ℕ) → k < length us → extent_at (extents us) (suc k) ≡ extent_of us (suc k)
+unfolding extents
+extent_is us k h = get_or-map-range_with_len (λ j. extent_of us j) 1 (length us) k (suc k) no_extent h (omega arith)
+
+length_touches : (p : ℕ) (us : List Extent) → length (touches p us) ≡ length us
+unfolding touches
+length_touches p us = length-map-range_with_len (λ k. touch_of p us k) 1 (length us)
+
+pub length_log : (p : ℕ) (us : List Update) → length (log_of p us) ≡ length us
+length_log p us = length_touches p (extents us) ∙ length_extents us
+
+touch_is : (p : ℕ) (us : List Extent) (k : ℕ) → k < length us → touch_at (touches p us) (suc k) ≡ touch_of p us (suc k)
+unfolding touches
+touch_is p us k h = get_or-map-range_with_len (λ j. touch_of p us j) 1 (length us) k (suc k) no_touch h (omega arith)
+
+size_is : (p : ℕ) (us : List Extent) (k : ℕ) → k ≤ length us → size_at (touches p us) k ≡ size_after us k
+size_is p us zero h = refl
+size_is p us (suc k) h = ap (λ (t : Touch). t.size) (touch_is p us k (omega arith))
+
+pub size_in_log : (p : ℕ) (us : List Update) (k : ℕ) → k ≤ length us → size_at (log_of p us) k ≡ size_after (extents us) k
+size_in_log p us k h = size_is p (extents us) k (omega (arith, length_extents us))
+
+-- ---- updates in bounds
+update_same : (us more : List Update) (k : ℕ) → k < length us → update_at (us ++ more) (suc k) ≡ update_at us (suc k)
+update_same us more k lt = get_or_append_left us more no_update k lt
+
+size_same : (us more : List Update) (v : ℕ) → v ≤ length us → size_of (us ++ more) v ≡ size_of us v
+size_same us more v le = ap (λ (l : List Update). length (content_from [] l)) (take-append-le v us more le)
+
+abbrev extent_with : Update → ℕ → Extent
+extent_with u n = record { at = offset_of u.place n; len = length u.bytes }
+
+extent_same : (us more : List Update) (k : ℕ) → k < length us → extent_of (us ++ more) (suc k) ≡ extent_of us (suc k)
+extent_same us more k lt =
+    ap (λ (u : Update). extent_with u (size_of (us ++ more) k)) (update_same us more k lt)
+    ∙ ap (λ (n : ℕ). extent_with (update_at us (suc k)) n) (size_same us more k (omega arith))
+
+pub replay_front : (us more : List Update) → Replayable (us ++ more) → Replayable us
+replay_front us more ok k lt =
+    let e : extent_of (us ++ more) (suc k) ≡ extent_of us (suc k) = extent_same us more k lt in
+    let at : (extent_of (us ++ more) (suc k)).at ≡ (extent_of us (suc k)).at = ap (λ (x : Extent). x.at) e in
+    let len : (extent_of (us ++ more) (suc k)).len ≡ (extent_of us (suc k)).len = ap (λ (x : Extent). x.len) e in
+    let size : size_of (us ++ more) k ≡ size_of us k = size_same us more k (omega arith) in
+    let was = ok k (omega (arith, length-append us more)) in
+    (omega (arith, was.0, at, size), omega (arith, was.1, len))
+
+pub update_next : (us : List Update) (u : Update) → update_at (us ++ u ∷ []) (suc (length us)) ≡ u
+update_next us u = get_or-append_seam us u [] no_update
+
+pub replay_next : (us : List Update) (u : Update) → Replayable us → offset_of u.place (size_of us (length us)) ≤ size_of us (length us) → 1 ≤ length u.bytes
+    → Replayable (us ++ u ∷ [])
+replay_next us u ok fits some k lt =
+    elim (cases_lt k (length us)) [
+      | inl old ↦
+          let e : extent_of (us ++ u ∷ []) (suc k) ≡ extent_of us (suc k) = extent_same us (u ∷ []) k old in
+          let at : (extent_of (us ++ u ∷ []) (suc k)).at ≡ (extent_of us (suc k)).at = ap (λ (x : Extent). x.at) e in
+          let len : (extent_of (us ++ u ∷ []) (suc k)).len ≡ (extent_of us (suc k)).len = ap (λ (x : Extent). x.len) e in
+          let size : size_of (us ++ u ∷ []) k ≡ size_of us k = size_same us (u ∷ []) k (omega arith) in
+          let was = ok k old in
+          (omega (arith, was.0, at, size), omega (arith, was.1, len))
+      | inr new ↦
+          let here : length us ≡ k = omega (arith, length-append us (u ∷ [])) in
+          let P : ℕ → Type 0 = λ j. ((extent_of (us ++ u ∷ []) (suc j)).at ≤ size_of (us ++ u ∷ []) j) × (1 ≤ (extent_of (us ++ u ∷ []) (suc j)).len) in
+          let size : size_of (us ++ u ∷ []) (length us) ≡ size_of us (length us) = size_same us (u ∷ []) (length us) (omega arith) in
+          let e : extent_of (us ++ u ∷ []) (suc (length us)) ≡ extent_with u (size_of us (length us)) =
+          ap (λ (x : Update). extent_with x (size_of (us ++ u ∷ []) (length us))) (update_next us u) ∙ ap (λ (n : ℕ). extent_with u n) size in
+          let at : (extent_of (us ++ u ∷ []) (suc (length us))).at ≡ offset_of u.place (size_of us (length us)) = ap (λ (x : Extent). x.at) e in
+          let len : (extent_of (us ++ u ∷ []) (suc (length us))).len ≡ length u.bytes = ap (λ (x : Extent). x.len) e in
+          subst P here (omega (arith, at, size, fits), omega (arith, len, some))
+    ]
+
+-- ---- two lists of updates that agree on the first n
+pub record Agrees (p : ℕ) (old new : List Update) (n : ℕ) : Type 0 where
+  pub update : (j : ℕ) → 1 ≤ j → j ≤ n → update_at new j ≡ update_at old j
+  pub touch : (j : ℕ) → j ≤ n → touch_at (log_of p new) j ≡ touch_at (log_of p old) j
+  pub there : (j : ℕ) (r : Range) → j ≤ n → HasNode p (log_of p old) j r → HasNode p (log_of p new) j r
+  pub back : (j : ℕ) (r : Range) → j ≤ n → HasNode p (log_of p new) j r → HasNode p (log_of p old) j r
+  pub node : (j : ℕ) (r : Range) → j ≤ n → node_of p (extents new) j r ≡ node_of p (extents old) j r
+
+pub agree_same : (p : ℕ) (us : List Update) (n : ℕ) → Agrees p us us n
+agree_same p us n = record {
+  update = λ j some le. refl;
+  touch = λ j le. refl;
+  there = λ j r le h. h;
+  back = λ j r le h. h;
+  node = λ j r le. refl;
+}
+
+pub agree_back : (p : ℕ) (old new : List Update) (n : ℕ) → Agrees p old new n → Agrees p new old n
+agree_back p old new n a = record {
+  update = λ j some le. sym (a.update j some le);
+  touch = λ j le. sym (a.touch j le);
+  there = λ j r le h. a.back j r le h;
+  back = λ j r le h. a.there j r le h;
+  node = λ j r le. sym (a.node j r le);
+}
+
+update_same_at : (us more : List Update) (j : ℕ) → 1 ≤ j → j ≤ length us → update_at (us ++ more) j ≡ update_at us j
+update_same_at us more zero some le = absurd (omega arith)
+update_same_at us more (suc k) some le = update_same us more k (omega arith)
+
+pub agree_more : (c : Cited) (p : ℕ) (us more : List Update) → Agrees p us (us ++ more) (length us)
+agree_more c p us more =
+    let (rest, e) = c.grow us more in
+    let xs : List Extent = extents us in
+    let in_list : (j : ℕ) → j ≤ length us → j ≤ length xs = λ j le. omega (arith, le, length_extents us) in
+    record {
+      update = λ j some le. update_same_at us more j some le;
+      touch = λ j le. ap (λ (x : List Extent). touch_at (touches p x) j) e ∙ (c.rows p j xs rest (in_list j le)).0;
+      there = λ j r le h.
+        let P : List Extent → Type 0 = λ x. HasNode p (touches p x) j r in
+        subst P (sym e) (((c.rows p j xs rest (in_list j le)).2 r).0 h);
+      back = λ j r le h.
+        let P : List Extent → Type 0 = λ x. HasNode p (touches p x) j r in
+        ((c.rows p j xs rest (in_list j le)).2 r).1 (subst P e h);
+      node = λ j r le. ap (λ (x : List Extent). node_of p x j r) e ∙ (c.rows p j xs rest (in_list j le)).3 r;
+    }
+
+-- the first n updates agree with all
+pub agree_front : (c : Cited) (p : ℕ) (us : List Update) (n : ℕ) → n ≤ length us → Agrees p us (take n us) n
+agree_front c p us n le =
+    let l : length (take n us) ≡ n = length-take-le n us le in
+    let a : Agrees p (take n us) (take n us ++ drop n us) (length (take n us)) = agree_more c p (take n us) (drop n us) in
+    let P : List Update → Type 0 = λ x. Agrees p (take n us) x (length (take n us)) in
+    let Q : ℕ → Type 0 = λ m. Agrees p (take n us) us m in
+    agree_back p (take n us) us n (subst Q l (subst P (take-append-drop n us) a))
+
+-- ---- hints
+pub waiting_same : (a b : List Touch) (v n m : ℕ) → v + n ≤ m → ((j : ℕ) → j ≤ m → touch_at b j ≡ touch_at a j) → waiting_after b v n ≡ waiting_after a v n
+waiting_same a b v zero m le same = refl
+waiting_same a b v (suc n) m le same =
+    let more : OpenTouch → List OpenTouch → List OpenTouch = λ x xs. x ∷ xs in
+    let opened : Touch → OpenTouch = λ t. record { version = suc (v + n); touch = t } in
+    ap (λ (t : Touch). more (opened t) (waiting_after b v n)) (same (suc (v + n)) (omega arith))
+    ∙ ap (λ (l : List OpenTouch). more (opened (touch_at a (suc (v + n)))) l) (waiting_same a b v n m (omega arith) same)

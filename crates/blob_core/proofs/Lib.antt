@@ -1,0 +1,10 @@
+mod Example
+mod Lists
+mod Growing
+mod Finding
+mod Taken
+mod Keeping
+mod Running
+mod Reaching
+mod Reading
+mod Promising

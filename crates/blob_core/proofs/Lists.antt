@@ -1,0 +1,253 @@
+-- Lists, finite maps, pages and lineages.
+use Rattle.std.proofs.Common.{◌≡◌, ◌⊎◌, ℕ, ◌+◌, ◌-◌, ◌*◌, ◌<◌, ◌≤◌, zero, suc, Bool, true, false, List, [], ◌∷◌, ◌++◌, length, take, drop, arith, inl, inr, refl, ap, sym, subst, ◌∙◌, append-nil}
+use Rattle.std.specs.Prelude.{◌==◌, ◌&&◌, nat_le, if◌then◌else◌, Option, Some, None, slice_get, slice_set, slice_index_or, replicate}
+use Rattle.std.proofs.lemmas.Bool.Decides.{nat_tests}
+use Rattle.std.proofs.lemmas.List.{length-append}
+use Rattle.std.proofs.Math.Seq.{take-append_seam, drop-append-add, take-length}
+use Rattle.std.proofs.Math.ListN.{drop_of_length-le}
+use Rattle.blob_model.specs.Store.{true_prefix}
+use Rattle.tree_geom.specs.declared.range.Range.{Range}
+use Rattle.tree_geom.specs.declared.node.NodeKey.{NodeKey}
+use Rattle.blob_core.specs.World.{Parent, UpdateKey, IsKnown, entry_at, same_number, same_update, same_key, page_at, origin_of, bytes_of_page, joined, nth_page, AreCut}
+
+-- ---- tests
+pub none_some : {V : Type 0} (o : Option V) (v : V) → o ≡ None → o ≡ Some v → ⊥
+none_some o v a b = cc
+
+pub one_value : {V : Type 0} (o : Option V) (v w : V) → o ≡ Some v → o ≡ Some w → v ≡ w
+one_value o v w a b = cc
+
+pub and_both : (x y : Bool) → (x && y) ≡ true → (x ≡ true) × (y ≡ true)
+and_both true y e = (refl, e)
+and_both false y e = (let no : ⊥ = cc in absurd no)
+
+number_is : (a b : ℕ) → (a == b) ≡ true → a ≡ b
+number_is a b e = grind (arith, nat_tests)
+
+number_same : (a : ℕ) → (a == a) ≡ true
+number_same a = grind (arith, nat_tests)
+
+pub number_means : (a b : ℕ) → same_number a b ≡ true → a ≡ b
+number_means a b e = number_is a b e
+
+abbrev update_key : ℕ → ℕ → UpdateKey
+update_key blob version = record { blob = blob; version = version }
+
+pub update_means : (a b : UpdateKey) → same_update a b ≡ true → a ≡ b
+update_means a b e =
+    let d = and_both (a.blob == b.blob) (a.version == b.version) e in
+    ap (λ (n : ℕ). update_key n a.version) (number_is a.blob b.blob d.0) ∙ ap (λ (n : ℕ). update_key b.blob n) (number_is a.version b.version d.1)
+
+pub update_itself : (a : UpdateKey) → same_update a a ≡ true
+update_itself a = rw (number_same a.blob, number_same a.version) refl
+
+abbrev node_key : ℕ → ℕ → ℕ → ℕ → NodeKey
+node_key blob version offset size = record { blob = blob; version = version; range = record { offset = offset; size = size } }
+
+pub key_means : (a b : NodeKey) → same_key a b ≡ true → a ≡ b
+key_means a b e =
+    let d = and_both (a.blob == b.blob && a.version == b.version && a.range.offset == b.range.offset) (a.range.size == b.range.size) e in
+    let c = and_both (a.blob == b.blob && a.version == b.version) (a.range.offset == b.range.offset) d.0 in
+    let f = and_both (a.blob == b.blob) (a.version == b.version) c.0 in
+    ap (λ (n : ℕ). node_key n a.version a.range.offset a.range.size) (number_is a.blob b.blob f.0)
+    ∙ ap (λ (n : ℕ). node_key b.blob n a.range.offset a.range.size) (number_is a.version b.version f.1)
+    ∙ ap (λ (n : ℕ). node_key b.blob b.version n a.range.size) (number_is a.range.offset b.range.offset c.1)
+    ∙ ap (λ (n : ℕ). node_key b.blob b.version b.range.offset n) (number_is a.range.size b.range.size d.1)
+
+-- ---- entries
+kept_case : {K V : Type 0} (same : K → K → Bool) (es : List (K × V)) (k : K) (x : V) (q : K) (v : V) → (same k q ≡ true → k ≡ q) → entry_at same es k ≡ None
+    → entry_at same es q ≡ Some v → (b : Bool) → same k q ≡ b → entry_at same ((k, x) ∷ es) q ≡ Some v
+kept_case {K} {V} same es k x q v means none e true t =
+    let P : K → Type 0 = λ (i : K). entry_at same es i ≡ None in
+    absurd (none_some (entry_at same es q) v (subst P (means t) none) e)
+kept_case same es k x q v means none e false t = rw t e
+
+-- an entry for a key that isn't there keeps all that are
+pub entry_kept : {K V : Type 0} (same : K → K → Bool) (es : List (K × V)) (k : K) (x : V) (q : K) (v : V) → (same k q ≡ true → k ≡ q) → entry_at same es k ≡ None
+    → entry_at same es q ≡ Some v → entry_at same ((k, x) ∷ es) q ≡ Some v
+entry_kept same es k x q v means none e = kept_case same es k x q v means none e (same k q) refl
+
+pub entry_new : {K V : Type 0} (same : K → K → Bool) (es : List (K × V)) (k : K) (x : V) → same k k ≡ true → entry_at same ((k, x) ∷ es) k ≡ Some x
+entry_new same es k x t = rw t refl
+
+old_case : {K V : Type 0} (same : K → K → Bool) (es : List (K × V)) (k : K) (x : V) (q : K) (v : V) → (same k q ≡ true → k ≡ q)
+    → entry_at same ((k, x) ∷ es) q ≡ Some v → (b : Bool) → same k q ≡ b → ((k ≡ q) × (x ≡ v)) ⊎ (entry_at same es q ≡ Some v)
+old_case same es k x q v means e true t = let f : Some x ≡ Some v = rw t at e in inl (means t, (let g : x ≡ v = cc in g))
+old_case same es k x q v means e false t = inr (rw t at e)
+
+-- what is found is the new entry, or was there
+pub entry_old : {K V : Type 0} (same : K → K → Bool) (es : List (K × V)) (k : K) (x : V) (q : K) (v : V) → (same k q ≡ true → k ≡ q)
+    → entry_at same ((k, x) ∷ es) q ≡ Some v → ((k ≡ q) × (x ≡ v)) ⊎ (entry_at same es q ≡ Some v)
+entry_old same es k x q v means e = old_case same es k x q v means e (same k q) refl
+
+-- ---- items
+pub get_set_same : {X : Type 0} (xs : List X) (i : ℕ) (x y : X) → slice_get xs i ≡ Some y → slice_get (slice_set xs i x) i ≡ Some x
+get_set_same [] i x y e = (let no : ⊥ = cc in absurd no)
+get_set_same (z ∷ xs) zero x y e = refl
+get_set_same (z ∷ xs) (suc i) x y e = get_set_same xs i x y e
+
+-- an item after a write is the one written, or was there
+pub get_set : {X : Type 0} (xs : List X) (i j : ℕ) (x y : X) → slice_get (slice_set xs i x) j ≡ Some y → ((j ≡ i) × (x ≡ y)) ⊎ (slice_get xs j ≡ Some y)
+get_set [] i j x y e = (let no : ⊥ = cc in absurd no)
+get_set (z ∷ xs) zero zero x y e = inl (refl, (let g : x ≡ y = cc in g))
+get_set (z ∷ xs) zero (suc j) x y e = inr e
+get_set (z ∷ xs) (suc i) zero x y e = inr e
+get_set (z ∷ xs) (suc i) (suc j) x y e = elim (get_set xs i j x y e) [ inl a ↦ inl (ap (λ (n : ℕ). suc n) a.0, a.1) | inr b ↦ inr b ]
+
+-- an item that is there is there after a write, or is the one written over
+pub get_set_on : {X : Type 0} (xs : List X) (i j : ℕ) (x y : X) → slice_get xs j ≡ Some y → (j ≡ i) ⊎ (slice_get (slice_set xs i x) j ≡ Some y)
+get_set_on [] i j x y e = (let no : ⊥ = cc in absurd no)
+get_set_on (z ∷ xs) zero zero x y e = inl refl
+get_set_on (z ∷ xs) zero (suc j) x y e = inr e
+get_set_on (z ∷ xs) (suc i) zero x y e = inr e
+get_set_on (z ∷ xs) (suc i) (suc j) x y e = elim (get_set_on xs i j x y e) [ inl a ↦ inl (ap (λ (n : ℕ). suc n) a) | inr b ↦ inr b ]
+
+pub get_more : {X : Type 0} (xs ys : List X) (j : ℕ) (y : X) → slice_get xs j ≡ Some y → slice_get (xs ++ ys) j ≡ Some y
+get_more [] ys j y e = (let no : ⊥ = cc in absurd no)
+get_more (x ∷ xs) ys zero y e = e
+get_more (x ∷ xs) ys (suc j) y e = get_more xs ys j y e
+
+pub get_below : {X : Type 0} (xs : List X) (j : ℕ) (y : X) → slice_get xs j ≡ Some y → j < length xs
+get_below [] j y e = (let no : ⊥ = cc in absurd no)
+get_below (x ∷ xs) zero y e = omega arith
+get_below (x ∷ xs) (suc j) y e = omega (arith, get_below xs j y e)
+
+-- an item of a list with one more is the new one, or was there
+pub get_next : {X : Type 0} (xs : List X) (x : X) (j : ℕ) (y : X) → slice_get (xs ++ x ∷ []) j ≡ Some y → ((j ≡ length xs) × (x ≡ y)) ⊎ (slice_get xs j ≡ Some y)
+get_next [] x zero y e = inl (refl, (let g : x ≡ y = cc in g))
+get_next [] x (suc j) y e = (let no : ⊥ = cc in absurd no)
+get_next (z ∷ xs) x zero y e = inr e
+get_next (z ∷ xs) x (suc j) y e = elim (get_next xs x j y e) [ inl a ↦ inl (ap (λ (n : ℕ). suc n) a.0, a.1) | inr b ↦ inr b ]
+
+-- ---- marks
+pub mark_next : (bs : List Bool) (i : ℕ) → slice_index_or (bs ++ false ∷ []) i false ≡ slice_index_or bs i false
+mark_next [] zero = refl
+mark_next [] (suc i) = refl
+mark_next (b ∷ bs) zero = refl
+mark_next (b ∷ bs) (suc i) = mark_next bs i
+
+pub mark_set : (bs : List Bool) (i j : ℕ) → slice_index_or (slice_set bs i true) j false ≡ true → (j ≡ i) ⊎ (slice_index_or bs j false ≡ true)
+mark_set [] i j e = inr e
+mark_set (b ∷ bs) zero zero e = inl refl
+mark_set (b ∷ bs) zero (suc j) e = inr e
+mark_set (b ∷ bs) (suc i) zero e = inr e
+mark_set (b ∷ bs) (suc i) (suc j) e = elim (mark_set bs i j e) [ inl a ↦ inl (ap (λ (n : ℕ). suc n) a) | inr f ↦ inr f ]
+
+-- what lies below the prefix is marked
+pub prefix_marked : (bs : List Bool) (j : ℕ) → j < true_prefix bs → slice_index_or bs j false ≡ true
+prefix_marked [] j lt = absurd (omega arith)
+prefix_marked (true ∷ bs) zero lt = refl
+prefix_marked (true ∷ bs) (suc j) lt = prefix_marked bs j (omega arith)
+prefix_marked (false ∷ bs) j lt = absurd (omega arith)
+
+pub prefix_within : (bs : List Bool) → true_prefix bs ≤ length bs
+prefix_within [] = omega arith
+prefix_within (true ∷ bs) = omega (arith, prefix_within bs)
+prefix_within (false ∷ bs) = omega arith
+
+front_fewer : (b : Bool) (m n : ℕ) → m ≤ n → (if b then 1 + m else 0) ≤ (if b then 1 + n else 0)
+front_fewer true m n le = omega arith
+front_fewer false m n le = omega arith
+
+front_all : (b : Bool) (n : ℕ) → (if b then 1 + n else 0) ≤ 1 + n
+front_all true n = omega arith
+front_all false n = omega arith
+
+pub prefix_set : (bs : List Bool) (i : ℕ) → true_prefix bs ≤ true_prefix (slice_set bs i true)
+prefix_set [] i = omega arith
+prefix_set (b ∷ bs) zero = front_all b (true_prefix bs)
+prefix_set (b ∷ bs) (suc i) = front_fewer b _ _ (prefix_set bs i)
+
+pub prefix_next : (bs cs : List Bool) → true_prefix bs ≤ true_prefix (bs ++ cs)
+prefix_next [] cs = omega arith
+prefix_next (b ∷ bs) cs = front_fewer b _ _ (prefix_next bs cs)
+
+pub prefix_all : (n : ℕ) → true_prefix (replicate n true) ≡ n
+prefix_all zero = refl
+prefix_all (suc n) = omega (arith, prefix_all n)
+
+-- ---- lineages
+pub origin_older : (x : Option Parent) (older : List (Option Parent)) (blob version : ℕ) → blob ≤ length older → origin_of (x ∷ older) blob version ≡ origin_of older blob version
+origin_older None older blob version le = refl
+origin_older (Some q) older blob version le = let t : (blob == suc (length older) && nat_le version q.version) ≡ false = grind (arith, nat_tests) in rw t refl
+
+pub origin_past : (l : List (Option Parent)) (blob version : ℕ) → length l < blob → origin_of l blob version ≡ blob
+origin_past [] blob version lt = refl
+origin_past (None ∷ l) blob version lt = origin_past l blob version (omega arith)
+origin_past (Some q ∷ l) blob version lt =
+    let t : (blob == suc (length l) && nat_le version q.version) ≡ false = grind (arith, nat_tests) in rw t (origin_past l blob version (omega arith))
+
+pub origin_own : (q : Parent) (l : List (Option Parent)) (blob version : ℕ) → blob ≡ suc (length l) → q.version < version → origin_of (Some q ∷ l) blob version ≡ blob
+origin_own q l blob version e lt =
+    let t : (blob == suc (length l) && nat_le version q.version) ≡ false = grind (arith, nat_tests) in rw t (origin_past l blob version (omega arith))
+
+pub origin_shared : (q : Parent) (l : List (Option Parent)) (blob version : ℕ) → blob ≡ suc (length l) → version ≤ q.version
+    → origin_of (Some q ∷ l) blob version ≡ origin_of l q.blob version
+origin_shared q l blob version e le =
+    let t : (blob == suc (length l) && nat_le version q.version) ≡ true = grind (arith, nat_tests) in rw t refl
+
+-- ---- pages
+-- what is there stays
+abbrev pub KeepsPages : List (ℕ × List ℕ) → List (ℕ × List ℕ) → Type 0
+KeepsPages a b = (n : ℕ) (bytes : List ℕ) → page_at a n ≡ Some bytes → page_at b n ≡ Some bytes
+
+-- each page has 1 to p bytes
+abbrev pub SmallPages : ℕ → List (ℕ × List ℕ) → Type 0
+SmallPages p a = (n : ℕ) (bytes : List ℕ) → page_at a n ≡ Some bytes → (1 ≤ length bytes) × (length bytes ≤ p)
+
+bytes_are : (a : List (ℕ × List ℕ)) (n : ℕ) (bytes : List ℕ) → page_at a n ≡ Some bytes → bytes_of_page a n ≡ bytes
+bytes_are a n bytes e = rw (e, bytes_of_page) refl
+
+bytes_kept : (a b : List (ℕ × List ℕ)) → KeepsPages a b → (n : ℕ) → IsKnown (page_at a n) → bytes_of_page b n ≡ bytes_of_page a n
+bytes_kept a b keeps n (bytes, e) = bytes_are b n bytes (keeps n bytes e) ∙ sym (bytes_are a n bytes e)
+
+pub cut_kept : (p : ℕ) (a b : List (ℕ × List ℕ)) → KeepsPages a b → (ns : List ℕ) → AreCut p a ns → AreCut p b ns
+cut_kept p a b keeps [] cut = cut
+cut_kept p a b keeps (n ∷ []) cut = (cut.0, keeps n cut.0 cut.1)
+cut_kept p a b keeps (n ∷ (m ∷ ns)) cut =
+    ((cut.0.0, keeps n cut.0.0 cut.0.1), ap length (bytes_kept a b keeps n cut.0) ∙ cut.1, cut_kept p a b keeps (m ∷ ns) cut.2)
+
+pub joined_kept : (p : ℕ) (a b : List (ℕ × List ℕ)) → KeepsPages a b → (ns : List ℕ) → AreCut p a ns → joined b ns ≡ joined a ns
+joined_kept p a b keeps [] cut = refl
+joined_kept p a b keeps (n ∷ []) cut = ap (λ (x : List ℕ). x ++ []) (bytes_kept a b keeps n cut)
+joined_kept p a b keeps (n ∷ (m ∷ ns)) cut =
+    ap (λ (x : List ℕ). x ++ joined b (m ∷ ns)) (bytes_kept a b keeps n cut.0)
+    ∙ ap (λ (y : List ℕ). bytes_of_page a n ++ y) (joined_kept p a b keeps (m ∷ ns) cut.2)
+
+page_small : (p : ℕ) (a : List (ℕ × List ℕ)) (n : ℕ) → SmallPages p a → IsKnown (page_at a n) → (1 ≤ length (bytes_of_page a n)) × (length (bytes_of_page a n) ≤ p)
+page_small p a n small (bytes, e) = let f : length (bytes_of_page a n) ≡ length bytes = ap length (bytes_are a n bytes e) in (omega (arith, small n bytes e), omega (arith, small n bytes e))
+
+-- some pages have a byte
+pub joined_some : (p : ℕ) (a : List (ℕ × List ℕ)) → SmallPages p a → (ns : List ℕ) → AreCut p a ns → 1 ≤ length (joined a ns)
+joined_some p a small [] cut = absurd cut
+joined_some p a small (n ∷ []) cut = omega (arith, (page_small p a n small cut).0, length-append (bytes_of_page a n) [])
+joined_some p a small (n ∷ (m ∷ ns)) cut = omega (arith, (page_small p a n small cut.0).0, length-append (bytes_of_page a n) (joined a (m ∷ ns)))
+
+first_full : (p : ℕ) (b rest : List ℕ) → length b ≡ p → take p (b ++ rest) ≡ b
+first_full p b rest e = ap (λ (n : ℕ). take n (b ++ rest)) (sym e) ∙ take-append_seam b rest
+
+next_full : (p i : ℕ) (b rest : List ℕ) → length b ≡ p → drop (suc i * p) (b ++ rest) ≡ drop (i * p) rest
+next_full p i b rest e =
+    let f : suc i * p ≡ length b + i * p = omega arith in
+    ap (λ (n : ℕ). drop n (b ++ rest)) f ∙ drop-append-add b rest (i * p)
+
+take_all : (p : ℕ) (b : List ℕ) → length b ≤ p → take p b ≡ b
+take_all zero [] le = refl
+take_all (suc p) [] le = refl
+take_all zero (x ∷ b) le = absurd (omega arith)
+take_all (suc p) (x ∷ b) le = ap (λ (l : List ℕ). x ∷ l) (take_all p b (omega arith))
+
+-- Page i of the buffer that some pages hold is item i of the pages.
+pub nth_is : (p : ℕ) (a : List (ℕ × List ℕ)) → SmallPages p a → (ns : List ℕ) (i : ℕ) → AreCut p a ns → take p (drop (i * p) (joined a ns)) ≡ nth_page a ns i
+nth_is p a small [] i cut = absurd cut
+nth_is p a small (n ∷ []) zero cut =
+    let z : 0 * p ≡ 0 = omega arith in
+    ap (λ (k : ℕ). take p (drop k (bytes_of_page a n ++ []))) z ∙ ap (λ (l : List ℕ). take p l) (append-nil (bytes_of_page a n)) ∙ take_all p (bytes_of_page a n) (page_small p a n small cut).1
+nth_is p a small (n ∷ []) (suc i) cut =
+    let le : length (bytes_of_page a n) ≤ suc i * p = omega (arith, (page_small p a n small cut).1) in
+    ap (λ (l : List ℕ). take p (drop (suc i * p) l)) (append-nil (bytes_of_page a n)) ∙ ap (λ (l : List ℕ). take p l) (drop_of_length-le (bytes_of_page a n) le) ∙ take_all p [] (omega arith)
+nth_is p a small (n ∷ (m ∷ ns)) zero cut =
+    let z : 0 * p ≡ 0 = omega arith in
+    ap (λ (k : ℕ). take p (drop k (bytes_of_page a n ++ joined a (m ∷ ns)))) z ∙ first_full p (bytes_of_page a n) (joined a (m ∷ ns)) cut.1
+nth_is p a small (n ∷ (m ∷ ns)) (suc i) cut =
+    ap (λ (l : List ℕ). take p l) (next_full p i (bytes_of_page a n) (joined a (m ∷ ns)) cut.1) ∙ nth_is p a small (m ∷ ns) i cut.2

@@ -1,0 +1,84 @@
+-- Every list of allowed steps keeps what holds of a world, and is a legal history.
+use Rattle.std.proofs.Common.{◌≡◌, ℕ, ◌≤◌, List, [], ◌∷◌, ◌++◌, length, arith, refl, ap, sym, subst, ◌∙◌}
+use Rattle.std.specs.Prelude.{Option}
+use Rattle.blob_model.specs.Limits.{Bounds}
+use Rattle.blob_model.specs.Content.{Update}
+use Rattle.blob_model.specs.Store.{Store, Blob, blob_at, with_blob, finish}
+use Rattle.blob_model.specs.Answer.{answer}
+use Rattle.blob_model.specs.History.{store_from, IsLegalFrom, IsAccepted, IsNumbered, MayCall, caller_of, call_of}
+use Rattle.blob_model.specs.declared.call.Event.{Event}
+use Rattle.blob_model.specs.declared.call.Event.TheVariants as Events
+use Rattle.blob_model.specs.declared.call.Call.TheVariants as Calls
+use Rattle.blob_core.specs.World.{World, empty_world, joined}
+use Rattle.blob_core.specs.Steps.{IsAllowed, AllAllowed, IsNumberedIn, after, world_after, events_of, events_from}
+use Rattle.blob_core.specs.declared.step.Step.{Step}
+use Rattle.blob_core.specs.declared.step.Step.TheVariants as Moves
+use Rattle.blob_core.proofs.Lists.{joined_some, one_value}
+use Rattle.blob_core.proofs.Growing.{Cited}
+use Rattle.blob_core.proofs.Taken.{create_done, assign_done, finish_done, branch_done}
+use Rattle.blob_core.proofs.Keeping.{Stands, page_put, node_put, finished, numbered, created, branched, empty_stands}
+
+pub step_stands : (c : Cited) (p : ℕ) (w : World) (step : Step) → 1 ≤ p → Stands p w → IsAllowed p w step → Stands p (after p w step)
+step_stands c p w (Moves.PagePut page bytes) pos s ok = page_put p w page bytes s ok.0 ok.1 ok.2
+step_stands c p w (Moves.Create caller) pos s ok = created p w (store_from w.store (Events.Create caller ∷ [])) s (create_done w.store caller ok)
+step_stands c p w (Moves.Assign caller blob place pages) pos s ok =
+    let (b, is, fits, store) = assign_done w.store caller blob place (joined w.pages pages) ok.1 in
+    let u : Update = record { caller = caller; place = place; bytes = joined w.pages pages } in
+    numbered c p w (store_from w.store (Events.Assign caller blob place (joined w.pages pages) ∷ [])) blob b u pages s is ok.0 refl (joined_some p w.pages s.pages pages ok.0) fits store
+step_stands c p w (Moves.NodePut key) pos s ok =
+    let (b, own, has) = ok in
+    node_put c p w key b pos s own has
+step_stands c p w (Moves.Finish caller blob version) pos s ok =
+    let (b, own, row) = ok.1 in
+    let (x, is, store) = finish_done w.store caller blob version ok.0 in
+    let same : x ≡ b = one_value (blob_at w.store blob) x b is own.there in
+    finished c p w (store_from w.store (Events.Finish caller blob version ∷ [])) blob version b pos s own row
+    (store ∙ ap (λ (y : Blob). with_blob w.store blob (finish y version)) same)
+step_stands c p w (Moves.Branch caller blob version) pos s ok =
+    let (b, is, le, store) = branch_done w.store caller blob version ok in
+    branched c p w (store_from w.store (Events.Branch caller blob version ∷ [])) blob version b s is le store
+step_stands c p w (Moves.Read blob version offset count) pos s ok = s
+
+pub stands_after : (c : Cited) (p : ℕ) (w : World) (steps : List Step) → 1 ≤ p → Stands p w → AllAllowed p w steps → Stands p (world_after p w steps)
+stands_after c p w [] pos s ok = s
+stands_after c p w (step ∷ steps) pos s ok = stands_after c p (after p w step) steps pos (step_stands c p w step pos s ok.0) ok.1
+
+-- the store is that of the events
+pub store_after : (p : ℕ) (w : World) (steps : List Step) → (world_after p w steps).store ≡ store_from w.store (events_from p w steps)
+store_after p w [] = refl
+store_after p w (Moves.PagePut page bytes ∷ steps) = store_after p (after p w (Moves.PagePut page bytes)) steps
+store_after p w (Moves.Create caller ∷ steps) = store_after p (after p w (Moves.Create caller)) steps
+store_after p w (Moves.Assign caller blob place pages ∷ steps) = store_after p (after p w (Moves.Assign caller blob place pages)) steps
+store_after p w (Moves.NodePut key ∷ steps) = store_after p (after p w (Moves.NodePut key)) steps
+store_after p w (Moves.Finish caller blob version ∷ steps) = store_after p (after p w (Moves.Finish caller blob version)) steps
+store_after p w (Moves.Branch caller blob version ∷ steps) = store_after p (after p w (Moves.Branch caller blob version)) steps
+store_after p w (Moves.Read blob version offset count ∷ steps) = store_after p w steps
+
+may_finish : (w : World) (caller blob version : ℕ) (b : Blob) → IsNumberedIn w blob version b → MayCall w.store (Calls.Finish blob version)
+may_finish w caller blob version b own =
+    let P : Option Blob → Type 0 = λ o. IsNumbered o version in
+    subst P (sym own.there) (own.some, own.upto)
+
+pub legal_after : (c : Cited) (p : ℕ) (w : World) (steps : List Step) → 1 ≤ p → Stands p w → AllAllowed p w steps → IsLegalFrom w.store (events_from p w steps)
+legal_after c p w [] pos s ok = tt
+legal_after c p w (Moves.PagePut page bytes ∷ steps) pos s ok =
+    legal_after c p (after p w (Moves.PagePut page bytes)) steps pos (step_stands c p w (Moves.PagePut page bytes) pos s ok.0) ok.1
+legal_after c p w (Moves.Create caller ∷ steps) pos s ok = (
+  record { may = tt; accepted = ok.0 },
+  legal_after c p (after p w (Moves.Create caller)) steps pos (step_stands c p w (Moves.Create caller) pos s ok.0) ok.1,
+)
+legal_after c p w (Moves.Assign caller blob place pages ∷ steps) pos s ok = (
+  record { may = joined_some p w.pages s.pages pages ok.0.0; accepted = ok.0.1 },
+  legal_after c p (after p w (Moves.Assign caller blob place pages)) steps pos (step_stands c p w (Moves.Assign caller blob place pages) pos s ok.0) ok.1,
+)
+legal_after c p w (Moves.NodePut key ∷ steps) pos s ok =
+    legal_after c p (after p w (Moves.NodePut key)) steps pos (step_stands c p w (Moves.NodePut key) pos s ok.0) ok.1
+legal_after c p w (Moves.Finish caller blob version ∷ steps) pos s ok = (
+  record { may = may_finish w caller blob version ok.0.1.0 ok.0.1.1; accepted = ok.0.0 },
+  legal_after c p (after p w (Moves.Finish caller blob version)) steps pos (step_stands c p w (Moves.Finish caller blob version) pos s ok.0) ok.1,
+)
+legal_after c p w (Moves.Branch caller blob version ∷ steps) pos s ok = (
+  record { may = tt; accepted = ok.0 },
+  legal_after c p (after p w (Moves.Branch caller blob version)) steps pos (step_stands c p w (Moves.Branch caller blob version) pos s ok.0) ok.1,
+)
+legal_after c p w (Moves.Read blob version offset count ∷ steps) pos s ok = legal_after c p w steps pos s ok.1

@@ -1,0 +1,5 @@
+pub mod World
+pub mod Woven
+pub mod Steps
+pub mod Walk
+pub mod Promises

@@ -1,0 +1,122 @@
+use Rattle.std.specs.Prelude.{◌≡◌, ℕ, ◌+◌, ◌-◌, ◌≤◌, Bool, false, List, [], ◌∷◌, ◌++◌, length, Option, Some, None}
+use Rattle.std.specs.List.{Contains}
+use Rattle.blob_model.specs.Limits.{Bounds}
+use Rattle.blob_model.specs.Store.{Store, Blob, blob_at, assigned, published}
+use Rattle.blob_model.specs.Answer.{answer}
+use Rattle.blob_model.specs.History.{store_from, caller_of, call_of, is_refused}
+use Rattle.blob_model.specs.declared.call.Event.{Event}
+use Rattle.blob_model.specs.declared.call.Event.TheVariants as Events
+use Rattle.blob_model.specs.declared.call.Call.TheVariants as Calls
+use Rattle.tree_geom.specs.declared.range.Range.{Range}
+use Rattle.tree_geom.specs.declared.node.Node.{Node}
+use Rattle.tree_geom.specs.declared.node.NodeKey.{NodeKey}
+use Rattle.range_log.specs.Log.{HasNode}
+use Rattle.range_log.specs.Rows.{row_keys_of}
+use Rattle.blob_core.specs.World.{World, Parent, Kept, UpdateKey, IsKnown, empty_world, page_at, node_at, kept_at, origin, joined, AreCut, log_of, waiting_after}
+use Rattle.blob_core.specs.Woven.{woven}
+use Rattle.blob_core.specs.declared.step.Step.{Step}
+use Rattle.blob_core.specs.declared.step.Step.TheVariants as Moves
+
+-- the event that a step is: that of a change, none of a page, a node or a read
+abbrev pub events_of : World → Step → List Event
+events_of w (Moves.PagePut page bytes) = []
+events_of w (Moves.Create caller) = Events.Create caller ∷ []
+events_of w (Moves.Assign caller blob place pages) = Events.Assign caller blob place (joined w.pages pages) ∷ []
+events_of w (Moves.NodePut key) = []
+events_of w (Moves.Finish caller blob version) = Events.Finish caller blob version ∷ []
+events_of w (Moves.Branch caller blob version) = Events.Branch caller blob version ∷ []
+events_of w (Moves.Read blob version offset count) = []
+
+-- ---- when a step is allowed
+-- the store doesn't refuse the event
+abbrev pub IsTaken : Store → Event → Type 0
+IsTaken s e = is_refused (answer s (caller_of e) (call_of e)).1 ≡ false
+
+-- the version was numbered in that blob, and b is the blob
+pub record IsNumberedIn (w : World) (blob version : ℕ) (b : Blob) : Type 0 where
+  pub there : blob_at w.store blob ≡ Some b
+  pub some : 1 ≤ version
+  pub upto : version ≤ assigned b
+  pub own : origin w blob version ≡ blob
+
+-- each key of the row of an update is there
+abbrev pub RowIsThere : ℕ → World → ℕ → ℕ → Blob → Type 0
+RowIsThere p w blob version b =
+    (r : Range) → Contains (row_keys_of p (log_of p b.updates) version) r → IsKnown (node_at w.nodes (record { blob = blob; version = version; range = r }))
+
+abbrev pub IsAllowed : ℕ → World → Step → Type 0
+IsAllowed p w (Moves.PagePut page bytes) = (page_at w.pages page ≡ None) × (1 ≤ length bytes) × (length bytes ≤ p)
+IsAllowed p w (Moves.Create caller) = IsTaken w.store (Events.Create caller)
+IsAllowed p w (Moves.Assign caller blob place pages) = AreCut p w.pages pages × IsTaken w.store (Events.Assign caller blob place (joined w.pages pages))
+IsAllowed p w (Moves.NodePut key) =
+    (b : Blob) × IsNumberedIn w key.blob key.version b × HasNode p (log_of p b.updates) key.version key.range
+IsAllowed p w (Moves.Finish caller blob version) =
+    IsTaken w.store (Events.Finish caller blob version) × ((b : Blob) × IsNumberedIn w blob version b × RowIsThere p w blob version b)
+IsAllowed p w (Moves.Branch caller blob version) = IsTaken w.store (Events.Branch caller blob version)
+IsAllowed p w (Moves.Read blob version offset count) = is_refused (answer w.store 0 (Calls.Read blob version offset count)).1 ≡ false
+
+-- ---- what a step leaves
+-- what is kept beside the next update of a blob
+abbrev pub next_kept : ℕ → Blob → List ℕ → Kept
+next_kept p b pages = record { pages = pages; published = published b; waiting = waiting_after (log_of p b.updates) (published b) (assigned b - published b) }
+
+abbrev pub with_update : ℕ → World → ℕ → List ℕ → List (UpdateKey × Kept)
+with_update p w blob pages =
+    elim (blob_at w.store blob) [ None ↦ w.updates | Some b ↦ (record { blob = blob; version = assigned b + 1 }, next_kept p b pages) ∷ w.updates ]
+
+-- the woven node under its key; a key that is there keeps its node
+abbrev pub with_node : ℕ → World → NodeKey → List (NodeKey × Node)
+with_node p w key =
+    elim (node_at w.nodes key) [
+      | Some n ↦ w.nodes
+      | None ↦
+          elim (blob_at w.store key.blob) [
+            | None ↦ w.nodes
+            | Some b ↦
+                elim (kept_at w.updates key.blob key.version) [
+                  | None ↦ w.nodes
+                  | Some kept ↦ (key, woven p w key.blob b kept key.version key.range) ∷ w.nodes
+                ]
+          ]
+    ]
+
+abbrev pub after : ℕ → World → Step → World
+after p w (Moves.PagePut page bytes) = record { store = w.store; lineage = w.lineage; pages = (page, bytes) ∷ w.pages; updates = w.updates; nodes = w.nodes }
+after p w (Moves.Create caller) =
+    record { store = store_from w.store (Events.Create caller ∷ []); lineage = None ∷ w.lineage; pages = w.pages; updates = w.updates; nodes = w.nodes }
+after p w (Moves.Assign caller blob place pages) =
+    record {
+      store = store_from w.store (Events.Assign caller blob place (joined w.pages pages) ∷ []);
+      lineage = w.lineage;
+      pages = w.pages;
+      updates = with_update p w blob pages;
+      nodes = w.nodes;
+    }
+after p w (Moves.NodePut key) = record { store = w.store; lineage = w.lineage; pages = w.pages; updates = w.updates; nodes = with_node p w key }
+after p w (Moves.Finish caller blob version) =
+    record { store = store_from w.store (Events.Finish caller blob version ∷ []); lineage = w.lineage; pages = w.pages; updates = w.updates; nodes = w.nodes }
+after p w (Moves.Branch caller blob version) =
+    record {
+      store = store_from w.store (Events.Branch caller blob version ∷ []);
+      lineage = Some (record { blob = blob; version = version }) ∷ w.lineage;
+      pages = w.pages;
+      updates = w.updates;
+      nodes = w.nodes;
+    }
+after p w (Moves.Read blob version offset count) = w
+
+-- ---- lists of steps
+-- the world after all of the steps
+abbrev pub world_after : ℕ → World → List Step → World
+world_after p w [] = w
+world_after p w (step ∷ steps) = world_after p (after p w step) steps
+
+-- each step is allowed in the world of the steps before it
+abbrev pub AllAllowed : ℕ → World → List Step → Type 0
+AllAllowed p w [] = Unit {0}
+AllAllowed p w (step ∷ steps) = IsAllowed p w step × AllAllowed p (after p w step) steps
+
+-- the events of the steps that change the store
+abbrev pub events_from : ℕ → World → List Step → List Event
+events_from p w [] = []
+events_from p w (step ∷ steps) = events_of w step ++ events_from p (after p w step) steps

@@ -1,0 +1,113 @@
+use Rattle.std.specs.Prelude.{ℕ, ◌+◌, ◌-◌, ◌*◌, ◌/◌, ◌^◌, ◌==◌, ◌&&◌, nat_lt, nat_le, zero, suc, Bool, true, false, if◌then◌else◌, List, [], ◌∷◌, ◌++◌, length, take, drop, Option, Some, None}
+use Rattle.blob_model.specs.Content.{put}
+use Rattle.blob_model.specs.Store.{Blob}
+use Rattle.tree_geom.specs.declared.range.Range.{Range}
+use Rattle.tree_geom.specs.declared.node.Node.{Node}
+use Rattle.tree_geom.specs.declared.node.Node.TheVariants.{Inner, Leaf}
+use Rattle.tree_geom.specs.declared.node.Piece.{Piece}
+use Rattle.tree_geom.specs.Geometry.{tree_range, page_range, left_half, right_half, height_of}
+use Rattle.tree_geom.specs.Nodes.{left_link, right_link, back_link}
+use Rattle.range_log.specs.Extents.{size_after}
+use Rattle.range_log.specs.Updates.{extents}
+use Rattle.blob_core.specs.World.{World, Kept, node_in, kept_at, origin, nth_page}
+
+-- ---- what links lead to
+-- a way on from a node: by one of its links, or by its back
+pub data Way : Type 0 where
+  to_left : Way
+  to_right : Way
+  to_back : Way
+
+-- the version that a node leads to
+abbrev pub version_on : Node → Way → ℕ
+version_on n to_left = left_link n
+version_on n to_right = right_link n
+version_on n to_back = back_link n
+
+-- the range of the node that it leads to
+abbrev pub range_on : Range → Way → Range
+range_on r to_left = left_half r
+range_on r to_right = right_half r
+range_on r to_back = r
+
+-- the version and the range of a node
+pub record Spot : Type 0 where
+  pub version : ℕ
+  pub range : Range
+
+-- where the ways lead from the node of version j for r, by the nodes that are there; version 0 where they end before
+abbrev pub reached : World → ℕ → ℕ → Range → List Way → Spot
+reached w blob j r [] = record { version = j; range = r }
+reached w blob j r (way ∷ ways) =
+    elim (node_in w blob j r) [ None ↦ record { version = 0; range = r } | Some n ↦ reached w blob (version_on n way) (range_on r way) ways ]
+
+-- ---- a read
+-- what a walk brings: bytes, and how many nodes it visited
+pub record Walked : Type 0 where
+  pub bytes : List ℕ
+  pub nodes : ℕ
+
+abbrev pub nothing : Walked
+nothing = record { bytes = []; nodes = 0 }
+
+-- one walk and then another, and a node more
+abbrev pub both : Walked → Walked → Walked
+both a b = record { bytes = a.bytes ++ b.bytes; nodes = 1 + a.nodes + b.nodes }
+
+-- the bytes of a piece of an update's pages
+abbrev pub bytes_of_piece : World → List ℕ → Piece → List ℕ
+bytes_of_piece w pages piece = take piece.len (drop piece.from (nth_page w.pages pages piece.page))
+
+-- the update's own bytes from `start` on, over older ones
+abbrev pub over : Walked → ℕ → List ℕ → Walked
+over older start own = record { bytes = put older.bytes start own; nodes = 1 + older.nodes }
+
+-- The leaf of page i of version j: its pieces' bytes over those of the leaf that it leads back to, by at most `most` backs.
+unfoldable pub leaf_walk : ℕ → ℕ → World → ℕ → ℕ → ℕ → Walked
+leaf_walk zero p w blob j i = nothing
+leaf_walk (suc most) p w blob j i =
+    elim (node_in w blob j (page_range p i)) [
+      | None ↦ nothing
+      | Some n ↦
+          elim (kept_at w.updates (origin w blob j) j) [
+            | None ↦ nothing
+            | Some kept ↦
+                elim n [
+                  | Inner l r ↦ nothing
+                  | Leaf start count first second back ↦
+                      over
+                      (let older : Walked = elim (back == 0) [ true ↦ nothing | false ↦ leaf_walk most p w blob back i ] in older)
+                      start (bytes_of_piece w kept.pages first ++ bytes_of_piece w kept.pages second)
+                ]
+          ]
+    ]
+
+-- From the node of version j for range number q of height h: the bytes of the leaves of the pages first to last under it, by
+-- links. A node is visited where its range meets these pages.
+unfoldable pub tree_walk_from : ℕ → ℕ → World → ℕ → ℕ → ℕ → ℕ → ℕ → Walked
+tree_walk_from zero p w blob j q first last = elim (nat_le q last && nat_le first q) [ true ↦ leaf_walk j p w blob j q | false ↦ nothing ]
+tree_walk_from (suc h) p w blob j q first last =
+    elim (nat_le (q * 2 ^ suc h) last && nat_lt first ((q + 1) * 2 ^ suc h)) [
+      | true ↦
+          elim (node_in w blob j (tree_range p (suc h) q)) [
+            | None ↦ nothing
+            | Some n ↦
+                both (tree_walk_from h p w blob (left_link n) (2 * q) first last)
+                (tree_walk_from h p w blob (right_link n) (2 * q + 1) first last)
+          ]
+      | false ↦ nothing
+    ]
+
+-- the count bytes from offset of what the leaves brought, which begins at page first
+abbrev pub cut_out : ℕ → ℕ → ℕ → Walked → Walked
+cut_out p offset count walked = record { bytes = take count (drop (offset - offset / p * p) walked.bytes); nodes = walked.nodes }
+
+-- the read of some bytes of a version, from its root to the leaf of each page that they meet; none visits no node
+unfoldable pub read_walk : ℕ → World → ℕ → Blob → ℕ → ℕ → ℕ → Walked
+read_walk p w blob b version offset count =
+    elim (count == 0) [
+      | true ↦ nothing
+      | false ↦
+          cut_out p offset count
+          (tree_walk_from (height_of p (size_after (extents b.updates) version)) p w blob version 0 (offset / p) ((offset + count - 1) / p))
+    ]

@@ -1,0 +1,14 @@
+//! Every interleaving of a blob store's acts: a world that changes by atomic steps, and what holds of it after every list of
+//! allowed steps.
+//!
+//! A step is one act of one actor: a page is put, an update is numbered, a node is put, an update is finished, a blob is made or
+//! branched, a version is read. The definitions in `specs/` say when a step is allowed and what it leaves. [`steps_hold`]
+//! is the theorem over all lists of steps. This crate isn't linked into the program, whose parts are specified by the same
+//! definitions and whose acts are these steps.
+#![tactic(auto)]
+
+mod laws;
+mod step;
+
+pub use laws::steps_hold;
+pub use step::{PageList, Step};

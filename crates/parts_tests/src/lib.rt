@@ -1,0 +1,13 @@
+//! Tests of the store's parts.
+#![tactic(auto)]
+
+#[cfg(test)]
+mod geometry;
+#[cfg(test)]
+mod links;
+#[cfg(test)]
+mod pages;
+#[cfg(test)]
+mod placement;
+#[cfg(test)]
+mod walks;

@@ -1,0 +1,121 @@
+ghost use Rattle.std.specs.Prelude.{◌≡◌, ◌<◌, ◌≤◌, length};
+ghost use Rattle.std.specs.Io.KnownBytes.{Consumes};
+ghost use Rattle.ports.specs.Counts.{counted};
+ghost use Rattle.ports.specs.Stream.{taken_bytes, IsPiece, EndsAtEnd, IsWithin};
+
+use crate::count::count_up;
+use crate::stream::{Ends, Source, Taken};
+use std::io::{ErrorKind, Read};
+
+// The bytes that are asked for at once.
+const PIECE: usize = 8192;
+
+/// A std reader as a source. What is left is known where the reader tells it.
+///
+/// A read that a signal interrupted took nothing and is no fault: it is tried again. Each other error
+/// is a fault, which is counted, and so is the interruption of u64::MAX reads in a row.
+#[derive(Drop)]
+pub struct ReaderSource<R> {
+    reader: R,
+    faults: u64,
+    ends: u64,
+}
+
+impl<R: Read> ReaderSource<R> {
+    /// A source over this reader.
+    pub fn new(reader: R) -> ReaderSource<R>
+        ensures left { ⟦<ReaderSource<R> as Ends>⟧.left result ≡ R.remaining reader }
+        ensures read_faults { ⟦<ReaderSource<R> as Ends>⟧.read_faults result ≡ 0 }
+        ensures ends { ⟦<ReaderSource<R> as Ends>⟧.ends result ≡ 0 }
+    {
+        ReaderSource {
+            reader,
+            faults: 0,
+            ends: 0,
+        }
+    }
+
+    /// The reader, with what it has left.
+    pub fn into_inner(self) -> R
+        ensures { R.remaining result ≡ ⟦<ReaderSource<R> as Ends>⟧.left self }
+    {
+        let ReaderSource {
+            reader,
+            faults: _,
+            ends: _,
+        } = self;
+        reader
+    }
+}
+
+// One read, tried again where it was interrupted.
+fn read_piece<R: Read>(reader: &mut R, piece: &mut [u8]) -> Taken
+    requires { 0 < length piece.old }
+    ensures within { IsWithin (length piece.old) result }
+    ensures left { Consumes (R.remaining reader.old) (R.remaining reader.new) (taken_bytes piece.new result) }
+    ensures end { EndsAtEnd (R.remaining reader.new) result }
+{
+    for _ in 0..u64::MAX {
+        match reader.read(piece) {
+            Ok(0) => return Taken::End,
+            Ok(n) => return Taken::Got(n),
+            Err(e) => {
+                if e.kind() != ErrorKind::Interrupted {
+                    return Taken::Failed;
+                }
+            }
+        }
+    }
+    Taken::Failed
+}
+
+fn empty_piece() -> [u8; PIECE] {
+    [0; PIECE]
+}
+
+// One read into the front of a buffer. The reader gets bytes of its own to fill, since std lets it
+// write past those that it answers, and the rest of the buffer is to stay.
+fn read_front<R: Read>(reader: &mut R, buf: &mut [u8]) -> Taken
+    requires { 0 < length buf.old }
+    ensures piece { IsPiece buf.old buf.new result }
+    ensures left { Consumes (R.remaining reader.old) (R.remaining reader.new) (taken_bytes buf.new result) }
+    ensures end { EndsAtEnd (R.remaining reader.new) result }
+{
+    let mut piece = empty_piece();
+    let room = buf.len().min(PIECE);
+    let taken = read_piece(reader, &mut piece[..room]);
+    if let Taken::Got(n) = taken {
+        buf[..n].copy_from_slice(&piece[..n]);
+    }
+    taken
+}
+
+impl<R: Read> Ends for ReaderSource<R> {
+    ghost use Rattle.std.specs.Prelude.{None, []};
+
+    ghost given = { λ s. None };
+
+    ghost left = { λ s. R.remaining s.reader };
+
+    ghost written = { λ s. None };
+
+    ghost read_faults = { λ s. s.faults };
+
+    ghost write_faults = { λ s. 0 };
+
+    ghost ends = { λ s. s.ends };
+
+    ghost objects = { λ s. [] };
+}
+
+impl<R: Read> Source for ReaderSource<R> {
+    fn read(&mut self, buf: &mut [u8]) -> Taken {
+        let taken = read_front(&mut self.reader, buf);
+        match taken {
+            Taken::Got(_) => {}
+            Taken::End => self.ends = count_up(self.ends),
+            Taken::Failed => self.faults = count_up(self.faults),
+        }
+        taken
+    }
+}

@@ -1,0 +1,99 @@
+ghost use Rattle.std.specs.Prelude.{◌≡◌, ◌<◌, ◌≤◌, length, take};
+ghost use Rattle.std.specs.Io.KnownBytes.{Appends};
+ghost use Rattle.ports.specs.Counts.{counted};
+
+use crate::count::count_up;
+use crate::stream::{Ends, Sink, Written};
+use std::io::{ErrorKind, Write};
+
+/// A std writer as a sink. What was written is known where the writer tells it.
+///
+/// A write that a signal interrupted appended nothing and is no fault: it is tried again. Each other
+/// error is a fault, which is counted, and so is a write of no byte, and the interruption of u64::MAX
+/// writes in a row. Nothing is flushed: a writer with a buffer is flushed by who owns it.
+#[derive(Drop)]
+pub struct WriterSink<W> {
+    writer: W,
+    faults: u64,
+}
+
+impl<W: Write> WriterSink<W> {
+    /// A sink over this writer.
+    pub fn new(writer: W) -> WriterSink<W>
+        ensures written { ⟦<WriterSink<W> as Ends>⟧.written result ≡ W.contents writer }
+        ensures write_faults { ⟦<WriterSink<W> as Ends>⟧.write_faults result ≡ 0 }
+    {
+        WriterSink { writer, faults: 0 }
+    }
+
+    /// The writer, with what was written.
+    pub fn into_inner(self) -> W
+        ensures { W.contents result ≡ ⟦<WriterSink<W> as Ends>⟧.written self }
+    {
+        let WriterSink { writer, faults: _ } = self;
+        writer
+    }
+}
+
+// One write, tried again where it was interrupted. No byte is a fault.
+fn write_some<W: Write>(writer: &mut W, bytes: &[u8]) -> usize
+    ensures within { result ≤ length bytes.now }
+    ensures written { Appends (W.contents writer.old) (W.contents writer.new) (take result bytes.now) }
+{
+    for _ in 0..u64::MAX {
+        match writer.write(bytes) {
+            Ok(n) => return n,
+            Err(e) => {
+                if e.kind() != ErrorKind::Interrupted {
+                    return 0;
+                }
+            }
+        }
+    }
+    0
+}
+
+// Writes until all bytes are written or the writer fails, and says how many were.
+fn write_front<W: Write>(writer: &mut W, bytes: &[u8]) -> usize
+    ensures within { result ≤ length bytes.now }
+    ensures written { Appends (W.contents writer.old) (W.contents writer.new) (take result bytes.now) }
+{
+    let mut done = 0;
+    'writes: while done < bytes.len() {
+        let n = write_some(writer, &bytes[done..]);
+        if n == 0 {
+            return done;
+        }
+        done += n;
+    }
+    done
+}
+
+impl<W: Write> Ends for WriterSink<W> {
+    ghost use Rattle.std.specs.Prelude.{None, []};
+
+    ghost given = { λ s. None };
+
+    ghost left = { λ s. None };
+
+    ghost written = { λ s. W.contents s.writer };
+
+    ghost read_faults = { λ s. 0 };
+
+    ghost write_faults = { λ s. s.faults };
+
+    ghost ends = { λ s. 0 };
+
+    ghost objects = { λ s. [] };
+}
+
+impl<W: Write> Sink for WriterSink<W> {
+    fn write(&mut self, bytes: &[u8]) -> Written {
+        let n = write_front(&mut self.writer, bytes);
+        if n == bytes.len() {
+            return Written::Whole;
+        }
+        self.faults = count_up(self.faults);
+        Written::Failed(n)
+    }
+}

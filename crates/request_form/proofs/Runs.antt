@@ -1,0 +1,317 @@
+-- How runs go on, that there is always one, and when a run is alone.
+use Rattle.std.proofs.Common.{◌≡◌, ℕ, Bool, true, false, ◌||◌, List, [], ◌∷◌, ◌++◌, refl, sym, ◌∙◌, ap, subst, append_assoc, append-nil}
+use Rattle.std.proofs.lemmas.Bool.{false≢true}
+use Rattle.std.specs.Prelude.{Option, Some, None}
+use Rattle.blob_model.specs.declared.call.Event.{Event}
+use Rattle.blob_model.specs.declared.call.Place.{Place}
+use Rattle.blob_model.specs.declared.call.Place.TheVariants.{Append}
+use Rattle.blob_model.specs.declared.call.Call.{Call}
+use Rattle.request_form.specs.declared.form.Request.{Request}
+use Rattle.request_form.specs.declared.form.Request.TheVariants as Requests
+use Rattle.request_form.specs.declared.form.Reply.{Reply}
+use Rattle.request_form.specs.declared.form.Reply.TheVariants as Replies
+use Rattle.request_form.specs.declared.form.Heard.{Heard}
+use Rattle.request_form.specs.declared.form.Heard.TheVariants.{Asked, Wrong}
+use Rattle.request_form.specs.declared.form.Fault.{Fault}
+use Rattle.request_form.specs.declared.form.Fault.TheVariants as Faults
+use Rattle.request_form.specs.Session.{Session, sees, holds, AllOther, AllOwn, IsNobody}
+use Rattle.request_form.specs.Answers.{Gap, Answers, Unless, Refused, OutOfMemory, Created, Updated, Kept, Content, PageNotRead, CreateAnswer, UpdateAnswer, ReadAnswer, update_fault, read_fault}
+use Rattle.request_form.specs.Transcript.{Run, ItemReply, is_last, until_quit, has_quit}
+
+-- a run and then another
+pub Run-append : (gap : Gap) (s : Session) (hs : List Heard) (rs : List Reply) (mid : Session) (hs' : List Heard) (rs' : List Reply) (s' : Session) →
+    Run gap s hs rs mid → Run gap mid hs' rs' s' → Run gap s (hs ++ hs') (rs ++ rs') s'
+Run-append gap s [] [] mid hs' rs' s' e run = subst (λ (x : Session). Run gap x hs' rs' s') e run
+Run-append gap s (h ∷ hs) (r ∷ rs) mid hs' rs' s' (m, first, rest) run =
+    (m, first, Run-append gap m hs rs mid hs' rs' s' rest run)
+Run-append gap s [] (r ∷ rs) mid hs' rs' s' none run = absurd none
+Run-append gap s (h ∷ hs) [] mid hs' rs' s' none run = absurd none
+
+-- a run and then one item
+pub Run-more : (gap : Gap) (s : Session) (hs : List Heard) (rs : List Reply) (mid : Session) (h : Heard) (r : Reply) (s' : Session) →
+    Run gap s hs rs mid → ItemReply gap mid h r s' → Run gap s (hs ++ h ∷ []) (rs ++ r ∷ []) s'
+Run-more gap s hs rs mid h r s' run item = Run-append gap s hs rs mid (h ∷ []) (r ∷ []) s' run (s', item, refl)
+
+or_false : (a b : Bool) → (a || b) ≡ false → (a ≡ false) × (b ≡ false)
+or_false true b e = absurd (false≢true (sym e))
+or_false false b e = (refl, e)
+
+-- items without a Quit stand before it
+pub until_quit-append : (hs more : List Heard) → has_quit hs ≡ false → until_quit (hs ++ more) ≡ hs ++ until_quit more
+until_quit-append [] more e = refl
+until_quit-append (h ∷ hs) more e =
+    let f = or_false (is_last h) (has_quit hs) e in
+    rw f.0 (ap (λ (x : List Heard). h ∷ x) (until_quit-append hs more f.1))
+
+pub has_quit-append : (hs more : List Heard) → has_quit hs ≡ false → has_quit (hs ++ more) ≡ has_quit more
+has_quit-append [] more e = refl
+has_quit-append (h ∷ hs) more e =
+    let f = or_false (is_last h) (has_quit hs) e in
+    rw f.0 (has_quit-append hs more f.1)
+
+-- a Quit ends the list
+pub until_quit-last : (h : Heard) (more : List Heard) → is_last h ≡ true → until_quit (h ∷ more) ≡ h ∷ []
+until_quit-last h more e = rw e refl
+
+-- Without a Quit all items are answered.
+pub until_quit-all : (hs : List Heard) → has_quit hs ≡ false → until_quit hs ≡ hs
+until_quit-all [] e = refl
+until_quit-all (h ∷ hs) e =
+    let f = or_false (is_last h) (has_quit hs) e in
+    rw f.0 (ap (λ (x : List Heard). h ∷ x) (until_quit-all hs f.1))
+
+-- some answer of a request, or of an item
+record SomeReply (Answer : Reply → Session → Type 0) : Type 0 where
+  pub reply : Reply
+  pub next : Session
+  pub is : Answer reply next
+
+unless_possible : (o : Option Fault) (s : Session) (Answer : Reply → Session → Type 0) →
+    SomeReply Answer → SomeReply (λ (r : Reply) (s' : Session). Unless o s r s' (Answer r s'))
+unless_possible (Some fault) s Answer p = record { reply = Replies.Refused fault; next = s; is = (refl, refl) }
+unless_possible None s Answer p = p
+
+out_of_memory_here : (s : Session) → OutOfMemory IsNobody s (Replies.Refused Faults.NoMemory) (sees s [])
+out_of_memory_here s = record { others = []; is_gap = refl; said = refl; seen = refl }
+
+answer_possible : (s : Session) (request : Request) → SomeReply (λ (r : Reply) (s' : Session). Answers IsNobody s request r s')
+unfolding unless_possible
+answer_possible s Requests.Create =
+    record { reply = Replies.Refused Faults.NoMemory; next = sees s []; is = CreateAnswer.out_of_memory (out_of_memory_here s) }
+answer_possible s (Requests.Append blob bytes) =
+    unless_possible (update_fault s bytes) s
+    (λ (r : Reply) (s' : Session). UpdateAnswer IsNobody s blob Append bytes (Updated IsNobody s blob Append bytes (λ (v : ℕ) (a : ℕ) (z : ℕ). Replies.Appended v a z) r s') r s')
+    (record { reply = Replies.Refused Faults.NoMemory; next = sees s []; is = UpdateAnswer.out_of_memory (out_of_memory_here s) })
+answer_possible s (Requests.Read blob version offset count) =
+    unless_possible (read_fault count) s
+    (λ (r : Reply) (s' : Session). ReadAnswer IsNobody s blob version offset count r s')
+    (record { reply = Replies.Refused Faults.NoMemory; next = sees s []; is = ReadAnswer.out_of_memory (out_of_memory_here s) })
+answer_possible s Requests.Quit = record { reply = Replies.Bye; next = s; is = (refl, refl) }
+
+item_possible : (s : Session) (h : Heard) → SomeReply (λ (r : Reply) (s' : Session). ItemReply IsNobody s h r s')
+item_possible s (Asked request) = answer_possible s request
+item_possible s (Wrong fault) = record { reply = Replies.Refused fault; next = s; is = (refl, refl) }
+
+-- Each list of items has a run with nobody else there.
+pub run_possible : (s : Session) (hs : List Heard) → (rs : List Reply) × ((s' : Session) × Run IsNobody s hs rs s')
+run_possible s [] = ([], (s, refl))
+run_possible s (h ∷ hs) =
+    let p = item_possible s h in
+    let q = run_possible p.next hs in
+    (p.reply ∷ q.0, (q.1.0, (p.next, p.is, q.1.1)))
+
+-- These events stand in that list.
+pub record Stands (seen others : List Event) : Type 0 where
+  pub front : List Event
+  pub back : List Event
+  pub is : seen ≡ front ++ (others ++ back)
+
+-- An answer is one also by other gaps, where those that stand in what was seen allow it.
+module _ (gap gap' : Gap) (s s' : Session) (also : (others : List Event) → Stands s'.seen others → gap s.caller others → gap' s.caller others) where
+  first : (others back : List Event) → s'.seen ≡ s.seen ++ (others ++ back) → Stands s'.seen others
+  first others back e = record { front = s.seen; back = back; is = e }
+
+  alone : (others : List Event) → s'.seen ≡ s.seen ++ others → Stands s'.seen others
+  alone others e = record { front = s.seen; back = []; is = simp (append-nil) e }
+
+  second : (others : List Event) (e : Event) (later back : List Event) → s'.seen ≡ s.seen ++ (others ++ e ∷ (later ++ back)) → Stands s'.seen later
+  second others e later back eq = record { front = s.seen ++ (others ++ e ∷ []); back = back; is = simp append_assoc eq }
+
+  last : (others : List Event) (e : Event) (later : List Event) → s'.seen ≡ s.seen ++ (others ++ e ∷ later) → Stands s'.seen later
+  last others e later eq = record { front = s.seen ++ (others ++ e ∷ []); back = []; is = simp (append_assoc, append-nil) eq }
+
+  Refused-gap : (call : Call) (reply : Reply) → Refused gap s call reply s' → Refused gap' s call reply s'
+  Refused-gap call reply t =
+      record { others = t.others; is_gap = also t.others (alone _ (ap (λ (x : Session). x.seen) t.seen)) t.is_gap; refusal = t.refusal; refused = t.refused; said = t.said; seen = t.seen }
+
+  OutOfMemory-gap : (reply : Reply) → OutOfMemory gap s reply s' → OutOfMemory gap' s reply s'
+  OutOfMemory-gap reply t =
+      record { others = t.others; is_gap = also t.others (alone _ (ap (λ (x : Session). x.seen) t.seen)) t.is_gap; said = t.said; seen = t.seen }
+
+  Created-gap : (reply : Reply) → Created gap s reply s' → Created gap' s reply s'
+  Created-gap reply t =
+      record { others = t.others; is_gap = also t.others (first _ _ (ap (λ (x : Session). x.seen) t.seen)) t.is_gap; blob = t.blob; done = t.done; said = t.said; seen = t.seen }
+
+  Content-gap : (blob version offset count : ℕ) (reply : Reply) → Content gap s blob version offset count reply s' → Content gap' s blob version offset count reply s'
+  Content-gap blob version offset count reply t =
+      record { others = t.others; is_gap = also t.others (alone _ (ap (λ (x : Session). x.seen) t.seen)) t.is_gap; bytes = t.bytes; done = t.done; said = t.said; seen = t.seen }
+
+  Kept-gap : (blob : ℕ) (place : Place) (bytes : List ℕ) (reply : Reply) → Kept gap s blob place bytes reply s' → Kept gap' s blob place bytes reply s'
+  Kept-gap blob place bytes reply t =
+      let e = ap (λ (x : Session). x.seen) t.seen in
+      record {
+        others = t.others;
+        later = t.later;
+        is_gap = also t.others (first _ _ e) t.is_gap;
+        is_gap_later = also t.later (last _ _ _ e) t.is_gap_later;
+        version = t.version;
+        at = t.at;
+        size = t.size;
+        numbered = t.numbered;
+        said = t.said;
+        seen = t.seen;
+      }
+
+  Updated-gap : (blob : ℕ) (place : Place) (bytes : List ℕ) (done : ℕ → ℕ → ℕ → Reply) (reply : Reply) →
+      Updated gap s blob place bytes done reply s' → Updated gap' s blob place bytes done reply s'
+  Updated-gap blob place bytes done reply t =
+      let e = ap (λ (x : Session). x.seen) t.seen in
+      record {
+        others = t.others;
+        later = t.later;
+        is_gap = also t.others (first _ _ e) t.is_gap;
+        is_gap_later = also t.later (second _ _ _ _ e) t.is_gap_later;
+        version = t.version;
+        at = t.at;
+        size = t.size;
+        numbered = t.numbered;
+        said = t.said;
+        seen = t.seen;
+      }
+
+  PageNotRead-gap : (blob version offset count : ℕ) (reply : Reply) → PageNotRead gap s blob version offset count reply s' → PageNotRead gap' s blob version offset count reply s'
+  PageNotRead-gap blob version offset count reply t =
+      record {
+        others = t.others;
+        is_gap = also t.others (alone _ (ap (λ (x : Session). x.seen) t.seen)) t.is_gap;
+        bytes = t.bytes;
+        would = t.would;
+        some = t.some;
+        page = t.page;
+        begins = t.begins;
+        ends = t.ends;
+        said = t.said;
+        seen = t.seen;
+      }
+
+  create_gap : (reply : Reply) → CreateAnswer gap s reply s' → CreateAnswer gap' s reply s'
+  create_gap reply (CreateAnswer.created t) = CreateAnswer.created (Created-gap reply t)
+  create_gap reply (CreateAnswer.refused t) = CreateAnswer.refused (Refused-gap _ reply t)
+  create_gap reply (CreateAnswer.out_of_memory t) = CreateAnswer.out_of_memory (OutOfMemory-gap reply t)
+
+  update_gap : (blob : ℕ) (place : Place) (bytes : List ℕ) (reply : Reply) (Does Does' : Type 0) → (Does → Does') →
+      UpdateAnswer gap s blob place bytes Does reply s' → UpdateAnswer gap' s blob place bytes Does' reply s'
+  update_gap blob place bytes reply Does Does' f (UpdateAnswer.does d) = UpdateAnswer.does (f d)
+  update_gap blob place bytes reply Does Does' f (UpdateAnswer.refused t) = UpdateAnswer.refused (Refused-gap _ reply t)
+  update_gap blob place bytes reply Does Does' f (UpdateAnswer.out_of_memory t) = UpdateAnswer.out_of_memory (OutOfMemory-gap reply t)
+  update_gap blob place bytes reply Does Does' f (UpdateAnswer.kept t) = UpdateAnswer.kept (Kept-gap blob place bytes reply t)
+  update_gap blob place bytes reply Does Does' f (UpdateAnswer.not_stored t) = UpdateAnswer.not_stored t
+
+  read_gap : (blob version offset count : ℕ) (reply : Reply) → ReadAnswer gap s blob version offset count reply s' → ReadAnswer gap' s blob version offset count reply s'
+  read_gap blob version offset count reply (ReadAnswer.content t) = ReadAnswer.content (Content-gap _ _ _ _ reply t)
+  read_gap blob version offset count reply (ReadAnswer.refused t) = ReadAnswer.refused (Refused-gap _ reply t)
+  read_gap blob version offset count reply (ReadAnswer.out_of_memory t) = ReadAnswer.out_of_memory (OutOfMemory-gap reply t)
+  read_gap blob version offset count reply (ReadAnswer.not_read t) = ReadAnswer.not_read (PageNotRead-gap _ _ _ _ reply t)
+
+  unless_gap : (o : Option Fault) (reply : Reply) (Answer Answer' : Type 0) → (Answer → Answer') → Unless o s reply s' Answer → Unless o s reply s' Answer'
+  unless_gap (Some fault) reply Answer Answer' f u = u
+  unless_gap None reply Answer Answer' f u = f u
+
+  pub Answers-gap : (request : Request) (reply : Reply) → Answers gap s request reply s' → Answers gap' s request reply s'
+  Answers-gap Requests.Create reply a = create_gap reply a
+  Answers-gap (Requests.Append blob bytes) reply a =
+      unless_gap (update_fault s bytes) reply _ _ (update_gap blob Append bytes reply _ _ (Updated-gap _ _ _ _ reply)) a
+  Answers-gap (Requests.Read blob version offset count) reply a = unless_gap (read_fault count) reply _ _ (read_gap _ _ _ _ reply) a
+  Answers-gap Requests.Quit reply a = a
+
+  pub ItemReply-gap : (h : Heard) (reply : Reply) → ItemReply gap s h reply s' → ItemReply gap' s h reply s'
+  ItemReply-gap (Asked request) reply a = Answers-gap request reply a
+  ItemReply-gap (Wrong fault) reply a = a
+
+-- A session keeps its caller and what is fixed, and sees more and more.
+pub record Grows (s s' : Session) : Type 0 where
+  pub fixed : s'.fixed ≡ s.fixed
+  pub caller : s'.caller ≡ s.caller
+  pub more : List Event
+  pub seen : s'.seen ≡ s.seen ++ more
+
+grows_none : (s s' : Session) → s' ≡ s → Grows s s'
+grows_none s s' e = record { fixed = ap (λ (x : Session). x.fixed) e; caller = ap (λ (x : Session). x.caller) e; more = []; seen = simp append-nil (ap (λ (x : Session). x.seen) e) }
+
+grows_sees : (s s' : Session) (more : List Event) → s' ≡ sees s more → Grows s s'
+grows_sees s s' more e = record { fixed = ap (λ (x : Session). x.fixed) e; caller = ap (λ (x : Session). x.caller) e; more = more; seen = ap (λ (x : Session). x.seen) e }
+
+grows_holds : (s s' : Session) (more : List Event) (blob version : ℕ) → s' ≡ holds (sees s more) blob version → Grows s s'
+grows_holds s s' more blob version e = record { fixed = ap (λ (x : Session). x.fixed) e; caller = ap (λ (x : Session). x.caller) e; more = more; seen = ap (λ (x : Session). x.seen) e }
+
+pub Grows-trans : (s mid s' : Session) → Grows s mid → Grows mid s' → Grows s s'
+Grows-trans s mid s' a b = record {
+  fixed = b.fixed ∙ a.fixed;
+  caller = b.caller ∙ a.caller;
+  more = a.more ++ b.more;
+  seen = b.seen ∙ (ap (λ (x : List Event). x ++ b.more) a.seen ∙ append_assoc s.seen a.more b.more);
+}
+
+module _ (gap : Gap) (s s' : Session) where
+  update_grows : (blob : ℕ) (place : Place) (bytes : List ℕ) (reply : Reply) (Does : Type 0) → (Does → Grows s s') →
+      UpdateAnswer gap s blob place bytes Does reply s' → Grows s s'
+  update_grows blob place bytes reply Does f (UpdateAnswer.does d) = f d
+  update_grows blob place bytes reply Does f (UpdateAnswer.refused t) = grows_sees s s' _ t.seen
+  update_grows blob place bytes reply Does f (UpdateAnswer.out_of_memory t) = grows_sees s s' _ t.seen
+  update_grows blob place bytes reply Does f (UpdateAnswer.kept t) = grows_holds s s' _ blob t.version t.seen
+  update_grows blob place bytes reply Does f (UpdateAnswer.not_stored t) = grows_none s s' t.same
+
+  create_grows : (reply : Reply) → CreateAnswer gap s reply s' → Grows s s'
+  create_grows reply (CreateAnswer.created t) = grows_sees s s' _ t.seen
+  create_grows reply (CreateAnswer.refused t) = grows_sees s s' _ t.seen
+  create_grows reply (CreateAnswer.out_of_memory t) = grows_sees s s' _ t.seen
+
+  read_grows : (blob version offset count : ℕ) (reply : Reply) → ReadAnswer gap s blob version offset count reply s' → Grows s s'
+  read_grows blob version offset count reply (ReadAnswer.content t) = grows_sees s s' _ t.seen
+  read_grows blob version offset count reply (ReadAnswer.refused t) = grows_sees s s' _ t.seen
+  read_grows blob version offset count reply (ReadAnswer.out_of_memory t) = grows_sees s s' _ t.seen
+  read_grows blob version offset count reply (ReadAnswer.not_read t) = grows_sees s s' _ t.seen
+
+  unless_grows : (o : Option Fault) (reply : Reply) (Answer : Type 0) → (Answer → Grows s s') → Unless o s reply s' Answer → Grows s s'
+  unless_grows (Some fault) reply Answer f u = grows_none s s' u.1
+  unless_grows None reply Answer f u = f u
+
+  updated_grows : (blob : ℕ) (place : Place) (bytes : List ℕ) (done : ℕ → ℕ → ℕ → Reply) (reply : Reply) → Updated gap s blob place bytes done reply s' → Grows s s'
+  updated_grows blob place bytes done reply t = grows_sees s s' _ t.seen
+
+  pub Answers-grows : (request : Request) (reply : Reply) → Answers gap s request reply s' → Grows s s'
+  Answers-grows Requests.Create reply a = create_grows reply a
+  Answers-grows (Requests.Append blob bytes) reply a = unless_grows (update_fault s bytes) reply _ (update_grows blob Append bytes reply _ (updated_grows _ _ _ _ reply)) a
+  Answers-grows (Requests.Read blob version offset count) reply a = unless_grows (read_fault count) reply _ (read_grows _ _ _ _ reply) a
+  Answers-grows Requests.Quit reply a = grows_none s s' a.1
+
+  pub ItemReply-grows : (h : Heard) (reply : Reply) → ItemReply gap s h reply s' → Grows s s'
+  ItemReply-grows (Asked request) reply a = Answers-grows request reply a
+  ItemReply-grows (Wrong fault) reply a = grows_none s s' a.1
+
+pub Run-grows : (gap : Gap) (s : Session) (hs : List Heard) (rs : List Reply) (s' : Session) → Run gap s hs rs s' → Grows s s'
+Run-grows gap s [] [] s' e = grows_none s s' e
+Run-grows gap s (h ∷ hs) (r ∷ rs) s' (mid, item, rest) = Grows-trans s mid s' (ItemReply-grows gap s mid h r item) (Run-grows gap mid hs rs s' rest)
+Run-grows gap s [] (r ∷ rs) s' none = absurd none
+Run-grows gap s (h ∷ hs) [] s' none = absurd none
+
+own_front : (caller : ℕ) (xs ys : List Event) → AllOwn caller (xs ++ ys) → AllOwn caller xs
+own_front caller [] ys h = tt
+own_front caller (x ∷ xs) ys h = (h.0, own_front caller xs ys h.1)
+
+own_back : (caller : ℕ) (xs ys : List Event) → AllOwn caller (xs ++ ys) → AllOwn caller ys
+own_back caller [] ys h = h
+own_back caller (x ∷ xs) ys h = own_back caller xs ys h.1
+
+nobody : (caller : ℕ) (xs : List Event) → AllOwn caller xs → AllOther caller xs → xs ≡ []
+nobody caller [] own other = refl
+nobody caller (x ∷ xs) own other = absurd (other.0 own.0)
+
+nobody_stands : (caller : ℕ) (seen others : List Event) → AllOwn caller seen → Stands seen others → AllOther caller others → others ≡ []
+nobody_stands caller seen others own stands other =
+    let whole : AllOwn caller (stands.front ++ (others ++ stands.back)) = subst (AllOwn caller) stands.is own in
+    nobody caller others (own_front caller others stands.back (own_back caller stands.front _ whole)) other
+
+-- Where all that a session has seen is its own, nobody came in between.
+pub Run-alone : (s : Session) (hs : List Heard) (rs : List Reply) (s' : Session) → AllOwn s.caller s'.seen → Run AllOther s hs rs s' → Run IsNobody s hs rs s'
+Run-alone s [] [] s' own e = e
+Run-alone s (h ∷ hs) (r ∷ rs) s' own (mid, item, rest) =
+    let later = Run-grows AllOther mid hs rs s' rest in
+    let same = (ItemReply-grows AllOther s mid h r item).caller in
+    let now : AllOwn s.caller mid.seen = own_front s.caller mid.seen later.more (subst (AllOwn s.caller) later.seen own) in (
+      mid,
+      ItemReply-gap AllOther IsNobody s mid (λ (others : List Event) (stands : Stands mid.seen others) (other : AllOther s.caller others). nobody_stands s.caller mid.seen others now stands other) h r item,
+      Run-alone mid hs rs s' (subst (λ (c : ℕ). AllOwn c s'.seen) (sym same) own) rest,
+    )
+Run-alone s [] (r ∷ rs) s' own none = absurd none
+Run-alone s (h ∷ hs) [] s' own none = absurd none

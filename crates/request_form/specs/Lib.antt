@@ -1,0 +1,6 @@
+pub mod Replies
+pub mod Session
+pub mod Answers
+pub mod Transcript
+pub mod Stream
+pub mod Laws

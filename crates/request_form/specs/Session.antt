@@ -1,0 +1,67 @@
+use Rattle.std.specs.Prelude.{◌≡◌, ◌≢◌, ℕ, ◌+◌, List, [], ◌∷◌, ◌++◌}
+use Rattle.blob_model.specs.Limits.{Bounds}
+use Rattle.blob_model.specs.Store.{Store}
+use Rattle.blob_model.specs.Answer.{answer}
+use Rattle.blob_model.specs.History.{caller_of, store_of, entered}
+use Rattle.blob_model.specs.declared.call.Call.{Call}
+use Rattle.blob_model.specs.declared.call.Event.{Event}
+use Rattle.blob_model.specs.declared.call.Outcome.{Outcome}
+
+-- what no call changes: how much the store takes, and its page size
+pub record Fixed : Type 0 where
+  pub limits : Bounds
+  pub page : ℕ
+
+-- an update that its session has numbered and not yet finished
+pub record Held : Type 0 where
+  pub number : ℕ
+  pub blob : ℕ
+  pub version : ℕ
+
+-- a session: its caller, the history that it has seen, the tickets that it holds, and the number of its next one
+pub record Session : Type 0 where
+  pub fixed : Fixed
+  pub caller : ℕ
+  pub seen : List Event
+  pub tickets : List Held
+  pub next : ℕ
+
+-- events of other callers
+abbrev pub AllOther : ℕ → List Event → Type 0
+AllOther caller [] = Unit {0}
+AllOther caller (e ∷ es) = (caller_of e ≢ caller) × AllOther caller es
+
+-- no events: nobody else is there
+abbrev pub IsNobody : ℕ → List Event → Type 0
+IsNobody caller others = others ≡ []
+
+-- events of that caller alone
+abbrev pub AllOwn : ℕ → List Event → Type 0
+AllOwn caller [] = Unit {0}
+AllOwn caller (e ∷ es) = (caller_of e ≡ caller) × AllOwn caller es
+
+-- the store once more events have come
+abbrev pub store_at : Session → List Event → Store
+store_at s more = store_of s.fixed.limits (s.seen ++ more)
+
+-- what the store answers a call once more events have come
+abbrev pub outcome_at : Session → List Event → Call → Outcome
+outcome_at s more call = (answer (store_at s more) s.caller call).1
+
+-- those events, and then the call's own where it isn't refused
+abbrev pub entered_at : Session → List Event → Call → List Event
+entered_at s more call = more ++ entered (store_at s more) s.caller call
+
+-- the session once it has seen more
+abbrev pub sees : Session → List Event → Session
+sees s more = record { fixed = s.fixed; caller = s.caller; seen = s.seen ++ more; tickets = s.tickets; next = s.next }
+
+-- the session once it holds a version under its next ticket
+abbrev pub holds : Session → ℕ → ℕ → Session
+holds s blob version = record {
+  fixed = s.fixed;
+  caller = s.caller;
+  seen = s.seen;
+  tickets = s.tickets ++ record { number = s.next; blob = blob; version = version } ∷ [];
+  next = s.next + 1;
+}

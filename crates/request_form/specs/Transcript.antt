@@ -1,0 +1,61 @@
+use Rattle.std.specs.Prelude.{◌≡◌, ℕ, Bool, true, false, if◌then◌else◌, ◌||◌, List, [], ◌∷◌, flat_map, sum_by}
+use Rattle.request_form.specs.declared.form.Request.{Request}
+use Rattle.request_form.specs.declared.form.Request.TheVariants as Requests
+use Rattle.request_form.specs.declared.form.Reply.{Reply}
+use Rattle.request_form.specs.declared.form.Reply.TheVariants as Replies
+use Rattle.request_form.specs.declared.form.Heard.{Heard}
+use Rattle.request_form.specs.declared.form.Heard.TheVariants.{Asked, Wrong}
+use Rattle.request_form.specs.Replies.{fault_count}
+use Rattle.request_form.specs.Session.{Fixed, Session, IsNobody}
+use Rattle.request_form.specs.Answers.{Gap, Answers}
+
+abbrev pub is_quit : Request → Bool
+is_quit Requests.Create = false
+is_quit (Requests.Append blob bytes) = false
+is_quit (Requests.Read blob version offset count) = false
+is_quit Requests.Quit = true
+
+-- whether the item is the last that has a reply
+abbrev pub is_last : Heard → Bool
+is_last (Asked request) = is_quit request
+is_last (Wrong fault) = false
+
+-- the items up to the first Quit, and with it
+abbrev pub until_quit : List Heard → List Heard
+until_quit [] = []
+until_quit (item ∷ items) = item ∷ (if is_last item then [] else until_quit items)
+
+abbrev pub has_quit : List Heard → Bool
+has_quit [] = false
+has_quit (item ∷ items) = is_last item || has_quit items
+
+-- one item's reply: a wrong item gives its fault and leaves the session
+abbrev pub ItemReply : Gap → Session → Heard → Reply → Session → Type 0
+ItemReply gap s (Asked request) reply s' = Answers gap s request reply s'
+ItemReply gap s (Wrong fault) reply s' = (reply ≡ Replies.Refused fault) × (s' ≡ s)
+
+-- one reply for each item, one after another
+abbrev pub Run : Gap → Session → List Heard → List Reply → Session → Type 0
+Run gap s [] [] s' = s' ≡ s
+Run gap s (item ∷ items) (reply ∷ replies) s' = (mid : Session) × ItemReply gap s item reply mid × Run gap mid items replies s'
+Run gap s [] (reply ∷ replies) s' = ⊥
+Run gap s (item ∷ items) [] s' = ⊥
+
+-- the replies to a list of items, which a Quit ends
+abbrev pub Transcript : Gap → Session → List Heard → List Reply → Session → Type 0
+Transcript gap s items replies s' = Run gap s (until_quit items) replies s'
+
+-- how often the outside failed for these replies
+abbrev pub faults_of : List Reply → ℕ
+faults_of replies = sum_by fault_count replies
+
+-- a session that has seen nothing and holds no ticket
+abbrev pub first_session : Fixed → ℕ → Session
+first_session fixed caller = record { fixed = fixed; caller = caller; seen = []; tickets = []; next = 1 }
+
+-- The text is what is said of a transcript alone: of the first caller's first session, with nobody else there.
+pub record SaysAlone (said : Reply → List ℕ) (fixed : Fixed) (heard : List Heard) (text : List ℕ) : Type 0 where
+  pub replies : List Reply
+  pub last : Session
+  pub transcript : Transcript IsNobody (first_session fixed 1) heard replies last
+  pub says : text ≡ flat_map said replies

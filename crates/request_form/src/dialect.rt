@@ -1,0 +1,32 @@
+use crate::form::{Ending, Heard, NoMemory, Reply};
+use blob_model::Bytes;
+
+/// How requests and replies are spelled on a stream. After want of memory a dialect isn't used again.
+pub trait Dialect {
+    ghost use Rattle.std.specs.Prelude.{◌≡◌, ◌++◌, ℕ, List, [], OnOk, IfOk};
+    ghost use Rattle.request_form.specs.Stream.{Stream, IsFed, IsNext, IsEnding};
+    ghost use Rattle.request_form.specs.declared.form.Reply.{Reply};
+
+    /// What is still to be heard, where the stream goes on by these bytes and then ends.
+    ghost reads: { Self → List ℕ → Stream };
+
+    /// How a reply is written.
+    ghost said: { Reply → List ℕ };
+
+    /// Takes the stream's next bytes.
+    fn feed(&mut self, piece: &[u8]) -> Result<(), NoMemory>
+        ensures { OnOk result (IsFed (reads self.old) piece.now (reads self.new)) };
+
+    /// The next whole item of the bytes that were fed, or none where only a part of one is left.
+    fn next(&mut self) -> Result<Option<Heard>, NoMemory>
+        ensures { IfOk result (λ heard. IsNext (reads self.old) heard (reads self.new)) };
+
+    /// What is left over at the end of the stream, once `next` has answered none.
+    fn end(&mut self) -> Result<Ending, NoMemory>
+        requires { (reads self.old []).whole ≡ [] }
+        ensures { IfOk result (λ ending. IsEnding (reads self.old) ending) };
+
+    /// The reply as it is written.
+    fn say(&self, reply: &Reply) -> Result<Bytes, NoMemory>
+        ensures { IfOk result (λ bytes. bytes ≡ said reply.now) };
+}

@@ -1,0 +1,125 @@
+use blob_model::{Bytes, Refusal};
+
+/// What a client asks of its session.
+#[derive(Drop)]
+pub enum Request {
+    /// A new blob.
+    Create,
+    /// The bytes at the blob's end, as a new version.
+    Append {
+        blob: u64,
+        bytes: Bytes,
+    },
+    /// `length` bytes from `offset` of a published version.
+    Read {
+        blob: u64,
+        version: u64,
+        offset: u64,
+        length: u64,
+    },
+    /// The end of the stream's requests.
+    Quit,
+}
+
+/// Why a request isn't done, with the numbers that were compared.
+#[derive(Clone, Copy, Debug, PartialEq, Eq)]
+pub enum Fault {
+    /// There is no such blob.
+    NoBlob { blob: u64 },
+    /// The version isn't published, or wasn't numbered yet.
+    NotPublished { version: u64, published: u64 },
+    /// A write would begin past the size of the last numbered version.
+    OffsetPastSize { offset: u64, size: u64 },
+    /// The blob would have `end` bytes.
+    BlobTooBig { end: u64, limit: u64 },
+    /// The blob has as many versions as it may have.
+    TooManyVersions { limit: u64 },
+    /// The blob has as many waiting updates as it may have.
+    TooManyOpen { limit: u64 },
+    /// The store has as many blobs as it may have.
+    TooManyBlobs { limit: u64 },
+    /// The update is finished already.
+    Already { version: u64 },
+    /// No memory was found. The blobs and the history are as before.
+    NoMemory,
+    /// An update without bytes.
+    EmptyUpdate,
+    /// An update of more than 1,048,576 bytes.
+    UpdateTooLong { length: u64 },
+    /// The range would end at `end`, past the version's size.
+    RangePastSize { end: u128, size: u64 },
+    /// The session holds as many tickets as it may hold.
+    TooManyTickets,
+    /// No provider took, or gave, this page: of an update's bytes, or of the blob that is read.
+    PageFault { page: u64 },
+    /// The version waits; `held` is the least unfinished version of its blob.
+    Pending { version: u64, held: u64 },
+    /// What was heard is no request.
+    Malformed,
+    /// A read of more than 16,777,216 bytes.
+    ReadTooLong { length: u64 },
+    /// No memory was found once the update was numbered. The session holds the update under this ticket.
+    NoMemoryTicket { ticket: u64 },
+}
+
+impl Fault {
+    ghost use Rattle.std.specs.Prelude.{◌≡◌};
+    ghost use Rattle.request_form.specs.Replies.{fault_of};
+
+    /// The store's refusal as a session's fault, with the same numbers.
+    pub fn of(refusal: Refusal) -> Fault
+        ensures { result ≡ fault_of refusal }
+    {
+        match refusal {
+            Refusal::NoBlob { blob } => Fault::NoBlob { blob },
+            Refusal::NotPublished { version, published } => {
+                Fault::NotPublished { version, published }
+            }
+            Refusal::OffsetPastSize { offset, size } => Fault::OffsetPastSize { offset, size },
+            Refusal::BlobTooBig { end, limit } => Fault::BlobTooBig { end, limit },
+            Refusal::TooManyVersions { limit } => Fault::TooManyVersions { limit },
+            Refusal::TooManyOpen { limit } => Fault::TooManyOpen { limit },
+            Refusal::TooManyBlobs { limit } => Fault::TooManyBlobs { limit },
+            Refusal::Already { version } => Fault::Already { version },
+            Refusal::RangePastSize { end, size } => Fault::RangePastSize { end, size },
+            Refusal::Pending { version, held } => Fault::Pending { version, held },
+        }
+    }
+}
+
+/// The answer to a request.
+#[derive(Drop)]
+pub enum Reply {
+    /// The new blob's id.
+    Created { blob: u64 },
+    /// The append's version, the offset at which it fell, and the blob's size then. It is finished.
+    Appended { version: u64, at: u64, size: u64 },
+    /// The bytes of the range.
+    Content { bytes: Bytes },
+    /// The request wasn't done.
+    Refused(Fault),
+    /// The stream's requests have ended.
+    Bye,
+}
+
+/// What a dialect heard: a request, or something else and its fault.
+#[derive(Drop)]
+pub enum Heard {
+    Asked(Request),
+    Wrong(Fault),
+}
+
+/// What the end of a stream leaves over.
+#[derive(Drop)]
+pub enum Ending {
+    /// Nothing that has a reply.
+    Clean,
+    /// One more item, which the end makes whole.
+    Last(Heard),
+    /// A part of an item.
+    Cut,
+}
+
+/// No memory was found.
+#[derive(Clone, Copy, Debug, PartialEq, Eq)]
+pub struct NoMemory;

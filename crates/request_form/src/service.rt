@@ -1,0 +1,25 @@
+use crate::form::{Reply, Request};
+use std::sync::Wait;
+use std::thread::Threads;
+
+/// One session of a store. Other sessions may change the store between and within its answers.
+pub trait Service {
+    ghost use Rattle.std.specs.Prelude.{◌≡◌, ℕ, false};
+    ghost use Rattle.ports.specs.Counts.{RoseBy};
+    ghost use Rattle.request_form.specs.Session.{Session, AllOther};
+    ghost use Rattle.request_form.specs.Answers.{Answers};
+    ghost use Rattle.request_form.specs.Replies.{fault_count};
+    ghost use Rattle.request_form.specs.Transcript.{is_quit};
+
+    /// Who asks, what it has seen, and the tickets that it holds.
+    ghost session: { Self → Session };
+
+    /// How often the outside has failed for it.
+    ghost faults: { Self → ℕ };
+
+    /// Answers one request; Quit is answered by whoever serves the stream. It may wait for other sessions.
+    fn answer<R: Wait + Threads + Sync>(&mut self, rt: &R, request: Request) -> Reply
+        requires { is_quit request ≡ false }
+        ensures answers { Answers AllOther (session self.old) request result (session self.new) }
+        ensures faults { RoseBy (fault_count result) (faults self.old) (faults self.new) };
+}

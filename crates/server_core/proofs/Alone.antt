@@ -1,0 +1,67 @@
+-- What was written where nobody else was there.
+use Rattle.std.proofs.Common.{◌≡◌, ℕ, ◌<◌, List, ◌++◌, length, length-append, sym, ◌∙◌, ap, subst, append_assoc, append-nil, arith}
+use Rattle.std.proofs.lemmas.List.Concat.{flat_map-append}
+use Rattle.std.specs.Prelude.{Option, flat_map}
+use Rattle.request_form.specs.Session.{Fixed, Session, AllOther, AllOwn, IsNobody}
+use Rattle.request_form.specs.Transcript.{Run, Transcript, until_quit, first_session, SaysAlone}
+use Rattle.request_form.specs.Laws.{OwnIsAlone, AlwaysAnswered}
+use Rattle.request_form.specs.Stream.{Stream}
+use Rattle.request_form.specs.declared.form.Reply.{Reply}
+use Rattle.request_form.specs.declared.form.Heard.{Heard}
+use Rattle.server_core.specs.declared.step.End.{End}
+use Rattle.server_core.specs.declared.step.End.TheVariants as Ends
+use Rattle.server_core.specs.Progress.{Point, Progress}
+use Rattle.server_core.specs.Served.{AnswersAll, AnswersFront, Ended}
+use Rattle.server_core.specs.Laws.{WroteAlone}
+use Rattle.server_core.proofs.Items.{until_quit-twice, until_quit-parts}
+use Rattle.server_core.proofs.Steps.{Run-append}
+
+module _ (own_is_alone : OwnIsAlone) (always : AlwaysAnswered) (said : Reply → List ℕ) (fixed : Fixed) (old new : Point) (first : old.session ≡ first_session fixed 1) (own : AllOwn 1 new.session.seen) where
+  -- the items up to a Quit were answered by nobody else
+  run_alone : (heard items : List Heard) (replies : List Reply) → items ≡ until_quit heard → Run AllOther old.session items replies new.session → Run IsNobody (first_session fixed 1) (until_quit heard) replies new.session
+  run_alone heard items replies is run =
+      let from_first : Run AllOther (first_session fixed 1) items replies new.session = subst (λ (s : Session). Run AllOther s items replies new.session) first run in
+      let transcript : Transcript AllOther (first_session fixed 1) heard replies new.session = subst (λ (xs : List Heard). Run AllOther (first_session fixed 1) xs replies new.session) is from_first in
+      own_is_alone (first_session fixed 1) heard replies new.session own transcript
+
+  all_alone : (heard items : List Heard) (rest : List ℕ) → (p : Progress said old items rest new) → AnswersAll heard items rest → SaysAlone said fixed heard p.out
+  all_alone heard items rest p all = record {
+    replies = p.replies;
+    last = new.session;
+    transcript = run_alone heard items p.replies all.0 p.run;
+    says = sym (p.says ∙ (ap (λ (x : List ℕ). p.out ++ x) all.1 ∙ append-nil p.out));
+  }
+
+  -- A front of the items, and then what others would have been answered. What is still to be written begins with the rest.
+  front_alone : (heard items : List Heard) (rest : List ℕ) → (p : Progress said old items rest new) → AnswersFront heard items → (later : List ℕ) × SaysAlone said fixed heard (p.out ++ (rest ++ later))
+  front_alone heard items rest p front =
+      let parts = until_quit-parts items front.0 (subst (λ (xs : List Heard). until_quit xs ≡ xs) front.1 (until_quit-twice heard)) in
+      let run : Run IsNobody (first_session fixed 1) items p.replies new.session = subst (λ (xs : List Heard). Run IsNobody (first_session fixed 1) xs p.replies new.session) parts.0 (run_alone items items p.replies (sym parts.0) p.run) in
+      let more = always new.session front.0 in
+      let run_more : Run IsNobody new.session front.0 more.0 more.1.0 = subst (λ (xs : List Heard). Run IsNobody new.session xs more.0 more.1.0) parts.1 more.1.1 in
+      let both : Run IsNobody (first_session fixed 1) (items ++ front.0) (p.replies ++ more.0) more.1.0 = Run-append IsNobody (first_session fixed 1) items p.replies new.session front.0 more.0 more.1.0 run run_more in (
+        flat_map said more.0,
+        record {
+          replies = p.replies ++ more.0;
+          last = more.1.0;
+          transcript = subst (λ (xs : List Heard). Run IsNobody (first_session fixed 1) xs (p.replies ++ more.0) more.1.0) (sym front.1) both;
+          says = sym (flat_map-append said p.replies more.0 ∙ (ap (λ (x : List ℕ). x ++ flat_map said more.0) p.says ∙ append_assoc p.out rest (flat_map said more.0)));
+        },
+      )
+
+  longer : (rest later : List ℕ) → 0 < length rest → 0 < length (rest ++ later)
+  longer rest later some = rw (length-append rest later) (omega arith)
+
+  pub wrote_alone : (heard : Stream) (taken limit : ℕ) (items : List Heard) (rest : List ℕ) (left : Option (List ℕ)) (end : End) → (p : Progress said old items rest new) →
+      Ended heard taken limit items rest left end → WroteAlone said fixed heard p.out end
+  wrote_alone heard taken limit items rest left Ends.Quit p e = all_alone heard.items items rest p e.0
+  wrote_alone heard taken limit items rest left Ends.InputEnd p e = all_alone heard.items items rest p e.0
+  wrote_alone heard taken limit items rest left Ends.Cut p e = all_alone heard.whole items rest p e.0
+  wrote_alone heard taken limit items rest left Ends.ReadFault p e = all_alone heard.whole items rest p e.0
+  wrote_alone heard taken limit items rest left Ends.InputTooLong p e = all_alone heard.whole items rest p e.0
+  wrote_alone heard taken limit items rest left Ends.WriteFault p e =
+      let front = front_alone heard.items items rest p e.0 in
+      (rest ++ front.0, longer rest front.0 e.1, front.1)
+  wrote_alone heard taken limit items rest left Ends.NoMemory p e =
+      let front = front_alone heard.items items rest p e in
+      (rest ++ front.0, front.1)

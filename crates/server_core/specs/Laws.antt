@@ -1,0 +1,45 @@
+-- When each end comes, and what was written where nobody else was there.
+use Rattle.std.specs.Prelude.{◌≡◌, ℕ, ◌≢◌, ◌<◌, true, false, List, ◌++◌, length}
+use Rattle.request_form.specs.Session.{Fixed, AllOwn}
+use Rattle.request_form.specs.Transcript.{has_quit, first_session, SaysAlone}
+use Rattle.request_form.specs.Stream.{Stream}
+use Rattle.request_form.specs.declared.form.Reply.{Reply}
+use Rattle.request_form.specs.declared.form.Heard.{Heard}
+use Rattle.server_core.specs.declared.step.End.{End}
+use Rattle.server_core.specs.declared.step.End.TheVariants as Ends
+use Rattle.server_core.specs.Progress.{Point}
+use Rattle.server_core.specs.Served.{AnswersAll, Input, Served}
+
+-- that end, unless no memory was found
+abbrev pub IsEnd : End → End → Type 0
+IsEnd end other = (other ≢ Ends.NoMemory) → other ≡ end
+
+-- each end comes in each case that it stands for, unless no memory was found
+pub record EndsExactly (heard : Stream) (taken limit : ℕ) (items : List Heard) (rest : List ℕ) (ends ends' : ℕ) (end : End) : Type 0 where
+  pub quit : AnswersAll heard.items items rest → has_quit heard.items ≡ true → IsEnd Ends.Quit end
+  pub input_end : ends < ends' → heard.cut ≡ false → has_quit heard.items ≡ false → AnswersAll heard.items items rest → IsEnd Ends.InputEnd end
+  pub cut : ends < ends' → heard.cut ≡ true → IsEnd Ends.Cut end
+  pub too_long : taken ≡ limit → has_quit heard.whole ≡ false → AnswersAll heard.whole items rest → IsEnd Ends.InputTooLong end
+
+-- A stream that was served ended exactly as the bytes taken, the replies written and the count of ends say.
+abbrev pub ServedExactly : Type 0
+ServedExactly = (said : Reply → List ℕ) (old : Point) (reads : List ℕ → Stream) (before after : Input) (limit : ℕ) (new : Point) (end : End)
+    → (served : Served said old reads before after limit new end)
+    → EndsExactly (reads served.taken) (length served.taken) limit served.items served.rest before.ends after.ends end
+
+-- What was written where nobody else was there, by the end: what is said of all items, of the whole ones, or a front of that.
+abbrev pub WroteAlone : (Reply → List ℕ) → Fixed → Stream → List ℕ → End → Type 0
+WroteAlone said fixed heard text Ends.Quit = SaysAlone said fixed heard.items text
+WroteAlone said fixed heard text Ends.InputEnd = SaysAlone said fixed heard.items text
+WroteAlone said fixed heard text Ends.Cut = SaysAlone said fixed heard.whole text
+WroteAlone said fixed heard text Ends.ReadFault = SaysAlone said fixed heard.whole text
+WroteAlone said fixed heard text Ends.InputTooLong = SaysAlone said fixed heard.whole text
+WroteAlone said fixed heard text Ends.WriteFault = (more : List ℕ) × (0 < length more) × SaysAlone said fixed heard.items (text ++ more)
+WroteAlone said fixed heard text Ends.NoMemory = (more : List ℕ) × SaysAlone said fixed heard.items (text ++ more)
+
+-- Where the session was the first caller's first one, and has seen no event but its own in the end, what was written is said of a transcript alone.
+abbrev pub ServedAlone : Type 0
+ServedAlone = (said : Reply → List ℕ) (fixed : Fixed) (old : Point) (reads : List ℕ → Stream) (before after : Input) (limit : ℕ) (new : Point) (end : End)
+    → old.session ≡ first_session fixed 1 → AllOwn 1 new.session.seen
+    → (served : Served said old reads before after limit new end)
+    → WroteAlone said fixed (reads served.taken) served.progress.out end

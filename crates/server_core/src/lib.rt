@@ -1,0 +1,11 @@
+//! One stream of requests and its replies: the loop over a stream, a dialect and a session's service.
+#![tactic(auto)]
+
+ghost use Rattle.std.specs.Prelude.{◌≡◌};
+
+pub mod laws;
+mod serve;
+mod step;
+
+pub use serve::serve_stream;
+pub use step::End;

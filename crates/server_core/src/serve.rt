@@ -1,0 +1,312 @@
+use crate::step::{End, Step};
+use ports::stream::{Sink, Source, Taken, Written};
+use request_form::{Dialect, Ending, Heard, NoMemory, Reply, Request, Service};
+use std::alloc::Global;
+use std::sync::Wait;
+use std::thread::Threads;
+
+// The most bytes that are asked for at once.
+const PIECE: usize = 65536;
+
+ghost use Rattle.std.specs.Prelude.{◌≡◌, ℕ, ◌+◌, ◌<◌, ◌≤◌, List, [], ◌++◌, IfOk, length, take, true, false};
+ghost use Rattle.std.specs.Io.KnownBytes.{Appends, Consumes};
+ghost use Rattle.ports.specs.Counts.{RoseBy};
+ghost use Rattle.ports.specs.Stream.{taken_bytes, IsWithin, EndsAtEnd, CountsEnd, read_fault_count};
+ghost use Rattle.request_form.specs.Session.{AllOther};
+ghost use Rattle.request_form.specs.Replies.{fault_count};
+ghost use Rattle.request_form.specs.Stream.{IsWellHeard};
+ghost use Rattle.request_form.specs.Transcript.{is_quit, is_last, ItemReply};
+ghost use Rattle.server_core.specs.Progress.{IsAnswered, IsDrained, IsPut, step_write_faults};
+ghost use Rattle.server_core.specs.Served.{Served, Finished, end_read_faults, end_write_faults, end_ends};
+
+fn is_quit_request(request: &Request) -> bool
+    ensures { result ≡ is_quit request.now }
+{
+    matches!(request, Request::Quit)
+}
+
+// The reply to one item, and whether it is the last.
+fn reply_to<R: Wait + Threads + Sync, V: Service>(
+    rt: &R,
+    service: &mut V,
+    heard: Heard,
+) -> (Reply, bool)
+    requires { IsWellHeard heard }
+    ensures answer { ItemReply AllOther (V.session service.old) heard result.0 (V.session service.new) }
+    ensures faults { RoseBy (fault_count result.0) (V.faults service.old) (V.faults service.new) }
+    ensures last { result.1 ≡ is_last heard }
+{
+    match heard {
+        Heard::Asked(request) => {
+            if is_quit_request(&request) {
+                return (Reply::Bye, true);
+            }
+            (service.answer(rt, request), false)
+        }
+        Heard::Wrong(fault) => (Reply::Refused(fault), false),
+    }
+}
+
+// Writes one reply.
+fn put<T: Dialect, I: Sink>(dialect: &T, io: &mut I, reply: &Reply) -> Step
+    ensures put { IsPut (T.said reply.now) (I.written io.old) (I.written io.new) result }
+    ensures given { I.given io.new ≡ I.given io.old }
+    ensures left { I.left io.new ≡ I.left io.old }
+    ensures read_faults { I.read_faults io.new ≡ I.read_faults io.old }
+    ensures ends { I.ends io.new ≡ I.ends io.old }
+    ensures objects { I.objects io.new ≡ I.objects io.old }
+    ensures write_faults { RoseBy (step_write_faults result) (I.write_faults io.old) (I.write_faults io.new) }
+{
+    match dialect.say(reply) {
+        Err(NoMemory) => Step::NoMemory,
+        Ok(bytes) => match io.write(bytes.as_slice()) {
+            Written::Failed(_) => Step::WriteFault,
+            Written::Whole => Step::Goes,
+        },
+    }
+}
+
+// Answers one item and writes the reply.
+fn answer_one<R: Wait + Threads + Sync, V: Service, T: Dialect, I: Source + Sink>(
+    rt: &R,
+    service: &mut V,
+    dialect: &T,
+    io: &mut I,
+    heard: Heard,
+) -> Step
+    requires { IsWellHeard heard }
+    ensures answered { IsAnswered T.said
+        (record { session = V.session service.old; faults = V.faults service.old; written = I.written io.old })
+        heard
+        (record { session = V.session service.new; faults = V.faults service.new; written = I.written io.new })
+        result }
+    ensures given { I.given io.new ≡ I.given io.old }
+    ensures left { I.left io.new ≡ I.left io.old }
+    ensures read_faults { I.read_faults io.new ≡ I.read_faults io.old }
+    ensures ends { I.ends io.new ≡ I.ends io.old }
+    ensures objects { I.objects io.new ≡ I.objects io.old }
+    ensures write_faults { RoseBy (step_write_faults result) (I.write_faults io.old) (I.write_faults io.new) }
+{
+    let (reply, last) = reply_to(rt, service, heard);
+    match put(dialect, io, &reply) {
+        Step::Goes => {
+            if last {
+                return Step::Quits;
+            }
+            Step::Goes
+        }
+        Step::Quits => unreachable!(),
+        Step::WriteFault => Step::WriteFault,
+        Step::NoMemory => Step::NoMemory,
+    }
+}
+
+// Answers each whole item that there is.
+fn drain<R: Wait + Threads + Sync, V: Service, T: Dialect, I: Source + Sink>(
+    rt: &R,
+    service: &mut V,
+    dialect: &mut T,
+    io: &mut I,
+) -> Step
+    ensures drained { IsDrained T.said
+        (record { session = V.session service.old; faults = V.faults service.old; written = I.written io.old })
+        (T.reads dialect.old)
+        (record { session = V.session service.new; faults = V.faults service.new; written = I.written io.new })
+        (T.reads dialect.new)
+        result }
+    ensures given { I.given io.new ≡ I.given io.old }
+    ensures left { I.left io.new ≡ I.left io.old }
+    ensures read_faults { I.read_faults io.new ≡ I.read_faults io.old }
+    ensures ends { I.ends io.new ≡ I.ends io.old }
+    ensures objects { I.objects io.new ≡ I.objects io.old }
+    ensures write_faults { RoseBy (step_write_faults result) (I.write_faults io.old) (I.write_faults io.new) }
+{
+    'items: loop {
+        match dialect.next() {
+            Err(NoMemory) => return Step::NoMemory,
+            Ok(None) => return Step::Goes,
+            Ok(Some(heard)) => match answer_one(rt, service, dialect, io, heard) {
+                Step::Goes => {}
+                Step::Quits => return Step::Quits,
+                Step::WriteFault => return Step::WriteFault,
+                Step::NoMemory => return Step::NoMemory,
+            },
+        }
+    }
+}
+
+// Takes one piece into the front of a slice.
+fn take_front<I: Source>(io: &mut I, buf: &mut [u8], room: usize) -> Taken
+    requires some { 0 < room }
+    requires fits { room ≤ length buf.old }
+    ensures within { IsWithin room result }
+    ensures given { Appends (I.given io.old) (I.given io.new) (taken_bytes buf.new result) }
+    ensures left { Consumes (I.left io.old) (I.left io.new) (taken_bytes buf.new result) }
+    ensures at_end { EndsAtEnd (I.left io.new) result }
+    ensures room { length buf.new ≡ length buf.old }
+    ensures read_faults { RoseBy (read_fault_count result) (I.read_faults io.old) (I.read_faults io.new) }
+    ensures ends { CountsEnd result (I.ends io.old) (I.ends io.new) }
+    ensures written { I.written io.new ≡ I.written io.old }
+    ensures write_faults { I.write_faults io.new ≡ I.write_faults io.old }
+    ensures objects { I.objects io.new ≡ I.objects io.old }
+{
+    let front = &mut buf[..room];
+    io.read(front)
+}
+
+// Takes one piece into the front of a buffer.
+fn take_piece<I: Source>(io: &mut I, buf: &mut Vec<u8>, room: usize) -> Taken
+    requires some { 0 < room }
+    requires fits { room ≤ length buf.old.items }
+    ensures within { IsWithin room result }
+    ensures given { Appends (I.given io.old) (I.given io.new) (taken_bytes buf.new.items result) }
+    ensures left { Consumes (I.left io.old) (I.left io.new) (taken_bytes buf.new.items result) }
+    ensures at_end { EndsAtEnd (I.left io.new) result }
+    ensures room { length buf.new.items ≡ length buf.old.items }
+    ensures read_faults { RoseBy (read_fault_count result) (I.read_faults io.old) (I.read_faults io.new) }
+    ensures ends { CountsEnd result (I.ends io.old) (I.ends io.new) }
+    ensures written { I.written io.new ≡ I.written io.old }
+    ensures write_faults { I.write_faults io.new ≡ I.write_faults io.old }
+    ensures objects { I.objects io.new ≡ I.objects io.old }
+{
+    let all = buf.as_mut_slice();
+    take_front(io, all, room)
+}
+
+// The first n bytes.
+fn first_of(buf: &Vec<u8>, n: usize) -> &[u8]
+    requires { n ≤ length buf.now.items }
+    ensures { result.now ≡ take n buf.now.items }
+{
+    &buf.as_slice()[..n]
+}
+
+// Answers what the end of the stream leaves.
+fn finish<R: Wait + Threads + Sync, V: Service, T: Dialect, I: Source + Sink>(
+    rt: &R,
+    service: &mut V,
+    dialect: &mut T,
+    io: &mut I,
+) -> End
+    requires { (T.reads dialect.old []).whole ≡ [] }
+    ensures finished { Finished T.said
+        (record { session = V.session service.old; faults = V.faults service.old; written = I.written io.old })
+        (T.reads dialect.old [])
+        (record { session = V.session service.new; faults = V.faults service.new; written = I.written io.new })
+        result }
+    ensures given { I.given io.new ≡ I.given io.old }
+    ensures left { I.left io.new ≡ I.left io.old }
+    ensures read_faults { I.read_faults io.new ≡ I.read_faults io.old }
+    ensures ends { I.ends io.new ≡ I.ends io.old }
+    ensures objects { I.objects io.new ≡ I.objects io.old }
+    ensures write_faults { RoseBy (end_write_faults result) (I.write_faults io.old) (I.write_faults io.new) }
+{
+    match dialect.end() {
+        Err(NoMemory) => End::NoMemory,
+        Ok(Ending::Clean) => End::InputEnd,
+        Ok(Ending::Cut) => End::Cut,
+        Ok(Ending::Last(heard)) => match answer_one(rt, service, dialect, io, heard) {
+            Step::Goes => End::InputEnd,
+            Step::Quits => End::Quit,
+            Step::WriteFault => End::WriteFault,
+            Step::NoMemory => End::NoMemory,
+        },
+    }
+}
+
+// How much of what may still be taken is asked for at once.
+fn room_of(left: u64) -> usize
+    requires { 0 < left }
+    ensures some { 0 < result }
+    ensures within { result ≤ left }
+    ensures fits { result ≤ 65536 }
+{
+    if left < 65536 { left as usize } else { PIECE }
+}
+
+// A buffer of n bytes.
+fn buffer(alloc: Global, n: usize) -> Result<Vec<u8>, NoMemory>
+    ensures { IfOk result (λ buf. length buf.items ≡ n) }
+{
+    match vec![in alloc; 0u8; n] {
+        Ok(buf) => Ok(buf),
+        Err(_) => Err(NoMemory),
+    }
+}
+
+// Answers what one more piece makes whole.
+fn answer_piece<R: Wait + Threads + Sync, V: Service, T: Dialect, I: Source + Sink>(
+    rt: &R,
+    service: &mut V,
+    dialect: &mut T,
+    io: &mut I,
+    piece: &[u8],
+) -> Step
+    ensures drained { IsDrained T.said
+        (record { session = V.session service.old; faults = V.faults service.old; written = I.written io.old })
+        (λ more. T.reads dialect.old (piece.now ++ more))
+        (record { session = V.session service.new; faults = V.faults service.new; written = I.written io.new })
+        (T.reads dialect.new)
+        result }
+    ensures given { I.given io.new ≡ I.given io.old }
+    ensures left { I.left io.new ≡ I.left io.old }
+    ensures read_faults { I.read_faults io.new ≡ I.read_faults io.old }
+    ensures ends { I.ends io.new ≡ I.ends io.old }
+    ensures objects { I.objects io.new ≡ I.objects io.old }
+    ensures write_faults { RoseBy (step_write_faults result) (I.write_faults io.old) (I.write_faults io.new) }
+{
+    match dialect.feed(piece) {
+        Err(NoMemory) => Step::NoMemory,
+        Ok(()) => drain(rt, service, dialect, io),
+    }
+}
+
+/// Answers the requests of one stream until it ends, takes at most `limit` bytes, and says how it ended.
+///
+/// Each reply is written as soon as its request is whole. After want of memory the dialect isn't used again.
+pub fn serve_stream<R: Wait + Threads + Sync, V: Service, T: Dialect, I: Source + Sink>(
+    rt: &R,
+    alloc: Global,
+    service: &mut V,
+    dialect: &mut T,
+    io: &mut I,
+    limit: u64,
+) -> End
+    requires some { 1 ≤ limit }
+    requires fresh { (T.reads dialect.old []).whole ≡ [] }
+    ensures served { Served T.said
+        (record { session = V.session service.old; faults = V.faults service.old; written = I.written io.old })
+        (T.reads dialect.old)
+        (record { given = I.given io.old; left = I.left io.old; ends = I.ends io.old })
+        (record { given = I.given io.new; left = I.left io.new; ends = I.ends io.new })
+        limit
+        (record { session = V.session service.new; faults = V.faults service.new; written = I.written io.new })
+        result }
+    ensures read_faults { RoseBy (end_read_faults result) (I.read_faults io.old) (I.read_faults io.new) }
+    ensures write_faults { RoseBy (end_write_faults result) (I.write_faults io.old) (I.write_faults io.new) }
+    ensures ends { RoseBy (end_ends result) (I.ends io.old) (I.ends io.new) }
+    ensures objects { I.objects io.new ≡ I.objects io.old }
+{
+    let mut buf = match buffer(alloc, PIECE) {
+        Ok(buf) => buf,
+        Err(NoMemory) => return End::NoMemory,
+    };
+    let mut count = 0u64;
+    'pieces: while count < limit {
+        let room = room_of(limit - count);
+        match take_piece(io, &mut buf, room) {
+            Taken::Failed => return End::ReadFault,
+            Taken::End => return finish(rt, service, dialect, io),
+            Taken::Got(n) => {
+                count += n as u64;
+                match answer_piece(rt, service, dialect, io, first_of(&buf, n)) {
+                    Step::Goes => {}
+                    Step::Quits => return End::Quit,
+                    Step::WriteFault => return End::WriteFault,
+                    Step::NoMemory => return End::NoMemory,
+                }
+            }
+        }
+    }
+    End::InputTooLong
+}

@@ -1,0 +1,9 @@
+//! Tests of what starts threads or waits for them.
+#![tactic(auto)]
+
+#[cfg(test)]
+mod pages;
+#[cfg(test)]
+mod placement;
+#[cfg(test)]
+mod turn;

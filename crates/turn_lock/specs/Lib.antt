@@ -1,0 +1,4 @@
+pub mod History
+pub mod Turns
+pub mod Told
+pub mod Shown

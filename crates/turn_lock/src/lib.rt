@@ -1,0 +1,13 @@
+//! A ticket lock whose state keeps a history that only grows. Who holds a pass knows a prefix of the history, and that whatever was added since is of other callers.
+#![tactic(auto)]
+
+mod journal;
+mod plays;
+mod rule;
+mod steps;
+mod turn;
+mod view;
+
+pub use journal::{Act, Journaled};
+pub use turn::{CloseRefused, MAX_PASSES, NoMemory, Owner, Pass, PassFault, Turn};
+pub use view::{Known, Stage};

@@ -1,0 +1,156 @@
+//! What a seat does on the table, by the steps that its act takes.
+ghost use Rattle.std.specs.Prelude.{◌≡◌, ◌+◌, ◌++◌, ◌%◌, ◌^◌, ◌<◌, ◌≤◌, [], ◌∷◌, ℕ, length, IfSome, Contains};
+ghost use Rattle.turn_lock.specs.declared.view.Stage.TheVariants.{Idle, Waits, Inside, Owns};
+ghost use Rattle.turn_lock.specs.History.{entries_by, Begins, Adds, longer, LacksUngiven};
+ghost use Rattle.turn_lock.specs.Turns.{staged};
+ghost use Rattle.turn_lock.specs.Told.{number_of, kept_of, Enters, Ran, Turned, Stays, IsIdle, Closes, dealt, newcomer};
+
+use crate::journal::{Act, Journaled};
+use crate::plays::{Book, Deal, Draw, Gather, Look, PassOn, Settle};
+use crate::rule::{Board, DRAWN, ENTRIES, PASSED, Place, Room, STATE};
+use std::hint::spin_loop;
+use std::sync::Wait;
+
+/// How often a seat looks before it sleeps between two looks.
+const LOOKS: u32 = 64;
+
+// Draws a number.
+fn draw<S: Journaled>(board: &Board<S>, place: &mut Place<S>) -> u64
+    requires table { (place.old.table_id ≡ board.now.table_id) × (board.now.table_id.words ≡ 3) }
+    requires idle { place.old.me.0.stage ≡ Idle }
+    ensures seat { Stays place.old place.new }
+    ensures drawn { result ≡ number_of place.new.me.0.stage % 18446744073709551616 }
+    ensures waits { place.new.me ≡ (staged place.old.me.0 (Waits (number_of place.new.me.0.stage)), place.old.me.1) }
+{
+    board.fetch_add::<Draw>(place, DRAWN, 1)
+}
+
+// Waits for its turn, and takes the state.
+fn enter<S: Journaled, R: Wait>(rt: &R, board: &Board<S>, place: &mut Place<S>, number: u64)
+    requires table { (place.old.table_id ≡ board.now.table_id) × (board.now.table_id.words ≡ 3) }
+    requires waits { place.old.me.0.stage ≡ Waits (number_of place.old.me.0.stage) }
+    requires drawn { number ≡ number_of place.old.me.0.stage % 18446744073709551616 }
+    ensures seat { Stays place.old place.new }
+    ensures enters { Enters S.history S.fixed (number_of place.old.me.0.stage) place.old.me place.new.me }
+{
+    let mut looks = 0;
+    for _ in rt.forever() {
+        let found = board.load::<Look>(place, PASSED);
+        if found == number {
+            return;
+        }
+        if looks < LOOKS {
+            looks += 1;
+            spin_loop();
+        } else {
+            board.park(rt, PASSED, (found & 0xffff_ffff) as u32);
+        }
+    }
+    unreachable!()
+}
+
+// Lets the act change the state where it lies, and tells how many entries it added.
+fn run<S: Journaled, A: Act<S>>(
+    board: &Board<S>,
+    place: &mut Place<S>,
+    act: A,
+    caller: u32,
+) -> (A::Answer, u64)
+    requires table { (place.old.table_id ≡ board.now.table_id) × (caller ≡ place.old.me.0.caller) }
+    requires held { (x : S) × (place.old.me.1 ≡ (0, x) ∷ []) × A.ready act (S.history x) (S.fixed x) }
+    ensures seat { Stays place.old place.new }
+    ensures ran { (x : S) × (y : S) × (length (S.history y) < 2 ^ 38) × Ran S.history S.fixed (λ before f after. A.gives act before f caller result.0 after) place.old.me place.new.me result.1 x y }
+{
+    let state = place.slot_mut(board, STATE);
+    let before = state.count();
+    let answer = act.act(state, caller);
+    let added = state.count() - before;
+    (answer, added)
+}
+
+// Counts what the act added.
+fn book<S: Journaled>(board: &Board<S>, place: &mut Place<S>, added: u64)
+    requires table { (place.old.table_id ≡ board.now.table_id) × (board.now.table_id.words ≡ 3) }
+    requires inside { place.old.me.0.stage ≡ Inside (number_of place.old.me.0.stage) }
+    requires held { (x : S) × (place.old.me.1 ≡ (0, x) ∷ []) × Adds place.old.me.0.caller place.old.me.0.seen (S.history x) × (length (S.history x) ≡ length place.old.me.0.seen + added) × (length (S.history x) < 2 ^ 38) }
+    ensures seat { Stays place.old place.new }
+    ensures booked { (x : S) → place.old.me.1 ≡ (0, x) ∷ [] → place.new.me ≡ (record { caller = place.old.me.0.caller; seen = S.history x; fixed = place.old.me.0.fixed; stage = place.old.me.0.stage }, place.old.me.1) }
+{
+    board.fetch_add::<Book>(place, ENTRIES, added);
+}
+
+// Gives the state back with the turn, and wakes those that sleep. Where no seat has a number none sleeps: a seat draws before it looks.
+fn pass_on<S: Journaled>(board: &Board<S>, place: &mut Place<S>)
+    requires table { (place.old.table_id ≡ board.now.table_id) × (board.now.table_id.words ≡ 3) }
+    requires inside { place.old.me.0.stage ≡ Inside (number_of place.old.me.0.stage) }
+    requires held { (x : S) × (place.old.me.1 ≡ (0, x) ∷ []) × (S.history x ≡ place.old.me.0.seen) × (place.old.me.0.fixed ≡ Some (S.fixed x)) }
+    ensures seat { Stays place.old place.new }
+    ensures passed { place.new.me ≡ (staged place.old.me.0 Idle, []) }
+{
+    let number = board.fetch_add::<PassOn>(place, PASSED, 1);
+    if board.peek(DRAWN) != number.wrapping_add(1) {
+        board.wake_all(PASSED);
+    }
+}
+
+/// A whole turn: draw, look, act, book, pass on.
+pub fn take_turn<S: Journaled, A: Act<S>, R: Wait>(
+    rt: &R,
+    board: &Board<S>,
+    place: &mut Place<S>,
+    act: A,
+    caller: u32,
+) -> A::Answer
+    requires table { (place.old.table_id ≡ board.now.table_id) × (board.now.table_id.words ≡ 3) }
+    requires idle { IsIdle place.old.me caller }
+    requires ready { IfSome place.old.me.0.fixed (λ f. A.ready act place.old.me.0.seen f) }
+    ensures seat { Stays place.old place.new }
+    ensures same { place.new.me ≡ (record { caller = place.old.me.0.caller; seen = place.new.me.0.seen; fixed = place.old.me.0.fixed; stage = Idle }, []) }
+    ensures turned { Turned (λ before f after. A.gives act before f caller result after) place.old.me.0 place.new.me.0 }
+{
+    let number = draw(board, place);
+    enter(rt, board, place, number);
+    let (answer, added) = run(board, place, act, caller);
+    book(board, place, added);
+    pass_on(board, place);
+    answer
+}
+
+/// Splits the seat of a new pass off the owner's.
+pub fn deal<S: Journaled>(board: &Board<S>, place: &mut Place<S>, made: u32) -> Place<S>
+    requires table { (place.old.table_id ≡ board.now.table_id) × (board.now.table_id.words ≡ 3) }
+    requires owns { (place.old.me.0.stage ≡ Owns made (kept_of place.old.me.0.stage)) × (made < 1024) }
+    ensures seat { Stays place.old place.new × (place.new.me ≡ (dealt place.old.me.0, place.old.me.1)) }
+    ensures new { (result.table_id ≡ place.old.table_id) × (result.me ≡ (newcomer place.old.me.0, [])) }
+{
+    board.split_seat::<Deal>(place)
+}
+
+/// Joins a pass's seat to the owner's, by two loads: the table tells only at the second how what both had seen lies in one history.
+pub fn take_in<S: Journaled>(board: &Board<S>, place: &mut Place<S>, other: Place<S>, made: u32)
+    requires table { (place.old.table_id ≡ board.now.table_id) × (other.table_id ≡ board.now.table_id) × (board.now.table_id.words ≡ 3) }
+    requires owns { place.old.me.0.stage ≡ Owns made (kept_of place.old.me.0.stage) }
+    requires idle { (other.me.0.stage ≡ Idle) × (other.me.1 ≡ []) }
+    ensures seat { Stays place.old place.new × (place.new.me.1 ≡ place.old.me.1) × (place.new.me.0.fixed ≡ place.old.me.0.fixed) }
+    ensures kept { place.new.me.0.stage ≡ Owns made (kept_of place.old.me.0.stage ++ other.me.0.caller ∷ []) }
+    ensures longer { place.new.me.0.seen ≡ longer place.old.me.0.seen other.me.0.seen }
+    ensures begins { Begins place.old.me.0.seen place.new.me.0.seen × Begins other.me.0.seen place.new.me.0.seen }
+    ensures own { entries_by other.me.0.caller place.new.me.0.seen ≡ entries_by other.me.0.caller other.me.0.seen }
+    ensures before { (c : ℕ) → Contains (kept_of place.old.me.0.stage) c → entries_by c place.new.me.0.seen ≡ entries_by c place.old.me.0.seen }
+    ensures room { LacksUngiven made place.new.me.0.seen × (length (kept_of place.old.me.0.stage) + 1 ≤ made) }
+{
+    board.join_seat::<Gather>(place, other);
+    board.load::<Settle>(place, DRAWN);
+}
+
+/// Ends the table, where no pass is out.
+pub fn end_turns<S: Journaled>(table: Room<S>, place: Place<S>, made: u32) -> S
+    requires table { (place.table_id ≡ table.shared.table_id) × (table.shared.table_id.words ≡ 3) × (table.shared.table_id.slots ≡ 1) }
+    requires owns { (place.me.0.stage ≡ Owns made (kept_of place.me.0.stage)) × (length (kept_of place.me.0.stage) ≡ made) }
+    ensures { Closes made place.me.0 (S.history result) (S.fixed result) }
+{
+    let mut closed = table.close_with(place);
+    let state = closed.take(STATE);
+    closed.free();
+    state
+}
