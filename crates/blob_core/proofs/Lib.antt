@@ -8,3 +8,4 @@ mod Running
 mod Reaching
 mod Reading
 mod Promising
+mod Needed
