@@ -1,5 +1,5 @@
 -- What a clause sees of the row of one update.
-use Rattle.std.specs.Prelude.{◌≡◌, ◌≢◌, ℕ, ◌-◌, List, [], ◌∷◌, ◌++◌, length, Option, Some, slice_get, All}
+use Rattle.std.specs.Prelude.{◌≡◌, ◌≢◌, ℕ, ◌+◌, ◌-◌, ◌*◌, min, List, [], ◌∷◌, ◌++◌, length, Option, Some, slice_get, slice_range, All}
 use Rattle.std.specs.List.{Contains}
 use Rattle.boxcar.specs.Table.{Shelves}
 use Rattle.tree_geom.specs.declared.range.Range.{Range}
@@ -26,6 +26,10 @@ empty_row blob version touch room pages = record { blob = blob; version = versio
 -- the row with one node more at its end
 abbrev pub with_node : UpdateRow → PlacedNode → UpdateRow
 with_node row placed = record row { nodes = row.nodes ++ placed ∷ [] }
+
+-- the bytes of stored page q of an update with these bytes
+abbrev pub cut_at : ℕ → List ℕ → ℕ → List ℕ
+cut_at p bytes q = slice_range bytes (q * p) (min ((q + 1) * p) (length bytes))
 
 -- the last of the nodes, if there are any
 abbrev pub last_node : List PlacedNode → Option PlacedNode

@@ -3,7 +3,8 @@ ghost use Rattle.std.specs.Prelude.{◌≡◌, ◌<◌, length, IfOk, IfSome, Ma
 ghost use Rattle.std.specs.Arc.{arc_value};
 ghost use Rattle.std.specs.Ordering.{MatchOrdering};
 ghost use Rattle.node_store.specs.Order.{Before};
-ghost use Rattle.node_store.specs.Rows.{empty_row, with_node, last_node, IsNodeFor, HasNoNodeFor};
+ghost use Rattle.node_store.specs.Rows.{cut_at, empty_row, with_node, last_node, IsNodeFor, HasNoNodeFor};
+ghost use Rattle.page_store.specs.Stored.{joined};
 
 use crate::NoMemory;
 use crate::house::NodeRef;
@@ -120,10 +121,12 @@ impl Row {
         &self.pages
     }
 
-    /// The stored page that the number `q` of a piece means. The row has a stored page of that number.
+    /// The stored page that the number `q` of a piece means. Its bytes are those of the update from `q` times the page
+    /// size on. The row has a stored page of that number.
     pub fn page(&self, q: u32) -> &StoredPage
         requires { q < length self.now.pages.pages }
-        ensures { slice_get self.now.pages.pages q ≡ Some result.now }
+        ensures this { slice_get self.now.pages.pages q ≡ Some result.now }
+        ensures bytes { result.now.bytes ≡ cut_at self.now.pages.page_size (joined self.now.pages.pages) q }
     {
         self.pages.page(q)
     }

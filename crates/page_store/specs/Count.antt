@@ -1,6 +1,7 @@
 -- Counts of faults.
-use Rattle.std.specs.Prelude.{ℕ, ◌+◌, ◌-◌, ◌^◌, ◌≤◌, min}
+use Rattle.std.specs.Prelude.{ℕ}
+use Rattle.ports.specs.Counts.{RoseBy}
 
--- the count rose from one number to the other; one that stands at the greatest u64 is read as risen
+-- the count rose from one number to the other
 abbrev pub HasRisen : ℕ → ℕ → Type 0
-HasRisen before now = min (before + 1) (2 ^ 64 - 1) ≤ now
+HasRisen before now = RoseBy 1 before now

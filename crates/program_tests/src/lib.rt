@@ -3,3 +3,7 @@
 
 #[cfg(test)]
 mod outside;
+#[cfg(test)]
+mod run;
+#[cfg(test)]
+mod script;

@@ -13,8 +13,7 @@ use Rattle.range_log.specs.Extents.{Extent, touches}
 use Rattle.range_log.specs.Rows.{back_of, covered, level_of, levels_of}
 use Rattle.range_log.specs.Visits.{backs_of, backs_from}
 use Rattle.range_log.specs.Laws.{BacksStep, LevelsAreFew}
-use Rattle.tree_geom.proofs.Touches.{bool_cases}
-use Rattle.range_log.proofs.Greatest.{newest_is, newest_within, newest_none}
+use Rattle.range_log.proofs.Greatest.{bool_cases, newest_is, newest_within, newest_none}
 use Rattle.range_log.proofs.Links.{back_none, back_some}
 
 -- ---- backs

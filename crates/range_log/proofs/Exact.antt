@@ -14,8 +14,8 @@ use Rattle.tree_geom.proofs.Spans.{size_pos, span_some, within_span}
 use Rattle.range_log.specs.Log.{touch_at, size_at, HasNode}
 use Rattle.range_log.specs.Extents.{touches}
 use Rattle.range_log.specs.Rows.{level_of, levels_of, row_keys_of}
-use Rattle.range_log.specs.Laws.{RowKeysExact, RowKeysInOrder, Before}
-use Rattle.range_log.proofs.Grown.{Grown, grown_updates, length-touches}
+use Rattle.range_log.specs.Laws.{Grown, RowKeysExact, RowKeysInOrder, Before}
+use Rattle.range_log.proofs.Grown.{grown_updates, length-touches}
 use Rattle.range_log.proofs.Links.{begins_inside}
 
 pub cancel : (x y p : ℕ) → x * p < y * p → x < y

@@ -1,22 +1,26 @@
 -- The newest version that touches a range.
-use Rattle.std.proofs.Common.{◌≡◌, ℕ, ◌+◌, ◌≤◌, zero, suc, List, arith, inl, inr, refl, subst}
+use Rattle.std.proofs.Common.{◌≡◌, ℕ, ◌+◌, ◌≤◌, zero, suc, List, arith, inl, inr, refl, subst, ◌⊎◌, true, false, Bool}
 use Rattle.std.proofs.lemmas.Bool.{cases_lt, cases_order}
 use Rattle.tree_geom.specs.declared.range.Range.{Range}
 use Rattle.tree_geom.specs.declared.touch.Touch.{Touch}
 use Rattle.tree_geom.specs.Geometry.{Meets}
 use Rattle.tree_geom.proofs.Touches.{meets_true, meets_false, meets_cases}
 use Rattle.range_log.specs.Log.{touch_at, newest_of, IsNewest}
-use Rattle.range_log.specs.Laws.{NewestIsGreatest, LinksAgree}
+use Rattle.range_log.specs.Laws.{NewestIsGreatest, LinksAgree, NewestHits, NewestMisses, NewestOfNone}
 
-pub newest_hit : (p : ℕ) (log : List Touch) (k : ℕ) (r : Range) → Meets p (touch_at log (suc k)) r → newest_of p log (suc k) r ≡ suc k
+pub bool_cases : (b : Bool) → (b ≡ true) ⊎ (b ≡ false)
+bool_cases true = inl refl
+bool_cases false = inr refl
+
+pub newest_hit : NewestHits
 unfolding newest_of
 newest_hit p log k r h = rw (meets_true p (touch_at log (suc k)) r h, newest_of)
 
-pub newest_miss : (p : ℕ) (log : List Touch) (k : ℕ) (r : Range) → ¬ Meets p (touch_at log (suc k)) r → newest_of p log (suc k) r ≡ newest_of p log k r
+pub newest_miss : NewestMisses
 unfolding newest_of
 newest_miss p log k r h = rw (meets_false p (touch_at log (suc k)) r h, newest_of)
 
-pub newest_none : (p : ℕ) (log : List Touch) (r : Range) → newest_of p log 0 r ≡ 0
+pub newest_none : NewestOfNone
 unfolding newest_of
 newest_none p log r = refl
 

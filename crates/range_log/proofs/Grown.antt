@@ -1,5 +1,5 @@
 -- What a log says of a blob that grows from its end: facts on touches alone.
-use Rattle.std.proofs.Common.{◌≡◌, ℕ, ◌+◌, ◌-◌, ◌*◌, ◌/◌, ◌<◌, ◌≤◌, zero, suc, List, length, arith, refl, ap, ◌∙◌, max}
+use Rattle.std.proofs.Common.{◌≡◌, ℕ, ◌+◌, ◌-◌, ◌*◌, ◌/◌, ◌<◌, ◌≤◌, zero, suc, length, arith, refl, ap, ◌∙◌, max}
 use Rattle.std.specs.List.{range_with_len}
 use Rattle.std.proofs.lemmas.List.{length-map}
 use Rattle.std.proofs.lemmas.List.FromFn.{length-range_with_len, get_or-map-range_with_len}
@@ -7,24 +7,18 @@ use Rattle.std.proofs.lemmas.Nat.{le-div}
 use Rattle.tree_geom.specs.declared.touch.Touch.{Touch}
 use Rattle.tree_geom.specs.Geometry.{no_touch}
 use Rattle.range_log.specs.Log.{touch_at, size_at}
-use Rattle.range_log.specs.Extents.{Extent, extent_at, size_after, InBounds, touch_of, touches}
+use Rattle.range_log.specs.Laws.{TouchesAre, EachTouchIs, SizesAre, LogsAreGrown}
+use Rattle.range_log.specs.Extents.{extent_at, size_after, touch_of, touches}
 
-pub record Grown (p : ℕ) (log : List Touch) : Type 0 where
-  pub begins : (k : ℕ) → k < length log → (touch_at log (suc k)).first * p ≤ size_at log k
-  pub ordered : (k : ℕ) → k < length log → (touch_at log (suc k)).first ≤ (touch_at log (suc k)).last
-  pub ends : (k : ℕ) → k < length log → (touch_at log (suc k)).last * p < size_at log (suc k)
-  pub rises : (k : ℕ) → k < length log → size_at log k ≤ size_at log (suc k)
-  pub reaches : (k : ℕ) → k < length log → size_at log k < size_at log (suc k) → size_at log (suc k) ≤ ((touch_at log (suc k)).last + 1) * p
-
-pub length-touches : (p : ℕ) (us : List Extent) → length (touches p us) ≡ length us
+pub length-touches : TouchesAre
 unfolding touches
 length-touches p us = length-map (range_with_len 1 (length us)) (λ k. touch_of p us k) ∙ length-range_with_len 1 (length us)
 
-pub touch-touches : (p : ℕ) (us : List Extent) (k : ℕ) → k < length us → touch_at (touches p us) (suc k) ≡ touch_of p us (suc k)
+pub touch-touches : EachTouchIs
 unfolding touches
 touch-touches p us k h = get_or-map-range_with_len (λ j. touch_of p us j) 1 (length us) k (suc k) no_touch h (omega arith)
 
-pub size-touches : (p : ℕ) (us : List Extent) (k : ℕ) → k ≤ length us → size_at (touches p us) k ≡ size_after us k
+pub size-touches : SizesAre
 size-touches p us zero h = refl
 size-touches p us (suc k) h = ap (λ (t : Touch). t.size) (touch-touches p us k (omega arith))
 
@@ -43,7 +37,7 @@ page_end p at len size pos grows =
     let e : at + len - 1 < ((at + len - 1) / p + 1) * p = omega arith in
     omega arith
 
-pub grown_updates : (p : ℕ) (us : List Extent) → 1 ≤ p → InBounds us → Grown p (touches p us)
+pub grown_updates : LogsAreGrown
 grown_updates p us pos bounds =
     let within : (k : ℕ) → k < length (touches p us) → k < length us = λ k h. omega (arith, h, length-touches p us) in
     let is : (k : ℕ) → k < length (touches p us) → touch_at (touches p us) (suc k) ≡ touch_of p us (suc k) = λ k h. touch-touches p us k (within k h) in

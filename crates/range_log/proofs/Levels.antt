@@ -11,7 +11,8 @@ use Rattle.tree_geom.specs.Geometry.{tree_range, height_of, no_touch}
 use Rattle.range_log.specs.Log.{touch_at, size_at}
 use Rattle.range_log.specs.Extents.{IsLog}
 use Rattle.range_log.specs.Rows.{level_of, levels_of, row_keys_of}
-use Rattle.range_log.proofs.Grown.{Grown, grown_updates, pages_rise}
+use Rattle.range_log.specs.Laws.{Grown}
+use Rattle.range_log.proofs.Grown.{grown_updates, pages_rise}
 
 pub power_fits : (h : ℕ) → h ≤ 38 → 2 ^ h ≤ 2 ^ 38
 power_fits h le = let two : 0 < 2 = omega arith in pow-le-pow_right two le

@@ -10,3 +10,4 @@ pub mod Windows
 pub mod Leaves
 pub mod Counts
 pub mod Growth
+pub mod Opens

@@ -8,13 +8,12 @@ use Rattle.tree_geom.specs.declared.range.Range.{Range}
 use Rattle.tree_geom.specs.declared.touch.Touch.{Touch}
 use Rattle.tree_geom.specs.Geometry.{Meets, Aligned, tree_range, page_range, left_half, right_half, span_of}
 use Rattle.tree_geom.proofs.Spans.{within_span, page_within, span_holds, page_aligned, left_aligned, right_aligned, size_pos}
-use Rattle.tree_geom.proofs.Touches.{bool_cases}
 use Rattle.range_log.specs.Log.{touch_at, size_at, newest_of, IsNewest, HasNode}
 use Rattle.range_log.specs.Extents.{Extent, extent_at, size_after, touch_of, touches}
 use Rattle.range_log.specs.Rows.{back_of, covered}
-use Rattle.range_log.specs.Laws.{Leads, LinksLead, BacksLead, LinksHaveNoHoles, BacksHaveNoHoles}
-use Rattle.range_log.proofs.Greatest.{newest_is}
-use Rattle.range_log.proofs.Grown.{Grown, grown_updates, length-touches, touch-touches, size-touches}
+use Rattle.range_log.specs.Laws.{Grown, NewestHasNode, NewestIsSome, NewestIsNone, Leads, LinksLead, BacksLead, LinksHaveNoHoles, BacksHaveNoHoles}
+use Rattle.range_log.proofs.Greatest.{bool_cases, newest_is}
+use Rattle.range_log.proofs.Grown.{grown_updates, length-touches, touch-touches, size-touches}
 
 pub below_page : (p c m : ℕ) → c * p < (m + 1) * p → c * p ≤ m * p
 below_page p c m h =
@@ -72,9 +71,7 @@ newest_within_span p log k h q j pos g in_log fits is some =
           ]
     ]
 
-pub newest_has_node : (p : ℕ) (log : List Touch) (k h q : ℕ) → 1 ≤ p → Grown p log → k ≤ length log
-    → (h ≡ 0) ⊎ (q * (p * 2 ^ h) + p * 2 ^ h ≤ span_of p (size_at log k))
-    → 1 ≤ newest_of p log k (tree_range p h q) → HasNode p log (newest_of p log k (tree_range p h q)) (tree_range p h q)
+pub newest_has_node : NewestHasNode
 newest_has_node p log k h q pos g in_log fits some =
     let is = newest_is p log k (tree_range p h q) in
     record {
@@ -97,7 +94,7 @@ some_meets p log (suc k) r g in_log some h =
           (suc k, omega arith, omega arith, (omega (arith, g.begins k (omega arith)), omega (arith, g.reaches k (omega arith) (omega arith)), some))
     ]
 
-pub newest_some : (p : ℕ) (log : List Touch) (k : ℕ) (r : Range) → Grown p log → k ≤ length log → 1 ≤ r.size → r.offset < size_at log k → 1 ≤ newest_of p log k r
+pub newest_some : NewestIsSome
 newest_some p log k r g in_log some h =
     let is = newest_is p log k r in
     let one = some_meets p log k r g in_log some h in
@@ -106,7 +103,7 @@ newest_some p log k r g in_log some h =
       | inr none ↦ absurd (is.none one.0 (omega (arith, one.1)) one.2 one.3)
     ]
 
-pub newest_past : (p : ℕ) (log : List Touch) (k h q : ℕ) → Grown p log → k ≤ length log → size_at log k ≤ q * (p * 2 ^ h) → newest_of p log k (tree_range p h q) ≡ 0
+pub newest_past : NewestIsNone
 newest_past p log k h q g in_log past =
     let j : ℕ = newest_of p log k (tree_range p h q) in
     let is : IsNewest p log k (tree_range p h q) j = newest_is p log k (tree_range p h q) in

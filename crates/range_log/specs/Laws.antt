@@ -1,15 +1,38 @@
-use Rattle.std.specs.Prelude.{◌≡◌, ◌⊎◌, ℕ, ◌+◌, ◌-◌, ◌*◌, ◌<◌, ◌≤◌, ◌↔◌, List, length, suc, true, false, take, drop, ◌++◌}
+use Rattle.std.specs.Prelude.{◌≡◌, ◌⊎◌, ℕ, ◌+◌, ◌-◌, ◌*◌, ◌^◌, ◌<◌, ◌≤◌, ◌↔◌, List, length, suc, true, false, take, drop, ◌++◌}
 use Rattle.std.specs.List.{Contains, AllPairs}
 use Rattle.blob_model.specs.Content.{Update, put, size_of}
 use Rattle.tree_geom.specs.declared.range.Range.{Range}
 use Rattle.tree_geom.specs.declared.touch.Touch.{Touch}
-use Rattle.tree_geom.specs.Geometry.{page_range, left_half, right_half, Meets}
+use Rattle.tree_geom.specs.Geometry.{tree_range, span_of, page_range, left_half, right_half, Meets}
 use Rattle.tree_geom.specs.Nodes.{left_link, right_link, back_link}
-use Rattle.range_log.specs.Log.{HasNode, newest_of, IsNewest, touch_at}
-use Rattle.range_log.specs.Extents.{Extent, InBounds, touches, size_after, extent_at}
+use Rattle.range_log.specs.Log.{size_at, HasNode, newest_of, IsNewest, touch_at}
+use Rattle.range_log.specs.Extents.{Extent, InBounds, extent_at, size_after, touch_of, touches}
 use Rattle.range_log.specs.Updates.{extents, extent_of, Replayable, page_bytes, own_bytes, piece_bytes}
 use Rattle.range_log.specs.Rows.{back_of, covered, row_keys_of, levels_of, leaf_start, leaf_from, leaf_len, first_piece, second_piece, piece_count, no_piece, node_of}
 use Rattle.range_log.specs.Visits.{backs_of, visits}
+
+-- ---- logs
+-- the log of some updates has what each of them touches
+abbrev pub TouchesAre : Type 0
+TouchesAre = (p : ℕ) (us : List Extent) → length (touches p us) ≡ length us
+
+abbrev pub EachTouchIs : Type 0
+EachTouchIs = (p : ℕ) (us : List Extent) (k : ℕ) → k < length us → touch_at (touches p us) (suc k) ≡ touch_of p us (suc k)
+
+abbrev pub SizesAre : Type 0
+SizesAre = (p : ℕ) (us : List Extent) (k : ℕ) → k ≤ length us → size_at (touches p us) k ≡ size_after us k
+
+-- What a log says of a blob that grows from its end: each update begins at or before the size, touches pages in order that
+-- end below the size after it, and leaves the size or more; one that makes the blob larger ends in the blob's last page.
+pub record Grown (p : ℕ) (log : List Touch) : Type 0 where
+  pub begins : (k : ℕ) → k < length log → (touch_at log (suc k)).first * p ≤ size_at log k
+  pub ordered : (k : ℕ) → k < length log → (touch_at log (suc k)).first ≤ (touch_at log (suc k)).last
+  pub ends : (k : ℕ) → k < length log → (touch_at log (suc k)).last * p < size_at log (suc k)
+  pub rises : (k : ℕ) → k < length log → size_at log k ≤ size_at log (suc k)
+  pub reaches : (k : ℕ) → k < length log → size_at log k < size_at log (suc k) → size_at log (suc k) ≤ ((touch_at log (suc k)).last + 1) * p
+
+abbrev pub LogsAreGrown : Type 0
+LogsAreGrown = (p : ℕ) (us : List Extent) → 1 ≤ p → InBounds us → Grown p (touches p us)
 
 -- ---- links name nodes
 -- j is 0, or names a version whose row has a node for the range
@@ -107,6 +130,32 @@ NewestIsGreatest = (p k : ℕ) (log : List Touch) (r : Range)
 abbrev pub LinksAgree : Type 0
 LinksAgree = (p k : ℕ) (log : List Touch) (s r : Range) → r.offset ≤ s.offset → s.offset + s.size ≤ r.offset + r.size
     → newest_of p log (newest_of p log k r) s ≡ newest_of p log k s
+
+-- version 0 touches nothing
+abbrev pub NewestOfNone : Type 0
+NewestOfNone = (p : ℕ) (log : List Touch) (r : Range) → newest_of p log 0 r ≡ 0
+
+-- a version that touches the range is the newest up to itself
+abbrev pub NewestHits : Type 0
+NewestHits = (p : ℕ) (log : List Touch) (k : ℕ) (r : Range) → Meets p (touch_at log (suc k)) r → newest_of p log (suc k) r ≡ suc k
+
+-- one that doesn't leaves the newest
+abbrev pub NewestMisses : Type 0
+NewestMisses = (p : ℕ) (log : List Touch) (k : ℕ) (r : Range) → ¬ Meets p (touch_at log (suc k)) r → newest_of p log (suc k) r ≡ newest_of p log k r
+
+-- the newest version for a range within the span, or for a page, has a node for it
+abbrev pub NewestHasNode : Type 0
+NewestHasNode = (p : ℕ) (log : List Touch) (k h q : ℕ) → 1 ≤ p → Grown p log → k ≤ length log
+    → (h ≡ 0) ⊎ (q * (p * 2 ^ h) + p * 2 ^ h ≤ span_of p (size_at log k))
+    → 1 ≤ newest_of p log k (tree_range p h q) → HasNode p log (newest_of p log k (tree_range p h q)) (tree_range p h q)
+
+-- a range that begins before the size was touched
+abbrev pub NewestIsSome : Type 0
+NewestIsSome = (p : ℕ) (log : List Touch) (k : ℕ) (r : Range) → Grown p log → k ≤ length log → 1 ≤ r.size → r.offset < size_at log k → 1 ≤ newest_of p log k r
+
+-- one that begins at or past the size wasn't
+abbrev pub NewestIsNone : Type 0
+NewestIsNone = (p : ℕ) (log : List Touch) (k h q : ℕ) → Grown p log → k ≤ length log → size_at log k ≤ q * (p * 2 ^ h) → newest_of p log k (tree_range p h q) ≡ 0
 
 -- where nothing after version v touches the range, its newest version is that at v
 abbrev pub NewestAbove : Type 0

@@ -4,3 +4,4 @@ pub mod Updates
 pub mod Rows
 pub mod Visits
 pub mod Laws
+pub mod Open

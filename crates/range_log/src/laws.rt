@@ -1,6 +1,6 @@
 //! The laws of the rows of a blob's versions, over every list of updates in which each begins at the size before it at the
 //! latest. Each is the contract of a function that does nothing.
-ghost use Rattle.range_log.specs.Laws.{LinksNameNodes, LinksLead, BacksLead, NoHoles, LinksHaveNoHoles, BacksHaveNoHoles, PageBytesStay, ExtentsStand, LeavesFill, LeavesFit, PiecesJoin, PiecesFit, NewestIsGreatest, LinksAgree, NewestAbove, RowKeysExact, RowKeysInOrder, LevelsAreFew, BacksStep, LogsGrow, RowsStay, ExtentsGrow};
+ghost use Rattle.range_log.specs.Laws.{LinksNameNodes, LinksLead, BacksLead, NoHoles, LinksHaveNoHoles, BacksHaveNoHoles, PageBytesStay, ExtentsStand, LeavesFill, LeavesFit, PiecesJoin, PiecesFit, NewestIsGreatest, LinksAgree, NewestAbove, NewestOfNone, NewestHits, NewestMisses, NewestHasNode, NewestIsSome, NewestIsNone, TouchesAre, EachTouchIs, SizesAre, LogsAreGrown, RowKeysExact, RowKeysInOrder, LevelsAreFew, BacksStep, LogsGrow, RowsStay, ExtentsGrow};
 
 /// Each link or back of a row that isn't 0 names a version whose row has a node for the link's range.
 pub fn links_name_nodes()
@@ -31,11 +31,29 @@ pub fn leaves_fill()
     ensures pieces { PiecesFit }
 {}
 
+/// What the log of some updates says, and how the sizes and pages in it stand to one another.
+pub fn logs_are_grown()
+    ensures count { TouchesAre }
+    ensures touches { EachTouchIs }
+    ensures sizes { SizesAre }
+    ensures grown { LogsAreGrown }
+{}
+
+/// Which ranges have a newest version, and that its row has a node for the range.
+pub fn newest_has_node()
+    ensures node { NewestHasNode }
+    ensures some { NewestIsSome }
+    ensures none { NewestIsNone }
+{}
+
 /// The newest version is the greatest that touches the range. For a part of a range it may be asked from the newest version
 /// of the range.
 pub fn newest_is_greatest()
     ensures greatest { NewestIsGreatest }
     ensures agree { LinksAgree }
+    ensures none { NewestOfNone }
+    ensures hit { NewestHits }
+    ensures miss { NewestMisses }
 {}
 
 /// The ranges of a row are those that have a node in it, each once: the largest first, and then by offset. There are not

@@ -13,4 +13,4 @@ mod open;
 
 pub use keys::{NoMemory, row_keys};
 pub use log::newest;
-pub use open::OpenTouch;
+pub use open::{OpenList, OpenTouch};

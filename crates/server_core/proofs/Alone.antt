@@ -1,9 +1,9 @@
 -- What was written where nobody else was there.
-use Rattle.std.proofs.Common.{◌≡◌, ℕ, ◌+◌, ◌<◌, ◌≤◌, true, false, Bool, List, [], ◌∷◌, ◌++◌, length, length-append, refl, sym, ◌∙◌, ap, subst, append_assoc, append-nil, arith}
+use Rattle.std.proofs.Common.{◌≡◌, ℕ, ◌<◌, List, ◌++◌, length, length-append, sym, ◌∙◌, ap, subst, append_assoc, append-nil, arith}
 use Rattle.std.proofs.lemmas.List.Concat.{flat_map-append}
 use Rattle.std.specs.Prelude.{Option, flat_map}
 use Rattle.request_form.specs.Session.{Fixed, Session, AllOther, AllOwn, IsNobody}
-use Rattle.request_form.specs.Transcript.{Run, Transcript, until_quit, is_last, first_session, SaysAlone}
+use Rattle.request_form.specs.Transcript.{Run, Transcript, until_quit, first_session, SaysAlone}
 use Rattle.request_form.specs.Laws.{OwnIsAlone, AlwaysAnswered}
 use Rattle.request_form.specs.Stream.{Stream}
 use Rattle.request_form.specs.declared.form.Reply.{Reply}

@@ -1,7 +1,7 @@
 -- What was answered when a stream ends.
-use Rattle.std.proofs.Common.{◌≡◌, ℕ, ◌+◌, ◌<◌, ◌≤◌, true, false, if◌then◌else◌, List, [], ◌∷◌, ◌++◌, length, length-append, refl, sym, ◌∙◌, ap, subst, append_assoc, append-nil, arith}
+use Rattle.std.proofs.Common.{◌≡◌, ℕ, ◌<◌, true, false, List, [], ◌∷◌, ◌++◌, length, refl, sym, ◌∙◌, ap, subst, append_assoc, append-nil}
 use Rattle.std.proofs.KnownBytes.{Appends-nil, Appends-trans, Consumes-nil, Consumes-trans}
-use Rattle.std.specs.Prelude.{Option, Some, None}
+use Rattle.std.specs.Prelude.{Option}
 use Rattle.std.specs.Io.KnownBytes.{Appends, Consumes, IsAtEnd}
 use Rattle.ports.specs.Counts.{RoseBy}
 use Rattle.request_form.specs.Transcript.{until_quit, has_quit, is_last}
@@ -15,7 +15,7 @@ use Rattle.server_core.specs.declared.step.Step.TheVariants as Steps
 use Rattle.server_core.specs.Progress.{Point, Progress, Goes, Quits, Stops, after_items, IsDrained}
 use Rattle.server_core.specs.Served.{AnswersAll, AnswersFront, Ended, Closing, Input, TakesOff, Finished}
 use Rattle.server_core.proofs.Items.{until_quit-append, has_quit-append, until_quit-all, until_quit-one}
-use Rattle.server_core.proofs.Steps.{Progress-trans, Progress-none, Goes-none}
+use Rattle.server_core.proofs.Steps.{Progress-trans, Progress-none}
 
 pub TakesOff-none : (a : Input) → TakesOff [] a a
 TakesOff-none a = record { given = Appends-nil a.given; left = Consumes-nil a.left }

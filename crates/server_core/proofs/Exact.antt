@@ -1,5 +1,5 @@
 -- Each end comes in each of its cases.
-use Rattle.std.proofs.Common.{◌≡◌, ◌≢◌, ℕ, ◌<◌, ◌≤◌, Bool, true, false, List, [], length, refl, sym, ◌∙◌, ap, arith}
+use Rattle.std.proofs.Common.{◌≡◌, ℕ, ◌<◌, Bool, true, false, List, [], length, refl, sym, ◌∙◌, ap, arith}
 use Rattle.std.proofs.lemmas.Bool.{false≢true}
 use Rattle.std.specs.Prelude.{Option}
 use Rattle.request_form.specs.Transcript.{until_quit, has_quit}
@@ -7,7 +7,7 @@ use Rattle.request_form.specs.Stream.{Stream}
 use Rattle.request_form.specs.declared.form.Heard.{Heard}
 use Rattle.server_core.specs.declared.step.End.{End}
 use Rattle.server_core.specs.declared.step.End.TheVariants as Ends
-use Rattle.server_core.specs.Served.{AnswersAll, Ended, Closing}
+use Rattle.server_core.specs.Served.{Ended, Closing}
 use Rattle.server_core.specs.Laws.{EndsExactly}
 use Rattle.server_core.proofs.Items.{has_quit-until_quit}
 

@@ -1,18 +1,27 @@
 -- A stream that goes on, and how it ends.
-use Rattle.std.proofs.Common.{◌≡◌, ℕ, ◌+◌, ◌<◌, ◌≤◌, true, false, List, [], ◌++◌, length, length-append, refl, sym, ◌∙◌, subst, append-nil, arith}
+use Rattle.std.proofs.Common.{◌≡◌, ℕ, ◌+◌, ◌<◌, ◌≤◌, true, false, List, [], ◌++◌, length, length-append, refl, sym, ◌∙◌, subst, append-nil, inl, inr, arith}
 use Rattle.std.specs.Prelude.{Option}
 use Rattle.std.specs.Io.KnownBytes.{IsAtEnd}
 use Rattle.ports.specs.Counts.{RoseBy}
-use Rattle.request_form.specs.Transcript.{until_quit, has_quit}
+use Rattle.request_form.specs.Transcript.{until_quit}
 use Rattle.request_form.specs.Stream.{Stream}
 use Rattle.request_form.specs.declared.form.Reply.{Reply}
 use Rattle.request_form.specs.declared.form.Heard.{Heard}
 use Rattle.server_core.specs.declared.step.End.{End}
 use Rattle.server_core.specs.declared.step.End.TheVariants as Ends
 use Rattle.server_core.specs.Progress.{Point, Goes, Quits, Stops}
-use Rattle.server_core.specs.Served.{AnswersAll, AnswersFront, Ended, Closing, Input, TakesOff, Served, Finished}
+use Rattle.server_core.specs.Served.{AnswersAll, AnswersFront, Ended, Closing, Input, TakesOff, Stays, Served, Finished}
 use Rattle.server_core.proofs.Steps.{Goes-none, Progress-none, Progress-trans}
 use Rattle.server_core.proofs.Endings.{Serving, TakesOff-none, TakesOff-trans, Goes-feed, Goes-trans, Goes-quits, Goes-stops, all_whole, no_quit_whole, finish_both, close_both}
+
+stays_at_end : (reads : List ℕ → Stream) (taken : List ℕ) (items : List Heard) (left : Option (List ℕ)) (end : End) → IsAtEnd left → Stays reads taken items left end
+stays_at_end reads taken items left Ends.Quit h = inr h
+stays_at_end reads taken items left Ends.InputEnd h = tt
+stays_at_end reads taken items left Ends.Cut h = tt
+stays_at_end reads taken items left Ends.ReadFault h = tt
+stays_at_end reads taken items left Ends.WriteFault h = inr h
+stays_at_end reads taken items left Ends.InputTooLong h = tt
+stays_at_end reads taken items left Ends.NoMemory h = inr h
 
 module _ (said : Reply → List ℕ) (old : Point) (reads : List ℕ → Stream) (before : Input) where
   -- nothing was taken yet
@@ -29,6 +38,7 @@ module _ (said : Reply → List ℕ) (old : Point) (reads : List ℕ → Stream)
     progress = Progress-none said old;
     ended = (until_quit (reads []).items, refl);
     closing = tt;
+    stays = inl (λ more. (until_quit (reads more).items, refl));
   }
 
   module _ (now : Input) (count limit : ℕ) (mid : Point) (after : List ℕ → Stream) (s : Serving said old reads before now count mid after) where
@@ -80,6 +90,7 @@ module _ (said : Reply → List ℕ) (old : Point) (reads : List ℕ → Stream)
             progress = quits.progress;
             ended = ended_at (length bytes) quits.items [] last.left Ends.Quit ((sym (quits.reads []), refl), quits.quit []);
             closing = λ cut. same_ends ∙ s.same_ends;
+            stays = inl (λ more. ([], quits.reads more ∙ sym (append-nil quits.items)));
           }
 
       pub Serving-write_fault : (rest : List ℕ) → last.ends ≡ now.ends → count + length piece ≤ limit → 0 < length rest → Stops said start fed rest new → Served said old reads before last limit new Ends.WriteFault
@@ -94,6 +105,7 @@ module _ (said : Reply → List ℕ) (old : Point) (reads : List ℕ → Stream)
             progress = stops.progress;
             ended = ended_at (length bytes) stops.items rest last.left Ends.WriteFault (stops.reads [], some);
             closing = λ cut. same_ends ∙ s.same_ends;
+            stays = inl stops.reads;
           }
 
       pub Serving-no_memory : (rest : List ℕ) → count + length piece ≤ limit → Stops said start fed rest new → Served said old reads before last limit new Ends.NoMemory
@@ -108,6 +120,7 @@ module _ (said : Reply → List ℕ) (old : Point) (reads : List ℕ → Stream)
             progress = stops.progress;
             ended = ended_at (length bytes) stops.items rest last.left Ends.NoMemory (stops.reads []);
             closing = tt;
+            stays = inl stops.reads;
           }
 
     module _ (last : Input) (takes : TakesOff [] now last) (start : Point) (same : start ≡ mid) where
@@ -130,6 +143,7 @@ module _ (said : Reply → List ℕ) (old : Point) (reads : List ℕ → Stream)
               omega (arith, counts),
             );
             closing = same_ends ∙ s.same_ends;
+            stays = tt;
           }
 
       pub Serving-too_long : last.ends ≡ now.ends → count ≡ limit → Served said old reads before last limit start Ends.InputTooLong
@@ -150,6 +164,7 @@ module _ (said : Reply → List ℕ) (old : Point) (reads : List ℕ → Stream)
               omega (arith, counts),
             );
             closing = same_ends ∙ s.same_ends;
+            stays = tt;
           }
 
       -- the stream's end came, and what it leaves over was answered
@@ -167,4 +182,5 @@ module _ (said : Reply → List ℕ) (old : Point) (reads : List ℕ → Stream)
             ended = ended_at [] last takes start same new (length (s.taken ++ [])) (goes.items ++ f.items) f.rest last.left end
                 (finish_both said old _ start after goes new end (length (s.taken ++ [])) limit last.left s.empty (omega (arith, counts)) at_end f);
             closing = closing_at [] last takes start same new before.ends last.ends end (close_both said old _ start after goes new before.ends last.ends end rose f);
+            stays = stays_at_end reads (s.taken ++ []) (goes.items ++ f.items) last.left end at_end;
           }

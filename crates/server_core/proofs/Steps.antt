@@ -1,9 +1,9 @@
 -- How progress goes on.
-use Rattle.std.proofs.Common.{◌≡◌, ℕ, ◌+◌, ◌-◌, ◌^◌, ◌<◌, ◌≤◌, Bool, true, false, if◌then◌else◌, List, [], ◌∷◌, ◌++◌, length, take, drop, length-drop, refl, sym, ◌∙◌, ap, subst, append_assoc, append-nil, take-append-drop, zero-add, arith}
+use Rattle.std.proofs.Common.{◌≡◌, ℕ, ◌+◌, ◌<◌, true, false, if◌then◌else◌, List, [], ◌∷◌, ◌++◌, length, take, drop, length-drop, refl, sym, ◌∙◌, ap, subst, append_assoc, append-nil, take-append-drop, zero-add, arith}
 use Rattle.std.proofs.lemmas.List.Concat.{flat_map-append}
 use Rattle.std.proofs.lemmas.List.Sums.{sum_by-append}
 use Rattle.std.proofs.KnownBytes.{Appends-nil, Appends-trans}
-use Rattle.std.specs.Prelude.{Option, Some, None, flat_map, sum_by}
+use Rattle.std.specs.Prelude.{Option, flat_map}
 use Rattle.std.specs.Io.KnownBytes.{Appends}
 use Rattle.ports.specs.Counts.{RoseBy}
 use Rattle.request_form.specs.Session.{Session, AllOther}

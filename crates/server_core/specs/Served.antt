@@ -1,5 +1,5 @@
 -- How a stream ends, and what was answered then.
-use Rattle.std.specs.Prelude.{◌≡◌, ℕ, ◌<◌, ◌≤◌, true, false, List, [], ◌++◌, length, Option, ⊤}
+use Rattle.std.specs.Prelude.{◌≡◌, ◌⊎◌, ℕ, ◌<◌, ◌≤◌, true, false, List, [], ◌++◌, length, Option, ⊤}
 use Rattle.std.specs.Io.KnownBytes.{Appends, Consumes, IsAtEnd}
 use Rattle.ports.specs.Counts.{RoseBy}
 use Rattle.request_form.specs.Transcript.{until_quit, has_quit}
@@ -42,6 +42,20 @@ Closing heard ends ends' Ends.WriteFault = heard.cut ≡ true → ends' ≡ ends
 Closing heard ends ends' Ends.InputTooLong = ends' ≡ ends
 Closing heard ends ends' Ends.NoMemory = ⊤
 
+-- the items that were answered are the first ones however the stream goes on, unless it came to its end
+abbrev pub StaysFirst : (List ℕ → Stream) → List ℕ → List Heard → Option (List ℕ) → Type 0
+StaysFirst reads taken items left = ((more : List ℕ) → AnswersFront (reads (taken ++ more)).items items) ⊎ IsAtEnd left
+
+-- A Quit, a write fault and want of memory may come before the stream's end, and then no later byte changes what was answered.
+abbrev pub Stays : (List ℕ → Stream) → List ℕ → List Heard → Option (List ℕ) → End → Type 0
+Stays reads taken items left Ends.Quit = StaysFirst reads taken items left
+Stays reads taken items left Ends.InputEnd = ⊤
+Stays reads taken items left Ends.Cut = ⊤
+Stays reads taken items left Ends.ReadFault = ⊤
+Stays reads taken items left Ends.WriteFault = StaysFirst reads taken items left
+Stays reads taken items left Ends.InputTooLong = ⊤
+Stays reads taken items left Ends.NoMemory = StaysFirst reads taken items left
+
 -- where a stream stands as a source: the bytes that it gave, those that it has left, and its count of ends
 pub record Input : Type 0 where
   pub given : Option (List ℕ)
@@ -64,6 +78,7 @@ pub record Served (said : Reply → List ℕ) (old : Point) (reads : List ℕ �
   pub progress : Progress said old items rest new
   pub ended : Ended (reads taken) (length taken) limit items rest after.left end
   pub closing : Closing (reads taken) before.ends after.ends end
+  pub stays : Stays reads taken items after.left end
 
 -- what the end of a stream says of the item that it leaves over, where each whole one was answered
 abbrev pub FinishedAs : Stream → List Heard → List ℕ → End → Type 0

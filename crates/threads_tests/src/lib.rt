@@ -2,7 +2,8 @@
 #![tactic(auto)]
 
 #[cfg(test)]
-mod turn;
-
+mod pages;
 #[cfg(test)]
 mod placement;
+#[cfg(test)]
+mod turn;

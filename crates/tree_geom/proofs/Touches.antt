@@ -7,9 +7,10 @@ use Rattle.std.proofs.lemmas.Nat.{mul-le, le-div, div_below}
 use Rattle.std.proofs.Math.Nat.{mul-lt-mul_of_pos_right}
 use Rattle.tree_geom.specs.declared.range.Range.{Range}
 use Rattle.tree_geom.specs.declared.touch.Touch.{Touch}
+use Rattle.tree_geom.specs.Laws.{MeetsIsTrue, MeetsIsFalse, MeetsOrNot}
 use Rattle.tree_geom.specs.Geometry.{Meets, meets_of, SharesByte}
 
-pub meets_true : (p : ℕ) (t : Touch) (r : Range) → Meets p t r → meets_of p t r ≡ true
+pub meets_true : MeetsIsTrue
 meets_true p t r h = grind (arith, nat_tests)
 
 pub from_meets : (p : ℕ) (t : Touch) (r : Range) → meets_of p t r ≡ true → Meets p t r
@@ -19,14 +20,14 @@ pub bool_cases : (b : Bool) → (b ≡ true) ⊎ (b ≡ false)
 bool_cases true = inl refl
 bool_cases false = inr refl
 
-pub meets_cases : (p : ℕ) (t : Touch) (r : Range) → Meets p t r ⊎ (¬ Meets p t r)
+pub meets_cases : MeetsOrNot
 meets_cases p t r =
     elim (bool_cases (meets_of p t r)) [
       | inl e ↦ inl (from_meets p t r e)
       | inr e ↦ inr (λ m. let f : meets_of p t r ≡ true = meets_true p t r m in cc)
     ]
 
-pub meets_false : (p : ℕ) (t : Touch) (r : Range) → ¬ Meets p t r → meets_of p t r ≡ false
+pub meets_false : MeetsIsFalse
 meets_false p t r h =
     elim (bool_cases (meets_of p t r)) [
       | inl e ↦ absurd (h (from_meets p t r e))

@@ -4,6 +4,7 @@
 //! Offsets and sizes are in bytes, `first` and `last` are page numbers, and all count from 0. No call takes memory.
 #![tactic(auto)]
 
+pub mod laws;
 mod node;
 mod page;
 mod range;

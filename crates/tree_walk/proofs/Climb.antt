@@ -8,18 +8,18 @@ use Rattle.std.specs.Int.{w64, trailing_zeros}
 use Rattle.tree_geom.specs.declared.range.Range.{Range}
 use Rattle.tree_geom.specs.declared.touch.Touch.{Touch}
 use Rattle.tree_geom.specs.Geometry.{right_half, tree_range, page_range, span_of, height_of}
-use Rattle.tree_geom.proofs.Spans.{page_aligned, right_aligned, size_pos, span_some, span_holds, height_enough}
+use Rattle.tree_geom.proofs.Spans.{page_aligned, right_aligned, size_pos, span_some, span_holds, heights_hold, ranges_nest}
+use Rattle.range_log.specs.Laws.{Grown}
 use Rattle.range_log.specs.Log.{newest_of, size_at, HasNode}
 use Rattle.range_log.specs.Extents.{IsLog}
 use Rattle.range_log.proofs.Greatest.{newest_hit}
-use Rattle.range_log.proofs.Grown.{Grown}
 use Rattle.range_log.proofs.Links.{newest_some, newest_has_node}
 use Rattle.tree_walk.specs.Leaves.{WalkState, AtPage, bits_set}
 use Rattle.tree_walk.specs.Walk.{root_of}
 use Rattle.tree_walk.proofs.Bits.{IsLowest, next_quotient, at_lowest, above_lowest, lowest_under, lowest_is, lowest_below, bits_step}
 use Rattle.tree_walk.proofs.Descent.{grown_log}
 use Rattle.tree_walk.proofs.Steps.{half_agrees}
-use Rattle.tree_walk.proofs.Walk.{double, sized, ends_by_higher, root_meets, root_is}
+use Rattle.tree_walk.proofs.Walk.{double, sized, root_meets, root_is}
 
 -- ---- the links of a node, by its height and number
 pub inner_range : (p page h size : ℕ) → page ≡ p → 1 ≤ p → 1 ≤ h → size ≡ p * 2 ^ h → page < size
@@ -59,7 +59,7 @@ node_here p log v top i h at pos is in_log high inside le newest =
     let g : Grown p log = grown_log p log pos is in
     let begins : q * (p * 2 ^ h) < size = page_under i h size p inside in
     let span : span_of p size ≡ p * 2 ^ top = span_some p size (omega arith) ∙ ap (λ n. p * 2 ^ n) (sym high) in
-    let within : q * (p * 2 ^ h) + p * 2 ^ h ≤ 1 * (p * 2 ^ top) = ends_by_higher p h top q 1 le (omega (arith, span_holds p size pos)) in
+    let within : q * (p * 2 ^ h) + p * 2 ^ h ≤ 1 * (p * 2 ^ top) = ranges_nest p h top q 1 le (omega (arith, span_holds p size pos)) in
     let some : 1 ≤ newest_of p log v (tree_range p h q) = newest_some p log v (tree_range p h q) g in_log (size_pos p h pos) begins in
     let H : ℕ → Type 0 = λ n. HasNode p log n (tree_range p h q) in
     subst H (sym newest) (newest_has_node p log v h q pos g in_log (inr (omega (arith, span))) some)
@@ -150,7 +150,7 @@ page_here p log v top i at rights d =
 
 pub page_count : (p i size top : ℕ) → 1 ≤ p → top ≡ height_of p size → i * p < size → i < 2 ^ top
 page_count p i size top pos high inside =
-    let enough : size ≤ p * 2 ^ height_of p size = height_enough p size pos in
+    let enough : size ≤ p * 2 ^ height_of p size = (heights_hold p size pos).reaches in
     let whole : p * 2 ^ height_of p size ≡ p * 2 ^ top = ap (λ n. p * 2 ^ n) (sym high) in
     let lt : i * p < 2 ^ top * p = omega arith in
     elim (cases_lt i (2 ^ top)) [

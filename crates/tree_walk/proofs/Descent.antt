@@ -11,10 +11,12 @@ use Rattle.range_log.specs.Extents.{IsLog}
 use Rattle.tree_walk.specs.Walk.{half_toward, root_of}
 use Rattle.std.proofs.lemmas.Nat.{mul-le, pow_pos}
 use Rattle.std.proofs.Math.Nat.{pow-le-pow_right}
-use Rattle.tree_geom.proofs.Spans.{span_holds, span_some, span_none, half_size}
-use Rattle.tree_walk.proofs.Walk.{half_is, ends_by_higher, double, root_meets, root_is, sized}
-use Rattle.range_log.proofs.Greatest.{newest_within, newest_hit, newest_none, meets_wider, Within}
-use Rattle.range_log.proofs.Grown.{Grown, grown_updates}
+use Rattle.tree_geom.proofs.Spans.{ranges_nest, span_holds, span_some, span_none, half_size}
+use Rattle.tree_walk.proofs.Parts.{Within, meets_wider, newest_within}
+use Rattle.tree_walk.proofs.Walk.{half_is, double, root_meets, root_is, sized}
+use Rattle.range_log.proofs.Greatest.{newest_hit, newest_none}
+use Rattle.range_log.specs.Laws.{Grown}
+use Rattle.range_log.proofs.Grown.{grown_updates}
 use Rattle.range_log.proofs.Links.{newest_has_node, newest_past}
 
 -- at the node of version j for r, on the way to the newest version up to v that touches t
@@ -69,7 +71,7 @@ at_root p log (suc v) t r pos is in_log (h, q, f) inside e =
       inside = omega arith;
       toward = λ lt.
           let below : h < top = lower p h top pos (omega arith) in
-          (omega arith, omega (arith, ends_by_higher p h top q 1 (omega arith) (omega arith)));
+          (omega arith, omega (arith, ranges_nest p h top q 1 (omega arith) (omega arith)));
       last = λ over.
           let first : q * (p * 2 ^ h) ≡ 0 = begins_first q (p * 2 ^ h) (p * 2 ^ top) (omega arith) (omega arith) in
           newest ∙ sym (newest_hit p log v t (meets_wider p (touch_at log (suc v)) root t (omega arith, omega arith) met));

@@ -1,3 +1,4 @@
+pub mod Parts
 pub mod Walk
 pub mod Descent
 pub mod Steps

@@ -1,21 +1,29 @@
 -- One step of a walk by links.
-use Rattle.std.proofs.Common.{◌≡◌, ◌⊎◌, ℕ, ◌+◌, ◌*◌, ◌^◌, ◌<◌, ◌≤◌, suc, List, length, arith, inl, inr, refl, ap, sym, subst, ◌∙◌}
+use Rattle.std.proofs.Common.{◌≡◌, ◌⊎◌, ℕ, ◌+◌, ◌*◌, ◌%◌, ◌^◌, ◌<◌, ◌≤◌, suc, List, length, arith, inl, inr, refl, ap, sym, subst, ◌∙◌, zero}
 use Rattle.tree_geom.specs.declared.range.Range.{Range}
 use Rattle.tree_geom.specs.declared.touch.Touch.{Touch}
 use Rattle.tree_geom.specs.Geometry.{Aligned, tree_range, left_half, right_half}
-use Rattle.tree_geom.proofs.Spans.{size_pos}
+use Rattle.tree_geom.proofs.Spans.{left_aligned, right_aligned, size_pos}
 use Rattle.range_log.specs.Log.{newest_of}
 use Rattle.range_log.specs.Extents.{touches}
-use Rattle.range_log.proofs.Greatest.{newest_within, Within}
-use Rattle.range_log.proofs.Grown.{Grown, grown_updates, size-touches, length-touches}
-use Rattle.range_log.proofs.Links.{halves_are, newest_some}
+use Rattle.tree_walk.proofs.Parts.{Within, newest_within}
+use Rattle.range_log.specs.Laws.{Grown}
+use Rattle.range_log.proofs.Grown.{grown_updates, size-touches, length-touches}
+use Rattle.range_log.proofs.Links.{newest_some}
 use Rattle.tree_walk.specs.Walk.{LinksStep, ChildStands}
 use Rattle.tree_walk.proofs.Descent.{link_stands, grown_log}
 use Rattle.tree_walk.proofs.Walk.{double}
 
+halves_aligned : (p : ℕ) (r : Range) → Aligned p r → p < r.size → Aligned p (left_half r) × Aligned p (right_half r) × (r.size % 2 ≡ 0)
+halves_aligned p r (zero, q, e) large = absurd (let f : r.size ≡ p * 2 ^ 0 = ap (λ (x : Range). x.size) e in omega arith)
+halves_aligned p r (suc h, q, e) large =
+    let f : r.size ≡ 2 * (p * 2 ^ h) = ap (λ (x : Range). x.size) e ∙ double p h in
+    ((h, 2 * q, ap left_half e ∙ left_aligned p h q), (h, 2 * q + 1, ap right_half e ∙ right_aligned p h q), omega arith)
+
 half_aligned : (p : ℕ) (r half : Range) → Aligned p r → p < r.size → (half ≡ left_half r) ⊎ (half ≡ right_half r) → Aligned p half × Within half r
 half_aligned p r half al large which =
-    let both = halves_are (λ s. Aligned p s) p r al large (λ h q within. (h, q, refl)) in
+    let both = halves_aligned p r al large in
+    let even : r.size % 2 ≡ 0 = both.2 in
     let P : Range → Type 0 = λ s. Aligned p s × Within s r in
     elim which [
       | inl e ↦ subst P (sym e) (both.0, (omega arith, omega arith))

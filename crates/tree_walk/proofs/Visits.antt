@@ -4,13 +4,12 @@ use Rattle.std.specs.Prelude.{nat_lt, nat_le, ◌&&◌, ◌==◌}
 use Rattle.std.proofs.lemmas.Bool.{cases_lt}
 use Rattle.std.proofs.lemmas.Bool.Decides.{nat_tests}
 use Rattle.std.proofs.lemmas.List.FromFn.{length-range_with_len}
-use Rattle.std.proofs.lemmas.Nat.{pow_pos, div_below}
+use Rattle.std.proofs.lemmas.Nat.{pow_pos, div_below, le-div}
 use Rattle.std.proofs.Math.Nat.{pow-succ'}
 use Rattle.tree_geom.specs.Geometry.{height_of}
-use Rattle.tree_geom.proofs.Spans.{height_enough}
+use Rattle.tree_geom.proofs.Spans.{heights_hold}
 use Rattle.range_log.specs.Extents.{size_after}
 use Rattle.range_log.specs.Visits.{pages_met}
-use Rattle.range_log.proofs.Grown.{pages_rise}
 use Rattle.tree_walk.specs.Walk.{visited, VisitedNone, VisitedLeaf, VisitedInner, VisitedAreFew, WalksAreBounded}
 
 pub apart : VisitedNone
@@ -94,8 +93,8 @@ walks_are_bounded p v o n us pos some within =
     let first : ℕ = o / p in
     let last : ℕ = (o + n - 1) / p in
     let e : (n == 0) ≡ false = grind (arith, nat_tests) in
-    let le : first ≤ last = pages_rise p o (o + n - 1) pos (omega arith) in
-    let enough : size_after us v ≤ p * 2 ^ top = height_enough p (size_after us v) pos in
+    let le : first ≤ last = le-div (o / p) (o + n - 1) p pos (omega arith) in
+    let enough : size_after us v ≤ p * 2 ^ top = (heights_hold p (size_after us v) pos).reaches in
     let inside : last < 2 ^ top = div_below (o + n - 1) p (2 ^ top) pos (omega arith) in
     let count : length (pages_met p o n) ≡ last + 1 - first = length-range_with_len first (last + 1 - first) in
     let few : visited top 0 first last < 2 * (last + 1 - first) + 2 * top = visited_are_few top first last le inside in

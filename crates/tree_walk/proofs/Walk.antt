@@ -1,5 +1,5 @@
 -- A descent by links comes to the newest version.
-use Rattle.std.proofs.Common.{◌≡◌, ℕ, ◌+◌, ◌-◌, ◌*◌, ◌/◌, ◌^◌, ◌<◌, ◌≤◌, zero, suc, List, length, arith, inl, inr, refl, ap, sym, subst, ◌∙◌, true, false}
+use Rattle.std.proofs.Common.{◌≡◌, ℕ, ◌+◌, ◌*◌, ◌/◌, ◌^◌, ◌<◌, ◌≤◌, zero, suc, List, length, arith, inl, inr, refl, ap, sym, subst, ◌∙◌, true, false}
 use Rattle.std.specs.Prelude.{nat_lt, nat_le, ◌==◌}
 use Rattle.std.proofs.lemmas.Bool.{cases_lt}
 use Rattle.std.proofs.lemmas.Bool.Decides.{nat_tests}
@@ -8,25 +8,15 @@ use Rattle.std.proofs.Math.Nat.{pow-le-pow_right, pow-succ'}
 use Rattle.tree_geom.specs.declared.range.Range.{Range}
 use Rattle.tree_geom.specs.declared.touch.Touch.{Touch}
 use Rattle.tree_geom.specs.Geometry.{left_half, right_half, tree_range, span_of, height_of, Meets}
-use Rattle.tree_geom.proofs.Spans.{left_aligned, right_aligned, size_pos, row_below, split_span, span_some, span_holds, span_none}
+use Rattle.tree_geom.proofs.Spans.{left_aligned, right_aligned, size_pos, ranges_nest, span_some, span_holds, span_none}
 use Rattle.range_log.specs.Log.{touch_at, size_at, newest_of}
 use Rattle.range_log.specs.Extents.{touches}
+use Rattle.tree_walk.proofs.Parts.{Within, meets_wider, newest_within}
 use Rattle.tree_walk.specs.Walk.{half_toward, descend, root_of, found, LinksFind, RootsStand}
-use Rattle.range_log.proofs.Greatest.{newest_within, newest_hit, newest_none, meets_wider, Within}
+use Rattle.range_log.proofs.Greatest.{newest_hit, newest_none}
 use Rattle.range_log.proofs.Links.{newest_past}
-use Rattle.range_log.proofs.Grown.{Grown, grown_updates, length-touches}
-
--- a range that begins before a place that is a multiple of its size ends there at the latest
-ends_by : (p h k q m : ℕ) → q * (p * 2 ^ h) < m * (p * 2 ^ (h + k)) → q * (p * 2 ^ h) + p * 2 ^ h ≤ m * (p * 2 ^ (h + k))
-ends_by p h k q m lt =
-    let e : m * (p * 2 ^ (h + k)) ≡ m * 2 ^ k * (p * 2 ^ h) = rw (split_span p h k) (omega arith) in
-    rw e (row_below q (m * 2 ^ k) (p * 2 ^ h) (omega (arith, e)))
-
-pub ends_by_higher : (p h top q m : ℕ) → h ≤ top → q * (p * 2 ^ h) < m * (p * 2 ^ top) → q * (p * 2 ^ h) + p * 2 ^ h ≤ m * (p * 2 ^ top)
-ends_by_higher p h top q m le =
-    let e : h + (top - h) ≡ top = omega arith in
-    let P : ℕ → Type 0 = λ j. q * (p * 2 ^ h) < m * (p * 2 ^ j) → q * (p * 2 ^ h) + p * 2 ^ h ≤ m * (p * 2 ^ j) in
-    subst P e (ends_by p h (top - h) q m)
+use Rattle.range_log.specs.Laws.{Grown}
+use Rattle.range_log.proofs.Grown.{grown_updates, length-touches}
 
 pub double : (p h : ℕ) → p * 2 ^ suc h ≡ 2 * (p * 2 ^ h)
 double p h = rw (pow-succ' 2 h) (omega arith)
@@ -46,7 +36,7 @@ half_is p h q top at le w =
     elim (cases_lt t.offset (r.offset + r.size / 2)) [
       | inl before ↦
           let test : nat_lt t.offset (r.offset + r.size / 2) ≡ true = grind (arith, nat_tests) in
-          (2 * at, rw test left, (omega (arith, w, begin), omega (arith, begin, middle, half, ends_by_higher p h top q (2 * at + 1) le (omega arith))), (omega (arith, begin), omega (arith, begin, whole)))
+          (2 * at, rw test left, (omega (arith, w, begin), omega (arith, begin, middle, half, ranges_nest p h top q (2 * at + 1) le (omega arith))), (omega (arith, begin), omega (arith, begin, whole)))
       | inr after ↦
           let test : nat_lt t.offset (r.offset + r.size / 2) ≡ false = grind (arith, nat_tests) in
           (2 * at + 1, rw test right, (omega (arith, middle), omega (arith, w, begin, whole)), (omega (arith, begin, middle), omega (arith, begin, whole)))
@@ -190,7 +180,7 @@ find_from_root p v h q log pos g in_log inside =
           stop top p log (suc v) root t (omega arith)
           ∙ sym (newest_hit p log v t (meets_wider p (touch_at log (suc v)) root t (omega arith, omega arith) met))
       | inr under ↦
-          let w : Within t (tree_range p top 0) = (omega arith, omega (arith, ends_by_higher p h top q 1 under (omega arith))) in
+          let w : Within t (tree_range p top 0) = (omega arith, omega (arith, ranges_nest p h top q 1 under (omega arith))) in
           ap (λ s. descend top p log (suc v) s t) is
           ∙ ap (λ j. descend top p log j (tree_range p top 0) t) (sym from)
           ∙ descent top top p log (suc v) 0 h q pos under (omega arith) w

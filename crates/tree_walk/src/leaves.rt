@@ -21,9 +21,14 @@ const HEIGHTS: usize = 39;
 #[derive(Drop)]
 pub struct PageWalk {
     version: u64,
+    // of the tree of the version
     height: u32,
+    // to which the walk comes next
     page: u64,
+    // of the range over the page from which the walk goes down: the page begins it, but for the first page
     from: u32,
+    // at `from` the newest version for that range; at each height above, that for the upper half of the range over the page
+    // whose lower half holds the page
     rights: [u64; HEIGHTS],
 }
 

@@ -13,7 +13,7 @@ use Rattle.turn_lock.specs.declared.view.Known.{Known}
 use Rattle.turn_lock.specs.declared.view.Stage.{Stage}
 use Rattle.turn_lock.specs.declared.view.Stage.TheVariants.{Gone, Owns, Joins, Idle, Waits, Inside}
 use Rattle.turn_lock.specs.History.{Log, entries_by}
-use Rattle.turn_lock.specs.Turns.{IsKept, Facts, total, gone, IsUsed, IsTrueOf, Stands, numbers_of, uses_of, entries_of, numbers, uses, insides, IsHome, IsOut, HasDrawn, KnowsAll}
+use Rattle.turn_lock.specs.Turns.{IsKept, Facts, total, gone, IsUsed, IsTrueOf, Stands, numbers_of, uses_of, turns_of, numbers, uses, turns, IsHome, IsOut, HasDrawn, KnowsAll}
 use Rattle.turn_lock.proofs.Histories.{Begins-append, entries_by-more}
 use Rattle.turn_lock.proofs.Views.{total_set, total_most, seats_stay, inside_length}
 
@@ -25,8 +25,8 @@ module _ {E : Type 0} where
   numbers_uses : (st : Stage E) → numbers_of st ≤ uses_of st
   numbers_uses = elim [ Gone ↦ omega arith | (Owns g b) ↦ omega arith | (Joins g b c l) ↦ omega arith | Idle ↦ omega arith | (Waits n) ↦ omega arith | (Inside n) ↦ omega arith ]
 
-  entries_uses : (st : Stage E) → entries_of st ≤ uses_of st
-  entries_uses = elim [ Gone ↦ omega arith | (Owns g b) ↦ omega arith | (Joins g b c l) ↦ omega arith | Idle ↦ omega arith | (Waits n) ↦ omega arith | (Inside n) ↦ omega arith ]
+  turns_uses : (st : Stage E) → turns_of st ≤ uses_of st
+  turns_uses = elim [ Gone ↦ omega arith | (Owns g b) ↦ omega arith | (Joins g b c l) ↦ omega arith | Idle ↦ omega arith | (Waits n) ↦ omega arith | (Inside n) ↦ omega arith ]
 
 module _ {E F : Type 0} where
   -- how a seat stands that does not step
@@ -56,7 +56,7 @@ module _ {E F : Type 0} where
   moved f vs id v v' st at is = let t = total_set (λ (u : Known E F). f u.stage) vs id v v' at in let e : f v.stage ≡ f st = ap f is in omega arith
 
   -- the seat that may enter has drawn the number of the turn
-  pub insider : (w : Facts E F) (j : ℕ) (v : Known E F) (st : Stage E) → 0 < entries_of st → Stands w j v st → w.holder w.turn ≡ j
+  pub insider : (w : Facts E F) (j : ℕ) (v : Known E F) (st : Stage E) → 0 < turns_of st → Stands w j v st → w.holder w.turn ≡ j
   insider w j v = elim [
     | Gone ↦ λ h k. absurd (omega arith)
     | (Owns g b) ↦ λ h k. absurd (omega arith)
@@ -67,8 +67,8 @@ module _ {E F : Type 0} where
   ]
 
   -- no seat may enter where none is in use
-  pub none_in : (vs : List (Known E F)) → total insides vs ≤ total uses vs
-  none_in vs = total_most insides uses (λ v. entries_uses v.stage) vs
+  pub none_in : (vs : List (Known E F)) → total turns vs ≤ total uses vs
+  none_in vs = total_most turns uses (λ v. turns_uses v.stage) vs
 
   pub few_wait : (vs : List (Known E F)) → total numbers vs ≤ total uses vs
   few_wait vs = total_most numbers uses (λ v. numbers_uses v.stage) vs
@@ -92,7 +92,7 @@ module _ {S E F : Type 0} (history : S → Log E) (fixed : S → F) where
   -- one seat steps, and no caller is given or kept
   pub moves : (s : St) (r : Rule s) (id : ℕ) (v v' : V) (log ext : Log E) (turn drawn : ℕ) (holder : ℕ → ℕ) (away : ℕ) (ws : List ℕ) (hs : List (maybe.Option S))
       → get_elem? s.views id ≡ some v → (v ≡ gone → ⊥) → log ≡ r.facts.log ++ ext → ((c : ℕ) → (c ≢ id) ⊎ (c ≡ 0) → entries_by c ext ≡ []) → length log < 2 ^ 38
-      → total numbers (set s.views id v') + turn ≡ drawn → total uses (set s.views id v') ≡ total uses s.views → total insides (set s.views id v') ≡ away
+      → total numbers (set s.views id v') + turn ≡ drawn → total uses (set s.views id v') ≡ total uses s.views → total turns (set s.views id v') ≡ away
       → ((j n : ℕ) → j ≢ id → r.facts.turn ≤ n → n < r.facts.drawn → r.facts.holder n ≡ j → (turn ≤ n) × (n < drawn) × (holder n ≡ j))
       → ((j n : ℕ) → j ≢ id → r.facts.turn ≡ n → n < r.facts.drawn → r.facts.holder n ≡ j → r.facts.away ≡ 1 → (turn ≡ n) × (n < drawn) × (holder n ≡ j) × (log ≡ r.facts.log) × (away ≡ 1))
       → Stands (after r.facts log turn drawn holder away) id v' v'.stage

@@ -13,7 +13,7 @@ use Rattle.turn_lock.specs.declared.view.Known.{Known}
 use Rattle.turn_lock.specs.declared.view.Stage.{Stage}
 use Rattle.turn_lock.specs.declared.view.Stage.TheVariants.{Owns, Joins, Idle}
 use Rattle.turn_lock.specs.History.{Log, Begins, entries_by, longer, IsUngiven, LacksUngiven}
-use Rattle.turn_lock.specs.Turns.{IsKept, Facts, total, gone, opener, Stands, numbers_of, uses_of, entries_of, numbers, uses, insides, IsHome, IsOut, HasDrawn, KnowsAll, JoinsAll}
+use Rattle.turn_lock.specs.Turns.{IsKept, Facts, total, gone, opener, Stands, numbers_of, uses_of, turns_of, numbers, uses, turns, IsHome, IsOut, HasDrawn, KnowsAll, JoinsAll}
 use Rattle.turn_lock.specs.Told.{Sat, settled, dealt, dealt_stage, newcomer, given_of, kept_of, joined_of, also_of, gathered, joining_stage, settled_stage, Closes}
 use Rattle.turn_lock.proofs.Histories.{none_before, between, longer_begins, longer_whole, whole_seen}
 use Rattle.turn_lock.proofs.Views.{total_snoc, total_at, seats_stay, inside_length, at_snoc_where}
@@ -51,7 +51,7 @@ module _ {S E F : Type 0} (history : S → Log E) (fixed : S → F) where
       let vs : List V = set s.views id v' in let long : length vs ≡ w.given + 1 = length-set s.views id v' ∙ r.seats in
       let a : total numbers vs + 0 ≡ total numbers s.views + numbers_of v'.stage = moved numbers_of s.views id v v' (Owns g b) at is in let a1 : numbers_of v'.stage ≡ 0 = ap numbers_of st' in let a2 : total numbers (vs ++ new ∷ []) ≡ total numbers vs + 0 = total_snoc numbers vs new in
       let u : total uses vs + 0 ≡ total uses s.views + uses_of v'.stage = moved uses_of s.views id v v' (Owns g b) at is in let u1 : uses_of v'.stage ≡ 0 = ap uses_of st' in let u2 : total uses (vs ++ new ∷ []) ≡ total uses vs + 1 = total_snoc uses vs new in
-      let c : total insides vs + 0 ≡ total insides s.views + entries_of v'.stage = moved entries_of s.views id v v' (Owns g b) at is in let c1 : entries_of v'.stage ≡ 0 = ap entries_of st' in let c2 : total insides (vs ++ new ∷ []) ≡ total insides vs + 0 = total_snoc insides vs new in
+      let c : total turns vs + 0 ≡ total turns s.views + turns_of v'.stage = moved turns_of s.views id v v' (Owns g b) at is in let c1 : turns_of v'.stage ≡ 0 = ap turns_of st' in let c2 : total turns (vs ++ new ∷ []) ≡ total turns vs + 0 = total_snoc turns vs new in
       let a' = r.all_waiting in let u' = r.all_used in let c' = r.all_inside in let most = r.most in
       let there : v ≡ gone → ⊥ = not_gone v (Owns g b) is (λ e. cc) in
       let far : (c : ℕ) → Contains w.kept c → c ≢ id = λ c h same. there (sym (some-injective gone v (sym (r.each_kept c h) ∙ (ap (get_elem? s.views) same ∙ at)))) in
@@ -104,7 +104,7 @@ module _ {S E F : Type 0} (history : S → Log E) (fixed : S → F) where
       let vs : List V = set s.views id v' in let vs' : List V = set vs other gone in
       let a : total numbers vs + 0 ≡ total numbers s.views + numbers_of v'.stage = moved numbers_of s.views id v v' (Owns g b) at is in let a1 : numbers_of v'.stage ≡ 0 = ap numbers_of st' in let a2 : total numbers vs' + 0 ≡ total numbers vs + 0 = moved numbers_of vs other p gone Idle there' idle in
       let u : total uses vs + 0 ≡ total uses s.views + uses_of v'.stage = moved uses_of s.views id v v' (Owns g b) at is in let u1 : uses_of v'.stage ≡ 0 = ap uses_of st' in let u2 : total uses vs' + 1 ≡ total uses vs + 0 = moved uses_of vs other p gone Idle there' idle in
-      let i : total insides vs + 0 ≡ total insides s.views + entries_of v'.stage = moved entries_of s.views id v v' (Owns g b) at is in let i1 : entries_of v'.stage ≡ 0 = ap entries_of st' in let i2 : total insides vs' + 0 ≡ total insides vs + 0 = moved entries_of vs other p gone Idle there' idle in
+      let i : total turns vs + 0 ≡ total turns s.views + turns_of v'.stage = moved turns_of s.views id v v' (Owns g b) at is in let i1 : turns_of v'.stage ≡ 0 = ap turns_of st' in let i2 : total turns vs' + 0 ≡ total turns vs + 0 = moved turns_of vs other p gone Idle there' idle in
       let a' = r.all_waiting in let u' = r.all_used in let i' = r.all_inside in let most = r.most in
       let here : v ≡ gone → ⊥ = not_gone v (Owns g b) is (λ e. cc) in
       let far : (c : ℕ) → Contains w.kept c → c ≢ id = λ c h same. here (sym (some-injective gone v (sym (r.each_kept c h) ∙ (ap (get_elem? s.views) same ∙ at)))) in
@@ -159,7 +159,7 @@ module _ {S E F : Type 0} (history : S → Log E) (fixed : S → F) where
       let st' : v'.stage ≡ Owns g (b ++ c ∷ []) = ap settled_stage is in
       let x : total numbers (set s.views id v') + 0 ≡ total numbers s.views + numbers_of v'.stage = moved numbers_of s.views id me.0 v' (Joins g b c also) at is in let x'' : numbers_of v'.stage ≡ 0 = ap numbers_of st' in
       let u : total uses (set s.views id v') + 0 ≡ total uses s.views + uses_of v'.stage = moved uses_of s.views id me.0 v' (Joins g b c also) at is in let u'' : uses_of v'.stage ≡ 0 = ap uses_of st' in
-      let i : total insides (set s.views id v') + 0 ≡ total insides s.views + entries_of v'.stage = moved entries_of s.views id me.0 v' (Joins g b c also) at is in let i'' : entries_of v'.stage ≡ 0 = ap entries_of st' in
+      let i : total turns (set s.views id v') + 0 ≡ total turns s.views + turns_of v'.stage = moved turns_of s.views id me.0 v' (Joins g b c also) at is in let i'' : turns_of v'.stage ≡ 0 = ap turns_of st' in
       let x' = r.all_waiting in let i' = r.all_inside in let w' : Facts E F = after w w.log w.turn w.drawn w.holder w.away in
       let number : given_of me.0.stage ≡ w.given = ap given_of is ∙ known.2 in let all_used = r.all_used in
       let many : length (b ++ c ∷ []) ≡ length w.kept = ap length known.3 in

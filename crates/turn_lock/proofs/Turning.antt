@@ -11,7 +11,7 @@ use Rattle.atomic_table.proofs.Lists.{one_turn}
 use Rattle.turn_lock.specs.declared.view.Known.{Known}
 use Rattle.turn_lock.specs.declared.view.Stage.TheVariants.{Idle, Waits, Inside}
 use Rattle.turn_lock.specs.History.{Log, Adds, entries_by}
-use Rattle.turn_lock.specs.Turns.{Facts, total, staged, Stands, IsKept, numbers_of, uses_of, entries_of, numbers, uses, insides, IsHome, IsOut, HasDrawn, JoinsAll}
+use Rattle.turn_lock.specs.Turns.{Facts, total, staged, Stands, IsKept, numbers_of, uses_of, turns_of, numbers, uses, turns, IsHome, IsOut, HasDrawn, JoinsAll}
 use Rattle.turn_lock.specs.Told.{Sat, drew, looked, booked, passed, Enters, entered, number_of}
 use Rattle.turn_lock.proofs.Histories.{none_missed, added}
 use Rattle.turn_lock.proofs.Views.{total_has}
@@ -35,7 +35,7 @@ module _ {S E F : Type 0} (history : S → Log E) (fixed : S → F) where
       let known = subst (Stands w id me.0) is (r.each_seat id me.0 at) in
       let a : total numbers (set s.views id v') + 0 ≡ total numbers s.views + 1 = moved numbers_of s.views id me.0 v' Idle at is in
       let b : total uses (set s.views id v') + 1 ≡ total uses s.views + 1 = moved uses_of s.views id me.0 v' Idle at is in
-      let c : total insides (set s.views id v') + 0 ≡ total insides s.views + 0 = moved entries_of s.views id me.0 v' Idle at is in
+      let c : total turns (set s.views id v') + 0 ≡ total turns s.views + 0 = moved turns_of s.views id me.0 v' Idle at is in
       let a' = r.all_waiting in let c' = r.all_inside in
       let still : (n : ℕ) → n < w.drawn → next n ≡ w.holder n = λ n l. ap (λ b. cond b id (w.holder n)) (ne_eqb n w.drawn (λ e. omega arith)) in (
         v',
@@ -57,11 +57,11 @@ module _ {S E F : Type 0} (history : S → Log E) (fixed : S → F) where
   at_home : (s : St) (r : Rule s) (id n : ℕ) (v : V) → get_elem? s.views id ≡ some v → v.stage ≡ Waits n → n ≡ r.facts.turn → IsHome history fixed r.facts s.homes
   at_home s r id n v at is now = let w : Facts E F = r.facts in let known = subst (Stands w id v) is (r.each_seat id v at) in ⊎_elim (λ h. h)
       (λ (o : IsOut history fixed w s.homes). absurd (
-      let all = r.all_inside in let one = o.0 in let t = total_has insides s.views (omega arith) in let some_in = t.3 in
+      let all = r.all_inside in let one = o.0 in let t = total_has turns s.views (omega arith) in let some_in = t.3 in
       let here : w.holder w.turn ≡ t.0 = insider w t.0 t.1 t.1.stage t.3 (r.each_seat t.0 t.1 t.2) in
       let mine : id ≡ t.0 = sym known.4 ∙ (ap w.holder now ∙ here) in
       let same : v ≡ t.1 = some-injective v t.1 (sym at ∙ (ap (get_elem? s.views) mine ∙ t.2)) in
-      let none_in : entries_of t.1.stage ≡ 0 = ap (λ (d : V). entries_of d.stage) (sym same) ∙ ap entries_of is in omega arith
+      let none_in : turns_of t.1.stage ≡ 0 = ap (λ (d : V). turns_of d.stage) (sym same) ∙ ap turns_of is in omega arith
       )) r.slot
 
   enters : (s : St) (r : Rule s) (slots id n : ℕ) (me : Sat S E F) → get_elem? s.views id ≡ some me.0 → me.0.stage ≡ Waits n → n ≡ r.facts.turn
@@ -70,7 +70,7 @@ module _ {S E F : Type 0} (history : S → Log E) (fixed : S → F) where
       let x : S = home.1.0 in let homes = home.1.1 in let hist = home.1.2 in let fix = home.1.3 in let v' : V = (entered history n me x).0 in
       let a : total numbers (set s.views id v') + 1 ≡ total numbers s.views + 1 = moved numbers_of s.views id me.0 v' (Waits n) at is in
       let b : total uses (set s.views id v') + 1 ≡ total uses s.views + 1 = moved uses_of s.views id me.0 v' (Waits n) at is in
-      let c : total insides (set s.views id v') + 0 ≡ total insides s.views + 1 = moved entries_of s.views id me.0 v' (Waits n) at is in
+      let c : total turns (set s.views id v') + 0 ≡ total turns s.views + 1 = moved turns_of s.views id me.0 v' (Waits n) at is in
       let a' = r.all_waiting in let c' = r.all_inside in let none_away = home.0 in (
         x,
         ap (λ l. get_elem? l 0) homes,
@@ -109,7 +109,7 @@ module _ {S E F : Type 0} (history : S → Log E) (fixed : S → F) where
       let apart : (c : ℕ) → (c ≢ id) ⊎ (c ≡ 0) → entries_by c ext ≡ [] = λ c h. new.2 c (λ e. ⊎_elim (λ (ne : c ≢ id). ne (e ∙ known.1.1)) (λ (z : c ≡ 0). let e' : c ≡ id = e ∙ known.1.1 in omega arith) h) in
       let a : total numbers (set s.views id v') + 1 ≡ total numbers s.views + numbers_of me.0.stage = moved numbers_of s.views id me.0 v' (Inside n) at is in let a'' : numbers_of me.0.stage ≡ 1 = ap numbers_of is in
       let b : total uses (set s.views id v') + 1 ≡ total uses s.views + uses_of me.0.stage = moved uses_of s.views id me.0 v' (Inside n) at is in let b'' : uses_of me.0.stage ≡ 1 = ap uses_of is in
-      let c : total insides (set s.views id v') + 1 ≡ total insides s.views + entries_of me.0.stage = moved entries_of s.views id me.0 v' (Inside n) at is in let c'' : entries_of me.0.stage ≡ 1 = ap entries_of is in
+      let c : total turns (set s.views id v') + 1 ≡ total turns s.views + turns_of me.0.stage = moved turns_of s.views id me.0 v' (Inside n) at is in let c'' : turns_of me.0.stage ≡ 1 = ap turns_of is in
       let a' = r.all_waiting in let c' = r.all_inside in let same_length : length me.0.seen ≡ length w.log = ap length known.5 in
       let w' : Facts E F = after w (history x) w.turn w.drawn w.holder w.away in (
         v',
@@ -134,7 +134,7 @@ module _ {S E F : Type 0} (history : S → Log E) (fixed : S → F) where
       let v' : V = staged me.0 Idle in
       let a : total numbers (set s.views id v') + 1 ≡ total numbers s.views + 0 = moved numbers_of s.views id me.0 v' (Inside n) at is in
       let b : total uses (set s.views id v') + 1 ≡ total uses s.views + 1 = moved uses_of s.views id me.0 v' (Inside n) at is in
-      let c : total insides (set s.views id v') + 1 ≡ total insides s.views + 0 = moved entries_of s.views id me.0 v' (Inside n) at is in
+      let c : total turns (set s.views id v') + 1 ≡ total turns s.views + 0 = moved turns_of s.views id me.0 v' (Inside n) at is in
       let a' = r.all_waiting in let c' = r.all_inside in let one = known.6 in let mine : w.holder w.turn ≡ id = ap w.holder known.2 ∙ known.4 in
       let out : s.homes ≡ none ∷ [] = ⊎_elim (λ (h : IsHome history fixed w s.homes). let z = h.0 in absurd (omega arith)) (λ (o : IsOut history fixed w s.homes). o.1) r.slot in
       let fix' : fixed x ≡ w.fixed = let p = known.0.1 in cc in (

@@ -17,7 +17,7 @@ module _ {E : Type 0} where
   HasDrawn n (Inside m) = m ≡ n
   HasDrawn n _ = ⊥
 
-  -- 1 for a seat that has a number
+  -- 1 for a seat that has drawn a number
   abbrev pub numbers_of : Stage E → ℕ
   numbers_of (Waits n) = 1
   numbers_of (Inside n) = 1
@@ -30,10 +30,10 @@ module _ {E : Type 0} where
   uses_of (Inside n) = 1
   uses_of _ = 0
 
-  -- 1 for a seat that may enter
-  abbrev pub entries_of : Stage E → ℕ
-  entries_of (Inside n) = 1
-  entries_of _ = 0
+  -- 1 for the seat whose turn it is
+  abbrev pub turns_of : Stage E → ℕ
+  turns_of (Inside n) = 1
+  turns_of _ = 0
 
   -- past what was seen, the whole list has no entry of a caller that is kept
   abbrev pub HasAllKept : Log E → List ℕ → Log E → Type 0
@@ -84,7 +84,7 @@ module _ {E F : Type 0} where
   abbrev pub IsUsed : Facts E F → ℕ → Known E F → Type 0
   IsUsed w j v = (0 < j) × (v.caller ≡ j) × (entries_by j w.log ≡ entries_by j v.seen)
 
-  -- how a seat stands, by its stage
+  -- How a seat stands, by its stage. One that waits has a number from the turn's up to the one before the next. The one that may enter has the turn's number, has seen the whole list, and the slot is out with it.
   abbrev pub Stands : Facts E F → ℕ → Known E F → Stage E → Type 0
   Stands w j v Gone = Unit {0}
   Stands w j v (Owns g kept) = IsTrueOf w v × (j ≡ 0) × (g ≡ w.given) × (kept ≡ w.kept) × HasAllKept w.log kept v.seen
@@ -102,8 +102,8 @@ module _ {E F : Type 0} where
   abbrev pub uses : Known E F → ℕ
   uses v = uses_of v.stage
 
-  abbrev pub insides : Known E F → ℕ
-  insides v = entries_of v.stage
+  abbrev pub turns : Known E F → ℕ
+  turns v = turns_of v.stage
 
 module _ {S E F : Type 0} (history : S → Log E) (fixed : S → F) where
   -- the slot is at home: the whole list is its state's history, and the fixed data are its state's
@@ -121,7 +121,7 @@ module _ {S E F : Type 0} (history : S → Log E) (fixed : S → F) where
     -- Turns: the seats that wait or may enter have the numbers from the turn's up to the one before the next, each once. The slot is out exactly where one may enter.
     pub all_waiting : total numbers s.views + facts.turn ≡ facts.drawn
     pub all_held : (n : ℕ) → facts.turn ≤ n → n < facts.drawn → (v : Known E F) × (get_elem? s.views (facts.holder n) ≡ some v) × HasDrawn n v.stage
-    pub all_inside : total insides s.views ≡ facts.away
+    pub all_inside : total turns s.views ≡ facts.away
     -- Callers: each of those given, at most 1,024, is in use at its own seat or kept by the owner, and not both.
     pub most : facts.given ≤ 1024
     pub seats : length s.views ≡ facts.given + 1

@@ -79,7 +79,7 @@ fn book<S: Journaled>(board: &Board<S>, place: &mut Place<S>, added: u64)
     board.fetch_add::<Book>(place, ENTRIES, added);
 }
 
-// Gives the state back with the turn, and wakes those that sleep where any seat has a number.
+// Gives the state back with the turn, and wakes those that sleep. Where no seat has a number none sleeps: a seat draws before it looks.
 fn pass_on<S: Journaled>(board: &Board<S>, place: &mut Place<S>)
     requires table { (place.old.table_id ≡ board.now.table_id) × (board.now.table_id.words ≡ 3) }
     requires inside { place.old.me.0.stage ≡ Inside (number_of place.old.me.0.stage) }

@@ -1,5 +1,4 @@
 use Rattle.std.proofs.Common.{◌∙◌, sym, refl, [], append-nil}
-use Rattle.server_core.specs.Progress.{Point, Progress}
 use Rattle.server_core.proofs.Steps.{Progress-one, Appends-none}
 use Rattle.server_core.proofs.serve.answer_one.Goals as goal
 

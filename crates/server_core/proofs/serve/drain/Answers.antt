@@ -1,5 +1,4 @@
 use Rattle.std.proofs.Common.{rules, [], refl, arith}
-use Rattle.server_core.specs.Progress.{Point}
 use Rattle.server_core.proofs.Steps.{Goes-none, Goes-more, Quits-at, Stops-at, Stops-here}
 use Rattle.server_core.proofs.serve.drain.Goals as goal
 

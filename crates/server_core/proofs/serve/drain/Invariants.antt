@@ -1,5 +1,5 @@
-use Rattle.std.proofs.Common.{◌≡◌, ℕ, ◌≤◌, List, [], length}
-use Rattle.server_core.specs.Progress.{Point, Goes}
+use Rattle.std.proofs.Common.{◌≡◌, ◌≤◌, [], length}
+use Rattle.server_core.specs.Progress.{Goes}
 use Rattle.server_core.proofs.serve.drain.Given as goal
 
 abbrev pub invariant-items : goal.invariant-items

@@ -1,6 +1,4 @@
-use Rattle.std.proofs.Common.{◌≡◌, ℕ, ◌-◌, ◌≤◌, List, [], length}
-use Rattle.server_core.specs.Progress.{Point}
-use Rattle.server_core.specs.Served.{Input}
+use Rattle.std.proofs.Common.{◌≡◌, ◌-◌, ◌≤◌, length}
 use Rattle.server_core.proofs.Endings.{Serving}
 use Rattle.server_core.proofs.serve.serve_stream.Given as goal
 

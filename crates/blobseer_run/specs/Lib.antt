@@ -1,0 +1,6 @@
+pub mod Take
+pub mod Flat
+pub mod Status
+pub mod Run
+pub mod Legal
+pub mod Answering

@@ -1,0 +1,106 @@
+ghost use Rattle.std.specs.Prelude.{◌≡◌, map};
+ghost use Rattle.std.specs.Bool.{Decides};
+ghost use Rattle.std.specs.String.{string_bytes};
+ghost use Rattle.ports.specs.Counts.{RoseBy};
+ghost use Rattle.blobseer_run.specs.Run.{Ran, IsCommand};
+ghost use Rattle.blobseer_run.specs.Status.{code_of, Tells};
+
+use crate::answer::answer_script;
+use crate::laws::transcripts_are_legal;
+use crate::lines::keep_whole_lines;
+use crate::status::Status;
+use crate::take::{TakeFault, take_all};
+use ports::stream::{Sink, Source};
+use std::alloc::Global;
+use std::sync::Wait;
+use std::thread::Threads;
+
+// The most bytes that a run takes of its input.
+const INPUT_LIMIT: u64 = 4_294_967_296;
+
+// Whether the words are the command's.
+fn is_command(words: &[String]) -> bool
+    ensures { Decides result (IsCommand (map string_bytes words.now)) }
+{
+    match words {
+        [word] => word.as_str() == "run",
+        _ => false,
+    }
+}
+
+// Takes the whole script, and answers it. What was taken before a fault, or before the limit, is
+// answered as far as its lines are whole.
+fn run_script<R: Wait + Threads + Sync, S: Source, K: Sink>(
+    rt: &R,
+    alloc: Global,
+    script: &mut S,
+    out: &mut K,
+) -> Status
+    ensures ran { Ran (Unit {0}) (S.given script.old) (S.left script.old) (S.given script.new) (S.left script.new)
+        (K.written out.old) (K.written out.new)
+        (record { reads = S.read_faults script.old; ends = S.ends script.old; writes = K.write_faults out.old })
+        (record { reads = S.read_faults script.new; ends = S.ends script.new; writes = K.write_faults out.new })
+        (code_of result) }
+    ensures read_faults { RoseBy 0 (S.read_faults script.old) (S.read_faults script.new) }
+    ensures write_faults { RoseBy 0 (K.write_faults out.old) (K.write_faults out.new) }
+{
+    transcripts_are_legal();
+    match take_all(alloc, script, INPUT_LIMIT) {
+        Ok(bytes) => answer_script(rt, alloc, bytes.into_vec(), out).status_or(Status::Done),
+        Err(TakeFault::Failed(bytes)) => {
+            let mut lines = bytes.into_vec();
+            keep_whole_lines(&mut lines);
+            answer_script(rt, alloc, lines, out).status_or(Status::ReadFault)
+        }
+        Err(TakeFault::TooLong(bytes)) => {
+            let mut lines = bytes.into_vec();
+            keep_whole_lines(&mut lines);
+            answer_script(rt, alloc, lines, out).status_or(Status::InputTooLong)
+        }
+        Err(TakeFault::NoMemory) => Status::OutOfMemory,
+    }
+}
+
+/// Does what the program does: with the one word `run` it reads a script to its end, answers it by one
+/// session of a new store, and writes the replies. It answers the number that the process ends with.
+///
+/// | number | when |
+/// |---|---|
+/// | 0 | the input was read to its end and answered |
+/// | 1 | the words aren't the one word `run` |
+/// | 3 | a read of `script` failed; the lines before it that were ended are answered |
+/// | 4 | a write on `out` failed |
+/// | 5 | no memory was found |
+/// | 7 | 4,294,967,296 bytes were taken; the lines in them that were ended are answered |
+///
+/// Each but 0 writes its line on `err`, where a fault changes nothing.
+pub fn run<R: Wait + Threads + Sync, S: Source, K: Sink, E: Sink>(
+    rt: &R,
+    alloc: Global,
+    words: &[String],
+    script: &mut S,
+    out: &mut K,
+    err: &mut E,
+) -> u8
+    // What it took and wrote, and how it ended.
+    ensures ran { Ran (IsCommand (map string_bytes words.now))
+        (S.given script.old) (S.left script.old) (S.given script.new) (S.left script.new)
+        (K.written out.old) (K.written out.new)
+        (record { reads = S.read_faults script.old; ends = S.ends script.old; writes = K.write_faults out.old })
+        (record { reads = S.read_faults script.new; ends = S.ends script.new; writes = K.write_faults out.new })
+        result }
+
+    // What it put on the error output.
+    ensures tells { Tells result (E.written err.old) (E.written err.new) (E.write_faults err.old) (E.write_faults err.new) }
+
+    // Its counts never fall.
+    ensures read_faults { RoseBy 0 (S.read_faults script.old) (S.read_faults script.new) }
+    ensures write_faults { RoseBy 0 (K.write_faults out.old) (K.write_faults out.new) }
+    ensures error_faults { RoseBy 0 (E.write_faults err.old) (E.write_faults err.new) }
+{
+    if !is_command(words) {
+        return Status::WordsRefused.end(err);
+    }
+    let status = run_script(rt, alloc, script, out);
+    status.end(err)
+}

@@ -1,0 +1,64 @@
+ghost use Rattle.std.specs.Prelude.{◌≡◌};
+ghost use Rattle.ports.specs.Counts.{RoseBy};
+ghost use Rattle.blobseer_run.specs.Status.{code_of, error_line, Tells};
+
+use ports::stream::Sink;
+
+/// How a run ended.
+#[derive(Clone, Copy, Debug, PartialEq, Eq)]
+pub(crate) enum Status {
+    /// The input was read to its end, and answered.
+    Done,
+    /// The words aren't those of a command.
+    WordsRefused,
+    /// A read failed.
+    ReadFault,
+    /// A write failed.
+    WriteFault,
+    /// No memory was found.
+    OutOfMemory,
+    /// As much input as a run takes was taken.
+    InputTooLong,
+}
+
+impl Status {
+    ghost use Rattle.blobseer_run.specs.Status.{code_of, error_line};
+
+    /// The number that a process ends with.
+    pub(crate) fn code(self) -> u8
+        ensures { result ≡ code_of self }
+    {
+        match self {
+            Status::Done => 0,
+            Status::WordsRefused => 1,
+            Status::ReadFault => 3,
+            Status::WriteFault => 4,
+            Status::OutOfMemory => 5,
+            Status::InputTooLong => 7,
+        }
+    }
+
+    // What it puts on the error output.
+    fn line(self) -> &'static [u8]
+        ensures { result.now ≡ error_line (code_of self) }
+    {
+        match self {
+            Status::Done => b"",
+            Status::WordsRefused => b"blobseer: words refused\n",
+            Status::ReadFault => b"blobseer: read fault\n",
+            Status::WriteFault => b"blobseer: write fault\n",
+            Status::OutOfMemory => b"blobseer: out of memory\n",
+            Status::InputTooLong => b"blobseer: input too long\n",
+        }
+    }
+
+    /// Writes its line on the error output, where a fault is let be, and gives its number.
+    pub(crate) fn end<E: Sink>(self, err: &mut E) -> u8
+        ensures code { result ≡ code_of self }
+        ensures tells { Tells result (E.written err.old) (E.written err.new) (E.write_faults err.old) (E.write_faults err.new) }
+        ensures write_faults { RoseBy 0 (E.write_faults err.old) (E.write_faults err.new) }
+    {
+        let _ = err.write(self.line());
+        self.code()
+    }
+}

@@ -1,0 +1,5 @@
+pub mod Fields
+pub mod Requests
+pub mod Lines
+pub mod Said
+pub mod Begun

@@ -1,0 +1,17 @@
+//! The lines of a script: which requests they spell, and how replies are written.
+//!
+//! A script is read by `ScriptDialect`. What it hears is the definition `heard` of the bytes that it was fed,
+//! wherever they were cut into pieces, and a reply is written as `said` tells.
+#![tactic(auto)]
+
+ghost use Rattle.std.specs.Prelude.{◌≡◌};
+
+mod cut;
+mod dialect;
+mod fields;
+mod line;
+mod piece;
+mod reply;
+mod request;
+
+pub use dialect::ScriptDialect;

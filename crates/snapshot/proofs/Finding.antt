@@ -1,0 +1,124 @@
+-- The nodes of a row that is that of its update.
+use Rattle.std.proofs.Common.{◌≡◌, ℕ, zero, suc, ◌^◌, ◌<◌, ◌≤◌, List, length, map, arith, ap, sym, ◌∙◌, subst, get_or}
+use Rattle.std.specs.Prelude.{Option, Some, None, MatchOption, IfSome, IfNone, slice_get}
+use Rattle.std.specs.List.{Contains}
+use Rattle.std.proofs.lemmas.List.{length-map, get_or-map}
+use Rattle.std.proofs.lemmas.Option.{slice_get-get_or}
+use Rattle.blob_model.specs.Content.{Update, size_of}
+use Rattle.tree_geom.specs.declared.range.Range.{Range}
+use Rattle.tree_geom.specs.declared.touch.Touch.{Touch}
+use Rattle.tree_geom.specs.declared.node.Node.{Node}
+use Rattle.tree_geom.specs.declared.node.Node.TheVariants.{Inner}
+use Rattle.tree_geom.specs.declared.node.NodeKey.{NodeKey}
+use Rattle.range_log.specs.Log.{HasNode}
+use Rattle.range_log.specs.Extents.{Extent, InBounds, touches}
+use Rattle.range_log.specs.Updates.{extents, Replayable}
+use Rattle.range_log.specs.Rows.{node_of, row_of, row_keys_of}
+use Rattle.range_log.specs.Laws.{RowKeysExact, ExtentsStand}
+use Rattle.node_store.specs.Placed.{PlacedNode}
+use Rattle.node_store.specs.Rows.{UpdateRow, IsNodeFor, HasNoNodeFor}
+use Rattle.std.proofs.lemmas.Nat.{pow_pos}
+use Rattle.tree_geom.specs.Geometry.{IsPageSize}
+use Rattle.snapshot.specs.Versions.{Version, row_at, updates_of, pairs_of, IsRowOf, IsVersion, IsFound, HasNodeFor}
+use Rattle.snapshot.proofs.Lists.{length-updates, length-extents, touch_is}
+
+abbrev pub pair_of : PlacedNode → Range × Node
+pair_of n = (n.key.range, n.node)
+
+no_placed : Range → PlacedNode
+no_placed range = record { key = record { blob = 0; version = 0; range = range }; node = Inner 0 0; spot = record { shard = 0; shelf = 0; mark = 0 } }
+
+-- ---- what a function makes of the elements of a list
+contains_made : {X Y : Type 0} (f : X → Y) (xs : List X) (x : X) → Contains xs x → Contains (map f xs) (f x)
+contains_made f xs x (k, lt, e) = (k, omega (arith, length-map xs f), get_or-map f xs k x (f x) lt ∙ ap f e)
+
+made_from : {X Y : Type 0} (f : X → Y) (xs : List X) (d : X) (y : Y) → Contains (map f xs) y → (k : ℕ) × (k < length xs) × (f (get_or xs k d) ≡ y)
+made_from f xs d y (k, lt, e) =
+    let within : k < length xs = omega (arith, length-map xs f) in
+    (k, within, sym (get_or-map f xs k d y within) ∙ e)
+
+-- ---- a row's pairs
+node_with : ℕ → List Extent → ℕ → Range → Range × Node
+node_with p xs j r = (r, node_of p xs j r)
+
+-- a node of the row stands in the row of the update
+in_row : (p j : ℕ) (xs : List Extent) (row : UpdateRow) (placed : PlacedNode) → pairs_of row ≡ row_of p xs j → Contains row.nodes placed
+    → Contains (row_keys_of p (touches p xs) j) placed.key.range × (placed.node ≡ node_of p xs j placed.key.range)
+unfolding node_with
+in_row p j xs row placed is among =
+    let C : List (Range × Node) → Type 0 = λ l. Contains l (pair_of placed) in
+    let here : Contains (row_of p xs j) (pair_of placed) = subst C is (contains_made pair_of row.nodes placed among) in
+    let keys : List Range = row_keys_of p (touches p xs) j in
+    let from : (k : ℕ) × (k < length keys) × (node_with p xs j (get_or keys k placed.key.range) ≡ pair_of placed) = made_from (node_with p xs j) keys placed.key.range (pair_of placed) here in
+    let same : get_or keys from.0 placed.key.range ≡ placed.key.range = ap (λ (e : Range × Node). e.0) from.2 in
+    ((from.0, from.1, same), sym (ap (λ (e : Range × Node). e.1) from.2) ∙ ap (node_of p xs j) same)
+
+-- a range of the row of the update has a node in the row
+of_row : (p j : ℕ) (xs : List Extent) (row : UpdateRow) (range : Range) → pairs_of row ≡ row_of p xs j → Contains (row_keys_of p (touches p xs) j) range
+    → (k : ℕ) × (n : PlacedNode) × (slice_get row.nodes k ≡ Some n) × (n.key.range ≡ range)
+unfolding node_with
+of_row p j xs row range is among =
+    let keys : List Range = row_keys_of p (touches p xs) j in
+    let C : List (Range × Node) → Type 0 = λ l. Contains l (node_with p xs j range) in
+    let here : Contains (pairs_of row) (node_with p xs j range) = subst C (sym is) (contains_made (node_with p xs j) keys range among) in
+    let from : (k : ℕ) × (k < length row.nodes) × (pair_of (get_or row.nodes k (no_placed range)) ≡ node_with p xs j range) = made_from pair_of row.nodes (no_placed range) (node_with p xs j range) here in
+    (from.0, get_or row.nodes from.0 (no_placed range), slice_get-get_or row.nodes from.0 (no_placed range) from.1, ap (λ (e : Range × Node). e.0) from.2)
+
+-- ---- what a search in the row finds
+pub found_node : RowKeysExact → (p j : ℕ) (xs : List Extent) (row : UpdateRow) (range : Range) (placed : PlacedNode) → 1 ≤ p → InBounds xs → 1 ≤ j → j ≤ length xs
+    → pairs_of row ≡ row_of p xs j → IsNodeFor row range placed → HasNode p (touches p xs) j range × (placed.node ≡ node_of p xs j range)
+found_node exact p j xs row range placed pos bounds some le is found =
+    let in' = in_row p j xs row placed is found.among in
+    let same : placed.key.range ≡ range = ap (λ (k : NodeKey). k.range) found.key in
+    let P : Range → Type 0 = λ r. HasNode p (touches p xs) j r × (placed.node ≡ node_of p xs j r) in
+    subst P same ((exact p j xs placed.key.range pos bounds some le).0 in'.0, in'.1)
+
+pub found_none : RowKeysExact → (p j : ℕ) (xs : List Extent) (row : UpdateRow) (range : Range) → 1 ≤ p → InBounds xs → 1 ≤ j → j ≤ length xs
+    → pairs_of row ≡ row_of p xs j → HasNoNodeFor row range → HasNode p (touches p xs) j range → ⊥
+found_none exact p j xs row range pos bounds some le is none has =
+    let at = of_row p j xs row range is ((exact p j xs range pos bounds some le).1 has) in
+    none at.0 at.1 at.2 at.3
+
+-- ---- sizes
+pub touch_size : ExtentsStand → (p k : ℕ) (us : List Update) (row : UpdateRow) → Replayable us → 1 ≤ k → k ≤ length us → IsRowOf p us k row → row.touch.size ≡ size_of us k
+touch_size stand p zero us row ok some le is = absurd (omega arith)
+touch_size stand p (suc k) us row ok some le is =
+    ap (λ (t : Touch). t.size) (is.touch ∙ touch_is p (extents us) k (omega (arith, length-extents us))) ∙ (stand us ok).2 (suc k) le
+
+-- ---- what a snapshot finds
+pub page_pos : (p : ℕ) → IsPageSize p → 1 ≤ p
+page_pos p is = let pos : 0 < 2 ^ is.0 = pow_pos is.0 in omega (arith, is.1)
+
+pub version_finds : RowKeysExact → ExtentsStand → (s : Version) (j : ℕ) (range : Range) (row : UpdateRow) (placed : PlacedNode) → IsVersion s → row ≡ row_at s.rows j
+    → 1 ≤ j → j ≤ length s.rows → IsNodeFor row range placed → IsFound s j range placed
+version_finds exact stand s j range row placed is same some le found =
+    let us : List Update = updates_of s in
+    let own : IsRowOf s.page_size us j (row_at s.rows j) = is.rows j some le in
+    let P : UpdateRow → Type 0 = λ r. IsNodeFor r range placed in
+    let at : IsNodeFor (row_at s.rows j) range placed = subst P same found in
+    let in_list : j ≤ length (extents us) = omega (arith, length-extents us, length-updates s.page_size s.rows) in
+    let node = found_node exact s.page_size j (extents us) (row_at s.rows j) range placed (page_pos s.page_size is.page_size) (stand us is.replayable).0 some in_list own.nodes at in
+    let named : ℕ → NodeKey = λ v. record { blob = (row_at s.rows j).blob; version = v; range = range } in
+    record {
+      has = node.0;
+      node = node.1;
+      key = at.key ∙ ap named own.version;
+      among = at.among;
+    }
+
+pub version_finds_none : RowKeysExact → ExtentsStand → (s : Version) (j : ℕ) (range : Range) (row : UpdateRow) → IsVersion s → row ≡ row_at s.rows j
+    → 1 ≤ j → j ≤ length s.rows → HasNoNodeFor row range → HasNodeFor s j range → ⊥
+version_finds_none exact stand s j range row is same some le none has =
+    let us : List Update = updates_of s in
+    let own : IsRowOf s.page_size us j (row_at s.rows j) = is.rows j some le in
+    let P : UpdateRow → Type 0 = λ r. HasNoNodeFor r range in
+    let in_list : j ≤ length (extents us) = omega (arith, length-extents us, length-updates s.page_size s.rows) in
+    found_none exact s.page_size j (extents us) (row_at s.rows j) range (page_pos s.page_size is.page_size) (stand us is.replayable).0 some in_list own.nodes (subst P same none) has
+
+pub none_then : {A : Type 0} (o : Option A) (P R : Type 0) (Q : A → Type 0) → (P → R) → MatchOption o P Q → IfNone o R
+none_then None P R Q f h = f h
+none_then (Some x) P R Q f h = tt
+
+pub some_then : {A : Type 0} (o : Option A) (P : Type 0) (Q S : A → Type 0) → ((x : A) → Q x → S x) → MatchOption o P Q → IfSome o S
+some_then None P Q S f h = tt
+some_then (Some x) P Q S f h = f x h

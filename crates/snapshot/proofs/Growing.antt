@@ -1,0 +1,157 @@
+-- A version with one more row, and an older version.
+use Rattle.std.proofs.Common.{◌≡◌, ℕ, suc, ◌+◌, ◌*◌, ◌^◌, ◌<◌, ◌≤◌, List, [], ◌∷◌, ◌++◌, length, map, arith, ap, sym, ◌∙◌, subst, inl, inr, length-append}
+use Rattle.std.proofs.lemmas.Bool.{cases_lt}
+use Rattle.std.proofs.lemmas.List.{map-append}
+use Rattle.blob_model.specs.Content.{Update, size_of}
+use Rattle.tree_geom.specs.declared.range.Range.{Range}
+use Rattle.tree_geom.specs.declared.node.Node.{Node}
+use Rattle.range_log.specs.Log.{touch_at}
+use Rattle.range_log.specs.Extents.{Extent, touches}
+use Rattle.range_log.specs.Updates.{extents, extent_of, Replayable}
+use Rattle.range_log.specs.Rows.{node_of, row_of, row_keys_of}
+use Rattle.range_log.specs.Laws.{RowsStay, ExtentsGrow}
+use Rattle.page_store.specs.Stored.{Cut, joined}
+use Rattle.node_store.specs.Rows.{UpdateRow}
+use Rattle.snapshot.specs.Versions.{Version, row_at, written, updates, bytes_of, IsRowOf, IsVersion}
+use Rattle.snapshot.proofs.Lists.{row_at_front, row_at_new, length-updates, update_at_front, size_front, extent_of_front, length-extents, map_same}
+
+-- a row stays that of its update in a longer list
+pub touch_stays : RowsStay → (p k : ℕ) (xs more : List Extent) → k ≤ length xs → touch_at (touches p (xs ++ more)) k ≡ touch_at (touches p xs) k
+touch_stays stay p k xs more le = (stay p k xs more le).0
+
+pub row_stays : RowsStay → (p k : ℕ) (xs more : List Extent) → k ≤ length xs → row_of p (xs ++ more) k ≡ row_of p xs k
+row_stays stay p k xs more le =
+    let same = stay p k xs more le in
+    let pair : List Extent → Range → Range × Node = λ ys r. (r, node_of p ys k r) in
+    ap (map (pair (xs ++ more))) same.1
+    ∙ map_same (pair (xs ++ more)) (pair xs) (row_keys_of p (touches p xs) k) (λ r. ap (λ (n : Node). (r, n)) (same.3 r))
+
+-- ---- the same of updates
+module _ (stay : RowsStay) (grow : ExtentsGrow) where
+  touch_front : (p k : ℕ) (us more : List Update) → k ≤ length us → touch_at (touches p (extents (us ++ more))) k ≡ touch_at (touches p (extents us)) k
+  touch_front p k us more le =
+      let rest = grow us more in
+      ap (λ xs. touch_at (touches p xs) k) rest.1 ∙ touch_stays stay p k (extents us) rest.0 (omega (arith, length-extents us))
+
+  row_front : (p k : ℕ) (us more : List Update) → k ≤ length us → row_of p (extents (us ++ more)) k ≡ row_of p (extents us) k
+  row_front p k us more le =
+      let rest = grow us more in
+      ap (λ xs. row_of p xs k) rest.1 ∙ row_stays stay p k (extents us) rest.0 (omega (arith, length-extents us))
+
+  pub IsRowOf-longer : (p k : ℕ) (us more : List Update) (row : UpdateRow) → k ≤ length us → IsRowOf p us k row → IsRowOf p (us ++ more) k row
+  IsRowOf-longer p k us more row le is = record {
+    version = is.version;
+    touch = is.touch ∙ sym (touch_front p k us more le);
+    nodes = is.nodes ∙ sym (row_front p k us more le);
+    bytes = is.bytes ∙ ap (λ (u : Update). u.bytes) (sym (update_at_front us more k le));
+    page_size = is.page_size;
+  }
+
+  pub IsRowOf-shorter : (p k : ℕ) (us more : List Update) (row : UpdateRow) → k ≤ length us → IsRowOf p (us ++ more) k row → IsRowOf p us k row
+  IsRowOf-shorter p k us more row le is = record {
+    version = is.version;
+    touch = is.touch ∙ touch_front p k us more le;
+    nodes = is.nodes ∙ row_front p k us more le;
+    bytes = is.bytes ∙ ap (λ (u : Update). u.bytes) (update_at_front us more k le);
+    page_size = is.page_size;
+  }
+
+Replayable-shorter : (us more : List Update) → Replayable (us ++ more) → Replayable us
+Replayable-shorter us more ok k lt =
+    let long : k < length (us ++ more) = omega (arith, length-append us more) in
+    let was = ok k long in
+    let e : extent_of (us ++ more) (suc k) ≡ extent_of us (suc k) = extent_of_front us more k lt in
+    let s : size_of (us ++ more) k ≡ size_of us k = size_front us more k (omega arith) in
+    let P : Extent → Type 0 = λ x. (x.at ≤ size_of (us ++ more) k) × (1 ≤ x.len) in
+    let Q : ℕ → Type 0 = λ n. ((extent_of us (suc k)).at ≤ n) × (1 ≤ (extent_of us (suc k)).len) in
+    subst Q s (subst P e was)
+
+updates-append : (p : ℕ) (rows more : List UpdateRow) → updates p (rows ++ more) ≡ updates p rows ++ updates p more
+updates-append p rows more = map-append (written p) rows more
+
+-- the version of the first rows
+abbrev pub of_rows : ℕ → ℕ → List UpdateRow → Version
+of_rows blob p rows = record { blob = blob; page_size = p; rows = rows }
+
+pub IsVersion-front : RowsStay → ExtentsGrow → (blob p : ℕ) (rows more : List UpdateRow) → IsVersion (of_rows blob p (rows ++ more)) → IsVersion (of_rows blob p rows)
+IsVersion-front stay grow blob p rows more is =
+    let us : List Update = updates p rows in
+    let rest : List Update = updates p more in
+    let join : updates p (rows ++ more) ≡ us ++ rest = updates-append p rows more in
+    let count : length (rows ++ more) ≡ length rows + length more = length-append rows more in
+    let told : length us ≡ length rows = length-updates p rows in
+    record {
+      page_size = is.page_size;
+      counted = omega (arith, is.counted);
+      replayable = Replayable-shorter us rest (rw join at is.replayable);
+      rows = λ k some le.
+          let long : k ≤ length (rows ++ more) = omega arith in
+          let P : List Update → Type 0 = λ l. IsRowOf p l k (row_at (rows ++ more) k) in
+          let R : UpdateRow → Type 0 = λ row. IsRowOf p us k row in
+          subst R (row_at_front rows more k le) (IsRowOf-shorter stay grow p k us rest (row_at (rows ++ more) k) (omega arith) (subst P join (is.rows k some long)));
+      paged = λ k some le.
+          let long : k ≤ length (rows ++ more) = omega arith in
+          let R : UpdateRow → Type 0 = λ row. length (bytes_of row) ≤ length row.pages.pages * p in
+          subst R (row_at_front rows more k le) (is.paged k some long);
+      fits = λ v le.
+          let long : v ≤ length (rows ++ more) = omega arith in
+          let P : List Update → Type 0 = λ l. size_of l v ≤ 2 ^ 40 in
+          let f : size_of (us ++ rest) v ≤ 2 ^ 40 = subst P join (is.fits v long) in
+          omega (arith, size_front us rest v (omega arith));
+    }
+
+pub IsVersion-push : RowsStay → ExtentsGrow → (blob p : ℕ) (rows : List UpdateRow) (row : UpdateRow) → IsVersion (of_rows blob p rows) → length rows < 1048576
+    → IsRowOf p (updates p (rows ++ row ∷ [])) (length rows + 1) row → Replayable (updates p (rows ++ row ∷ []))
+    → length (bytes_of row) ≤ length row.pages.pages * p → size_of (updates p (rows ++ row ∷ [])) (length rows + 1) ≤ 2 ^ 40
+    → IsVersion (of_rows blob p (rows ++ row ∷ []))
+IsVersion-push stay grow blob p rows row is room new ok paged fits =
+    let us : List Update = updates p rows in
+    let rest : List Update = written p row ∷ [] in
+    let all : List UpdateRow = rows ++ row ∷ [] in
+    let join : updates p all ≡ us ++ rest = updates-append p rows (row ∷ []) in
+    let count : length all ≡ length rows + 1 = length-append rows (row ∷ []) in
+    let told : length us ≡ length rows = length-updates p rows in
+    let next : length rows + 1 ≡ suc (length rows) = omega arith in
+    let newest : row_at all (length rows + 1) ≡ row = ap (row_at all) next ∙ row_at_new rows row in
+    let last : (k : ℕ) → length rows < k → k ≤ length all → k ≡ length rows + 1 = λ k lt le. omega arith in
+    record {
+      page_size = is.page_size;
+      counted = omega arith;
+      replayable = ok;
+      rows = λ k some le. elim (cases_lt (length rows) k) [
+        | inl past ↦
+            let P : ℕ → Type 0 = λ n. IsRowOf p (updates p all) n (row_at all n) in
+            let R : UpdateRow → Type 0 = λ r. IsRowOf p (updates p all) (length rows + 1) r in
+            subst P (sym (last k past le)) (subst R (sym newest) new)
+        | inr old ↦
+            let P : List Update → Type 0 = λ l. IsRowOf p l k (row_at all k) in
+            let R : UpdateRow → Type 0 = λ r. IsRowOf p (us ++ rest) k r in
+            subst P (sym join) (subst R (sym (row_at_front rows (row ∷ []) k old)) (IsRowOf-longer stay grow p k us rest (row_at rows k) (omega arith) (is.rows k some old)))
+      ];
+      paged = λ k some le. elim (cases_lt (length rows) k) [
+        | inl past ↦
+            let P : ℕ → Type 0 = λ n. length (bytes_of (row_at all n)) ≤ length (row_at all n).pages.pages * p in
+            let R : UpdateRow → Type 0 = λ r. length (bytes_of r) ≤ length r.pages.pages * p in
+            subst P (sym (last k past le)) (subst R (sym newest) paged)
+        | inr old ↦
+            let R : UpdateRow → Type 0 = λ r. length (bytes_of r) ≤ length r.pages.pages * p in
+            subst R (sym (row_at_front rows (row ∷ []) k old)) (is.paged k some old)
+      ];
+      fits = λ v le. elim (cases_lt (length rows) v) [
+        | inl past ↦
+            let P : ℕ → Type 0 = λ n. size_of (updates p all) n ≤ 2 ^ 40 in
+            subst P (sym (last v past le)) fits
+        | inr old ↦
+            let P : List Update → Type 0 = λ l. size_of l v ≤ 2 ^ 40 in
+            let f : size_of us v ≤ 2 ^ 40 = is.fits v old in
+            subst P (sym join) (omega (arith, size_front us rest v (omega arith)))
+      ];
+    }
+
+-- the pages hold no more than their number times the page size
+pub paged_of : (pages told : Cut) (count p : ℕ) → pages ≡ told → count ≡ length told.pages → length (joined told.pages) ≤ count * told.page_size → pages.page_size ≡ p
+    → length (joined pages.pages) ≤ length pages.pages * p
+paged_of pages told count p same is enough size =
+    let P : Cut → Type 0 = λ c. c.page_size ≡ p → length (joined c.pages) ≤ length c.pages * p in
+    let told_pages : P told = λ e. rw (← e, ← is) enough in
+    subst P (sym same) told_pages size

@@ -1,0 +1,20 @@
+use Rattle.std.proofs.Common.{◌≤◌, length, arith, ap, ◌∙◌}
+use Rattle.tree_geom.specs.declared.touch.Touch.{Touch}
+use Rattle.node_store.specs.Rows.{UpdateRow}
+use Rattle.snapshot.specs.Versions.{updates_of, row_at}
+use Rattle.snapshot.proofs.Lists.{length-updates}
+use Rattle.snapshot.proofs.Finding.{touch_size}
+use Rattle.snapshot.proofs.version.Snapshot.size_at.Goals as goal
+
+pub returns-clause-size : goal.returns-clause-size
+returns-clause-size c =
+    let s = c.args.self.now in
+    let is = c.row.ensures.stands in
+    let some : 1 ≤ c.args.j = omega (arith, c.if-j-eq0.false) in
+    let le : c.args.j ≤ length (updates_of s) = omega (arith, length-updates s.page_size s.rows, c.requires) in
+    ap (λ (t : Touch). t.size) c.touch.ensures
+    ∙ ap (λ (r : UpdateRow). r.touch.size) c.row.ensures.this
+    ∙ touch_size c.page_bytes_stay.ensures.extents s.page_size c.args.j (updates_of s) (row_at s.rows c.args.j) is.replayable some le (is.rows c.args.j some c.requires)
+
+pub returns-clause-fits : goal.returns-clause-fits
+returns-clause-fits c = omega (arith, c.row.ensures.stands.fits c.args.j c.requires, returns-clause-size c)

@@ -1,0 +1,23 @@
+-- What ties rows to the updates of a blob.
+use Rattle.std.specs.Prelude.{◌≡◌, ℕ, ◌≤◌, List, length, take}
+use Rattle.blob_model.specs.Content.{Update, content}
+use Rattle.range_log.specs.Updates.{update_at, extents, Replayable}
+use Rattle.node_store.specs.Rows.{UpdateRow}
+use Rattle.snapshot.specs.Versions.{row_at, updates, IsRowOf}
+
+-- the rows are those of the first of these updates
+pub record AreRowsOf (p : ℕ) (us : List Update) (rows : List UpdateRow) : Type 0 where
+  pub few : length rows ≤ length us
+  pub each : (k : ℕ) → 1 ≤ k → k ≤ length rows → IsRowOf p us k (row_at rows k)
+
+-- what the rows tell is as good as those updates: each falls in the same place with the same bytes, and leaves the same
+-- content, and the rows are those of what they tell
+pub record TellUpdates (p : ℕ) (us : List Update) (rows : List UpdateRow) : Type 0 where
+  pub fall : extents (updates p rows) ≡ take (length rows) (extents us)
+  pub bytes : (k : ℕ) → k ≤ length rows → (update_at (updates p rows) k).bytes ≡ (update_at us k).bytes
+  pub leave : (v : ℕ) → v ≤ length rows → content (updates p rows) v ≡ content us v
+  pub replayable : Replayable (updates p rows)
+  pub own : AreRowsOf p (updates p rows) rows
+
+abbrev pub RowsTell : Type 0
+RowsTell = (p : ℕ) (us : List Update) (rows : List UpdateRow) → 1 ≤ p → Replayable us → AreRowsOf p us rows → TellUpdates p us rows

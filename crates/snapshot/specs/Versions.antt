@@ -1,0 +1,130 @@
+-- What a clause sees of a snapshot, and the updates that its rows tell.
+use Rattle.std.specs.Prelude.{◌≡◌, ℕ, ◌+◌, ◌*◌, ◌^◌, ◌≤◌, ◌==◌, ◌&&◌, zero, suc, Bool, if◌then◌else◌, List, [], ◌∷◌, ◌++◌, length, take, map, slice_index_or, All}
+use Rattle.std.specs.List.{Contains}
+use Rattle.boxcar.specs.Table.{Shelves}
+use Rattle.blob_model.specs.Content.{Update, size_of}
+use Rattle.blob_model.specs.declared.call.Place.TheVariants.{WriteAt}
+use Rattle.tree_geom.specs.declared.range.Range.{Range}
+use Rattle.tree_geom.specs.declared.node.Node.{Node}
+use Rattle.tree_geom.specs.declared.node.Node.TheVariants.{Inner, Leaf}
+use Rattle.tree_geom.specs.declared.node.NodeKey.{NodeKey}
+use Rattle.tree_geom.specs.Geometry.{page_range, no_touch, span_of, IsPageSize}
+use Rattle.range_log.specs.Log.{HasNode, touch_at}
+use Rattle.range_log.specs.Extents.{touches}
+use Rattle.range_log.specs.Updates.{update_at, extents, Replayable}
+use Rattle.range_log.specs.Rows.{node_of, row_of}
+use Rattle.page_store.specs.House.{House}
+use Rattle.page_store.specs.Stored.{joined}
+use Rattle.node_store.specs.Placed.{PlacedNode}
+use Rattle.node_store.specs.Rows.{UpdateRow, empty_row, IsRowIn}
+
+-- a version: the blob under whose id it is read, its page size, and the rows of its updates, update 1 first
+pub record Version : Type 0 where
+  pub blob : ℕ
+  pub page_size : ℕ
+  pub rows : List UpdateRow
+
+-- what stands in place of row 0, which there is none of
+abbrev pub no_row : UpdateRow
+no_row = empty_row 0 0 no_touch 0 record { page_size = 0; room = 0; pages = [] }
+
+-- the row of update j, from 1
+abbrev pub row_at : List UpdateRow → ℕ → UpdateRow
+row_at rows zero = no_row
+row_at rows (suc j) = slice_index_or rows j no_row
+
+-- the version after s, with the row of its update
+abbrev pub next_version : Version → UpdateRow → Version
+next_version s row = record s { rows = s.rows ++ row ∷ [] }
+
+-- an older version
+abbrev pub older_version : Version → ℕ → Version
+older_version s v = record s { rows = take v s.rows }
+
+-- the same version, read under another blob's id
+abbrev pub under_blob : Version → ℕ → Version
+under_blob s blob = record s { blob = blob }
+
+-- ---- what a row tells of its update
+-- the row's nodes, each beside its range
+abbrev pub pairs_of : UpdateRow → List (Range × Node)
+pairs_of row = map (λ (n : PlacedNode). (n.key.range, n.node)) row.nodes
+
+-- the bytes of the row's pages
+abbrev pub bytes_of : UpdateRow → List ℕ
+bytes_of row = joined row.pages.pages
+
+-- the byte of the page at which a leaf's own bytes begin
+abbrev pub start_of : Node → ℕ
+start_of (Inner left right) = 0
+start_of (Leaf start count first second back) = start
+
+abbrev pub same_range : Range → Range → Bool
+same_range a b = a.offset == b.offset && a.size == b.size
+
+-- where the own bytes of the leaf of that range begin in it
+abbrev pub start_in : List (Range × Node) → Range → ℕ
+start_in [] range = 0
+start_in (pair ∷ pairs) range = if same_range pair.0 range then start_of pair.1 else start_in pairs range
+
+-- the update that the row tells: its bytes, written at the first touched page and the start of that page's leaf
+abbrev pub written : ℕ → UpdateRow → Update
+written p row = record {
+  caller = 0;
+  place = WriteAt (row.touch.first * p + start_in (pairs_of row) (page_range p row.touch.first));
+  bytes = bytes_of row;
+}
+
+-- the updates that rows tell
+abbrev pub updates : ℕ → List UpdateRow → List Update
+updates p rows = map (written p) rows
+
+-- the updates 1 to the version
+abbrev pub updates_of : Version → List Update
+updates_of s = updates s.page_size s.rows
+
+-- the size of the version
+abbrev pub size_now : Version → ℕ
+size_now s = size_of (updates_of s) (length s.rows)
+
+-- ---- rows of updates
+-- the row is that of update k of these, and its pages are that update's bytes, cut at the page size
+pub record IsRowOf (p : ℕ) (us : List Update) (k : ℕ) (row : UpdateRow) : Type 0 where
+  pub version : row.version ≡ k
+  pub touch : row.touch ≡ touch_at (touches p (extents us)) k
+  pub nodes : pairs_of row ≡ row_of p (extents us) k
+  pub bytes : bytes_of row ≡ (update_at us k).bytes
+  pub page_size : row.pages.page_size ≡ p
+
+-- each row is that of its update, and all updates begin at the size before them at the latest
+pub record IsVersion (s : Version) : Type 0 where
+  pub page_size : IsPageSize s.page_size
+  pub counted : length s.rows ≤ 1048576
+  pub replayable : Replayable (updates_of s)
+  pub rows : (k : ℕ) → 1 ≤ k → k ≤ length s.rows → IsRowOf s.page_size (updates_of s) k (row_at s.rows k)
+  pub paged : (k : ℕ) → 1 ≤ k → k ≤ length s.rows → length (bytes_of (row_at s.rows k)) ≤ length (row_at s.rows k).pages.pages * s.page_size
+  pub fits : (v : ℕ) → v ≤ length s.rows → size_of (updates_of s) v ≤ 2 ^ 40
+
+-- ---- nodes
+-- the row of update j has a node for the range
+abbrev pub HasNodeFor : Version → ℕ → Range → Type 0
+HasNodeFor s j range = HasNode s.page_size (touches s.page_size (extents (updates_of s))) j range
+
+-- it is the node that the row of update j has for the range, under the key that it was put under
+pub record IsFound (s : Version) (j : ℕ) (range : Range) (placed : PlacedNode) : Type 0 where
+  pub has : HasNodeFor s j range
+  pub node : placed.node ≡ node_of s.page_size (extents (updates_of s)) j range
+  pub key : placed.key ≡ record { blob = (row_at s.rows j).blob; version = j; range = range }
+  pub among : Contains (row_at s.rows j).nodes placed
+
+-- the key of the root of the version
+abbrev pub root_key : Version → NodeKey
+root_key s = record {
+  blob = (row_at s.rows (length s.rows)).blob;
+  version = length s.rows;
+  range = record { offset = 0; size = span_of s.page_size (size_now s) };
+}
+
+-- the snapshot's nodes lie in this house, and its pages in these houses
+abbrev pub IsVersionIn : List Shelves → List House → Version → Type 0
+IsVersionIn nodes houses s = All (IsRowIn nodes houses) s.rows

@@ -1,0 +1,223 @@
+// A published version and its rows.
+ghost use Rattle.std.specs.Prelude.{◌≡◌, ℕ, ◌+◌, ◌*◌, ◌^◌, ◌<◌, ◌≤◌, ◌↔◌, length, take, map, min, IfOk, IfErr, IfNone, IfSome, IsNone, Some, vec_len, vec_capacity, slice_get, slice_range, [], ◌∷◌, ◌++◌};
+ghost use Rattle.std.specs.Arc.{arc_value};
+ghost use Rattle.blob_model.specs.Content.{size_of};
+ghost use Rattle.range_log.specs.Updates.{Replayable};
+ghost use Rattle.page_store.specs.Stored.{joined};
+ghost use Rattle.node_store.specs.Rows.{cut_at};
+ghost use Rattle.snapshot.specs.Versions.{row_at, bytes_of, updates_of, next_version, older_version, under_blob, size_now, HasNodeFor, IsFound, root_key, IsRowOf, IsVersion};
+
+use node_store::{NoMemory, NodeRef, Row};
+use page_store::StoredPage;
+use range_log::laws;
+use std::alloc::Global;
+use std::marker::Model;
+use std::sync::Arc;
+use std::sync::ledger::Ledger;
+use tree_geom::{NodeKey, PageSize, Range, Steps, span};
+
+/// How many updates a version may have.
+const MAX_VERSIONS: usize = 1_048_576;
+
+/// A published version of a blob, and what is needed to read it: the rows of updates 1 to the version.
+///
+/// The rows are shared with other versions and never change.
+#[derive(Drop)]
+pub struct Snapshot {
+    blob: u64,
+    page_size: PageSize,
+    rows: Vec<Arc<Row>>,
+}
+
+impl Model for Snapshot {
+    ghost use Rattle.std.specs.Prelude.{map};
+    ghost use Rattle.std.specs.Arc.{arc_value};
+    ghost use Rattle.snapshot.specs.Versions.{Version, IsVersion};
+
+    ghost Value = { Version };
+
+    ghost view = { λ s. record { blob = s.blob; page_size = s.page_size; rows = map arc_value s.rows.items } };
+
+    ghost invariant = { λ s. IsVersion (record { blob = s.blob; page_size = s.page_size; rows = map arc_value s.rows.items }) };
+}
+
+impl Snapshot {
+    /// Version 0 of the blob, which is empty.
+    pub fn empty(alloc: Global, blob: u64, p: PageSize) -> Result<Snapshot, NoMemory>
+        ensures { IfOk result (λ s. s ≡ record { blob = blob; page_size = p; rows = [] }) }
+    {
+        Ok(Snapshot {
+            blob,
+            page_size: p,
+            rows: Vec::with_capacity(alloc, 0)?,
+        })
+    }
+
+    /// The version after this one, with the row of its update. Where memory is refused, the row comes back.
+    pub fn with_row(&self, alloc: Global, row: Arc<Row>) -> Result<Snapshot, Arc<Row>>
+        requires room { length self.now.rows < 1048576 }
+        requires row { let next = next_version self.now (arc_value row) in
+            IsRowOf next.page_size (updates_of next) (length self.now.rows + 1) (arc_value row) }
+        requires in_bounds { Replayable (updates_of (next_version self.now (arc_value row))) }
+        requires fits { size_of (updates_of (next_version self.now (arc_value row))) (length self.now.rows + 1) ≤ 2 ^ 40 }
+        ensures ok { IfOk result (λ s. s ≡ next_version self.now (arc_value row)) }
+        ensures err { IfErr result (λ r. r ≡ row) }
+    {
+        laws::older_versions_stay();
+        let _pages = row.pages().count();
+        match copy_of(alloc, &self.rows, self.rows.len() + 1) {
+            Ok(mut rows) => {
+                rows.push_reserved(row);
+                Ok(Snapshot {
+                    blob: self.blob,
+                    page_size: self.page_size,
+                    rows,
+                })
+            }
+            Err(NoMemory) => Err(row),
+        }
+    }
+
+    /// The snapshot of an older version, or of this one.
+    pub fn at(&self, alloc: Global, version: u64) -> Result<Snapshot, NoMemory>
+        requires { version ≤ length self.now.rows }
+        ensures { IfOk result (λ s. s ≡ older_version self.now version) }
+    {
+        laws::older_versions_stay();
+        let count = version as usize;
+        Ok(Snapshot {
+            blob: self.blob,
+            page_size: self.page_size,
+            rows: copy_of(alloc, &self.rows[..count], count)?,
+        })
+    }
+
+    /// The same version with the same rows under another blob's id. The nodes keep the keys under which they were put.
+    pub fn under(&self, alloc: Global, blob: u64) -> Result<Snapshot, NoMemory>
+        ensures { IfOk result (λ s. s ≡ under_blob self.now blob) }
+    {
+        Ok(Snapshot {
+            blob,
+            page_size: self.page_size,
+            rows: copy_of(alloc, &self.rows, self.rows.len())?,
+        })
+    }
+
+    /// The blob's id.
+    pub fn blob(&self) -> u64
+        ensures { result ≡ self.now.blob }
+    {
+        self.blob
+    }
+
+    /// The version, which is the number of its updates.
+    pub fn version(&self) -> u64
+        ensures count { result ≡ length self.now.rows }
+        ensures stands { IsVersion self.now }
+    {
+        self.rows.len() as u64
+    }
+
+    /// The size of the version, in bytes.
+    pub fn size(&self) -> u64
+        ensures size { result ≡ size_now self.now }
+        ensures fits { result ≤ 2 ^ 40 }
+    {
+        self.size_at(self.version())
+    }
+
+    /// The page size of the blob.
+    pub fn page_size(&self) -> PageSize
+        ensures { result ≡ self.now.page_size }
+    {
+        self.page_size
+    }
+
+    /// The size of version `j`, in bytes.
+    pub fn size_at(&self, j: u64) -> u64
+        requires { j ≤ length self.now.rows }
+        ensures size { result ≡ size_of (updates_of self.now) j }
+        ensures fits { result ≤ 2 ^ 40 }
+    {
+        laws::page_bytes_stay();
+        if j == 0 {
+            return 0;
+        }
+        self.row(j).touch().size
+    }
+
+    /// The key of the version's root, under the blob that it was put under. None exactly where the size is 0.
+    pub fn root(&self) -> Option<NodeKey>
+        ensures none { IsNone result ↔ (size_now self.now ≡ 0) }
+        ensures key { IfSome result (λ key. key ≡ root_key self.now) }
+        ensures holds { IfSome result (λ key. size_now self.now ≤ key.range.size) }
+        ensures fits { IfSome result (λ key. key.range.size ≤ 2 ^ 40) }
+    {
+        laws::page_bytes_stay();
+        let version = self.version();
+        if version == 0 {
+            return None;
+        }
+        Some(NodeKey {
+            blob: self.row(version).blob(),
+            version,
+            range: Range {
+                offset: 0,
+                size: span(self.page_size, self.size()),
+            },
+        })
+    }
+
+    /// The node that the row of update `j` has for the range. None exactly where the row has no node of that range. In
+    /// both cases it takes one node step, and there is no other way from a lent snapshot to a node.
+    pub fn find<'s, L: Ledger>(
+        &'s self,
+        j: u64,
+        range: Range,
+        steps: &mut Steps<L>,
+    ) -> Option<&'s NodeRef>
+        requires { (1 ≤ j) × (j ≤ length self.now.rows) }
+        ensures none { IfNone result (¬ HasNodeFor self.now j range) }
+        ensures found { IfSome result (λ node. IsFound self.now j range node.now) }
+        ensures step { steps.new ≡ steps.old + 1 }
+    {
+        laws::row_keys_exact();
+        laws::page_bytes_stay();
+        steps.tick();
+        self.row(j).at(range)
+    }
+
+    /// The stored page of update `j` that the number `q` of a piece means. Its bytes are those of the update from `q` times
+    /// the page size on.
+    pub fn page(&self, j: u64, q: u32) -> &StoredPage
+        requires version { (1 ≤ j) × (j ≤ length self.now.rows) }
+        requires number { q < length (row_at self.now.rows j).pages.pages }
+        ensures this { slice_get (row_at self.now.rows j).pages.pages q ≡ Some result.now }
+        ensures bytes { result.now.bytes ≡ cut_at self.now.page_size (bytes_of (row_at self.now.rows j)) q }
+    {
+        self.row(j).page(q)
+    }
+
+    // The row of update `j`.
+    fn row(&self, j: u64) -> &Row
+        requires { (1 ≤ j) × (j ≤ length self.now.rows) }
+        ensures this { result.now ≡ row_at self.now.rows j }
+        ensures stands { IsVersion self.now }
+    {
+        &self.rows[j as usize - 1]
+    }
+}
+
+// The same rows once more, in a vector with room for `room` rows.
+fn copy_of(alloc: Global, rows: &[Arc<Row>], room: usize) -> Result<Vec<Arc<Row>>, NoMemory>
+    requires { length rows.now ≤ room }
+    ensures rows { IfOk result (λ copy. map arc_value copy.items ≡ map arc_value rows.now) }
+    ensures count { IfOk result (λ copy. vec_len copy ≡ length rows.now) }
+    ensures room { IfOk result (λ copy. vec_capacity copy ≡ room) }
+{
+    let mut copy = Vec::with_capacity(alloc, room)?;
+    for row in rows {
+        copy.push_reserved(Arc::try_clone(row)?);
+    }
+    Ok(copy)
+}

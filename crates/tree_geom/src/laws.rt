@@ -1,0 +1,29 @@
+//! The laws of pages and ranges that the crates above rest on. Each is the contract of a function that does nothing.
+ghost use Rattle.tree_geom.specs.Laws.{HeightsHold, SpanOfNone, SpanOfSome, SpansHold, WithinSpan, PageWithin, RangesHaveBytes, HeightsHalve, PagesAlign, LowHalvesAlign, HighHalvesAlign, RangesNest, MeetsIsTrue, MeetsIsFalse, MeetsOrNot};
+
+/// What the height and the span of a size are, and which ranges are within the span.
+pub fn spans_hold()
+    ensures heights { HeightsHold }
+    ensures none { SpanOfNone }
+    ensures some { SpanOfSome }
+    ensures hold { SpansHold }
+    ensures within { WithinSpan }
+    ensures page { PageWithin }
+{}
+
+/// How the ranges of one height lie among those of another.
+pub fn ranges_align()
+    ensures bytes { RangesHaveBytes }
+    ensures halve { HeightsHalve }
+    ensures pages { PagesAlign }
+    ensures low { LowHalvesAlign }
+    ensures high { HighHalvesAlign }
+    ensures nest { RangesNest }
+{}
+
+/// Touched pages meet a range or they don't, as the test tells.
+pub fn meets_is_decided()
+    ensures met { MeetsIsTrue }
+    ensures apart { MeetsIsFalse }
+    ensures cases { MeetsOrNot }
+{}
