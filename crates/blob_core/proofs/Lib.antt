@@ -9,3 +9,4 @@ mod Reaching
 mod Reading
 mod Promising
 mod Needed
+mod Orders
