@@ -25,33 +25,33 @@ use Rattle.blob_core.proofs.Lists.{one_value, none_some}
 use Rattle.blob_core.specs.declared.step.Step.{Step}
 use Rattle.blob_core.specs.declared.step.Step.TheVariants as Moves
 
-abbrev world_of : List Step → World
+abbrev pub world_of : List Step → World
 world_of steps = world_after 4 (empty_world greatest) steps
 
-abbrev range_at : ℕ → ℕ → Range
+abbrev pub range_at : ℕ → ℕ → Range
 range_at offset size = record { offset = offset; size = size }
 
-abbrev key : ℕ → ℕ → ℕ → ℕ → NodeKey
+abbrev pub key : ℕ → ℕ → ℕ → ℕ → NodeKey
 key blob version offset size = record { blob = blob; version = version; range = range_at offset size }
 
-abbrev one_piece : ℕ → ℕ → ℕ → Node
+abbrev pub one_piece : ℕ → ℕ → ℕ → Node
 one_piece start len back = Leaf start 1 (record { page = 0; from = 0; len = len }) no_piece back
 
 -- what is published of a blob, in a list
-abbrev published_of : Option Blob → List ℕ
+abbrev pub published_of : Option Blob → List ℕ
 published_of None = []
 published_of (Some b) = published b ∷ []
 
 -- blob 1
-abbrev blob_or : Option Blob → Blob
+abbrev pub blob_or : Option Blob → Blob
 blob_or None = record { updates = []; finished = [] }
 blob_or (Some b) = b
 
-abbrev the_blob : World → Blob
+abbrev pub the_blob : World → Blob
 the_blob w = blob_or (blob_at w.store 1)
 
 -- two pages, and two appends of which neither has stored a node
-abbrev two_appends : List Step
+abbrev pub two_appends : List Step
 two_appends = Moves.Create 1 ∷ Moves.PagePut 1 (170 ∷ []) ∷ Moves.PagePut 2 (187 ∷ []) ∷ Moves.Assign 1 1 Append (1 ∷ []) ∷ Moves.Assign 2 1 Append (2 ∷ []) ∷ []
 
 -- the second stores its node and finishes, though the first, to which its leaf leads back, hasn't stored its own

@@ -8,3 +8,5 @@ mod Running
 mod Reaching
 mod Reading
 mod Promising
+mod Needed
+mod Orders
