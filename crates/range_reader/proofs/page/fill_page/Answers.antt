@@ -9,7 +9,7 @@ use Rattle.snapshot.specs.Versions.{updates_of, HasNodeFor}
 use Rattle.range_reader.specs.Faults.{IsLedTo, Newest, Back}
 use Rattle.range_reader.specs.Filling.{Overlaid}
 use Rattle.range_reader.specs.Reading.{falls, content_of, own_start, own_from, own_len}
-use Rattle.range_reader.proofs.Counting.{kept_yet, kept_twice, stored_since}
+use Rattle.range_reader.proofs.Counting.{kept_yet, kept_twice, stored_since, risen_since}
 use Rattle.range_reader.proofs.Standing.{AreIn, there_after, in_after, still_wanted, all_there}
 use Rattle.range_reader.proofs.Leaves.{leaf_of_version, page_pos}
 use Rattle.range_reader.proofs.Along.{backs_at, same_backs}
@@ -49,6 +49,9 @@ returns-then-not-fill_leaf-clause-failed g c = λ _.
       needed = record { led = inv.led c.loop-first-test.true; has = inv.has c.loop-first-test.true; piece = f.piece };
       failed = stored_since s (counts c.args.doors.now) (counts c.loop-first.doors) (counts c.fill_leaf.new.doors) c.loop-first.at f.number inv.kept.none_fell f.failed;
     }
+
+pub returns-then-not-fill_leaf-clause-counted : goal.returns-then-not-fill_leaf-clause-counted
+returns-then-not-fill_leaf-clause-counted g c = λ _. risen_since _ _ _ c.loop-first.invariant.kept.total (c.fill_leaf.ensures.counted c.if-not-fill_leaf.true)
 
 pub returns-then-not-fill_leaf-clause-kept : goal.returns-then-not-fill_leaf-clause-kept
 returns-then-not-fill_leaf-clause-kept g c = kept_twice _ _ _ _ _ _ c.loop-first.invariant.kept c.fill_leaf.ensures.kept

@@ -8,6 +8,7 @@ use Rattle.range_log.specs.Visits.{backs_of}
 use Rattle.snapshot.specs.Versions.{HasNodeFor}
 use Rattle.range_reader.specs.Reading.{falls, log_of, newest_in, bytes_at, content_of, backs_in}
 use Rattle.range_reader.proofs.Parts.{range_join}
+use Rattle.range_reader.proofs.Counting.{risen_since}
 use Rattle.range_reader.proofs.Leaves.{page_pos}
 use Rattle.range_reader.proofs.Walking.{page_of_range, page_step, larger, even, child, inner_step, backs_join, failed_front, failed_back, err_then, ok_then}
 use Rattle.range_reader.proofs.walk.+walk.Goals as goal
@@ -334,6 +335,9 @@ returns-clause-failed g t c =
     err_then c.walk-3.result _ _
     (λ i f. failed_back s c.args.from mid n back _ _ _ i (page_pos s.page_size is.page_size) (omega (arith, lt)) rest c.walk-2.ensures.kept.none_fell f)
     c.walk-3.ensures.failed
+
+pub returns-clause-counted : goal.returns-clause-counted
+returns-clause-counted g t c = err_then c.walk-3.result _ _ (λ i f. risen_since _ _ _ c.walk-2.ensures.kept.total f) c.walk-3.ensures.counted
 
 pub returns-clause-truth_stays : goal.returns-clause-truth_stays
 returns-clause-truth_stays g t c =
