@@ -124,17 +124,45 @@ first_is_woven = refl
 script_is_allowed : AllAllowed 4 (empty_world greatest) (two_appends ++ second_first ++ then_first)
 script_is_allowed = (
   refl,
-  ((refl, lit≤ tt, lit≤ tt),
-  ((refl, lit≤ tt, lit≤ tt),
-  (((170 ∷ [], refl), refl),
-  (((187 ∷ [], refl), refl),
-  ((the_blob (world_of two_appends), numbered (world_of two_appends) 2 refl (lit≤ tt) (lit≤ tt) refl, second_has),
-  ((refl, (the_blob (world_of two_appends), numbered (world_of (two_appends ++ Moves.NodePut (key 1 2 0 4) ∷ [])) 2 refl (lit≤ tt) (lit≤ tt) refl,
-    row_there (world_of (two_appends ++ Moves.NodePut (key 1 2 0 4) ∷ [])) 2 (one_piece 1 1 1) row_of_second second_is_woven)),
-  ((the_blob (world_of (two_appends ++ second_first)), numbered (world_of (two_appends ++ second_first)) 1 refl (lit≤ tt) (lit≤ tt) refl, first_has),
-  ((refl, (the_blob (world_of (two_appends ++ second_first)), numbered (world_of (two_appends ++ second_first ++ Moves.NodePut (key 1 1 0 4) ∷ [])) 1 refl (lit≤ tt) (lit≤ tt) refl,
-    row_there (world_of (two_appends ++ second_first ++ Moves.NodePut (key 1 1 0 4) ∷ [])) 1 (one_piece 0 1 0) row_of_first first_is_woven)),
-  tt)))))))),
+  (
+    (refl, lit≤ tt, lit≤ tt),
+    (
+      (refl, lit≤ tt, lit≤ tt),
+      (
+        ((170 ∷ [], refl), refl),
+        (
+          ((187 ∷ [], refl), refl),
+          (
+            (the_blob (world_of two_appends), numbered (world_of two_appends) 2 refl (lit≤ tt) (lit≤ tt) refl, second_has),
+            (
+              (
+                refl,
+                (
+                  the_blob (world_of two_appends),
+                  numbered (world_of (two_appends ++ Moves.NodePut (key 1 2 0 4) ∷ [])) 2 refl (lit≤ tt) (lit≤ tt) refl,
+                  row_there (world_of (two_appends ++ Moves.NodePut (key 1 2 0 4) ∷ [])) 2 (one_piece 1 1 1) row_of_second second_is_woven,
+                ),
+              ),
+              (
+                (the_blob (world_of (two_appends ++ second_first)), numbered (world_of (two_appends ++ second_first)) 1 refl (lit≤ tt) (lit≤ tt) refl, first_has),
+                (
+                  (
+                    refl,
+                    (
+                      the_blob (world_of (two_appends ++ second_first)),
+                      numbered (world_of (two_appends ++ second_first ++ Moves.NodePut (key 1 1 0 4) ∷ [])) 1 refl (lit≤ tt) (lit≤ tt) refl,
+                      row_there (world_of (two_appends ++ second_first ++ Moves.NodePut (key 1 1 0 4) ∷ [])) 1 (one_piece 0 1 0) row_of_first first_is_woven,
+                    ),
+                  ),
+                  tt,
+                ),
+              ),
+            ),
+          ),
+        ),
+      ),
+    ),
+  ),
 )
 
 -- the sixth step of the short script isn't

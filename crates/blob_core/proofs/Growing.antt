@@ -157,11 +157,11 @@ agree_more c p us more =
       update = λ j some le. update_same_at us more j some le;
       touch = λ j le. ap (λ (x : List Extent). touch_at (touches p x) j) e ∙ (c.rows p j xs rest (in_list j le)).0;
       there = λ j r le h.
-        let P : List Extent → Type 0 = λ x. HasNode p (touches p x) j r in
-        subst P (sym e) (((c.rows p j xs rest (in_list j le)).2 r).0 h);
+          let P : List Extent → Type 0 = λ x. HasNode p (touches p x) j r in
+          subst P (sym e) (((c.rows p j xs rest (in_list j le)).2 r).0 h);
       back = λ j r le h.
-        let P : List Extent → Type 0 = λ x. HasNode p (touches p x) j r in
-        ((c.rows p j xs rest (in_list j le)).2 r).1 (subst P e h);
+          let P : List Extent → Type 0 = λ x. HasNode p (touches p x) j r in
+          ((c.rows p j xs rest (in_list j le)).2 r).1 (subst P e h);
       node = λ j r le. ap (λ (x : List Extent). node_of p x j r) e ∙ (c.rows p j xs rest (in_list j le)).3 r;
     }
 

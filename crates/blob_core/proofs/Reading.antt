@@ -170,10 +170,10 @@ leaf_walk_is c p w blob b pos s bs (suc most) j i v fuel upto has newest =
           leaf_walk_is c p w blob b pos s bs most back i back (omega (arith, hold.1)) (omega (arith, hold.1)) next (sym (newest_self c p log back (page_range p i) next)) in
           record {
             bytes = ap (λ (o : Walked). put o.bytes start own) go
-              ∙ ap (λ (l : List ℕ). put l start own) rest.bytes
-              ∙ ap (λ (l : List ℕ). put (page_bytes p us back i) start l) own_bytes_are
-              ∙ ap (λ (y : Extent). put (page_bytes p us back i) (leaf_start p y i) (own_bytes p us j i)) e
-              ∙ sym (fill.1 is);
+                ∙ ap (λ (l : List ℕ). put l start own) rest.bytes
+                ∙ ap (λ (l : List ℕ). put (page_bytes p us back i) start l) own_bytes_are
+                ∙ ap (λ (y : Extent). put (page_bytes p us back i) (leaf_start p y i) (own_bytes p us j i)) e
+                ∙ sym (fill.1 is);
             nodes = ap (λ (o : Walked). 1 + o.nodes) go ∙ ap (λ (k : ℕ). 1 + k) rest.nodes ∙ ap (λ (k : ℕ). 1 + k) (sym (backs.1 hold.0));
           })
     ] in
@@ -223,7 +223,7 @@ pages_join a b p us v lo mid hi x y left right le le' =
     ap (λ (r : List ℕ). sum_by f r) (range_join (mid - lo) (hi - mid) (hi - lo) lo mid e g) ∙ sum_by-append f (range_with_len lo (mid - lo)) (range_with_len mid (hi - mid)) in
     record {
       bytes = ap (λ (z : List ℕ). z ++ b.bytes) left.bytes ∙ ap (λ (z : List ℕ). slice l (lo * p) (mid * p) ++ z) right.bytes
-        ∙ slice_join l (lo * p) (mid * p) (hi * p) (pages_rise p lo mid le) (pages_rise p mid hi le');
+          ∙ slice_join l (lo * p) (mid * p) (hi * p) (pages_rise p lo mid le) (pages_rise p mid hi le');
       nodes = omega (arith, left.nodes, right.nodes, sums);
     }
 
@@ -234,8 +234,8 @@ pages_none p us v lo hi count e z =
     record {
       bytes = sym (ap (λ (n : ℕ). take n (drop (lo * p) (content us v))) k);
       nodes = (let f : ℕ → ℕ = λ i. backs_of p (extents us) v i in
-        let s : sum_by f (range_with_len lo (hi - lo)) ≡ 0 = ap (λ (n : ℕ). sum_by f (range_with_len lo n)) d in
-        omega arith);
+          let s : sum_by f (range_with_len lo (hi - lo)) ≡ 0 = ap (λ (n : ℕ). sum_by f (range_with_len lo n)) d in
+          omega arith);
     }
 
 -- ---- a walk down a tree
@@ -372,9 +372,9 @@ tree_pages c p w blob b v first last pos s bs upto le inside (suc h) q j enters 
                 let L : ℕ → Type 0 = λ k. Enters p us v k h low first last in
                 let R : ℕ → Type 0 = λ k. Enters p us v k h high first last in
                 let left_enters : L left = subst L (ap (λ (x : Range). newest_of p log j x) (sym (left_is p h q)))
-                  (λ a e. c.child p v j h q low log pos (xs, ok, refl) in_log d.0 d.1 (inl refl) (reaches_page p low h last (size_at log v) a inside)) in
+                (λ a e. c.child p v j h q low log pos (xs, ok, refl) in_log d.0 d.1 (inl refl) (reaches_page p low h last (size_at log v) a inside)) in
                 let right_enters : R right = subst R (ap (λ (x : Range). newest_of p log j x) (sym (right_is p h q)))
-                  (λ a e. c.child p v j h q high log pos (xs, ok, refl) in_log d.0 d.1 (inr refl) (reaches_page p high h last (size_at log v) a inside)) in
+                (λ a e. c.child p v j h q high log pos (xs, ok, refl) in_log d.0 d.1 (inr refl) (reaches_page p high h last (size_at log v) a inside)) in
                 let left_pages = tree_pages c p w blob b v first last pos s bs upto le inside h low left left_enters in
                 let right_pages = tree_pages c p w blob b v first last pos s bs upto le inside h high right right_enters in
                 let power : 2 ^ suc h ≡ 2 * 2 ^ h = pow-succ' 2 h in
@@ -505,7 +505,7 @@ read_bytes c p w blob b v o n pos s bs upto some numbered inside =
     let to : clamp first last ((0 + 1) * 2 ^ top) ≡ last + 1 = omega arith in
     let is : PagesAre (tree_walk_from top p w blob v 0 first last) p us v first (last + 1) (visited top 0 first last) =
     pages_at (tree_walk_from top p w blob v 0 first last) p us v (clamp first last (0 * 2 ^ top)) (clamp first last ((0 + 1) * 2 ^ top)) (visited top 0 first last)
-      first (last + 1) (visited top 0 first last) pages from to refl in
+    first (last + 1) (visited top 0 first last) pages from to refl in
     let few = c.bounded p v o n xs pos some (omega arith) in
     record {
       bytes = ap (λ (l : List ℕ). take n (drop (o - first * p) l)) is.bytes ∙ cut_slice (content us v) (first * p) ((last + 1) * p) o n low (omega arith);
