@@ -1,15 +1,15 @@
 -- What a longer list of updates says of the versions of the shorter one; and the laws that are cited.
-use Rattle.std.proofs.Common.{◌≡◌, ◌⊎◌, ℕ, ◌+◌, ◌-◌, ◌<◌, ◌≤◌, zero, suc, List, [], ◌∷◌, ◌++◌, length, take, drop, arith, inl, inr, refl, ap, sym, subst, ◌∙◌}
+use Rattle.std.proofs.Common.{◌≡◌, ℕ, ◌+◌, ◌<◌, ◌≤◌, zero, suc, List, [], ◌∷◌, ◌++◌, length, take, drop, arith, inl, inr, refl, ap, sym, subst, ◌∙◌}
 use Rattle.std.proofs.lemmas.Bool.{cases_lt}
 use Rattle.std.proofs.lemmas.List.{get_or_append_left, take-append-le, take-append-drop, length-take-le, length-append}
 use Rattle.std.proofs.lemmas.List.FromFn.{get_or-map-range_with_len, length-map-range_with_len}
-use Rattle.std.proofs.Math.Seq.{get_or-append_seam, take-length}
+use Rattle.std.proofs.Math.Seq.{get_or-append_seam}
 use Rattle.blob_model.specs.Content.{Update, content_from, size_of, offset_of}
 use Rattle.tree_geom.specs.declared.range.Range.{Range}
 use Rattle.tree_geom.specs.declared.touch.Touch.{Touch}
 use Rattle.tree_geom.specs.Geometry.{no_touch}
 use Rattle.range_log.specs.Log.{touch_at, size_at, HasNode}
-use Rattle.range_log.specs.Extents.{Extent, no_extent, extent_at, size_after, InBounds, touches, touch_of}
+use Rattle.range_log.specs.Extents.{Extent, no_extent, extent_at, size_after, touches, touch_of}
 use Rattle.range_log.specs.Updates.{update_at, no_update, extent_of, extents, Replayable}
 use Rattle.range_log.specs.Rows.{node_of}
 use Rattle.range_log.specs.Laws.{LinksNameNodes, LinksLead, BacksLead, BacksHaveNoHoles, ExtentsStand, LeavesFill, LeavesFit, PiecesJoin, PageBytesStay, NewestIsGreatest, RowKeysExact, BacksStep, RowsStay, ExtentsGrow}
@@ -157,11 +157,11 @@ agree_more c p us more =
       update = λ j some le. update_same_at us more j some le;
       touch = λ j le. ap (λ (x : List Extent). touch_at (touches p x) j) e ∙ (c.rows p j xs rest (in_list j le)).0;
       there = λ j r le h.
-        let P : List Extent → Type 0 = λ x. HasNode p (touches p x) j r in
-        subst P (sym e) (((c.rows p j xs rest (in_list j le)).2 r).0 h);
+          let P : List Extent → Type 0 = λ x. HasNode p (touches p x) j r in
+          subst P (sym e) (((c.rows p j xs rest (in_list j le)).2 r).0 h);
       back = λ j r le h.
-        let P : List Extent → Type 0 = λ x. HasNode p (touches p x) j r in
-        ((c.rows p j xs rest (in_list j le)).2 r).1 (subst P e h);
+          let P : List Extent → Type 0 = λ x. HasNode p (touches p x) j r in
+          ((c.rows p j xs rest (in_list j le)).2 r).1 (subst P e h);
       node = λ j r le. ap (λ (x : List Extent). node_of p x j r) e ∙ (c.rows p j xs rest (in_list j le)).3 r;
     }
 

@@ -1,22 +1,20 @@
 -- What each step keeps true of a world.
-use Rattle.std.proofs.Common.{◌≡◌, ◌⊎◌, ℕ, ◌+◌, ◌-◌, ◌<◌, ◌≤◌, zero, suc, Bool, true, false, List, [], ◌∷◌, ◌++◌, length, take, arith, inl, inr, refl, ap, sym, subst, ◌∙◌}
-use Rattle.std.specs.Prelude.{◌==◌, if◌then◌else◌, Option, Some, None, slice_set, slice_index_or, replicate}
+use Rattle.std.proofs.Common.{◌≡◌, ◌⊎◌, ℕ, ◌+◌, ◌-◌, ◌<◌, ◌≤◌, zero, suc, Bool, true, false, List, [], ◌∷◌, length, arith, inl, inr, refl, ap, sym, subst, ◌∙◌}
+use Rattle.std.specs.Prelude.{◌==◌, if◌then◌else◌, Option, Some, None, slice_index_or}
 use Rattle.std.proofs.lemmas.Bool.Decides.{nat_tests}
 use Rattle.std.proofs.lemmas.Bool.{cases_lt}
 use Rattle.std.proofs.lemmas.List.{length-append, length-set, length-replicate, length-take-le, take-append-drop}
-use Rattle.std.specs.List.{Contains}
 use Rattle.blob_model.specs.Limits.{Bounds}
-use Rattle.blob_model.specs.Content.{Update, size_of, offset_of}
-use Rattle.blob_model.specs.Store.{Store, Blob, blob_at, with_blob, and_blob, and_update, finish, branch_of, published, assigned, is_finished, true_prefix, size_now}
+use Rattle.blob_model.specs.Content.{Update, offset_of}
+use Rattle.blob_model.specs.Store.{Store, Blob, blob_at, with_blob, and_blob, and_update, finish, branch_of, published, assigned, is_finished, size_now}
 use Rattle.tree_geom.specs.declared.range.Range.{Range}
 use Rattle.tree_geom.specs.declared.node.Node.{Node}
 use Rattle.tree_geom.specs.declared.node.NodeKey.{NodeKey}
-use Rattle.tree_geom.specs.declared.touch.Touch.{Touch}
-use Rattle.range_log.specs.Log.{HasNode, touch_at}
+use Rattle.range_log.specs.Log.{HasNode}
 use Rattle.range_log.specs.Extents.{InBounds}
 use Rattle.range_log.specs.Updates.{update_at, extents, Replayable}
 use Rattle.range_log.specs.Rows.{node_of}
-use Rattle.blob_core.specs.World.{World, empty_world, Parent, UpdateKey, Kept, IsKnown, entry_at, same_number, same_update, same_key, page_at, node_at, kept_at, origin, origin_of, key_in, node_in, joined, AreCut, log_of, waiting_after}
+use Rattle.blob_core.specs.World.{World, empty_world, Parent, UpdateKey, Kept, same_number, same_update, same_key, page_at, node_at, kept_at, origin, origin_of, key_in, node_in, joined, AreCut, log_of, waiting_after}
 use Rattle.blob_core.specs.Woven.{woven}
 use Rattle.blob_core.specs.Steps.{IsNumberedIn, RowIsThere, next_kept, with_update, with_node}
 use Rattle.blob_core.specs.Promises.{IsRowNode, NodesAreRows}
@@ -184,10 +182,10 @@ put_node p w key n s none row =
       known = λ blob version kept is. s.known blob version kept is;
       blobs = λ blob b is. blob_kept p w v blob b wide (λ j. refl) (s.blobs blob b is);
       nodes = λ k m is.
-        elim (entry_old same_key w.nodes key n k m (key_means key k) is) [
-          | inl new ↦ (let N : Node → Type 0 = λ x. IsRowNode p w k x in row_moved p w v k m on (subst N new.1 (subst K new.0 row)))
-          | inr old ↦ row_moved p w v k m on (s.nodes k m old)
-        ];
+          elim (entry_old same_key w.nodes key n k m (key_means key k) is) [
+            | inl new ↦ (let N : Node → Type 0 = λ x. IsRowNode p w k x in row_moved p w v k m on (subst N new.1 (subst K new.0 row)))
+            | inr old ↦ row_moved p w v k m on (s.nodes k m old)
+          ];
     }
 
 pub rows_known : (p : ℕ) (w : World) (blob : ℕ) (b : Blob) (n : ℕ) → BlobStands p w blob b → n ≤ published b → RowsKnown p w blob b.updates n
@@ -222,7 +220,7 @@ node_put c p w key b pos s numbered has =
             there = numbered.there;
             has = has;
             is = woven_is c p w key.blob b u.kept key.version key.range pos (in_bounds c b.updates blob_s.replay) (rows_known p w key.blob b u.kept.published blob_s u.front)
-              u.before u.waiting numbered.upto has.aligned;
+                u.before u.waiting numbered.upto has.aligned;
           }))
     ]
 
@@ -257,13 +255,13 @@ blob_set p w v blob before new s wide lin pages nodes is store agrees more known
       pages = subst P (sym pages) s.pages;
       known = λ id version kept e. elim (known id version kept e) [ inl here ↦ here | inr old ↦ of_blob_moved p w v id version on (s.known id version kept old) ];
       blobs = λ id b e.
-        elim (with_was w.store blob before new is id b (out id b e)) [
-          | inl here ↦
-              (let S : ℕ → Type 0 = λ i. BlobStands p v i new in
-              let T : Blob → Type 0 = λ x. BlobStands p v id x in
-              subst T here.1 (subst S (sym here.0) stands))
-          | inr old ↦ blob_kept p w v id b wide (λ j. O id j) (s.blobs id b old)
-        ];
+          elim (with_was w.store blob before new is id b (out id b e)) [
+            | inl here ↦
+                (let S : ℕ → Type 0 = λ i. BlobStands p v i new in
+                let T : Blob → Type 0 = λ x. BlobStands p v id x in
+                subst T here.1 (subst S (sym here.0) stands))
+            | inr old ↦ blob_kept p w v id b wide (λ j. O id j) (s.blobs id b old)
+          ];
       nodes = subst N (sym nodes) (λ key n e. row_moved p w v key n on (s.nodes key n e));
     }
 
@@ -302,14 +300,14 @@ finished c p w t blob version b pos s numbered row store =
       marks = length-set b.finished (version - 1) true ∙ old.marks;
       own = λ j lt. old.own j lt;
       updates = λ j some le.
-        update_moved p w v blob blob b (finish b version) (assigned b) j wide (agree_same p b.updates (assigned b)) some le refl (old.updates j some le) (omega (arith, grown, (old.updates j some le).front));
+          update_moved p w v blob blob b (finish b version) (assigned b) j wide (agree_same p b.updates (assigned b)) some le refl (old.updates j some le) (omega (arith, grown, (old.updates j some le).front));
       rows = λ j r fin has.
-        elim (finished_set b version j numbered.some fin) [
-          | inl same ↦
-              (let P : ℕ → Type 0 = λ i. HasNode p (log_of p b.updates) i r → node_in v blob i r ≡ Some (node_of p (extents b.updates) i r) in
-              subst P (sym same) (here r) has)
-          | inr was ↦ old.rows j r was has
-        ];
+          elim (finished_set b version j numbered.some fin) [
+            | inl same ↦
+                (let P : ℕ → Type 0 = λ i. HasNode p (log_of p b.updates) i r → node_in v blob i r ≡ Some (node_of p (extents b.updates) i r) in
+                subst P (sym same) (here r) has)
+            | inr was ↦ old.rows j r was has
+          ];
     })
 
 -- ---- a numbering
@@ -375,33 +373,33 @@ numbered c p w t blob b u pages s is cut bytes some fits store =
       before = omega arith;
       front = grown;
       waiting = sym (waiting_same (log_of p b.updates) (log_of p new.updates) (published b) (n - published b) n (omega arith) agrees.touch)
-        ∙ ap (λ (m : ℕ). waiting_after (log_of p new.updates) (published b) m) (sym less);
+          ∙ ap (λ (m : ℕ). waiting_after (log_of p new.updates) (published b) m) (sym less);
     })) in
     let W : List (UpdateKey × Kept) → Type 0 = λ l. Stands p (record { store = t; lineage = w.lineage; pages = w.pages; updates = l; nodes = w.nodes }) in
     subst W (sym (with_update_is p w blob pages b is))
     (blob_set p w v blob b new s wide refl refl refl is store agrees (omega arith)
     (λ id version k e.
-      elim (entry_old same_update w.updates key kept (record { blob = id; version = version }) k (update_means key (record { blob = id; version = version })) e) [
-        | inl eq ↦
-            (let P : UpdateKey → Type 0 = λ x. IsOfBlob v x.blob x.version in
-            inl (subst P eq.0 (new, here, omega arith)))
-        | inr was ↦ inr was
-      ])
+    elim (entry_old same_update w.updates key kept (record { blob = id; version = version }) k (update_means key (record { blob = id; version = version })) e) [
+      | inl eq ↦
+          (let P : UpdateKey → Type 0 = λ x. IsOfBlob v x.blob x.version in
+          inl (subst P eq.0 (new, here, omega arith)))
+      | inr was ↦ inr was
+    ])
     (record {
       replay = replay_next b.updates u old.replay fits some;
       marks = length-append b.finished (false ∷ []) ∙ ap (λ (m : ℕ). m + 1) old.marks ∙ sym count;
       own = λ j lt. old.own j (omega arith);
       updates = λ j one le.
-        elim (cases_lt n j) [
-          | inl after ↦ last j (omega arith)
-          | inr before ↦ update_moved p w v blob blob b new n j wide agrees one before refl (old.updates j one before) (omega (arith, grown, (old.updates j one before).front))
-        ];
+          elim (cases_lt n j) [
+            | inl after ↦ last j (omega arith)
+            | inr before ↦ update_moved p w v blob blob b new n j wide agrees one before refl (old.updates j one before) (omega (arith, grown, (old.updates j one before).front))
+          ];
       rows = λ j r fin has.
-        elim (cases_lt n j) [
-          | inl after ↦
-              (let unmarked : is_finished b j ≡ true = finished_next b u j fin in absurd (not_marked b j old.marks (omega arith) unmarked))
-          | inr before ↦ rows_moved p w v blob blob b new n j r wide agrees before refl (old.rows j r (finished_next b u j fin) (agrees.back j r before has))
-        ];
+          elim (cases_lt n j) [
+            | inl after ↦
+                (let unmarked : is_finished b j ≡ true = finished_next b u j fin in absurd (not_marked b j old.marks (omega arith) unmarked))
+            | inr before ↦ rows_moved p w v blob blob b new n j r wide agrees before refl (old.rows j r (finished_next b u j fin) (agrees.back j r before has))
+          ];
     }))
 
 -- ---- a new blob
@@ -420,14 +418,14 @@ blob_added p w t parent new s store stands =
       pages = s.pages;
       known = λ id version kept e. of_blob_moved p w v id version on (s.known id version kept e);
       blobs = λ id b e.
-        elim (more_was w.store new id b (out id b e)) [
-          | inl here ↦
-              (let at : suc (length w.lineage) ≡ id = omega (arith, s.lineage, here.0) in
-              let I : ℕ → Type 0 = λ i. BlobStands p v i new in
-              let B : Blob → Type 0 = λ x. BlobStands p v id x in
-              subst B here.1 (subst I at stands))
-          | inr old ↦ blob_kept p w v id b wide (λ j. origin_older parent w.lineage id j (omega (arith, s.lineage, (blob_some w.store id b old).1))) (s.blobs id b old)
-        ];
+          elim (more_was w.store new id b (out id b e)) [
+            | inl here ↦
+                (let at : suc (length w.lineage) ≡ id = omega (arith, s.lineage, here.0) in
+                let I : ℕ → Type 0 = λ i. BlobStands p v i new in
+                let B : Blob → Type 0 = λ x. BlobStands p v id x in
+                subst B here.1 (subst I at stands))
+            | inr old ↦ blob_kept p w v id b wide (λ j. origin_older parent w.lineage id j (omega (arith, s.lineage, (blob_some w.store id b old).1))) (s.blobs id b old)
+          ];
       nodes = λ key n e. row_moved p w v key n on (s.nodes key n e);
     }
 
@@ -465,12 +463,12 @@ branched c p w t blob version b s is le store =
       marks = length-replicate version true ∙ sym count;
       own = λ j lt. origin_own q w.lineage id j refl (omega arith);
       updates = λ j some upto.
-        (let upto' : j ≤ version = omega arith in
-        let was : UpdateStands p w blob b j = old.updates j some (omega arith) in
-        update_moved p w v blob id b new version j wide agrees some upto' (same j upto') was (omega (arith, was.before)));
+          (let upto' : j ≤ version = omega arith in
+          let was : UpdateStands p w blob b j = old.updates j some (omega arith) in
+          update_moved p w v blob id b new version j wide agrees some upto' (same j upto') was (omega (arith, was.before)));
       rows = λ j r fin has.
-        (let upto : j ≤ version = omega (arith, has.version.1, length_log p new.updates, count) in
-        rows_moved p w v blob id b new version j r wide agrees upto (same j upto) (old.rows j r (published_finished b j (omega arith)) (agrees.back j r upto has)));
+          (let upto : j ≤ version = omega (arith, has.version.1, length_log p new.updates, count) in
+          rows_moved p w v blob id b new version j r wide agrees upto (same j upto) (old.rows j r (published_finished b j (omega arith)) (agrees.back j r upto has)));
     })
 
 -- ---- the empty world

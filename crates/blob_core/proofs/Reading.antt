@@ -1,33 +1,33 @@
 -- A read by links brings the content, and visits no more nodes than the bound.
 use Rattle.std.proofs.Common.{◌≡◌, ◌⊎◌, ℕ, ◌+◌, ◌-◌, ◌*◌, ◌/◌, ◌^◌, ◌<◌, ◌≤◌, zero, suc, Bool, true, false, List, [], ◌∷◌, ◌++◌, length, take, drop, arith, inl, inr, refl, ap, sym, subst, ◌∙◌, max, min, append-nil, take-add}
-use Rattle.std.specs.Prelude.{◌==◌, ◌&&◌, nat_le, nat_lt, if◌then◌else◌, Option, Some, None}
+use Rattle.std.specs.Prelude.{◌==◌, ◌&&◌, nat_le, nat_lt, Option, Some}
 use Rattle.std.specs.List.{range_with_len, sum_by}
 use Rattle.std.proofs.lemmas.Bool.{cases_lt}
 use Rattle.std.proofs.lemmas.Bool.Decides.{nat_tests}
 use Rattle.std.proofs.lemmas.List.{drop-drop, drop-take, take-take}
 use Rattle.std.proofs.lemmas.List.Sums.{sum_by-append, sum_by-cons}
-use Rattle.std.proofs.lemmas.Nat.{mul-le, pow_pos, div_below, le-div}
+use Rattle.std.proofs.lemmas.Nat.{mul-le, div_below, le-div}
 use Rattle.std.proofs.Math.Nat.{pow-succ', mul-div_cancel}
 use Rattle.blob_model.specs.Content.{Update, put, content, size_of}
-use Rattle.blob_model.specs.Store.{Blob, blob_at, assigned, published}
+use Rattle.blob_model.specs.Store.{Blob, published}
 use Rattle.tree_geom.specs.declared.range.Range.{Range}
 use Rattle.tree_geom.specs.declared.touch.Touch.{Touch}
 use Rattle.tree_geom.specs.declared.node.Node.{Node}
-use Rattle.tree_geom.specs.declared.node.Node.TheVariants.{Inner, Leaf}
+use Rattle.tree_geom.specs.declared.node.Node.TheVariants.{Leaf}
 use Rattle.tree_geom.specs.declared.node.Piece.{Piece}
 use Rattle.tree_geom.specs.Nodes.{left_link, right_link}
 use Rattle.tree_geom.specs.Geometry.{tree_range, page_range, left_half, right_half, height_of, span_of, doublings}
 use Rattle.range_log.specs.Log.{newest_of, size_at, IsNewest, HasNode}
-use Rattle.range_log.specs.Extents.{Extent, extent_at, size_after, InBounds, touches}
-use Rattle.range_log.specs.Updates.{update_at, extent_of, extents, Replayable, page_bytes, own_bytes, piece_bytes}
-use Rattle.range_log.specs.Rows.{node_of, leaf_of, leaf_at, inner_of, back_of, covered, leaf_start, leaf_from, leaf_len, first_piece, second_piece, piece_count}
-use Rattle.range_log.specs.Visits.{backs_of, pages_met, visits}
+use Rattle.range_log.specs.Extents.{Extent, extent_at, size_after, InBounds}
+use Rattle.range_log.specs.Updates.{update_at, extent_of, extents, page_bytes, own_bytes, piece_bytes}
+use Rattle.range_log.specs.Rows.{node_of, leaf_of, inner_of, back_of, covered, leaf_start, leaf_from, leaf_len, first_piece, second_piece, piece_count}
+use Rattle.range_log.specs.Visits.{backs_of, visits}
 use Rattle.tree_walk.specs.Walk.{visited, root_of}
-use Rattle.blob_core.specs.World.{World, Kept, node_in, kept_at, origin, log_of, nth_page, joined}
+use Rattle.blob_core.specs.World.{World, Kept, node_in, kept_at, origin, log_of}
 use Rattle.blob_core.specs.Walk.{Walked, nothing, both, over, bytes_of_piece, leaf_walk, tree_walk_from, cut_out, read_walk}
 use Rattle.blob_core.proofs.Lists.{nth_is}
 use Rattle.blob_core.proofs.Growing.{Cited, extent_is, length_extents, length_log, size_in_log}
-use Rattle.blob_core.proofs.Finding.{RowsKnown, size_pos, left_is, right_is, page_is, inner_is, test_same, test_some, test_none, double}
+use Rattle.blob_core.proofs.Finding.{size_pos, left_is, right_is, page_is, inner_is, test_same, test_some, test_none, double}
 use Rattle.blob_core.proofs.Keeping.{Stands, BlobStands, UpdateStands, rows_known, in_bounds, published_within}
 
 -- ---- lists
@@ -170,10 +170,10 @@ leaf_walk_is c p w blob b pos s bs (suc most) j i v fuel upto has newest =
           leaf_walk_is c p w blob b pos s bs most back i back (omega (arith, hold.1)) (omega (arith, hold.1)) next (sym (newest_self c p log back (page_range p i) next)) in
           record {
             bytes = ap (λ (o : Walked). put o.bytes start own) go
-              ∙ ap (λ (l : List ℕ). put l start own) rest.bytes
-              ∙ ap (λ (l : List ℕ). put (page_bytes p us back i) start l) own_bytes_are
-              ∙ ap (λ (y : Extent). put (page_bytes p us back i) (leaf_start p y i) (own_bytes p us j i)) e
-              ∙ sym (fill.1 is);
+                ∙ ap (λ (l : List ℕ). put l start own) rest.bytes
+                ∙ ap (λ (l : List ℕ). put (page_bytes p us back i) start l) own_bytes_are
+                ∙ ap (λ (y : Extent). put (page_bytes p us back i) (leaf_start p y i) (own_bytes p us j i)) e
+                ∙ sym (fill.1 is);
             nodes = ap (λ (o : Walked). 1 + o.nodes) go ∙ ap (λ (k : ℕ). 1 + k) rest.nodes ∙ ap (λ (k : ℕ). 1 + k) (sym (backs.1 hold.0));
           })
     ] in
@@ -223,7 +223,7 @@ pages_join a b p us v lo mid hi x y left right le le' =
     ap (λ (r : List ℕ). sum_by f r) (range_join (mid - lo) (hi - mid) (hi - lo) lo mid e g) ∙ sum_by-append f (range_with_len lo (mid - lo)) (range_with_len mid (hi - mid)) in
     record {
       bytes = ap (λ (z : List ℕ). z ++ b.bytes) left.bytes ∙ ap (λ (z : List ℕ). slice l (lo * p) (mid * p) ++ z) right.bytes
-        ∙ slice_join l (lo * p) (mid * p) (hi * p) (pages_rise p lo mid le) (pages_rise p mid hi le');
+          ∙ slice_join l (lo * p) (mid * p) (hi * p) (pages_rise p lo mid le) (pages_rise p mid hi le');
       nodes = omega (arith, left.nodes, right.nodes, sums);
     }
 
@@ -234,8 +234,8 @@ pages_none p us v lo hi count e z =
     record {
       bytes = sym (ap (λ (n : ℕ). take n (drop (lo * p) (content us v))) k);
       nodes = (let f : ℕ → ℕ = λ i. backs_of p (extents us) v i in
-        let s : sum_by f (range_with_len lo (hi - lo)) ≡ 0 = ap (λ (n : ℕ). sum_by f (range_with_len lo n)) d in
-        omega arith);
+          let s : sum_by f (range_with_len lo (hi - lo)) ≡ 0 = ap (λ (n : ℕ). sum_by f (range_with_len lo n)) d in
+          omega arith);
     }
 
 -- ---- a walk down a tree
@@ -372,9 +372,9 @@ tree_pages c p w blob b v first last pos s bs upto le inside (suc h) q j enters 
                 let L : ℕ → Type 0 = λ k. Enters p us v k h low first last in
                 let R : ℕ → Type 0 = λ k. Enters p us v k h high first last in
                 let left_enters : L left = subst L (ap (λ (x : Range). newest_of p log j x) (sym (left_is p h q)))
-                  (λ a e. c.child p v j h q low log pos (xs, ok, refl) in_log d.0 d.1 (inl refl) (reaches_page p low h last (size_at log v) a inside)) in
+                (λ a e. c.child p v j h q low log pos (xs, ok, refl) in_log d.0 d.1 (inl refl) (reaches_page p low h last (size_at log v) a inside)) in
                 let right_enters : R right = subst R (ap (λ (x : Range). newest_of p log j x) (sym (right_is p h q)))
-                  (λ a e. c.child p v j h q high log pos (xs, ok, refl) in_log d.0 d.1 (inr refl) (reaches_page p high h last (size_at log v) a inside)) in
+                (λ a e. c.child p v j h q high log pos (xs, ok, refl) in_log d.0 d.1 (inr refl) (reaches_page p high h last (size_at log v) a inside)) in
                 let left_pages = tree_pages c p w blob b v first last pos s bs upto le inside h low left left_enters in
                 let right_pages = tree_pages c p w blob b v first last pos s bs upto le inside h high right right_enters in
                 let power : 2 ^ suc h ≡ 2 * 2 ^ h = pow-succ' 2 h in
@@ -505,7 +505,7 @@ read_bytes c p w blob b v o n pos s bs upto some numbered inside =
     let to : clamp first last ((0 + 1) * 2 ^ top) ≡ last + 1 = omega arith in
     let is : PagesAre (tree_walk_from top p w blob v 0 first last) p us v first (last + 1) (visited top 0 first last) =
     pages_at (tree_walk_from top p w blob v 0 first last) p us v (clamp first last (0 * 2 ^ top)) (clamp first last ((0 + 1) * 2 ^ top)) (visited top 0 first last)
-      first (last + 1) (visited top 0 first last) pages from to refl in
+    first (last + 1) (visited top 0 first last) pages from to refl in
     let few = c.bounded p v o n xs pos some (omega arith) in
     record {
       bytes = ap (λ (l : List ℕ). take n (drop (o - first * p) l)) is.bytes ∙ cut_slice (content us v) (first * p) ((last + 1) * p) o n low (omega arith);
