@@ -14,7 +14,9 @@ use Rattle.range_log.specs.Log.{HasNode}
 use Rattle.range_log.specs.Extents.{InBounds}
 use Rattle.range_log.specs.Updates.{update_at, extents, Replayable}
 use Rattle.range_log.specs.Rows.{node_of}
-use Rattle.blob_core.specs.World.{World, empty_world, Parent, UpdateKey, Kept, same_number, same_update, same_key, page_at, node_at, kept_at, origin, origin_of, key_in, node_in, joined, AreCut, log_of, waiting_after}
+use Rattle.blob_core.specs.World.{World, empty_world, Kept, same_number, same_update, same_key, page_at, node_at, kept_at, origin, origin_of, key_in, node_in, joined, AreCut, log_of, waiting_after}
+use Rattle.blob_core.specs.declared.world.Parent.{Parent}
+use Rattle.blob_core.specs.declared.world.UpdateKey.{UpdateKey}
 use Rattle.blob_core.specs.Woven.{woven}
 use Rattle.blob_core.specs.Steps.{IsNumberedIn, RowIsThere, next_kept, with_update, with_node}
 use Rattle.blob_core.specs.Promises.{IsRowNode, NodesAreRows}

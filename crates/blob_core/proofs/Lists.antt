@@ -7,7 +7,9 @@ use Rattle.std.proofs.Math.Seq.{take-append_seam, drop-append-add}
 use Rattle.std.proofs.Math.ListN.{drop_of_length-le}
 use Rattle.blob_model.specs.Store.{true_prefix}
 use Rattle.tree_geom.specs.declared.node.NodeKey.{NodeKey}
-use Rattle.blob_core.specs.World.{Parent, UpdateKey, IsKnown, entry_at, same_number, same_update, same_key, page_at, origin_of, bytes_of_page, joined, nth_page, AreCut}
+use Rattle.blob_core.specs.World.{IsKnown, entry_at, same_number, same_update, same_key, page_at, origin_of, bytes_of_page, joined, nth_page, AreCut}
+use Rattle.blob_core.specs.declared.world.Parent.{Parent}
+use Rattle.blob_core.specs.declared.world.UpdateKey.{UpdateKey}
 
 -- ---- tests
 pub none_some : {V : Type 0} (o : Option V) (v : V) → o ≡ None → o ≡ Some v → ⊥

@@ -11,7 +11,8 @@ use Rattle.tree_geom.specs.declared.node.Node.{Node}
 use Rattle.tree_geom.specs.declared.node.NodeKey.{NodeKey}
 use Rattle.range_log.specs.Log.{HasNode}
 use Rattle.range_log.specs.Rows.{row_keys_of}
-use Rattle.blob_core.specs.World.{World, Kept, UpdateKey, IsKnown, page_at, node_at, kept_at, origin, joined, AreCut, log_of, waiting_after}
+use Rattle.blob_core.specs.World.{World, Kept, IsKnown, page_at, node_at, kept_at, origin, joined, AreCut, log_of, waiting_after}
+use Rattle.blob_core.specs.declared.world.UpdateKey.{UpdateKey}
 use Rattle.blob_core.specs.Woven.{woven}
 use Rattle.blob_core.specs.declared.step.Step.{Step}
 use Rattle.blob_core.specs.declared.step.Step.TheVariants as Moves
