@@ -86,15 +86,13 @@ impl Model for World {
 
     ghost Value = { World };
 
-    ghost view = {
-        λ w. record {
-            store = record { limits = w.limits; blobs = w.blobs.items };
-            lineage = w.lineage.items;
-            pages = w.pages.items;
-            updates = w.updates.items;
-            nodes = w.nodes.items;
-        }
-    };
+    ghost view = { λ w. record {
+      store = record { limits = w.limits; blobs = w.blobs.items };
+      lineage = w.lineage.items;
+      pages = w.pages.items;
+      updates = w.updates.items;
+      nodes = w.nodes.items;
+    } };
 }
 
 /// Whether the keys are the same.

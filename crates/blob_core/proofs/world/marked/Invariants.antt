@@ -1,4 +1,4 @@
-use Rattle.std.proofs.Common.{◌≡◌, ◌+◌, ◌≤◌, drop, length}
+use Rattle.std.proofs.Common.{◌≡◌, ◌+◌, drop}
 use Rattle.blob_model.specs.Store.{true_prefix}
 use Rattle.blob_core.proofs.world.marked.Given as goal
 
