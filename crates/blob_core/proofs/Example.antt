@@ -1,26 +1,24 @@
 -- The worked script of two updates, computed from the definitions alone.
-use Rattle.std.proofs.Common.{ℕ, ◌≤◌, ◌<◌, zero, suc, arith, ap, sym, subst, ◌∙◌, length, lit<, lit≤}
-use Rattle.std.specs.Prelude.{◌≡◌, List, [], ◌∷◌, ◌++◌, Option, Some, None, refl, map}
+use Rattle.std.proofs.Common.{ℕ, ◌≤◌, zero, suc, arith, ap, sym, subst, ◌∙◌, length, lit<, lit≤}
+use Rattle.std.specs.Prelude.{◌≡◌, List, [], ◌∷◌, ◌++◌, Option, Some, None, refl}
 use Rattle.blob_model.specs.Limits.{greatest}
 use Rattle.blob_model.specs.Store.{Blob, blob_at, published}
-use Rattle.blob_model.specs.declared.call.Place.{Place}
-use Rattle.blob_model.specs.declared.call.Place.TheVariants.{Append, WriteAt}
+use Rattle.blob_model.specs.declared.call.Place.TheVariants.{Append}
 use Rattle.tree_geom.specs.declared.range.Range.{Range}
 use Rattle.tree_geom.specs.declared.node.Node.{Node}
-use Rattle.tree_geom.specs.declared.node.Node.TheVariants.{Inner, Leaf}
+use Rattle.tree_geom.specs.declared.node.Node.TheVariants.{Leaf}
 use Rattle.tree_geom.specs.declared.node.NodeKey.{NodeKey}
-use Rattle.tree_geom.specs.declared.node.Piece.{Piece}
 use Rattle.tree_geom.specs.Geometry.{height_of, doublings, span_of}
-use Rattle.range_log.specs.Log.{newest_of, touch_at, size_at}
+use Rattle.range_log.specs.Log.{newest_of}
 use Rattle.range_log.specs.Extents.{touches}
 use Rattle.range_log.specs.Updates.{extents}
 use Rattle.range_log.specs.Rows.{row_keys_of, levels_of, level_of, no_piece}
 use Rattle.range_log.specs.Log.{HasNode}
 use Rattle.std.specs.List.{Contains}
-use Rattle.blob_core.specs.World.{World, empty_world, node_at, node_in, origin, IsKnown, log_of}
+use Rattle.blob_core.specs.World.{World, empty_world, node_at, origin, IsKnown, log_of}
 use Rattle.blob_core.specs.Woven.{followed, found_in}
 use Rattle.blob_core.specs.Steps.{world_after, IsAllowed, AllAllowed, IsNumberedIn, RowIsThere}
-use Rattle.blob_core.specs.Walk.{Walked, leaf_walk, tree_walk_from, read_walk}
+use Rattle.blob_core.specs.Walk.{leaf_walk, tree_walk_from, read_walk}
 use Rattle.blob_core.proofs.Lists.{one_value, none_some}
 use Rattle.blob_core.specs.declared.step.Step.{Step}
 use Rattle.blob_core.specs.declared.step.Step.TheVariants as Moves

@@ -1,6 +1,6 @@
 -- The nodes that are there lead to the newest versions, and so a woven node is the row's.
-use Rattle.std.proofs.Common.{◌≡◌, ◌⊎◌, ℕ, ◌+◌, ◌-◌, ◌*◌, ◌/◌, ◌^◌, ◌<◌, ◌≤◌, zero, suc, Bool, true, false, List, [], ◌∷◌, length, arith, inl, inr, refl, ap, sym, subst, ◌∙◌, max}
-use Rattle.std.specs.Prelude.{◌==◌, nat_lt, nat_le, if◌then◌else◌, Option, Some, None}
+use Rattle.std.proofs.Common.{◌≡◌, ℕ, ◌+◌, ◌-◌, ◌*◌, ◌/◌, ◌^◌, ◌<◌, ◌≤◌, zero, suc, Bool, true, false, List, length, arith, inl, inr, refl, ap, sym, subst, ◌∙◌, max}
+use Rattle.std.specs.Prelude.{◌==◌, nat_lt, nat_le, if◌then◌else◌, Some}
 use Rattle.std.proofs.lemmas.Bool.{cases_lt}
 use Rattle.std.proofs.lemmas.Bool.Decides.{nat_tests}
 use Rattle.std.proofs.lemmas.Nat.{mul-le, pow_pos}
@@ -12,16 +12,15 @@ use Rattle.tree_geom.specs.declared.touch.Touch.{Touch}
 use Rattle.tree_geom.specs.declared.node.Node.{Node}
 use Rattle.tree_geom.specs.declared.node.Node.TheVariants.{Inner}
 use Rattle.tree_geom.specs.Geometry.{Aligned, meets_of, left_half, right_half, tree_range, page_range, span_of, height_of}
-use Rattle.tree_geom.specs.Nodes.{left_link, right_link}
 use Rattle.range_log.specs.declared.«open».OpenTouch.{OpenTouch}
 use Rattle.range_log.specs.Log.{touch_at, size_at, newest_of, HasNode}
-use Rattle.range_log.specs.Extents.{Extent, extent_at, InBounds, touches}
-use Rattle.range_log.specs.Updates.{extents, Replayable}
-use Rattle.range_log.specs.Rows.{node_of, inner_of, leaf_at, leaf_of, covered, back_of}
+use Rattle.range_log.specs.Extents.{Extent, extent_at, InBounds}
+use Rattle.range_log.specs.Updates.{extents}
+use Rattle.range_log.specs.Rows.{node_of, inner_of, leaf_at, covered, back_of}
 use Rattle.tree_walk.specs.Walk.{half_toward, descend, root_of, found, waiting_of}
 use Rattle.blob_core.specs.World.{World, Kept, node_in, log_of, waiting_after}
 use Rattle.blob_core.specs.Woven.{link_toward, followed, found_in, greatest_open, older_link, link_of, woven}
-use Rattle.blob_core.proofs.Growing.{Cited, length_extents, length_log}
+use Rattle.blob_core.proofs.Growing.{Cited, length_extents}
 
 -- ---- ranges
 abbrev ranged : ℕ → ℕ → Range

@@ -1,22 +1,22 @@
 -- What each step keeps true of a world.
-use Rattle.std.proofs.Common.{◌≡◌, ◌⊎◌, ℕ, ◌+◌, ◌-◌, ◌<◌, ◌≤◌, zero, suc, Bool, true, false, List, [], ◌∷◌, ◌++◌, length, take, arith, inl, inr, refl, ap, sym, subst, ◌∙◌}
-use Rattle.std.specs.Prelude.{◌==◌, if◌then◌else◌, Option, Some, None, slice_set, slice_index_or, replicate}
+use Rattle.std.proofs.Common.{◌≡◌, ◌⊎◌, ℕ, ◌+◌, ◌-◌, ◌<◌, ◌≤◌, zero, suc, Bool, true, false, List, [], ◌∷◌, length, arith, inl, inr, refl, ap, sym, subst, ◌∙◌}
+use Rattle.std.specs.Prelude.{◌==◌, if◌then◌else◌, Option, Some, None, slice_index_or}
 use Rattle.std.proofs.lemmas.Bool.Decides.{nat_tests}
 use Rattle.std.proofs.lemmas.Bool.{cases_lt}
 use Rattle.std.proofs.lemmas.List.{length-append, length-set, length-replicate, length-take-le, take-append-drop}
-use Rattle.std.specs.List.{Contains}
 use Rattle.blob_model.specs.Limits.{Bounds}
-use Rattle.blob_model.specs.Content.{Update, size_of, offset_of}
-use Rattle.blob_model.specs.Store.{Store, Blob, blob_at, with_blob, and_blob, and_update, finish, branch_of, published, assigned, is_finished, true_prefix, size_now}
+use Rattle.blob_model.specs.Content.{Update, offset_of}
+use Rattle.blob_model.specs.Store.{Store, Blob, blob_at, with_blob, and_blob, and_update, finish, branch_of, published, assigned, is_finished, size_now}
 use Rattle.tree_geom.specs.declared.range.Range.{Range}
 use Rattle.tree_geom.specs.declared.node.Node.{Node}
 use Rattle.tree_geom.specs.declared.node.NodeKey.{NodeKey}
-use Rattle.tree_geom.specs.declared.touch.Touch.{Touch}
-use Rattle.range_log.specs.Log.{HasNode, touch_at}
+use Rattle.range_log.specs.Log.{HasNode}
 use Rattle.range_log.specs.Extents.{InBounds}
 use Rattle.range_log.specs.Updates.{update_at, extents, Replayable}
 use Rattle.range_log.specs.Rows.{node_of}
-use Rattle.blob_core.specs.World.{World, empty_world, Parent, UpdateKey, Kept, IsKnown, entry_at, same_number, same_update, same_key, page_at, node_at, kept_at, origin, origin_of, key_in, node_in, joined, AreCut, log_of, waiting_after}
+use Rattle.blob_core.specs.World.{World, empty_world, Kept, same_number, same_update, same_key, page_at, node_at, kept_at, origin, origin_of, key_in, node_in, joined, AreCut, log_of, waiting_after}
+use Rattle.blob_core.specs.declared.world.Parent.{Parent}
+use Rattle.blob_core.specs.declared.world.UpdateKey.{UpdateKey}
 use Rattle.blob_core.specs.Woven.{woven}
 use Rattle.blob_core.specs.Steps.{IsNumberedIn, RowIsThere, next_kept, with_update, with_node}
 use Rattle.blob_core.specs.Promises.{IsRowNode, NodesAreRows}

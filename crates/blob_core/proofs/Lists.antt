@@ -1,14 +1,15 @@
 -- Lists, finite maps, pages and lineages.
-use Rattle.std.proofs.Common.{◌≡◌, ◌⊎◌, ℕ, ◌+◌, ◌-◌, ◌*◌, ◌<◌, ◌≤◌, zero, suc, Bool, true, false, List, [], ◌∷◌, ◌++◌, length, take, drop, arith, inl, inr, refl, ap, sym, subst, ◌∙◌, append-nil}
+use Rattle.std.proofs.Common.{◌≡◌, ◌⊎◌, ℕ, ◌+◌, ◌*◌, ◌<◌, ◌≤◌, zero, suc, Bool, true, false, List, [], ◌∷◌, ◌++◌, length, take, drop, arith, inl, inr, refl, ap, sym, subst, ◌∙◌, append-nil}
 use Rattle.std.specs.Prelude.{◌==◌, ◌&&◌, nat_le, if◌then◌else◌, Option, Some, None, slice_get, slice_set, slice_index_or, replicate}
 use Rattle.std.proofs.lemmas.Bool.Decides.{nat_tests}
 use Rattle.std.proofs.lemmas.List.{length-append}
-use Rattle.std.proofs.Math.Seq.{take-append_seam, drop-append-add, take-length}
+use Rattle.std.proofs.Math.Seq.{take-append_seam, drop-append-add}
 use Rattle.std.proofs.Math.ListN.{drop_of_length-le}
 use Rattle.blob_model.specs.Store.{true_prefix}
-use Rattle.tree_geom.specs.declared.range.Range.{Range}
 use Rattle.tree_geom.specs.declared.node.NodeKey.{NodeKey}
-use Rattle.blob_core.specs.World.{Parent, UpdateKey, IsKnown, entry_at, same_number, same_update, same_key, page_at, origin_of, bytes_of_page, joined, nth_page, AreCut}
+use Rattle.blob_core.specs.World.{IsKnown, entry_at, same_number, same_update, same_key, page_at, origin_of, bytes_of_page, joined, nth_page, AreCut}
+use Rattle.blob_core.specs.declared.world.Parent.{Parent}
+use Rattle.blob_core.specs.declared.world.UpdateKey.{UpdateKey}
 
 -- ---- tests
 pub none_some : {V : Type 0} (o : Option V) (v : V) → o ≡ None → o ≡ Some v → ⊥

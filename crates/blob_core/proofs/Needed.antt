@@ -1,24 +1,21 @@
 -- What each condition of a step is for: without it a promise is false. Computed from the definitions alone, which also say what
 -- a step leaves that isn't allowed.
-use Rattle.std.proofs.Common.{ℕ, suc}
-use Rattle.std.specs.Prelude.{◌≡◌, true, List, [], ◌∷◌, ◌++◌, Option, Some, None, refl, take, drop}
-use Rattle.blob_model.specs.Limits.{greatest}
+use Rattle.std.specs.Prelude.{◌≡◌, true, List, [], ◌∷◌, ◌++◌, Some, None, refl, take}
 use Rattle.blob_model.specs.Content.{content}
-use Rattle.blob_model.specs.Store.{Blob, blob_at, is_finished, published}
-use Rattle.blob_model.specs.declared.call.Place.TheVariants.{Append, WriteAt}
-use Rattle.tree_geom.specs.declared.node.Node.{Node}
+use Rattle.blob_model.specs.Store.{blob_at, is_finished}
+use Rattle.blob_model.specs.declared.call.Place.TheVariants.{Append}
 use Rattle.tree_geom.specs.declared.node.Node.TheVariants.{Inner}
 use Rattle.tree_geom.specs.Geometry.{height_of, doublings, span_of}
 use Rattle.range_log.specs.Log.{newest_of}
 use Rattle.range_log.specs.Extents.{touches}
 use Rattle.range_log.specs.Updates.{extents}
 use Rattle.range_log.specs.Rows.{row_keys_of, levels_of, level_of, node_of, back_of}
-use Rattle.blob_core.specs.World.{World, Kept, node_at, node_in, origin, log_of}
+use Rattle.blob_core.specs.World.{World, Kept, node_at, node_in, log_of}
 use Rattle.blob_core.specs.Woven.{followed, found_in, woven}
 use Rattle.blob_core.specs.Walk.{leaf_walk, tree_walk_from, read_walk}
 use Rattle.blob_core.specs.declared.step.Step.{Step}
 use Rattle.blob_core.specs.declared.step.Step.TheVariants as Moves
-use Rattle.blob_core.proofs.Example.{world_of, range_at, key, one_piece, blob_or, the_blob, published_of, two_appends}
+use Rattle.blob_core.proofs.Example.{world_of, range_at, key, one_piece, blob_or, the_blob, two_appends}
 
 -- ---- a finish, though the row isn't there
 abbrev finished_bare : World

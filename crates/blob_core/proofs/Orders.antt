@@ -1,11 +1,10 @@
 -- Three overlapping updates of one page: every order in which their nodes are stored and they are finished ends in the same bytes.
-use Rattle.std.specs.Prelude.{◌≡◌, ℕ, ◌+◌, ◌==◌, ◌&&◌, ◌||◌, zero, suc, Bool, false, if◌then◌else◌, List, [], ◌∷◌, ◌++◌, length, map, filter, replicate, refl}
+use Rattle.std.specs.Prelude.{◌≡◌, ℕ, ◌+◌, ◌==◌, ◌&&◌, zero, suc, if◌then◌else◌, List, [], ◌∷◌, ◌++◌, length, map, filter, replicate, refl}
 use Rattle.blob_model.specs.declared.call.Place.TheVariants.{Append, WriteAt}
 use Rattle.tree_geom.specs.Geometry.{height_of, doublings, span_of}
 use Rattle.range_log.specs.Log.{newest_of}
 use Rattle.range_log.specs.Extents.{touches}
 use Rattle.range_log.specs.Updates.{extents}
-use Rattle.blob_core.specs.World.{World}
 use Rattle.blob_core.specs.Woven.{followed, found_in}
 use Rattle.blob_core.specs.Walk.{leaf_walk, tree_walk_from, read_walk}
 use Rattle.blob_core.specs.declared.step.Step.{Step}

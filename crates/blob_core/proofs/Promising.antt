@@ -1,25 +1,20 @@
 -- The promises, from what every list of allowed steps keeps.
 use Rattle.std.proofs.Common.{◌≡◌, ℕ, ◌≤◌, List, length, ap, sym, subst, ◌∙◌, arith}
-use Rattle.std.specs.Prelude.{Option, Some}
-use Rattle.blob_model.specs.Limits.{Bounds}
-use Rattle.blob_model.specs.Content.{Update}
 use Rattle.blob_model.specs.Store.{Blob, blob_at, assigned, published}
 use Rattle.blob_model.specs.Answer.{answer}
 use Rattle.blob_model.specs.declared.call.Call.TheVariants as Calls
 use Rattle.blob_model.specs.declared.call.Outcome.{Outcome}
 use Rattle.blob_model.specs.declared.call.Outcome.TheVariants as Outcomes
-use Rattle.tree_geom.specs.declared.range.Range.{Range}
-use Rattle.tree_geom.specs.declared.node.Node.{Node}
 use Rattle.range_log.specs.Log.{HasNode}
 use Rattle.range_log.specs.Extents.{InBounds}
 use Rattle.range_log.specs.Updates.{extents}
 use Rattle.range_log.specs.Rows.{node_of}
 use Rattle.range_log.specs.Visits.{visits}
 use Rattle.tree_walk.specs.Walk.{root_of}
-use Rattle.blob_core.specs.World.{World, empty_world, node_in, key_in, log_of}
-use Rattle.blob_core.specs.Steps.{AllAllowed, world_after}
-use Rattle.blob_core.specs.Walk.{Way, read_walk}
-use Rattle.blob_core.specs.Promises.{NodesAreRows, FinishedRowsAreThere, FoundIsNewest, ReachedIsThere, ReadsAreContent, Holds, StepsHold, IsRowNode}
+use Rattle.blob_core.specs.World.{World, empty_world, key_in, log_of}
+use Rattle.blob_core.specs.Steps.{world_after}
+use Rattle.blob_core.specs.Walk.{read_walk}
+use Rattle.blob_core.specs.Promises.{FinishedRowsAreThere, FoundIsNewest, ReachedIsThere, ReadsAreContent, StepsHold, IsRowNode}
 use Rattle.blob_core.proofs.Lists.{one_value}
 use Rattle.blob_core.proofs.Growing.{Cited, length_extents}
 use Rattle.blob_core.proofs.Finding.{found_newest}

@@ -1,33 +1,33 @@
 -- A read by links brings the content, and visits no more nodes than the bound.
 use Rattle.std.proofs.Common.{◌≡◌, ◌⊎◌, ℕ, ◌+◌, ◌-◌, ◌*◌, ◌/◌, ◌^◌, ◌<◌, ◌≤◌, zero, suc, Bool, true, false, List, [], ◌∷◌, ◌++◌, length, take, drop, arith, inl, inr, refl, ap, sym, subst, ◌∙◌, max, min, append-nil, take-add}
-use Rattle.std.specs.Prelude.{◌==◌, ◌&&◌, nat_le, nat_lt, if◌then◌else◌, Option, Some, None}
+use Rattle.std.specs.Prelude.{◌==◌, ◌&&◌, nat_le, nat_lt, Option, Some}
 use Rattle.std.specs.List.{range_with_len, sum_by}
 use Rattle.std.proofs.lemmas.Bool.{cases_lt}
 use Rattle.std.proofs.lemmas.Bool.Decides.{nat_tests}
 use Rattle.std.proofs.lemmas.List.{drop-drop, drop-take, take-take}
 use Rattle.std.proofs.lemmas.List.Sums.{sum_by-append, sum_by-cons}
-use Rattle.std.proofs.lemmas.Nat.{mul-le, pow_pos, div_below, le-div}
+use Rattle.std.proofs.lemmas.Nat.{mul-le, div_below, le-div}
 use Rattle.std.proofs.Math.Nat.{pow-succ', mul-div_cancel}
 use Rattle.blob_model.specs.Content.{Update, put, content, size_of}
-use Rattle.blob_model.specs.Store.{Blob, blob_at, assigned, published}
+use Rattle.blob_model.specs.Store.{Blob, published}
 use Rattle.tree_geom.specs.declared.range.Range.{Range}
 use Rattle.tree_geom.specs.declared.touch.Touch.{Touch}
 use Rattle.tree_geom.specs.declared.node.Node.{Node}
-use Rattle.tree_geom.specs.declared.node.Node.TheVariants.{Inner, Leaf}
+use Rattle.tree_geom.specs.declared.node.Node.TheVariants.{Leaf}
 use Rattle.tree_geom.specs.declared.node.Piece.{Piece}
 use Rattle.tree_geom.specs.Nodes.{left_link, right_link}
 use Rattle.tree_geom.specs.Geometry.{tree_range, page_range, left_half, right_half, height_of, span_of, doublings}
 use Rattle.range_log.specs.Log.{newest_of, size_at, IsNewest, HasNode}
-use Rattle.range_log.specs.Extents.{Extent, extent_at, size_after, InBounds, touches}
-use Rattle.range_log.specs.Updates.{update_at, extent_of, extents, Replayable, page_bytes, own_bytes, piece_bytes}
-use Rattle.range_log.specs.Rows.{node_of, leaf_of, leaf_at, inner_of, back_of, covered, leaf_start, leaf_from, leaf_len, first_piece, second_piece, piece_count}
-use Rattle.range_log.specs.Visits.{backs_of, pages_met, visits}
+use Rattle.range_log.specs.Extents.{Extent, extent_at, size_after, InBounds}
+use Rattle.range_log.specs.Updates.{update_at, extent_of, extents, page_bytes, own_bytes, piece_bytes}
+use Rattle.range_log.specs.Rows.{node_of, leaf_of, inner_of, back_of, covered, leaf_start, leaf_from, leaf_len, first_piece, second_piece, piece_count}
+use Rattle.range_log.specs.Visits.{backs_of, visits}
 use Rattle.tree_walk.specs.Walk.{visited, root_of}
-use Rattle.blob_core.specs.World.{World, Kept, node_in, kept_at, origin, log_of, nth_page, joined}
+use Rattle.blob_core.specs.World.{World, Kept, node_in, kept_at, origin, log_of}
 use Rattle.blob_core.specs.Walk.{Walked, nothing, both, over, bytes_of_piece, leaf_walk, tree_walk_from, cut_out, read_walk}
 use Rattle.blob_core.proofs.Lists.{nth_is}
 use Rattle.blob_core.proofs.Growing.{Cited, extent_is, length_extents, length_log, size_in_log}
-use Rattle.blob_core.proofs.Finding.{RowsKnown, size_pos, left_is, right_is, page_is, inner_is, test_same, test_some, test_none, double}
+use Rattle.blob_core.proofs.Finding.{size_pos, left_is, right_is, page_is, inner_is, test_same, test_some, test_none, double}
 use Rattle.blob_core.proofs.Keeping.{Stands, BlobStands, UpdateStands, rows_known, in_bounds, published_within}
 
 -- ---- lists

@@ -1,22 +1,19 @@
 -- Every list of allowed steps keeps what holds of a world, and is a legal history.
-use Rattle.std.proofs.Common.{◌≡◌, ℕ, ◌≤◌, List, [], ◌∷◌, ◌++◌, length, arith, refl, ap, sym, subst, ◌∙◌}
+use Rattle.std.proofs.Common.{◌≡◌, ℕ, ◌≤◌, List, [], ◌∷◌, refl, ap, sym, subst, ◌∙◌}
 use Rattle.std.specs.Prelude.{Option}
-use Rattle.blob_model.specs.Limits.{Bounds}
 use Rattle.blob_model.specs.Content.{Update}
-use Rattle.blob_model.specs.Store.{Store, Blob, blob_at, with_blob, finish}
-use Rattle.blob_model.specs.Answer.{answer}
-use Rattle.blob_model.specs.History.{store_from, IsLegalFrom, IsAccepted, IsNumbered, MayCall, caller_of, call_of}
-use Rattle.blob_model.specs.declared.call.Event.{Event}
+use Rattle.blob_model.specs.Store.{Blob, blob_at, with_blob, finish}
+use Rattle.blob_model.specs.History.{store_from, IsLegalFrom, IsNumbered, MayCall}
 use Rattle.blob_model.specs.declared.call.Event.TheVariants as Events
 use Rattle.blob_model.specs.declared.call.Call.TheVariants as Calls
-use Rattle.blob_core.specs.World.{World, empty_world, joined}
-use Rattle.blob_core.specs.Steps.{IsAllowed, AllAllowed, IsNumberedIn, after, world_after, events_of, events_from}
+use Rattle.blob_core.specs.World.{World, joined}
+use Rattle.blob_core.specs.Steps.{IsAllowed, AllAllowed, IsNumberedIn, after, world_after, events_from}
 use Rattle.blob_core.specs.declared.step.Step.{Step}
 use Rattle.blob_core.specs.declared.step.Step.TheVariants as Moves
 use Rattle.blob_core.proofs.Lists.{joined_some, one_value}
 use Rattle.blob_core.proofs.Growing.{Cited}
 use Rattle.blob_core.proofs.Taken.{create_done, assign_done, finish_done, branch_done}
-use Rattle.blob_core.proofs.Keeping.{Stands, page_put, node_put, finished, numbered, created, branched, empty_stands}
+use Rattle.blob_core.proofs.Keeping.{Stands, page_put, node_put, finished, numbered, created, branched}
 
 pub step_stands : (c : Cited) (p : ℕ) (w : World) (step : Step) → 1 ≤ p → Stands p w → IsAllowed p w step → Stands p (after p w step)
 step_stands c p w (Moves.PagePut page bytes) pos s ok = page_put p w page bytes s ok.0 ok.1 ok.2

@@ -1,8 +1,8 @@
 -- What the store has done where it didn't refuse a change.
-use Rattle.std.proofs.Common.{◌≡◌, ◌⊎◌, ℕ, ◌+◌, ◌-◌, ◌<◌, ◌≤◌, zero, suc, Bool, true, false, List, [], ◌∷◌, ◌++◌, length, arith, inl, inr, refl, ap, sym, subst, ◌∙◌}
+use Rattle.std.proofs.Common.{◌≡◌, ◌⊎◌, ℕ, ◌+◌, ◌-◌, ◌≤◌, suc, Bool, true, false, List, [], ◌∷◌, ◌++◌, length, arith, inl, inr, refl, ap, ◌∙◌}
 use Rattle.std.specs.Prelude.{◌==◌, nat_lt, if◌then◌else◌, Option, Some, None, slice_get, slice_set}
 use Rattle.std.proofs.lemmas.Bool.Decides.{nat_tests}
-use Rattle.blob_model.specs.Content.{Update, offset_of}
+use Rattle.blob_model.specs.Content.{offset_of}
 use Rattle.blob_model.specs.Store.{Store, Blob, blob_at, with_blob, and_blob, and_update, finish, branch_of, published, size_now}
 use Rattle.blob_model.specs.Answer.{answer, refuse, Answered, Test, first_refusal, too_many_blobs, offset_past_size, blob_too_big, too_many_versions, too_many_open, already, not_published, range_past_size, bytes_of}
 use Rattle.blob_model.specs.Content.{size_of}
@@ -12,7 +12,7 @@ use Rattle.blob_model.specs.declared.call.Call.TheVariants as Calls
 use Rattle.blob_model.specs.declared.call.Outcome.TheVariants as Outcomes
 use Rattle.blob_model.specs.declared.call.Refusal.{Refusal}
 use Rattle.blob_model.specs.declared.call.Refusal.TheVariants as Refusals
-use Rattle.blob_core.proofs.Lists.{get_set_same, get_set, get_set_on, get_more, get_below, get_next, one_value}
+use Rattle.blob_core.proofs.Lists.{get_set_same, get_set, get_set_on, get_more, get_below, get_next}
 
 -- ---- not refused
 unless_done : (s : Store) (o : Option Refusal) (done : Answered) → is_refused (let a : Answered = elim o [ Some r ↦ refuse s r | None ↦ done ] in a).1 ≡ false

@@ -1,6 +1,5 @@
-use Rattle.std.specs.Prelude.{◌≡◌, ℕ, ◌+◌, ◌-◌, ◌≤◌, Bool, false, List, [], ◌∷◌, ◌++◌, length, Option, Some, None}
+use Rattle.std.specs.Prelude.{◌≡◌, ℕ, ◌+◌, ◌-◌, ◌≤◌, false, List, [], ◌∷◌, ◌++◌, length, Some, None}
 use Rattle.std.specs.List.{Contains}
-use Rattle.blob_model.specs.Limits.{Bounds}
 use Rattle.blob_model.specs.Store.{Store, Blob, blob_at, assigned, published}
 use Rattle.blob_model.specs.Answer.{answer}
 use Rattle.blob_model.specs.History.{store_from, caller_of, call_of, is_refused}
@@ -12,7 +11,8 @@ use Rattle.tree_geom.specs.declared.node.Node.{Node}
 use Rattle.tree_geom.specs.declared.node.NodeKey.{NodeKey}
 use Rattle.range_log.specs.Log.{HasNode}
 use Rattle.range_log.specs.Rows.{row_keys_of}
-use Rattle.blob_core.specs.World.{World, Parent, Kept, UpdateKey, IsKnown, empty_world, page_at, node_at, kept_at, origin, joined, AreCut, log_of, waiting_after}
+use Rattle.blob_core.specs.World.{World, Kept, IsKnown, page_at, node_at, kept_at, origin, joined, AreCut, log_of, waiting_after}
+use Rattle.blob_core.specs.declared.world.UpdateKey.{UpdateKey}
 use Rattle.blob_core.specs.Woven.{woven}
 use Rattle.blob_core.specs.declared.step.Step.{Step}
 use Rattle.blob_core.specs.declared.step.Step.TheVariants as Moves

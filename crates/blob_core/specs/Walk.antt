@@ -1,4 +1,4 @@
-use Rattle.std.specs.Prelude.{ℕ, ◌+◌, ◌-◌, ◌*◌, ◌/◌, ◌^◌, ◌==◌, ◌&&◌, nat_lt, nat_le, zero, suc, Bool, true, false, if◌then◌else◌, List, [], ◌∷◌, ◌++◌, length, take, drop, Option, Some, None}
+use Rattle.std.specs.Prelude.{ℕ, ◌+◌, ◌-◌, ◌*◌, ◌/◌, ◌^◌, ◌==◌, ◌&&◌, nat_lt, nat_le, zero, suc, true, false, List, [], ◌∷◌, ◌++◌, take, drop, Some, None}
 use Rattle.blob_model.specs.Content.{put}
 use Rattle.blob_model.specs.Store.{Blob}
 use Rattle.tree_geom.specs.declared.range.Range.{Range}
@@ -9,7 +9,7 @@ use Rattle.tree_geom.specs.Geometry.{tree_range, page_range, left_half, right_ha
 use Rattle.tree_geom.specs.Nodes.{left_link, right_link, back_link}
 use Rattle.range_log.specs.Extents.{size_after}
 use Rattle.range_log.specs.Updates.{extents}
-use Rattle.blob_core.specs.World.{World, Kept, node_in, kept_at, origin, nth_page}
+use Rattle.blob_core.specs.World.{World, node_in, kept_at, origin, nth_page}
 
 -- ---- what links lead to
 -- a way on from a node: by one of its links, or by its back

@@ -7,6 +7,8 @@ use Rattle.tree_geom.specs.declared.touch.Touch.{Touch}
 use Rattle.tree_geom.specs.declared.node.Node.{Node}
 use Rattle.tree_geom.specs.declared.node.NodeKey.{NodeKey}
 use Rattle.range_log.specs.declared.«open».OpenTouch.{OpenTouch}
+use Rattle.blob_core.specs.declared.world.Parent.{Parent}
+use Rattle.blob_core.specs.declared.world.UpdateKey.{UpdateKey}
 use Rattle.range_log.specs.Log.{touch_at}
 use Rattle.range_log.specs.Extents.{touches}
 use Rattle.range_log.specs.Updates.{extents}
@@ -22,16 +24,6 @@ abbrev pub IsKnown : {V : Type 0} → Option V → Type 0
 IsKnown {V} o = (v : V) × (o ≡ Some v)
 
 -- ---- what a world is
--- the blob that a branch was made from, and the version that it was taken at
-pub record Parent : Type 0 where
-  pub blob : ℕ
-  pub version : ℕ
-
--- which update: the blob that it was numbered in, and its version
-pub record UpdateKey : Type 0 where
-  pub blob : ℕ
-  pub version : ℕ
-
 -- what is kept beside an update: the numbers of its pages in order, and its hints, which are the version that was published
 -- at its numbering and what the updates touch that waited below it
 pub record Kept : Type 0 where

@@ -1,4 +1,4 @@
-use Rattle.std.specs.Prelude.{ℕ, ◌+◌, ◌/◌, ◌==◌, nat_lt, nat_le, zero, suc, Bool, true, false, if◌then◌else◌, List, [], ◌∷◌, max, Option, Some, None}
+use Rattle.std.specs.Prelude.{ℕ, ◌+◌, ◌/◌, ◌==◌, nat_lt, nat_le, zero, suc, true, false, if◌then◌else◌, List, [], ◌∷◌, max, Some, None}
 use Rattle.blob_model.specs.Store.{Blob}
 use Rattle.tree_geom.specs.declared.range.Range.{Range}
 use Rattle.tree_geom.specs.declared.touch.Touch.{Touch}
@@ -8,7 +8,7 @@ use Rattle.tree_geom.specs.Geometry.{meets_of, left_half, right_half, page_range
 use Rattle.tree_geom.specs.Nodes.{left_link, right_link}
 use Rattle.range_log.specs.declared.«open».OpenTouch.{OpenTouch}
 use Rattle.range_log.specs.Log.{touch_at, size_at}
-use Rattle.range_log.specs.Extents.{Extent, extent_at}
+use Rattle.range_log.specs.Extents.{extent_at}
 use Rattle.range_log.specs.Updates.{extents}
 use Rattle.range_log.specs.Rows.{covered, leaf_at}
 use Rattle.tree_walk.specs.Walk.{half_toward, root_of}

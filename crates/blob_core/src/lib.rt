@@ -9,6 +9,8 @@
 
 mod laws;
 mod step;
+mod world;
 
 pub use laws::steps_hold;
 pub use step::{PageList, Step};
+pub use world::World;

@@ -10,4 +10,6 @@ mod pages;
 #[cfg(test)]
 mod placement;
 #[cfg(test)]
+mod steps;
+#[cfg(test)]
 mod walks;
