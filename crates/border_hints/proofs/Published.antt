@@ -1,15 +1,15 @@
 -- The newest versions of ranges in the published snapshot, from the root down.
-use Rattle.std.proofs.Common.{◌≡◌, ◌⊎◌, ℕ, zero, suc, ◌+◌, ◌-◌, ◌*◌, ◌/◌, ◌%◌, ◌^◌, ◌<◌, ◌≤◌, List, length, arith, inl, inr, refl, ap, sym, subst, ◌∙◌}
+use Rattle.std.proofs.Common.{◌≡◌, ◌⊎◌, ℕ, zero, suc, ◌+◌, ◌*◌, ◌^◌, ◌<◌, ◌≤◌, List, length, arith, inl, inr, refl, ap, sym, subst, ◌∙◌}
 use Rattle.std.proofs.lemmas.Bool.{cases_lt}
 use Rattle.std.proofs.lemmas.Nat.{mul-le, pow_pos}
 use Rattle.std.proofs.lemmas.List.{length-map}
 use Rattle.std.proofs.Math.Nat.{pow-succ', pow-le-pow_right}
 use Rattle.tree_geom.specs.declared.range.Range.{Range}
 use Rattle.tree_geom.specs.declared.touch.Touch.{Touch}
-use Rattle.tree_geom.specs.Geometry.{IsPageSize, doublings, tree_range, height_of, span_of, left_half, right_half, Meets}
-use Rattle.tree_geom.specs.Laws.{HeightsHold, SpanOfSome, RangesNest, LowHalvesAlign, HighHalvesAlign, HeightsHalve}
+use Rattle.tree_geom.specs.Geometry.{IsPageSize, doublings, tree_range, height_of, span_of, left_half, right_half}
+use Rattle.tree_geom.specs.Laws.{HeightsHold, SpanOfSome, RangesNest, LowHalvesAlign, HighHalvesAlign}
 use Rattle.range_log.specs.Log.{newest_of, touch_at, size_at, HasNode}
-use Rattle.range_log.specs.Laws.{Grown, LinksAgree, NewestOfNone, NewestHits, NewestHasNode, NewestIsNone, TouchesAre, SizesAre, LogsAreGrown, ExtentsStand}
+use Rattle.range_log.specs.Laws.{Grown, LinksAgree, NewestOfNone, NewestHits, NewestHasNode, NewestIsNone, SizesAre, LogsAreGrown, ExtentsStand}
 use Rattle.range_log.specs.Updates.{extents}
 use Rattle.snapshot.specs.Versions.{Version, written, updates_of, size_now, IsVersion, IsFound, no_row, row_at}
 use Rattle.border_hints.specs.Numbered.{log_of}
@@ -17,8 +17,8 @@ use Rattle.boxcar.specs.Table.{Shelves}
 use Rattle.node_store.specs.House.{IsIn}
 use Rattle.node_store.specs.Placed.{PlacedNode}
 use Rattle.std.proofs.lemmas.List.Elements.{All-contains}
-use Rattle.border_hints.specs.Borders.{newest_known, NodesLieIn}
-use Rattle.border_hints.proofs.Tickets.{length-extents, length-log_of}
+use Rattle.border_hints.specs.Borders.{NodesLieIn}
+use Rattle.border_hints.proofs.Tickets.{length-extents}
 
 -- ---- the snapshot's log
 pub log_grown : LogsAreGrown → ExtentsStand → (s : Version) → IsVersion s → 1 ≤ s.page_size → Grown s.page_size (log_of s)

@@ -1,26 +1,25 @@
 -- The steps down to a page, and the ranges beside its path.
-use Rattle.std.proofs.Common.{◌≡◌, ◌≢◌, ◌⊎◌, ℕ, zero, suc, ◌+◌, ◌-◌, ◌*◌, ◌/◌, ◌%◌, ◌^◌, ◌<◌, ◌≤◌, List, [], ◌∷◌, ◌++◌, length, map, set, arith, inl, inr, refl, ap, sym, subst, ◌∙◌, true, false, get_or, length-append}
-use Rattle.std.specs.Prelude.{◌==◌, if◌then◌else◌, slice_index}
+use Rattle.std.proofs.Common.{◌≡◌, ◌≢◌, ℕ, zero, suc, ◌+◌, ◌-◌, ◌*◌, ◌/◌, ◌%◌, ◌^◌, ◌<◌, ◌≤◌, List, [], ◌∷◌, ◌++◌, length, map, set, arith, inl, inr, refl, ap, sym, subst, ◌∙◌, true, false, get_or, length-append}
+use Rattle.std.specs.Prelude.{◌==◌, if◌then◌else◌}
 use Rattle.std.proofs.lemmas.Bool.{cases_lt}
 use Rattle.std.proofs.lemmas.Bool.Decides.{nat_tests}
 use Rattle.std.proofs.lemmas.Nat.{mul-le, pow_pos, div_below}
-use Rattle.std.proofs.lemmas.List.{length-map, get_or-map, get_or_append_left, get_or-append_right, get_or-set_same, get_or-set_other, length-set}
-use Rattle.std.proofs.Math.Nat.{pow-succ', pow-le-pow_right, div-div-eq-div-mul, div-mul-le_self, lt-div-mul-add}
+use Rattle.std.proofs.lemmas.List.{get_or-map, get_or_append_left, get_or-append_right, get_or-set_same, get_or-set_other, length-set}
+use Rattle.std.proofs.Math.Nat.{pow-succ', div-div-eq-div-mul, div-mul-le_self, lt-div-mul-add}
 use Rattle.std.proofs.Math.Seq.{get_or-append_seam}
 use Rattle.tree_geom.specs.declared.range.Range.{Range}
 use Rattle.tree_geom.specs.declared.touch.Touch.{Touch}
-use Rattle.tree_geom.specs.Geometry.{tree_range, page_range, height_of, span_of, no_touch, Meets, meets_of}
+use Rattle.tree_geom.specs.Geometry.{tree_range, page_range, height_of, span_of, no_touch, meets_of}
 use Rattle.tree_geom.specs.Laws.{HeightsHold, SpanOfSome, RangesNest}
 use Rattle.range_log.specs.Laws.{Grown, NewestHits, NewestOfNone, LogsAreGrown}
 use Rattle.range_log.specs.declared.open.OpenTouch.{OpenTouch}
 use Rattle.range_log.specs.Log.{newest_of, touch_at, size_at}
 use Rattle.range_log.specs.Laws.{TouchesAre, LogsGrow}
 use Rattle.range_log.specs.Open.{no_open, open_at}
-use Rattle.snapshot.specs.Versions.{Version}
 use Rattle.border_hints.specs.Numbered.{NumberedUpdate, log_of, log_with, own_touch, log_upto, StandsFor, IsNumbered}
-use Rattle.border_hints.specs.Borders.{beside, newest_known, EdgeLinks, KnowsEdge, edge_links}
+use Rattle.border_hints.specs.Borders.{beside, newest_known, KnowsEdge, edge_links}
 use Rattle.border_hints.proofs.Tickets.{length-log_of, length-log_with}
-use Rattle.border_hints.proofs.Published.{double, size_pos, taller, holds_root}
+use Rattle.border_hints.proofs.Published.{double, holds_root}
 
 -- ---- a ticket's touches
 abbrev pub touch_in : OpenTouch → Touch

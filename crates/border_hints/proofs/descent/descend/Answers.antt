@@ -1,4 +1,4 @@
-use Rattle.std.proofs.Common.{◌≡◌, ℕ, ◌+◌, ◌-◌, ◌*◌, ◌^◌, ◌<◌, ◌≤◌, List, length, arith, refl, ap, sym, ◌∙◌}
+use Rattle.std.proofs.Common.{◌≡◌, ℕ, ◌-◌, ◌≤◌, length, arith, refl, ap, ◌∙◌}
 use Rattle.tree_geom.specs.Geometry.{height_of}
 use Rattle.range_log.specs.Log.{newest_of}
 use Rattle.snapshot.specs.Versions.{Version}

@@ -1,4 +1,4 @@
-use Rattle.std.proofs.Common.{◌≡◌, ◌+◌, ◌-◌, ◌≤◌, length}
+use Rattle.std.proofs.Common.{◌+◌, ◌-◌, ◌≤◌, length}
 use Rattle.tree_geom.specs.Geometry.{height_of}
 use Rattle.border_hints.specs.Numbered.{log_of, log_upto}
 use Rattle.border_hints.proofs.Turning.{Down}

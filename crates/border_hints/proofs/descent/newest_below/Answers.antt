@@ -1,11 +1,11 @@
-use Rattle.std.proofs.Common.{◌≡◌, ℕ, zero, ◌+◌, ◌-◌, ◌<◌, ◌≤◌, List, length, arith, ap, sym, ◌∙◌, true, Bool}
+use Rattle.std.proofs.Common.{◌≡◌, ℕ, ◌+◌, ◌-◌, ◌<◌, ◌≤◌, List, length, arith, ap, sym, ◌∙◌, true, Bool}
 use Rattle.tree_geom.specs.declared.range.Range.{Range}
 use Rattle.tree_geom.specs.Geometry.{meets_of}
 use Rattle.range_log.specs.declared.open.OpenTouch.{OpenTouch}
 use Rattle.range_log.specs.Log.{newest_of}
 use Rattle.range_log.specs.Open.{open_at}
 use Rattle.snapshot.specs.Versions.{Version}
-use Rattle.border_hints.specs.Numbered.{NumberedUpdate, log_upto}
+use Rattle.border_hints.specs.Numbered.{log_upto}
 use Rattle.border_hints.proofs.Turning.{waiting_hit, waiting_miss, newest_stays}
 use Rattle.border_hints.proofs.descent.newest_below.Goals as goal
 

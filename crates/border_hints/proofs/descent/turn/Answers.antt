@@ -1,5 +1,5 @@
-use Rattle.std.proofs.Common.{◌≡◌, ℕ, ◌+◌, ◌-◌, ◌*◌, ◌/◌, ◌%◌, ◌^◌, ◌<◌, ◌≤◌, length, arith, ap, sym, subst, ◌∙◌}
-use Rattle.tree_geom.specs.Geometry.{tree_range, height_of}
+use Rattle.std.proofs.Common.{ℕ, ◌+◌, ◌-◌, ◌*◌, ◌/◌, ◌^◌, ◌≤◌, arith, ap, sym, subst, ◌∙◌}
+use Rattle.tree_geom.specs.Geometry.{tree_range}
 use Rattle.snapshot.specs.Versions.{Version}
 use Rattle.border_hints.specs.Borders.{newest_known}
 use Rattle.border_hints.proofs.Published.{page_pos, size_is}
