@@ -1,1 +1,4 @@
 pub mod Tickets
+pub mod Published
+pub mod Turning
+pub mod Halves

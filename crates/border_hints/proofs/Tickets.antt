@@ -10,14 +10,13 @@ use Rattle.tree_geom.specs.declared.touch.Touch.{Touch}
 use Rattle.tree_geom.specs.Geometry.{no_touch, touched_by}
 use Rattle.range_log.specs.declared.open.OpenTouch.{OpenTouch}
 use Rattle.range_log.specs.Log.{touch_at, size_at}
-use Rattle.range_log.specs.Extents.{Extent, no_extent, InBounds, IsLog, extent_at, size_after, touches, touch_of}
+use Rattle.range_log.specs.Extents.{Extent, no_extent, InBounds, IsLog, extent_at, size_after, touches}
 use Rattle.range_log.specs.Updates.{extent_of, extents}
 use Rattle.range_log.specs.Open.{open_at, Rises}
 use Rattle.range_log.specs.Laws.{TouchesAre, EachTouchIs, SizesAre, RowsStay}
-use Rattle.node_store.specs.Rows.{UpdateRow}
-use Rattle.page_store.specs.Stored.{Cut, joined}
-use Rattle.snapshot.specs.Versions.{Version, written, updates, updates_of, IsVersion}
-use Rattle.border_hints.specs.Numbered.{NumberedUpdate, log_of, log_with, own_touch, log_upto, StandsFor, IsNumbered}
+use Rattle.page_store.specs.Stored.{joined}
+use Rattle.snapshot.specs.Versions.{Version, written, updates_of, IsVersion}
+use Rattle.border_hints.specs.Numbered.{NumberedUpdate, log_of, log_with, own_touch, log_upto, IsNumbered}
 
 pub length-extents : (us : List Update) → length (extents us) ≡ length us
 unfolding extents

@@ -1,0 +1,55 @@
+use Rattle.std.proofs.Common.{◌≡◌, ℕ, ◌+◌, ◌-◌, ◌<◌, ◌≤◌, List, length, arith, ap, sym, ◌∙◌, true, Bool}
+use Rattle.tree_geom.specs.declared.range.Range.{Range}
+use Rattle.tree_geom.specs.Geometry.{meets_of}
+use Rattle.range_log.specs.declared.open.OpenTouch.{OpenTouch}
+use Rattle.range_log.specs.Log.{newest_of}
+use Rattle.range_log.specs.Open.{open_at}
+use Rattle.snapshot.specs.Versions.{Version}
+use Rattle.border_hints.specs.Numbered.{log_upto}
+use Rattle.border_hints.proofs.Turning.{waiting_hit, waiting_miss, newest_stays}
+use Rattle.border_hints.proofs.descent.newest_below.Goals as goal
+
+-- the waiting update that the code reads
+read : (waiting told : List OpenTouch) (i : ℕ) (o : OpenTouch) → told ≡ waiting → o ≡ open_at told i → o ≡ open_at waiting i
+read waiting told i o e is = is ∙ ap (λ w. open_at w i) e
+
+-- whether it touches the range
+tested : (p q : ℕ) (o x : OpenTouch) (range : Range) (test value : Bool) → q ≡ p → o ≡ x → test ≡ meets_of q o.touch range → test ≡ value → meets_of p x.touch range ≡ value
+tested p q o x range test value e is met v =
+    ap (λ n. meets_of n x.touch range) (sym e) ∙ ap (λ (y : OpenTouch). meets_of q y.touch range) (sym is) ∙ sym met ∙ v
+
+index_fits : (waiting told : List OpenTouch) (count i : ℕ) → told ≡ waiting → count ≡ length told → i ≤ count → 0 < i → i - 1 < length waiting
+index_fits waiting told count i e is le some = omega (arith, ap length e)
+
+pub returns-then-meets : goal.returns-then-meets
+returns-then-meets c =
+    let t = c.args.ticket.now in
+    let i = c.loop-i.i in
+    let got = read t.waiting _ (i - 1) c.at-waiting.result c.hints-hints.ensures.waiting c.at-waiting.ensures in
+    let size = c.page_size-p.ensures ∙ ap (λ (s : Version). s.page_size) c.hints-hints.ensures.snapshot in
+    let lt = index_fits t.waiting _ c.count-i.result i c.hints-hints.ensures.waiting c.count-i.ensures.count (omega (arith, c.loop-i.auto.i)) (omega (arith, c.loop-i-test.true)) in
+    ap (λ (o : OpenTouch). o.version) got
+    ∙ sym (waiting_hit c.logs_are_grown.ensures.count t c.version-version.ensures.stands c.args.range (i - 1) i lt (omega (arith, c.loop-i-test.true))
+    (tested t.snapshot.page_size c.page_size-p.result c.at-waiting.result (open_at t.waiting (i - 1)) c.args.range c.meets.result true size got c.meets.ensures.is c.if-meets.true))
+    ∙ c.loop-i.invariant
+
+pub loop-i-preserved : goal.loop-i-preserved
+loop-i-preserved c =
+    let t = c.args.ticket.now in
+    let i = c.loop-i.i in
+    let got = read t.waiting _ (i - 1) c.at-waiting.result c.hints-hints.ensures.waiting c.at-waiting.ensures in
+    let size = c.page_size-p.ensures ∙ ap (λ (s : Version). s.page_size) c.hints-hints.ensures.snapshot in
+    let lt = index_fits t.waiting _ c.count-i.result i c.hints-hints.ensures.waiting c.count-i.ensures.count (omega (arith, c.loop-i.auto.i)) (omega (arith, c.loop-i-test.true)) in
+    sym (waiting_miss c.logs_are_grown.ensures.count t c.args.range (i - 1) i lt (omega (arith, c.loop-i-test.true))
+    (tested t.snapshot.page_size c.page_size-p.result c.at-waiting.result (open_at t.waiting (i - 1)) c.args.range c.meets.result _ size got c.meets.ensures.is c.if-meets.false))
+    ∙ c.loop-i.invariant
+
+pub returns : goal.returns
+returns c =
+    let t = c.args.ticket.now in
+    let p = t.snapshot.page_size in
+    let e : length t.snapshot.rows ≡ length t.snapshot.rows + c.loop-i.i = omega (arith, c.loop-i-test.false) in
+    c.requires.known
+    ∙ newest_stays c.logs_are_grown.ensures.count c.older_versions_stay.ensures.grow t c.args.range
+    ∙ ap (λ n. newest_of p (log_upto t) n c.args.range) e
+    ∙ c.loop-i.invariant

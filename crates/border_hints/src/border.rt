@@ -1,0 +1,75 @@
+// The borders of an update's row, and their newest lower versions.
+ghost use Rattle.std.specs.Prelude.{◌≡◌, ℕ, ◌/◌, ◌<◌, ◌↔◌, List, IsTrue};
+ghost use Rattle.tree_geom.specs.declared.touch.Touch.{Touch};
+ghost use Rattle.range_log.specs.Log.{newest_of};
+ghost use Rattle.border_hints.specs.Borders.{AreBorders, IsBorder};
+
+use std::marker::Model;
+use tree_geom::{PageSize, Range, Touch, height};
+
+/// The heights of the ranges of a tree, from a page's, 0, to the greatest root's, 38.
+pub(crate) const HEIGHTS: usize = 39;
+
+/// The newest lower versions along the path from the root to an edge of the row.
+#[derive(Clone, Copy)]
+pub(crate) struct Edge {
+    // at each height, that for the range beside the one on the path
+    pub besides: [u64; HEIGHTS],
+    // that for the page at the end of the path
+    pub leaf: u64,
+}
+
+/// The newest lower versions for the ranges over the borders of an update's row: the halves of its nodes that it doesn't
+/// touch, and its first and its last page.
+#[derive(Drop)]
+pub struct Borders {
+    pub(crate) page_size: PageSize,
+    pub(crate) touch: Touch,
+    pub(crate) first: Edge,
+    pub(crate) last: Edge,
+}
+
+impl Model for Borders {
+    ghost use Rattle.std.specs.Prelude.{◌^◌, ◌≤◌};
+    ghost use Rattle.tree_geom.specs.Geometry.{span_of};
+    ghost use Rattle.border_hints.specs.Borders.{BorderLinks, edge_links};
+
+    ghost Value = { BorderLinks };
+
+    ghost view = { λ b. record { page_size = b.page_size; touch = b.touch; first = edge_links b.first.besides b.first.leaf; last = edge_links b.last.besides b.last.leaf } };
+
+    ghost invariant = { λ b. (b.touch.first ≤ b.touch.last) × (span_of b.page_size b.touch.size ≤ 2 ^ 40) };
+}
+
+// Whether the range is that page's, of `size` bytes.
+fn is_page(range: Range, size: u64, page: u64) -> bool
+    requires { 0 < size }
+    ensures { IsTrue result ↔ ((range.size ≡ size) × (range.offset / size ≡ page)) }
+{
+    range.size == size && range.offset / size == page
+}
+
+impl Borders {
+    /// The newest lower version that touches the range, or 0. The range is a half that the update doesn't touch, of a node of
+    /// its row, or the range of its first or its last page.
+    pub fn of(&self, range: Range) -> u64
+        requires { IsBorder self.now.page_size self.now.touch range }
+        ensures { (log : List Touch) (k : ℕ) → AreBorders log k self.now → result ≡ newest_of self.now.page_size log k range }
+    {
+        tree_geom::laws::spans_hold();
+        tree_geom::laws::ranges_align();
+        let size = self.page_size.bytes();
+        if is_page(range, size, self.touch.first) {
+            return self.first.leaf;
+        }
+        if is_page(range, size, self.touch.last) {
+            return self.last.leaf;
+        }
+        let level = height(self.page_size, range.size) as usize;
+        if range.offset / size < self.touch.first {
+            self.first.besides[level]
+        } else {
+            self.last.besides[level]
+        }
+    }
+}

@@ -1,0 +1,152 @@
+// The way down the published snapshot's tree to the edges of an update's row.
+ghost use Rattle.std.specs.Prelude.{◌≡◌, ℕ, ◌+◌, ◌-◌, ◌*◌, ◌/◌, ◌^◌, ◌<◌, ◌≤◌, List, length};
+ghost use Rattle.tree_geom.specs.Geometry.{tree_range, height_of};
+ghost use Rattle.range_log.specs.Log.{newest_of};
+ghost use Rattle.snapshot.specs.Versions.{size_now};
+ghost use Rattle.border_hints.specs.Numbered.{log_upto, own_touch};
+ghost use Rattle.border_hints.specs.Borders.{beside, newest_known, NodesLieIn, KnowsEdge, AreBorders, edge_links};
+
+use crate::border::{Borders, Edge, HEIGHTS};
+use crate::known::halves_known;
+use crate::ticket::Ticket;
+use node_store::NodeHouse;
+use snapshot::Snapshot;
+use std::sync::ledger::Ledger;
+use tree_geom::{Range, Steps, height, meets, span};
+
+// The newest lower version for the range: the newest waiting update that touches it, or else `known`, that of the snapshot.
+fn newest_below(ticket: &Ticket, range: Range, known: u64) -> u64
+    requires fits { range.offset + range.size ≤ 2 ^ 40 }
+    requires known { known ≡ newest_known ticket.now.snapshot range }
+    ensures { result ≡ newest_of ticket.now.snapshot.page_size (log_upto ticket.now) (ticket.now.version - 1) range }
+{
+    range_log::laws::logs_are_grown();
+    range_log::laws::older_versions_stay();
+    let _version = ticket.version();
+    let hints = ticket.hints();
+    let p = hints.snapshot.page_size();
+    for i in (0..hints.waiting.count()).rev() {
+        let waiting = hints.waiting.at(i);
+        if meets(p, &waiting.touch, range) {
+            return waiting.version;
+        }
+    }
+    known
+}
+
+// The height of the snapshot's tree, or 0 for version 0.
+fn tree_height(snapshot: &Snapshot) -> u32
+    ensures { result ≡ height_of snapshot.now.page_size (size_now snapshot.now) }
+{
+    if snapshot.size() == 0 {
+        return 0;
+    }
+    height(snapshot.page_size(), snapshot.size())
+}
+
+// One step on the path to the page, down to the range of height `level`, from the one above, whose newest version of the
+// snapshot is `at`: that for the next range on the path, and the newest lower version for the one beside it.
+#[tactic(auto, using(crate::proofs::Published::power_small, crate::proofs::Published::size_small))]
+fn turn<L: Ledger>(
+    ticket: &Ticket,
+    nodes: &NodeHouse,
+    at: u64,
+    tall: u32,
+    level: u32,
+    page: u64,
+    steps: &mut Steps<L>,
+) -> (u64, u64)
+    requires here { NodesLieIn nodes.now ticket.now.snapshot }
+    requires tall { tall ≡ height_of ticket.now.snapshot.page_size (size_now ticket.now.snapshot) }
+    requires level { level < height_of ticket.now.snapshot.page_size ticket.now.size }
+    requires low { height_of ticket.now.snapshot.page_size ticket.now.size ≤ 38 }
+    requires page { page * ticket.now.snapshot.page_size < ticket.now.size }
+    requires root { ticket.now.snapshot.page_size * 2 ^ height_of ticket.now.snapshot.page_size ticket.now.size ≤ 2 ^ 40 }
+    requires at { at ≡ newest_known ticket.now.snapshot (tree_range ticket.now.snapshot.page_size (level + 1) (page / 2 ^ (level + 1))) }
+    ensures on { result.0 ≡ newest_known ticket.now.snapshot (tree_range ticket.now.snapshot.page_size level (page / 2 ^ level)) }
+    ensures off { let t = ticket.now in
+        result.1 ≡ newest_of t.snapshot.page_size (log_upto t) (t.version - 1) (tree_range t.snapshot.page_size level (beside (page / 2 ^ level))) }
+    ensures steps { steps.new ≤ steps.old + 1 }
+{
+    tree_geom::laws::spans_hold();
+    tree_geom::laws::ranges_align();
+    let _version = ticket.version();
+    let snapshot = &ticket.hints().snapshot;
+    let pages = 2u64.pow(level);
+    let size = snapshot.page_size().bytes() * pages;
+    let number = page / pages;
+    let (low, high) = halves_known(snapshot, nodes, at, tall, level, number / 2, steps);
+    if number % 2 == 0 {
+        let range = Range {
+            offset: (number + 1) * size,
+            size,
+        };
+        (low, newest_below(ticket, range, high))
+    } else {
+        let range = Range {
+            offset: (number - 1) * size,
+            size,
+        };
+        (high, newest_below(ticket, range, low))
+    }
+}
+
+// The newest lower versions along the path to the page, which is one of the update's version.
+fn descend<L: Ledger>(ticket: &Ticket, nodes: &NodeHouse, page: u64, steps: &mut Steps<L>) -> Edge
+    requires here { NodesLieIn nodes.now ticket.now.snapshot }
+    requires page { page * ticket.now.snapshot.page_size < ticket.now.size }
+    ensures knows { let t = ticket.now in
+        KnowsEdge t.snapshot.page_size (log_upto t) (t.version - 1) (height_of t.snapshot.page_size t.size) page (edge_links result.besides result.leaf) }
+    ensures steps { steps.new ≤ steps.old + height_of ticket.now.snapshot.page_size ticket.now.size }
+{
+    tree_geom::laws::spans_hold();
+    tree_geom::laws::ranges_align();
+    range_log::laws::newest_is_greatest();
+    range_log::laws::logs_are_grown();
+    range_log::laws::page_bytes_stay();
+    range_log::laws::older_versions_stay();
+    let snapshot = &ticket.hints().snapshot;
+    let p = snapshot.page_size();
+    let _version = ticket.version();
+    let _root = span(p, ticket.size());
+    let tall = tree_height(snapshot);
+    let mut at = snapshot.version();
+    let mut besides = [0; HEIGHTS];
+    for level in (0..height(p, ticket.size())).rev() {
+        let (on, off) = turn(ticket, nodes, at, tall, level, page, steps);
+        besides[level as usize] = off;
+        at = on;
+    }
+    let range = Range {
+        offset: page * p.bytes(),
+        size: p.bytes(),
+    };
+    Edge {
+        besides,
+        leaf: newest_below(ticket, range, at),
+    }
+}
+
+/// The newest lower versions over the borders of the row of the ticket's update.
+///
+/// It goes down the snapshot's tree once for each edge, and takes at most `4 h + 4` node steps, `h` the height of the tree
+/// after the update. It takes no memory, no lock, and waits for nobody.
+#[tactic(auto, using(crate::proofs::Turning::first_inside, crate::proofs::Turning::last_inside, crate::proofs::Turning::pages_ordered))]
+pub fn borders<L: Ledger>(ticket: &Ticket, nodes: &NodeHouse, steps: &mut Steps<L>) -> Borders
+    requires here { NodesLieIn nodes.now ticket.now.snapshot }
+    ensures page_size { result.page_size ≡ ticket.now.snapshot.page_size }
+    ensures touch { result.touch ≡ own_touch ticket.now }
+    ensures borders { AreBorders (log_upto ticket.now) (ticket.now.version - 1) result }
+    ensures steps { steps.new ≤ steps.old + 4 * height_of ticket.now.snapshot.page_size ticket.now.size + 4 }
+{
+    let _version = ticket.version();
+    let page_size = ticket.hints().snapshot.page_size();
+    let _root = span(page_size, ticket.size());
+    let touch = ticket.touch();
+    Borders {
+        page_size,
+        touch,
+        first: descend(ticket, nodes, touch.first, steps),
+        last: descend(ticket, nodes, touch.last, steps),
+    }
+}
