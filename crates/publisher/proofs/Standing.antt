@@ -1,5 +1,5 @@
 -- Rows of the updates that a window stands for.
-use Rattle.std.proofs.Common.{◌≡◌, ◌≢◌, ℕ, zero, suc, ◌+◌, ◌-◌, ◌^◌, ◌<◌, ◌≤◌, List, [], ◌∷◌, ◌++◌, length, Option, None, Some, unwrap_or, arith, refl, ap, sym, ◌∙◌, subst, inl, inr, get_or, set, length-append, get_or-set_other}
+use Rattle.std.proofs.Common.{◌≡◌, ◌≢◌, ℕ, zero, suc, ◌+◌, ◌-◌, ◌^◌, ◌≤◌, List, [], ◌∷◌, ◌++◌, length, Option, None, Some, unwrap_or, arith, ap, sym, ◌∙◌, subst, inl, inr, get_or, set, length-append, get_or-set_other}
 use Rattle.std.proofs.lemmas.Bool.{cases_lt}
 use Rattle.std.proofs.lemmas.Grind.{get_or-set_at}
 use Rattle.std.proofs.lemmas.List.{append_assoc, get_or_append_left}
@@ -12,7 +12,7 @@ use Rattle.node_store.specs.Rows.{UpdateRow}
 use Rattle.snapshot.specs.Versions.{Version, no_row, row_at, updates, IsRowOf, IsVersion}
 use Rattle.snapshot.specs.Laws.{AreRowsOf, RowsTell}
 use Rattle.publisher.specs.Windows.{Numbered, leading, with_finished, StandsFor}
-use Rattle.publisher.specs.Kept.{AreReady, Ready}
+use Rattle.publisher.specs.Kept.{Ready}
 use Rattle.publisher.proofs.Leading.{leading_at}
 
 page_pos : (p : ℕ) → IsPageSize p → 1 ≤ p
@@ -34,15 +34,15 @@ stands_finished us w version row some le s own = record {
       elim (cases_lt i k) [
         | inl below ↦ other (λ q. omega arith)
         | inr from ↦ elim (cases_lt k i) [
-            | inl past ↦ other (λ q. omega arith)
-            | inr upto ↦
-                let e : i ≡ k = omega arith in
-                let same : row ≡ r = some_is row r (get_or (set w.rows k (Some row)) i None) (get_or-set_at w.rows k i (Some row) None e (omega arith)) is in
-                let f : version ≡ suc i = omega arith in
-                let P : ℕ → Type 0 = λ n. IsRowOf w.page_size us n row in
-                let R : UpdateRow → Type 0 = λ x. IsRowOf w.page_size us (suc i) x in
-                subst R same (subst P f own)
-          ]
+          | inl past ↦ other (λ q. omega arith)
+          | inr upto ↦
+              let e : i ≡ k = omega arith in
+              let same : row ≡ r = some_is row r (get_or (set w.rows k (Some row)) i None) (get_or-set_at w.rows k i (Some row) None e (omega arith)) is in
+              let f : version ≡ suc i = omega arith in
+              let P : ℕ → Type 0 = λ n. IsRowOf w.page_size us n row in
+              let R : UpdateRow → Type 0 = λ x. IsRowOf w.page_size us (suc i) x in
+              subst R same (subst P f own)
+        ]
       ];
 }
 
@@ -57,13 +57,15 @@ are_rows us w le s = record { few = omega (arith, s.counted); each = each }
 -- fewer rows are those of the first of the updates too
 pub ready_front : (p : ℕ) (xs ys : List UpdateRow) → Ready p (xs ++ ys) → Ready p xs
 ready_front p xs ys (us, ready) =
-    let count : length (xs ++ ys) ≡ length xs + length ys = length-append xs ys in
-    (us, record {
-      replayable = ready.replayable;
-      fits = ready.fits;
-      counted = omega (arith, ready.counted);
-      own = record { few = omega (arith, ready.own.few); each = each us ready.own count };
-    })
+    let count : length (xs ++ ys) ≡ length xs + length ys = length-append xs ys in (
+      us,
+      record {
+        replayable = ready.replayable;
+        fits = ready.fits;
+        counted = omega (arith, ready.counted);
+        own = record { few = omega (arith, ready.own.few); each = each us ready.own count };
+      },
+    )
   where
     each : (us : List Update) → AreRowsOf p us (xs ++ ys) → length (xs ++ ys) ≡ length xs + length ys → (k : ℕ) → 1 ≤ k → k ≤ length xs → IsRowOf p us k (row_at xs k)
     each us own count zero some le = absurd (omega arith)
@@ -90,7 +92,8 @@ next_ready tell s row is (us, ready) =
     let last : n ≡ suc (length s.rows) = omega arith in
     let newest : row_at all n ≡ row = ap (row_at all) last ∙ get_or-append_seam s.rows row [] no_row in
     let R : UpdateRow → Type 0 = λ r. IsRowOf p (updates p all) n r in
-    let B : ℕ → Type 0 = λ m. m ≤ 2 ^ 40 in
-    (subst R newest (told.own.each n (omega arith) (omega arith)),
-     told.replayable,
-     subst B (sym (ap length (told.leave n (omega arith)))) (ready.fits n (omega (arith, ready.own.few))))
+    let B : ℕ → Type 0 = λ m. m ≤ 2 ^ 40 in (
+      subst R newest (told.own.each n (omega arith) (omega arith)),
+      told.replayable,
+      subst B (sym (ap length (told.leave n (omega arith)))) (ready.fits n (omega (arith, ready.own.few))),
+    )

@@ -1,5 +1,5 @@
 -- What a window is, by how it is kept.
-use Rattle.std.proofs.Common.{◌≡◌, ℕ, zero, suc, ◌+◌, ◌-◌, ◌<◌, ◌≤◌, List, [], ◌∷◌, ◌++◌, length, take, drop, map, is_some, option_map, Option, None, Some, true, false, arith, refl, ap, sym, ◌∙◌, subst, get_or, set, length-append, length-drop, length-set, take-append-drop}
+use Rattle.std.proofs.Common.{◌≡◌, ℕ, suc, ◌+◌, ◌-◌, ◌<◌, ◌≤◌, List, [], ◌∷◌, ◌++◌, length, take, drop, map, is_some, option_map, Option, None, Some, true, false, arith, refl, ap, sym, ◌∙◌, subst, get_or, set, length-append, length-drop, take-append-drop}
 use Rattle.std.proofs.lemmas.List.{append_assoc, append-nil, length-map, map-append, drop-map, get_or-map, get_or_append_left, set-append_right}
 use Rattle.std.proofs.Math.Seq.{drop-append_seam, get_or-append-add, set-append_seam, take-length}
 use Rattle.blob_model.specs.Content.{Update}
@@ -8,13 +8,11 @@ use Rattle.tree_geom.specs.Geometry.{no_touch}
 use Rattle.range_log.specs.declared.open.OpenTouch.{OpenTouch}
 use Rattle.range_log.specs.Open.{no_open}
 use Rattle.range_log.specs.Log.{touch_at}
-use Rattle.range_log.specs.Extents.{touches}
-use Rattle.range_log.specs.Updates.{extents}
 use Rattle.node_store.specs.Rows.{UpdateRow}
-use Rattle.snapshot.specs.Versions.{Version, no_row, row_at, IsRowOf}
+use Rattle.snapshot.specs.Versions.{Version, no_row, IsRowOf}
 use Rattle.snapshot.specs.Laws.{AreRowsOf}
 use Rattle.publisher.specs.Windows.{Numbered, leading, is_finished, published_of, version_of, waiting_of, opens_from, with_finished, StandsFor, IsRowIn}
-use Rattle.publisher.specs.Kept.{present, row_touches, open_touches, over, KeepsWindow, AreReady, Ready}
+use Rattle.publisher.specs.Kept.{present, row_touches, open_touches, over, KeepsWindow, Ready}
 use Rattle.publisher.proofs.Leading.{leading_over, published_counts, present_drop, leading_rest, leading_set, leading_more, first_missing, touches_match}
 use Rattle.publisher.proofs.Opens.{open_as, opens_drop, opens_push, opens_at}
 use Rattle.publisher.proofs.Standing.{stands_finished, are_rows}
@@ -136,12 +134,15 @@ module _ (s : Version) (opens : List OpenTouch) (above : List (Option UpdateRow)
           subst P leading_moved (are_rows us w few st)
 
       pub ready_moved : Ready s.page_size (s.rows ++ moved)
-      ready_moved = (us, record {
-        replayable = stands.replayable;
-        fits = stands.fits;
-        counted = omega (arith, all_length, few_moved, kept.paired, kept.counted);
-        own = own_rows;
-      })
+      ready_moved = (
+        us,
+        record {
+          replayable = stands.replayable;
+          fits = stands.fits;
+          counted = omega (arith, all_length, few_moved, kept.paired, kept.counted);
+          own = own_rows;
+        },
+      )
 
       touch_moved : (i : ℕ) → i < passed → (get_or moved i no_row).touch ≡ get_or (open_touches opens) i no_touch
       touch_moved i lt =

@@ -1,5 +1,5 @@
 -- What a clause sees of a window: the numbered updates of one blob, and the rows of those that are finished.
-use Rattle.std.specs.Prelude.{◌≡◌, ℕ, zero, suc, ◌+◌, ◌-◌, ◌^◌, ◌≤◌, Bool, false, List, [], ◌∷◌, ◌++◌, length, drop, map, Option, None, Some, is_some, slice_set, slice_index_or}
+use Rattle.std.specs.Prelude.{◌≡◌, ℕ, suc, ◌+◌, ◌-◌, ◌^◌, ◌≤◌, Bool, false, List, [], ◌∷◌, ◌++◌, length, drop, map, Option, None, Some, is_some, slice_set, slice_index_or}
 use Rattle.blob_model.specs.Content.{Update, size_of}
 use Rattle.blob_model.specs.Store.{true_prefix}
 use Rattle.tree_geom.specs.declared.touch.Touch.{Touch}

@@ -1,4 +1,4 @@
-use Rattle.std.proofs.Common.{List, [], ◌∷◌, ◌++◌, sym, subst}
+use Rattle.std.proofs.Common.{[], ◌∷◌, ◌++◌, sym, subst}
 use Rattle.std.specs.Arc.{arc_value}
 use Rattle.node_store.specs.Rows.{UpdateRow}
 use Rattle.publisher.specs.Kept.{Ready}

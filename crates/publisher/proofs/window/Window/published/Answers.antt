@@ -1,4 +1,4 @@
-use Rattle.std.proofs.Common.{◌≡◌, ap, sym, ◌∙◌, map, option_map}
+use Rattle.std.proofs.Common.{ap, sym, ◌∙◌, map, option_map}
 use Rattle.std.specs.Arc.{arc_value}
 use Rattle.publisher.specs.Windows.{published_of}
 use Rattle.publisher.proofs.Windows.{published_is}

@@ -1,4 +1,4 @@
-use Rattle.std.proofs.Common.{◌≡◌, ap, ◌∙◌, map, option_map}
+use Rattle.std.proofs.Common.{ap, ◌∙◌, map, option_map}
 use Rattle.std.specs.Arc.{arc_value}
 use Rattle.publisher.specs.Windows.{version_of}
 use Rattle.publisher.proofs.Windows.{version_is}

@@ -1,4 +1,4 @@
-use Rattle.std.proofs.Common.{◌≡◌, ◌≤◌, length, IfOk, arith, ap, sym, ◌∙◌, subst, map, option_map}
+use Rattle.std.proofs.Common.{◌≡◌, IfOk, arith, ap, sym, ◌∙◌, subst, map, option_map}
 use Rattle.std.specs.Arc.{arc_value}
 use Rattle.snapshot.specs.Versions.{Version, older_version}
 use Rattle.publisher.specs.Windows.{version_of, published_of}

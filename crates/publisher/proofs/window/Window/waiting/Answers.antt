@@ -1,4 +1,4 @@
-use Rattle.std.proofs.Common.{◌≡◌, ap, ◌∙◌, map, option_map, vec_capacity}
+use Rattle.std.proofs.Common.{ap, ◌∙◌, map, option_map, vec_capacity}
 use Rattle.std.specs.Arc.{arc_value}
 use Rattle.publisher.specs.Windows.{waiting_of}
 use Rattle.publisher.proofs.Windows.{waiting_is}
