@@ -1,0 +1,70 @@
+-- The rows before the first missing one.
+use Rattle.std.proofs.Common.{◌≡◌, ℕ, zero, suc, ◌+◌, ◌<◌, ◌≤◌, List, [], ◌∷◌, ◌++◌, length, take, drop, map, is_some, option_map, Option, None, Some, arith, refl, ap, sym, ◌∙◌, get_or, set}
+use Rattle.std.proofs.lemmas.List.{drop_more}
+use Rattle.blob_model.specs.Store.{true_prefix}
+use Rattle.tree_geom.specs.declared.touch.Touch.{Touch}
+use Rattle.tree_geom.specs.Geometry.{no_touch}
+use Rattle.node_store.specs.Rows.{UpdateRow}
+use Rattle.snapshot.specs.Versions.{no_row}
+use Rattle.publisher.specs.Windows.{leading}
+use Rattle.publisher.specs.Kept.{present, row_touches}
+
+pub leading_over : (rows : List UpdateRow) (above : List (Option UpdateRow)) → leading (present rows ++ above) ≡ rows ++ leading above
+leading_over [] above = refl
+leading_over (r ∷ rs) above = ap (λ l. r ∷ l) (leading_over rs above)
+
+pub published_counts : (xs : List (Option UpdateRow)) → true_prefix (map is_some xs) ≡ length (leading xs)
+published_counts [] = refl
+published_counts (None ∷ xs) = refl
+published_counts (Some r ∷ xs) = omega (arith, published_counts xs)
+
+pub present_drop : (xs : List (Option UpdateRow)) → present (leading xs) ++ drop (length (leading xs)) xs ≡ xs
+present_drop [] = refl
+present_drop (None ∷ xs) = refl
+present_drop (Some r ∷ xs) = ap (λ l. Some r ∷ l) (present_drop xs)
+
+pub leading_rest : (xs : List (Option UpdateRow)) → leading (drop (length (leading xs)) xs) ≡ []
+leading_rest [] = refl
+leading_rest (None ∷ xs) = refl
+leading_rest (Some r ∷ xs) = leading_rest xs
+
+none_leads : (r : UpdateRow) (rs : List UpdateRow) → r ∷ rs ≡ [] → ⊥
+none_leads r rs e = let n : length (r ∷ rs) ≡ 0 = ap length e in omega arith
+
+pub leading_set : (xs : List (Option UpdateRow)) (i : ℕ) (v : Option UpdateRow) → leading xs ≡ [] → 0 < i → leading (set xs i v) ≡ []
+leading_set xs zero v e lt = absurd (omega arith)
+leading_set [] (suc i) v e lt = refl
+leading_set (None ∷ xs) (suc i) v e lt = refl
+leading_set (Some r ∷ xs) (suc i) v e lt = absurd (none_leads r (leading xs) e)
+
+pub leading_more : (xs : List (Option UpdateRow)) → leading xs ≡ [] → leading (xs ++ None ∷ []) ≡ []
+leading_more [] e = refl
+leading_more (None ∷ xs) e = refl
+leading_more (Some r ∷ xs) e = absurd (none_leads r (leading xs) e)
+
+-- what leads where the next place isn't empty
+pub place_leads : {A : Type 0} (view : A → UpdateRow) (xs : List (Option A)) (i : ℕ) (x : Option A) (a : A) → i < length xs → x ≡ get_or xs i x → x ≡ Some a
+    → leading (map (option_map view) (drop i xs)) ≡ view a ∷ leading (map (option_map view) (drop (i + 1) xs))
+place_leads {A} view xs i x a lt at is =
+    let F : List (Option A) → List UpdateRow = λ l. leading (map (option_map view) l) in
+    ap F (drop_more xs i x lt) ∙ ap (λ (o : Option A). F (o ∷ drop (i + 1) xs)) (sym at ∙ is)
+
+-- the place of the least unfinished update is empty
+pub first_missing : (xs : List (Option UpdateRow)) → leading xs ≡ [] → 0 < length xs → xs ≡ None ∷ drop 1 xs
+first_missing [] e lt = absurd (omega arith)
+first_missing (None ∷ xs) e lt = refl
+first_missing (Some r ∷ xs) e lt = absurd (none_leads r (leading xs) e)
+
+pub leading_at : (xs : List (Option UpdateRow)) (i : ℕ) (d : UpdateRow) → i < length (leading xs) → get_or xs i None ≡ Some (get_or (leading xs) i d)
+leading_at [] i d lt = absurd (omega arith)
+leading_at (None ∷ xs) i d lt = absurd (omega arith)
+leading_at (Some r ∷ xs) zero d lt = refl
+leading_at (Some r ∷ xs) (suc i) d lt = leading_at xs i d (omega arith)
+
+-- rows that touch what the first of these touches say
+pub touches_match : (rows : List UpdateRow) (ts : List Touch) → length rows ≤ length ts → ((i : ℕ) → i < length rows → (get_or rows i no_row).touch ≡ get_or ts i no_touch) → row_touches rows ≡ take (length rows) ts
+touches_match [] ts le same = refl
+touches_match (r ∷ rs) [] le same = absurd (omega arith)
+touches_match (r ∷ rs) (t ∷ ts) le same =
+    ap (λ x. x ∷ row_touches rs) (same 0 (omega arith))
+    ∙ ap (λ l. t ∷ l) (touches_match rs ts (omega arith) (λ i lt. same (suc i) (omega arith)))

@@ -1,0 +1,4 @@
+pub mod Leading
+pub mod Opens
+pub mod Standing
+pub mod Windows

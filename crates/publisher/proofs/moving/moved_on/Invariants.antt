@@ -1,0 +1,11 @@
+use Rattle.std.proofs.Common.{◌≡◌, ◌++◌, drop, map, option_map}
+use Rattle.std.specs.Arc.{arc_value}
+use Rattle.publisher.specs.Windows.{leading}
+use Rattle.publisher.proofs.moving.moved_on.Given as goal
+
+abbrev pub invariant-loop-place : goal.invariant-loop-place
+invariant-loop-place l = record {
+  blob : l.snapshot.blob ≡ l.initial.snapshot.blob;
+  page_size : l.snapshot.page_size ≡ l.initial.snapshot.page_size;
+  rows : l.snapshot.rows ++ leading (map (option_map arc_value) (drop l.place-index l.above)) ≡ l.initial.snapshot.rows ++ leading (map (option_map arc_value) l.above);
+}

@@ -1,0 +1,57 @@
+// How the published version moves on over finished updates.
+ghost use Rattle.std.specs.Prelude.{◌≡◌, ◌+◌, ◌≤◌, ◌++◌, [], ◌∷◌, length, drop, map, option_map, vec_len, vec_capacity, IfOk};
+ghost use Rattle.std.specs.Arc.{arc_value};
+ghost use Rattle.snapshot.specs.Versions.{next_version};
+ghost use Rattle.publisher.specs.Windows.{leading};
+ghost use Rattle.publisher.specs.Kept.{Ready};
+
+use node_store::{NoMemory, Row};
+use snapshot::{Snapshot, laws};
+use std::alloc::Global;
+use std::sync::Arc;
+
+/// The version after that one and after the rows that stand next above it, none of which is missing.
+pub(crate) fn moved_on(
+    alloc: Global,
+    base: &Snapshot,
+    row: &Arc<Row>,
+    above: &[Option<Arc<Row>>],
+) -> Result<Snapshot, NoMemory>
+    requires { Ready base.now.page_size (base.now.rows ++ arc_value row.now ∷ leading (map (option_map arc_value) above.now)) }
+    ensures blob { IfOk result (λ s. s.blob ≡ base.now.blob) }
+    ensures page_size { IfOk result (λ s. s.page_size ≡ base.now.page_size) }
+    ensures rows { IfOk result (λ s. s.rows ≡ base.now.rows ++ arc_value row.now ∷ leading (map (option_map arc_value) above.now)) }
+{
+    let mut snapshot = with_next(alloc, base, row)?;
+    for place in above {
+        match place {
+            Some(row) => snapshot = with_next(alloc, &snapshot, row)?,
+            None => return Ok(snapshot),
+        }
+    }
+    Ok(snapshot)
+}
+
+// The version after that one, whose row this is.
+fn with_next(alloc: Global, snapshot: &Snapshot, row: &Arc<Row>) -> Result<Snapshot, NoMemory>
+    requires { Ready snapshot.now.page_size (snapshot.now.rows ++ arc_value row.now ∷ []) }
+    ensures { IfOk result (λ s. s ≡ next_version snapshot.now (arc_value row.now)) }
+{
+    laws::rows_tell();
+    let _version = snapshot.version();
+    match snapshot.with_row(alloc, Arc::try_clone(row)?) {
+        Ok(next) => Ok(next),
+        Err(_) => Err(NoMemory),
+    }
+}
+
+/// Takes the first `n` places away, of which there are that many. The room stays.
+pub(crate) fn drop_first(places: &mut Vec<Option<Arc<Row>>>, n: usize)
+    requires { n ≤ vec_len places.old }
+    ensures items { places.new.items ≡ drop n places.old.items }
+    ensures room { vec_capacity places.new ≡ vec_capacity places.old }
+{
+    let kept = places.len() - n;
+    places.rotate_left(n);
+    places.truncate(kept);
+}
