@@ -53,6 +53,7 @@ pub(crate) fn answer_script<R: Wait + Threads + Sync, K: Sink>(
     ensures answering { Answering (heard script.items).items (K.written out.old) (K.written out.new) result }
     ensures write_faults { RoseBy (write_faults_of result) (K.write_faults out.old) (K.write_faults out.new) }
 {
+    // Laws that tell what was written, by the stream's end.
     transcripts_are_legal();
     endings_hold();
     let mut dialect = match ScriptDialect::new(alloc) {
@@ -72,6 +73,7 @@ pub(crate) fn answer_script<R: Wait + Threads + Sync, K: Sink>(
         End::InputEnd => Answered::All,
         End::WriteFault => Answered::WriteFault,
         End::NoMemory => Answered::NoMemory,
+        // No line is a Quit, a script isn't cut, and bytes in memory neither fail nor reach the limit.
         End::Quit | End::Cut | End::ReadFault | End::InputTooLong => unreachable!(),
     }
 }

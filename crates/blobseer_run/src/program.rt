@@ -44,6 +44,7 @@ fn run_script<R: Wait + Threads + Sync, S: Source, K: Sink>(
     ensures read_faults { RoseBy 0 (S.read_faults script.old) (S.read_faults script.new) }
     ensures write_faults { RoseBy 0 (K.write_faults out.old) (K.write_faults out.new) }
 {
+    // A law: where there is no memory, nothing was written, and that is the beginning of a transcript.
     transcripts_are_legal();
     match take_all(alloc, script, INPUT_LIMIT) {
         Ok(bytes) => answer_script(rt, alloc, bytes.into_vec(), out).status_or(Status::Done),

@@ -1,0 +1,59 @@
+-- From one leaf of a page to the next.
+use Rattle.std.proofs.Common.{◌≡◌, ℕ, ◌+◌, ◌-◌, ◌*◌, ◌<◌, ◌≤◌, List, length, arith, ap, sym, ◌∙◌, inl, inr, Bool, true, false, get_or, min}
+use Rattle.std.proofs.lemmas.Bool.{cases_lt}
+use Rattle.blob_model.specs.Content.{Update, size_of}
+use Rattle.tree_geom.specs.Geometry.{page_range}
+use Rattle.range_log.specs.Log.{HasNode}
+use Rattle.range_log.specs.Extents.{Extent, InBounds, touches}
+use Rattle.range_log.specs.Updates.{page_bytes}
+use Rattle.range_log.specs.Rows.{covered, back_of}
+use Rattle.range_log.specs.Laws.{PageBytesStay, BacksHaveNoHoles}
+use Rattle.snapshot.specs.Versions.{Version, updates_of, size_now, IsVersion}
+use Rattle.range_reader.specs.Reading.{newest_in}
+use Rattle.range_reader.specs.Filling.{Taken}
+use Rattle.range_reader.proofs.Parts.{either}
+use Rattle.range_reader.proofs.LeafBytes.{length-page}
+use Rattle.range_reader.proofs.Standing.{AreIn}
+use Rattle.range_reader.proofs.Among.{length-updates}
+use Rattle.range_reader.proofs.Leaves.{page_pos}
+
+pub not_true : (b : Bool) → (b ≡ true → ⊥) → b ≡ false
+not_true b never = elim (either b) [ inl yes' ↦ absurd (never yes') | inr is ↦ is ]
+
+-- a byte that wasn't wanted isn't wanted after a leaf
+pub stays_unmarked : (start len begin x : ℕ) (old new : List Bool) → Taken start len begin old new → x < length old → get_or old x false ≡ false → get_or new x false ≡ false
+stays_unmarked start len begin x old new t lt unmarked =
+    elim (cases_lt (begin + x) start) [
+      | inl below ↦ t.below x lt below ∙ unmarked
+      | inr from ↦ elim (cases_lt (begin + x) (start + len)) [
+        | inl within ↦ t.within x lt from within
+        | inr above ↦ t.above x lt above ∙ unmarked
+      ]
+    ]
+
+-- at first all bytes are in the page at its newest version
+pub in_newest : PageBytesStay → (s : Version) → IsVersion s → (i newest begin count : ℕ) (marks : List Bool) → newest ≡ newest_in s (page_range s.page_size i) → begin + count ≤ s.page_size
+    → i * s.page_size + begin + count ≤ size_now s → AreIn (page_bytes s.page_size (updates_of s) (length s.rows) i) (page_bytes s.page_size (updates_of s) newest i) begin count marks
+in_newest stay s is i newest begin count marks same within valid =
+    let p : ℕ = s.page_size in
+    let us : List Update = updates_of s in
+    let v : ℕ = length s.rows in
+    let e : page_bytes p us v i ≡ page_bytes p us newest i =
+    stay p v i us (page_pos p is.page_size) is.replayable (omega (arith, length-updates s)) ∙ ap (λ n. page_bytes p us n i) (sym same) in
+    let n : length (page_bytes p us newest i) ≡ min p (size_of us v - i * p) = ap length (sym e) ∙ length-page p us v i in
+    record {
+      same = λ x lt yes'. ap (λ (l : List ℕ). get_or l (begin + x) 0) e;
+      valid = λ x lt yes'. omega (arith, n);
+    }
+
+back_none : (p k i : ℕ) (xs : List Extent) → covered p xs k i ≡ true → back_of p xs k i ≡ 0
+unfolding back_of
+back_none p k i xs is = rw (is, back_of)
+
+-- backs lead to older versions
+pub back_less : BacksHaveNoHoles → (p k i : ℕ) (xs : List Extent) → 1 ≤ p → InBounds xs → HasNode p (touches p xs) k (page_range p i) → back_of p xs k i < k
+back_less holes p k i xs pos bounds has =
+    elim (either (covered p xs k i)) [
+      | inl is ↦ (let e : back_of p xs k i ≡ 0 = back_none p k i xs is in omega (arith, has.version.0))
+      | inr un ↦ (holes p k i xs pos bounds has un).1
+    ]

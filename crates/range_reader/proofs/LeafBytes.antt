@@ -1,0 +1,147 @@
+-- The bytes of a page by its leaves.
+use Rattle.std.proofs.Common.{◌≡◌, ◌⊎◌, ℕ, zero, suc, ◌+◌, ◌-◌, ◌*◌, ◌<◌, ◌≤◌, List, ◌++◌, length, take, drop, arith, refl, ap, sym, ◌∙◌, subst, inl, inr, Bool, true, false, get_or, max, min, length-append, length-drop, length-take}
+use Rattle.std.specs.List.{range_with_len}
+use Rattle.std.proofs.lemmas.Bool.Decides.{nat_tests}
+use Rattle.std.proofs.lemmas.List.{get_or-take, get_or-drop, get_or_append_left, get_or-append_right, length-take-le}
+use Rattle.std.proofs.lemmas.List.FromFn.{get_or-map-range_with_len}
+use Rattle.std.proofs.lemmas.List.{length-map}
+use Rattle.std.proofs.lemmas.List.FromFn.{length-range_with_len}
+use Rattle.blob_model.specs.Content.{Update, put, size_of}
+use Rattle.tree_geom.specs.Geometry.{page_range}
+use Rattle.range_log.specs.Log.{HasNode, newest_of}
+use Rattle.range_log.specs.Extents.{Extent, no_extent, extent_at, size_after, touches}
+use Rattle.range_log.specs.Updates.{update_at, extents, extent_of, Replayable, page_bytes}
+use Rattle.range_log.specs.Rows.{leaf_lo, leaf_start, leaf_from, leaf_len, covers, covered, back_of}
+use Rattle.range_log.specs.Laws.{LeavesFill, LeavesFit, PageBytesStay, ExtentsStand}
+use Rattle.range_reader.proofs.Parts.{part_read, length_part}
+
+pub length-extents : (us : List Update) → length (extents us) ≡ length us
+unfolding extents
+length-extents us = length-map (range_with_len 1 (length us)) (λ k. extent_of us k) ∙ length-range_with_len 1 (length us)
+
+pub extent_is : (us : List Update) (k : ℕ) → k < length us → extent_at (extents us) (suc k) ≡ extent_of us (suc k)
+unfolding extents
+extent_is us k h = get_or-map-range_with_len (λ j. extent_of us j) 1 (length us) k (suc k) no_extent h (omega arith)
+
+-- ---- the parts of bytes that were put over others
+put_front : (c : List ℕ) (at : ℕ) (b : List ℕ) (x : ℕ) → at ≤ length c → x < at → get_or (put c at b) x 0 ≡ get_or c x 0
+put_front c at b x le lt =
+    let n : length (take at c) ≡ at = length-take-le at c le in
+    let m : length (take at c ++ b) ≡ at + length b = length-append (take at c) b ∙ ap (λ k. k + length b) n in
+    get_or_append_left (take at c ++ b) (drop (at + length b) c) 0 x (omega arith) ∙ get_or_append_left (take at c) b 0 x (omega arith) ∙ get_or-take at c x 0 lt
+
+put_own : (c : List ℕ) (at : ℕ) (b : List ℕ) (x : ℕ) → at ≤ length c → at ≤ x → x < at + length b → get_or (put c at b) x 0 ≡ get_or b (x - at) 0
+put_own c at b x le from lt =
+    let n : length (take at c) ≡ at = length-take-le at c le in
+    let m : length (take at c ++ b) ≡ at + length b = length-append (take at c) b ∙ ap (λ k. k + length b) n in
+    get_or_append_left (take at c ++ b) (drop (at + length b) c) 0 x (omega arith) ∙ get_or-append_right (take at c) b at x 0 n from
+
+put_rest : (c : List ℕ) (at : ℕ) (b : List ℕ) (x : ℕ) → at ≤ length c → at + length b ≤ x → get_or (put c at b) x 0 ≡ get_or c x 0
+put_rest c at b x le from =
+    let n : length (take at c) ≡ at = length-take-le at c le in
+    let m : length (take at c ++ b) ≡ at + length b = length-append (take at c) b ∙ ap (λ k. k + length b) n in
+    let e : at + length b + (x - (at + length b)) ≡ x = omega arith in
+    get_or-append_right (take at c ++ b) (drop (at + length b) c) (at + length b) x 0 m from ∙ get_or-drop (at + length b) c (x - (at + length b)) 0 ∙ ap (λ k. get_or c k 0) e
+
+length-put : (c : List ℕ) (at : ℕ) (b : List ℕ) → at ≤ length c → length (put c at b) ≡ max (length c) (at + length b)
+length-put c at b h = simp (length-append, length-drop, length-take) (omega arith)
+
+-- ---- a leaf of page i, that of update k, which falls at y
+-- the update's bytes in the page
+abbrev pub own_of : ℕ → Extent → ℕ → List ℕ → List ℕ
+own_of p y i bytes = take (leaf_len p y i) (drop (leaf_from p y i) bytes)
+
+pub record LeafIs (p k i : ℕ) (us : List Update) (y : Extent) : Type 0 where
+  pub fits : leaf_from p y i + leaf_len p y i ≤ length (update_at us k).bytes
+  pub some : 1 ≤ leaf_len p y i
+  pub inside : leaf_start p y i + leaf_len p y i ≤ p
+  pub whole : covered p (extents us) k i ≡ true → (leaf_start p y i ≡ 0) × (page_bytes p us k i ≡ own_of p y i (update_at us k).bytes)
+  pub over : covered p (extents us) k i ≡ false → (leaf_start p y i ≤ length (page_bytes p us (back_of p (extents us) k i) i))
+      × (page_bytes p us k i ≡ put (page_bytes p us (back_of p (extents us) k i) i) (leaf_start p y i) (own_of p y i (update_at us k).bytes))
+
+-- where an update covers its page, its bytes there begin with the page
+starts_first : (p : ℕ) (x : Extent) (size i : ℕ) → covers p x size i ≡ true → leaf_start p x i ≡ 0
+starts_first p x size i is = let e : leaf_lo p x i ≡ i * p = grind (arith, nat_tests) in omega (arith, e)
+
+back_is : (p k i : ℕ) (xs : List Extent) → covered p xs k i ≡ false → back_of p xs k i ≡ newest_of p (touches p xs) (k - 1) (page_range p i)
+unfolding back_of
+back_is p k i xs un = rw (un, back_of)
+
+pub length-page : (p : ℕ) (us : List Update) (v i : ℕ) → length (page_bytes p us v i) ≡ min p (size_of us v - i * p)
+length-page p us v i = simp (length-take, length-drop) (omega arith)
+
+pub leaf_is : LeavesFill → LeavesFit → PageBytesStay → ExtentsStand → (p k i : ℕ) (us : List Update) → 1 ≤ p → Replayable us
+    → HasNode p (touches p (extents us)) k (page_range p i) → k ≤ length us → LeafIs p k i us (extent_at (extents us) k)
+leaf_is fill fit stay stand p zero i us pos ok has le = absurd (omega (arith, has.version.0))
+leaf_is fill fit stay stand p (suc m) i us pos ok has le =
+    let xs : List Extent = extents us in
+    let x : Extent = extent_of us (suc m) in
+    let e : extent_at xs (suc m) ≡ x = extent_is us m le in
+    let F : Extent → Type 0 = λ y. (1 ≤ leaf_len p y i) × (leaf_start p y i + leaf_len p y i ≤ p) × (leaf_from p y i + leaf_len p y i ≤ y.len) in
+    let f : F x = subst F e (fit p (suc m) i xs pos (stand us ok).0 has) in
+    let both = fill p (suc m) i us pos ok has in
+    let L : Extent → Type 0 = λ y. LeafIs p (suc m) i us y in
+    let is : L x = record {
+      fits = f.2;
+      some = f.0;
+      inside = f.1;
+      whole = λ is. (starts_first p x (size_after xs (suc m)) i (let C : Extent → Type 0 = λ y. covers p y (size_after xs (suc m)) i ≡ true in subst C e is), both.0 is);
+      over = λ un.
+          let back : ℕ = back_of p xs (suc m) i in
+          let before : suc m - 1 ≡ m = omega arith in
+          let b : back ≡ newest_of p (touches p xs) m (page_range p i) = back_is p (suc m) i xs un ∙ ap (λ n. newest_of p (touches p xs) n (page_range p i)) before in
+          let same : page_bytes p us m i ≡ page_bytes p us back i = stay p m i us pos ok (omega arith) ∙ ap (λ n. page_bytes p us n i) (sym b) in
+          let count : length (page_bytes p us back i) ≡ min p (size_of us m - i * p) = ap length (sym same) ∙ length-page p us m i in
+          let begins : x.at ≤ size_of us m = (ok m le).0 in
+          (omega (arith, count, begins, f.1), both.1 un);
+    } in
+    subst L (sym e) is
+
+-- ---- its bytes, one by one
+module _ (p k i : ℕ) (us : List Update) (y : Extent) (leaf : LeafIs p k i us y) where
+  length-own : length (own_of p y i (update_at us k).bytes) ≡ leaf_len p y i
+  length-own = length_part (update_at us k).bytes (leaf_from p y i) (leaf_len p y i) leaf.fits
+
+  pub read_own : (x : ℕ) → x < leaf_start p y i + leaf_len p y i → leaf_start p y i ≤ x
+      → get_or (page_bytes p us k i) x 0 ≡ get_or (update_at us k).bytes (leaf_from p y i + (x - leaf_start p y i)) 0
+  read_own x lt from =
+      let st : ℕ = leaf_start p y i in
+      let n : ℕ = leaf_len p y i in
+      let own = part_read 0 (update_at us k).bytes (leaf_from p y i) n (x - st) (omega arith) in
+      let P : Bool → Type 0 = λ b. covered p (extents us) k i ≡ b → get_or (page_bytes p us k i) x 0 ≡ get_or (update_at us k).bytes (leaf_from p y i + (x - st)) 0 in
+      let cases : P (covered p (extents us) k i) = elim (covered p (extents us) k i) as P [
+        | true ↦ λ is.
+            let w = leaf.whole is in
+            let e : x ≡ x - st = omega (arith, w.0) in
+            ap (λ l. get_or l x 0) w.1 ∙ ap (λ z. get_or (own_of p y i (update_at us k).bytes) z 0) e ∙ own
+        | false ↦ λ un.
+            let o = leaf.over un in
+            ap (λ l. get_or l x 0) o.1 ∙ put_own (page_bytes p us (back_of p (extents us) k i) i) st (own_of p y i (update_at us k).bytes) x o.0 from (omega (arith, length-own)) ∙ own
+      ] in
+      cases refl
+
+  -- a byte that is valid and not the leaf's own is that of the page at its back
+  pub read_back : (x : ℕ) → (x < leaf_start p y i) ⊎ (leaf_start p y i + leaf_len p y i ≤ x) → x < length (page_bytes p us k i)
+      → (covered p (extents us) k i ≡ false) × (get_or (page_bytes p us k i) x 0 ≡ get_or (page_bytes p us (back_of p (extents us) k i) i) x 0)
+      × (x < length (page_bytes p us (back_of p (extents us) k i) i))
+  read_back x out valid =
+      let st : ℕ = leaf_start p y i in
+      let n : ℕ = leaf_len p y i in
+      let old : List ℕ = page_bytes p us (back_of p (extents us) k i) i in
+      let R : Type 0 = (covered p (extents us) k i ≡ false) × (get_or (page_bytes p us k i) x 0 ≡ get_or old x 0) × (x < length old) in
+      let P : Bool → Type 0 = λ b. covered p (extents us) k i ≡ b → R in
+      let cases : P (covered p (extents us) k i) = elim (covered p (extents us) k i) as P [
+        | true ↦ λ is.
+            let w = leaf.whole is in
+            let len : length (page_bytes p us k i) ≡ n = ap length w.1 ∙ length-own in
+            absurd (elim out [ inl below ↦ omega (arith, w.0) | inr above ↦ omega (arith, w.0, len) ])
+        | false ↦ λ un.
+            let o = leaf.over un in
+            let len : length (page_bytes p us k i) ≡ max (length old) (st + length (own_of p y i (update_at us k).bytes)) = ap length o.1 ∙ length-put old st (own_of p y i (update_at us k).bytes) o.0 in
+            let same = ap (λ l. get_or l x 0) o.1 in
+            elim out [
+              | inl below ↦ (un, same ∙ put_front old st (own_of p y i (update_at us k).bytes) x o.0 below, omega (arith, o.0))
+              | inr above ↦ (un, same ∙ put_rest old st (own_of p y i (update_at us k).bytes) x o.0 (omega (arith, length-own)), omega (arith, len, length-own))
+            ]
+      ] in
+      cases refl

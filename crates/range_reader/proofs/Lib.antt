@@ -1,0 +1,14 @@
+pub mod Counting
+pub mod Parts
+pub mod LeafBytes
+pub mod Standing
+pub mod Joining
+pub mod Among
+pub mod NodeParts
+pub mod Running
+pub mod Overlaying
+pub mod Leaves
+pub mod Along
+pub mod Going
+pub mod Walking
+pub mod Rooted

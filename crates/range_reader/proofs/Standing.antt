@@ -1,0 +1,90 @@
+-- How far a page of the buffer is filled, while the walk goes along the backs.
+use Rattle.std.proofs.Common.{◌≡◌, ◌⊎◌, ℕ, ◌+◌, ◌-◌, ◌*◌, ◌<◌, ◌≤◌, List, length, take, drop, arith, ap, sym, ◌∙◌, inl, inr, Bool, true, false, get_or}
+use Rattle.std.proofs.lemmas.Bool.{cases_lt}
+use Rattle.std.proofs.lemmas.List.{ext_get_or}
+use Rattle.blob_model.specs.Content.{Update}
+use Rattle.range_log.specs.Extents.{Extent}
+use Rattle.range_log.specs.Updates.{update_at, extents, page_bytes}
+use Rattle.range_log.specs.Rows.{leaf_start, leaf_from, leaf_len, covered, back_of}
+use Rattle.range_reader.specs.Filling.{Overlaid, Taken}
+use Rattle.range_reader.proofs.Parts.{either, part_read, length_part}
+use Rattle.range_reader.proofs.LeafBytes.{LeafIs, read_own, read_back}
+
+-- bytes that are not wanted are there, from byte `begin` of the page on
+pub record AreThere (page : List ℕ) (begin : ℕ) (out : List ℕ) (marks : List Bool) : Type 0 where
+  pub there : (x : ℕ) → x < length out → get_or marks x false ≡ false → get_or out x 0 ≡ get_or page (begin + x) 0
+
+-- those that are wanted are in an older form of the page
+pub record AreIn (page : List ℕ) (older : List ℕ) (begin : ℕ) (count : ℕ) (marks : List Bool) : Type 0 where
+  pub same : (x : ℕ) → x < count → get_or marks x false ≡ true → get_or page (begin + x) 0 ≡ get_or older (begin + x) 0
+  pub valid : (x : ℕ) → x < count → get_or marks x false ≡ true → begin + x < length older
+
+-- a mark that is left was there before, and its byte isn't the leaf's own
+left : (start len begin x : ℕ) (old new : List Bool) → Taken start len begin old new → x < length old → get_or new x false ≡ true
+    → (get_or old x false ≡ true) × ((begin + x < start) ⊎ (start + len ≤ begin + x))
+left start len begin x old new t lt is =
+    elim (cases_lt (begin + x) start) [
+      | inl below ↦ (sym (t.below x lt below) ∙ is, inl below)
+      | inr from ↦ elim (cases_lt (begin + x) (start + len)) [
+        | inl within ↦ absurd (let e : get_or new x false ≡ false = t.within x lt from within in cc)
+        | inr above ↦ (sym (t.above x lt above) ∙ is, inr above)
+      ]
+    ]
+
+module _ (p k i : ℕ) (us : List Update) (y : Extent) (leaf : LeafIs p k i us y) (begin : ℕ) (page : List ℕ) (marks marks' : List Bool) where
+  -- after a leaf's bytes are filled in where they were wanted
+  pub there_after : (out out' : List ℕ) → length out' ≡ length out → length marks ≡ length out → AreThere page begin out marks → AreIn page (page_bytes p us k i) begin (length out) marks
+      → Overlaid (leaf_start p y i) (leaf_len p y i) (leaf_from p y i) begin (update_at us k).bytes marks out out'
+      → Taken (leaf_start p y i) (leaf_len p y i) begin marks marks' → AreThere page begin out' marks'
+  there_after out out' same marked there from over t = record {
+    there = λ x lt' no.
+        let lt : x < length out = omega arith in
+        let few : x < length marks = omega arith in
+        let st : ℕ = leaf_start p y i in
+        let n : ℕ = leaf_len p y i in
+        elim (either (get_or marks x false)) [
+          | inr already ↦ over.unmarked x lt already ∙ there.there x lt already
+          | inl wanted ↦ elim (cases_lt (begin + x) st) [
+            | inl below ↦ absurd (let e : get_or marks' x false ≡ get_or marks x false = t.below x few below in cc)
+            | inr start ↦ elim (cases_lt (begin + x) (st + n)) [
+              | inl within ↦ over.marked x lt start within wanted ∙ sym (read_own p k i us y leaf (begin + x) within start) ∙ sym (from.same x lt wanted)
+              | inr above ↦ absurd (let e : get_or marks' x false ≡ get_or marks x false = t.above x few above in cc)
+            ]
+          ]
+        ];
+  }
+
+  -- what is still wanted is in the page at the leaf's back
+  pub in_after : (count : ℕ) → count ≤ length marks → AreIn page (page_bytes p us k i) begin count marks
+      → Taken (leaf_start p y i) (leaf_len p y i) begin marks marks'
+      → AreIn page (page_bytes p us (back_of p (extents us) k i) i) begin count marks'
+  in_after count few from t = record {
+    same = λ x lt is.
+        let l = left (leaf_start p y i) (leaf_len p y i) begin x marks marks' t (omega arith) is in
+        from.same x lt l.0 ∙ (read_back p k i us y leaf (begin + x) l.1 (from.valid x lt l.0)).1;
+    valid = λ x lt is.
+        let l = left (leaf_start p y i) (leaf_len p y i) begin x marks marks' t (omega arith) is in
+        (read_back p k i us y leaf (begin + x) l.1 (from.valid x lt l.0)).2;
+  }
+
+  -- where a byte is still wanted, the leaf doesn't cover its page
+  pub still_wanted : (count x : ℕ) → count ≤ length marks → AreIn page (page_bytes p us k i) begin count marks
+      → Taken (leaf_start p y i) (leaf_len p y i) begin marks marks' → x < count → get_or marks' x false ≡ true
+      → covered p (extents us) k i ≡ false
+  still_wanted count x few from t lt is =
+      let l = left (leaf_start p y i) (leaf_len p y i) begin x marks marks' t (omega arith) is in
+      (read_back p k i us y leaf (begin + x) l.1 (from.valid x lt l.0)).0
+
+-- where nothing is wanted any more, the bytes are the page's
+pub all_there : (p i : ℕ) (c : List ℕ) (begin : ℕ) (out : List ℕ) (marks : List Bool) → begin + length out ≤ p → i * p + begin + length out ≤ length c
+    → AreThere (take p (drop (i * p) c)) begin out marks → ((x : ℕ) → x < length out → get_or marks x false ≡ false)
+    → out ≡ take (i * p + begin + length out - (i * p + begin)) (drop (i * p + begin) c)
+all_there p i c begin out marks within valid there none =
+    let o : ℕ = i * p + begin in
+    let n : o + length out - o ≡ length out = omega arith in
+    let count : length (take (length out) (drop o c)) ≡ length out = length_part c o (length out) valid in
+    ext_get_or 0 out (take (length out) (drop o c)) (sym count)
+    (λ x lt.
+    let e : i * p + (begin + x) ≡ o + x = omega arith in
+    there.there x lt (none x lt) ∙ part_read 0 c (i * p) p (begin + x) (omega arith) ∙ ap (λ y. get_or c y 0) e ∙ sym (part_read 0 c o (length out) x lt))
+    ∙ ap (λ k. take k (drop o c)) (sym n)

@@ -1,0 +1,22 @@
+-- A buffer for bytes of a page, and marks of those that are still wanted.
+use Rattle.std.specs.Prelude.{◌≡◌, ℕ, ◌+◌, ◌-◌, ◌<◌, ◌≤◌, Bool, true, false, List, length, slice_index, slice_index_or}
+
+-- where bytes were marked, they are those of a list from its byte `from` on, and all others are as they were
+pub record Filled (from : ℕ) (bytes : List ℕ) (marks : List Bool) (old new : List ℕ) : Type 0 where
+  pub marked : (x : ℕ) → x < length old → slice_index_or marks x false ≡ true → slice_index new x ≡ slice_index bytes (from + x)
+  pub unmarked : (x : ℕ) → x < length old → slice_index_or marks x false ≡ false → slice_index new x ≡ slice_index old x
+
+-- The buffer has the page's bytes from byte `begin` on. Where bytes were marked, the page's `len` bytes from byte `start`
+-- on are those of a list from its byte `from` on, and all others are as they were.
+pub record Overlaid (start len from begin : ℕ) (bytes : List ℕ) (marks : List Bool) (old new : List ℕ) : Type 0 where
+  pub marked : (x : ℕ) → x < length old → start ≤ begin + x → begin + x < start + len → slice_index_or marks x false ≡ true
+      → slice_index new x ≡ slice_index bytes (from + (begin + x - start))
+  pub unmarked : (x : ℕ) → x < length old → slice_index_or marks x false ≡ false → slice_index new x ≡ slice_index old x
+  pub below : (x : ℕ) → x < length old → begin + x < start → slice_index new x ≡ slice_index old x
+  pub above : (x : ℕ) → x < length old → start + len ≤ begin + x → slice_index new x ≡ slice_index old x
+
+-- the page's `len` bytes from byte `start` on are no longer wanted, and the other marks are as they were
+pub record Taken (start len begin : ℕ) (old new : List Bool) : Type 0 where
+  pub within : (x : ℕ) → x < length old → start ≤ begin + x → begin + x < start + len → slice_index_or new x false ≡ false
+  pub below : (x : ℕ) → x < length old → begin + x < start → slice_index_or new x false ≡ slice_index_or old x false
+  pub above : (x : ℕ) → x < length old → start + len ≤ begin + x → slice_index_or new x false ≡ slice_index_or old x false

@@ -1,0 +1,116 @@
+// The bytes of one page, from its newest leaf and along the backs.
+ghost use Rattle.std.specs.Prelude.{◌≡◌, ℕ, ◌+◌, ◌*◌, ◌^◌, ◌<◌, ◌≤◌, length, map, sum_by, All, IsTrue, IsFalse};
+ghost use Rattle.tree_geom.specs.Geometry.{page_range};
+ghost use Rattle.range_log.specs.Rows.{first_piece, second_piece};
+ghost use Rattle.range_log.specs.Visits.{backs_of};
+ghost use Rattle.page_store.specs.Count.{HasRisen};
+ghost use Rattle.snapshot.specs.Versions.{row_at, bytes_of, size_now, HasNodeFor, IsVersionIn};
+ghost use Rattle.range_reader.specs.Filling.{Overlaid, Taken};
+ghost use Rattle.range_reader.specs.Reading.{falls, newest_in, bytes_at, own_start, own_from, own_len};
+ghost use Rattle.range_reader.specs.Faults.{CountsKept, PieceFailed, PageFailed};
+
+use crate::marks::{first_marked, mark_all};
+use crate::piece::fill_piece;
+use crate::source::{LeafParts, Source, leaf};
+use page_fan::Doors;
+use page_store::Door;
+use std::sync::ledger::Ledger;
+use tree_geom::Steps;
+
+// Fetches the wanted bytes of a leaf of the page, that of update `j`. The buffer begins at byte `begin` of the page.
+fn fill_leaf<D: Door>(
+    source: &Source,
+    doors: &mut Doors<D>,
+    j: u64,
+    page: u64,
+    leaf: LeafParts,
+    begin: usize,
+    marks: &mut [bool],
+    out: &mut [u8],
+) -> bool
+    requires here { IsVersionIn source.now.nodes.now source.now.houses.now source.now.snapshot.now }
+    requires doors { length doors.old ≡ length source.now.houses.now }
+    requires has { HasNodeFor source.now.snapshot.now j (page_range source.now.snapshot.now.page_size page) }
+    requires start { leaf.start ≡ own_start source.now.snapshot.now j page }
+    requires first { let s = source.now.snapshot.now in
+        leaf.first ≡ first_piece s.page_size (own_from s j page) (own_len s j page) }
+    requires second { let s = source.now.snapshot.now in
+        leaf.second ≡ second_piece s.page_size (own_from s j page) (own_len s j page) }
+    requires within { begin + length out.old ≤ source.now.snapshot.now.page_size }
+    requires marked { length marks.old ≡ length out.old }
+    ensures overlaid { let s = source.now.snapshot.now in
+        All D.is_true doors.old → IsTrue result
+        → Overlaid (own_start s j page) (own_len s j page) (own_from s j page) begin (bytes_of (row_at s.rows j)) marks.old out.old out.new }
+    ensures taken { let s = source.now.snapshot.now in
+        IsTrue result → Taken (own_start s j page) (own_len s j page) begin marks.old marks.new }
+    ensures failed { IsFalse result → PieceFailed source.now.snapshot.now (map D.faults doors.old) (map D.faults doors.new) page j }
+    ensures counted { IsFalse result → HasRisen (sum_by D.faults doors.old) (sum_by D.faults doors.new) }
+    ensures kept { CountsKept (map D.faults doors.old) (map D.faults doors.new) (sum_by D.faults doors.old) (sum_by D.faults doors.new) }
+    ensures count { length doors.new ≡ length doors.old }
+    ensures truth_stays { All D.is_true doors.old → All D.is_true doors.new }
+{
+    range_log::laws::leaves_fill();
+    range_log::laws::page_bytes_stay();
+    let _version = source.snapshot.version();
+    let start = leaf.start as usize;
+    if !fill_piece(source, doors, j, leaf.first, start, begin, marks, out) {
+        return false;
+    }
+    if leaf.second.len == 0 {
+        return true;
+    }
+    let middle = start + leaf.first.len as usize;
+    fill_piece(source, doors, j, leaf.second, middle, begin, marks, out)
+}
+
+// Fills `out` with bytes of the page from its byte `begin` on: from the newest leaf of the page, and along the backs for
+// the bytes that it lacks. A byte that a newer leaf has is never written again. False where all doors of one stored page
+// failed. `newest` is the version of the newest leaf.
+pub(crate) fn fill_page<D: Door, L: Ledger>(
+    source: &Source,
+    doors: &mut Doors<D>,
+    steps: &mut Steps<L>,
+    newest: u64,
+    page: u64,
+    begin: usize,
+    marks: &mut [bool],
+    out: &mut [u8],
+) -> bool
+    requires here { IsVersionIn source.now.nodes.now source.now.houses.now source.now.snapshot.now }
+    requires doors { length doors.old ≡ length source.now.houses.now }
+    requires newest { newest ≡ newest_in source.now.snapshot.now (page_range source.now.snapshot.now.page_size page) }
+    requires has { HasNodeFor source.now.snapshot.now newest (page_range source.now.snapshot.now.page_size page) }
+    requires within { begin + length out.old ≤ source.now.snapshot.now.page_size }
+    requires valid { page * source.now.snapshot.now.page_size + begin + length out.old ≤ size_now source.now.snapshot.now }
+    requires some { 1 ≤ length out.old }
+    requires marked { length marks.old ≡ length out.old }
+    ensures bytes { let s = source.now.snapshot.now in
+        All D.is_true doors.old → IsTrue result → out.new ≡ bytes_at s (page * s.page_size + begin) (length out.old) }
+    ensures steps { let s = source.now.snapshot.now in
+        steps.new ≤ steps.old + 1 + backs_of s.page_size (falls s) (length s.rows) page }
+    ensures failed { IsFalse result → PageFailed source.now.snapshot.now (map D.faults doors.old) (map D.faults doors.new) page }
+    ensures counted { IsFalse result → HasRisen (sum_by D.faults doors.old) (sum_by D.faults doors.new) }
+    ensures kept { CountsKept (map D.faults doors.old) (map D.faults doors.new) (sum_by D.faults doors.old) (sum_by D.faults doors.new) }
+    ensures count { length doors.new ≡ length doors.old }
+    ensures truth_stays { All D.is_true doors.old → All D.is_true doors.new }
+{
+    range_log::laws::leaves_fill();
+    range_log::laws::page_bytes_stay();
+    range_log::laws::links_name_nodes();
+    range_log::laws::no_holes();
+    range_log::laws::newest_is_greatest();
+    range_log::laws::backs_step();
+    let _version = source.snapshot.version();
+    mark_all(marks, true);
+    let mut first = 0;
+    let mut at = newest;
+    while first < out.len() {
+        let parts = leaf(source, at, page, steps);
+        if !fill_leaf(source, doors, at, page, parts, begin, marks, out) {
+            return false;
+        }
+        first = first_marked(marks, first, true);
+        at = parts.back;
+    }
+    true
+}

@@ -1,0 +1,88 @@
+// The read of a range of a snapshot.
+ghost use Rattle.std.specs.Prelude.{◌≡◌, ℕ, ◌+◌, ◌*◌, ◌<◌, ◌≤◌, length, map, sum_by, All, OnOk, IfErr, Err};
+ghost use Rattle.page_store.specs.Count.{HasRisen};
+ghost use Rattle.page_fan.specs.Counts.{NoneFell};
+ghost use Rattle.snapshot.specs.Versions.{size_now, IsVersionIn};
+ghost use Rattle.range_reader.specs.Reading.{bytes_at, bound};
+ghost use Rattle.range_reader.specs.Faults.{PageFailedIn};
+ghost use Rattle.range_reader.specs.Answers.{OnPastSize, OnPageFault};
+
+use crate::marks::ReadRoom;
+use crate::source::Source;
+use crate::walk::walk;
+use node_store::NodeHouse;
+use page_fan::Doors;
+use page_store::{Door, Houses};
+use snapshot::Snapshot;
+use std::sync::ledger::Ledger;
+use tree_geom::Steps;
+
+/// Why a read gave no bytes. The buffer then holds any bytes.
+#[derive(Clone, Copy, Debug, PartialEq, Eq)]
+pub enum ReadFault {
+    /// The range would end at byte `end`, past the version's size.
+    RangePastSize { end: u128, size: u64 },
+    /// All doors of a stored page failed that this page of the blob needs.
+    PageFault(u64),
+}
+
+/// Fills `out` with the bytes of the version from byte `offset` on.
+///
+/// It takes no lock and no memory, waits for nobody, and takes at most the stated number of node steps; none for no bytes
+/// and for a range past the size. The room was made for the snapshot's page size.
+pub fn read<D: Door, L: Ledger>(
+    snapshot: &Snapshot,
+    nodes: &NodeHouse,
+    houses: &Houses,
+    doors: &mut Doors<D>,
+    room: &mut ReadRoom,
+    offset: u64,
+    out: &mut [u8],
+    steps: &mut Steps<L>,
+) -> Result<(), ReadFault>
+    requires here { IsVersionIn nodes.now houses.now snapshot.now }
+    requires doors { length doors.old ≡ length houses.now }
+    requires room { length room.old ≡ snapshot.now.page_size }
+    ensures bytes { All D.is_true doors.old → OnOk result (out.new ≡ bytes_at snapshot.now offset (length out.old)) }
+    ensures refused { size_now snapshot.now < offset + length out.old → result ≡ Err (ReadFault.RangePastSize (offset + length out.old) (size_now snapshot.now)) }
+    ensures past { IfErr result (λ fault. OnPastSize fault (size_now snapshot.now < offset + length out.old)) }
+    ensures no_steps { size_now snapshot.now < offset + length out.old → steps.new ≡ steps.old }
+    ensures steps { steps.new ≤ steps.old + bound snapshot.now offset (length out.old) }
+    ensures failed { IfErr result (λ fault. OnPageFault fault
+        (PageFailedIn snapshot.now offset (length out.old) (map D.faults doors.old) (map D.faults doors.new))) }
+    ensures counted { IfErr result (λ fault. OnPageFault fault (λ _. HasRisen (sum_by D.faults doors.old) (sum_by D.faults doors.new))) }
+    ensures none_fell { NoneFell (map D.faults doors.old) (map D.faults doors.new) }
+    ensures sum_never_falls { sum_by D.faults doors.old ≤ sum_by D.faults doors.new }
+    ensures count { length doors.new ≡ length doors.old }
+    ensures room_stays { length room.new ≡ length room.old }
+    ensures truth_stays { All D.is_true doors.old → All D.is_true doors.new }
+{
+    range_log::laws::page_bytes_stay();
+    range_log::laws::newest_is_greatest();
+    tree_walk::laws::links_find();
+    tree_walk::laws::visited_are_few();
+    let size = snapshot.size();
+    let end = u128::from(offset) + out.len() as u128;
+    if end > u128::from(size) {
+        return Err(ReadFault::RangePastSize { end, size });
+    }
+    if out.is_empty() {
+        return Ok(());
+    }
+    let Some(root) = snapshot.root() else {
+        return Ok(());
+    };
+    let version = snapshot.version();
+    let source = Source {
+        snapshot,
+        nodes,
+        houses,
+    };
+    let marks = room.wanted.as_mut_slice();
+    match walk(
+        &source, doors, steps, marks, version, root.range, offset, out,
+    ) {
+        Ok(()) => Ok(()),
+        Err(page) => Err(ReadFault::PageFault(page)),
+    }
+}

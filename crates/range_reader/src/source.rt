@@ -1,0 +1,99 @@
+// What a read goes through, and the nodes that it asks for.
+ghost use Rattle.std.specs.Prelude.{◌≡◌, ◌+◌, ◌*◌, ◌^◌, ◌<◌, ◌≤◌};
+ghost use Rattle.tree_geom.specs.Geometry.{left_half, right_half, page_range};
+ghost use Rattle.range_log.specs.Log.{newest_of};
+ghost use Rattle.range_log.specs.Rows.{node_of, back_of, first_piece, second_piece};
+ghost use Rattle.snapshot.specs.Versions.{HasNodeFor, IsVersionIn};
+ghost use Rattle.range_reader.specs.Reading.{falls, log_of, own_start, own_from, own_len};
+
+use node_store::{Node, NodeHouse, Piece, Range};
+use page_store::Houses;
+use snapshot::Snapshot;
+use std::sync::ledger::Ledger;
+use tree_geom::Steps;
+
+/// The snapshot of a read, the house of its nodes and the houses of its pages.
+#[derive(Drop)]
+pub(crate) struct Source<'a> {
+    pub snapshot: &'a Snapshot,
+    pub nodes: &'a NodeHouse,
+    pub houses: &'a Houses,
+}
+
+/// The parts of a leaf: the byte of its page at which its own bytes begin, their two pieces, and its back.
+#[derive(Clone, Copy)]
+pub(crate) struct LeafParts {
+    pub start: u32,
+    pub first: Piece,
+    pub second: Piece,
+    pub back: u64,
+}
+
+// The node that the row of update `j` has for the range.
+fn node<L: Ledger>(source: &Source, j: u64, range: Range, steps: &mut Steps<L>) -> Node
+    requires here { IsVersionIn source.now.nodes.now source.now.houses.now source.now.snapshot.now }
+    requires has { HasNodeFor source.now.snapshot.now j range }
+    ensures node { result ≡ node_of source.now.snapshot.now.page_size (falls source.now.snapshot.now) j range }
+    ensures step { steps.new ≡ steps.old + 1 }
+{
+    let snapshot = source.snapshot;
+    match snapshot.find(j, range, steps) {
+        Some(node) => source.nodes.get(node),
+        None => unreachable!(),
+    }
+}
+
+// The versions whose rows have the nodes of the halves of the range, by its node in the row of update `j`.
+pub(crate) fn links<L: Ledger>(
+    source: &Source,
+    j: u64,
+    range: Range,
+    steps: &mut Steps<L>,
+) -> (u64, u64)
+    requires here { IsVersionIn source.now.nodes.now source.now.houses.now source.now.snapshot.now }
+    requires has { HasNodeFor source.now.snapshot.now j range }
+    requires inner { source.now.snapshot.now.page_size < range.size }
+    ensures left { result.0 ≡ newest_of source.now.snapshot.now.page_size (log_of source.now.snapshot.now) j (left_half range) }
+    ensures right { result.1 ≡ newest_of source.now.snapshot.now.page_size (log_of source.now.snapshot.now) j (right_half range) }
+    ensures step { steps.new ≡ steps.old + 1 }
+{
+    match node(source, j, range, steps) {
+        Node::Inner { left, right } => (left, right),
+        Node::Leaf { .. } => unreachable!(),
+    }
+}
+
+// The leaf of the page in the row of update `j`.
+pub(crate) fn leaf<L: Ledger>(source: &Source, j: u64, page: u64, steps: &mut Steps<L>) -> LeafParts
+    requires here { IsVersionIn source.now.nodes.now source.now.houses.now source.now.snapshot.now }
+    requires has { HasNodeFor source.now.snapshot.now j (page_range source.now.snapshot.now.page_size page) }
+    requires fits { page * source.now.snapshot.now.page_size ≤ 2 ^ 40 }
+    ensures start { result.start ≡ own_start source.now.snapshot.now j page }
+    ensures first { let s = source.now.snapshot.now in
+        result.first ≡ first_piece s.page_size (own_from s j page) (own_len s j page) }
+    ensures second { let s = source.now.snapshot.now in
+        result.second ≡ second_piece s.page_size (own_from s j page) (own_len s j page) }
+    ensures back { result.back ≡ back_of source.now.snapshot.now.page_size (falls source.now.snapshot.now) j page }
+    ensures step { steps.new ≡ steps.old + 1 }
+{
+    let size = source.snapshot.page_size().bytes();
+    let range = Range {
+        offset: page * size,
+        size,
+    };
+    match node(source, j, range, steps) {
+        Node::Leaf {
+            start,
+            count: _,
+            first,
+            second,
+            back,
+        } => LeafParts {
+            start,
+            first,
+            second,
+            back,
+        },
+        Node::Inner { .. } => unreachable!(),
+    }
+}
