@@ -1,0 +1,3 @@
+pub mod Plans
+pub mod Shapes
+pub mod Storing

@@ -1,0 +1,214 @@
+-- The row that a ticket tells, and its levels as they are planned.
+use Rattle.std.proofs.Common.{◌≡◌, ℕ, suc, ◌+◌, ◌-◌, ◌*◌, ◌/◌, ◌^◌, ◌<◌, ◌≤◌, List, [], ◌∷◌, ◌++◌, length, map, max, arith, inl, inr, refl, ap, sym, subst, ◌∙◌, get_or, append_assoc, append-nil}
+use Rattle.std.specs.Prelude.{◌==◌, if◌then◌else◌}
+use Rattle.std.specs.List.{range_with_len, AllPairs}
+use Rattle.std.proofs.lemmas.Bool.{cases_lt}
+use Rattle.std.proofs.lemmas.Nat.{mul-le, pow_pos}
+use Rattle.std.proofs.lemmas.List.{length-map, get_or-map, get_or_past, map-append}
+use Rattle.std.proofs.lemmas.List.FromFn.{map-range_with_len_more}
+use Rattle.std.proofs.lemmas.Simd.{map-map}
+use Rattle.std.proofs.Math.Nat.{div-mul-le_self, lt-div-mul-add}
+use Rattle.tree_geom.specs.declared.range.Range.{Range}
+use Rattle.tree_geom.specs.declared.touch.Touch.{Touch}
+use Rattle.tree_geom.specs.declared.node.Node.{Node}
+use Rattle.tree_geom.specs.declared.node.Node.TheVariants.{Inner}
+use Rattle.tree_geom.specs.Geometry.{tree_range, page_range, left_half, right_half, height_of, touched_by}
+use Rattle.range_log.specs.Log.{newest_of, touch_at, size_at}
+use Rattle.range_log.specs.Extents.{Extent, no_extent, extent_at, size_after, touches}
+use Rattle.range_log.specs.Rows.{level_of, levels_of, row_keys_of, row_of, node_of, back_of, covers, leaf_at}
+use Rattle.range_log.specs.Laws.{Before, EachTouchIs, SizesAre, RowKeysInOrder}
+use Rattle.border_hints.specs.Numbered.{NumberedUpdate, own_touch, log_upto, StandsFor, IsNumbered}
+use Rattle.tree_weaver.specs.Planned.{own_extent, own_node, own_nodes, InRowOrder}
+
+-- ---- what the updates tell that a ticket stands for
+-- a node, by where the update falls, the touches, the size after it and its version
+made_node : ℕ → Extent → List Touch → ℕ → ℕ → Range → Node
+made_node p x log n k r =
+    if r.size == p then leaf_at p x (r.offset / p) (if covers p x n (r.offset / p) then 0 else newest_of p log (k - 1) (page_range p (r.offset / p)))
+    else Inner (newest_of p log k (left_half r)) (newest_of p log k (right_half r))
+
+made_of : (p : ℕ) (us : List Extent) (k : ℕ) (r : Range) → node_of p us k r ≡ made_node p (extent_at us k) (touches p us) (size_after us k) k r
+unfolding made_node back_of
+made_of p us k r = refl
+
+made_own : (t : NumberedUpdate) (r : Range) → made_node t.snapshot.page_size (own_extent t) (log_upto t) t.size t.version r ≡ own_node t r
+unfolding made_node
+made_own t r = refl
+
+keys_of_touch : (p : ℕ) (log : List Touch) (k : ℕ) → row_keys_of p log k ≡ levels_of p (touch_at log k) (suc (height_of p (size_at log k)))
+unfolding row_keys_of
+keys_of_touch p log k = refl
+
+map_same : {X Y : Type 0} (f g : X → Y) (xs : List X) → ((x : X) → f x ≡ g x) → map f xs ≡ map g xs
+map_same f g [] same = refl
+map_same f g (x ∷ xs) same = ap (λ y. y ∷ map f xs) (same x) ∙ ap (λ l. g x ∷ l) (map_same f g xs same)
+
+-- the ranges of the update's row
+abbrev pub own_ranges : NumberedUpdate → List Range
+own_ranges t = levels_of t.snapshot.page_size (own_touch t) (suc (height_of t.snapshot.page_size t.size))
+
+module _ (each : EachTouchIs) (sizes : SizesAre) (t : NumberedUpdate) (is : IsNumbered t) (us : List Extent) (st : StandsFor t us) where
+  last_version : t.version ≡ suc (t.version - 1)
+  last_version = omega (arith, is.version)
+
+  own_is : extent_at us (suc (t.version - 1)) ≡ own_extent t
+  own_is = ap (extent_at us) (sym last_version) ∙ st.own
+
+  -- the list has an update of each version up to it
+  within : t.version - 1 < length us
+  within = elim (cases_lt (t.version - 1) (length us)) [
+    | inl lt ↦ lt
+    | inr past ↦ absurd (
+        let e : extent_at us (suc (t.version - 1)) ≡ no_extent = get_or_past us (t.version - 1) no_extent past in
+        let z : 0 ≡ t.len = ap (λ (x : Extent). x.len) (sym e ∙ own_is) in
+        omega (arith, is.some))
+  ]
+
+  own_size : size_after us t.version ≡ t.size
+  own_size =
+      let k : ℕ = t.version - 1 in
+      let p : ℕ = t.snapshot.page_size in
+      let before : size_at (log_upto t) k ≡ size_after us k = ap (λ l. size_at l k) (sym st.touches) ∙ sizes p us k (omega (arith, within)) in
+      ap (size_after us) last_version
+      ∙ ap (λ (x : Extent). max (size_after us k) (x.at + x.len)) own_is
+      ∙ ap (λ n. max n (t.at + t.len)) (sym before)
+      ∙ sym is.size
+
+  pub own_touch_in : touch_at (touches t.snapshot.page_size us) t.version ≡ own_touch t
+  own_touch_in =
+      let k : ℕ = t.version - 1 in
+      let p : ℕ = t.snapshot.page_size in
+      let made : Extent → ℕ → Touch = λ x n. touched_by p x.at x.len n in
+      ap (touch_at (touches p us)) last_version
+      ∙ each p us k within
+      ∙ ap (λ x. made x (size_after us (suc k))) own_is
+      ∙ ap (made (own_extent t)) (ap (size_after us) (sym last_version) ∙ own_size)
+
+  -- what the ticket tells of its own touch
+  pub touch_told : touch_at (log_upto t) t.version ≡ own_touch t
+  touch_told = ap (λ l. touch_at l t.version) (sym st.touches) ∙ own_touch_in
+
+  -- the row of the version is what the ticket tells
+  pub row_told : row_of t.snapshot.page_size us t.version ≡ own_nodes t (own_ranges t)
+  row_told =
+      let p : ℕ = t.snapshot.page_size in
+      let k : ℕ = t.version in
+      let keys : row_keys_of p (touches p us) k ≡ own_ranges t =
+      keys_of_touch p (touches p us) k ∙ ap (λ (u : Touch). levels_of p u (suc (height_of p u.size))) own_touch_in in
+      let same : (r : Range) → node_of p us k r ≡ own_node t r = λ r.
+      made_of p us k r
+      ∙ ap (λ x. made_node p x (touches p us) (size_after us k) k r) st.own
+      ∙ ap (λ l. made_node p (own_extent t) l (size_after us k) k r) st.touches
+      ∙ ap (λ n. made_node p (own_extent t) (log_upto t) n k r) own_size
+      ∙ made_own t r in
+      let of_us : Range → Range × Node = λ r. (r, node_of p us k r) in
+      let of_own : Range → Range × Node = λ r. (r, own_node t r) in
+      ap (map of_us) keys ∙ map_same of_us of_own (own_ranges t) (λ r. ap (λ (n : Node). (r, n)) (same r))
+
+-- ---- the order
+pub plan_in_order : RowKeysInOrder → EachTouchIs → SizesAre → (t : NumberedUpdate) → IsNumbered t → 1 ≤ t.snapshot.page_size → InRowOrder (own_nodes t (own_ranges t))
+plan_in_order order each sizes t is pos i j d lt le =
+    let p : ℕ = t.snapshot.page_size in
+    let told : touch_at (log_upto t) t.version ≡ own_touch t = touch_told each sizes t is is.stands.0 is.stands.1 in
+    let keys : row_keys_of p (log_upto t) t.version ≡ own_ranges t =
+    keys_of_touch p (log_upto t) t.version ∙ ap (λ (u : Touch). levels_of p u (suc (height_of p u.size))) told in
+    let O : List Range → Type 0 = λ l. AllPairs Before l in
+    let sorted : AllPairs Before (own_ranges t) = subst O keys (order p t.version (log_upto t) pos) in
+    let g : Range → Range × Node = λ r. (r, own_node t r) in
+    let count : length (own_nodes t (own_ranges t)) ≡ length (own_ranges t) = length-map (own_ranges t) g in
+    let first : get_or (own_nodes t (own_ranges t)) i d ≡ g (get_or (own_ranges t) i d.0) = get_or-map g (own_ranges t) i d.0 d (omega arith) in
+    let second : get_or (own_nodes t (own_ranges t)) j d ≡ g (get_or (own_ranges t) j d.0) = get_or-map g (own_ranges t) j d.0 d (omega arith) in
+    let B : Range × Node → Range × Node → Type 0 = λ a b. Before a.0 b.0 in
+    let C : Range × Node → Type 0 = λ a. B a (get_or (own_nodes t (own_ranges t)) j d) in
+    let D : Range × Node → Type 0 = λ b. B (g (get_or (own_ranges t) i d.0)) b in
+    subst C (sym first) (subst D (sym second) (sorted i j d.0 lt (omega arith)))
+
+-- ---- the levels, as they are planned
+-- the node for range number q of a height, beside the range
+abbrev pub numbered_node : NumberedUpdate → ℕ → ℕ → Range × Node
+numbered_node t h q = (tree_range t.snapshot.page_size h q, own_node t (tree_range t.snapshot.page_size h q))
+
+level_numbers : (t : NumberedUpdate) (u : Touch) (h : ℕ) → own_nodes t (level_of t.snapshot.page_size u h) ≡ map (numbered_node t h) (range_with_len (u.first / 2 ^ h) (u.last / 2 ^ h + 1 - u.first / 2 ^ h))
+unfolding level_of
+level_numbers t u h = map-map (λ r. (r, own_node t r)) (λ q. tree_range t.snapshot.page_size h q) (range_with_len (u.first / 2 ^ h) (u.last / 2 ^ h + 1 - u.first / 2 ^ h))
+
+-- one more node of a level
+pub level_more : (f : ℕ → Range × Node) (all old now : List (Range × Node)) (a q : ℕ) (x : Range × Node) → a ≤ q → old ≡ all ++ map f (range_with_len a (q - a)) → now ≡ old ++ x ∷ [] → x ≡ f q
+    → now ≡ all ++ map f (range_with_len a (q + 1 - a))
+level_more f all old now a q x le so_far more is =
+    let n : ℕ = q - a in
+    let e : q + 1 - a ≡ n + 1 = omega arith in
+    more
+    ∙ ap (λ l. l ++ x ∷ []) so_far
+    ∙ append_assoc all (map f (range_with_len a n)) (x ∷ [])
+    ∙ ap (λ y. all ++ (map f (range_with_len a n) ++ y ∷ [])) is
+    ∙ ap (λ l. all ++ l) (sym (map-range_with_len_more f a n q (omega arith)))
+    ∙ ap (λ k. all ++ map f (range_with_len a k)) (sym e)
+
+quotients_rise : (a b w : ℕ) → 1 ≤ w → a ≤ b → a / w ≤ b / w
+quotients_rise a b w pos le =
+    let low : a / w * w ≤ a = div-mul-le_self a w in
+    elim (cases_lt (b / w) (a / w)) [
+      | inl lt ↦ absurd (let e : (b / w + 1) * w ≤ a / w * w = mul-le (b / w + 1) w (a / w) w (omega arith) (omega arith) in let high : b < b / w * w + w = lt-div-mul-add pos in omega arith)
+      | inr done ↦ done
+    ]
+
+-- where a level's loop ends
+pub level_done : (t : NumberedUpdate) (u : Touch) (h pages q : ℕ) (all now : List (Range × Node)) → pages ≡ 2 ^ h → u.first ≤ u.last → u.last / pages + 1 ≤ q
+    → (u.first / pages ≤ u.last / pages + 1 → q ≤ u.last / pages + 1) → now ≡ all ++ map (numbered_node t h) (range_with_len (u.first / pages) (q - u.first / pages))
+    → now ≡ all ++ own_nodes t (level_of t.snapshot.page_size u h)
+level_done t u h pages q all now w ordered past before is =
+    let pos : 1 ≤ pages = omega (arith, pow_pos h) in
+    let rises : u.first / pages ≤ u.last / pages = quotients_rise u.first u.last pages pos ordered in
+    let e : q - u.first / pages ≡ u.last / pages + 1 - u.first / pages = omega (arith, before (omega arith)) in
+    let f : ℕ → List (Range × Node) = λ x. all ++ map (numbered_node t h) (range_with_len (u.first / x) (u.last / x + 1 - u.first / x)) in
+    is ∙ ap (λ n. all ++ map (numbered_node t h) (range_with_len (u.first / pages) n)) e ∙ ap f w ∙ ap (λ l. all ++ l) (sym (level_numbers t u h))
+
+levels_none : (p : ℕ) (u : Touch) → levels_of p u 0 ≡ []
+unfolding levels_of
+levels_none p u = refl
+
+levels_next : (p : ℕ) (u : Touch) (h : ℕ) → levels_of p u (suc h) ≡ level_of p u h ++ levels_of p u h
+unfolding levels_of
+levels_next p u h = refl
+
+-- one more level, from the largest ranges down
+pub level_added : (t : NumberedUpdate) (level : ℕ) (all old now : List (Range × Node)) → 1 ≤ level → old ++ own_nodes t (levels_of t.snapshot.page_size (own_touch t) level) ≡ all
+    → now ≡ old ++ own_nodes t (level_of t.snapshot.page_size (own_touch t) (level - 1)) → now ++ own_nodes t (levels_of t.snapshot.page_size (own_touch t) (level - 1)) ≡ all
+level_added t level all old now some so_far more =
+    let p : ℕ = t.snapshot.page_size in
+    let u : Touch = own_touch t in
+    let h : ℕ = level - 1 in
+    let e : suc h ≡ level = omega arith in
+    let g : Range → Range × Node = λ r. (r, own_node t r) in
+    ap (λ l. l ++ own_nodes t (levels_of p u h)) more
+    ∙ append_assoc old (own_nodes t (level_of p u h)) (own_nodes t (levels_of p u h))
+    ∙ ap (λ l. old ++ l) (sym (map-append g (level_of p u h) (levels_of p u h)) ∙ ap (map g) (sym (levels_next p u h) ∙ ap (levels_of p u) e))
+    ∙ so_far
+
+pub levels_done : (t : NumberedUpdate) (level top : ℕ) (now : List (Range × Node)) → level ≡ 0 → top ≡ height_of t.snapshot.page_size t.size
+    → now ++ own_nodes t (levels_of t.snapshot.page_size (own_touch t) level) ≡ own_nodes t (levels_of t.snapshot.page_size (own_touch t) (top + 1)) → now ≡ own_nodes t (own_ranges t)
+levels_done t level top now none high is =
+    let p : ℕ = t.snapshot.page_size in
+    let u : Touch = own_touch t in
+    let e : top + 1 ≡ suc (height_of p t.size) = omega arith in
+    sym (append-nil now)
+    ∙ ap (λ l. now ++ l) (sym (ap (own_nodes t) (ap (levels_of p u) none ∙ levels_none p u)))
+    ∙ is
+    ∙ ap (λ n. own_nodes t (levels_of p u n)) e
+
+pub level_begun : (f : ℕ → Range × Node) (all : List (Range × Node)) (a q : ℕ) → q ≡ a → all ≡ all ++ map f (range_with_len a (q - a))
+level_begun f all a q e =
+    let z : q - a ≡ 0 = omega arith in
+    sym (ap (λ n. all ++ map f (range_with_len a n)) z ∙ append-nil all)
+
+-- the same of the end, where the code has the touch as another one's result
+pub level_finished : (t : NumberedUpdate) (v : Touch) (h pages q : ℕ) (all now : List (Range × Node)) → IsNumbered t → 1 ≤ t.snapshot.page_size → v ≡ own_touch t → pages ≡ 2 ^ h → v.last / pages + 1 ≤ q
+    → (v.first / pages ≤ v.last / pages + 1 → q ≤ v.last / pages + 1)
+    → now ≡ all ++ map (numbered_node t h) (range_with_len ((own_touch t).first / pages) (q - (own_touch t).first / pages))
+    → now ≡ all ++ own_nodes t (level_of t.snapshot.page_size (own_touch t) h)
+level_finished t v h pages q all now is pos e w past before so_far =
+    let P : Touch → Type 0 = λ x. (x.last / pages + 1 ≤ q) × (x.first / pages ≤ x.last / pages + 1 → q ≤ x.last / pages + 1) in
+    let ends : P (own_touch t) = subst P e (past, before) in
+    let p : ℕ = t.snapshot.page_size in
+    level_done t (own_touch t) h pages q all now w (quotients_rise t.at (t.at + t.len - 1) p pos (omega (arith, is.some))) ends.0 ends.1 so_far

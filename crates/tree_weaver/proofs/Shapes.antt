@@ -1,0 +1,218 @@
+-- The ranges of a row's nodes, and the parts of its leaves.
+use Rattle.std.proofs.Common.{◌≡◌, ◌⊎◌, ℕ, zero, suc, ◌+◌, ◌-◌, ◌*◌, ◌/◌, ◌%◌, ◌^◌, ◌<◌, ◌≤◌, List, length, max, min, arith, inl, inr, refl, ap, sym, subst, ◌∙◌, true, false, Bool}
+use Rattle.std.specs.Prelude.{◌==◌, if◌then◌else◌}
+use Rattle.std.proofs.lemmas.Bool.{cases_lt, false≢true}
+use Rattle.std.proofs.lemmas.Bool.Decides.{nat_tests}
+use Rattle.std.proofs.lemmas.Nat.{mul-le, pow_pos}
+use Rattle.std.proofs.Math.Nat.{pow-succ', pow-le-pow_right, div-mul-le_self, lt-div-mul-add, mul-div_cancel}
+use Rattle.tree_geom.specs.declared.range.Range.{Range}
+use Rattle.tree_geom.specs.declared.touch.Touch.{Touch}
+use Rattle.tree_geom.specs.Geometry.{IsPageSize, tree_range, page_range, height_of, span_of, Meets}
+use Rattle.tree_geom.specs.Laws.{HeightsHold, SpanOfSome, RangesNest}
+use Rattle.range_log.specs.Log.{newest_of, touch_at}
+use Rattle.range_log.specs.Rows.{covers}
+use Rattle.page_store.specs.Stored.{Cut, joined}
+use Rattle.range_log.specs.Laws.{NewestHits, NewestMisses}
+use Rattle.border_hints.specs.Numbered.{NumberedUpdate, own_touch, log_upto, IsNumbered}
+use Rattle.border_hints.specs.Borders.{IsRowRange, IsBorder, BorderLinks, AreBorders}
+use Rattle.tree_weaver.specs.Planned.{own_link, own_leaf, own_inner, own_node, IsHalf}
+
+pub page_pos : (p : ℕ) → IsPageSize p → 1 ≤ p
+page_pos p is = let pos : 0 < 2 ^ is.0 = pow_pos is.0 in omega (arith, is.1)
+
+pub double : (p h : ℕ) → p * 2 ^ (h + 1) ≡ 2 * (p * 2 ^ h)
+double p h = let e : h + 1 ≡ suc h = omega arith in rw (e, pow-succ' 2 h) (omega arith)
+
+pub size_pos : (p h : ℕ) → 1 ≤ p → 1 ≤ p * 2 ^ h
+size_pos p h pos = let e : 1 * 1 ≤ p * 2 ^ h = mul-le 1 1 p (2 ^ h) pos (pow_pos h) in omega arith
+
+pub power_small : (h : ℕ) → h ≤ 38 → 2 ^ h < 2 ^ 64
+power_small h le = let two : 0 < 2 = omega arith in let e : 2 ^ h ≤ 2 ^ 38 = pow-le-pow_right two le in omega arith
+
+pub size_small : (p h : ℕ) → p ≤ 1048576 → h ≤ 38 → p * 2 ^ h ≤ 2 ^ 58
+size_small p h page le =
+    let two : 0 < 2 = omega arith in
+    let e : 2 ^ h ≤ 2 ^ 38 = pow-le-pow_right two le in
+    let f : p * 2 ^ h ≤ 1048576 * 2 ^ 38 = mul-le p (2 ^ h) 1048576 (2 ^ 38) page e in
+    omega arith
+
+-- ---- the pages of some bytes
+pub page_low : (at p i : ℕ) → 1 ≤ p → at / p ≤ i → at < i * p + p
+page_low at p i pos le =
+    let a : at < at / p * p + p = lt-div-mul-add pos in
+    let b : at / p * p ≤ i * p = mul-le (at / p) p i p le (omega arith) in
+    omega arith
+
+pub page_high : (n p i : ℕ) → i ≤ n / p → i * p ≤ n
+page_high n p i le =
+    let a : n / p * p ≤ n = div-mul-le_self n p in
+    let b : i * p ≤ n / p * p = mul-le i p (n / p) p le (omega arith) in
+    omega arith
+
+-- a page that the update touches and doesn't cover is its first or its last
+pub uncovered_edge : (at len p size i : ℕ) → 1 ≤ p → 1 ≤ len → at + len ≤ size → at / p ≤ i → i ≤ (at + len - 1) / p → covers p (record { at = at; len = len }) size i ≡ false
+    → (i ≡ at / p) ⊎ (i ≡ (at + len - 1) / p)
+uncovered_edge at len p size i pos some fits low high un =
+    elim (cases_lt (at / p) i) [
+      | inr first ↦ inl (omega arith)
+      | inl after ↦ elim (cases_lt i ((at + len - 1) / p)) [
+        | inr last ↦ inr (omega arith)
+        | inl before ↦ absurd (
+            let a : at < at / p * p + p = lt-div-mul-add pos in
+            let b : (at / p + 1) * p ≤ i * p = mul-le (at / p + 1) p i p (omega arith) (omega arith) in
+            let d : (i + 1) * p ≤ (at + len - 1) / p * p = mul-le (i + 1) p ((at + len - 1) / p) p (omega arith) (omega arith) in
+            let e : (at + len - 1) / p * p ≤ at + len - 1 = div-mul-le_self (at + len - 1) p in
+            let lo : max at (i * p) ≡ i * p = omega arith in
+            let hi : min (at + len) ((i + 1) * p) ≡ min size ((i + 1) * p) = omega arith in
+            let whole : covers p (record { at = at; len = len }) size i ≡ true = grind (arith, nat_tests, lo, hi) in
+            let clash : false ≡ true = sym un ∙ whole in
+            false≢true clash)
+      ]
+    ]
+
+-- ---- links
+pub border_half : (t : NumberedUpdate) (range : Range) → IsHalf t range → ¬ Meets t.snapshot.page_size (own_touch t) range → IsBorder t.snapshot.page_size (own_touch t) range
+border_half t range half apart = inl (record { node = half.node; of_row = half.of_row; inner = half.inner; half = half.half; untouched = apart })
+
+link_cases : (t : NumberedUpdate) → IsNumbered t → t.version ≡ suc (t.version - 1)
+link_cases t is = omega (arith, is.version)
+
+pub link_hit : NewestHits → (t : NumberedUpdate) (range : Range) → IsNumbered t → touch_at (log_upto t) t.version ≡ own_touch t → Meets t.snapshot.page_size (own_touch t) range → t.version ≡ own_link t range
+link_hit hits t range is own met =
+    let p : ℕ = t.snapshot.page_size in
+    let k : ℕ = t.version - 1 in
+    let e : t.version ≡ suc k = link_cases t is in
+    let here : touch_at (log_upto t) (suc k) ≡ own_touch t = ap (touch_at (log_upto t)) (sym e) ∙ own in
+    let P : Touch → Type 0 = λ u. Meets p u range in
+    let took : newest_of p (log_upto t) (suc k) range ≡ suc k = hits p (log_upto t) k range (subst P (sym here) met) in
+    e ∙ sym took ∙ ap (λ n. newest_of p (log_upto t) n range) (sym e)
+
+pub link_miss : NewestMisses → (t : NumberedUpdate) (range : Range) → IsNumbered t → touch_at (log_upto t) t.version ≡ own_touch t → ¬ Meets t.snapshot.page_size (own_touch t) range
+    → newest_of t.snapshot.page_size (log_upto t) (t.version - 1) range ≡ own_link t range
+link_miss misses t range is own apart =
+    let p : ℕ = t.snapshot.page_size in
+    let k : ℕ = t.version - 1 in
+    let e : t.version ≡ suc k = link_cases t is in
+    let here : touch_at (log_upto t) (suc k) ≡ own_touch t = ap (touch_at (log_upto t)) (sym e) ∙ own in
+    let P : Touch → Type 0 = λ u. ¬ Meets p u range in
+    sym (misses p (log_upto t) k range (subst P (sym here) apart)) ∙ ap (λ n. newest_of p (log_upto t) n range) (sym e)
+
+-- ---- the nodes of a level
+-- the ranges that the touched pages meet have nodes in the row
+pub level_range : HeightsHold → SpanOfSome → RangesNest → (p h q : ℕ) (u : Touch) → 1 ≤ p → 1 ≤ u.size → u.last * p < u.size → h ≤ height_of p u.size
+    → u.first / 2 ^ h ≤ q → q ≤ u.last / 2 ^ h → IsRowRange p u (tree_range p h q)
+level_range heights span nest p h q u pos some ends low from to =
+    let w : ℕ = 2 ^ h in
+    let s : ℕ = p * w in
+    let top : ℕ = height_of p u.size in
+    let wide : 1 ≤ w = pow_pos h in
+    let reach : u.size ≤ p * 2 ^ top = (heights p u.size pos).reaches in
+    let root : span_of p u.size ≡ p * 2 ^ top = span p u.size some in
+    let begins : q * w ≤ u.last = page_high u.last w q to in
+    let first : u.first < q * w + w = page_low u.first w q wide from in
+    let scaled : q * w * p ≤ u.last * p = mul-le (q * w) p u.last p begins (omega arith) in
+    let over : (u.first + 1) * p ≤ (q * w + w) * p = mul-le (u.first + 1) p (q * w + w) p (omega arith) (omega arith) in
+    let offset : q * s ≡ q * w * p = omega arith in
+    let size : s ≡ w * p = omega arith in
+    let both : (q * w + w) * p ≡ q * w * p + w * p = omega arith in
+    let inside : q * s + s ≤ 1 * (p * 2 ^ top) = nest p h top q 1 low (omega arith) in
+    record {
+      aligned = (h, q, refl);
+      within = omega arith;
+      met = (omega arith, omega arith, size_pos p h pos);
+    }
+
+pub level_fits : (p h q root : ℕ) (u : Touch) → IsRowRange p u (tree_range p h q) → span_of p u.size ≤ 2 ^ 40 → q * (p * 2 ^ h) + p * 2 ^ h ≤ 2 ^ 40
+level_fits p h q root u is fits = omega (arith, is.within)
+
+-- a page's node is its leaf, a larger range's an inner node
+pub node_leaf : (t : NumberedUpdate) (h q : ℕ) → 1 ≤ t.snapshot.page_size → h ≡ 0 → own_leaf t q ≡ own_node t (tree_range t.snapshot.page_size h q)
+node_leaf t h q pos e =
+    let p : ℕ = t.snapshot.page_size in
+    let size : p * 2 ^ h ≡ p = rw e (omega arith) in
+    let test : (p * 2 ^ h == p) ≡ true = grind (arith, nat_tests) in
+    let number : q * (p * 2 ^ h) / p ≡ q = ap (λ n. q * n / p) size ∙ mul-div_cancel q pos in
+    ap (own_leaf t) (sym number) ∙ sym (ap (λ b. if b then own_leaf t (q * (p * 2 ^ h) / p) else own_inner t (tree_range p h q)) test)
+
+pub node_inner : (t : NumberedUpdate) (h q : ℕ) → t.snapshot.page_size < t.snapshot.page_size * 2 ^ h → own_inner t (tree_range t.snapshot.page_size h q) ≡ own_node t (tree_range t.snapshot.page_size h q)
+node_inner t h q wide =
+    let p : ℕ = t.snapshot.page_size in
+    let test : (p * 2 ^ h == p) ≡ false = grind (arith, nat_tests) in
+    sym (ap (λ b. if b then own_leaf t (q * (p * 2 ^ h) / p) else own_inner t (tree_range p h q)) test)
+
+pub inner_wide : (p h : ℕ) → 1 ≤ p → 1 ≤ h → (p < p * 2 ^ h) × (p * 2 ^ h % 2 ≡ 0)
+inner_wide p zero pos some = absurd (omega arith)
+inner_wide p (suc h) pos some =
+    let e : h + 1 ≡ suc h = omega arith in
+    let d : p * 2 ^ suc h ≡ 2 * (p * 2 ^ h) = ap (λ n. p * 2 ^ n) (sym e) ∙ double p h in
+    let f : p * 1 ≤ p * 2 ^ h = mul-le p 1 p (2 ^ h) (omega arith) (pow_pos h) in
+    (omega arith, omega arith)
+
+-- ---- what the code tests and asks
+pub met_is : (p q : ℕ) (u v : Touch) (range : Range) (test : Bool) → q ≡ p → u ≡ v → test ≡ true → (test ≡ true → Meets q u range) → Meets p v range
+met_is p q u v range test e f is means =
+    let P : ℕ → Type 0 = λ n. Meets n v range in
+    let Q : Touch → Type 0 = λ w. Meets q w range in
+    subst P e (subst Q f (means is))
+
+pub apart_is : (p q : ℕ) (u v : Touch) (range : Range) (test : Bool) → q ≡ p → u ≡ v → test ≡ false → (Meets q u range → test ≡ true) → ¬ Meets p v range
+apart_is p q u v range test e f is means met =
+    let P : ℕ → Type 0 = λ n. Meets n v range in
+    let Q : Touch → Type 0 = λ w. Meets q w range in
+    let clash : false ≡ true = sym is ∙ means (subst Q (sym f) (subst P (sym e) met)) in
+    false≢true clash
+
+pub asked : (b : BorderLinks) (t : NumberedUpdate) (range : Range) → b.page_size ≡ t.snapshot.page_size → b.touch ≡ own_touch t → IsBorder t.snapshot.page_size (own_touch t) range → IsBorder b.page_size b.touch range
+asked b t range e f is =
+    let P : ℕ → Type 0 = λ n. IsBorder n b.touch range in
+    let Q : Touch → Type 0 = λ w. IsBorder t.snapshot.page_size w range in
+    subst P (sym e) (subst Q (sym f) is)
+
+pub answered : (b : BorderLinks) (t : NumberedUpdate) (range : Range) (answer : ℕ) → b.page_size ≡ t.snapshot.page_size → AreBorders (log_upto t) (t.version - 1) b
+    → ((log : List Touch) (k : ℕ) → AreBorders log k b → answer ≡ newest_of b.page_size log k range) → answer ≡ newest_of t.snapshot.page_size (log_upto t) (t.version - 1) range
+answered b t range answer e are told = told (log_upto t) (t.version - 1) are ∙ ap (λ p. newest_of p (log_upto t) (t.version - 1) range) e
+
+-- ---- the code's ranges
+pub size_is : (bytes pow p size h : ℕ) → bytes ≡ size → size ≡ p → pow ≡ 2 ^ h → bytes * pow ≡ p * 2 ^ h
+size_is bytes pow p size h e f w = ap (λ b. b * pow) (e ∙ f) ∙ ap (λ n. p * n) w
+
+pub range_is : (p h q size : ℕ) → size ≡ p * 2 ^ h → record { offset = q * size; size = size } ≡ tree_range p h q
+range_is p h q size is = let made : ℕ → Range = λ n. record { offset = q * n; size = n } in ap made is
+
+pub page_is : (p page size : ℕ) → size ≡ p → record { offset = page * size; size = size } ≡ page_range p page
+page_is p page size is = let made : ℕ → Range = λ n. record { offset = page * n; size = n } in ap made is
+
+pub edge_border : (t : NumberedUpdate) (page : ℕ) (range : Range) → range ≡ page_range t.snapshot.page_size page → (page ≡ (own_touch t).first) ⊎ (page ≡ (own_touch t).last)
+    → IsBorder t.snapshot.page_size (own_touch t) range
+edge_border t page range is edge =
+    elim edge [
+      | inl first ↦ inr (inl (is ∙ ap (page_range t.snapshot.page_size) first))
+      | inr last ↦ inr (inr (is ∙ ap (page_range t.snapshot.page_size) last))
+    ]
+
+-- the range of a node of the row, as the code tells it
+pub own_range : HeightsHold → SpanOfSome → RangesNest → (t : NumberedUpdate) (h q : ℕ) → IsNumbered t → h ≤ height_of t.snapshot.page_size t.size
+    → (own_touch t).first / 2 ^ h ≤ q → q ≤ (own_touch t).last / 2 ^ h → IsRowRange t.snapshot.page_size (own_touch t) (tree_range t.snapshot.page_size h q)
+own_range heights span nest t h q is low from to =
+    let p : ℕ = t.snapshot.page_size in
+    let e : (t.at + t.len - 1) / p * p ≤ t.at + t.len - 1 = div-mul-le_self (t.at + t.len - 1) p in
+    level_range heights span nest p h q (own_touch t) (page_pos p is.published.page_size) (omega (arith, is.some, is.size)) (omega (arith, is.some, is.size)) low from to
+
+pub own_fits : SpanOfSome → (t : NumberedUpdate) (h q z : ℕ) → IsNumbered t → t.snapshot.page_size * 2 ^ height_of t.snapshot.page_size t.size ≤ 2 ^ 40
+    → IsRowRange t.snapshot.page_size (own_touch t) (tree_range t.snapshot.page_size h q) → z ≡ t.snapshot.page_size * 2 ^ h → q * z + z ≤ 2 ^ 40
+own_fits span t h q z is root row size =
+    let p : ℕ = t.snapshot.page_size in
+    let s : span_of p t.size ≡ p * 2 ^ height_of p t.size = span p t.size (omega (arith, is.some, is.size)) in
+    let e : q * (p * 2 ^ h) + p * 2 ^ h ≤ span_of p t.size = row.within in
+    let P : ℕ → Type 0 = λ n. q * n + n ≤ 2 ^ 40 in
+    subst P (sym size) (omega arith)
+
+pub stored_fits : (n len count p b : ℕ) (pages told : Cut) → told ≡ pages → n ≤ len → len ≡ length (joined pages.pages) → pages.page_size ≡ p → length (joined told.pages) ≤ count * told.page_size
+    → count < 2 ^ 32 → b ≡ p → n ≤ 4294967295 * b
+stored_fits n len count p b pages told e le is size enough few same =
+    let P : Cut → Type 0 = λ c. length (joined c.pages) ≤ count * c.page_size in
+    let all : length (joined pages.pages) ≤ count * pages.page_size = subst P e enough in
+    let f : count * pages.page_size ≡ count * p = ap (λ m. count * m) size in
+    let g : count * p ≤ 4294967295 * p = mul-le count p 4294967295 p (omega arith) (omega arith) in
+    let h : 4294967295 * b ≡ 4294967295 * p = ap (λ m. 4294967295 * m) same in
+    omega arith

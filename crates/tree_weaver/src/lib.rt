@@ -1,0 +1,14 @@
+//! The row of a numbered update: its nodes planned from its ticket alone, and stored.
+//!
+//! A plan is the row that would be made of the whole list of the blob's updates, whichever version was published at the
+//! numbering. Neither call takes a lock.
+#![tactic(auto)]
+
+pub mod laws;
+mod node;
+mod put;
+mod weave;
+
+pub use node_store::NoMemory;
+pub use put::put_row;
+pub use weave::{PlannedRow, plan};

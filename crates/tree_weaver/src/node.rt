@@ -1,0 +1,173 @@
+// The nodes of a numbered update.
+ghost use Rattle.std.specs.Prelude.{◌≡◌, ◌+◌, ◌-◌, ◌*◌, ◌/◌, ◌%◌, ◌^◌, ◌<◌, ◌≤◌, ◌↔◌, length, min, IsTrue};
+ghost use Rattle.tree_geom.specs.Geometry.{left_half, right_half};
+ghost use Rattle.range_log.specs.Rows.{covers, first_piece, second_piece, piece_count, leaf_start, leaf_from, leaf_len};
+ghost use Rattle.border_hints.specs.Numbered.{log_upto, own_touch};
+ghost use Rattle.border_hints.specs.Borders.{AreBorders, IsRowRange, IsBorder};
+ghost use Rattle.tree_weaver.specs.Planned.{own_extent, own_link, own_back, own_leaf, own_inner, IsHalf};
+
+use border_hints::{Borders, Ticket};
+use tree_geom::{Node, PageSize, Piece, Range, halves, meets};
+
+// The version that a node links to for a half of its range: the update's own, or else that over the border.
+fn link(ticket: &Ticket, borders: &Borders, range: Range) -> u64
+    requires page_size { borders.now.page_size ≡ ticket.now.snapshot.page_size }
+    requires touch { borders.now.touch ≡ own_touch ticket.now }
+    requires borders { AreBorders (log_upto ticket.now) (ticket.now.version - 1) borders.now }
+    requires half { IsHalf ticket.now range }
+    requires fits { range.offset + range.size ≤ 2 ^ 40 }
+    ensures { result ≡ own_link ticket.now range }
+{
+    range_log::laws::newest_is_greatest();
+    range_log::laws::logs_are_grown();
+    let version = ticket.version();
+    let p = ticket.hints().snapshot.page_size();
+    if meets(p, &ticket.touch(), range) {
+        version
+    } else {
+        borders.of(range)
+    }
+}
+
+/// The node of the update for a range of two pages or more, which is one of its row.
+pub(crate) fn inner(ticket: &Ticket, borders: &Borders, range: Range) -> Node
+    requires page_size { borders.now.page_size ≡ ticket.now.snapshot.page_size }
+    requires touch { borders.now.touch ≡ own_touch ticket.now }
+    requires borders { AreBorders (log_upto ticket.now) (ticket.now.version - 1) borders.now }
+    requires of_row { IsRowRange ticket.now.snapshot.page_size (own_touch ticket.now) range }
+    requires inner { ticket.now.snapshot.page_size < range.size }
+    requires even { range.size % 2 ≡ 0 }
+    requires fits { range.offset + range.size ≤ 2 ^ 40 }
+    ensures { result ≡ own_inner ticket.now range }
+{
+    let (low, high) = halves(range);
+    Node::Inner {
+        left: link(ticket, borders, low),
+        right: link(ticket, borders, high),
+    }
+}
+
+/// The bytes of the update that lie in one page: at which byte of the page and of the update's buffer they begin, and how
+/// many they are.
+#[derive(Clone, Copy)]
+struct OwnPart {
+    start: u64,
+    from: u64,
+    len: u64,
+}
+
+// The bytes of the update that lie in the page, which it touches.
+#[tactic(auto, using(crate::proofs::Shapes::page_low, crate::proofs::Shapes::page_high))]
+fn part(ticket: &Ticket, page: u64) -> OwnPart
+    requires first { (own_touch ticket.now).first ≤ page }
+    requires last { page ≤ (own_touch ticket.now).last }
+    ensures start { result.start ≡ leaf_start ticket.now.snapshot.page_size (own_extent ticket.now) page }
+    ensures from { result.from ≡ leaf_from ticket.now.snapshot.page_size (own_extent ticket.now) page }
+    ensures len { result.len ≡ leaf_len ticket.now.snapshot.page_size (own_extent ticket.now) page }
+    ensures some { 1 ≤ result.len }
+    ensures in_page { result.start + result.len ≤ ticket.now.snapshot.page_size }
+    ensures in_buffer { result.from + result.len ≤ ticket.now.len }
+{
+    let _version = ticket.version();
+    let size = ticket.hints().snapshot.page_size().bytes();
+    let begin = page * size;
+    let end = (ticket.at() + ticket.len()).min(begin + size);
+    let first = ticket.at().max(begin);
+    OwnPart {
+        start: first - begin,
+        from: first - ticket.at(),
+        len: end - first,
+    }
+}
+
+// The one or two pieces of `len` bytes of an update's buffer from byte `from` on, and how many they are.
+fn pieces(p: PageSize, from: u64, len: u64) -> (u32, Piece, Piece)
+    requires some { 1 ≤ len }
+    requires few { len ≤ p }
+    requires stored { from + len ≤ 4294967295 * p }
+    ensures count { result.0 ≡ piece_count p from len }
+    ensures first { result.1 ≡ first_piece p from len }
+    ensures second { result.2 ≡ second_piece p from len }
+{
+    let size = p.bytes();
+    let page = (from / size) as u32;
+    let begin = from % size;
+    let room = size - begin;
+    let first = Piece {
+        page,
+        from: begin as u32,
+        len: room.min(len) as u32,
+    };
+    if room < len {
+        let second = Piece {
+            page: page + 1,
+            from: 0,
+            len: (len - room) as u32,
+        };
+        (2, first, second)
+    } else {
+        let none = Piece {
+            page: 0,
+            from: 0,
+            len: 0,
+        };
+        (1, first, none)
+    }
+}
+
+// Whether the update's bytes are all valid bytes of the page.
+#[tactic(auto, using(crate::proofs::Shapes::page_low, crate::proofs::Shapes::page_high))]
+fn covers_page(ticket: &Ticket, page: u64) -> bool
+    requires last { page ≤ (own_touch ticket.now).last }
+    ensures { result ≡ covers ticket.now.snapshot.page_size (own_extent ticket.now) ticket.now.size page }
+{
+    let _version = ticket.version();
+    let size = ticket.hints().snapshot.page_size().bytes();
+    let begin = page * size;
+    let end = begin + size;
+    ticket.at().max(begin) == begin
+        && (ticket.at() + ticket.len()).min(end) == ticket.size().min(end)
+}
+
+// The newest lower version with a leaf of the page, or 0 where the update covers it. The update touches the page.
+#[tactic(auto, using(crate::proofs::Shapes::page_low, crate::proofs::Shapes::page_high))]
+fn back(ticket: &Ticket, borders: &Borders, page: u64) -> u64
+    requires page_size { borders.now.page_size ≡ ticket.now.snapshot.page_size }
+    requires touch { borders.now.touch ≡ own_touch ticket.now }
+    requires borders { AreBorders (log_upto ticket.now) (ticket.now.version - 1) borders.now }
+    requires first { (own_touch ticket.now).first ≤ page }
+    requires last { page ≤ (own_touch ticket.now).last }
+    ensures { result ≡ own_back ticket.now page }
+{
+    let _version = ticket.version();
+    if covers_page(ticket, page) {
+        return 0;
+    }
+    let size = ticket.hints().snapshot.page_size().bytes();
+    borders.of(Range {
+        offset: page * size,
+        size,
+    })
+}
+
+/// The leaf of the update for a page that it touches.
+pub(crate) fn leaf(ticket: &Ticket, borders: &Borders, page: u64) -> Node
+    requires page_size { borders.now.page_size ≡ ticket.now.snapshot.page_size }
+    requires touch { borders.now.touch ≡ own_touch ticket.now }
+    requires borders { AreBorders (log_upto ticket.now) (ticket.now.version - 1) borders.now }
+    requires first { (own_touch ticket.now).first ≤ page }
+    requires last { page ≤ (own_touch ticket.now).last }
+    ensures { result ≡ own_leaf ticket.now page }
+{
+    let _version = ticket.version();
+    let _pages = ticket.pages().count();
+    let part = part(ticket, page);
+    let (count, first, second) = pieces(ticket.hints().snapshot.page_size(), part.from, part.len);
+    Node::Leaf {
+        start: part.start as u32,
+        count,
+        first,
+        second,
+        back: back(ticket, borders, page),
+    }
+}

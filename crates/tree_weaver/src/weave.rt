@@ -1,0 +1,128 @@
+// The plan of a row.
+ghost use Rattle.std.specs.Prelude.{◌≡◌, ℕ, ◌+◌, ◌-◌, ◌*◌, ◌/◌, ◌^◌, ◌≤◌, ◌++◌, List, IfOk};
+ghost use Rattle.tree_geom.specs.Geometry.{tree_range, height_of};
+ghost use Rattle.range_log.specs.Extents.{Extent};
+ghost use Rattle.range_log.specs.Rows.{level_of, row_of};
+ghost use Rattle.border_hints.specs.Numbered.{log_upto, own_touch, StandsFor};
+ghost use Rattle.border_hints.specs.Borders.{NodesLieIn, AreBorders};
+ghost use Rattle.tree_weaver.specs.Planned.{own_node, own_nodes, InRowOrder};
+
+use crate::node::{inner, leaf};
+use border_hints::{Borders, Ticket, borders};
+use node_store::{NoMemory, NodeHouse};
+use std::alloc::Global;
+use std::marker::Model;
+use std::sync::ledger::Ledger;
+use tree_geom::{Node, Range, Steps, height, span};
+
+/// The nodes of a numbered update beside their ranges, in the order of its row: the largest ranges first, and then by offset.
+#[derive(Drop)]
+pub struct PlannedRow {
+    nodes: Vec<(Range, Node)>,
+}
+
+impl Model for PlannedRow {
+    ghost use Rattle.std.specs.Prelude.{List};
+    ghost use Rattle.tree_geom.specs.declared.range.Range.{Range};
+    ghost use Rattle.tree_geom.specs.declared.node.Node.{Node};
+    ghost use Rattle.tree_weaver.specs.Planned.{InRowOrder};
+
+    ghost Value = { List (Range × Node) };
+
+    ghost view = { λ r. r.nodes.items };
+
+    ghost invariant = { λ r. InRowOrder r.nodes.items };
+}
+
+impl PlannedRow {
+    /// The nodes beside their ranges.
+    pub fn nodes(&self) -> &[(Range, Node)]
+        ensures nodes { result.now ≡ self.now }
+        ensures order { InRowOrder self.now }
+    {
+        &self.nodes
+    }
+}
+
+// The update's node for range number `q` of a height, beside the range. The update touches the range.
+#[tactic(auto, using(crate::proofs::Shapes::power_small, crate::proofs::Shapes::size_small))]
+fn node(ticket: &Ticket, borders: &Borders, level: u32, q: u64) -> (Range, Node)
+    requires page_size { borders.now.page_size ≡ ticket.now.snapshot.page_size }
+    requires touch { borders.now.touch ≡ own_touch ticket.now }
+    requires borders { AreBorders (log_upto ticket.now) (ticket.now.version - 1) borders.now }
+    requires level { level ≤ height_of ticket.now.snapshot.page_size ticket.now.size }
+    requires low { height_of ticket.now.snapshot.page_size ticket.now.size ≤ 38 }
+    requires root { ticket.now.snapshot.page_size * 2 ^ height_of ticket.now.snapshot.page_size ticket.now.size ≤ 2 ^ 40 }
+    requires first { (own_touch ticket.now).first / 2 ^ level ≤ q }
+    requires last { q ≤ (own_touch ticket.now).last / 2 ^ level }
+    ensures { let range = tree_range ticket.now.snapshot.page_size level q in
+        result ≡ record { 0 = range; 1 = own_node ticket.now range } }
+{
+    tree_geom::laws::spans_hold();
+    tree_geom::laws::ranges_align();
+    let _version = ticket.version();
+    let size = ticket.hints().snapshot.page_size().bytes() * 2u64.pow(level);
+    let range = Range {
+        offset: q * size,
+        size,
+    };
+    if level == 0 {
+        (range, leaf(ticket, borders, q))
+    } else {
+        (range, inner(ticket, borders, range))
+    }
+}
+
+// Adds the update's nodes for the ranges of one height, by offset.
+#[tactic(auto, using(crate::proofs::Shapes::power_small, crate::proofs::Shapes::size_small))]
+fn plan_level(
+    ticket: &Ticket,
+    borders: &Borders,
+    level: u32,
+    row: &mut Vec<(Range, Node)>,
+) -> Result<(), NoMemory>
+    requires page_size { borders.now.page_size ≡ ticket.now.snapshot.page_size }
+    requires touch { borders.now.touch ≡ own_touch ticket.now }
+    requires borders { AreBorders (log_upto ticket.now) (ticket.now.version - 1) borders.now }
+    requires level { level ≤ height_of ticket.now.snapshot.page_size ticket.now.size }
+    requires low { height_of ticket.now.snapshot.page_size ticket.now.size ≤ 38 }
+    requires root { ticket.now.snapshot.page_size * 2 ^ height_of ticket.now.snapshot.page_size ticket.now.size ≤ 2 ^ 40 }
+    ensures { IfOk result (λ _. row.new.items ≡ row.old.items ++ own_nodes ticket.now (level_of ticket.now.snapshot.page_size (own_touch ticket.now) level)) }
+{
+    let _version = ticket.version();
+    let touch = ticket.touch();
+    let pages = 2u64.pow(level);
+    for q in touch.first / pages..touch.last / pages + 1 {
+        row.push(node(ticket, borders, level, q))?;
+    }
+    Ok(())
+}
+
+/// Plans the row of the ticket's update: the row of its version in the whole list of the blob's updates, whichever version
+/// was published at the numbering.
+///
+/// It takes at most `4 h + 4` node steps, `h` the height of the tree after the update, and time linear in the nodes of the
+/// row, the waiting updates and the height. It takes no lock and waits for nobody. Fails for want of memory alone.
+pub fn plan<L: Ledger>(
+    alloc: Global,
+    ticket: &Ticket,
+    nodes: &NodeHouse,
+    steps: &mut Steps<L>,
+) -> Result<PlannedRow, NoMemory>
+    requires here { NodesLieIn nodes.now ticket.now.snapshot }
+    ensures row { IfOk result (λ row. (us : List Extent) → StandsFor ticket.now us → row ≡ row_of ticket.now.snapshot.page_size us ticket.now.version) }
+    ensures steps { steps.new ≤ steps.old + 4 * height_of ticket.now.snapshot.page_size ticket.now.size + 4 }
+{
+    range_log::laws::logs_are_grown();
+    range_log::laws::row_keys_exact();
+    tree_geom::laws::spans_hold();
+    let borders = borders(ticket, nodes, steps);
+    let p = ticket.hints().snapshot.page_size();
+    let _version = ticket.version();
+    let _root = span(p, ticket.size());
+    let mut row = Vec::new(alloc);
+    for level in (0..height(p, ticket.size()) + 1).rev() {
+        plan_level(ticket, &borders, level, &mut row)?;
+    }
+    Ok(PlannedRow { nodes: row })
+}
