@@ -1,5 +1,5 @@
 -- A window stands for the updates that were numbered.
-use Rattle.std.proofs.Common.{◌≡◌, ℕ, zero, suc, ◌+◌, ◌-◌, ◌^◌, ◌<◌, ◌≤◌, List, [], ◌∷◌, ◌++◌, length, take, map, Option, None, Some, is_some, true≢false, arith, refl, ap, sym, ◌∙◌, subst, inl, inr, get_or, length-append}
+use Rattle.std.proofs.Common.{◌≡◌, ℕ, zero, suc, ◌+◌, ◌-◌, ◌^◌, ◌<◌, ◌≤◌, List, [], ◌∷◌, ◌++◌, length, take, Option, None, Some, is_some, true≢false, arith, refl, ap, sym, ◌∙◌, subst, inl, inr, get_or, length-append}
 use Rattle.std.specs.List.{range_with_len}
 use Rattle.std.proofs.lemmas.Bool.{cases_lt}
 use Rattle.std.proofs.lemmas.List.{length-map, get_or-map, get_or_append_left, get_or-append_right, get_or_past, take-append-le, ext_get_or}
@@ -13,9 +13,9 @@ use Rattle.range_log.specs.Extents.{Extent, touches, touch_of}
 use Rattle.range_log.specs.Updates.{extents, extent_of}
 use Rattle.range_log.specs.Laws.{RowsStay, ExtentsGrow}
 use Rattle.node_store.specs.Rows.{UpdateRow}
-use Rattle.snapshot.specs.Versions.{Version, no_row, row_at, IsRowOf}
+use Rattle.snapshot.specs.Versions.{no_row, IsRowOf}
 use Rattle.snapshot.specs.Laws.{OwnRowsStay}
-use Rattle.publisher.specs.Windows.{Numbered, window_on, with_numbered, StandsFor}
+use Rattle.publisher.specs.Windows.{Numbered, StandsFor}
 use Rattle.publisher.specs.Kept.{row_touches, present}
 use Rattle.publisher.specs.Laws.{IsNext, NewStands, NumberedStands}
 use Rattle.publisher.proofs.Leading.{touches_match}
@@ -52,6 +52,7 @@ new_stands us s ok fits count are = record {
         touches_match s.rows ts (omega arith) (λ i lt. (are.each (suc i) (omega arith) (omega arith)).touch)
         ∙ ap (λ n. take n ts) (sym long)
         ∙ take-length ts
+
     rows : (i : ℕ) (row : UpdateRow) → get_or (present s.rows) i None ≡ Some row → IsRowOf s.page_size us (suc i) row
     rows i row is = elim (cases_lt i (length s.rows)) [
       | inl lt ↦
