@@ -18,7 +18,7 @@ use Rattle.publisher.proofs.Leading.{leading_at}
 page_pos : (p : ℕ) → IsPageSize p → 1 ≤ p
 page_pos p (i, e, low, high) = omega (arith, pow_pos i)
 
-some_is : (a b : UpdateRow) (x : Option UpdateRow) → x ≡ Some a → x ≡ Some b → a ≡ b
+pub some_is : (a b : UpdateRow) (x : Option UpdateRow) → x ≡ Some a → x ≡ Some b → a ≡ b
 some_is a b x e f = ap (λ (o : Option UpdateRow). unwrap_or o a) (sym e ∙ f)
 
 -- a window stands for the same updates once one of them is finished by its row

@@ -1,5 +1,5 @@
 -- What ties rows to the updates of a blob.
-use Rattle.std.specs.Prelude.{◌≡◌, ℕ, ◌≤◌, List, length, take}
+use Rattle.std.specs.Prelude.{◌≡◌, ℕ, ◌≤◌, List, ◌++◌, length, take}
 use Rattle.blob_model.specs.Content.{Update, content}
 use Rattle.range_log.specs.Updates.{update_at, extents, Replayable}
 use Rattle.node_store.specs.Rows.{UpdateRow}
@@ -21,3 +21,7 @@ pub record TellUpdates (p : ℕ) (us : List Update) (rows : List UpdateRow) : Ty
 
 abbrev pub RowsTell : Type 0
 RowsTell = (p : ℕ) (us : List Update) (rows : List UpdateRow) → 1 ≤ p → Replayable us → AreRowsOf p us rows → TellUpdates p us rows
+
+-- the row of an update is its row among more updates too
+abbrev pub OwnRowsStay : Type 0
+OwnRowsStay = (p k : ℕ) (us more : List Update) (row : UpdateRow) → k ≤ length us → IsRowOf p us k row → IsRowOf p (us ++ more) k row

@@ -1,0 +1,12 @@
+use Rattle.publisher.proofs.Growing.{new_stands, numbered_stands}
+use Rattle.publisher.proofs.Standing.{stands_finished}
+use Rattle.publisher.proofs.laws.windows_stand.Goals as goal
+
+pub returns-clause-new : goal.returns-clause-new
+returns-clause-new c = new_stands
+
+pub returns-clause-numbered : goal.returns-clause-numbered
+returns-clause-numbered c = numbered_stands c.older_versions_stay.ensures.rows c.older_versions_stay.ensures.extents c.rows_stay.ensures
+
+pub returns-clause-finished : goal.returns-clause-finished
+returns-clause-finished c = stands_finished

@@ -1,0 +1,32 @@
+-- Which updates a window stands for as it goes on.
+use Rattle.std.specs.Prelude.{◌≡◌, ℕ, suc, ◌^◌, ◌≤◌, List, [], ◌∷◌, ◌++◌, length}
+use Rattle.blob_model.specs.Content.{Update, size_of}
+use Rattle.tree_geom.specs.declared.touch.Touch.{Touch}
+use Rattle.range_log.specs.Log.{touch_at}
+use Rattle.range_log.specs.Extents.{touches}
+use Rattle.range_log.specs.Updates.{extents, Replayable}
+use Rattle.node_store.specs.Rows.{UpdateRow}
+use Rattle.snapshot.specs.Versions.{Version, IsRowOf}
+use Rattle.snapshot.specs.Laws.{AreRowsOf}
+use Rattle.publisher.specs.Windows.{Numbered, window_on, with_numbered, with_finished, StandsFor}
+
+-- u is the next of these updates, within bounds, and it touches this
+pub record IsNext (p : ℕ) (us : List Update) (u : Update) (touch : Touch) : Type 0 where
+  pub replayable : Replayable (us ++ u ∷ [])
+  pub fits : size_of (us ++ u ∷ []) (suc (length us)) ≤ 2 ^ 40
+  pub touches : touch ≡ touch_at (touches p (extents (us ++ u ∷ []))) (suc (length us))
+
+-- a new window stands for the updates that its rows are the rows of
+abbrev pub NewStands : Type 0
+NewStands = (us : List Update) (s : Version) → Replayable us → ((v : ℕ) → v ≤ length us → size_of us v ≤ 2 ^ 40) → length us ≡ length s.rows
+    → AreRowsOf s.page_size us s.rows → StandsFor us (window_on s)
+
+-- one update more is numbered
+abbrev pub NumberedStands : Type 0
+NumberedStands = (us : List Update) (u : Update) (w : Numbered) (touch : Touch) → length w.rows ≡ length w.log → StandsFor us w
+    → IsNext w.page_size us u touch → StandsFor (us ++ u ∷ []) (with_numbered w touch)
+
+-- one update more is finished, by its row
+abbrev pub FinishedStands : Type 0
+FinishedStands = (us : List Update) (w : Numbered) (version : ℕ) (row : UpdateRow) → 1 ≤ version → version ≤ length w.rows → StandsFor us w
+    → IsRowOf w.page_size us version row → StandsFor us (with_finished w version row)
