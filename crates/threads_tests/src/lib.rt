@@ -6,4 +6,6 @@ mod pages;
 #[cfg(test)]
 mod placement;
 #[cfg(test)]
+mod reader;
+#[cfg(test)]
 mod turn;

@@ -1,0 +1,2 @@
+pub mod ByHandRows
+pub mod HandMade
