@@ -1,8 +1,8 @@
 -- A window stands for the updates that were numbered.
-use Rattle.std.proofs.Common.{◌≡◌, ℕ, zero, suc, ◌+◌, ◌-◌, ◌^◌, ◌<◌, ◌≤◌, List, [], ◌∷◌, ◌++◌, length, take, Option, None, Some, is_some, true≢false, arith, refl, ap, sym, ◌∙◌, subst, inl, inr, get_or, length-append}
+use Rattle.std.proofs.Common.{◌≡◌, ℕ, zero, suc, ◌+◌, ◌-◌, ◌^◌, ◌<◌, ◌≤◌, List, [], ◌∷◌, ◌++◌, length, take, drop, Option, None, Some, is_some, true≢false, arith, refl, ap, sym, ◌∙◌, subst, inl, inr, get_or, length-append}
 use Rattle.std.specs.List.{range_with_len}
 use Rattle.std.proofs.lemmas.Bool.{cases_lt}
-use Rattle.std.proofs.lemmas.List.{length-map, get_or-map, get_or_append_left, get_or-append_right, get_or_past, take-append-le, ext_get_or}
+use Rattle.std.proofs.lemmas.List.{length-map, get_or-map, get_or_append_left, get_or-append_right, get_or_past, take-append-le, take-append-drop, get_or-take, length-take-le, ext_get_or}
 use Rattle.std.proofs.lemmas.List.FromFn.{length-range_with_len}
 use Rattle.std.proofs.Math.Seq.{get_or-append_seam, take-length}
 use Rattle.blob_model.specs.Content.{Update, content_from, size_of}
@@ -14,12 +14,12 @@ use Rattle.range_log.specs.Updates.{extents, extent_of}
 use Rattle.range_log.specs.Laws.{RowsStay, ExtentsGrow}
 use Rattle.node_store.specs.Rows.{UpdateRow}
 use Rattle.snapshot.specs.Versions.{no_row, IsRowOf}
-use Rattle.snapshot.specs.Laws.{OwnRowsStay}
-use Rattle.publisher.specs.Windows.{Numbered, StandsFor}
+use Rattle.snapshot.specs.Laws.{OwnRowsStay, RowsTell}
+use Rattle.publisher.specs.Windows.{Numbered, leading, StandsFor}
 use Rattle.publisher.specs.Kept.{row_touches, present}
-use Rattle.publisher.specs.Laws.{IsNext, NewStands, NumberedStands}
-use Rattle.publisher.proofs.Leading.{touches_match}
-use Rattle.publisher.proofs.Standing.{some_is}
+use Rattle.publisher.specs.Laws.{IsNext, NewStands, NumberedStands, PublishedLogIs}
+use Rattle.publisher.proofs.Leading.{touches_match, leading_few}
+use Rattle.publisher.proofs.Standing.{some_is, rows_published}
 
 length-extents : (us : List Update) → length (extents us) ≡ length us
 unfolding extents
@@ -127,3 +127,26 @@ module _ (stay : RowsStay) (grow : ExtentsGrow) (own : OwnRowsStay) where
     log = ext_get_or no_touch (w.log ++ touch ∷ []) (touches w.page_size (extents (us ++ u ∷ []))) (numbered_long us u w touch even s next) (numbered_log us u w touch even s next);
     rows = numbered_rows us u w touch even s next;
   }
+
+-- ---- published versions
+-- the first updates have the first touches
+touches_first : RowsStay → (p v : ℕ) (xs : List Extent) → v ≤ length xs → touches p (take v xs) ≡ take v (touches p xs)
+touches_first stay p v xs le =
+    let first : length (take v xs) ≡ v = length-take-le v xs le in
+    let left : length (touches p (take v xs)) ≡ v = length-touches p (take v xs) ∙ first in
+    let right : length (take v (touches p xs)) ≡ v = length-take-le v (touches p xs) (omega (arith, length-touches p xs)) in
+    ext_get_or no_touch (touches p (take v xs)) (take v (touches p xs)) (left ∙ sym right)
+    (λ i lt.
+    sym (stay p (suc i) (take v xs) (drop v xs) (omega arith)).0
+    ∙ ap (λ l. touch_at (touches p l) (suc i)) (take-append-drop v xs)
+    ∙ sym (get_or-take v (touches p xs) i no_touch (omega arith)))
+
+pub log_published : RowsStay → RowsTell → PublishedLogIs
+log_published stay tell us w v some even s le =
+    let p : ℕ = w.page_size in
+    let rows : List UpdateRow = take v (leading w.rows) in
+    let count : length rows ≡ v = length-take-le v (leading w.rows) le in
+    let told = tell p us rows some s.replayable (rows_published us w v even s) in
+    ap (touches p) (told.fall ∙ ap (λ n. take n (extents us)) count)
+    ∙ touches_first stay p v (extents us) (omega (arith, leading_few w.rows, length-extents us, s.counted, even))
+    ∙ ap (take v) (sym s.log)

@@ -68,3 +68,8 @@ touches_match (r ∷ rs) [] le same = absurd (omega arith)
 touches_match (r ∷ rs) (t ∷ ts) le same =
     ap (λ x. x ∷ row_touches rs) (same 0 (omega arith))
     ∙ ap (λ l. t ∷ l) (touches_match rs ts (omega arith) (λ i lt. same (suc i) (omega arith)))
+
+pub leading_few : (xs : List (Option UpdateRow)) → length (leading xs) ≤ length xs
+leading_few [] = omega arith
+leading_few (None ∷ xs) = omega arith
+leading_few (Some r ∷ xs) = omega (arith, leading_few xs)

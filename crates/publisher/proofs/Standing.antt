@@ -1,8 +1,8 @@
 -- Rows of the updates that a window stands for.
-use Rattle.std.proofs.Common.{◌≡◌, ◌≢◌, ℕ, zero, suc, ◌+◌, ◌-◌, ◌^◌, ◌≤◌, List, [], ◌∷◌, ◌++◌, length, Option, None, Some, unwrap_or, arith, ap, sym, ◌∙◌, subst, inl, inr, get_or, set, length-append, get_or-set_other}
+use Rattle.std.proofs.Common.{◌≡◌, ◌≢◌, ℕ, zero, suc, ◌+◌, ◌-◌, ◌^◌, ◌≤◌, List, [], ◌∷◌, ◌++◌, length, take, Option, None, Some, unwrap_or, arith, ap, sym, ◌∙◌, subst, inl, inr, get_or, set, length-append, get_or-set_other}
 use Rattle.std.proofs.lemmas.Bool.{cases_lt}
 use Rattle.std.proofs.lemmas.Grind.{get_or-set_at}
-use Rattle.std.proofs.lemmas.List.{append_assoc, get_or_append_left}
+use Rattle.std.proofs.lemmas.List.{append_assoc, get_or_append_left, get_or-take, length-take}
 use Rattle.std.proofs.lemmas.Nat.{pow_pos}
 use Rattle.std.proofs.Math.Seq.{get_or-append_seam}
 use Rattle.blob_model.specs.Content.{Update, size_of}
@@ -13,7 +13,8 @@ use Rattle.snapshot.specs.Versions.{Version, no_row, row_at, updates, IsRowOf, I
 use Rattle.snapshot.specs.Laws.{AreRowsOf, RowsTell}
 use Rattle.publisher.specs.Windows.{Numbered, leading, with_finished, StandsFor}
 use Rattle.publisher.specs.Kept.{Ready}
-use Rattle.publisher.proofs.Leading.{leading_at}
+use Rattle.publisher.specs.Laws.{PublishedRowsAre}
+use Rattle.publisher.proofs.Leading.{leading_at, leading_few}
 
 page_pos : (p : ℕ) → IsPageSize p → 1 ≤ p
 page_pos p (i, e, low, high) = omega (arith, pow_pos i)
@@ -53,6 +54,21 @@ are_rows us w le s = record { few = omega (arith, s.counted); each = each }
     each : (k : ℕ) → 1 ≤ k → k ≤ length (leading w.rows) → IsRowOf w.page_size us k (row_at (leading w.rows) k)
     each zero some le = absurd (omega arith)
     each (suc i) some le = s.rows i (get_or (leading w.rows) i no_row) (leading_at w.rows i no_row (omega arith))
+
+pub rows_published : PublishedRowsAre
+rows_published us w v even s =
+    let rows : List UpdateRow = leading w.rows in
+    let are : AreRowsOf w.page_size us rows = are_rows us w (omega (arith, leading_few w.rows, even)) s in
+    record {
+      few = omega (arith, length-take v rows, are.few);
+      each = λ k some le. each rows are k some (omega (arith, length-take v rows), omega (arith, length-take v rows));
+    }
+  where
+    each : (rows : List UpdateRow) → AreRowsOf w.page_size us rows → (k : ℕ) → 1 ≤ k → (k ≤ v) × (k ≤ length rows) → IsRowOf w.page_size us k (row_at (take v rows) k)
+    each rows are zero some le = absurd (omega arith)
+    each rows are (suc i) some le =
+        let R : UpdateRow → Type 0 = λ r. IsRowOf w.page_size us (suc i) r in
+        subst R (sym (get_or-take v rows i no_row le.0)) (are.each (suc i) some le.1)
 
 -- fewer rows are those of the first of the updates too
 pub ready_front : (p : ℕ) (xs ys : List UpdateRow) → Ready p (xs ++ ys) → Ready p xs

@@ -1,14 +1,14 @@
 -- Which updates a window stands for as it goes on.
-use Rattle.std.specs.Prelude.{◌≡◌, ℕ, suc, ◌^◌, ◌≤◌, List, [], ◌∷◌, ◌++◌, length}
+use Rattle.std.specs.Prelude.{◌≡◌, ℕ, suc, ◌^◌, ◌≤◌, List, [], ◌∷◌, ◌++◌, length, take}
 use Rattle.blob_model.specs.Content.{Update, size_of}
 use Rattle.tree_geom.specs.declared.touch.Touch.{Touch}
 use Rattle.range_log.specs.Log.{touch_at}
 use Rattle.range_log.specs.Extents.{touches}
 use Rattle.range_log.specs.Updates.{extents, Replayable}
 use Rattle.node_store.specs.Rows.{UpdateRow}
-use Rattle.snapshot.specs.Versions.{Version, IsRowOf}
+use Rattle.snapshot.specs.Versions.{Version, updates_of, older_version, IsRowOf}
 use Rattle.snapshot.specs.Laws.{AreRowsOf}
-use Rattle.publisher.specs.Windows.{Numbered, window_on, with_numbered, with_finished, StandsFor}
+use Rattle.publisher.specs.Windows.{Numbered, version_of, window_on, with_numbered, with_finished, StandsFor}
 
 -- u is the next of these updates, within bounds, and it touches this
 pub record IsNext (p : ℕ) (us : List Update) (u : Update) (touch : Touch) : Type 0 where
@@ -30,3 +30,13 @@ NumberedStands = (us : List Update) (u : Update) (w : Numbered) (touch : Touch) 
 abbrev pub FinishedStands : Type 0
 FinishedStands = (us : List Update) (w : Numbered) (version : ℕ) (row : UpdateRow) → 1 ≤ version → version ≤ length w.rows → StandsFor us w
     → IsRowOf w.page_size us version row → StandsFor us (with_finished w version row)
+
+-- the rows of each published version are those of the first of the updates
+abbrev pub PublishedRowsAre : Type 0
+PublishedRowsAre = (us : List Update) (w : Numbered) (v : ℕ) → length w.rows ≡ length w.log → StandsFor us w
+    → AreRowsOf w.page_size us (older_version (version_of w) v).rows
+
+-- what the updates of a published version touch is the beginning of the log
+abbrev pub PublishedLogIs : Type 0
+PublishedLogIs = (us : List Update) (w : Numbered) (v : ℕ) → 1 ≤ w.page_size → length w.rows ≡ length w.log → StandsFor us w → v ≤ length (version_of w).rows
+    → touches w.page_size (extents (updates_of (older_version (version_of w) v))) ≡ take v w.log

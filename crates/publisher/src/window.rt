@@ -125,6 +125,18 @@ impl Window {
         Ok(now)
     }
 
+    /// Whether that numbered version is finished.
+    pub fn is_finished(&self, version: u64) -> bool
+        requires { (1 ≤ version) × (version ≤ length self.now.log) }
+        ensures { result ≡ is_finished self.now version }
+    {
+        let published = self.snapshot.version();
+        if version <= published {
+            return true;
+        }
+        self.above[(version - published - 1) as usize].is_some()
+    }
+
     /// The greatest version up to which all are finished.
     pub fn published(&self) -> u64
         ensures { result ≡ published_of self.now }

@@ -1,5 +1,5 @@
-use Rattle.publisher.proofs.Growing.{new_stands, numbered_stands}
-use Rattle.publisher.proofs.Standing.{stands_finished}
+use Rattle.publisher.proofs.Growing.{new_stands, numbered_stands, log_published}
+use Rattle.publisher.proofs.Standing.{stands_finished, rows_published}
 use Rattle.publisher.proofs.laws.windows_stand.Goals as goal
 
 pub returns-clause-new : goal.returns-clause-new
@@ -10,3 +10,9 @@ returns-clause-numbered c = numbered_stands c.older_versions_stay.ensures.rows c
 
 pub returns-clause-finished : goal.returns-clause-finished
 returns-clause-finished c = stands_finished
+
+pub returns-clause-published : goal.returns-clause-published
+returns-clause-published c = rows_published
+
+pub returns-clause-logs : goal.returns-clause-logs
+returns-clause-logs c = log_published c.older_versions_stay.ensures.rows c.rows_tell.ensures

@@ -1,0 +1,5 @@
+pub mod Opens
+pub mod Updates
+pub mod Tickets
+pub mod Rows
+pub mod Steady

@@ -1,0 +1,38 @@
+use Rattle.std.proofs.Common.{ℕ, take, arith, ap, sym, ◌∙◌, subst}
+use Rattle.std.specs.Arc.{arc_value}
+use Rattle.weaver_tests.specs.Blobs.{OneBlob, IsTicketOf, updates_in}
+use Rattle.range_log.specs.Rows.{row_of}
+use Rattle.range_log.specs.Updates.{extents}
+use Rattle.snapshot.specs.Versions.{IsRowOf}
+use Rattle.weaver_tests.proofs.Steady.{blob_of, own_row, finished_or_not, still_blob, is_counted}
+use Rattle.weaver_tests.proofs.blob.Blob.finish.Goals as goal
+
+pub finish-requires-clause-own : goal.finish-requires-clause-own
+finish-requires-clause-own g c =
+    let b : OneBlob = blob_of c.self.inside.nodes c.self.inside.window c.self.inside.touches.items c.self.inside.begun.items in
+    let t = c.in_ok-ticket.ticket in
+    let row = arc_value c.in_ok-row.row in
+    let T : OneBlob → Type 0 = λ x. IsTicketOf x t in
+    let V : ℕ → Type 0 = λ v. IsRowOf b.window.page_size (updates_in b) v row in (
+      updates_in b,
+      c.self.invariant.stands,
+      subst V (sym c.version-version.ensures.version) (
+          own_row c.stored_rows_are_rows.ensures c.rows_stay.ensures b t row (subst T (sym c.self.view_is) c.in_ok-ticket.ensures) c.version-version.ensures.stands c.in_ok-row.ensures.version c.in_ok-row.ensures.touch c.in_ok-row.ensures.pages
+          (c.in_ok-row.ensures.nodes ∙ c.in_ok-planned.ensures ∙ ap (λ (x : OneBlob). row_of x.window.page_size (extents (take t.version (updates_in x))) t.version) (sym c.self.view_is))
+          ),
+    )
+
+pub invariant_of-self : goal.invariant_of-self
+invariant_of-self g c =
+    let b : OneBlob = blob_of c.self.inside.nodes c.self.inside.window c.self.inside.touches.items c.self.inside.begun.items in
+    let t = c.in_ok-ticket.ticket in
+    let row = arc_value c.in_ok-row.row in
+    let v = c.version-version.result in
+    let T : OneBlob → Type 0 = λ x. IsTicketOf x t in
+    let k = subst T (sym c.self.view_is) c.in_ok-ticket.ensures in
+    let nodes = c.in_ok-row.ensures.nodes ∙ c.in_ok-planned.ensures ∙ ap (λ (x : OneBlob). row_of x.window.page_size (extents (take t.version (updates_in x))) t.version) (sym c.self.view_is) in
+    let own = own_row c.stored_rows_are_rows.ensures c.rows_stay.ensures b t row k c.version-version.ensures.stands c.in_ok-row.ensures.version c.in_ok-row.ensures.touch c.in_ok-row.ensures.pages nodes in
+    let V : ℕ → Type 0 = λ n. IsRowOf b.window.page_size (updates_in b) n row in
+    still_blob c.windows_stand.ensures.finished b c.self.invariant v row c.finish.new.self (omega (arith, c.version-version.ensures.version, k.some))
+    (omega (arith, c.version-version.ensures.version, k.numbered, is_counted b c.self.invariant)) (subst V (sym c.version-version.ensures.version) own)
+    c.in_ok-row.ensures.here (finished_or_not c.finish.result c.finish.new.self b.window v row _ c.finish.ensures.finished c.finish.ensures.same)

@@ -1,0 +1,248 @@
+//! A blob whose updates are numbered, planned and finished as in a store, at whichever version was published.
+ghost use Rattle.std.specs.Prelude.{◌≡◌, ◌+◌, ◌-◌, ◌<◌, ◌≤◌, length, take, drop, IfOk};
+ghost use Rattle.tree_geom.specs.declared.touch.Touch.{Touch};
+ghost use Rattle.range_log.specs.Rows.{row_of};
+ghost use Rattle.range_log.specs.Updates.{extents};
+ghost use Rattle.page_store.specs.Stored.{joined};
+ghost use Rattle.publisher.specs.Windows.{opens_from};
+
+use crate::pages::store;
+use crate::plain::{Bytes, plain_row};
+use border_hints::{Hints, Ticket};
+use node_store::{NodeHouse, Row};
+use page_store::{PageHouse, Pages};
+use publisher::{FinishFault, Window};
+use range_log::{OpenList, OpenTouch};
+use snapshot::Snapshot;
+use std::alloc::Global;
+use std::marker::{Brand, Model};
+use std::sync::ledger::{Blank, Ledger};
+use std::sync::{Arc, Wait};
+use std::test::Fail;
+use tree_geom::{Node, PageSize, Range, Steps, Touch, touched};
+use tree_weaver::{PlannedRow, plan, put_row};
+
+/// How many bytes a blob may have.
+pub const MAX_SIZE: u64 = 1 << 40;
+
+/// What a window answers to a finish.
+pub type Finished = Result<u64, (FinishFault, Arc<Row>)>;
+
+/// Where an update begins, and its pages.
+#[derive(Drop)]
+pub struct Begun {
+    at: u64,
+    pages: Arc<Pages>,
+}
+
+impl Model for Begun {
+    ghost use Rattle.std.specs.Arc.{arc_value};
+    ghost use Rattle.weaver_tests.specs.Blobs.{Start};
+
+    ghost Value = { Start };
+
+    ghost view = { λ b. record { at = b.at; pages = arc_value b.pages } };
+}
+
+/// A blob with its window, and what its updates touch, where they begin and which pages they have.
+#[derive(Drop)]
+pub struct Blob {
+    nodes: NodeHouse,
+    window: Window,
+    touches: Vec<Touch>,
+    begun: Vec<Begun>,
+}
+
+impl Model for Blob {
+    ghost use Rattle.weaver_tests.specs.Blobs.{OneBlob, IsOneBlob};
+
+    ghost Value = { OneBlob };
+
+    ghost view = { λ b. record { nodes = b.nodes; window = b.window; touches = b.touches.items; starts = b.begun.items } };
+
+    ghost invariant = { λ b. IsOneBlob (record { nodes = b.nodes; window = b.window; touches = b.touches.items; starts = b.begun.items }) };
+}
+
+// The touches from number `from` to the one before `upto`, as those of waiting updates.
+fn open_between(
+    alloc: Global,
+    touches: &[Touch],
+    from: usize,
+    upto: usize,
+) -> Result<OpenList, Fail>
+    requires order { from ≤ upto }
+    requires within { upto ≤ length touches.now }
+    requires few { upto - from ≤ 64 }
+    ensures { IfOk result (λ list. list ≡ opens_from (from + 1) (take (upto - from) (drop from touches.now))) }
+{
+    let mut list = OpenList::new(alloc)?;
+    for i in from..upto {
+        list.add(OpenTouch {
+            version: i as u64 + 1,
+            touch: touches[i],
+        });
+    }
+    Ok(list)
+}
+
+impl Blob {
+    ghost use Rattle.weaver_tests.specs.Blobs.{IsTicketOf, updates_in};
+    ghost use Rattle.range_log.specs.Log.{size_at};
+
+    /// A blob without updates.
+    pub fn new(alloc: Global, p: PageSize) -> Result<Blob, Fail> {
+        publisher::laws::windows_stand();
+        Ok(Blob {
+            nodes: NodeHouse::new(alloc)?,
+            window: Window::new(alloc, Snapshot::empty(alloc, 1, p)?)?,
+            touches: Vec::new(alloc),
+            begun: Vec::new(alloc),
+        })
+    }
+
+    /// The blob's window.
+    pub fn window(&self) -> &Window {
+        &self.window
+    }
+
+    /// The size after all numbered updates.
+    pub fn size(&self) -> u64
+        ensures { result ≡ size_at self.now.touches (length self.now.touches) }
+    {
+        let count = self.touches.len();
+        if count == 0 {
+            return 0;
+        }
+        self.touches[count - 1].size
+    }
+
+    /// Numbers the update that begins at byte `at` and has these pages.
+    fn number(&mut self, alloc: Global, at: u64, pages: Pages) -> Result<u64, Fail>
+        requires page_size { pages.page_size ≡ self.old.window.page_size }
+        requires some { 1 ≤ length (joined pages.pages) }
+    {
+        range_log::laws::logs_are_grown();
+        range_log::laws::page_bytes_stay();
+        publisher::laws::windows_stand();
+        let size = self.size();
+        let len = pages.len();
+        if at > size || size > MAX_SIZE || len > MAX_SIZE - at {
+            return Err("past the end".into());
+        }
+        let assigned = self.window.assigned();
+        if assigned >= 1_048_576 || assigned.saturating_sub(self.window.published()) >= 64 {
+            return Err("too many updates".into());
+        }
+        self.touches.reserve(1)?;
+        self.begun.reserve(1)?;
+        let pages = Arc::new(alloc, pages)?;
+        let p = self.window.snapshot().page_size();
+        let touch = touched(p, at, len, size.max(at + len));
+        self.touches.push_reserved(touch);
+        self.begun.push_reserved(Begun { at, pages });
+        Ok(self.window.number(touch))
+    }
+
+    /// Numbers the update of these bytes at byte `at`, and gives its version.
+    pub fn start(
+        &mut self,
+        rt: &impl Wait,
+        alloc: Global,
+        at: u64,
+        bytes: &[u8],
+    ) -> Result<u64, Fail> {
+        if bytes.is_empty() || bytes.len() > 1_048_576 {
+            return Err("no such update".into());
+        }
+        let house = PageHouse::new(alloc, 1)?;
+        let p = self.window.snapshot().page_size();
+        let pages = store(rt, alloc, &house, p, bytes)?;
+        self.number(alloc, at, pages)
+    }
+
+    /// The ticket of a numbered update, had version `published` been published at its numbering.
+    pub fn ticket(&self, alloc: Global, version: u64, published: u64) -> Result<Ticket, Fail>
+        ensures { IfOk result (λ t. IsTicketOf self.now t) }
+    {
+        range_log::laws::logs_are_grown();
+        range_log::laws::older_versions_stay();
+        range_log::laws::page_bytes_stay();
+        publisher::laws::windows_stand();
+        let latest = self.window.snapshot();
+        if version == 0 || version > self.begun.len() as u64 {
+            return Err("no such version".into());
+        }
+        if published >= version || version - published > 65 || published > latest.version() {
+            return Err("not published, or too long ago".into());
+        }
+        let place = version as usize - 1;
+        let snapshot = latest.at(alloc, published)?;
+        let waiting = open_between(alloc, &self.touches, published as usize, place)?;
+        let begun = &self.begun[place];
+        let pages = Arc::try_clone(&begun.pages)?;
+        let len = pages.len();
+        let size = self.touches[place].size;
+        let hints = Hints { snapshot, waiting };
+        Ok(Ticket::of(1, 1, version, begun.at, len, size, hints, pages))
+    }
+
+    /// The plan of a ticket's update, and the node steps that it took.
+    pub fn plan(&self, alloc: Global, ticket: &Ticket) -> Result<(PlannedRow, u64), Fail>
+        requires { IsTicketOf self.now ticket.now }
+        ensures { IfOk result (λ r. r.0 ≡ row_of self.now.window.page_size (extents (take ticket.now.version (updates_in self.now))) ticket.now.version) }
+    {
+        self.plan_counted::<Brand>(alloc, ticket, Blank::new(1))
+    }
+
+    // The same, counted in the blank.
+    fn plan_counted<L: Ledger>(
+        &self,
+        alloc: Global,
+        ticket: &Ticket,
+        blank: Blank,
+    ) -> Result<(PlannedRow, u64), Fail>
+        requires own { IsTicketOf self.now ticket.now }
+        requires name { blank.name ≡ L.name }
+        requires parts { blank.parts ≡ L.parts }
+        requires some { 0 < blank.parts }
+        ensures { IfOk result (λ r. r.0 ≡ row_of self.now.window.page_size (extents (take ticket.now.version (updates_in self.now))) ticket.now.version) }
+    {
+        let mut steps = Steps::<L>::open(blank);
+        let planned = plan(alloc, ticket, &self.nodes, &mut steps)?;
+        Ok((planned, steps.taken()))
+    }
+
+    /// The row of a numbered update, made plainly from what all updates touch.
+    pub fn plain(&self, alloc: Global, version: u64) -> Result<Vec<(Range, Node)>, Fail> {
+        range_log::laws::page_bytes_stay();
+        if version == 0 || version > self.begun.len() as u64 {
+            return Err("no such version".into());
+        }
+        let begun = &self.begun[version as usize - 1];
+        let bytes = Bytes {
+            at: begun.at,
+            end: begun.at.saturating_add(begun.pages.len()),
+        };
+        let p = self.window.snapshot().page_size();
+        plain_row(alloc, p, &self.touches, version as usize, bytes)
+    }
+
+    /// Plans and stores the row of a numbered update, had version `published` been published at its numbering, and finishes
+    /// the update.
+    pub fn finish(
+        &mut self,
+        rt: &impl Wait,
+        alloc: Global,
+        version: u64,
+        published: u64,
+    ) -> Result<Finished, Fail> {
+        snapshot::laws::rows_stay();
+        publisher::laws::windows_stand();
+        tree_weaver::laws::stored_rows_are_rows();
+        let ticket = self.ticket(alloc, version, published)?;
+        let (planned, _) = self.plan(alloc, &ticket)?;
+        let row = put_row(alloc, rt, &ticket, &planned, &self.nodes)?;
+        let version = ticket.version();
+        Ok(self.window.finish(alloc, version, row))
+    }
+}

@@ -1,0 +1,15 @@
+//! Tests of weaving and of publishing: whole plans, and the order of publication.
+#![tactic(auto)]
+
+#[cfg(test)]
+mod blob;
+#[cfg(test)]
+mod pages;
+#[cfg(test)]
+mod plain;
+#[cfg(test)]
+mod plans;
+#[cfg(test)]
+mod walk;
+#[cfg(test)]
+mod window;

@@ -1,0 +1,129 @@
+//! The row of an update, made plainly from what all updates up to it touch.
+ghost use Rattle.std.specs.Prelude.{◌+◌, ◌^◌, ◌≤◌, length};
+ghost use Rattle.range_log.specs.Extents.{IsLog};
+
+use crate::blob::MAX_SIZE;
+use range_log::{newest, row_keys};
+use std::alloc::Global;
+use std::test::Fail;
+use tree_geom::{Node, PageSize, Piece, Range, Touch};
+
+/// The second piece of a leaf that has one.
+pub const NO_PIECE: Piece = Piece {
+    page: 0,
+    from: 0,
+    len: 0,
+};
+
+/// The bytes that an update writes, from `at` to the one before `end`.
+#[derive(Clone, Copy)]
+pub struct Bytes {
+    pub at: u64,
+    pub end: u64,
+}
+
+// The one or two pieces of `len` bytes from byte `from` of the update's buffer on.
+fn plain_pieces(size: u64, from: u64, len: u64) -> Result<(u32, Piece, Piece), Fail>
+    requires { 1 ≤ size }
+{
+    let page = u32::try_from(from / size)?;
+    let begin = from % size;
+    let here = len.min(size - begin);
+    let first = Piece {
+        page,
+        from: u32::try_from(begin)?,
+        len: u32::try_from(here)?,
+    };
+    if here == len {
+        return Ok((1, first, NO_PIECE));
+    }
+    let second = Piece {
+        page: page.saturating_add(1),
+        from: 0,
+        len: u32::try_from(len - here)?,
+    };
+    Ok((2, first, second))
+}
+
+// The leaf of update `k` for the page.
+fn plain_leaf(p: PageSize, log: &[Touch], k: usize, bytes: Bytes, page: Range) -> Result<Node, Fail>
+    requires some { 1 ≤ k }
+    requires within { k ≤ length log.now }
+    requires fits { page.offset + page.size ≤ 2 ^ 40 }
+{
+    let after = page.offset + page.size;
+    let low = bytes.at.max(page.offset);
+    let high = bytes.end.min(after);
+    let from = low.saturating_sub(bytes.at);
+    let len = high.saturating_sub(low);
+    let (count, first, second) = plain_pieces(p.bytes(), from, len)?;
+    let covers = low == page.offset && high == log[k - 1].size.min(after);
+    let back = if covers {
+        0
+    } else {
+        newest(p, log, k - 1, page)
+    };
+    Ok(Node::Leaf {
+        start: u32::try_from(low.saturating_sub(page.offset))?,
+        count,
+        first,
+        second,
+        back,
+    })
+}
+
+// The node of update `k` for the range.
+fn plain_node(
+    p: PageSize,
+    log: &[Touch],
+    k: usize,
+    bytes: Bytes,
+    range: Range,
+) -> Result<Node, Fail>
+    requires some { 1 ≤ k }
+    requires within { k ≤ length log.now }
+{
+    if range.offset > MAX_SIZE || range.size > MAX_SIZE - range.offset {
+        return Err("a range past the greatest size".into());
+    }
+    if range.size == p.bytes() {
+        return plain_leaf(p, log, k, bytes, range);
+    }
+    let size = range.size / 2;
+    let low = Range {
+        offset: range.offset,
+        size,
+    };
+    let high = Range {
+        offset: range.offset + size,
+        size,
+    };
+    Ok(Node::Inner {
+        left: newest(p, log, k, low),
+        right: newest(p, log, k, high),
+    })
+}
+
+/// The row of update `k`, which writes these bytes.
+pub fn plain_row(
+    alloc: Global,
+    p: PageSize,
+    log: &[Touch],
+    k: usize,
+    bytes: Bytes,
+) -> Result<Vec<(Range, Node)>, Fail>
+    requires some { 1 ≤ k }
+    requires within { k ≤ length log.now }
+    requires of_updates { IsLog p log.now }
+{
+    if log[k - 1].size > MAX_SIZE {
+        return Err("past the greatest size".into());
+    }
+    let keys = row_keys(alloc, p, log, k)?;
+    let mut row = Vec::new(alloc);
+    for i in 0..keys.len() {
+        let range = keys[i];
+        row.push((range, plain_node(p, log, k, bytes, range)?))?;
+    }
+    Ok(row)
+}
