@@ -58,7 +58,7 @@ length_touches p us = length-map-range_with_len (λ k. touch_of p us k) 1 (lengt
 pub length_log : (p : ℕ) (us : List Update) → length (log_of p us) ≡ length us
 length_log p us = length_touches p (extents us) ∙ length_extents us
 
-touch_is : (p : ℕ) (us : List Extent) (k : ℕ) → k < length us → touch_at (touches p us) (suc k) ≡ touch_of p us (suc k)
+pub touch_is : (p : ℕ) (us : List Extent) (k : ℕ) → k < length us → touch_at (touches p us) (suc k) ≡ touch_of p us (suc k)
 unfolding touches
 touch_is p us k h = get_or-map-range_with_len (λ j. touch_of p us j) 1 (length us) k (suc k) no_touch h (omega arith)
 

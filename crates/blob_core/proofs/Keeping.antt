@@ -197,7 +197,7 @@ pub in_bounds : (c : Cited) (us : List Update) → Replayable us → InBounds (e
 in_bounds c us ok = (c.stand us ok).0
 
 -- with the entry of a key that isn't there, or as before
-with_node_is : (p : ℕ) (w : World) (key : NodeKey) (b : Blob) (kept : Kept) → blob_at w.store key.blob ≡ Some b → kept_at w.updates key.blob key.version ≡ Some kept
+pub with_node_is : (p : ℕ) (w : World) (key : NodeKey) (b : Blob) (kept : Kept) → blob_at w.store key.blob ≡ Some b → kept_at w.updates key.blob key.version ≡ Some kept
     → (o : Option Node) → node_at w.nodes key ≡ o
     → (with_node p w key ≡ w.nodes) ⊎ ((node_at w.nodes key ≡ None) × (with_node p w key ≡ (key, woven p w key.blob b kept key.version key.range) ∷ w.nodes))
 with_node_is p w key b kept there has (Some n) e = inl (rw (e, with_node) refl)
@@ -313,7 +313,7 @@ finished c p w t blob version b pos s numbered row store =
     })
 
 -- ---- a numbering
-with_update_is : (p : ℕ) (w : World) (blob : ℕ) (pages : List ℕ) (b : Blob) → blob_at w.store blob ≡ Some b
+pub with_update_is : (p : ℕ) (w : World) (blob : ℕ) (pages : List ℕ) (b : Blob) → blob_at w.store blob ≡ Some b
     → with_update p w blob pages ≡ (record { blob = blob; version = assigned b + 1 }, next_kept p b pages) ∷ w.updates
 with_update_is p w blob pages b e = rw (e, with_update) refl
 

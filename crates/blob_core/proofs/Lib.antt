@@ -10,3 +10,11 @@ mod Reading
 mod Promising
 mod Needed
 mod Orders
+mod Refusing
+mod Cutting
+mod Logs
+mod Acting
+mod Rowing
+mod Onward
+mod Walking
+mod Sound

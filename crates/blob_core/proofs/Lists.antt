@@ -196,7 +196,7 @@ KeepsPages a b = (n : ℕ) (bytes : List ℕ) → page_at a n ≡ Some bytes →
 abbrev pub SmallPages : ℕ → List (ℕ × List ℕ) → Type 0
 SmallPages p a = (n : ℕ) (bytes : List ℕ) → page_at a n ≡ Some bytes → (1 ≤ length bytes) × (length bytes ≤ p)
 
-bytes_are : (a : List (ℕ × List ℕ)) (n : ℕ) (bytes : List ℕ) → page_at a n ≡ Some bytes → bytes_of_page a n ≡ bytes
+pub bytes_are : (a : List (ℕ × List ℕ)) (n : ℕ) (bytes : List ℕ) → page_at a n ≡ Some bytes → bytes_of_page a n ≡ bytes
 bytes_are a n bytes e = rw (e, bytes_of_page) refl
 
 bytes_kept : (a b : List (ℕ × List ℕ)) → KeepsPages a b → (n : ℕ) → IsKnown (page_at a n) → bytes_of_page b n ≡ bytes_of_page a n

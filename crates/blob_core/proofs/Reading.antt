@@ -48,19 +48,19 @@ put_none start own =
 
 -- ---- a leaf
 -- what a leaf's back brings
-abbrev older_walk : ℕ → ℕ → World → ℕ → ℕ → ℕ → Walked
+abbrev pub older_walk : ℕ → ℕ → World → ℕ → ℕ → ℕ → Walked
 older_walk most p w blob back i = let older : Walked = elim (back == 0) [ true ↦ nothing | false ↦ leaf_walk most p w blob back i ] in older
 
-leaf_walk_on : (most p : ℕ) (w : World) (blob j i start count : ℕ) (first second : Piece) (back : ℕ) (kept : Kept) → node_in w blob j (page_range p i) ≡ Some (Leaf start count first second back)
+pub leaf_walk_on : (most p : ℕ) (w : World) (blob j i start count : ℕ) (first second : Piece) (back : ℕ) (kept : Kept) → node_in w blob j (page_range p i) ≡ Some (Leaf start count first second back)
     → kept_at w.updates (origin w blob j) j ≡ Some kept
     → leaf_walk (suc most) p w blob j i ≡ over (older_walk most p w blob back i) start (bytes_of_piece w kept.pages first ++ bytes_of_piece w kept.pages second)
 unfolding leaf_walk
 leaf_walk_on most p w blob j i start count first second back kept e f = rw (e, f, leaf_walk) refl
 
-older_none : (most p : ℕ) (w : World) (blob back i : ℕ) → (back == 0) ≡ true → older_walk most p w blob back i ≡ nothing
+pub older_none : (most p : ℕ) (w : World) (blob back i : ℕ) → (back == 0) ≡ true → older_walk most p w blob back i ≡ nothing
 older_none most p w blob back i e = rw (e, older_walk) refl
 
-older_on : (most p : ℕ) (w : World) (blob back i : ℕ) → (back == 0) ≡ false → older_walk most p w blob back i ≡ leaf_walk most p w blob back i
+pub older_on : (most p : ℕ) (w : World) (blob back i : ℕ) → (back == 0) ≡ false → older_walk most p w blob back i ≡ leaf_walk most p w blob back i
 older_on most p w blob back i e = rw (e, older_walk) refl
 
 leaf_is : (p : ℕ) (us : List Extent) (j i : ℕ) → 1 ≤ p → node_of p us j (page_range p i) ≡ leaf_of p us j i
@@ -239,7 +239,7 @@ pages_none p us v lo hi count e z =
     }
 
 -- ---- a walk down a tree
-walk_apart : (h p : ℕ) (w : World) (blob j q first last : ℕ) → (last < q * 2 ^ h) ⊎ ((q + 1) * 2 ^ h ≤ first) → tree_walk_from h p w blob j q first last ≡ nothing
+pub walk_apart : (h p : ℕ) (w : World) (blob j q first last : ℕ) → (last < q * 2 ^ h) ⊎ ((q + 1) * 2 ^ h ≤ first) → tree_walk_from h p w blob j q first last ≡ nothing
 unfolding tree_walk_from
 walk_apart zero p w blob j q first last past = elim past [
   | inl late ↦ (let e : (nat_le q last && nat_le first q) ≡ false = grind (arith, nat_tests) in rw (e, tree_walk_from))
@@ -250,11 +250,11 @@ walk_apart (suc h) p w blob j q first last past = elim past [
   | inr early ↦ (let e : (nat_le (q * 2 ^ suc h) last && nat_lt first ((q + 1) * 2 ^ suc h)) ≡ false = grind (arith, nat_tests) in rw (e, tree_walk_from))
 ]
 
-walk_leaf : (p : ℕ) (w : World) (blob j q first last : ℕ) → first ≤ q → q ≤ last → tree_walk_from 0 p w blob j q first last ≡ leaf_walk j p w blob j q
+pub walk_leaf : (p : ℕ) (w : World) (blob j q first last : ℕ) → first ≤ q → q ≤ last → tree_walk_from 0 p w blob j q first last ≡ leaf_walk j p w blob j q
 unfolding tree_walk_from
 walk_leaf p w blob j q first last from to = let e : (nat_le q last && nat_le first q) ≡ true = grind (arith, nat_tests) in rw (e, tree_walk_from)
 
-walk_inner : (h p : ℕ) (w : World) (blob j q first last : ℕ) (n : Node) → q * 2 ^ suc h ≤ last → first < (q + 1) * 2 ^ suc h → node_in w blob j (tree_range p (suc h) q) ≡ Some n
+pub walk_inner : (h p : ℕ) (w : World) (blob j q first last : ℕ) (n : Node) → q * 2 ^ suc h ≤ last → first < (q + 1) * 2 ^ suc h → node_in w blob j (tree_range p (suc h) q) ≡ Some n
     → tree_walk_from (suc h) p w blob j q first last
     ≡ both (tree_walk_from h p w blob (left_link n) (2 * q) first last) (tree_walk_from h p w blob (right_link n) (2 * q + 1) first last)
 unfolding tree_walk_from
@@ -431,11 +431,11 @@ root_is p log v size e some =
     ap (λ (n : ℕ). ranged 0 (span_of p n)) e ∙ ap (λ (n : ℕ). ranged 0 n) (span_some p size some) ∙ ap (λ (n : ℕ). ranged n (p * 2 ^ height_of p size)) z
 
 -- ---- a read
-read_none : (p : ℕ) (w : World) (blob : ℕ) (b : Blob) (v o n : ℕ) → (n == 0) ≡ true → read_walk p w blob b v o n ≡ nothing
+pub read_none : (p : ℕ) (w : World) (blob : ℕ) (b : Blob) (v o n : ℕ) → (n == 0) ≡ true → read_walk p w blob b v o n ≡ nothing
 unfolding read_walk
 read_none p w blob b v o n e = rw (e, read_walk)
 
-read_some : (p : ℕ) (w : World) (blob : ℕ) (b : Blob) (v o n : ℕ) → (n == 0) ≡ false
+pub read_some : (p : ℕ) (w : World) (blob : ℕ) (b : Blob) (v o n : ℕ) → (n == 0) ≡ false
     → read_walk p w blob b v o n ≡ cut_out p o n (tree_walk_from (height_of p (size_after (extents b.updates) v)) p w blob v 0 (o / p) ((o + n - 1) / p))
 unfolding read_walk
 read_some p w blob b v o n e = rw (e, read_walk)

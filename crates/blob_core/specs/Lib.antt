@@ -3,3 +3,5 @@ pub mod Woven
 pub mod Steps
 pub mod Walk
 pub mod Promises
+pub mod Standing
+pub mod Acts

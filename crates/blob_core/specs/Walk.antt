@@ -1,6 +1,11 @@
-use Rattle.std.specs.Prelude.{ℕ, ◌+◌, ◌-◌, ◌*◌, ◌/◌, ◌^◌, ◌==◌, ◌&&◌, nat_lt, nat_le, zero, suc, true, false, List, [], ◌∷◌, ◌++◌, take, drop, Some, None}
+use Rattle.std.specs.Prelude.{ℕ, ◌+◌, ◌-◌, ◌*◌, ◌/◌, ◌^◌, ◌==◌, ◌&&◌, nat_lt, nat_le, zero, suc, true, false, List, [], ◌∷◌, ◌++◌, take, drop, if◌then◌else◌, option_map, Option, Some, None}
 use Rattle.blob_model.specs.Content.{put}
-use Rattle.blob_model.specs.Store.{Blob}
+use Rattle.blob_model.specs.Store.{Blob, blob_at}
+use Rattle.blob_model.specs.Answer.{answer}
+use Rattle.blob_model.specs.History.{is_refused}
+use Rattle.blob_model.specs.declared.call.Call.TheVariants as Calls
+use Rattle.blob_model.specs.declared.call.Outcome.{Outcome}
+use Rattle.blob_model.specs.declared.call.Outcome.TheVariants as Outcomes
 use Rattle.tree_geom.specs.declared.range.Range.{Range}
 use Rattle.tree_geom.specs.declared.node.Node.{Node}
 use Rattle.tree_geom.specs.declared.node.Node.TheVariants.{Inner, Leaf}
@@ -111,3 +116,22 @@ read_walk p w blob b version offset count =
           cut_out p offset count
           (tree_walk_from (height_of p (size_after (extents b.updates) version)) p w blob version 0 (offset / p) ((offset + count - 1) / p))
     ]
+
+-- ---- what is read
+-- the bytes of a read's answer, none where the answer isn't the content
+abbrev pub content_in : Outcome → Option (List ℕ)
+content_in (Outcomes.Content bytes) = Some bytes
+content_in (Outcomes.Blob blob) = None
+content_in (Outcomes.Assigned version at size) = None
+content_in (Outcomes.Published version) = None
+content_in (Outcomes.Recent version size) = None
+content_in (Outcomes.Size size) = None
+content_in (Outcomes.Synced version) = None
+content_in (Outcomes.Status assigned' published' held') = None
+content_in (Outcomes.Refused refusal) = None
+
+-- the bytes that a walk brings, none where the store refuses the read
+abbrev pub walked_in : ℕ → World → ℕ → ℕ → ℕ → ℕ → Option (List ℕ)
+walked_in p w blob version offset count =
+    if is_refused (answer w.store 0 (Calls.Read blob version offset count)).1 then None
+    else option_map (λ (b : Blob). (read_walk p w blob b version offset count).bytes) (blob_at w.store blob)

@@ -1,5 +1,6 @@
 //! What holds after every list of allowed steps.
 ghost use Rattle.blob_core.specs.Promises.{StepsHold};
+ghost use Rattle.blob_core.specs.Standing.{ReachedStays};
 
 use range_log::laws as rows;
 use tree_walk::laws as walks;
@@ -15,7 +16,8 @@ use tree_walk::laws as walks;
 ///
 /// The calls below do nothing; they cite the laws of rows and walks.
 pub fn steps_hold()
-    ensures { StepsHold }
+    ensures hold { StepsHold }
+    ensures stays { ReachedStays }
 {
     rows::links_name_nodes();
     rows::no_holes();

@@ -1,13 +1,23 @@
-// What a world holds, and what it is asked for.
-ghost use Rattle.std.specs.Prelude.{◌≡◌, ℕ, ◌+◌, ◌≤◌, List, length, map, option_map};
-ghost use Rattle.blob_model.specs.Store.{blob_at, published, true_prefix};
-ghost use Rattle.blob_core.specs.World.{empty_world, same_key, node_at};
+// A world, and what it is asked for.
+ghost use Rattle.std.specs.Prelude.{◌≡◌, option_map, IfOk, OnErr, IsErrOf};
+ghost use Rattle.blob_model.specs.Store.{blob_at, published};
+ghost use Rattle.blob_core.specs.World.{empty_world, node_at};
+ghost use Rattle.blob_model.specs.Answer.{answer};
+ghost use Rattle.blob_model.specs.declared.call.Call.TheVariants as Calls;
+ghost use Rattle.blob_core.specs.Walk.{walked_in, content_in};
+ghost use Rattle.blob_core.specs.Steps.{IsAllowed};
+ghost use Rattle.blob_core.specs.Acts.{IsDone};
+ghost use Rattle.blob_core.specs.declared.state.ActFault.TheVariants.{NotAllowed};
 
-use blob_model::{Bytes, Limits, Place};
-use range_log::OpenTouch;
+use crate::finds::{find_node, marked};
+use crate::laws::steps_hold;
+use crate::state::{ActFault, State};
+use crate::step::Step;
+use blob_model::{Bytes, Limits};
+use range_log::NoMemory;
 use std::alloc::Global;
 use std::marker::Model;
-use tree_geom::{Node, NodeKey};
+use tree_geom::{Node, NodeKey, PageSize};
 
 /// The blob that a branch was made from, and the version that it was taken at.
 #[derive(Clone, Copy)]
@@ -23,141 +33,85 @@ pub struct UpdateKey {
     pub version: u64,
 }
 
-/// An update, with its bytes.
-#[derive(Drop)]
-struct StoredUpdate {
-    caller: u32,
-    place: Place,
-    bytes: Bytes,
-}
-
-impl Model for StoredUpdate {
-    ghost use Rattle.blob_model.specs.Content.{Update};
-
-    ghost Value = { Update };
-
-    ghost view = { λ u. record { caller = u.caller; place = u.place; bytes = u.bytes } };
-}
-
-/// A blob: its updates, version 1 first, and which of them are finished.
-#[derive(Drop)]
-struct StoredBlob {
-    updates: Vec<StoredUpdate>,
-    finished: Vec<bool>,
-}
-
-impl Model for StoredBlob {
-    ghost use Rattle.blob_model.specs.Store.{Blob};
-
-    ghost Value = { Blob };
-
-    ghost view = { λ b. record { updates = b.updates.items; finished = b.finished.items } };
-}
-
-/// What is kept beside an update: the numbers of its pages, and its hints.
-#[derive(Drop)]
-struct KeptUpdate {
-    pages: Vec<u64>,
-    published: u64,
-    waiting: Vec<OpenTouch>,
-}
-
-impl Model for KeptUpdate {
-    ghost use Rattle.blob_core.specs.World.{Kept};
-
-    ghost Value = { Kept };
-
-    ghost view = { λ k. record { pages = k.pages.items; published = k.published; waiting = k.waiting.items } };
-}
-
-/// A world: the store, the pages, what is kept beside each update, and the nodes.
+/// A world that a list of allowed steps leads to from the empty one: the store, the pages, what is kept beside each update,
+/// and the nodes.
 #[derive(Drop)]
 pub struct World {
-    limits: Limits,
-    blobs: Vec<StoredBlob>,
-    lineage: Vec<Option<Parent>>,
-    pages: Vec<(u64, Bytes)>,
-    updates: Vec<(UpdateKey, KeptUpdate)>,
-    nodes: Vec<(NodeKey, Node)>,
+    page: PageSize,
+    state: State,
 }
 
 impl Model for World {
-    ghost use Rattle.blob_core.specs.World.{World};
+    ghost use Rattle.blob_core.specs.Standing.{Paged, IsReached};
 
-    ghost Value = { World };
+    ghost Value = { Paged };
 
-    ghost view = { λ w. record {
-      store = record { limits = w.limits; blobs = w.blobs.items };
-      lineage = w.lineage.items;
-      pages = w.pages.items;
-      updates = w.updates.items;
-      nodes = w.nodes.items;
-    } };
-}
+    ghost view = { λ w. record { page = w.page; world = w.state } };
 
-/// Whether the keys are the same.
-fn is_same_key(a: &NodeKey, b: &NodeKey) -> bool
-    ensures { result ≡ same_key a.now b.now }
-{
-    a.blob == b.blob
-        && a.version == b.version
-        && a.range.offset == b.range.offset
-        && a.range.size == b.range.size
-}
-
-/// The node of the first entry with that key.
-fn find_node(nodes: &[(NodeKey, Node)], key: &NodeKey) -> Option<Node>
-    ensures { result ≡ node_at nodes.now key.now }
-{
-    for entry in nodes {
-        if is_same_key(&entry.0, key) {
-            return Some(entry.1);
-        }
-    }
-    None
-}
-
-/// How many marks there are before the first that is false.
-fn marked(marks: &[bool]) -> u64
-    ensures is { result ≡ true_prefix marks.now }
-{
-    let mut count = 0;
-    for mark in marks {
-        if !*mark {
-            return count;
-        }
-        count += 1;
-    }
-    count
+    ghost invariant = { λ w. IsReached w.page w.state };
 }
 
 impl World {
-    /// A world with these limits, and nothing else. Takes no memory.
-    pub fn empty(alloc: Global, limits: Limits) -> World
-        ensures { result ≡ empty_world limits }
+    /// A world with these limits and pages of at most that size, and nothing else. Takes no memory.
+    pub fn empty(alloc: Global, limits: Limits, p: PageSize) -> World
+        ensures page { result.page ≡ p }
+        ensures world { result.world ≡ empty_world limits }
     {
+        let _size = p.bytes();
+        let _size = limits.max_size;
         World {
-            limits,
-            blobs: Vec::new(alloc),
-            lineage: Vec::new(alloc),
-            pages: Vec::new(alloc),
-            updates: Vec::new(alloc),
-            nodes: Vec::new(alloc),
+            page: p,
+            state: State {
+                limits,
+                blobs: Vec::new(alloc),
+                lineage: Vec::new(alloc),
+                pages: Vec::new(alloc),
+                updates: Vec::new(alloc),
+                nodes: Vec::new(alloc),
+            },
         }
+    }
+
+    /// Does the step. Where the world doesn't allow it, or memory is refused, all is as before.
+    pub(crate) fn act(&mut self, alloc: Global, step: &Step) -> Result<(), ActFault>
+        ensures page { self.new.page ≡ self.old.page }
+        ensures done { IfOk result (λ _. IsDone self.old.page self.old.world step.now self.new.world) }
+        ensures refused { IsErrOf result NotAllowed → ¬ IsAllowed self.old.page self.old.world step.now }
+        ensures same { OnErr result (self.new ≡ self.old) }
+    {
+        self.state.act(alloc, self.page, step)
     }
 
     /// The published version of a blob. None exactly where there is no such blob.
     pub fn published(&self, blob: u64) -> Option<u64>
-        ensures { result ≡ option_map published (blob_at self.now.store blob) }
+        ensures { result ≡ option_map published (blob_at self.now.world.store blob) }
     {
-        let blob = self.blobs.get(blob.checked_sub(1)? as usize)?;
+        let blob = self.state.blob(blob)?;
         Some(marked(blob.finished.as_slice()))
     }
 
     /// The node under a key. None exactly where the key isn't there.
     pub fn node(&self, key: NodeKey) -> Option<Node>
-        ensures { result ≡ node_at self.now.nodes key }
+        ensures { result ≡ node_at self.now.world.nodes key }
     {
-        find_node(self.nodes.as_slice(), &key)
+        find_node(self.state.nodes.as_slice(), &key)
+    }
+
+    /// Reads `length` bytes from `offset` of a version: what a walk from the version's root brings by the nodes and pages of the
+    /// world, which is the content. None exactly where the store doesn't answer with the content.
+    pub fn read(
+        &self,
+        alloc: Global,
+        blob: u64,
+        version: u64,
+        offset: u64,
+        length: u64,
+    ) -> Result<Option<Bytes>, NoMemory>
+        ensures walk { IfOk result (λ bytes. bytes ≡ walked_in self.now.page self.now.world blob version offset length) }
+        ensures content { IfOk result (λ bytes. bytes ≡ content_in (answer self.now.world.store 0 (Calls.Read blob version offset length)).1) }
+    {
+        steps_hold();
+        self.state
+            .read(alloc, self.page, blob, version, offset, length)
     }
 }

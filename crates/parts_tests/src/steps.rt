@@ -2,7 +2,7 @@
 use blob_core::{PageList, World, steps_hold};
 use blob_model::Limits;
 use std::test::Fail;
-use tree_geom::{NodeKey, Range};
+use tree_geom::{NodeKey, PageSize, Range};
 
 #[test]
 fn a_list_of_pages_keeps_their_numbers(rt: HostRuntime) -> Result<(), Fail> {
@@ -13,9 +13,10 @@ fn a_list_of_pages_keeps_their_numbers(rt: HostRuntime) -> Result<(), Fail> {
 }
 
 #[test]
-fn an_empty_world_has_no_blob_and_no_node(rt: HostRuntime) {
+fn an_empty_world_has_no_blob_and_no_node(rt: HostRuntime) -> Result<(), Fail> {
     steps_hold();
-    let world = World::empty(rt.alloc(), Limits::greatest());
+    let p = PageSize::new(4).ok_or("4 bytes")?;
+    let world = World::empty(rt.alloc(), Limits::greatest(), p);
     assert_eq!(rt; world.published(0), None);
     assert_eq!(rt; world.published(1), None);
     let key = NodeKey {
@@ -24,4 +25,5 @@ fn an_empty_world_has_no_blob_and_no_node(rt: HostRuntime) {
         range: Range { offset: 0, size: 4 },
     };
     assert!(rt; world.node(key).is_none());
+    Ok(())
 }

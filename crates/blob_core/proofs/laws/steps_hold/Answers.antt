@@ -1,5 +1,6 @@
 use Rattle.blob_core.proofs.Growing.{Cited}
 use Rattle.blob_core.proofs.Promising.{steps_hold}
+use Rattle.blob_core.proofs.Sound.{reached_stays}
 use Rattle.blob_core.proofs.laws.steps_hold.Goals as goal
 
 pub returns : goal.returns
@@ -28,4 +29,4 @@ returns c =
       inner = c.visited_are_few.ensures.inner;
       bounded = c.visited_are_few.ensures.bounded;
     } in
-    steps_hold cited
+    record { hold = steps_hold cited; stays = reached_stays cited }

@@ -1,0 +1,222 @@
+-- In a world that allowed steps lead to each blob is sound: no version is larger than the limit, and what is woven is the row's.
+use Rattle.std.proofs.Common.{◌≡◌, ℕ, ◌+◌, ◌≤◌, ◌<◌, zero, suc, Bool, true, false, List, [], ◌∷◌, ◌++◌, length, take, arith, inl, inr, refl, ap, sym, subst, ◌∙◌}
+use Rattle.std.specs.Prelude.{◌==◌, ◌||◌, nat_lt, if◌then◌else◌, Some, None, max}
+use Rattle.std.proofs.lemmas.Bool.Decides.{nat_tests}
+use Rattle.std.proofs.lemmas.Bool.{cases_lt}
+use Rattle.std.proofs.lemmas.List.{length-append, length-take-le, take-append-le, take-append-drop}
+use Rattle.blob_model.specs.Limits.{Bounds, IsWithin}
+use Rattle.blob_model.specs.Content.{Update, content_from, size_of, offset_of}
+use Rattle.blob_model.specs.Store.{Store, Blob, blob_at, with_blob, and_blob, and_update, finish, branch_of, assigned, size_now, size_with, waiting}
+use Rattle.blob_model.specs.Answer.{answer}
+use Rattle.blob_model.specs.History.{store_from, is_refused}
+use Rattle.blob_model.specs.declared.call.Event.TheVariants as Events
+use Rattle.blob_model.specs.declared.call.Place.{Place}
+use Rattle.blob_model.specs.declared.call.Call.TheVariants as Calls
+use Rattle.tree_geom.specs.declared.range.Range.{Range}
+use Rattle.tree_geom.specs.declared.touch.Touch.{Touch}
+use Rattle.tree_geom.specs.Geometry.{touched_by}
+use Rattle.range_log.specs.Log.{HasNode, touch_at, size_at}
+use Rattle.range_log.specs.Extents.{Extent, size_after}
+use Rattle.range_log.specs.Updates.{extents, Replayable, extent_of, update_at}
+use Rattle.range_log.specs.Laws.{ExtentsStand}
+use Rattle.blob_core.specs.World.{World, empty_world, kept_at, origin, log_of, joined}
+use Rattle.blob_core.specs.Steps.{IsAllowed, AllAllowed, after, world_after}
+use Rattle.blob_core.specs.Standing.{IsSound, WeavesRow, Stays, ReachedStays}
+use Rattle.blob_core.specs.declared.step.Step.{Step}
+use Rattle.blob_core.specs.declared.step.Step.TheVariants as Moves
+use Rattle.blob_core.proofs.Lists.{joined_some}
+use Rattle.blob_core.proofs.Growing.{Cited, length_log, length_extents, touch_is, size_in_log, extent_is, update_next, replay_next}
+use Rattle.blob_core.proofs.Finding.{woven_is}
+use Rattle.blob_core.proofs.Taken.{create_done, assign_done, finish_done, branch_done, more_was, with_was}
+use Rattle.blob_core.proofs.Keeping.{Stands, BlobStands, UpdateStands, rows_known, in_bounds, published_within, empty_stands}
+use Rattle.blob_core.proofs.Running.{stands_after, step_stands}
+use Rattle.blob_core.proofs.Promising.{steps_hold}
+use Rattle.blob_core.proofs.Refusing.{assign_refused}
+
+-- ---- sizes
+none_small : (most v : ℕ) → v ≤ 0 → size_of [] v ≤ most
+none_small most zero le = omega arith
+none_small most (suc v) le = absurd (omega arith)
+
+size_same : (us more : List Update) (v : ℕ) → v ≤ length us → size_of (us ++ more) v ≡ size_of us v
+size_same us more v le = ap (λ (l : List Update). length (content_from [] l)) (take-append-le v us more le)
+
+-- the size after one of the updates
+pub size_step : (stand : ExtentsStand) (us : List Update) (k : ℕ) → Replayable us → k < length us
+    → size_of us (suc k) ≡ max (size_of us k) (offset_of (update_at us (suc k)).place (size_of us k) + length (update_at us (suc k)).bytes)
+size_step stand us k ok lt =
+    let sizes = (stand us ok).2 in
+    let here : size_after (extents us) (suc k) ≡ size_of us (suc k) = sizes (suc k) (omega arith) in
+    let before : size_after (extents us) k ≡ size_of us k = sizes k (omega arith) in
+    let next : Extent → ℕ → ℕ = λ x n. max n (x.at + x.len) in
+    sym here
+    ∙ ap (λ (x : Extent). next x (size_after (extents us) k)) (extent_is us k lt)
+    ∙ ap (λ (n : ℕ). next (extent_of us (suc k)) n) before
+
+-- what it touches
+pub touch_step : (stand : ExtentsStand) (p : ℕ) (us : List Update) (k : ℕ) → Replayable us → k < length us
+    → touch_at (log_of p us) (suc k) ≡ touched_by p (offset_of (update_at us (suc k)).place (size_of us k)) (length (update_at us (suc k)).bytes) (size_of us (suc k))
+touch_step stand p us k ok lt =
+    let of : Extent → ℕ → Touch = λ x n. touched_by p x.at x.len n in
+    touch_is p (extents us) k (omega (arith, lt, length_extents us))
+    ∙ ap (λ (x : Extent). of x (size_after (extents us) (suc k))) (extent_is us k lt)
+    ∙ ap (λ (n : ℕ). of (extent_of us (suc k)) n) ((stand us ok).2 (suc k) (omega arith))
+
+-- the size of a version, by what the updates touch
+pub log_size : (stand : ExtentsStand) (p : ℕ) (us : List Update) (k : ℕ) → Replayable us → k ≤ length us → size_at (log_of p us) k ≡ size_of us k
+log_size stand p us k ok le = size_in_log p us k le ∙ (stand us ok).2 k le
+
+abbrev last_size : Update → ℕ → ℕ
+last_size u n = max n (offset_of u.place n + length u.bytes)
+
+-- the size after one update more
+size_next : (c : Cited) (us : List Update) (u : Update) → Replayable (us ++ u ∷ []) → size_of (us ++ u ∷ []) (suc (length us)) ≡ last_size u (size_of us (length us))
+size_next c us u ok =
+    let lt : length us < length (us ++ u ∷ []) = omega (arith, length-append us (u ∷ [])) in
+    size_step c.stand (us ++ u ∷ []) (length us) ok lt
+    ∙ ap (λ (x : Update). last_size x (size_of (us ++ u ∷ []) (length us))) (update_next us u)
+    ∙ ap (λ (n : ℕ). last_size u n) (size_same us (u ∷ []) (length us) (omega arith))
+
+-- no version of a blob is larger than the limit
+abbrev SizesFit : ℕ → List Update → Type 0
+SizesFit most us = (v : ℕ) → v ≤ length us → size_of us v ≤ most
+
+record Bounded (limits : Bounds) (s : Store) : Type 0 where
+  same : s.limits ≡ limits
+  fits : (blob : ℕ) (b : Blob) → blob_at s blob ≡ Some b → SizesFit limits.max_size b.updates
+
+-- ---- what the steps keep
+bounded_more : (limits : Bounds) (s t : Store) (new : Blob) → Bounded limits s → t ≡ and_blob s new → SizesFit limits.max_size new.updates → Bounded limits t
+bounded_more limits s t new bound e small =
+    let B : Store → Type 0 = λ x. Bounded limits x in
+    subst B (sym e)
+    (record {
+      same = bound.same;
+      fits = λ blob b is.
+          elim (more_was s new blob b is) [
+            | inl here ↦ (let P : Blob → Type 0 = λ x. SizesFit limits.max_size x.updates in subst P here.1 small)
+            | inr old ↦ bound.fits blob b old
+          ];
+    })
+
+bounded_with : (limits : Bounds) (s t : Store) (at : ℕ) (before new : Blob) → Bounded limits s → blob_at s at ≡ Some before → t ≡ with_blob s at new
+    → SizesFit limits.max_size new.updates → Bounded limits t
+bounded_with limits s t at before new bound there e small =
+    let B : Store → Type 0 = λ x. Bounded limits x in
+    subst B (sym e)
+    (record {
+      same = bound.same;
+      fits = λ blob b is.
+          elim (with_was s at before new there blob b is) [
+            | inl here ↦ (let P : Blob → Type 0 = λ x. SizesFit limits.max_size x.updates in subst P here.1 small)
+            | inr old ↦ bound.fits blob b old
+          ];
+    })
+
+second_false : (x y z : Bool) → (x || (y || z)) ≡ false → y ≡ false
+second_false true y z e = (let no : ⊥ = cc in absurd no)
+second_false false true z e = (let no : ⊥ = cc in absurd no)
+second_false false false z e = refl
+
+test_small : (a b : ℕ) → nat_lt a b ≡ false → b ≤ a
+test_small a b e = grind (arith, nat_tests)
+
+-- an update that is taken leaves a size within the limit
+update_small : (limits : Bounds) (s : Store) (caller blob : ℕ) (place : Place) (bytes : List ℕ) (b : Blob) → Bounded limits s → blob_at s blob ≡ Some b
+    → is_refused (answer s caller (Calls.Assign blob place bytes)).1 ≡ false → size_with b place bytes ≤ limits.max_size
+update_small limits s caller blob place bytes b bound is taken =
+    let tests = sym (assign_refused s caller blob place bytes b is) ∙ taken in
+    let small : size_with b place bytes ≤ s.limits.max_size = test_small s.limits.max_size (size_with b place bytes)
+    (second_false (nat_lt (size_now b) (offset_of place (size_now b))) (nat_lt s.limits.max_size (size_with b place bytes))
+    (assigned b == s.limits.max_versions || (waiting b == s.limits.max_open || false)) tests) in
+    let same : s.limits.max_size ≡ limits.max_size = ap (λ (l : Bounds). l.max_size) bound.same in
+    omega arith
+
+fits_next : (c : Cited) (most : ℕ) (us : List Update) (u : Update) → Replayable (us ++ u ∷ []) → SizesFit most us → last_size u (size_of us (length us)) ≤ most → SizesFit most (us ++ u ∷ [])
+fits_next c most us u ok fits small v le =
+    elim (cases_lt (length us) v) [
+      | inl after ↦
+          (let here : suc (length us) ≡ v = omega (arith, length-append us (u ∷ [])) in
+          let P : ℕ → Type 0 = λ n. size_of (us ++ u ∷ []) n ≤ most in
+          subst P here (omega (arith, size_next c us u ok)))
+      | inr before ↦ omega (arith, size_same us (u ∷ []) v before, fits v before)
+    ]
+
+fits_front : (most : ℕ) (us : List Update) (n : ℕ) → n ≤ length us → SizesFit most us → SizesFit most (take n us)
+fits_front most us n le fits v within =
+    let count : length (take n us) ≡ n = length-take-le n us le in
+    let P : List Update → Type 0 = λ l. size_of l v ≡ size_of (take n us) v in
+    let same : size_of us v ≡ size_of (take n us) v = subst P (take-append-drop n us) (size_same (take n us) _ v within) in
+    omega (arith, fits v (omega arith), same)
+
+bounded_step : (c : Cited) (p : ℕ) (limits : Bounds) (w : World) (step : Step) → 1 ≤ p → Stands p w → Bounded limits w.store → IsAllowed p w step → Bounded limits (after p w step).store
+bounded_step c p limits w (Moves.PagePut page bytes) pos s bound ok = bound
+bounded_step c p limits w (Moves.Create caller) pos s bound ok =
+    bounded_more limits w.store (store_from w.store (Events.Create caller ∷ [])) (record { updates = []; finished = [] }) bound (create_done w.store caller ok) (λ v le. none_small limits.max_size v le)
+bounded_step c p limits w (Moves.Assign caller blob place pages) pos s bound ok =
+    let bytes : List ℕ = joined w.pages pages in
+    let (b, is, fits, store) = assign_done w.store caller blob place bytes ok.1 in
+    let u : Update = record { caller = caller; place = place; bytes = bytes } in
+    let bs : BlobStands p w blob b = s.blobs blob b is in
+    let replay : Replayable (b.updates ++ u ∷ []) = replay_next b.updates u bs.replay fits (joined_some p w.pages s.pages pages ok.0) in
+    bounded_with limits w.store (store_from w.store (Events.Assign caller blob place bytes ∷ [])) blob b (and_update b u) bound is store
+    (fits_next c limits.max_size b.updates u replay (bound.fits blob b is) (update_small limits w.store caller blob place bytes b bound is ok.1))
+bounded_step c p limits w (Moves.NodePut key) pos s bound ok = bound
+bounded_step c p limits w (Moves.Finish caller blob version) pos s bound ok =
+    let (b, is, store) = finish_done w.store caller blob version ok.0 in
+    bounded_with limits w.store (store_from w.store (Events.Finish caller blob version ∷ [])) blob b (finish b version) bound is store (bound.fits blob b is)
+bounded_step c p limits w (Moves.Branch caller blob version) pos s bound ok =
+    let (b, is, le, store) = branch_done w.store caller blob version ok in
+    let within : version ≤ assigned b = omega (arith, published_within p w blob b (s.blobs blob b is)) in
+    bounded_more limits w.store (store_from w.store (Events.Branch caller blob version ∷ [])) (branch_of b version) bound store
+    (fits_front limits.max_size b.updates version within (bound.fits blob b is))
+bounded_step c p limits w (Moves.Read blob version offset count) pos s bound ok = bound
+
+bounded_after : (c : Cited) (p : ℕ) (limits : Bounds) (w : World) (steps : List Step) → 1 ≤ p → Stands p w → Bounded limits w.store → AllAllowed p w steps
+    → Bounded limits (world_after p w steps).store
+bounded_after c p limits w [] pos s bound ok = bound
+bounded_after c p limits w (step ∷ steps) pos s bound ok =
+    bounded_after c p limits (after p w step) steps pos (step_stands c p w step pos s ok.0) (bounded_step c p limits w step pos s bound ok.0) ok.1
+
+none_only : (t : Bool) (b : Blob) → (if t then None else None) ≡ Some b → ⊥
+none_only true b e = cc
+none_only false b e = cc
+
+-- ---- a world that is reached
+weaves_row : (c : Cited) (p : ℕ) (w : World) (blob : ℕ) (b : Blob) → 1 ≤ p → Stands p w → BlobStands p w blob b → (k : ℕ) (r : Range) → origin w blob k ≡ blob
+    → HasNode p (log_of p b.updates) k r → WeavesRow p w blob b k r
+weaves_row c p w blob b pos s bs k r own has =
+    let upto : k ≤ assigned b = omega (arith, has.version.1, length_log p b.updates) in
+    let u : UpdateStands p w blob b k = bs.updates k has.version.0 upto in
+    let At : ℕ → Type 0 = λ o. kept_at w.updates o k ≡ Some u.kept in
+    record {
+      kept = u.kept;
+      there = subst At own u.there;
+      is = woven_is c p w blob b u.kept k r pos (in_bounds c b.updates bs.replay) (rows_known p w blob b u.kept.published bs u.front) u.before u.waiting upto has.aligned;
+    }
+
+sound : (c : Cited) (p : ℕ) (limits : Bounds) (w : World) → IsWithin limits → 1 ≤ p → Stands p w → Bounded limits w.store → (blob : ℕ) (b : Blob) → blob_at w.store blob ≡ Some b
+    → IsSound p w blob b
+sound c p limits w within pos s bound blob b is =
+    let bs : BlobStands p w blob b = s.blobs blob b is in
+    record {
+      replay = bs.replay;
+      marks = bs.marks;
+      front = published_within p w blob b bs;
+      fits = λ v le. omega (arith, bound.fits blob b is v le, within.size);
+      weaves = λ k r own has. weaves_row c p w blob b pos s bs k r own has;
+    }
+
+pub reached_stays : (c : Cited) → ReachedStays
+reached_stays c p w r =
+    let empty : World = empty_world r.limits in
+    let last : World = world_after p empty r.steps in
+    let none : Bounded r.limits empty.store = record { same = refl; fits = λ blob b e. absurd (none_only (blob == 0) b e) } in
+    let s : Stands p last = stands_after c p empty r.steps r.some (empty_stands p r.limits) r.allowed in
+    let bound : Bounded r.limits last.store = bounded_after c p r.limits empty r.steps r.some (empty_stands p r.limits) none r.allowed in
+    let S : World → Type 0 = λ x. Stays p x in
+    subst S (sym r.is)
+    (record {
+      blobs = λ blob b is. sound c p r.limits last r.within r.some s bound blob b is;
+      reads = (steps_hold c p r.limits r.steps r.some r.allowed).reads;
+    })

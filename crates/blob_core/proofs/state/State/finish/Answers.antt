@@ -1,0 +1,88 @@
+use Rattle.std.proofs.Common.{◌≡◌, ◌-◌, List, length, arith, inl, inr, ap, sym, subst, ◌∙◌}
+use Rattle.std.specs.Prelude.{◌==◌, Option, Some, MatchOption, slice_set}
+use Rattle.std.proofs.lemmas.Option.{get_or_from_slice_get}
+use Rattle.blob_model.specs.Store.{Blob, blob_at, finish}
+use Rattle.range_log.specs.Rows.{row_keys_of}
+use Rattle.blob_core.specs.World.{World, log_of}
+use Rattle.blob_core.specs.Steps.{IsNumberedIn, RowIsThere}
+use Rattle.blob_core.specs.Standing.{IsSound}
+use Rattle.blob_core.specs.Acts.{IsDone, IsRowOf, NotNumberedIn}
+use Rattle.blob_core.specs.declared.nodes.Row.{Row}
+use Rattle.blob_core.specs.declared.step.Step.TheVariants as Moves
+use Rattle.blob_core.specs.contracts.state.State.{the_view}
+use Rattle.blob_core.proofs.Taken.{blob_some, item_of}
+use Rattle.blob_core.proofs.Acting.{numbered_is, finish_is_done, not_finishable, same_there}
+use Rattle.blob_core.proofs.state.State.finish.Goals as goal
+use Rattle.blob_core.proofs.state.State.finish.Goals.{then-is_marked-via-then-is_marked, then-is_marked-via-else-is_marked+then-not-are_there}
+
+pub is_marked-requires : goal.is_marked-requires
+is_marked-requires c =
+    let w : World = c.args.self.now in
+    let b : Blob = c.in-Some-blob.stored.now in
+    let s : IsSound c.args.p w c.args.blob b = (c.steps_hold.ensures.stays c.args.p w c.requires).blobs c.args.blob b c.in-Some-blob.ensures in
+    let Mo : Option Row → Type 0 = λ o. MatchOption o (NotNumberedIn w c.args.blob c.args.version) (λ (r : Row). IsRowOf c.args.p w c.args.blob c.args.version r.log.items r.keys.items) in
+    let row : Mo (Some c.in-Some.row) = subst Mo c.in-Some.is c.in_ok-row.ensures in
+    let num = numbered_is c.args.p w c.args.blob c.args.version b c.in-Some.row.log.items c.in-Some.row.keys.items c.in-Some-blob.ensures row in
+    (num.0.some, omega (arith, num.0.upto, s.marks))
+
+pub returns-then-is_marked-clause-refused : goal.returns-then-is_marked-clause-refused
+returns-then-is_marked-clause-refused c answer =
+    let w : World = c.args.self.now in
+    let b : Blob = c.in-Some-blob.stored.now in
+    let s : IsSound c.args.p w c.args.blob b = (c.steps_hold.ensures.stays c.args.p w c.requires).blobs c.args.blob b c.in-Some-blob.ensures in
+    let Mo : Option Row → Type 0 = λ o. MatchOption o (NotNumberedIn w c.args.blob c.args.version) (λ (r : Row). IsRowOf c.args.p w c.args.blob c.args.version r.log.items r.keys.items) in
+    let row : Mo (Some c.in-Some.row) = subst Mo c.in-Some.is c.in_ok-row.ensures in
+    let num = numbered_is c.args.p w c.args.blob c.args.version b c.in-Some.row.log.items c.in-Some.row.keys.items c.in-Some-blob.ensures row in
+    elim c.then-is_marked.branch [
+      | then-is_marked-via-then-is_marked x ↦
+          not_finishable c.args.p w c.args.caller c.args.blob c.args.version b c.in-Some-blob.ensures (inl (sym c.is_marked.ensures ∙ x.if-is_marked.true))
+      | then-is_marked-via-else-is_marked+then-not-are_there x ↦
+          (let nodes : x.as_slice.result.now ≡ w.nodes = x.as_slice.ensures.value ∙ ap (λ (y : World). y.nodes) c.self.view_is in
+          let keys : x.as_slice-else-is_marked.result.now ≡ row_keys_of c.args.p (log_of c.args.p b.updates) c.args.version = x.as_slice-else-is_marked.ensures.value ∙ num.2 in
+          not_finishable c.args.p w c.args.caller c.args.blob c.args.version b c.in-Some-blob.ensures
+          (inr (λ all. x.are_there.ensures.missing x.if-not-are_there.true (same_there w.nodes x.as_slice.result.now c.args.blob c.args.version _ x.as_slice-else-is_marked.result.now (sym nodes) (sym keys) all))))
+    ]
+
+pub index_mut-requires : goal.index_mut-requires
+index_mut-requires c =
+    let some = blob_some c.args.self.now.store c.args.blob c.in-Some-blob.stored.now c.in-Some-blob.ensures in
+    let same : length c.self.inside.blobs.items ≡ length c.args.self.now.store.blobs = ap (λ (w : World). length w.store.blobs) c.self.view_is in
+    omega (arith, some.0, some.1, c.self.inside.blobs.ok.0)
+
+pub mark-requires : goal.mark-requires
+mark-requires c =
+    let w : World = c.args.self.now in
+    let b : Blob = c.in-Some-blob.stored.now in
+    let s : IsSound c.args.p w c.args.blob b = (c.steps_hold.ensures.stays c.args.p w c.requires).blobs c.args.blob b c.in-Some-blob.ensures in
+    let Mo : Option Row → Type 0 = λ o. MatchOption o (NotNumberedIn w c.args.blob c.args.version) (λ (r : Row). IsRowOf c.args.p w c.args.blob c.args.version r.log.items r.keys.items) in
+    let row : Mo (Some c.in-Some.row) = subst Mo c.in-Some.is c.in_ok-row.ensures in
+    let num = numbered_is c.args.p w c.args.blob c.args.version b c.in-Some.row.log.items c.in-Some.row.keys.items c.in-Some-blob.ensures row in
+    let At : World → Type 0 = λ x. blob_at x.store c.args.blob ≡ Some b in
+    let there : At (the_view c.self.inside) = subst At (sym c.self.view_is) c.in-Some-blob.ensures in
+    let at = item_of c.self.inside.blobs.items (c.args.blob == 0) (c.args.blob - 1) b there in
+    let old : c.index_mut.result.now ≡ b = c.index_mut.ensures.value ∙ get_or_from_slice_get c.self.inside.blobs.items (c.args.blob - 1) b c.index_mut.result.now at.1 in
+    (num.0.some, omega (arith, num.0.upto, s.marks, ap (λ (x : Blob). length x.finished) old))
+
+pub returns-clause-done : goal.returns-clause-done
+returns-clause-done c =
+    let w : World = c.args.self.now in
+    let b : Blob = c.in-Some-blob.stored.now in
+    let s : IsSound c.args.p w c.args.blob b = (c.steps_hold.ensures.stays c.args.p w c.requires).blobs c.args.blob b c.in-Some-blob.ensures in
+    let Mo : Option Row → Type 0 = λ o. MatchOption o (NotNumberedIn w c.args.blob c.args.version) (λ (r : Row). IsRowOf c.args.p w c.args.blob c.args.version r.log.items r.keys.items) in
+    let row : Mo (Some c.in-Some.row) = subst Mo c.in-Some.is c.in_ok-row.ensures in
+    let num = numbered_is c.args.p w c.args.blob c.args.version b c.in-Some.row.log.items c.in-Some.row.keys.items c.in-Some-blob.ensures row in
+    let v : World = the_view c.self.inside in
+    let to : v ≡ w = c.self.view_is in
+    let At : World → Type 0 = λ x. blob_at x.store c.args.blob ≡ Some b in
+    let at = item_of c.self.inside.blobs.items (c.args.blob == 0) (c.args.blob - 1) b (subst At (sym to) c.in-Some-blob.ensures) in
+    let old : c.index_mut.result.now ≡ b = c.index_mut.ensures.value ∙ get_or_from_slice_get c.self.inside.blobs.items (c.args.blob - 1) b c.index_mut.result.now at.1 in
+    let put : Blob → List Blob = λ x. slice_set c.self.inside.blobs.items (c.args.blob - 1) x in
+    let set : put c.mark.new.blob ≡ put (finish b c.args.version) = ap put (c.mark.ensures ∙ ap (λ (x : Blob). finish x c.args.version) old) in
+    let Own : World → Type 0 = λ x. IsNumberedIn x c.args.blob c.args.version b in
+    let all : RowIsThere c.args.p v c.args.blob c.args.version b =
+    same_there c.as_slice.result.now v.nodes c.args.blob c.args.version c.as_slice-else-is_marked.result.now (row_keys_of c.args.p (log_of c.args.p b.updates) c.args.version) c.as_slice.ensures.value
+    (c.as_slice-else-is_marked.ensures.value ∙ num.2) (c.are_there.ensures.all c.if-not-are_there.false) in
+    let Done : World → Type 0 = λ x. IsDone c.args.p x (Moves.Finish c.args.caller c.args.blob c.args.version)
+    (record { store = record { limits = v.store.limits; blobs = put c.mark.new.blob }; lineage = v.lineage; pages = v.pages; updates = v.updates; nodes = v.nodes }) in
+    subst Done to
+    (finish_is_done c.args.p v c.args.caller c.args.blob c.args.version b (put c.mark.new.blob) (subst Own (sym to) num.0) all (sym c.is_marked.ensures ∙ c.if-is_marked.false) set)

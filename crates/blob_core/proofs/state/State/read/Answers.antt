@@ -1,0 +1,112 @@
+use Rattle.std.proofs.Common.{◌≡◌, ℕ, ◌+◌, ◌-◌, ◌*◌, ◌/◌, ◌^◌, ◌<◌, ◌≤◌, false, List, ◌++◌, length, take, drop, arith, ap, sym, ◌∙◌}
+use Rattle.std.specs.Prelude.{Option, Some}
+use Rattle.std.proofs.Math.Nat.{pow-le-pow_right}
+use Rattle.blob_model.specs.Content.{size_of}
+use Rattle.blob_model.specs.Store.{Blob, assigned}
+use Rattle.blob_model.specs.Answer.{answer}
+use Rattle.blob_model.specs.History.{is_refused}
+use Rattle.blob_model.specs.declared.call.Call.TheVariants as Calls
+use Rattle.tree_geom.specs.declared.touch.Touch.{Touch}
+use Rattle.tree_geom.specs.Geometry.{height_of}
+use Rattle.range_log.specs.Log.{size_at}
+use Rattle.range_log.specs.Extents.{size_after}
+use Rattle.range_log.specs.Updates.{extents}
+use Rattle.blob_core.specs.World.{World}
+use Rattle.blob_core.specs.Walk.{tree_walk_from}
+use Rattle.blob_core.specs.Standing.{IsSound}
+use Rattle.blob_core.proofs.Growing.{size_in_log}
+use Rattle.blob_core.proofs.Walking.{read_within, walked_some, walked_cut}
+use Rattle.blob_core.proofs.state.State.read.Goals as goal
+
+pub touches_of-requires-clause-replay : goal.touches_of-requires-clause-replay
+touches_of-requires-clause-replay c =
+    let b : Blob = c.in-Some.stored.now in
+    let s : IsSound c.args.p c.args.self.now c.args.blob b = (c.steps_hold.ensures.stays c.args.p c.args.self.now c.requires).blobs c.args.blob b c.in-Some.ensures in
+    s.replay
+
+pub touches_of-requires-clause-fits : goal.touches_of-requires-clause-fits
+touches_of-requires-clause-fits c =
+    let b : Blob = c.in-Some.stored.now in
+    let s : IsSound c.args.p c.args.self.now c.args.blob b = (c.steps_hold.ensures.stays c.args.p c.args.self.now c.requires).blobs c.args.blob b c.in-Some.ensures in
+    s.fits
+
+pub size_at-requires : goal.size_at-requires
+size_at-requires c =
+    let b : Blob = c.in-Some.stored.now in
+    let s : IsSound c.args.p c.args.self.now c.args.blob b = (c.steps_hold.ensures.stays c.args.p c.args.self.now c.requires).blobs c.args.blob b c.in-Some.ensures in
+    let taken : is_refused (answer c.args.self.now.store 0 (Calls.Read c.args.blob c.args.version c.args.offset c.args.length)).1 ≡ false = sym c.in_ok-refuses_read.ensures ∙ c.if-branch.false in
+    let within = read_within c.args.self.now.store c.args.blob c.args.version c.args.offset c.args.length b c.in-Some.ensures taken in
+    let upto : c.args.version ≤ assigned b = omega (arith, within.0, s.front) in
+    omega (arith, upto, c.in_ok-log.ensures.count, ap length c.as_slice.ensures.value)
+
+pub height-levels-requires-clause-some : goal.height-levels-requires-clause-some
+height-levels-requires-clause-some c =
+    let b : Blob = c.in-Some.stored.now in
+    let s : IsSound c.args.p c.args.self.now c.args.blob b = (c.steps_hold.ensures.stays c.args.p c.args.self.now c.requires).blobs c.args.blob b c.in-Some.ensures in
+    let taken : is_refused (answer c.args.self.now.store 0 (Calls.Read c.args.blob c.args.version c.args.offset c.args.length)).1 ≡ false = sym c.in_ok-refuses_read.ensures ∙ c.if-branch.false in
+    let within = read_within c.args.self.now.store c.args.blob c.args.version c.args.offset c.args.length b c.in-Some.ensures taken in
+    let upto : c.args.version ≤ assigned b = omega (arith, within.0, s.front) in
+    let size : c.size_at.result ≡ size_of b.updates c.args.version =
+    c.size_at.ensures ∙ ap (λ (l : List Touch). size_at l c.args.version) c.as_slice.ensures.value ∙ c.in_ok-log.ensures.sizes c.args.version upto in
+    omega (arith, size, within.1, c.if-length-eq0.false)
+
+pub height-levels-requires-clause-fits : goal.height-levels-requires-clause-fits
+height-levels-requires-clause-fits c =
+    let b : Blob = c.in-Some.stored.now in
+    let s : IsSound c.args.p c.args.self.now c.args.blob b = (c.steps_hold.ensures.stays c.args.p c.args.self.now c.requires).blobs c.args.blob b c.in-Some.ensures in
+    let taken : is_refused (answer c.args.self.now.store 0 (Calls.Read c.args.blob c.args.version c.args.offset c.args.length)).1 ≡ false = sym c.in_ok-refuses_read.ensures ∙ c.if-branch.false in
+    let within = read_within c.args.self.now.store c.args.blob c.args.version c.args.offset c.args.length b c.in-Some.ensures taken in
+    let upto : c.args.version ≤ assigned b = omega (arith, within.0, s.front) in
+    let size : c.size_at.result ≡ size_of b.updates c.args.version =
+    c.size_at.ensures ∙ ap (λ (l : List Touch). size_at l c.args.version) c.as_slice.ensures.value ∙ c.in_ok-log.ensures.sizes c.args.version upto in
+    omega (arith, size, s.fits c.args.version upto)
+
+pub overflow_add-last : goal.overflow_add-last
+overflow_add-last c =
+    let b : Blob = c.in-Some.stored.now in
+    let s : IsSound c.args.p c.args.self.now c.args.blob b = (c.steps_hold.ensures.stays c.args.p c.args.self.now c.requires).blobs c.args.blob b c.in-Some.ensures in
+    let taken : is_refused (answer c.args.self.now.store 0 (Calls.Read c.args.blob c.args.version c.args.offset c.args.length)).1 ≡ false = sym c.in_ok-refuses_read.ensures ∙ c.if-branch.false in
+    let within = read_within c.args.self.now.store c.args.blob c.args.version c.args.offset c.args.length b c.in-Some.ensures taken in
+    let upto : c.args.version ≤ assigned b = omega (arith, within.0, s.front) in
+    omega (arith, within.1, s.fits c.args.version upto)
+
+pub add_tree-requires-clause-fits : goal.add_tree-requires-clause-fits
+add_tree-requires-clause-fits c =
+    let two : 0 < 2 = omega arith in
+    let small : 2 ^ c.height-levels.result ≤ 2 ^ 38 = pow-le-pow_right two c.height-levels.ensures.bound in
+    omega (arith, small)
+
+pub returns : goal.returns
+returns c =
+    let b : Blob = c.in-Some.stored.now in
+    let s : IsSound c.args.p c.args.self.now c.args.blob b = (c.steps_hold.ensures.stays c.args.p c.args.self.now c.requires).blobs c.args.blob b c.in-Some.ensures in
+    let taken : is_refused (answer c.args.self.now.store 0 (Calls.Read c.args.blob c.args.version c.args.offset c.args.length)).1 ≡ false = sym c.in_ok-refuses_read.ensures ∙ c.if-branch.false in
+    let within = read_within c.args.self.now.store c.args.blob c.args.version c.args.offset c.args.length b c.in-Some.ensures taken in
+    let upto : c.args.version ≤ assigned b = omega (arith, within.0, s.front) in
+    let w : World = c.args.self.now in
+    let p : ℕ = c.args.p in
+    let W : ℕ → ℕ → ℕ → List ℕ = λ h f l. (tree_walk_from h p w c.args.blob c.args.version 0 f l).bytes in
+    let levels : c.height-levels.result ≡ height_of p (size_after (extents b.updates) c.args.version) =
+    c.height-levels.ensures.is
+    ∙ ap (λ (n : ℕ). height_of p n)
+    (c.size_at.ensures ∙ ap (λ (l : List Touch). size_at l c.args.version) (c.as_slice.ensures.value ∙ c.in_ok-log.ensures.log) ∙ size_in_log p b.updates c.args.version upto) in
+    let H : ℕ = height_of p (size_after (extents b.updates) c.args.version) in
+    let first : c.args.offset / c.bytes.result ≡ c.args.offset / p = ap (λ (n : ℕ). c.args.offset / n) c.bytes.ensures.is in
+    let last : (c.args.offset + c.args.length - 1) / c.bytes-2.result ≡ (c.args.offset + c.args.length - 1) / p = ap (λ (n : ℕ). (c.args.offset + c.args.length - 1) / n) c.bytes-2.ensures.is in
+    let pages : c.add_tree.new.bytes.items ≡ W H (c.args.offset / p) ((c.args.offset + c.args.length - 1) / p) =
+    c.in_ok-add_tree.ensures
+    ∙ ap (λ (l : List ℕ). l ++ W c.height-levels.result (c.args.offset / c.bytes.result) ((c.args.offset + c.args.length - 1) / c.bytes-2.result)) c.new-pages.ensures.items
+    ∙ ap (λ (h : ℕ). W h (c.args.offset / c.bytes.result) ((c.args.offset + c.args.length - 1) / c.bytes-2.result)) levels
+    ∙ ap (λ (f : ℕ). W H f ((c.args.offset + c.args.length - 1) / c.bytes-2.result)) first
+    ∙ ap (λ (l : ℕ). W H (c.args.offset / p) l) last in
+    let skipped : c.args.offset - c.args.offset / c.bytes.result * c.bytes-3.result ≡ c.args.offset - c.args.offset / p * p =
+    ap (λ (f : ℕ). c.args.offset - f * c.bytes-3.result) first ∙ ap (λ (n : ℕ). c.args.offset - c.args.offset / p * n) c.bytes-3.ensures.is in
+    let bytes : c.extend_from_slice.new.self.items ≡ take c.args.length (drop (c.args.offset - c.args.offset / p * p) (W H (c.args.offset / p) ((c.args.offset + c.args.length - 1) / p))) =
+    c.in_ok-extend_from_slice.ensures.items
+    ∙ ap (λ (l : List ℕ). l ++ c.part.result.now) c.new-bytes.ensures.items
+    ∙ c.part.ensures
+    ∙ ap (λ (l : List ℕ). take c.args.length (drop (c.args.offset - c.args.offset / c.bytes.result * c.bytes-3.result) l)) (c.as_slice-2.ensures.value ∙ pages)
+    ∙ ap (λ (n : ℕ). take c.args.length (drop n (W H (c.args.offset / p) ((c.args.offset + c.args.length - 1) / p)))) skipped in
+    let some : List ℕ → Option (List ℕ) = λ l. Some l in
+    ap some (c.of-2.ensures ∙ bytes ∙ sym (walked_cut p w c.args.blob c.args.version c.args.offset c.args.length b (omega arith)))
+    ∙ sym (walked_some p w c.args.blob c.args.version c.args.offset c.args.length b c.in-Some.ensures taken)

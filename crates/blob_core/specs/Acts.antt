@@ -1,0 +1,43 @@
+use Rattle.std.specs.Prelude.{◌≡◌, ℕ, ◌-◌, ◌≤◌, List, Option, Some, MatchOption, take, slice_get}
+use Rattle.std.specs.List.{Contains}
+use Rattle.blob_model.specs.Store.{Blob}
+use Rattle.tree_geom.specs.declared.range.Range.{Range}
+use Rattle.tree_geom.specs.declared.touch.Touch.{Touch}
+use Rattle.tree_geom.specs.declared.node.Node.{Node}
+use Rattle.tree_geom.specs.declared.node.NodeKey.{NodeKey}
+use Rattle.range_log.specs.Rows.{row_keys_of}
+use Rattle.blob_core.specs.World.{World, joined, AreCut, IsKnown, node_at, log_of}
+use Rattle.blob_core.specs.Steps.{IsAllowed, IsNumberedIn, AllAllowed, after, world_after}
+use Rattle.blob_core.specs.declared.step.Step.{Step}
+
+-- the step was allowed, and the world is the one that it leaves
+pub record IsDone (p : ℕ) (old : World) (step : Step) (new : World) : Type 0 where
+  pub allowed : IsAllowed p old step
+  pub is : new ≡ after p old step
+
+-- the bytes of some pages, joined, where they may be those of an update
+abbrev pub AreJoined : ℕ → List (ℕ × List ℕ) → List ℕ → Option (List ℕ) → Type 0
+AreJoined p stored numbers bytes = MatchOption bytes (¬ AreCut p stored numbers) (λ b. AreCut p stored numbers × (b ≡ joined stored numbers))
+
+-- the version was numbered in the blob; what the blob's updates touch, and the ranges of the version's row
+pub record IsRowOf (p : ℕ) (w : World) (blob version : ℕ) (log : List Touch) (keys : List Range) : Type 0 where
+  pub b : Blob
+  pub own : IsNumberedIn w blob version b
+  pub touches : log ≡ log_of p b.updates
+  pub ranges : keys ≡ row_keys_of p (log_of p b.updates) version
+
+-- the version wasn't numbered in the blob
+abbrev pub NotNumberedIn : World → ℕ → ℕ → Type 0
+NotNumberedIn w blob version = (b : Blob) → ¬ IsNumberedIn w blob version b
+
+-- there is a node of the version for each range
+abbrev pub AreThere : List (NodeKey × Node) → ℕ → ℕ → List Range → Type 0
+AreThere nodes blob version keys = (r : Range) → Contains keys r → IsKnown (node_at nodes (record { blob = blob; version = version; range = r }))
+
+-- step number i, from 1, is the first that isn't allowed in the world of the steps before it
+pub record IsFirstRefused (p : ℕ) (w : World) (steps : List Step) (i : ℕ) : Type 0 where
+  pub some : 1 ≤ i
+  pub step : Step
+  pub there : slice_get steps (i - 1) ≡ Some step
+  pub before : AllAllowed p w (take (i - 1) steps)
+  pub refused : ¬ IsAllowed p (world_after p w (take (i - 1) steps)) step
