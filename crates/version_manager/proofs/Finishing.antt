@@ -1,0 +1,104 @@
+-- The finish of a numbered version.
+use Rattle.std.proofs.Common.{◌≡◌, ℕ, ◌-◌, ◌<◌, ◌≤◌, ◌==◌, true, false, List, [], ◌∷◌, ◌++◌, length, get_or, set, refl, sym, ◌∙◌, ap, subst, arith}
+use Rattle.std.specs.Prelude.{Option, Some, nat_lt}
+use Rattle.std.proofs.lemmas.List.{get_or-set_same}
+use Rattle.std.proofs.lemmas.Bool.Decides.{nat_tests}
+use Rattle.blob_model.specs.Limits.{Bounds}
+use Rattle.blob_model.specs.Content.{Update}
+use Rattle.blob_model.specs.Store.{Store, Blob, blob_at, assigned, published, with_blob, is_finished, finish}
+use Rattle.blob_model.specs.Answer.{Answered, answer, unless_refused, already}
+use Rattle.blob_model.specs.History.{store_of, IsNumbered}
+use Rattle.blob_model.specs.declared.call.Call.TheVariants as Calls
+use Rattle.blob_model.specs.declared.call.Event.{Event}
+use Rattle.blob_model.specs.declared.call.Event.TheVariants as Events
+use Rattle.blob_model.specs.declared.call.Outcome.TheVariants as Outcomes
+use Rattle.blob_model.specs.declared.call.Refusal.TheVariants as Refusals
+use Rattle.node_store.specs.Rows.{UpdateRow}
+use Rattle.snapshot.specs.Versions.{IsRowOf}
+use Rattle.publisher.specs.Windows.{Numbered}
+use Rattle.border_hints.specs.Numbered.{NumberedUpdate}
+use Rattle.version_manager.specs.Desks.{DeskState, updates_or_none, IsTicketOf, IsRowFor}
+use Rattle.version_manager.specs.Kept.{Keeps, KeepsDesk}
+use Rattle.version_manager.proofs.Stores.{store_after, legal_after, unless_none, unless_some, in_blob_here, blob_at-with}
+use Rattle.version_manager.proofs.Desks.{by_test, kept_of, absent, replaced, at_place, IsHere, IsAt}
+
+pub finished_true : (b : Blob) (version : ℕ) → 1 ≤ version → version ≤ length b.finished → is_finished (finish b version) version ≡ true
+finished_true b version some within =
+    let t : (version == 0) ≡ false = grind (arith, nat_tests) in
+    rw t (get_or-set_same b.finished (version - 1) true false (omega arith))
+
+module _ (limits : Bounds) (p : ℕ) (h : List Event) (ws : List Numbered) (kept : KeepsDesk limits p h ws) (blob : ℕ) where
+  -- a blob with updates is there
+  pub with_updates : (version : ℕ) → 1 ≤ version → version ≤ length (updates_or_none (blob_at (store_of limits h) blob)) → (1 ≤ blob) × (blob ≤ length ws)
+  with_updates version some within =
+      let none : (1 ≤ blob → length ws < blob) → ⊥ = λ past.
+      let e : length (updates_or_none (blob_at (store_of limits h) blob)) ≡ 0 = ap (λ o. length (updates_or_none o)) (absent limits p h ws kept blob past) in
+      omega arith in (
+        by_test (1 ≤ blob) (blob == 0) (λ t. absurd (none (λ le. let z : blob ≡ 0 = grind (arith, nat_tests) in absurd (omega arith)))) (λ t. grind (arith, nat_tests)),
+        by_test (blob ≤ length ws) (nat_lt (length ws) blob) (λ t. absurd (none (λ le. grind (arith, nat_tests)))) (λ t. grind (arith, nat_tests)),
+      )
+
+  module _ (caller version : ℕ) (x : IsHere limits p h ws kept blob) where
+    finishing : Blob → Answered
+    finishing b =
+        let s : Store = store_of limits h in
+        unless_refused s (already b version ∷ []) (with_blob s blob (finish b version), Outcomes.Published (published (finish b version)))
+
+    finish_at : answer (store_of limits h) caller (Calls.Finish blob version) ≡ finishing x.b
+    unfolding finishing
+    finish_at = in_blob_here (store_of limits h) blob x.b finishing x.at
+
+    pub finish_already : is_finished x.b version ≡ true → (answer (store_of limits h) caller (Calls.Finish blob version)).1 ≡ Outcomes.Refused (Refusals.Already version)
+    unfolding finishing
+    finish_already t = ap (λ (a : Answered). a.1) (finish_at ∙ unless_some (store_of limits h) (already x.b version ∷ []) _ _ (rw t refl))
+
+    module _ (waits : is_finished x.b version ≡ false) where
+      finish_is : answer (store_of limits h) caller (Calls.Finish blob version) ≡ (with_blob (store_of limits h) blob (finish x.b version), Outcomes.Published (published (finish x.b version)))
+      unfolding finishing
+      finish_is = finish_at ∙ unless_none (store_of limits h) (already x.b version ∷ []) _ (rw waits refl)
+
+      pub finish_outcome : (answer (store_of limits h) caller (Calls.Finish blob version)).1 ≡ Outcomes.Published (published (finish x.b version))
+      finish_outcome = ap (λ (a : Answered). a.1) finish_is
+
+      finish_after : store_of limits (h ++ Events.Finish caller blob version ∷ []) ≡ with_blob (store_of limits h) blob (finish x.b version)
+      finish_after = store_after limits h (Events.Finish caller blob version) _ _ finish_is
+
+      pub finish_there : blob_at (store_of limits (h ++ Events.Finish caller blob version ∷ [])) blob ≡ Some (finish x.b version)
+      finish_there = ap (λ (s : Store). blob_at s blob) finish_after ∙ blob_at-with (store_of limits h) blob x.b (finish x.b version) x.at
+
+      pub finish_keeps : 1 ≤ version → version ≤ assigned x.b → 1 ≤ blob → (w : Numbered) → Keeps limits w (finish x.b version) → w.blob ≡ blob → w.page_size ≡ p
+          → KeepsDesk limits p (h ++ Events.Finish caller blob version ∷ []) (set ws (blob - 1) w)
+      finish_keeps first within some w k id page =
+          let N : Option Blob → Type 0 = λ o. IsNumbered o version in
+          let may : N (blob_at (store_of limits h) blob) = subst N (sym x.at) (first, within) in
+          replaced limits p h ws kept (Events.Finish caller blob version) blob (finish x.b version) w some (legal_after limits h (Events.Finish caller blob version) _ _ finish_is kept.legal may refl) finish_after
+          (kept_of limits p blob (finish x.b version) w id page k)
+
+  -- the row of a ticket of the desk, at the window of its blob
+  pub record IsFinishable (version place : ℕ) (w : Numbered) (row : UpdateRow) : Type 0 where
+    pub at : IsAt limits p h ws kept blob place w
+    pub within : version ≤ assigned at.found.b
+    pub own : IsRowOf w.page_size at.found.b.updates version row
+
+  abbrev pub this : DeskState
+  this = record { limits = limits; page_size = p; history = h; windows = ws }
+
+  pub ticket_place : (t : NumberedUpdate) (version : ℕ) → blob ≡ t.blob → version ≡ t.version → 1 ≤ version → IsTicketOf this t → (1 ≤ blob) × (blob ≤ length ws)
+  ticket_place t version on is first ticket =
+      let N : ℕ → ℕ → Type 0 = λ i v. v ≤ length (updates_or_none (blob_at (store_of limits h) i)) in
+      with_updates version first (subst (λ (i : ℕ). N i version) (sym on) (subst (λ (v : ℕ). N t.blob v) (sym is) ticket.numbered))
+
+  pub finishable : (t : NumberedUpdate) (version place : ℕ) (w : Numbered) (row : UpdateRow) → blob ≡ t.blob → version ≡ t.version → place ≡ blob - 1 → 1 ≤ version → IsTicketOf this t → IsRowFor this t row
+      → w ≡ get_or ws place w → IsFinishable version place w row
+  finishable t version place w row on is at first ticket own read =
+      let r = ticket_place t version on is first ticket in
+      let x : IsAt limits p h ws kept blob place w = at_place limits p h ws kept blob place (length ws) w refl (at, r.0, r.1) read in
+      let us : updates_or_none (blob_at (store_of limits h) t.blob) ≡ x.found.b.updates = ap (λ (i : ℕ). updates_or_none (blob_at (store_of limits h) i)) (sym on) ∙ ap updates_or_none x.found.at in
+      let R : List Update → Type 0 = λ l. IsRowOf p l t.version row in
+      let S : ℕ → Type 0 = λ v. IsRowOf p x.found.b.updates v row in
+      let Q : ℕ → Type 0 = λ q. IsRowOf q x.found.b.updates version row in
+      record {
+        at = x;
+        within = omega (arith, is, ticket.numbered, ap length us);
+        own = subst Q (sym x.page) (subst S (sym is) (subst R us own));
+      }

@@ -1,0 +1,13 @@
+pub mod BlobsSizes
+pub mod BlobsTests
+pub mod Blobs
+pub mod BlobsNext
+pub mod Stores
+pub mod Desks
+pub mod NewBlobs
+pub mod Numbering
+pub mod Finishing
+pub mod Looking
+pub mod Houses
+pub mod Results
+pub mod Lasting

@@ -1,0 +1,5 @@
+pub mod Blobs
+pub mod Desks
+pub mod Entries
+pub mod Kept
+pub mod Laws

@@ -1,0 +1,211 @@
+// One blob's changes, each on its window alone. What a clause says of a blob holds of each one that the window keeps.
+ghost use Rattle.std.specs.Prelude.{◌≡◌, ℕ, ◌+◌, ◌-◌, ◌^◌, ◌<◌, ◌≤◌, List, [], ◌∷◌, ◌++◌, length, Some, None, IfOk, IfErr, IfNone};
+ghost use Rattle.std.specs.Arc.{arc_value};
+ghost use Rattle.blob_model.specs.Content.{Update, offset_of};
+ghost use Rattle.blob_model.specs.Limits.{Bounds};
+ghost use Rattle.blob_model.specs.Store.{Store, Blob, assigned, size_now, size_with, and_update, branch_of};
+ghost use Rattle.blob_model.specs.Answer.{first_refusal};
+ghost use Rattle.range_log.specs.Updates.{extents};
+ghost use Rattle.page_store.specs.Stored.{joined};
+ghost use Rattle.snapshot.specs.Versions.{IsVersion, under_blob, older_version};
+ghost use Rattle.border_hints.specs.Numbered.{own_touch, StandsFor};
+ghost use Rattle.publisher.specs.Windows.{window_on, version_of, waiting_of, published_of, with_numbered};
+ghost use Rattle.version_manager.specs.Desks.{OnRefused};
+ghost use Rattle.version_manager.specs.Blobs.{Takes};
+ghost use Rattle.version_manager.specs.Kept.{Keeps, update_tests};
+
+use crate::fault::DeskFault;
+use blob_model::{Limits, Place, Refusal};
+use border_hints::{Hints, Ticket};
+use page_store::Pages;
+use publisher::{NoMemory, Window};
+use range_log::OpenList;
+use snapshot::Snapshot;
+use std::alloc::Global;
+use std::sync::Arc;
+use tree_geom::PageSize;
+
+/// The size of the last numbered version, in bytes.
+pub(crate) fn size_of_last(window: &Window) -> u64
+    ensures { (limits : Bounds) (b : Blob) → Keeps limits window.now b → result ≡ size_now b }
+{
+    let _assigned = window.assigned();
+    let _version = window.snapshot().version();
+    let waiting = window.waiting();
+    match waiting.count() {
+        0 => window.snapshot().size(),
+        count => waiting.at(count - 1).touch.size,
+    }
+}
+
+// Where an update falls in a blob of that size.
+fn offset_in(place: Place, size: u64) -> u64
+    ensures { result ≡ offset_of place size }
+{
+    match place {
+        Place::WriteAt(offset) => offset,
+        Place::Append => size,
+    }
+}
+
+// Why the store refuses an update of `len` bytes of this blob: the first of its reasons.
+fn refusal_of_update(limits: Limits, window: &Window, place: Place, len: u64) -> Option<Refusal>
+    requires kept { (b : Blob) × Keeps limits window.now b }
+    requires some { 1 ≤ len }
+    requires few { len ≤ 1048576 }
+    ensures refusal { (b : Blob) (bytes : List ℕ) → Keeps limits window.now b → length bytes ≡ len → result ≡ first_refusal (update_tests limits b place bytes) }
+    ensures takes { (b : Blob) (bytes : List ℕ) → Keeps limits window.now b → length bytes ≡ len → IfNone result (Takes limits window.now b place bytes) }
+{
+    let size = size_of_last(window);
+    let at = offset_in(place, size);
+    if at > size {
+        return Some(Refusal::OffsetPastSize { offset: at, size });
+    }
+    let end = size.max(at + len);
+    if end > limits.max_size {
+        return Some(Refusal::BlobTooBig {
+            end,
+            limit: limits.max_size,
+        });
+    }
+    if window.assigned() == limits.max_versions {
+        return Some(Refusal::TooManyVersions {
+            limit: limits.max_versions,
+        });
+    }
+    if u64::from(window.waiting().count()) == limits.max_open {
+        return Some(Refusal::TooManyOpen {
+            limit: limits.max_open,
+        });
+    }
+    None
+}
+
+/// The ticket of the next update, of the bytes of these pages. `Refused` in the order of the reasons.
+pub(crate) fn ticket_over(
+    alloc: Global,
+    limits: Limits,
+    caller: u32,
+    place: Place,
+    pages: &Arc<Pages>,
+    window: &Window,
+) -> Result<Ticket, DeskFault>
+    requires kept { (b : Blob) × Keeps limits window.now b }
+    requires some { 1 ≤ length (joined (arc_value pages.now).pages) }
+    requires few { length (joined (arc_value pages.now).pages) ≤ 1048576 }
+    requires page_size { (arc_value pages.now).page_size ≡ window.now.page_size }
+    ensures refused { (b : Blob) → Keeps limits window.now b → IfErr result (λ fault. OnRefused fault (λ refusal. first_refusal (update_tests limits b place (joined (arc_value pages.now).pages)) ≡ Some refusal)) }
+    ensures accepted { (b : Blob) → Keeps limits window.now b → IfOk result (λ _. first_refusal (update_tests limits b place (joined (arc_value pages.now).pages)) ≡ None) }
+    ensures version { (b : Blob) → Keeps limits window.now b → IfOk result (λ t. t.version ≡ assigned b + 1) }
+    ensures at { (b : Blob) → Keeps limits window.now b → IfOk result (λ t. t.at ≡ offset_of place (size_now b)) }
+    ensures size { (b : Blob) → Keeps limits window.now b → IfOk result (λ t. t.size ≡ size_with b place (joined (arc_value pages.now).pages)) }
+    ensures caller { IfOk result (λ t. t.caller ≡ caller) }
+    ensures blob { IfOk result (λ t. t.blob ≡ window.now.blob) }
+    ensures len { IfOk result (λ t. t.len ≡ length (joined (arc_value pages.now).pages)) }
+    ensures snapshot { IfOk result (λ t. t.snapshot ≡ version_of window.now) }
+    ensures waiting { IfOk result (λ t. t.waiting ≡ waiting_of window.now) }
+    ensures pages { IfOk result (λ t. t.pages ≡ arc_value pages.now) }
+    ensures stands { (b : Blob) (u : Update) → Keeps limits window.now b → u.place ≡ place → u.bytes ≡ joined (arc_value pages.now).pages → IfOk result (λ t. StandsFor t (extents (b.updates ++ u ∷ []))) }
+    ensures kept { (b : Blob) (u : Update) → Keeps limits window.now b → u.place ≡ place → u.bytes ≡ joined (arc_value pages.now).pages
+        → IfOk result (λ t. Keeps limits (with_numbered window.now (own_touch t)) (and_update b u)) }
+    ensures few { IfOk result (λ _. length window.now.log < published_of window.now + 64) }
+    ensures room { IfOk result (λ _. length window.now.log < 1048576) }
+{
+    if let Some(refusal) = refusal_of_update(limits, window, place, pages.len()) {
+        return Err(DeskFault::Refused(refusal));
+    }
+    match next_ticket(alloc, caller, place, pages, window) {
+        Ok(ticket) => Ok(ticket),
+        Err(NoMemory) => Err(DeskFault::NoMemory),
+    }
+}
+
+// The ticket of the next update, which the blob takes.
+fn next_ticket(
+    alloc: Global,
+    caller: u32,
+    place: Place,
+    pages: &Arc<Pages>,
+    window: &Window,
+) -> Result<Ticket, NoMemory>
+    requires takes { (limits : Bounds) × (b : Blob) × Takes limits window.now b place (joined (arc_value pages.now).pages) }
+    requires page_size { (arc_value pages.now).page_size ≡ window.now.page_size }
+    ensures caller { IfOk result (λ t. t.caller ≡ caller) }
+    ensures blob { IfOk result (λ t. t.blob ≡ window.now.blob) }
+    ensures version { IfOk result (λ t. t.version ≡ length window.now.log + 1) }
+    ensures len { IfOk result (λ t. t.len ≡ length (joined (arc_value pages.now).pages)) }
+    ensures published { IfOk result (λ t. IsVersion t.snapshot) }
+    ensures snapshot { IfOk result (λ t. t.snapshot ≡ version_of window.now) }
+    ensures waiting { IfOk result (λ t. t.waiting ≡ waiting_of window.now) }
+    ensures pages { IfOk result (λ t. t.pages ≡ arc_value pages.now) }
+    ensures at { (limits : Bounds) (b : Blob) → Keeps limits window.now b → IfOk result (λ t. t.at ≡ offset_of place (size_now b)) }
+    ensures size { (limits : Bounds) (b : Blob) → Keeps limits window.now b → IfOk result (λ t. t.size ≡ size_with b place (joined (arc_value pages.now).pages)) }
+{
+    let size = size_of_last(window);
+    let at = offset_in(place, size);
+    let len = pages.len();
+    let end = size.max(at + len);
+    let hints = hints_of(alloc, window)?;
+    let _version = hints.snapshot.version();
+    let shared = Arc::try_clone(pages)?;
+    Ok(Ticket::of(
+        caller,
+        window.snapshot().blob(),
+        window.assigned() + 1,
+        at,
+        len,
+        end,
+        hints,
+        shared,
+    ))
+}
+
+// What is known of the numbered updates: the published snapshot, and what waits.
+fn hints_of(alloc: Global, window: &Window) -> Result<Hints, NoMemory>
+    ensures snapshot { IfOk result (λ h. h.snapshot ≡ version_of window.now) }
+    ensures waiting { IfOk result (λ h. h.waiting ≡ waiting_of window.now) }
+{
+    let snapshot = window.snapshot();
+    Ok(Hints {
+        snapshot: snapshot.at(alloc, snapshot.version())?,
+        waiting: copy_of(alloc, window.waiting())?,
+    })
+}
+
+// The same updates in a list of their own.
+fn copy_of(alloc: Global, waiting: &OpenList) -> Result<OpenList, NoMemory>
+    ensures { IfOk result (λ copy. copy ≡ waiting.now) }
+{
+    let Ok(mut copy) = OpenList::new(alloc) else {
+        return Err(NoMemory);
+    };
+    for i in 0..waiting.count() {
+        copy.add(waiting.at(i));
+    }
+    Ok(copy)
+}
+
+/// The window of a new blob.
+pub(crate) fn first_in(alloc: Global, id: u64, p: PageSize) -> Result<Window, NoMemory>
+    ensures new { IfOk result (λ w. w ≡ window_on record { blob = id; page_size = p; rows = [] }) }
+    ensures kept { (limits : Bounds) → IfOk result (λ w. Keeps limits w record { updates = []; finished = [] }) }
+{
+    Window::new(alloc, Snapshot::empty(alloc, id, p)?)
+}
+
+/// The window of a blob that shares the versions of this one up to a published one.
+pub(crate) fn branch_in(
+    alloc: Global,
+    window: &Window,
+    new_id: u64,
+    version: u64,
+) -> Result<Window, NoMemory>
+    requires { version ≤ published_of window.now }
+    ensures new { IfOk result (λ w. w ≡ window_on (under_blob (older_version (version_of window.now) version) new_id)) }
+    ensures kept { (limits : Bounds) (b : Blob) → Keeps limits window.now b → IfOk result (λ w. Keeps limits w (branch_of b version)) }
+{
+    let _assigned = window.assigned();
+    let _version = window.snapshot().version();
+    let shared = window.snapshot_at(alloc, version)?;
+    Window::new(alloc, shared.under(alloc, new_id)?)
+}

@@ -1,0 +1,339 @@
+// The blobs of a store and its history.
+ghost use Rattle.std.specs.Prelude.{◌≡◌, ℕ, ◌-◌, ◌^◌, ◌<◌, ◌≤◌, true, false, List, [], ◌∷◌, ◌++◌, length, map, MatchOption, IfOk, IfErr, OnOk, OnErr, vec_len};
+ghost use Rattle.std.specs.Arc.{arc_value};
+ghost use Rattle.boxcar.specs.Table.{Shelves};
+ghost use Rattle.page_store.specs.House.{House};
+ghost use Rattle.page_store.specs.Stored.{joined};
+ghost use Rattle.node_store.specs.Rows.{IsRowIn};
+ghost use Rattle.border_hints.specs.Numbered.{own_touch};
+ghost use Rattle.publisher.specs.Windows.{version_of, window_on, with_numbered, with_finished};
+ghost use Rattle.snapshot.specs.Versions.{IsVersionIn, older_version, under_blob, size_now};
+ghost use Rattle.snapshot.specs.Laws.{AreRowsOf, TellUpdates};
+ghost use Rattle.blob_model.specs.History.{IsLegal};
+ghost use Rattle.blob_model.specs.declared.call.Call.TheVariants as Calls;
+ghost use Rattle.blob_model.specs.declared.call.Event.TheVariants as Events;
+ghost use Rattle.blob_model.specs.declared.call.Outcome.TheVariants as Outcomes;
+ghost use Rattle.version_manager.specs.Desks.{empty_desk, outcome_now, updates_in, window_in, with_event, windows_with, windows_and, is_finished_in, OnRefused, IsUnfinished, IsNumbering, IsTicketOf, IsRowFor, LiesIn};
+
+use crate::blob::{branch_in, first_in, ticket_over};
+use crate::entry::{Change, Entry};
+use crate::fault::DeskFault;
+use crate::looks::{recent_in, size_in, snapshot_in, status_in, sync_in};
+use blob_model::{Limits, Outcome, Place, Refusal};
+use border_hints::Ticket;
+use node_store::{NodeHouse, Row};
+use page_store::{Houses, Pages};
+use publisher::{NoMemory, Window};
+use snapshot::Snapshot;
+use std::alloc::Global;
+use std::marker::Model;
+use std::sync::Arc;
+use tree_geom::PageSize;
+
+/// The blobs of a store, and the history of all changes that it accepted, in order, each with its caller.
+///
+/// The history is legal, and the blobs are what it leaves. A call that is refused, and one that finds no memory, leaves the
+/// desk as before. The pages and nodes of the desk's versions lie in the houses that it was made for, to which it keeps
+/// no reference.
+#[derive(Drop)]
+pub struct Desk {
+    alloc: Global,
+    limits: Limits,
+    page_size: PageSize,
+    history: Vec<Entry>,
+    windows: Vec<Window>,
+}
+
+impl Model for Desk {
+    ghost use Rattle.std.specs.Prelude.{map};
+    ghost use Rattle.version_manager.specs.Desks.{DeskState};
+    ghost use Rattle.version_manager.specs.Entries.{event_of};
+    ghost use Rattle.version_manager.specs.Kept.{KeepsDesk};
+
+    ghost Value = { DeskState };
+
+    ghost view = { λ d. record { limits = d.limits; page_size = d.page_size; history = map event_of d.history.items; windows = d.windows.items } };
+
+    ghost invariant = { λ d. KeepsDesk d.limits d.page_size (map event_of d.history.items) d.windows.items };
+}
+
+impl Desk {
+    /// A desk without blobs, whose history is empty, for pages and nodes in these houses.
+    pub fn new(
+        alloc: Global,
+        limits: Limits,
+        p: PageSize,
+        houses: &Houses,
+        nodes: &NodeHouse,
+    ) -> Result<Desk, NoMemory>
+        ensures empty { IfOk result (λ desk. desk ≡ empty_desk limits p) }
+        ensures here { IfOk result (λ desk. LiesIn nodes.now houses.now desk) }
+    {
+        let _bytes = p.bytes();
+        Ok(Desk {
+            alloc,
+            limits,
+            page_size: p,
+            history: Vec::new(alloc),
+            windows: Vec::new(alloc),
+        })
+    }
+
+    /// How much the desk takes.
+    pub fn limits(&self) -> Limits
+        ensures limits { result ≡ self.now.limits }
+        ensures legal { IsLegal self.now.limits self.now.history }
+        ensures short { length self.now.history < 2 ^ 63 }
+    {
+        self.limits
+    }
+
+    /// The page size of all blobs.
+    pub fn page_size(&self) -> PageSize
+        ensures { result ≡ self.now.page_size }
+    {
+        self.page_size
+    }
+
+    /// Makes an empty blob, and gives its id: the blobs are numbered from 1. `Refused` exactly where there are as many blobs
+    /// as there may be.
+    pub fn create(&mut self, caller: u32) -> Result<u64, DeskFault>
+        ensures blob { IfOk result (λ blob. outcome_now self.old caller Calls.Create ≡ Outcomes.Blob blob) }
+        ensures new { IfOk result (λ blob. self.new ≡ with_event self.old (Events.Create caller)
+            (windows_and self.old (window_on record { blob = blob; page_size = self.old.page_size; rows = [] }))) }
+        ensures refused { IfErr result (λ fault. OnRefused fault (λ refusal. outcome_now self.old caller Calls.Create ≡ Outcomes.Refused refusal)) }
+        ensures same { IfErr result (λ _. self.new ≡ self.old) }
+        ensures here { (nodes : List Shelves) (houses : List House) → LiesIn nodes houses self.old → LiesIn nodes houses self.new }
+    {
+        let count = self.windows.len() as u64;
+        let limits = self.limits;
+        let limit = limits.max_blobs;
+        if count == limit {
+            return Err(DeskFault::Refused(Refusal::TooManyBlobs { limit }));
+        }
+        let blob = count + 1;
+        let Ok(window) = first_in(self.alloc, blob, self.page_size) else {
+            return Err(DeskFault::NoMemory);
+        };
+        let entry = Entry {
+            caller,
+            change: Change::Create,
+        };
+        let Ok(()) = add(&mut self.history, &mut self.windows, entry, window) else {
+            return Err(DeskFault::NoMemory);
+        };
+        Ok(blob)
+    }
+
+    /// Numbers an update of the bytes of these pages, and gives its ticket. `Refused` in the order of the reasons.
+    pub fn assign(
+        &mut self,
+        caller: u32,
+        blob: u64,
+        place: Place,
+        pages: &Arc<Pages>,
+    ) -> Result<Ticket, DeskFault>
+        requires some { 1 ≤ length (joined (arc_value pages.now).pages) }
+        requires few { length (joined (arc_value pages.now).pages) ≤ 1048576 }
+        requires page_size { (arc_value pages.now).page_size ≡ self.old.page_size }
+        ensures assigned { IfOk result (λ t. outcome_now self.old caller (Calls.Assign blob place (joined (arc_value pages.now).pages)) ≡ Outcomes.Assigned t.version t.at t.size) }
+        ensures numbering { IfOk result (λ t. IsNumbering self.old caller blob t) }
+        ensures pages { IfOk result (λ t. t.pages ≡ arc_value pages.now) }
+        ensures ticket { IfOk result (λ t. IsTicketOf self.new t) }
+        ensures new { IfOk result (λ t. self.new ≡ with_event self.old (Events.Assign caller blob place (joined (arc_value pages.now).pages))
+            (windows_with self.old blob (with_numbered (window_in self.old blob) (own_touch t)))) }
+        ensures unfinished { IfOk result (λ t. IsUnfinished self.new blob t.version) }
+        ensures refused { IfErr result (λ fault. OnRefused fault (λ refusal.
+            outcome_now self.old caller (Calls.Assign blob place (joined (arc_value pages.now).pages)) ≡ Outcomes.Refused refusal)) }
+        ensures same { IfErr result (λ _. self.new ≡ self.old) }
+        ensures here { (nodes : List Shelves) (houses : List House) → LiesIn nodes houses self.old → LiesIn nodes houses self.new }
+    {
+        let Some(place_in) = place_of(&self.windows, blob) else {
+            return Err(DeskFault::Refused(Refusal::NoBlob { blob }));
+        };
+        let window = &self.windows[place_in];
+        let _assigned = window.assigned();
+        let ticket = match ticket_over(self.alloc, self.limits, caller, place, pages, window) {
+            Ok(ticket) => ticket,
+            Err(fault) => return Err(fault),
+        };
+        let Ok(pages) = Arc::try_clone(pages) else {
+            return Err(DeskFault::NoMemory);
+        };
+        if self.history.reserve(1).is_err() {
+            return Err(DeskFault::NoMemory);
+        }
+        self.history.push_reserved(Entry {
+            caller,
+            change: Change::Assign { blob, place, pages },
+        });
+        self.windows[place_in].number(ticket.touch());
+        Ok(ticket)
+    }
+
+    /// Finishes a ticket's update by its row, and gives the version that is published now. `Refused` exactly where the
+    /// version is finished already. On an error the row comes back.
+    pub fn finish(
+        &mut self,
+        caller: u32,
+        ticket: &Ticket,
+        row: Arc<Row>,
+    ) -> Result<u64, (DeskFault, Arc<Row>)>
+        requires ticket { IsTicketOf self.old ticket.now }
+        requires row { IsRowFor self.old ticket.now (arc_value row) }
+        ensures published { IfOk result (λ published. outcome_now self.old caller (Calls.Finish ticket.now.blob ticket.now.version) ≡ Outcomes.Published published) }
+        ensures new { IfOk result (λ _. self.new ≡ with_event self.old (Events.Finish caller ticket.now.blob ticket.now.version)
+            (windows_with self.old ticket.now.blob (with_finished (window_in self.old ticket.now.blob) ticket.now.version (arc_value row)))) }
+        ensures unfinished { IfOk result (λ _. is_finished_in self.old ticket.now.blob ticket.now.version ≡ false) }
+        ensures finished { IfOk result (λ _. is_finished_in self.new ticket.now.blob ticket.now.version ≡ true) }
+        ensures already { IfErr result (λ e. OnRefused e.0 (λ _. is_finished_in self.old ticket.now.blob ticket.now.version ≡ true)) }
+        ensures refused { IfErr result (λ e. OnRefused e.0 (λ refusal.
+            outcome_now self.old caller (Calls.Finish ticket.now.blob ticket.now.version) ≡ Outcomes.Refused refusal)) }
+        ensures same { IfErr result (λ e. (e.1 ≡ row) × (self.new ≡ self.old)) }
+        ensures here { (nodes : List Shelves) (houses : List House) → LiesIn nodes houses self.old → IsRowIn nodes houses (arc_value row) → LiesIn nodes houses self.new }
+    {
+        let blob = ticket.blob();
+        let version = ticket.version();
+        let place = (blob - 1) as usize;
+        let window = &self.windows[place];
+        let _assigned = window.assigned();
+        if window.is_finished(version) {
+            return Err((DeskFault::Refused(Refusal::Already { version }), row));
+        }
+        if self.history.reserve(1).is_err() {
+            return Err((DeskFault::NoMemory, row));
+        }
+        match self.windows[place].finish(self.alloc, version, row) {
+            Ok(published) => {
+                self.history.push_reserved(Entry {
+                    caller,
+                    change: Change::Finish { blob, version },
+                });
+                Ok(published)
+            }
+            Err((_, row)) => Err((DeskFault::NoMemory, row)),
+        }
+    }
+
+    /// Makes a blob that shares the versions of this one up to a published one, and gives its id. No page and no node is
+    /// copied. `Refused` in the order of the reasons.
+    pub fn branch(&mut self, caller: u32, blob: u64, version: u64) -> Result<u64, DeskFault>
+        ensures blob { IfOk result (λ id. outcome_now self.old caller (Calls.Branch blob version) ≡ Outcomes.Blob id) }
+        ensures new { IfOk result (λ id. self.new ≡ with_event self.old (Events.Branch caller blob version)
+            (windows_and self.old (window_on (under_blob (older_version (version_of (window_in self.old blob)) version) id)))) }
+        ensures refused { IfErr result (λ fault. OnRefused fault (λ refusal. outcome_now self.old caller (Calls.Branch blob version) ≡ Outcomes.Refused refusal)) }
+        ensures same { IfErr result (λ _. self.new ≡ self.old) }
+        ensures here { (nodes : List Shelves) (houses : List House) → LiesIn nodes houses self.old → LiesIn nodes houses self.new }
+    {
+        let Some(place) = place_of(&self.windows, blob) else {
+            return Err(DeskFault::Refused(Refusal::NoBlob { blob }));
+        };
+        let parent = &self.windows[place];
+        let published = parent.published();
+        if version > published {
+            return Err(DeskFault::Refused(Refusal::NotPublished { version, published }));
+        }
+        let count = self.windows.len() as u64;
+        let limits = self.limits;
+        let limit = limits.max_blobs;
+        if count == limit {
+            return Err(DeskFault::Refused(Refusal::TooManyBlobs { limit }));
+        }
+        let id = count + 1;
+        let Ok(window) = branch_in(self.alloc, parent, id, version) else {
+            return Err(DeskFault::NoMemory);
+        };
+        let entry = Entry {
+            caller,
+            change: Change::Branch { blob, version },
+        };
+        let Ok(()) = add(&mut self.history, &mut self.windows, entry, window) else {
+            return Err(DeskFault::NoMemory);
+        };
+        Ok(id)
+    }
+
+    /// The snapshot of a published version. `Refused` in the order of the reasons, as the size of the version is.
+    pub fn snapshot_of(&self, blob: u64, version: u64) -> Result<Snapshot, DeskFault>
+        ensures size { (caller : ℕ) → IfOk result (λ s. outcome_now self.now caller (Calls.Size blob version) ≡ Outcomes.Size (size_now s)) }
+        ensures this { IfOk result (λ s. s ≡ older_version (version_of (window_in self.now blob)) version) }
+        ensures version { IfOk result (λ s. length s.rows ≡ version) }
+        ensures page_size { IfOk result (λ s. s.page_size ≡ self.now.page_size) }
+        ensures tells { IfOk result (λ s. TellUpdates self.now.page_size (updates_in self.now blob) s.rows) }
+        ensures refused { (caller : ℕ) → IfErr result (λ fault. OnRefused fault (λ refusal. outcome_now self.now caller (Calls.Size blob version) ≡ Outcomes.Refused refusal)) }
+        ensures here { (nodes : List Shelves) (houses : List House) → LiesIn nodes houses self.now → IfOk result (λ s. IsVersionIn nodes houses s) }
+    {
+        match place_of(&self.windows, blob) {
+            Some(place) => snapshot_in(self.alloc, &self.windows[place], version),
+            None => Err(DeskFault::Refused(Refusal::NoBlob { blob })),
+        }
+    }
+
+    /// The greatest published version of the blob and its size.
+    pub fn recent(&self, blob: u64) -> Outcome
+        ensures { (caller : ℕ) → result ≡ outcome_now self.now caller (Calls.Recent blob) }
+    {
+        match place_of(&self.windows, blob) {
+            Some(place) => recent_in(&self.windows[place]),
+            None => Outcome::Refused(Refusal::NoBlob { blob }),
+        }
+    }
+
+    /// The size of a published version, in bytes.
+    pub fn size(&self, blob: u64, version: u64) -> Outcome
+        ensures { (caller : ℕ) → result ≡ outcome_now self.now caller (Calls.Size blob version) }
+    {
+        match place_of(&self.windows, blob) {
+            Some(place) => size_in(&self.windows[place], version),
+            None => Outcome::Refused(Refusal::NoBlob { blob }),
+        }
+    }
+
+    /// Whether a numbered version is published. It takes one look.
+    pub fn sync(&self, blob: u64, version: u64) -> Outcome
+        ensures { (caller : ℕ) → result ≡ outcome_now self.now caller (Calls.Sync blob version) }
+    {
+        match place_of(&self.windows, blob) {
+            Some(place) => sync_in(&self.windows[place], version),
+            None => Outcome::Refused(Refusal::NoBlob { blob }),
+        }
+    }
+
+    /// How far the blob's updates are.
+    pub fn status(&self, blob: u64) -> Outcome
+        ensures { (caller : ℕ) → result ≡ outcome_now self.now caller (Calls.Status blob) }
+    {
+        match place_of(&self.windows, blob) {
+            Some(place) => status_in(&self.windows[place]),
+            None => Outcome::Refused(Refusal::NoBlob { blob }),
+        }
+    }
+}
+
+// The place of a blob's window, if the blob is there.
+fn place_of(windows: &Vec<Window>, blob: u64) -> Option<usize>
+    ensures { MatchOption result (1 ≤ blob → vec_len windows.now < blob) (λ place. (place ≡ blob - 1) × (1 ≤ blob) × (blob ≤ vec_len windows.now)) }
+{
+    if blob == 0 || blob > windows.len() as u64 {
+        return None;
+    }
+    Some((blob - 1) as usize)
+}
+
+// Adds the window of a new blob, and the entry of its making.
+fn add(
+    history: &mut Vec<Entry>,
+    windows: &mut Vec<Window>,
+    entry: Entry,
+    window: Window,
+) -> Result<(), NoMemory>
+    ensures history { OnOk result (history.new.items ≡ history.old.items ++ entry ∷ []) }
+    ensures windows { OnOk result (windows.new.items ≡ windows.old.items ++ window ∷ []) }
+    ensures same_history { OnErr result (history.new.items ≡ history.old.items) }
+    ensures same_windows { OnErr result (windows.new.items ≡ windows.old.items) }
+{
+    history.reserve(1)?;
+    windows.push(window)?;
+    history.push_reserved(entry);
+    Ok(())
+}
