@@ -4,6 +4,7 @@
 ghost use Rattle.std.specs.Prelude.{◌≡◌};
 
 use blobseer_run::run;
+use page_store::PlainMaker;
 use ports::reader::ReaderSource;
 use ports::writer::WriterSink;
 use std::env::{self, Env};
@@ -30,6 +31,7 @@ fn main(rt: HostRuntime) -> ExitCode {
     let mut script = ReaderSource::new(rt.stdin());
     let mut out = WriterSink::new(rt.stdout());
     let mut err = WriterSink::new(rt.stderr());
+    let mut doors = PlainMaker::new();
     let status = run(
         &rt,
         rt.alloc(),
@@ -37,6 +39,7 @@ fn main(rt: HostRuntime) -> ExitCode {
         &mut script,
         &mut out,
         &mut err,
+        &mut doors,
     );
     ExitCode::from(status)
 }

@@ -1,25 +1,27 @@
 -- Where nobody else is there, each history that a session has seen is legal.
-use Rattle.std.proofs.Common.{◌≡◌, ℕ, ◌+◌, ◌-◌, ◌≤◌, ◌==◌, Bool, true, false, if◌then◌else◌, List, [], ◌∷◌, ◌++◌, length, set, zero, suc, refl, sym, ◌∙◌, ap, subst, length-append, append_assoc, append-nil, arith}
+use Rattle.std.proofs.Common.{◌≡◌, ℕ, ◌+◌, ◌-◌, ◌≤◌, ◌==◌, nat_lt, Bool, true, false, if◌then◌else◌, List, [], ◌∷◌, ◌++◌, length, set, zero, suc, refl, sym, ◌∙◌, ap, subst, length-append, append_assoc, append-nil, arith}
 use Rattle.std.specs.Prelude.{Option, Some, None, slice_get, slice_index_or}
 use Rattle.std.proofs.Math.ListN.{length-set}
+use Rattle.std.proofs.lemmas.List.{length-take-le, length-replicate}
 use Rattle.std.proofs.lemmas.Option.{none-some, same_Some}
 use Rattle.std.proofs.lemmas.Bool.Decides.{nat_tests}
 use Rattle.blob_model.specs.Limits.{Bounds}
-use Rattle.blob_model.specs.Content.{Update}
-use Rattle.blob_model.specs.Store.{Store, Blob, assigned, is_finished, finish, blob_at, and_blob, and_update, with_blob, published, size_now, size_with}
-use Rattle.blob_model.specs.Content.{offset_of}
-use Rattle.blob_model.specs.Answer.{Answered, answer, refuse, first_refusal, unless_refused, too_many_blobs, offset_past_size, blob_too_big, too_many_versions, too_many_open, already}
-use Rattle.blob_model.specs.History.{caller_of, call_of, store_of, is_refused, IsAccepted, IsNumbered, IsLegal}
+use Rattle.blob_model.specs.Content.{Update, offset_of}
+use Rattle.blob_model.specs.Store.{Store, Blob, true_prefix, assigned, published, size_now, size_with, is_finished, finish, branch_of, blob_at, and_blob, and_update, with_blob}
+use Rattle.blob_model.specs.Answer.{Test, Answered, answer, refuse, in_blob, first_refusal, unless_refused, too_many_blobs, offset_past_size, blob_too_big, too_many_versions, too_many_open, already}
+use Rattle.blob_model.specs.History.{caller_of, call_of, store_from, store_of, is_refused, IsAccepted, IsNumbered, IsLegalFrom, IsLegal}
+use Rattle.blob_model.specs.Laws.{OldVersionsStay}
 use Rattle.blob_model.specs.declared.call.Place.{Place}
-use Rattle.blob_model.specs.declared.call.Place.TheVariants.{Append}
+use Rattle.blob_model.specs.declared.call.Place.TheVariants.{WriteAt, Append}
+use Rattle.blob_model.specs.declared.call.Call.{Call}
 use Rattle.blob_model.specs.declared.call.Call.TheVariants as Calls
 use Rattle.blob_model.specs.declared.call.Event.{Event}
 use Rattle.blob_model.specs.declared.call.Event.TheVariants as Events
 use Rattle.blob_model.specs.declared.call.Outcome.TheVariants as Outcomes
 use Rattle.blob_model.specs.declared.call.Refusal.{Refusal}
 use Rattle.blob_model.specs.declared.call.Refusal.TheVariants as Refusals
-use Rattle.request_form.specs.Session.{Fixed, Session, IsNobody}
-use Rattle.request_form.specs.Answers.{Updated, CreateAnswer, UpdateAnswer, ReadAnswer, Unless, update_fault, read_fault, finishes, Answers}
+use Rattle.request_form.specs.Session.{Fixed, Session, Held, IsNobody, sees, holds, held_at, without_ticket, drops}
+use Rattle.request_form.specs.Answers.{Updated, Started, CreateAnswer, UpdateAnswer, ReportAnswer, FinishAnswer, BranchAnswer, ReadAnswer, LookAnswer, Unless, update_fault, read_fault, finishes, Answers}
 use Rattle.request_form.specs.Transcript.{ItemReply, Run}
 use Rattle.request_form.specs.declared.form.Request.{Request}
 use Rattle.request_form.specs.declared.form.Request.TheVariants as Requests
@@ -27,9 +29,16 @@ use Rattle.request_form.specs.declared.form.Reply.{Reply}
 use Rattle.request_form.specs.declared.form.Fault.{Fault}
 use Rattle.request_form.specs.declared.form.Heard.{Heard}
 use Rattle.request_form.specs.declared.form.Heard.TheVariants.{Asked, Wrong}
-use Rattle.blobseer_run.proofs.Ids.{kept-set_same}
-use Rattle.blobseer_run.proofs.Blobs.{in_blob_here, in_blob_none, none_of_one}
-use Rattle.blobseer_run.proofs.Kept.{store_from-append, legal-append}
+
+-- ---- histories that go on
+
+store_from-append : (s : Store) (xs ys : List Event) → store_from s (xs ++ ys) ≡ store_from (store_from s xs) ys
+store_from-append s [] ys = refl
+store_from-append s (x ∷ xs) ys = store_from-append (answer s (caller_of x) (call_of x)).0 xs ys
+
+legal-append : (s : Store) (xs ys : List Event) → IsLegalFrom s xs → IsLegalFrom (store_from s xs) ys → IsLegalFrom s (xs ++ ys)
+legal-append s [] ys h k = k
+legal-append s (x ∷ xs) ys h k = (h.0, legal-append (answer s (caller_of x) (call_of x)).0 xs ys h.1 k)
 
 -- ---- each blob has as many marks as updates
 
@@ -72,6 +81,17 @@ even_finish : (b : Blob) (version : ℕ) → IsEven b → IsEven (finish b versi
 unfolding IsEven
 even_finish b version e = length-set b.finished (version - 1) true ∙ e
 
+prefix_within : (bs : List Bool) → true_prefix bs ≤ length bs
+prefix_within [] = omega arith
+prefix_within (true ∷ bs) = let more = prefix_within bs in omega (arith, more)
+prefix_within (false ∷ bs) = omega arith
+
+even_branch : (b : Blob) (version : ℕ) → IsEven b → version ≤ published b → IsEven (branch_of b version)
+unfolding IsEven
+even_branch b version e within =
+    let few : version ≤ length b.updates = omega (arith, prefix_within b.finished, e, within) in
+    length-replicate version true ∙ sym (length-take-le version b.updates few)
+
 -- ---- refused or not
 
 unless_either : (s : Store) (f : Option Refusal) (done : Answered) (P : Answered → Type 0) → ((r : Refusal) → P (refuse s r)) → P done →
@@ -79,13 +99,58 @@ unless_either : (s : Store) (f : Option Refusal) (done : Answered) (P : Answered
 unless_either s None done P p q = q
 unless_either s (Some r) done P p q = p r
 
-create_even : (s : Store) (caller : ℕ) → AllEven s.blobs → AllEven (answer s caller Calls.Create).0.blobs
-unfolding IsEven
-create_even s caller h =
-    unless_either s (first_refusal (too_many_blobs s ∷ [])) (and_blob s (record { updates = []; finished = [] }), Outcomes.Blob (length s.blobs + 1)) (λ (a : Answered). AllEven a.0.blobs)
-    (λ r. h) (even_push s.blobs (record { updates = []; finished = [] }) h refl)
+there_or_not : (s : Store) (blob : ℕ) (o : Option Blob) (f : Blob → Answered) (P : Answered → Type 0) → ((r : Refusal) → P (refuse s r)) → ((b : Blob) → o ≡ Some b → P (f b)) →
+    P (elim o [ None ↦ refuse s (Refusals.NoBlob blob) | Some b ↦ f b ])
+there_or_not s blob None f P p q = p (Refusals.NoBlob blob)
+there_or_not s blob (Some b) f P p q = q b refl
 
--- an update that was numbered
+in_blob_here : (s : Store) (blob : ℕ) (b : Blob) (f : Blob → Answered) → blob_at s blob ≡ Some b → in_blob s blob f ≡ f b
+in_blob_here s blob b f h = ap (λ (o : Option Blob). let a : Answered = elim o [ None ↦ refuse s (Refusals.NoBlob blob) | Some x ↦ f x ] in a) h
+
+in_blob_none : (s : Store) (blob : ℕ) (f : Blob → Answered) → blob_at s blob ≡ None → in_blob s blob f ≡ refuse s (Refusals.NoBlob blob)
+in_blob_none s blob f h = ap (λ (o : Option Blob). let a : Answered = elim o [ None ↦ refuse s (Refusals.NoBlob blob) | Some x ↦ f x ] in a) h
+
+none_of_one : (s : Store) (a : Test) (done : Answered) → a.refuses ≡ false → unless_refused s (a ∷ []) done ≡ done
+none_of_one s a done p = rw p refl
+
+abbrev HasEven : Answered → Type 0
+HasEven a = AllEven a.0.blobs
+
+branch_tested : (s : Store) (b : Blob) (version : ℕ) (t : Bool) → nat_lt (published b) version ≡ t → AllEven s.blobs → IsEven b →
+    HasEven (elim (if t then Some (Refusals.NotPublished version (published b)) else first_refusal (too_many_blobs s ∷ [])) [ Some r ↦ refuse s r | None ↦ (and_blob s (branch_of b version), Outcomes.Blob (length s.blobs + 1)) ])
+branch_tested s b version true e h even = h
+branch_tested s b version false e h even =
+    let within : version ≤ published b = grind (arith, nat_tests) in
+    unless_either s (first_refusal (too_many_blobs s ∷ [])) (and_blob s (branch_of b version), Outcomes.Blob (length s.blobs + 1)) (λ (a : Answered). HasEven a) (λ r. h) (even_push s.blobs (branch_of b version) h (even_branch b version even within))
+
+-- a call leaves as many marks as updates
+answer_even : (s : Store) (caller : ℕ) (call : Call) → AllEven s.blobs → HasEven (answer s caller call)
+unfolding IsEven
+answer_even s caller Calls.Create h =
+    unless_either s (first_refusal (too_many_blobs s ∷ [])) (and_blob s (record { updates = []; finished = [] }), Outcomes.Blob (length s.blobs + 1)) (λ (a : Answered). HasEven a)
+    (λ r. h) (even_push s.blobs (record { updates = []; finished = [] }) h refl)
+answer_even s caller (Calls.Assign blob place bytes) h =
+    there_or_not s blob (blob_at s blob) _ (λ (a : Answered). HasEven a) (λ r. h) (λ b here.
+    unless_either s (first_refusal (offset_past_size b place ∷ blob_too_big s b place bytes ∷ too_many_versions s b ∷ too_many_open s b ∷ [])) _ (λ (a : Answered). HasEven a) (λ r. h)
+    (even_set s.blobs (blob - 1) _ h (even_update b _ (even_at s blob b h here))))
+answer_even s caller (Calls.Finish blob version) h =
+    there_or_not s blob (blob_at s blob) _ (λ (a : Answered). HasEven a) (λ r. h) (λ b here.
+    unless_either s (first_refusal (already b version ∷ [])) _ (λ (a : Answered). HasEven a) (λ r. h)
+    (even_set s.blobs (blob - 1) _ h (even_finish b version (even_at s blob b h here))))
+answer_even s caller (Calls.Branch blob version) h =
+    there_or_not s blob (blob_at s blob) _ (λ (a : Answered). HasEven a) (λ r. h) (λ b here.
+    branch_tested s b version (nat_lt (published b) version) refl h (even_at s blob b h here))
+answer_even s caller (Calls.Read blob version offset count) h =
+    there_or_not s blob (blob_at s blob) _ (λ (a : Answered). HasEven a) (λ r. h) (λ b here. unless_either s _ _ (λ (a : Answered). HasEven a) (λ r. h) h)
+answer_even s caller (Calls.Recent blob) h = there_or_not s blob (blob_at s blob) _ (λ (a : Answered). HasEven a) (λ r. h) (λ b here. h)
+answer_even s caller (Calls.Size blob version) h =
+    there_or_not s blob (blob_at s blob) _ (λ (a : Answered). HasEven a) (λ r. h) (λ b here. unless_either s _ _ (λ (a : Answered). HasEven a) (λ r. h) h)
+answer_even s caller (Calls.Sync blob version) h =
+    there_or_not s blob (blob_at s blob) _ (λ (a : Answered). HasEven a) (λ r. h) (λ b here. unless_either s _ _ (λ (a : Answered). HasEven a) (λ r. h) h)
+answer_even s caller (Calls.Status blob) h = there_or_not s blob (blob_at s blob) _ (λ (a : Answered). HasEven a) (λ r. h) (λ b here. h)
+
+-- ---- an update that was numbered
+
 record IsNumbering (s : Store) (caller blob : ℕ) (place : Place) (bytes : List ℕ) (version : ℕ) : Type 0 where
   b : Blob
   here : blob_at s blob ≡ Some b
@@ -124,6 +189,19 @@ numbering_at s caller blob place bytes version at size (Some b) e h =
     numbering_there s caller blob place bytes version at size b e (first_refusal (offset_past_size b place ∷ blob_too_big s b place bytes ∷ too_many_versions s b ∷ too_many_open s b ∷ []))
     (in_blob_here s blob b (assigning s caller blob place bytes) e) h
 
+get-set_same : (xs : List Blob) (i : ℕ) (x y : Blob) → slice_get xs i ≡ Some x → slice_get (set xs i y) i ≡ Some y
+get-set_same [] i x y h = absurd (none-some x h)
+get-set_same (a ∷ xs) zero x y h = refl
+get-set_same (a ∷ xs) (suc i) x y h = get-set_same xs i x y h
+
+same_under : (b : Bool) (p q : Option Blob) (x y : Blob) → (if b then None else p) ≡ Some x → (p ≡ Some x → q ≡ Some y) → (if b then None else q) ≡ Some y
+same_under true p q x y h f = absurd (none-some x h)
+same_under false p q x y h f = f h
+
+-- another blob under an id is the one there
+blob_there : (s : Store) (blob : ℕ) (x y : Blob) → blob_at s blob ≡ Some x → blob_at (with_blob s blob y) blob ≡ Some y
+blob_there s blob x y h = same_under (blob == 0) (slice_get s.blobs (blob - 1)) (slice_get (set s.blobs (blob - 1) y) (blob - 1)) x y h (λ e. get-set_same s.blobs (blob - 1) x y e)
+
 last_false : (bs : List Bool) → slice_index_or (bs ++ false ∷ []) (length bs) false ≡ false
 last_false [] = refl
 last_false (b ∷ bs) = last_false bs
@@ -131,47 +209,40 @@ last_false (b ∷ bs) = last_false bs
 finishing : Store → ℕ → ℕ → Blob → Answered
 finishing s blob version b = unless_refused s (already b version ∷ []) (with_blob s blob (finish b version), Outcomes.Published (published (finish b version)))
 
--- a version that was just numbered can be finished
-record IsFinishing (s : Store) (caller blob version : ℕ) : Type 0 where
-  accepted : IsAccepted s (Events.Finish caller blob version)
-  even : AllEven (answer s caller (Calls.Finish blob version)).0.blobs
+-- a version that was just numbered is numbered, and can be finished
+record IsLatest (s : Store) (caller blob version : ℕ) : Type 0 where
+  numbered : IsNumbered (blob_at s blob) version
+  accepted : is_refused (answer s caller (Calls.Finish blob version)).1 ≡ false
 
-finishes_next : (s : Store) (caller blob : ℕ) (b : Blob) (u : Update) → AllEven s.blobs → blob_at s blob ≡ Some b →
-    IsFinishing (with_blob s blob (and_update b u)) caller blob (length b.updates + 1)
+latest_next : (s : Store) (caller blob : ℕ) (b : Blob) (u : Update) → AllEven s.blobs → blob_at s blob ≡ Some b → IsLatest (with_blob s blob (and_update b u)) caller blob (length b.updates + 1)
 unfolding IsEven finishing
-finishes_next s caller blob b u h here =
+latest_next s caller blob b u h here =
     let v : ℕ = length b.updates + 1 in
     let b1 : Blob = and_update b u in
     let s1 : Store = with_blob s blob b1 in
     let even : length b.finished ≡ length b.updates = even_at s blob b h here in
-    let there : blob_at s1 blob ≡ Some b1 = kept-set_same s.blobs blob b b1 here in
+    let there : blob_at s1 blob ≡ Some b1 = blob_there s blob b b1 here in
     let some : (length b.updates + 1 == 0) ≡ false = grind (arith, nat_tests) in
     let at : length b.updates + 1 - 1 ≡ length b.finished = omega (arith, even) in
     let open_yet : is_finished b1 (length b.updates + 1) ≡ false = rw some (rw at (last_false b.finished)) in
     let e : answer s1 caller (Calls.Finish blob v) ≡ (with_blob s1 blob (finish b1 v), Outcomes.Published (published (finish b1 v))) =
     in_blob_here s1 blob b1 (finishing s1 blob v) there ∙ none_of_one s1 (already b1 v) _ open_yet in
     let P : Option Blob → Type 0 = λ o. IsNumbered o v in
-    let Q : Answered → Type 0 = λ a. AllEven a.0.blobs in
     let numbered : IsNumbered (Some b1) v = (omega arith, omega (arith, length-append b.updates (u ∷ []))) in
-    let left : AllEven (with_blob s1 blob (finish b1 v)).blobs = even_set s1.blobs (blob - 1) (finish b1 v) (even_set s.blobs (blob - 1) b1 h (even_update b u even)) (even_finish b1 v (even_update b u even)) in
-    record {
-      accepted = record { may = subst P (sym there) numbered; accepted = ap (λ (a : Answered). is_refused a.1) e };
-      even = subst Q (sym e) left;
-    }
+    record { numbered = subst P (sym there) numbered; accepted = ap (λ (a : Answered). is_refused a.1) e }
 
 -- ---- histories
 
-pub record IsSound (limits : Bounds) (history : List Event) : Type 0 where
-  pub legal : IsLegal limits history
-  pub even : AllEven (store_of limits history).blobs
+record IsSound (limits : Bounds) (history : List Event) : Type 0 where
+  legal : IsLegal limits history
+  even : AllEven (store_of limits history).blobs
 
-sound_more : (limits : Bounds) (history : List Event) (e : Event) → IsSound limits history → IsAccepted (store_of limits history) e →
-    AllEven (answer (store_of limits history) (caller_of e) (call_of e)).0.blobs → IsSound limits (history ++ e ∷ [])
-sound_more limits history e sound accepted even =
+sound_more : (limits : Bounds) (history : List Event) (e : Event) → IsSound limits history → IsAccepted (store_of limits history) e → IsSound limits (history ++ e ∷ [])
+sound_more limits history e sound accepted =
     let P : Store → Type 0 = λ s. AllEven s.blobs in
     record {
       legal = legal-append _ history (e ∷ []) sound.legal (accepted, tt);
-      even = subst P (sym (store_from-append _ history (e ∷ []))) even;
+      even = subst P (sym (store_from-append _ history (e ∷ []))) (answer_even (store_of limits history) (caller_of e) (call_of e) sound.even);
     }
 
 sound_none : (limits : Bounds) (history others : List Event) → others ≡ [] → IsSound limits history → IsSound limits (history ++ others)
@@ -180,125 +251,235 @@ sound_none limits history others e sound = let P : List Event → Type 0 = λ es
 sound_as : (limits : Bounds) (xs ys : List Event) → xs ≡ ys → IsSound limits xs → IsSound limits ys
 sound_as limits xs ys e sound = let P : List Event → Type 0 = λ es. IsSound limits es in subst P e sound
 
+-- after what others did, which is nothing, one event more
+sound_event : (limits : Bounds) (history others : List Event) (e : Event) → others ≡ [] → IsSound limits history → IsAccepted (store_of limits (history ++ others)) e → IsSound limits (history ++ (others ++ e ∷ []))
+sound_event limits history others e alone sound accepted =
+    sound_as limits _ _ (append_assoc history others (e ∷ [])) (sound_more limits (history ++ others) e (sound_none limits history others alone sound) accepted)
+
+-- ---- tickets
+
+-- each of them is of a version that was numbered
+pub AllNumbered : Store → List Held → Type 0
+AllNumbered s [] = Unit {0}
+AllNumbered s (t ∷ ts) = IsNumbered (blob_at s t.blob) t.version × AllNumbered s ts
+
+numbered_push : (s : Store) (ts : List Held) (t : Held) → AllNumbered s ts → IsNumbered (blob_at s t.blob) t.version → AllNumbered s (ts ++ t ∷ [])
+unfolding AllNumbered
+numbered_push s [] t h k = (k, tt)
+numbered_push s (x ∷ ts) t h k = (h.0, numbered_push s ts t h.1 k)
+
+without_if : (s : Store) (b : Bool) (t : Held) (ts ts' : List Held) → IsNumbered (blob_at s t.blob) t.version → AllNumbered s ts → AllNumbered s ts' → AllNumbered s (if b then ts else t ∷ ts')
+unfolding AllNumbered
+without_if s true t ts ts' h k l = k
+without_if s false t ts ts' h k l = (h, l)
+
+numbered_without : (s : Store) (ts : List Held) (number : ℕ) → AllNumbered s ts → AllNumbered s (without_ticket ts number)
+unfolding AllNumbered
+numbered_without s [] number h = tt
+numbered_without s (t ∷ ts) number h = without_if s (t.number == number) t ts (without_ticket ts number) h.0 h.1 (numbered_without s ts number h.1)
+
+found_if : (s : Store) (b : Bool) (t found : Held) (o : Option Held) → (if b then Some t else o) ≡ Some found → IsNumbered (blob_at s t.blob) t.version → (o ≡ Some found → IsNumbered (blob_at s found.blob) found.version) →
+    IsNumbered (blob_at s found.blob) found.version
+found_if s true t found o e h k = let P : Held → Type 0 = λ x. IsNumbered (blob_at s x.blob) x.version in subst P (same_Some t found e) h
+found_if s false t found o e h k = k e
+
+numbered_held : (s : Store) (ts : List Held) (number : ℕ) (found : Held) → AllNumbered s ts → held_at ts number ≡ Some found → IsNumbered (blob_at s found.blob) found.version
+unfolding AllNumbered
+numbered_held s [] number found h e = absurd (none-some found e)
+numbered_held s (t ∷ ts) number found h e = found_if s (t.number == number) t found (held_at ts number) e h.0 (numbered_held s ts number found h.1)
+
+some_numbered : (o : Option Blob) (version : ℕ) → IsNumbered o version → (b : Blob) × (o ≡ Some b)
+some_numbered None version h = absurd h
+some_numbered (Some b) version h = (b, refl)
+
 -- ---- sessions
 
-record IsGood (s s' : Session) : Type 0 where
+-- what a session has seen is legal, and the versions that it holds were numbered there
+pub record IsGood (s : Session) : Type 0 where
+  sound : IsSound s.fixed.limits s.seen
+  held : AllNumbered (store_of s.fixed.limits s.seen) s.tickets
+
+-- from one session to a good one with the same bounds
+record GoesWell (s s' : Session) : Type 0 where
   fixed : s'.fixed ≡ s.fixed
-  sound : IsSound s.fixed.limits s'.seen
+  good : IsGood s'
 
-same_good : (s s' : Session) → IsSound s.fixed.limits s.seen → s' ≡ s → IsGood s s'
-same_good s s' sound e = let P : Session → Type 0 = λ t. IsGood s t in let made : IsGood s s = record { fixed = refl; sound = sound } in subst P (sym e) made
-
-seen_good : (s s' : Session) (more : List Event) → IsSound s.fixed.limits (s.seen ++ more) → s' ≡ (let t : Session = record { fixed = s.fixed; caller = s.caller; seen = s.seen ++ more; tickets = s.tickets; next = s.next } in t) → IsGood s s'
-seen_good s s' more sound e = record {
-  fixed = ap (λ (t : Session). t.fixed) e;
-  sound = sound_as s.fixed.limits (s.seen ++ more) s'.seen (sym (ap (λ (t : Session). t.seen) e)) sound;
-}
-
-create_good : (s s' : Session) (reply : Reply) → IsSound s.fixed.limits s.seen → CreateAnswer IsNobody s reply s' → IsGood s s'
-create_good s s' reply sound (CreateAnswer.refused a) = seen_good s s' a.others (sound_none _ s.seen a.others a.is_gap sound) a.seen
-create_good s s' reply sound (CreateAnswer.out_of_memory a) = seen_good s s' a.others (sound_none _ s.seen a.others a.is_gap sound) a.seen
-create_good s s' reply sound (CreateAnswer.created a) =
-    let here = sound_none s.fixed.limits s.seen a.others a.is_gap sound in
-    let e : Event = Events.Create s.caller in
-    seen_good s s' (a.others ++ e ∷ [])
-    (sound_as s.fixed.limits _ _ (append_assoc s.seen a.others (e ∷ [])) (sound_more s.fixed.limits (s.seen ++ a.others) e here (record { may = tt; accepted = ap is_refused a.done }) (create_even _ s.caller here.even))) a.seen
+goes_to : (s s' t : Session) → s' ≡ t → t.fixed ≡ s.fixed → IsGood t → GoesWell s s'
+goes_to s s' t e fixed good = let P : Session → Type 0 = λ x. GoesWell s x in let made : GoesWell s t = record { fixed = fixed; good = good } in subst P (sym e) made
 
 -- an update that the session doesn't refuse has a byte
 some_bytes : (s : Session) (bytes : List ℕ) → update_fault s bytes ≡ None → 1 ≤ length bytes
 some_bytes s [] h = absurd (none-some _ (sym h))
 some_bytes s (b ∷ bytes) h = omega arith
 
--- what the session has seen once it numbered an update, after what others did and before it
-module _ (s : Session) (blob : ℕ) (bytes : List ℕ) (others later : List Event) (alone : others ≡ []) (alone_later : later ≡ []) (version at size : ℕ)
-    (numbered : (answer (store_of s.fixed.limits (s.seen ++ others)) s.caller (Calls.Assign blob Append bytes)).1 ≡ Outcomes.Assigned version at size)
-    (some : 1 ≤ length bytes) (sound : IsSound s.fixed.limits s.seen) where
-  before : IsSound s.fixed.limits (s.seen ++ others)
-  before = sound_none s.fixed.limits s.seen others alone sound
+module _ (stay : OldVersionsStay) where
+  -- what was numbered stays numbered
+  numbered_stays : (limits : Bounds) (history more : List Event) (blob version : ℕ) → IsLegal limits (history ++ more) → IsNumbered (blob_at (store_of limits history) blob) version →
+      IsNumbered (blob_at (store_of limits (history ++ more)) blob) version
+  numbered_stays limits history more blob version legal h =
+      let was = some_numbered (blob_at (store_of limits history) blob) version h in
+      let there = stay limits history more legal blob was.0 was.1 in
+      let P : Option Blob → Type 0 = λ o. IsNumbered o version in
+      let before : IsNumbered (Some was.0) version = subst P was.1 h in
+      let now : IsNumbered (Some there.0) version = (before.0, omega (arith, before.1, ap (λ (us : List Update). length us) there.2.updates, length-append was.0.updates there.2.later)) in
+      subst P (sym there.1) now
 
-  update : Update
-  update = record { caller = s.caller; place = Append; bytes = bytes }
+  all_stay : (limits : Bounds) (history more : List Event) → IsLegal limits (history ++ more) → (ts : List Held) → AllNumbered (store_of limits history) ts → AllNumbered (store_of limits (history ++ more)) ts
+  unfolding AllNumbered
+  all_stay limits history more legal [] h = tt
+  all_stay limits history more legal (t ∷ ts) h = (numbered_stays limits history more t.blob t.version legal h.0, all_stay limits history more legal ts h.1)
 
-  is_numbering : IsNumbering (store_of s.fixed.limits (s.seen ++ others)) s.caller blob Append bytes version
-  is_numbering = numbering_at _ s.caller blob Append bytes version at size (blob_at (store_of s.fixed.limits (s.seen ++ others)) blob) refl numbered
+  module _ (s : Session) (good : IsGood s) where
+    sees_good : (more : List Event) → IsSound s.fixed.limits (s.seen ++ more) → IsGood (sees s more)
+    sees_good more sound = record { sound = sound; held = all_stay s.fixed.limits s.seen more sound.legal s.tickets good.held }
 
-  assigned_even : AllEven (answer (store_of s.fixed.limits (s.seen ++ others)) s.caller (Calls.Assign blob Append bytes)).0.blobs
-  assigned_even =
-      let P : Store → Type 0 = λ x. AllEven x.blobs in
-      let b : Blob = is_numbering.b in
-      subst P (sym is_numbering.store) (even_set (store_of s.fixed.limits (s.seen ++ others)).blobs (blob - 1) _ before.even (even_update b _ (even_at (store_of s.fixed.limits (s.seen ++ others)) blob b before.even is_numbering.here)))
+    sees_well : (s' : Session) (more : List Event) → IsSound s.fixed.limits (s.seen ++ more) → s' ≡ sees s more → GoesWell s s'
+    sees_well s' more sound e = goes_to s s' (sees s more) e refl (sees_good more sound)
 
-  sound_assigned : IsSound s.fixed.limits ((s.seen ++ others) ++ Events.Assign s.caller blob Append bytes ∷ [])
-  sound_assigned = sound_more s.fixed.limits (s.seen ++ others) (Events.Assign s.caller blob Append bytes) before (record { may = some; accepted = ap is_refused numbered }) assigned_even
+    none_well : (s' : Session) (others : List Event) → others ≡ [] → s' ≡ sees s others → GoesWell s s'
+    none_well s' others alone e = sees_well s' others (sound_none s.fixed.limits s.seen others alone good.sound) e
 
-  store_assigned : store_of s.fixed.limits ((s.seen ++ others) ++ Events.Assign s.caller blob Append bytes ∷ []) ≡ with_blob (store_of s.fixed.limits (s.seen ++ others)) blob (and_update is_numbering.b (record { caller = s.caller; place = Append; bytes = bytes }))
-  store_assigned = store_from-append _ (s.seen ++ others) (Events.Assign s.caller blob Append bytes ∷ []) ∙ is_numbering.store
+    same_well : (s' : Session) → s' ≡ s → GoesWell s s'
+    same_well s' e = goes_to s s' s e refl good
 
-  finishing_there : IsFinishing (store_of s.fixed.limits ((s.seen ++ others) ++ Events.Assign s.caller blob Append bytes ∷ [])) s.caller blob version
-  finishing_there =
-      let made = finishes_next (store_of s.fixed.limits (s.seen ++ others)) s.caller blob is_numbering.b (record { caller = s.caller; place = Append; bytes = bytes }) before.even is_numbering.here in
-      let P : ℕ → Type 0 = λ n. IsFinishing (with_blob (store_of s.fixed.limits (s.seen ++ others)) blob (and_update is_numbering.b (record { caller = s.caller; place = Append; bytes = bytes }))) s.caller blob n in
-      let Q : Store → Type 0 = λ x. IsFinishing x s.caller blob version in
-      subst Q (sym store_assigned) (subst P (sym is_numbering.next) made)
+    create_well : (s' : Session) (reply : Reply) → CreateAnswer IsNobody s reply s' → GoesWell s s'
+    create_well s' reply (CreateAnswer.created a) =
+        sees_well s' _ (sound_event s.fixed.limits s.seen a.others (Events.Create s.caller) a.is_gap good.sound (record { may = tt; accepted = ap is_refused a.done })) a.seen
+    create_well s' reply (CreateAnswer.refused a) = none_well s' a.others a.is_gap a.seen
+    create_well s' reply (CreateAnswer.out_of_memory a) = none_well s' a.others a.is_gap a.seen
 
-  sound_finished : IsSound s.fixed.limits (((s.seen ++ others) ++ Events.Assign s.caller blob Append bytes ∷ []) ++ Events.Finish s.caller blob version ∷ [])
-  sound_finished = sound_more s.fixed.limits _ (Events.Finish s.caller blob version) sound_assigned finishing_there.accepted finishing_there.even
+    branch_well : (s' : Session) (blob version : ℕ) (reply : Reply) → BranchAnswer IsNobody s blob version reply s' → GoesWell s s'
+    branch_well s' blob version reply (BranchAnswer.branched a) =
+        sees_well s' _ (sound_event s.fixed.limits s.seen a.others (Events.Branch s.caller blob version) a.is_gap good.sound (record { may = tt; accepted = ap is_refused a.done })) a.seen
+    branch_well s' blob version reply (BranchAnswer.refused a) = none_well s' a.others a.is_gap a.seen
+    branch_well s' blob version reply (BranchAnswer.out_of_memory a) = none_well s' a.others a.is_gap a.seen
 
-  -- as the cases of an answer write it
-  sound_updated : IsSound s.fixed.limits (s.seen ++ (others ++ Events.Assign s.caller blob Append bytes ∷ (later ++ (if finishes blob version later then [] else Events.Finish s.caller blob version ∷ []))))
-  sound_updated =
-      let P : List Event → Type 0 = λ es. IsSound s.fixed.limits (s.seen ++ (others ++ Events.Assign s.caller blob Append bytes ∷ (es ++ (if finishes blob version es then [] else Events.Finish s.caller blob version ∷ [])))) in
-      subst P (sym alone_later) (sound_as s.fixed.limits _ _ (append_assoc (s.seen ++ others) (Events.Assign s.caller blob Append bytes ∷ []) (Events.Finish s.caller blob version ∷ []) ∙ append_assoc s.seen others _) sound_finished)
+    -- what the session has seen once it numbered an update, after what others did and before it
+    module _ (blob : ℕ) (place : Place) (bytes : List ℕ) (others later : List Event) (alone : others ≡ []) (alone_later : later ≡ []) (version at size : ℕ)
+        (numbered : (answer (store_of s.fixed.limits (s.seen ++ others)) s.caller (Calls.Assign blob place bytes)).1 ≡ Outcomes.Assigned version at size)
+        (some : 1 ≤ length bytes) where
+      abbrev assigns : Event
+      assigns = Events.Assign s.caller blob place bytes
 
-  sound_kept : IsSound s.fixed.limits (s.seen ++ (others ++ Events.Assign s.caller blob Append bytes ∷ later))
-  sound_kept =
-      let P : List Event → Type 0 = λ es. IsSound s.fixed.limits (s.seen ++ (others ++ Events.Assign s.caller blob Append bytes ∷ es)) in
-      subst P (sym alone_later) (sound_as s.fixed.limits _ _ (append_assoc s.seen others _) sound_assigned)
+      before : IsSound s.fixed.limits (s.seen ++ others)
+      before = sound_none s.fixed.limits s.seen others alone good.sound
 
-update_good : (s s' : Session) (blob : ℕ) (bytes : List ℕ) (reply : Reply) (said : ℕ → ℕ → ℕ → Reply) → 1 ≤ length bytes → IsSound s.fixed.limits s.seen →
-    UpdateAnswer IsNobody s blob Append bytes (Updated IsNobody s blob Append bytes said reply s') reply s' → IsGood s s'
-update_good s s' blob bytes reply said some sound (UpdateAnswer.does a) = seen_good s s' _ (sound_updated s blob bytes a.others a.later a.is_gap a.is_gap_later a.version a.at a.size a.numbered some sound) a.seen
-update_good s s' blob bytes reply said some sound (UpdateAnswer.refused a) = seen_good s s' a.others (sound_none _ s.seen a.others a.is_gap sound) a.seen
-update_good s s' blob bytes reply said some sound (UpdateAnswer.out_of_memory a) = seen_good s s' a.others (sound_none _ s.seen a.others a.is_gap sound) a.seen
-update_good s s' blob bytes reply said some sound (UpdateAnswer.kept a) = record {
-  fixed = ap (λ (t : Session). t.fixed) a.seen;
-  sound = sound_as s.fixed.limits _ s'.seen (sym (ap (λ (t : Session). t.seen) a.seen)) (sound_kept s blob bytes a.others a.later a.is_gap a.is_gap_later a.version a.at a.size a.numbered some sound);
-}
-update_good s s' blob bytes reply said some sound (UpdateAnswer.not_stored a) = same_good s s' sound a.same
+      is_numbering : IsNumbering (store_of s.fixed.limits (s.seen ++ others)) s.caller blob place bytes version
+      is_numbering = numbering_at _ s.caller blob place bytes version at size (blob_at (store_of s.fixed.limits (s.seen ++ others)) blob) refl numbered
 
-read_good : (s s' : Session) (blob version offset count : ℕ) (reply : Reply) → IsSound s.fixed.limits s.seen → ReadAnswer IsNobody s blob version offset count reply s' → IsGood s s'
-read_good s s' blob version offset count reply sound (ReadAnswer.content a) = seen_good s s' a.others (sound_none _ s.seen a.others a.is_gap sound) a.seen
-read_good s s' blob version offset count reply sound (ReadAnswer.refused a) = seen_good s s' a.others (sound_none _ s.seen a.others a.is_gap sound) a.seen
-read_good s s' blob version offset count reply sound (ReadAnswer.out_of_memory a) = seen_good s s' a.others (sound_none _ s.seen a.others a.is_gap sound) a.seen
-read_good s s' blob version offset count reply sound (ReadAnswer.not_read a) = seen_good s s' a.others (sound_none _ s.seen a.others a.is_gap sound) a.seen
+      assigned_sound : IsSound s.fixed.limits ((s.seen ++ others) ++ assigns ∷ [])
+      assigned_sound = sound_more s.fixed.limits (s.seen ++ others) assigns before (record { may = some; accepted = ap is_refused numbered })
 
-unless_good : (s s' : Session) (reply : Reply) (A : Type 0) (fault fault' : Option Fault) → IsSound s.fixed.limits s.seen → fault' ≡ fault → (fault' ≡ None → A → IsGood s s') → Unless fault s reply s' A → IsGood s s'
-unless_good s s' reply A None fault' sound e f h = f e h
-unless_good s s' reply A (Some fault) fault' sound e f h = same_good s s' sound h.1
+      assigned_store : store_of s.fixed.limits ((s.seen ++ others) ++ assigns ∷ []) ≡ with_blob (store_of s.fixed.limits (s.seen ++ others)) blob (and_update is_numbering.b (record { caller = s.caller; place = place; bytes = bytes }))
+      assigned_store = store_from-append _ (s.seen ++ others) (assigns ∷ []) ∙ is_numbering.store
 
-request_good : (s s' : Session) (request : Request) (reply : Reply) → IsSound s.fixed.limits s.seen → Answers IsNobody s request reply s' → IsGood s s'
-request_good s s' Requests.Create reply sound a = create_good s s' reply sound a
-request_good s s' (Requests.Append blob bytes) reply sound a =
-    unless_good s s' reply _ (update_fault s bytes) (update_fault s bytes) sound refl (λ free h. update_good s s' blob bytes reply _ (some_bytes s bytes free) sound h) a
-request_good s s' (Requests.Read blob version offset count) reply sound a =
-    unless_good s s' reply _ (read_fault count) (read_fault count) sound refl (λ free h. read_good s s' blob version offset count reply sound h) a
-request_good s s' Requests.Quit reply sound a = same_good s s' sound a.1
+      latest : IsLatest (store_of s.fixed.limits ((s.seen ++ others) ++ assigns ∷ [])) s.caller blob version
+      latest =
+          let made = latest_next (store_of s.fixed.limits (s.seen ++ others)) s.caller blob is_numbering.b (record { caller = s.caller; place = place; bytes = bytes }) before.even is_numbering.here in
+          let P : ℕ → Type 0 = λ n. IsLatest (with_blob (store_of s.fixed.limits (s.seen ++ others)) blob (and_update is_numbering.b (record { caller = s.caller; place = place; bytes = bytes }))) s.caller blob n in
+          let Q : Store → Type 0 = λ x. IsLatest x s.caller blob version in
+          subst Q (sym assigned_store) (subst P (sym is_numbering.next) made)
 
-item_good : (s s' : Session) (item : Heard) (reply : Reply) → IsSound s.fixed.limits s.seen → ItemReply IsNobody s item reply s' → IsGood s s'
-item_good s s' (Asked request) reply sound a = request_good s s' request reply sound a
-item_good s s' (Wrong fault) reply sound a = same_good s s' sound a.1
+      finished_sound : IsSound s.fixed.limits (((s.seen ++ others) ++ assigns ∷ []) ++ Events.Finish s.caller blob version ∷ [])
+      finished_sound = sound_more s.fixed.limits _ (Events.Finish s.caller blob version) assigned_sound (record { may = latest.numbered; accepted = latest.accepted })
 
--- what a run has seen in the end is legal
-pub run_legal : (s last : Session) (items : List Heard) (replies : List Reply) → IsSound s.fixed.limits s.seen → Run IsNobody s items replies last → IsLegal s.fixed.limits last.seen
-run_legal s last [] [] sound run = let P : Session → Type 0 = λ t. IsLegal s.fixed.limits t.seen in subst P (sym run) sound.legal
-run_legal s last [] (reply ∷ replies) sound run = absurd run
-run_legal s last (item ∷ items) [] sound run = absurd run
-run_legal s last (item ∷ items) (reply ∷ replies) sound run =
-    let good = item_good s run.0 item reply sound run.1 in
-    let P : Fixed → Type 0 = λ f. IsSound f.limits run.0.seen in
-    let Q : Fixed → Type 0 = λ f. IsLegal f.limits last.seen in
-    subst Q good.fixed (run_legal run.0 last items replies (subst P (sym good.fixed) good.sound) run.2)
+      -- as the cases of an answer write it
+      updated_sound : IsSound s.fixed.limits (s.seen ++ (others ++ assigns ∷ (later ++ (if finishes blob version later then [] else Events.Finish s.caller blob version ∷ []))))
+      updated_sound =
+          let P : List Event → Type 0 = λ es. IsSound s.fixed.limits (s.seen ++ (others ++ assigns ∷ (es ++ (if finishes blob version es then [] else Events.Finish s.caller blob version ∷ [])))) in
+          subst P (sym alone_later) (sound_as s.fixed.limits _ _ (append_assoc (s.seen ++ others) (assigns ∷ []) (Events.Finish s.caller blob version ∷ []) ∙ append_assoc s.seen others _) finished_sound)
 
-pub first_sound : (fixed : Fixed) → IsSound fixed.limits []
-unfolding AllEven
-first_sound fixed = record { legal = tt; even = tt }
+      -- the version is held
+      kept_good : IsGood (holds (sees s (others ++ assigns ∷ later)) blob version)
+      kept_good =
+          let P : List Event → Type 0 = λ es. IsGood (holds (sees s (others ++ assigns ∷ es)) blob version) in
+          let seen : (s.seen ++ others) ++ assigns ∷ [] ≡ s.seen ++ (others ++ assigns ∷ []) = append_assoc s.seen others (assigns ∷ []) in
+          let sound : IsSound s.fixed.limits (s.seen ++ (others ++ assigns ∷ [])) = sound_as s.fixed.limits _ _ seen assigned_sound in
+          let Q : List Event → Type 0 = λ es. IsNumbered (blob_at (store_of s.fixed.limits es) blob) version in
+          let made : P [] = record {
+            sound = sound;
+            held = numbered_push (store_of s.fixed.limits (s.seen ++ (others ++ assigns ∷ []))) s.tickets (record { number = s.next; blob = blob; version = version }) (sees_good (others ++ assigns ∷ []) sound).held (subst Q seen latest.numbered);
+          } in
+          subst P (sym alone_later) made
+
+    updated_well : (s' : Session) (blob : ℕ) (place : Place) (bytes : List ℕ) (done : ℕ → ℕ → ℕ → Reply) (reply : Reply) → 1 ≤ length bytes → Updated IsNobody s blob place bytes done reply s' → GoesWell s s'
+    updated_well s' blob place bytes done reply some a =
+        sees_well s' _ (updated_sound blob place bytes a.others a.later a.is_gap a.is_gap_later a.version a.at a.size a.numbered some) a.seen
+
+    started_well : (s' : Session) (blob : ℕ) (place : Place) (bytes : List ℕ) (started : ℕ → ℕ → ℕ → ℕ → Reply) (reply : Reply) → 1 ≤ length bytes → Started IsNobody s blob place bytes started reply s' → GoesWell s s'
+    started_well s' blob place bytes started reply some a =
+        goes_to s s' _ a.seen refl (kept_good blob place bytes a.others [] a.is_gap refl a.version a.at a.size a.numbered some)
+
+    update_well : (s' : Session) (blob : ℕ) (place : Place) (bytes : List ℕ) (reply : Reply) (Does : Type 0) → 1 ≤ length bytes → (Does → GoesWell s s') →
+        UpdateAnswer IsNobody s blob place bytes Does reply s' → GoesWell s s'
+    update_well s' blob place bytes reply Does some f (UpdateAnswer.does a) = f a
+    update_well s' blob place bytes reply Does some f (UpdateAnswer.refused a) = none_well s' a.others a.is_gap a.seen
+    update_well s' blob place bytes reply Does some f (UpdateAnswer.out_of_memory a) = none_well s' a.others a.is_gap a.seen
+    update_well s' blob place bytes reply Does some f (UpdateAnswer.kept a) =
+        goes_to s s' _ a.seen refl (kept_good blob place bytes a.others a.later a.is_gap a.is_gap_later a.version a.at a.size a.numbered some)
+    update_well s' blob place bytes reply Does some f (UpdateAnswer.not_stored a) = same_well s' a.same
+
+    read_well : (s' : Session) (blob version offset count : ℕ) (reply : Reply) → ReadAnswer IsNobody s blob version offset count reply s' → GoesWell s s'
+    read_well s' blob version offset count reply (ReadAnswer.content a) = none_well s' a.others a.is_gap a.seen
+    read_well s' blob version offset count reply (ReadAnswer.refused a) = none_well s' a.others a.is_gap a.seen
+    read_well s' blob version offset count reply (ReadAnswer.out_of_memory a) = none_well s' a.others a.is_gap a.seen
+    read_well s' blob version offset count reply (ReadAnswer.not_read a) = none_well s' a.others a.is_gap a.seen
+
+    look_well : (s' : Session) (call : Call) (reply : Reply) → LookAnswer IsNobody s call reply s' → GoesWell s s'
+    look_well s' call reply a = none_well s' a.others a.is_gap a.seen
+
+    drops_well : (s' : Session) (more : List Event) (number : ℕ) → IsSound s.fixed.limits (s.seen ++ more) → s' ≡ drops (sees s more) number → GoesWell s s'
+    drops_well s' more number sound e =
+        goes_to s s' (drops (sees s more) number) e refl (record { sound = sound; held = numbered_without (store_of s.fixed.limits (s.seen ++ more)) s.tickets number (sees_good more sound).held })
+
+    finish_well : (s' : Session) (number : ℕ) (o : Option Held) (reply : Reply) → held_at s.tickets number ≡ o → FinishAnswer IsNobody s number o reply s' → GoesWell s s'
+    finish_well s' number None reply e a = same_well s' a.1
+    finish_well s' number (Some t) reply e (ReportAnswer.reported a) =
+        let none : s.seen ++ a.others ≡ s.seen = ap (λ (es : List Event). s.seen ++ es) a.is_gap ∙ append-nil s.seen in
+        let P : List Event → Type 0 = λ es. IsNumbered (blob_at (store_of s.fixed.limits es) t.blob) t.version in
+        let may : P (s.seen ++ a.others) = subst P (sym none) (numbered_held (store_of s.fixed.limits s.seen) s.tickets number t good.held e) in
+        drops_well s' _ t.number (sound_event s.fixed.limits s.seen a.others (Events.Finish s.caller t.blob t.version) a.is_gap good.sound (record { may = may; accepted = ap is_refused a.done })) a.seen
+    finish_well s' number (Some t) reply e (ReportAnswer.finished a) = drops_well s' a.others t.number (sound_none s.fixed.limits s.seen a.others a.is_gap good.sound) a.seen
+    finish_well s' number (Some t) reply e (ReportAnswer.out_of_memory a) = none_well s' a.others a.is_gap a.seen
+
+    unless_well : (s' : Session) (reply : Reply) (A : Type 0) (fault fault' : Option Fault) → fault' ≡ fault → (fault' ≡ None → A → GoesWell s s') → Unless fault s reply s' A → GoesWell s s'
+    unless_well s' reply A None fault' e f h = f e h
+    unless_well s' reply A (Some fault) fault' e f h = same_well s' h.1
+
+    request_well : (s' : Session) (request : Request) (reply : Reply) → Answers IsNobody s request reply s' → GoesWell s s'
+    request_well s' Requests.Create reply a = create_well s' reply a
+    request_well s' (Requests.Append blob bytes) reply a =
+        unless_well s' reply _ (update_fault s bytes) (update_fault s bytes) refl (λ free h. update_well s' blob Append bytes reply _ (some_bytes s bytes free) (updated_well s' blob Append bytes _ reply (some_bytes s bytes free)) h) a
+    request_well s' (Requests.Write blob offset bytes) reply a =
+        unless_well s' reply _ (update_fault s bytes) (update_fault s bytes) refl (λ free h. update_well s' blob (WriteAt offset) bytes reply _ (some_bytes s bytes free) (updated_well s' blob (WriteAt offset) bytes _ reply (some_bytes s bytes free)) h) a
+    request_well s' (Requests.StartAppend blob bytes) reply a =
+        unless_well s' reply _ (update_fault s bytes) (update_fault s bytes) refl (λ free h. update_well s' blob Append bytes reply _ (some_bytes s bytes free) (started_well s' blob Append bytes _ reply (some_bytes s bytes free)) h) a
+    request_well s' (Requests.StartWrite blob offset bytes) reply a =
+        unless_well s' reply _ (update_fault s bytes) (update_fault s bytes) refl (λ free h. update_well s' blob (WriteAt offset) bytes reply _ (some_bytes s bytes free) (started_well s' blob (WriteAt offset) bytes _ reply (some_bytes s bytes free)) h) a
+    request_well s' (Requests.Finish number) reply a = finish_well s' number (held_at s.tickets number) reply refl a
+    request_well s' (Requests.Read blob version offset count) reply a =
+        unless_well s' reply _ (read_fault count) (read_fault count) refl (λ free h. read_well s' blob version offset count reply h) a
+    request_well s' (Requests.Recent blob) reply a = look_well s' (Calls.Recent blob) reply a
+    request_well s' (Requests.Size blob version) reply a = look_well s' (Calls.Size blob version) reply a
+    request_well s' (Requests.Sync blob version) reply a = look_well s' (Calls.Sync blob version) reply a
+    request_well s' (Requests.Status blob) reply a = look_well s' (Calls.Status blob) reply a
+    request_well s' (Requests.Branch blob version) reply a = branch_well s' blob version reply a
+    request_well s' Requests.Quit reply a = same_well s' a.1
+
+    item_well : (s' : Session) (item : Heard) (reply : Reply) → ItemReply IsNobody s item reply s' → GoesWell s s'
+    item_well s' (Asked request) reply a = request_well s' request reply a
+    item_well s' (Wrong fault) reply a = same_well s' a.1
+
+  -- what a run has seen in the end is legal
+  pub run_legal : (s last : Session) (items : List Heard) (replies : List Reply) → IsGood s → Run IsNobody s items replies last → IsLegal s.fixed.limits last.seen
+  run_legal s last [] [] good run = let P : Session → Type 0 = λ t. IsLegal s.fixed.limits t.seen in subst P (sym run) good.sound.legal
+  run_legal s last [] (reply ∷ replies) good run = absurd run
+  run_legal s last (item ∷ items) [] good run = absurd run
+  run_legal s last (item ∷ items) (reply ∷ replies) good run =
+      let well = item_well s good run.0 item reply run.1 in
+      let Q : Fixed → Type 0 = λ f. IsLegal f.limits last.seen in
+      subst Q well.fixed (run_legal run.0 last items replies well.good run.2)
+
+pub first_good : (fixed : Fixed) → IsGood (record { fixed = fixed; caller = 1; seen = []; tickets = []; next = 1 })
+unfolding AllEven AllNumbered
+first_good fixed = record { sound = record { legal = tt; even = tt }; held = tt }

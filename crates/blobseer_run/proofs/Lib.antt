@@ -1,8 +1,6 @@
-mod Ids
-mod Blobs
-mod Kept
 mod Told
 mod Legal
 mod Scripts
 mod Words
+mod Quits
 mod Runs

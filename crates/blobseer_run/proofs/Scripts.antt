@@ -1,21 +1,16 @@
 -- What a script says before its last line, and what no script says.
 use Rattle.std.proofs.Common.{◌≡◌, ◌≢◌, ℕ, ◌-◌, ◌<◌, ◌≤◌, zero, suc, get_or, take, drop, take-append-drop, take-suc, drop-cons, arith, ◌==◌, Bool, true, false, cond, if◌then◌else◌, List, [], ◌∷◌, ◌++◌, length, refl, sym, ◌∙◌, ap}
-use Rattle.std.specs.Prelude.{Option, Some, None, ◌||◌, nat_lt, nat_le, ◌&&◌, codes}
+use Rattle.std.specs.Prelude.{Option, Some, None, nat_lt}
 use Rattle.std.specs.List.{All, slice_split, onto_first}
 use Rattle.std.specs.Option.{option_to_list}
-use Rattle.std.specs.Str.{bytes_eq}
 use Rattle.std.specs.Str.Lines.{strip_carriage_return}
 use Rattle.std.proofs.lemmas.List.Splits.{slice_split_none}
-use Rattle.request_form.specs.Answers.{max_update, max_read}
-use Rattle.request_form.specs.Stream.{Stream}
-use Rattle.request_form.specs.Transcript.{has_quit, is_last}
+use Rattle.request_form.specs.Stream.{Stream, IsWellHeard, AllWellHeard}
 use Rattle.request_form.specs.declared.form.Request.{Request}
-use Rattle.request_form.specs.declared.form.Request.TheVariants as Requests
 use Rattle.request_form.specs.declared.form.Heard.{Heard}
 use Rattle.request_form.specs.declared.form.Heard.TheVariants.{Wrong}
 use Rattle.request_form.specs.declared.form.Fault.TheVariants.{Malformed}
-use Rattle.script_text.specs.Fields.{number_of, bytes_of}
-use Rattle.script_text.specs.Requests.{create_of, append_with, append_of, read_with, read_of, request_of}
+use Rattle.script_text.specs.Requests.{request_of}
 use Rattle.script_text.specs.Lines.{max_line, fields_of, heard_as, spelled, item_of_text, item_of, with_item, stream_of, heard}
 
 -- ---- the parts of a script whose last line isn't ended, and of the same without it
@@ -95,97 +90,48 @@ not_cut (line ∷ next ∷ lines) = with_item-cut (item_of line) (stream_of (nex
 pub script_not_cut : (script : List ℕ) → (heard script).cut ≡ false
 script_not_cut script = not_cut (slice_split (λ b. b == 10) script)
 
--- ---- no line is a Quit yet
+-- ---- no wrong line is a fault of the outside
 
-IsNoQuit : Option Request → Type 0
-IsNoQuit o = is_last (heard_as o) ≡ false
+heard_well : (o : Option Request) → IsWellHeard (heard_as o)
+heard_well (Some request) = tt
+heard_well None = refl
+
+-- what an item may be says is well heard
+abbrev WellItem : Option Heard → Type 0
+WellItem o = AllWellHeard (option_to_list o)
 
 either : {A : Type 0} (b : Bool) (P : A → Type 0) (x y : A) → P x → P y → P (if b then x else y)
 either true P x y p q = p
 either false P x y p q = q
 
-create_no_quit : (fields : List (List ℕ)) → IsNoQuit (create_of fields)
-unfolding IsNoQuit
-create_no_quit [] = refl
-create_no_quit (field ∷ fields) = refl
+text_well : (text : List ℕ) → WellItem (item_of_text text)
+text_well [] = tt
+text_well (b ∷ bs) =
+    let long : IsWellHeard (Wrong Malformed) = refl in
+    let one : IsWellHeard (if nat_lt max_line (length (b ∷ bs)) then Wrong Malformed else spelled (b ∷ bs)) =
+    either (nat_lt max_line (length (b ∷ bs))) IsWellHeard (Wrong Malformed) (spelled (b ∷ bs)) long (heard_well (request_of (fields_of (b ∷ bs)))) in
+    either (b == 35) WellItem None (Some (if nat_lt max_line (length (b ∷ bs)) then Wrong Malformed else spelled (b ∷ bs))) tt (one, tt)
 
-append_with_no_quit : (blob : Option ℕ) (bytes : Option (List ℕ)) → IsNoQuit (append_with blob bytes)
-unfolding IsNoQuit
-append_with_no_quit (Some blob) (Some bytes) = either (nat_lt 0 (length bytes) && nat_le (length bytes) max_update) (λ (o : Option Request). is_last (heard_as o) ≡ false) (Some (Requests.Append blob bytes)) None refl refl
-append_with_no_quit (Some blob) None = refl
-append_with_no_quit None bytes = refl
+with_item-well : (o : Option Heard) (s : Stream) → WellItem o → AllWellHeard s.items → AllWellHeard (with_item o s).items
+with_item-well None s h k = k
+with_item-well (Some heard) s h k = (h.0, k)
 
-append_no_quit : (fields : List (List ℕ)) → IsNoQuit (append_of fields)
-unfolding IsNoQuit
-append_no_quit [] = refl
-append_no_quit (a ∷ []) = refl
-append_no_quit (a ∷ b ∷ []) = append_with_no_quit (number_of a) (bytes_of b)
-append_no_quit (a ∷ b ∷ c ∷ more) = refl
+lines_well : (lines : List (List ℕ)) → AllWellHeard (stream_of lines).items
+lines_well [] = tt
+lines_well (line ∷ []) = text_well (strip_carriage_return line)
+lines_well (line ∷ next ∷ lines) = with_item-well (item_of line) (stream_of (next ∷ lines)) (text_well (strip_carriage_return line)) (lines_well (next ∷ lines))
 
-read_with_no_quit : (blob version offset count : Option ℕ) → IsNoQuit (read_with blob version offset count)
-unfolding IsNoQuit
-read_with_no_quit (Some blob) (Some version) (Some offset) (Some count) = either (nat_le count max_read) (λ (o : Option Request). is_last (heard_as o) ≡ false) (Some (Requests.Read blob version offset count)) None refl refl
-read_with_no_quit (Some blob) (Some version) (Some offset) None = refl
-read_with_no_quit (Some blob) (Some version) None count = refl
-read_with_no_quit (Some blob) None offset count = refl
-read_with_no_quit None version offset count = refl
+pub script_well : (script : List ℕ) → AllWellHeard (heard script).items
+script_well script = lines_well (slice_split (λ b. b == 10) script)
 
-read_no_quit : (fields : List (List ℕ)) → IsNoQuit (read_of fields)
-unfolding IsNoQuit
-read_no_quit [] = refl
-read_no_quit (a ∷ []) = refl
-read_no_quit (a ∷ b ∷ []) = refl
-read_no_quit (a ∷ b ∷ c ∷ []) = refl
-read_no_quit (a ∷ b ∷ c ∷ d ∷ []) = read_with_no_quit (number_of a) (number_of b) (number_of c) (number_of d)
-read_no_quit (a ∷ b ∷ c ∷ d ∷ e ∷ more) = refl
+with_item-well_whole : (o : Option Heard) (s : Stream) → WellItem o → AllWellHeard s.whole → AllWellHeard (with_item o s).whole
+with_item-well_whole None s h k = k
+with_item-well_whole (Some heard) s h k = (h.0, k)
 
-request_no_quit : (fields : List (List ℕ)) → IsNoQuit (request_of fields)
-unfolding IsNoQuit
-request_no_quit [] = refl
-request_no_quit (command ∷ fields) =
-    let P : Option Request → Type 0 = λ o. is_last (heard_as o) ≡ false in
-    either (bytes_eq command (codes "create")) P (create_of fields) (if bytes_eq command (codes "append") then append_of fields else (if bytes_eq command (codes "read") then read_of fields else None)) (create_no_quit fields)
-    (either (bytes_eq command (codes "append")) P (append_of fields) (if bytes_eq command (codes "read") then read_of fields else None) (append_no_quit fields)
-    (either (bytes_eq command (codes "read")) P (read_of fields) None (read_no_quit fields) refl))
+whole_lines_well : (lines : List (List ℕ)) → AllWellHeard (stream_of lines).whole
+whole_lines_well [] = tt
+whole_lines_well (line ∷ []) = tt
+whole_lines_well (line ∷ next ∷ lines) = with_item-well_whole (item_of line) (stream_of (next ∷ lines)) (text_well (strip_carriage_return line)) (whole_lines_well (next ∷ lines))
 
--- no item of these is a Quit
-abbrev GoesOn : List Heard → Type 0
-GoesOn items = has_quit items ≡ false
-
-no_more : (a b : Bool) → (a || false) ≡ false → b ≡ false → (a || b) ≡ false
-no_more true b h k = h
-no_more false b h k = k
-
-with_item-items : (item : Option Heard) (s : Stream) → GoesOn (option_to_list item) → GoesOn s.items → GoesOn (with_item item s).items
-with_item-items None s h k = k
-with_item-items (Some heard) s h k = no_more (is_last heard) (has_quit s.items) h k
-
-with_item-wholes : (item : Option Heard) (s : Stream) → GoesOn (option_to_list item) → GoesOn s.whole → GoesOn (with_item item s).whole
-with_item-wholes None s h k = k
-with_item-wholes (Some heard) s h k = no_more (is_last heard) (has_quit s.whole) h k
-
-text_goes_on : (text : List ℕ) → GoesOn (option_to_list (item_of_text text))
-unfolding IsNoQuit
-text_goes_on [] = refl
-text_goes_on (b ∷ bs) =
-    let P : Heard → Type 0 = λ h. (is_last h || false) ≡ false in
-    let Q : Option Heard → Type 0 = λ o. GoesOn (option_to_list o) in
-    let long : P (Wrong Malformed) = refl in
-    let one : (is_last (spelled (b ∷ bs)) || false) ≡ false = ap (λ (t : Bool). t || false) (request_no_quit (fields_of (b ∷ bs))) in
-    either (b == 35) Q None (Some (if nat_lt max_line (length (b ∷ bs)) then Wrong Malformed else spelled (b ∷ bs))) refl (either (nat_lt max_line (length (b ∷ bs))) P (Wrong Malformed) (spelled (b ∷ bs)) long one)
-
-item_goes_on : (line : List ℕ) → GoesOn (option_to_list (item_of line))
-item_goes_on line = text_goes_on (strip_carriage_return line)
-
-lines_go_on : (lines : List (List ℕ)) → GoesOn (stream_of lines).items × GoesOn (stream_of lines).whole
-lines_go_on [] = (refl, refl)
-lines_go_on (line ∷ []) = (item_goes_on line, refl)
-lines_go_on (line ∷ next ∷ lines) =
-    let rest = lines_go_on (next ∷ lines) in
-    (with_item-items (item_of line) (stream_of (next ∷ lines)) (item_goes_on line) rest.0, with_item-wholes (item_of line) (stream_of (next ∷ lines)) (item_goes_on line) rest.1)
-
-pub script_goes_on : (script : List ℕ) → has_quit (heard script).items ≡ false
-script_goes_on script = (lines_go_on (slice_split (λ b. b == 10) script)).0
-
-pub whole_script_goes_on : (script : List ℕ) → has_quit (heard script).whole ≡ false
-whole_script_goes_on script = (lines_go_on (slice_split (λ b. b == 10) script)).1
+pub whole_script_well : (script : List ℕ) → AllWellHeard (heard script).whole
+whole_script_well script = whole_lines_well (slice_split (λ b. b == 10) script)

@@ -1,13 +1,23 @@
-//! Laws of transcripts.
+//! Laws of transcripts, and of the program's own doors.
 
 ghost use Rattle.blobseer_run.specs.Legal.{LegalAlone, AlwaysSays};
+ghost use Rattle.blobseer_run.specs.Run.{IsCalm};
 
+use blob_model::laws::old_versions_stay;
+use page_store::{Door, PlainDoor};
 use request_form::laws::transcripts_hold;
 
-/// The history of a transcript alone is legal, and each list of items has such a transcript.
+/// The history of a transcript alone is legal, and each list of items has such a transcript, in which the outside failed
+/// for no request.
 pub fn transcripts_are_legal()
     ensures legal { LegalAlone }
     ensures always { AlwaysSays }
 {
+    old_versions_stay();
     transcripts_hold();
 }
+
+/// The doors that lie in the process never fail, so that over them no reply of a run is a page fault.
+pub fn plain_doors_are_calm()
+    ensures { IsCalm ⟦<PlainDoor as Door>⟧.faults }
+{}

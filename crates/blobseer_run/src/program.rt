@@ -1,8 +1,8 @@
-ghost use Rattle.std.specs.Prelude.{◌≡◌, map};
+ghost use Rattle.std.specs.Prelude.{◌≡◌, ◌↔◌, map};
 ghost use Rattle.std.specs.Bool.{Decides};
 ghost use Rattle.std.specs.String.{string_bytes};
 ghost use Rattle.ports.specs.Counts.{RoseBy};
-ghost use Rattle.blobseer_run.specs.Run.{Ran, IsCommand};
+ghost use Rattle.blobseer_run.specs.Run.{Ran, IsCalm, IsCommand};
 ghost use Rattle.blobseer_run.specs.Status.{code_of, Tells};
 
 use crate::answer::answer_script;
@@ -10,6 +10,7 @@ use crate::laws::transcripts_are_legal;
 use crate::lines::keep_whole_lines;
 use crate::status::Status;
 use crate::take::{TakeFault, take_all};
+use page_store::DoorMaker;
 use ports::stream::{Sink, Source};
 use std::alloc::Global;
 use std::sync::Wait;
@@ -30,65 +31,74 @@ fn is_command(words: &[String]) -> bool
 
 // Takes the whole script, and answers it. What was taken before a fault, or before the limit, is
 // answered as far as its lines are whole.
-fn run_script<R: Wait + Threads + Sync, S: Source, K: Sink>(
+fn run_script<R: Wait + Threads + Sync, S: Source, K: Sink, M: DoorMaker>(
     rt: &R,
     alloc: Global,
     script: &mut S,
     out: &mut K,
+    doors: &mut M,
 ) -> Status
-    ensures ran { Ran (Unit {0}) (S.given script.old) (S.left script.old) (S.given script.new) (S.left script.new)
+    requires true_doors { M.is_true doors.old }
+    ensures ran { Ran (Unit {0}) (IsCalm M.Door.faults) (S.given script.old) (S.left script.old) (S.given script.new) (S.left script.new)
         (K.written out.old) (K.written out.new)
-        (record { reads = S.read_faults script.old; ends = S.ends script.old; writes = K.write_faults out.old })
-        (record { reads = S.read_faults script.new; ends = S.ends script.new; writes = K.write_faults out.new })
+        (record { reads = S.read_faults script.old; ends = S.ends script.old; writes = K.write_faults out.old; doors = M.faults doors.old })
+        (record { reads = S.read_faults script.new; ends = S.ends script.new; writes = K.write_faults out.new; doors = M.faults doors.new })
         (code_of result) }
     ensures read_faults { RoseBy 0 (S.read_faults script.old) (S.read_faults script.new) }
     ensures write_faults { RoseBy 0 (K.write_faults out.old) (K.write_faults out.new) }
+    ensures truth_stays { M.is_true doors.old ↔ M.is_true doors.new }
 {
     // A law: where there is no memory, nothing was written, and that is the beginning of a transcript.
     transcripts_are_legal();
     match take_all(alloc, script, INPUT_LIMIT) {
-        Ok(bytes) => answer_script(rt, alloc, bytes.into_vec(), out).status_or(Status::Done),
+        Ok(bytes) => answer_script(rt, alloc, bytes.into_vec(), out, doors).status_or(Status::Done),
         Err(TakeFault::Failed(bytes)) => {
             let mut lines = bytes.into_vec();
             keep_whole_lines(&mut lines);
-            answer_script(rt, alloc, lines, out).status_or(Status::ReadFault)
+            answer_script(rt, alloc, lines, out, doors).status_or(Status::ReadFault)
         }
         Err(TakeFault::TooLong(bytes)) => {
             let mut lines = bytes.into_vec();
             keep_whole_lines(&mut lines);
-            answer_script(rt, alloc, lines, out).status_or(Status::InputTooLong)
+            answer_script(rt, alloc, lines, out, doors).status_or(Status::InputTooLong)
         }
         Err(TakeFault::NoMemory) => Status::OutOfMemory,
     }
 }
 
-/// Does what the program does: with the one word `run` it reads a script to its end, answers it by one
-/// session of a new store, and writes the replies. It answers the number that the process ends with.
+/// Does what the program does: with the one word `run` it reads a script to its end, answers it by the one session of a
+/// new store, up to a line that asks to end, and writes the replies. It answers the number that the process ends with.
 ///
 /// | number | when |
 /// |---|---|
-/// | 0 | the input was read to its end and answered |
+/// | 0 | the input was read to its end, or holds a whole request to end, and was answered up to there |
 /// | 1 | the words aren't the one word `run` |
 /// | 3 | a read of `script` failed; the lines before it that were ended are answered |
 /// | 4 | a write on `out` failed |
 /// | 5 | no memory was found |
 /// | 7 | 4,294,967,296 bytes were taken; the lines in them that were ended are answered |
 ///
-/// Each but 0 writes its line on `err`, where a fault changes nothing.
-pub fn run<R: Wait + Threads + Sync, S: Source, K: Sink, E: Sink>(
+/// Each but 0 writes its line on `err`, where a fault changes nothing. The store's pages go through doors of the maker
+/// `doors`, which gives back what was put; it has them back when `run` answers. A page that no door took, or gave, is a
+/// reply, and changes no status.
+pub fn run<R: Wait + Threads + Sync, S: Source, K: Sink, E: Sink, M: DoorMaker>(
     rt: &R,
     alloc: Global,
     words: &[String],
     script: &mut S,
     out: &mut K,
     err: &mut E,
+    doors: &mut M,
 ) -> u8
+    // The doors give back the bytes that were put.
+    requires true_doors { M.is_true doors.old }
+
     // What it took and wrote, and how it ended.
-    ensures ran { Ran (IsCommand (map string_bytes words.now))
+    ensures ran { Ran (IsCommand (map string_bytes words.now)) (IsCalm M.Door.faults)
         (S.given script.old) (S.left script.old) (S.given script.new) (S.left script.new)
         (K.written out.old) (K.written out.new)
-        (record { reads = S.read_faults script.old; ends = S.ends script.old; writes = K.write_faults out.old })
-        (record { reads = S.read_faults script.new; ends = S.ends script.new; writes = K.write_faults out.new })
+        (record { reads = S.read_faults script.old; ends = S.ends script.old; writes = K.write_faults out.old; doors = M.faults doors.old })
+        (record { reads = S.read_faults script.new; ends = S.ends script.new; writes = K.write_faults out.new; doors = M.faults doors.new })
         result }
 
     // What it put on the error output.
@@ -98,10 +108,13 @@ pub fn run<R: Wait + Threads + Sync, S: Source, K: Sink, E: Sink>(
     ensures read_faults { RoseBy 0 (S.read_faults script.old) (S.read_faults script.new) }
     ensures write_faults { RoseBy 0 (K.write_faults out.old) (K.write_faults out.new) }
     ensures error_faults { RoseBy 0 (E.write_faults err.old) (E.write_faults err.new) }
+
+    // Its doors stay true.
+    ensures truth_stays { M.is_true doors.old ↔ M.is_true doors.new }
 {
     if !is_command(words) {
         return Status::WordsRefused.end(err);
     }
-    let status = run_script(rt, alloc, script, out);
+    let status = run_script(rt, alloc, script, out, doors);
     status.end(err)
 }

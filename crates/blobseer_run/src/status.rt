@@ -7,7 +7,7 @@ use ports::stream::Sink;
 /// How a run ended.
 #[derive(Clone, Copy, Debug, PartialEq, Eq)]
 pub(crate) enum Status {
-    /// The input was read to its end, and answered.
+    /// The input was answered to its end, or up to a request to end.
     Done,
     /// The words aren't those of a command.
     WordsRefused,

@@ -41,6 +41,7 @@ impl<D: Door> Doors<D> {
         ensures fresh { IfOk result (λ doors. All (λ door. D.faults door ≡ 0) doors) }
         ensures true_doors { M.is_true maker.old → IfOk result (λ doors. All D.is_true doors) }
         ensures count_stays { OnOk result (M.faults maker.new ≡ M.faults maker.old) }
+        ensures never_falls { min (M.faults maker.old) (2 ^ 64 - 1) ≤ M.faults maker.new }
         ensures truth_stays { M.is_true maker.old ↔ M.is_true maker.new }
     {
         let mut doors = Vec::with_capacity(alloc, providers as usize)?;

@@ -23,8 +23,9 @@ pub enum GetAnswer {
     Failed,
 }
 
-/// One session's way to one provider. Its count of faults belongs to that session.
-pub trait Door: Send {
+/// One session's way to one provider. Its count of faults belongs to that session. A door that is to go to another thread is
+/// asked to be `Send` where threads are started.
+pub trait Door {
     ghost use Rattle.std.specs.Prelude.{◌≡◌, ℕ, ◌+◌, ◌≤◌, ◌↔◌, length, slice_range};
     ghost use Rattle.page_store.specs.Page.{IsIn};
     ghost use Rattle.page_store.specs.Count.{HasRisen};

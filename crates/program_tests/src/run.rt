@@ -2,8 +2,9 @@ ghost use Rattle.std.specs.Prelude.{◌≡◌, ◌<◌, ◌≤◌, length};
 
 use blob_model::Bytes;
 use blobseer_run::{TakeFault, run, take_all};
+use page_store::{DoorMaker, FlakyMaker, PlainMaker};
 use ports::memory::{MemSink, MemSource};
-use std::alloc::Global;
+use std::alloc::{AllocError, Global};
 use std::sync::Wait;
 use std::test::Fail;
 use std::thread::Threads;
@@ -18,7 +19,7 @@ const FIRST: &str = "create\nappend 1 616263646566\nread 1 1 0 6\n";
 const FIRST_REPLIES: &str = "blob 1\nversion 1 at 0 size 6\ndata 616263646566\n";
 
 // Scripts and their replies.
-const ROWS: [(&str, &str); 12] = [
+const ROWS: [(&str, &str); 21] = [
     ("", ""),
     (FIRST, FIRST_REPLIES),
     (
@@ -35,16 +36,12 @@ const ROWS: [(&str, &str); 12] = [
     ),
     ("read 1 0 0 0\n", "error no-blob 1\n"),
     (
-        "create\nappend 1 616263646566\nread 1 1 0 7\nread 1 1 18446744073709551615 1\nread 1 1 6 0\nread 1 1 7 0\n",
-        "blob 1\nversion 1 at 0 size 6\nerror range-past-size 7 6\nerror range-past-size 18446744073709551616 6\ndata -\nerror range-past-size 7 6\n",
+        "create\nappend 1 616263646566\nread 1 1 0 7\nread 1 1 18446744073709551615 1\nread 1 1 6 0\nread 1 1 7 0\nread 1 1 0 16777217\n",
+        "blob 1\nversion 1 at 0 size 6\nerror range-past-size 7 6\nerror range-past-size 18446744073709551616 6\ndata -\nerror range-past-size 7 6\nerror read-too-long 16777217\n",
     ),
     (
-        "create\nappend 1 -\nquit\nwrite 1 0 ff\nappend 1 aa\n",
-        "blob 1\nerror malformed\nerror malformed\nerror malformed\nversion 1 at 0 size 1\n",
-    ),
-    (
-        "create\nappend 1 abc\nCreate\nappend 1 FF\nread 1 01 0 1\n# note\n\nread 1 1 0 1\n",
-        "blob 1\nerror malformed\nerror malformed\nversion 1 at 0 size 1\nerror malformed\ndata ff\n",
+        "create\nappend 1 abc\nappend 1 -\nCreate\nappend 1 FF\nread 1 01 0 1\n# note\n\nread 1 1 0 1\nquit\ncreate\n",
+        "blob 1\nerror malformed\nerror empty-update\nerror malformed\nversion 1 at 0 size 1\nerror malformed\ndata ff\nbye\n",
     ),
     ("create\r\nappend 1 aa\r", "blob 1\nversion 1 at 0 size 1\n"),
     (
@@ -54,6 +51,46 @@ const ROWS: [(&str, &str); 12] = [
     (
         "create\ncreate\nappend 2 62\nappend 1 61\nappend 2 63\nread 1 1 0 1\nread 2 2 0 2\n",
         "blob 1\nblob 2\nversion 1 at 0 size 1\nversion 1 at 0 size 1\nversion 2 at 1 size 2\ndata 61\ndata 6263\n",
+    ),
+    (
+        "create\nstart-append 1 aa\nstart-append 1 bb\nfinish 2\nstatus 1\nread 1 2 0 2\nfinish 1\nread 1 2 0 2\n",
+        "blob 1\nticket 1 version 1 at 0 size 1\nticket 2 version 2 at 1 size 2\npublished 0\nstatus assigned 2 published 0 held 1\nerror not-published 2 0\npublished 2\ndata aabb\n",
+    ),
+    (
+        "create\nappend 1 616263646566\nwrite 1 7 ff\nwrite 1 6 ff\nwrite 1 8 ff\n",
+        "blob 1\nversion 1 at 0 size 6\nerror offset-past-size 7 6\nversion 2 at 6 size 7\nerror offset-past-size 8 7\n",
+    ),
+    (
+        "create\nread 1 0 0 0\nsize 1 0\nrecent 1\nstatus 1\n",
+        "blob 1\ndata -\nsize 0\nrecent 0 size 0\nstatus assigned 0 published 0 held 0\n",
+    ),
+    (
+        "create\nstart-append 1 00\nstart-append 1 0102030405060708090a0b0c0d0e0f101112131415161718191a1b1c1d1e1f\nfinish 2\nfinish 1\nread 1 2 0 32\n",
+        "blob 1\nticket 1 version 1 at 0 size 1\nticket 2 version 2 at 1 size 32\npublished 0\npublished 2\ndata 000102030405060708090a0b0c0d0e0f101112131415161718191a1b1c1d1e1f\n",
+    ),
+    (
+        "create\nappend 1 61626364\nwrite 1 0 ff\nwrite 1 1 fe\nread 1 3 0 4\n",
+        "blob 1\nversion 1 at 0 size 4\nversion 2 at 0 size 4\nversion 3 at 1 size 4\ndata fffe6364\n",
+    ),
+    (
+        "create\nappend 1 616263646566\nwrite 1 3 ffff\nread 1 2 0 6\nread 1 1 0 6\n",
+        "blob 1\nversion 1 at 0 size 6\nversion 2 at 3 size 6\ndata 616263ffff66\ndata 616263646566\n",
+    ),
+    (
+        "create\nstart-append 1 aa\nstart-append 1 bb\nfinish 2\nsync 1 2\nsync 1 3\nfinish 1\nsync 1 2\nfinish 1\n",
+        "blob 1\nticket 1 version 1 at 0 size 1\nticket 2 version 2 at 1 size 2\npublished 0\nerror pending 2 held 1\nerror not-published 3 0\npublished 2\nsynced 2\nerror no-ticket 1\n",
+    ),
+    (
+        "create\nappend 1 616263646566\nappend 1 5859\nbranch 1 1\nappend 2 5a\nread 1 2 0 8\nread 2 2 0 7\n",
+        "blob 1\nversion 1 at 0 size 6\nversion 2 at 6 size 8\nblob 2\nversion 2 at 6 size 7\ndata 6162636465665859\ndata 6162636465665a\n",
+    ),
+    (
+        "create\nappend 1 616263646566\nstart-append 1 5859\nbranch 1 2\nbranch 9 0\n",
+        "blob 1\nversion 1 at 0 size 6\nticket 1 version 2 at 6 size 8\nerror not-published 2 1\nerror no-blob 9\n",
+    ),
+    (
+        "create\nappend 1 aa\nbranch 1 1\nbranch 2 0\nwrite 2 0 bb\nappend 3 cc\nread 2 2 0 1\nread 3 1 0 1\nread 1 1 0 1\nstatus 3\n",
+        "blob 1\nversion 1 at 0 size 1\nblob 2\nblob 3\nversion 2 at 0 size 1\nversion 1 at 0 size 1\ndata bb\ndata cc\ndata aa\nstatus assigned 1 published 1 held 0\n",
     ),
 ];
 
@@ -65,18 +102,22 @@ struct Ran {
     status: u8,
 }
 
-// A run with these words, over an input in pieces whose calls fail as told, and an output that takes so many bytes.
-fn run_words<R: Wait + Threads + Sync>(
+// A run with these words, over an input in pieces whose calls fail as told, an output that takes so many bytes, and
+// doors of that maker.
+fn run_words<R: Wait + Threads + Sync, M: DoorMaker>(
     rt: &R,
     alloc: Global,
     words: &[String],
     source: MemSource,
     room: usize,
-) -> Result<Ran, Fail> {
+    doors: &mut M,
+) -> Result<Ran, Fail>
+    requires { M.is_true doors.old }
+{
     let mut source = source;
     let mut out = MemSink::new(alloc, room)?;
     let mut err = MemSink::new(alloc, ROOM)?;
-    let status = run(rt, alloc, words, &mut source, &mut out, &mut err);
+    let status = run(rt, alloc, words, &mut source, &mut out, &mut err, doors);
     Ok(Ran {
         out: out.bytes().to_vec(alloc)?,
         err: err.bytes().to_vec(alloc)?,
@@ -94,15 +135,28 @@ fn memory_of(
     Ok(MemSource::new(bytes, piece.max(1), failing))
 }
 
+// The one word of the command.
+fn run_word(alloc: Global) -> Result<Vec<String>, Fail> {
+    let mut words = Vec::new(alloc);
+    words.push(String::from_str(alloc, "run")?)?;
+    Ok(words)
+}
+
 fn run_script<R: Wait + Threads + Sync>(
     rt: &R,
     alloc: Global,
     source: MemSource,
     room: usize,
 ) -> Result<Ran, Fail> {
-    let mut words = Vec::new(alloc);
-    words.push(String::from_str(alloc, "run")?)?;
-    run_words(rt, alloc, words.as_slice(), source, room)
+    let words = run_word(alloc)?;
+    run_words(
+        rt,
+        alloc,
+        words.as_slice(),
+        source,
+        room,
+        &mut PlainMaker::new(),
+    )
 }
 
 #[test]
@@ -180,6 +234,80 @@ fn a_write_fault_while_lines_before_a_read_fault_are_answered(rt: HostRuntime) -
 }
 
 #[test]
+fn nothing_behind_a_quit_is_answered(rt: HostRuntime) -> Result<(), Fail> {
+    // A script, whether a fault follows it, its replies and the status.
+    let cases = [
+        ("create\nquit\ncreate\n", false, "blob 1\nbye\n", 0),
+        ("create\nquit\ncreate", true, "blob 1\nbye\n", 0),
+        ("create\nquit", false, "blob 1\nbye\n", 0),
+        ("create\nquit", true, "blob 1\n", 3),
+        ("quit\nquit\n", true, "bye\n", 0),
+    ];
+    for (script, fails, replies, status) in cases {
+        let failing = vec![in rt.alloc(); false, fails]?;
+        let source = memory_of(rt.alloc(), script, 64, failing)?;
+        let ran = run_script(&rt, rt.alloc(), source, ROOM)?;
+        assert_eq!(rt; ran.out.as_slice(), replies.as_bytes(), "{script}");
+        assert_eq!(rt; ran.status, status, "{script}");
+    }
+    Ok(())
+}
+
+// A script that appends so many bytes, all of them 5a, and then more lines.
+fn long_append(alloc: Global, count: usize, more: &str) -> Result<String, AllocError> {
+    let mut script = String::from_str(alloc, "create\nappend 1 ")?;
+    for _ in 0..count {
+        script.push_str("5a")?;
+    }
+    script.push_str("\n")?;
+    script.push_str(more)?;
+    Ok(script)
+}
+
+#[test]
+fn an_update_has_at_most_a_mebibyte(rt: HostRuntime) -> Result<(), Fail> {
+    let mut want = String::from_str(rt.alloc(), "blob 1\nversion 1 at 0 size 1048576\ndata ")?;
+    for _ in 0..1_048_576u32 {
+        want.push_str("5a")?;
+    }
+    want.push_str("\n")?;
+    let script = long_append(rt.alloc(), 1_048_576, "read 1 1 0 1048576\n")?;
+    let source = memory_of(rt.alloc(), script.as_str(), 65_536, Vec::new(rt.alloc()))?;
+    let ran = run_script(&rt, rt.alloc(), source, 4_194_304)?;
+    assert!(rt; ran.out.as_slice() == want.as_bytes());
+    assert_eq!(rt; ran.status, 0);
+
+    let script = long_append(rt.alloc(), 1_048_577, "status 1\n")?;
+    let source = memory_of(rt.alloc(), script.as_str(), 65_536, Vec::new(rt.alloc()))?;
+    let ran = run_script(&rt, rt.alloc(), source, ROOM)?;
+    let refused = "blob 1\nerror update-too-long 1048577\nstatus assigned 0 published 0 held 0\n";
+    assert_eq!(rt; ran.out.as_slice(), refused.as_bytes());
+    assert_eq!(rt; ran.status, 0);
+    Ok(())
+}
+
+#[test]
+fn an_update_that_no_door_takes_is_a_reply_and_numbers_nothing(
+    rt: HostRuntime,
+) -> Result<(), Fail> {
+    let mut lists = Vec::new(rt.alloc());
+    for _ in 0..4 {
+        lists.push(vec![in rt.alloc(); 1u64, 2, 3]?)?;
+    }
+    let mut doors = FlakyMaker::new(rt.alloc(), lists);
+    let script = "create\nappend 1 61\nstatus 1\n";
+    let replies = "blob 1\nerror page-fault 0\nstatus assigned 0 published 0 held 0\n";
+    let words = run_word(rt.alloc())?;
+    let source = memory_of(rt.alloc(), script, 64, Vec::new(rt.alloc()))?;
+    let ran = run_words(&rt, rt.alloc(), words.as_slice(), source, ROOM, &mut doors)?;
+    assert_eq!(rt; ran.out.as_slice(), replies.as_bytes());
+    assert_eq!(rt; ran.status, 0);
+    assert_eq!(rt; ran.err.len(), 0);
+    assert_eq!(rt; doors.faults(), 2, "a door for each of two replicas");
+    Ok(())
+}
+
+#[test]
 fn other_words_are_refused(rt: HostRuntime) -> Result<(), Fail> {
     for texts in [
         ["serve", ""],
@@ -195,7 +323,8 @@ fn other_words_are_refused(rt: HostRuntime) -> Result<(), Fail> {
             }
         }
         let source = memory_of(rt.alloc(), FIRST, 7, Vec::new(rt.alloc()))?;
-        let ran = run_words(&rt, rt.alloc(), words.as_slice(), source, ROOM)?;
+        let mut doors = PlainMaker::new();
+        let ran = run_words(&rt, rt.alloc(), words.as_slice(), source, ROOM, &mut doors)?;
         assert_eq!(rt; ran.out.len(), 0);
         assert_eq!(rt; ran.err.as_slice(), b"blobseer: words refused\n".as_slice());
         assert_eq!(rt; ran.status, 1);

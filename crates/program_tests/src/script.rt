@@ -12,27 +12,58 @@ use std::test::Fail;
 
 const PIECES: [usize; 4] = [1, 2, 7, 65_536];
 
+// A request, as a line would spell it.
+fn spelled(alloc: Global, request: &Request) -> Result<String, AllocError> {
+    match request {
+        Request::Create => String::from_str(alloc, "create"),
+        Request::Append { blob, bytes } => {
+            let digits = hex::encode(alloc, bytes.as_slice())?;
+            format!(in alloc; "append {blob} {digits}")
+        }
+        Request::Write {
+            blob,
+            offset,
+            bytes,
+        } => {
+            let digits = hex::encode(alloc, bytes.as_slice())?;
+            format!(in alloc; "write {blob} {offset} {digits}")
+        }
+        Request::StartAppend { blob, bytes } => {
+            let digits = hex::encode(alloc, bytes.as_slice())?;
+            format!(in alloc; "start-append {blob} {digits}")
+        }
+        Request::StartWrite {
+            blob,
+            offset,
+            bytes,
+        } => {
+            let digits = hex::encode(alloc, bytes.as_slice())?;
+            format!(in alloc; "start-write {blob} {offset} {digits}")
+        }
+        Request::Finish { ticket } => format!(in alloc; "finish {ticket}"),
+        Request::Read {
+            blob,
+            version,
+            offset,
+            length,
+        } => { format!(in alloc; "read {blob} {version} {offset} {length}") }
+        Request::Recent { blob } => format!(in alloc; "recent {blob}"),
+        Request::Size { blob, version } => format!(in alloc; "size {blob} {version}"),
+        Request::Sync { blob, version } => format!(in alloc; "sync {blob} {version}"),
+        Request::Status { blob } => format!(in alloc; "status {blob}"),
+        Request::Branch { blob, version } => format!(in alloc; "branch {blob} {version}"),
+        Request::Quit => String::from_str(alloc, "quit"),
+    }
+}
+
 // What was heard, as a line would spell it, and a semicolon.
 fn tell(alloc: Global, told: &mut String, heard: &Heard) -> Result<(), AllocError> {
     match heard {
-        Heard::Asked(Request::Create) => told.push_str("create;"),
-        Heard::Asked(Request::Append { blob, bytes }) => {
-            let digits = hex::encode(alloc, bytes.as_slice())?;
-            let line = format!(in alloc; "append {blob} {digits};")?;
-            told.push_str(line.as_str())
+        Heard::Asked(request) => {
+            let line = spelled(alloc, request)?;
+            told.push_str(line.as_str())?;
+            told.push_str(";")
         }
-        Heard::Asked(
-            Request::Read {
-                blob,
-                version,
-                offset,
-                length,
-            },
-        ) => {
-            let line = format!(in alloc; "read {blob} {version} {offset} {length};")?;
-            told.push_str(line.as_str())
-        }
-        Heard::Asked(Request::Quit) => told.push_str("quit;"),
         Heard::Wrong(Fault::Malformed) => told.push_str("malformed;"),
         Heard::Wrong(_) => told.push_str("another fault;"),
     }
@@ -73,7 +104,7 @@ fn heard_in_pieces(alloc: Global, script: &[u8], piece: usize) -> Result<String,
 }
 
 // A script and what it says.
-const SCRIPTS: [(&str, &str); 12] = [
+const SCRIPTS: [(&str, &str); 16] = [
     ("", ""),
     (
         "create\nappend 1 616263646566\nread 1 1 0 6\n",
@@ -98,7 +129,7 @@ const SCRIPTS: [(&str, &str); 12] = [
     ),
     (
         "create\nappend 1 -\nquit\nwrite 1 0 ff\nappend 1 aa\n",
-        "create;malformed;malformed;malformed;append 1 aa;",
+        "create;append 1 ;quit;write 1 0 ff;append 1 aa;",
     ),
     (
         "create\nappend 1 abc\nCreate\nappend 1 FF\nread 1 01 0 1\n# note\n\nread 1 1 0 1\n",
@@ -110,6 +141,22 @@ const SCRIPTS: [(&str, &str); 12] = [
         "malformed;malformed;malformed;",
     ),
     ("# only a comment, which no line feed ends", ""),
+    (
+        "start-append 1 aa\nstart-write 1 2 bbcc\nfinish 1\nsync 1 2\nstatus 1\nrecent 1\nsize 1 2\nbranch 1 2\n",
+        "start-append 1 aa;start-write 1 2 bbcc;finish 1;sync 1 2;status 1;recent 1;size 1 2;branch 1 2;",
+    ),
+    (
+        "read 1 1 0 16777217\nstart-append 1 -\nwrite 1 0 -\n",
+        "read 1 1 0 16777217;start-append 1 ;write 1 0 ;",
+    ),
+    (
+        "quit 1\nfinish\nfinish 1 2\nstart-append 1\nstatus\nbranch 1\nsize 1 -\nrecent 18446744073709551616\n",
+        "malformed;malformed;malformed;malformed;malformed;malformed;malformed;malformed;",
+    ),
+    (
+        "Quit\nstart_append 1 aa\nbranch 01 1\nbranch 18446744073709551615 0\n",
+        "malformed;malformed;malformed;branch 18446744073709551615 0;",
+    ),
 ];
 
 #[test]
@@ -157,28 +204,57 @@ fn replies_are_written_as_lines(rt: HostRuntime) -> Result<(), Fail> {
     let alloc = rt.alloc();
     let bytes = Bytes::of(b"\x00abz\xff".to_vec(alloc)?);
     let none = Bytes::of(Vec::new(alloc));
-    let appended = Reply::Appended {
-        version: 2,
-        at: 6,
-        size: 18_446_744_073_709_551_615,
-    };
-    assert_eq!(rt;
-        said(alloc, Reply::Created { blob: 1 })?.as_slice(),
-        b"blob 1\n".as_slice()
-    );
-    assert_eq!(rt;
-        said(alloc, appended)?.as_slice(),
-        b"version 2 at 6 size 18446744073709551615\n".as_slice()
-    );
-    assert_eq!(rt;
-        said(alloc, Reply::Content { bytes })?.as_slice(),
-        b"data 0061627aff\n".as_slice()
-    );
-    assert_eq!(rt;
-        said(alloc, Reply::Content { bytes: none })?.as_slice(),
-        b"data -\n".as_slice()
-    );
-    assert_eq!(rt; said(alloc, Reply::Bye)?.as_slice(), b"bye\n".as_slice());
+    let size = 18_446_744_073_709_551_615;
+    let (version, at, ticket) = (2, 6, 3);
+    let replies = [
+        (Reply::Created { blob: 1 }, "blob 1\n"),
+        (
+            Reply::Appended { version, at, size },
+            "version 2 at 6 size 18446744073709551615\n",
+        ),
+        (
+            Reply::Wrote { version, at, size },
+            "version 2 at 6 size 18446744073709551615\n",
+        ),
+        (
+            Reply::AppendStarted {
+                ticket,
+                version,
+                at,
+                size,
+            },
+            "ticket 3 version 2 at 6 size 18446744073709551615\n",
+        ),
+        (
+            Reply::WriteStarted {
+                ticket,
+                version,
+                at,
+                size,
+            },
+            "ticket 3 version 2 at 6 size 18446744073709551615\n",
+        ),
+        (Reply::Finished { published: 2 }, "published 2\n"),
+        (Reply::Content { bytes }, "data 0061627aff\n"),
+        (Reply::Content { bytes: none }, "data -\n"),
+        (Reply::RecentIs { version, size: 7 }, "recent 2 size 7\n"),
+        (Reply::SizeIs { size: 7 }, "size 7\n"),
+        (Reply::Synced { version }, "synced 2\n"),
+        (
+            Reply::StatusIs {
+                assigned: 3,
+                published: 1,
+                held: 2,
+            },
+            "status assigned 3 published 1 held 2\n",
+        ),
+        (Reply::Branched { blob: 4 }, "blob 4\n"),
+        (Reply::Bye, "bye\n"),
+    ];
+    for (reply, want) in replies {
+        let line = said(alloc, reply)?;
+        assert_eq!(rt; line.as_slice(), want.as_bytes());
+    }
     Ok(())
 }
 

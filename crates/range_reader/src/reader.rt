@@ -48,6 +48,7 @@ pub fn read<D: Door, L: Ledger>(
     ensures past { IfErr result (λ fault. OnPastSize fault (size_now snapshot.now < offset + length out.old)) }
     ensures no_steps { size_now snapshot.now < offset + length out.old → steps.new ≡ steps.old }
     ensures steps { steps.new ≤ steps.old + bound snapshot.now offset (length out.old) }
+    ensures some { IfErr result (λ fault. OnPageFault fault (λ _. 1 ≤ length out.old)) }
     ensures failed { IfErr result (λ fault. OnPageFault fault
         (PageFailedIn snapshot.now offset (length out.old) (map D.faults doors.old) (map D.faults doors.new))) }
     ensures counted { IfErr result (λ fault. OnPageFault fault (λ _. HasRisen (sum_by D.faults doors.old) (sum_by D.faults doors.new))) }

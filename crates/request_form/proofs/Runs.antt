@@ -1,11 +1,17 @@
 -- How runs go on, that there is always one, and when a run is alone.
-use Rattle.std.proofs.Common.{◌≡◌, ℕ, Bool, true, false, ◌||◌, List, [], ◌∷◌, ◌++◌, refl, sym, ◌∙◌, ap, subst, append_assoc, append-nil}
+use Rattle.std.proofs.Common.{◌≡◌, ℕ, ◌==◌, nat_lt, Bool, true, false, if◌then◌else◌, ◌||◌, List, [], ◌∷◌, ◌++◌, length, refl, sym, ◌∙◌, ap, subst, append_assoc, append-nil, arith}
 use Rattle.std.proofs.lemmas.Bool.{false≢true}
-use Rattle.std.specs.Prelude.{Option, Some, None}
+use Rattle.std.proofs.lemmas.List.Sums.{sum_by-cons}
+use Rattle.std.specs.Prelude.{Option, Some, None, IfSome}
 use Rattle.blob_model.specs.declared.call.Event.{Event}
 use Rattle.blob_model.specs.declared.call.Place.{Place}
-use Rattle.blob_model.specs.declared.call.Place.TheVariants.{Append}
+use Rattle.blob_model.specs.declared.call.Place.TheVariants.{WriteAt, Append}
 use Rattle.blob_model.specs.declared.call.Call.{Call}
+use Rattle.blob_model.specs.declared.call.Call.TheVariants as Calls
+use Rattle.blob_model.specs.declared.call.Outcome.{Outcome}
+use Rattle.blob_model.specs.declared.call.Outcome.TheVariants as Outcomes
+use Rattle.blob_model.specs.declared.call.Refusal.{Refusal}
+use Rattle.blob_model.specs.declared.call.Refusal.TheVariants as Refusals
 use Rattle.request_form.specs.declared.form.Request.{Request}
 use Rattle.request_form.specs.declared.form.Request.TheVariants as Requests
 use Rattle.request_form.specs.declared.form.Reply.{Reply}
@@ -14,9 +20,12 @@ use Rattle.request_form.specs.declared.form.Heard.{Heard}
 use Rattle.request_form.specs.declared.form.Heard.TheVariants.{Asked, Wrong}
 use Rattle.request_form.specs.declared.form.Fault.{Fault}
 use Rattle.request_form.specs.declared.form.Fault.TheVariants as Faults
-use Rattle.request_form.specs.Session.{Session, sees, holds, AllOther, AllOwn, IsNobody}
-use Rattle.request_form.specs.Answers.{Gap, Answers, Unless, Refused, OutOfMemory, Created, Updated, Kept, Content, PageNotRead, CreateAnswer, UpdateAnswer, ReadAnswer, update_fault, read_fault}
-use Rattle.request_form.specs.Transcript.{Run, ItemReply, is_last, until_quit, has_quit}
+use Rattle.request_form.specs.Session.{Session, Held, sees, holds, held_at, drops, AllOther, AllOwn, IsNobody}
+use Rattle.request_form.specs.Replies.{fault_of, reply_of, page_faults, fault_count}
+use Rattle.request_form.specs.Stream.{IsWellHeard, AllWellHeard}
+use Rattle.request_form.specs.Session.{outcome_at}
+use Rattle.request_form.specs.Answers.{Gap, Answers, Unless, Refused, OutOfMemory, Created, Updated, Started, Kept, Reported, FoundFinished, Branched, Content, PageNotRead, CreateAnswer, UpdateAnswer, ReportAnswer, FinishAnswer, BranchAnswer, ReadAnswer, LookAnswer, update_fault, read_fault, max_update, max_read, max_tickets}
+use Rattle.request_form.specs.Transcript.{Run, ItemReply, is_last, until_quit, has_quit, faults_of}
 
 -- a run and then another
 pub Run-append : (gap : Gap) (s : Session) (hs : List Heard) (rs : List Reply) (mid : Session) (hs' : List Heard) (rs' : List Reply) (s' : Session) →
@@ -60,45 +69,136 @@ until_quit-all (h ∷ hs) e =
     let f = or_false (is_last h) (has_quit hs) e in
     rw f.0 (ap (λ (x : List Heard). h ∷ x) (until_quit-all hs f.1))
 
--- some answer of a request, or of an item
+-- some answer of a request, or of an item, for which the outside didn't fail
 record SomeReply (Answer : Reply → Session → Type 0) : Type 0 where
   pub reply : Reply
   pub next : Session
   pub is : Answer reply next
+  pub calm : fault_count reply ≡ 0
 
-unless_possible : (o : Option Fault) (s : Session) (Answer : Reply → Session → Type 0) →
+-- that fault, where there is one, is none of the outside
+abbrev IsCalm : Option Fault → Type 0
+IsCalm o = IfSome o (λ fault. page_faults fault ≡ 0)
+
+calm_if : (b : Bool) (fault : Fault) (o : Option Fault) → page_faults fault ≡ 0 → IsCalm o → IsCalm (if b then Some fault else o)
+calm_if true fault o h k = h
+calm_if false fault o h k = k
+
+update_calm : (s : Session) (bytes : List ℕ) → IsCalm (update_fault s bytes)
+update_calm s bytes =
+    calm_if (length bytes == 0) _ _ refl (calm_if (nat_lt max_update (length bytes)) _ _ refl (calm_if (length s.tickets == max_tickets) _ _ refl tt))
+
+read_calm : (count : ℕ) → IsCalm (read_fault count)
+read_calm count = calm_if (nat_lt max_read count) _ _ refl tt
+
+refusal_calm : (refusal : Refusal) → page_faults (fault_of refusal) ≡ 0
+refusal_calm (Refusals.NoBlob blob) = refl
+refusal_calm (Refusals.NotPublished version published) = refl
+refusal_calm (Refusals.OffsetPastSize offset size) = refl
+refusal_calm (Refusals.BlobTooBig end limit) = refl
+refusal_calm (Refusals.TooManyVersions limit) = refl
+refusal_calm (Refusals.TooManyOpen limit) = refl
+refusal_calm (Refusals.TooManyBlobs limit) = refl
+refusal_calm (Refusals.Already version) = refl
+refusal_calm (Refusals.RangePastSize end size) = refl
+refusal_calm (Refusals.Pending version held) = refl
+
+outcome_calm : (o : Outcome) → fault_count (reply_of o) ≡ 0
+outcome_calm (Outcomes.Blob blob) = refl
+outcome_calm (Outcomes.Assigned version at size) = refl
+outcome_calm (Outcomes.Published published) = refl
+outcome_calm (Outcomes.Content bytes) = refl
+outcome_calm (Outcomes.Recent version size) = refl
+outcome_calm (Outcomes.Size size) = refl
+outcome_calm (Outcomes.Synced version) = refl
+outcome_calm (Outcomes.Status assigned published held) = refl
+outcome_calm (Outcomes.Refused refusal) = refusal_calm refusal
+
+unless_possible : (o : Option Fault) (s : Session) (Answer : Reply → Session → Type 0) → IsCalm o →
     SomeReply Answer → SomeReply (λ (r : Reply) (s' : Session). Unless o s r s' (Answer r s'))
-unless_possible (Some fault) s Answer p = record { reply = Replies.Refused fault; next = s; is = (refl, refl) }
-unless_possible None s Answer p = p
+unless_possible (Some fault) s Answer calm p = record { reply = Replies.Refused fault; next = s; is = (refl, refl); calm = calm }
+unless_possible None s Answer calm p = p
 
 out_of_memory_here : (s : Session) → OutOfMemory IsNobody s (Replies.Refused Faults.NoMemory) (sees s [])
 out_of_memory_here s = record { others = []; is_gap = refl; said = refl; seen = refl }
 
-answer_possible : (s : Session) (request : Request) → SomeReply (λ (r : Reply) (s' : Session). Answers IsNobody s request r s')
-unfolding unless_possible
-answer_possible s Requests.Create =
-    record { reply = Replies.Refused Faults.NoMemory; next = sees s []; is = CreateAnswer.out_of_memory (out_of_memory_here s) }
-answer_possible s (Requests.Append blob bytes) =
+-- an update for which no memory is found, whatever it would do
+update_possible : (s : Session) (blob : ℕ) (place : Place) (bytes : List ℕ) (Does : Reply → Session → Type 0) →
+    SomeReply (λ (r : Reply) (s' : Session). Unless (update_fault s bytes) s r s' (UpdateAnswer IsNobody s blob place bytes (Does r s') r s'))
+update_possible s blob place bytes Does =
     unless_possible (update_fault s bytes) s
-    (λ (r : Reply) (s' : Session). UpdateAnswer IsNobody s blob Append bytes (Updated IsNobody s blob Append bytes (λ (v : ℕ) (a : ℕ) (z : ℕ). Replies.Appended v a z) r s') r s')
-    (record { reply = Replies.Refused Faults.NoMemory; next = sees s []; is = UpdateAnswer.out_of_memory (out_of_memory_here s) })
+    (λ (r : Reply) (s' : Session). UpdateAnswer IsNobody s blob place bytes (Does r s') r s')
+    (update_calm s bytes)
+    (record { reply = Replies.Refused Faults.NoMemory; next = sees s []; is = UpdateAnswer.out_of_memory (out_of_memory_here s); calm = refl })
+
+finish_possible : (s : Session) (number : ℕ) (ticket : Option Held) → SomeReply (λ (r : Reply) (s' : Session). FinishAnswer IsNobody s number ticket r s')
+finish_possible s number None = record { reply = Replies.Refused (Faults.NoTicket number); next = s; is = (refl, refl); calm = refl }
+finish_possible s number (Some ticket) =
+    record { reply = Replies.Refused Faults.NoMemory; next = sees s []; is = ReportAnswer.out_of_memory (out_of_memory_here s); calm = refl }
+
+look_possible : (s : Session) (call : Call) → SomeReply (λ (r : Reply) (s' : Session). LookAnswer IsNobody s call r s')
+look_possible s call =
+    record { reply = reply_of (outcome_at s [] call); next = sees s []; is = record { others = []; is_gap = refl; said = refl; seen = refl }; calm = outcome_calm (outcome_at s [] call) }
+
+answer_possible : (s : Session) (request : Request) → SomeReply (λ (r : Reply) (s' : Session). Answers IsNobody s request r s')
+answer_possible s Requests.Create =
+    record { reply = Replies.Refused Faults.NoMemory; next = sees s []; is = CreateAnswer.out_of_memory (out_of_memory_here s); calm = refl }
+answer_possible s (Requests.Append blob bytes) =
+    update_possible s blob Append bytes
+    (λ (r : Reply) (s' : Session). Updated IsNobody s blob Append bytes (λ (v : ℕ) (a : ℕ) (z : ℕ). Replies.Appended v a z) r s')
+answer_possible s (Requests.Write blob offset bytes) =
+    update_possible s blob (WriteAt offset) bytes
+    (λ (r : Reply) (s' : Session). Updated IsNobody s blob (WriteAt offset) bytes (λ (v : ℕ) (a : ℕ) (z : ℕ). Replies.Wrote v a z) r s')
+answer_possible s (Requests.StartAppend blob bytes) =
+    update_possible s blob Append bytes
+    (λ (r : Reply) (s' : Session). Started IsNobody s blob Append bytes (λ (t : ℕ) (v : ℕ) (a : ℕ) (z : ℕ). Replies.AppendStarted t v a z) r s')
+answer_possible s (Requests.StartWrite blob offset bytes) =
+    update_possible s blob (WriteAt offset) bytes
+    (λ (r : Reply) (s' : Session). Started IsNobody s blob (WriteAt offset) bytes (λ (t : ℕ) (v : ℕ) (a : ℕ) (z : ℕ). Replies.WriteStarted t v a z) r s')
+answer_possible s (Requests.Finish number) = finish_possible s number (held_at s.tickets number)
 answer_possible s (Requests.Read blob version offset count) =
     unless_possible (read_fault count) s
     (λ (r : Reply) (s' : Session). ReadAnswer IsNobody s blob version offset count r s')
-    (record { reply = Replies.Refused Faults.NoMemory; next = sees s []; is = ReadAnswer.out_of_memory (out_of_memory_here s) })
-answer_possible s Requests.Quit = record { reply = Replies.Bye; next = s; is = (refl, refl) }
+    (read_calm count)
+    (record { reply = Replies.Refused Faults.NoMemory; next = sees s []; is = ReadAnswer.out_of_memory (out_of_memory_here s); calm = refl })
+answer_possible s (Requests.Recent blob) = look_possible s (Calls.Recent blob)
+answer_possible s (Requests.Size blob version) = look_possible s (Calls.Size blob version)
+answer_possible s (Requests.Sync blob version) = look_possible s (Calls.Sync blob version)
+answer_possible s (Requests.Status blob) = look_possible s (Calls.Status blob)
+answer_possible s (Requests.Branch blob version) =
+    record { reply = Replies.Refused Faults.NoMemory; next = sees s []; is = BranchAnswer.out_of_memory (out_of_memory_here s); calm = refl }
+answer_possible s Requests.Quit = record { reply = Replies.Bye; next = s; is = (refl, refl); calm = refl }
 
-item_possible : (s : Session) (h : Heard) → SomeReply (λ (r : Reply) (s' : Session). ItemReply IsNobody s h r s')
-item_possible s (Asked request) = answer_possible s request
-item_possible s (Wrong fault) = record { reply = Replies.Refused fault; next = s; is = (refl, refl) }
+-- some answer of an item, for which the outside didn't fail if the item is no fault of it
+record SomeItemReply (s : Session) (h : Heard) : Type 0 where
+  pub reply : Reply
+  pub next : Session
+  pub is : ItemReply IsNobody s h reply next
+  pub calm : IsWellHeard h → fault_count reply ≡ 0
 
--- Each list of items has a run with nobody else there.
-pub run_possible : (s : Session) (hs : List Heard) → (rs : List Reply) × ((s' : Session) × Run IsNobody s hs rs s')
-run_possible s [] = ([], (s, refl))
+item_possible : (s : Session) (h : Heard) → SomeItemReply s h
+item_possible s (Asked request) = let p = answer_possible s request in record { reply = p.reply; next = p.next; is = p.is; calm = λ well. p.calm }
+item_possible s (Wrong fault) = record { reply = Replies.Refused fault; next = s; is = (refl, refl); calm = λ well. well }
+
+none_more : (r : Reply) (rs : List Reply) → fault_count r ≡ 0 → faults_of rs ≡ 0 → faults_of (r ∷ rs) ≡ 0
+none_more r rs h k = sum_by-cons fault_count r rs ∙ omega (arith, h, k)
+
+-- Each list of items has a run with nobody else there, in which the outside failed for no request.
+pub run_possible : (s : Session) (hs : List Heard) → (rs : List Reply) × ((s' : Session) × Run IsNobody s hs rs s' × (AllWellHeard hs → faults_of rs ≡ 0))
+run_possible s [] = ([], (s, refl, λ well. refl))
 run_possible s (h ∷ hs) =
     let p = item_possible s h in
     let q = run_possible p.next hs in
-    (p.reply ∷ q.0, (q.1.0, (p.next, p.is, q.1.1)))
+    (p.reply ∷ q.0, (q.1.0, (p.next, p.is, q.1.1), λ well. none_more p.reply q.0 (p.calm well.0) (q.1.2 well.1)))
+
+well_if : (b : Bool) (hs : List Heard) → AllWellHeard hs → AllWellHeard (if b then [] else hs)
+well_if true hs well = tt
+well_if false hs well = well
+
+-- of well heard items those up to a Quit are well heard
+pub well_until : (hs : List Heard) → AllWellHeard hs → AllWellHeard (until_quit hs)
+well_until [] well = tt
+well_until (h ∷ hs) well = (well.0, well_if (is_last h) (until_quit hs) (well_until hs well.1))
 
 -- These events stand in that list.
 pub record Stands (seen others : List Event) : Type 0 where
@@ -169,6 +269,32 @@ module _ (gap gap' : Gap) (s s' : Session) (also : (others : List Event) → Sta
         seen = t.seen;
       }
 
+  Started-gap : (blob : ℕ) (place : Place) (bytes : List ℕ) (started : ℕ → ℕ → ℕ → ℕ → Reply) (reply : Reply) →
+      Started gap s blob place bytes started reply s' → Started gap' s blob place bytes started reply s'
+  Started-gap blob place bytes started reply t =
+      record {
+        others = t.others;
+        is_gap = also t.others (first _ _ (ap (λ (x : Session). x.seen) t.seen)) t.is_gap;
+        version = t.version;
+        at = t.at;
+        size = t.size;
+        numbered = t.numbered;
+        said = t.said;
+        seen = t.seen;
+      }
+
+  Reported-gap : (ticket : Held) (reply : Reply) → Reported gap s ticket reply s' → Reported gap' s ticket reply s'
+  Reported-gap ticket reply t =
+      record { others = t.others; is_gap = also t.others (first _ _ (ap (λ (x : Session). x.seen) t.seen)) t.is_gap; published = t.published; done = t.done; said = t.said; seen = t.seen }
+
+  FoundFinished-gap : (ticket : Held) (reply : Reply) → FoundFinished gap s ticket reply s' → FoundFinished gap' s ticket reply s'
+  FoundFinished-gap ticket reply t =
+      record { others = t.others; is_gap = also t.others (alone _ (ap (λ (x : Session). x.seen) t.seen)) t.is_gap; refused = t.refused; said = t.said; seen = t.seen }
+
+  Branched-gap : (blob version : ℕ) (reply : Reply) → Branched gap s blob version reply s' → Branched gap' s blob version reply s'
+  Branched-gap blob version reply t =
+      record { others = t.others; is_gap = also t.others (first _ _ (ap (λ (x : Session). x.seen) t.seen)) t.is_gap; branch = t.branch; done = t.done; said = t.said; seen = t.seen }
+
   PageNotRead-gap : (blob version offset count : ℕ) (reply : Reply) → PageNotRead gap s blob version offset count reply s' → PageNotRead gap' s blob version offset count reply s'
   PageNotRead-gap blob version offset count reply t =
       record {
@@ -203,6 +329,21 @@ module _ (gap gap' : Gap) (s s' : Session) (also : (others : List Event) → Sta
   read_gap blob version offset count reply (ReadAnswer.out_of_memory t) = ReadAnswer.out_of_memory (OutOfMemory-gap reply t)
   read_gap blob version offset count reply (ReadAnswer.not_read t) = ReadAnswer.not_read (PageNotRead-gap _ _ _ _ reply t)
 
+  finish_gap : (number : ℕ) (ticket : Option Held) (reply : Reply) → FinishAnswer gap s number ticket reply s' → FinishAnswer gap' s number ticket reply s'
+  finish_gap number None reply a = a
+  finish_gap number (Some ticket) reply (ReportAnswer.reported t) = ReportAnswer.reported (Reported-gap ticket reply t)
+  finish_gap number (Some ticket) reply (ReportAnswer.finished t) = ReportAnswer.finished (FoundFinished-gap ticket reply t)
+  finish_gap number (Some ticket) reply (ReportAnswer.out_of_memory t) = ReportAnswer.out_of_memory (OutOfMemory-gap reply t)
+
+  look_gap : (call : Call) (reply : Reply) → LookAnswer gap s call reply s' → LookAnswer gap' s call reply s'
+  look_gap call reply t =
+      record { others = t.others; is_gap = also t.others (alone _ (ap (λ (x : Session). x.seen) t.seen)) t.is_gap; said = t.said; seen = t.seen }
+
+  branch_gap : (blob version : ℕ) (reply : Reply) → BranchAnswer gap s blob version reply s' → BranchAnswer gap' s blob version reply s'
+  branch_gap blob version reply (BranchAnswer.branched t) = BranchAnswer.branched (Branched-gap _ _ reply t)
+  branch_gap blob version reply (BranchAnswer.refused t) = BranchAnswer.refused (Refused-gap _ reply t)
+  branch_gap blob version reply (BranchAnswer.out_of_memory t) = BranchAnswer.out_of_memory (OutOfMemory-gap reply t)
+
   unless_gap : (o : Option Fault) (reply : Reply) (Answer Answer' : Type 0) → (Answer → Answer') → Unless o s reply s' Answer → Unless o s reply s' Answer'
   unless_gap (Some fault) reply Answer Answer' f u = u
   unless_gap None reply Answer Answer' f u = f u
@@ -211,7 +352,19 @@ module _ (gap gap' : Gap) (s s' : Session) (also : (others : List Event) → Sta
   Answers-gap Requests.Create reply a = create_gap reply a
   Answers-gap (Requests.Append blob bytes) reply a =
       unless_gap (update_fault s bytes) reply _ _ (update_gap blob Append bytes reply _ _ (Updated-gap _ _ _ _ reply)) a
+  Answers-gap (Requests.Write blob offset bytes) reply a =
+      unless_gap (update_fault s bytes) reply _ _ (update_gap blob (WriteAt offset) bytes reply _ _ (Updated-gap _ _ _ _ reply)) a
+  Answers-gap (Requests.StartAppend blob bytes) reply a =
+      unless_gap (update_fault s bytes) reply _ _ (update_gap blob Append bytes reply _ _ (Started-gap _ _ _ _ reply)) a
+  Answers-gap (Requests.StartWrite blob offset bytes) reply a =
+      unless_gap (update_fault s bytes) reply _ _ (update_gap blob (WriteAt offset) bytes reply _ _ (Started-gap _ _ _ _ reply)) a
+  Answers-gap (Requests.Finish number) reply a = finish_gap number (held_at s.tickets number) reply a
   Answers-gap (Requests.Read blob version offset count) reply a = unless_gap (read_fault count) reply _ _ (read_gap _ _ _ _ reply) a
+  Answers-gap (Requests.Recent blob) reply a = look_gap (Calls.Recent blob) reply a
+  Answers-gap (Requests.Size blob version) reply a = look_gap (Calls.Size blob version) reply a
+  Answers-gap (Requests.Sync blob version) reply a = look_gap (Calls.Sync blob version) reply a
+  Answers-gap (Requests.Status blob) reply a = look_gap (Calls.Status blob) reply a
+  Answers-gap (Requests.Branch blob version) reply a = branch_gap blob version reply a
   Answers-gap Requests.Quit reply a = a
 
   pub ItemReply-gap : (h : Heard) (reply : Reply) → ItemReply gap s h reply s' → ItemReply gap' s h reply s'
@@ -233,6 +386,9 @@ grows_sees s s' more e = record { fixed = ap (λ (x : Session). x.fixed) e; call
 
 grows_holds : (s s' : Session) (more : List Event) (blob version : ℕ) → s' ≡ holds (sees s more) blob version → Grows s s'
 grows_holds s s' more blob version e = record { fixed = ap (λ (x : Session). x.fixed) e; caller = ap (λ (x : Session). x.caller) e; more = more; seen = ap (λ (x : Session). x.seen) e }
+
+grows_drops : (s s' : Session) (more : List Event) (number : ℕ) → s' ≡ drops (sees s more) number → Grows s s'
+grows_drops s s' more number e = record { fixed = ap (λ (x : Session). x.fixed) e; caller = ap (λ (x : Session). x.caller) e; more = more; seen = ap (λ (x : Session). x.seen) e }
 
 pub Grows-trans : (s mid s' : Session) → Grows s mid → Grows mid s' → Grows s s'
 Grows-trans s mid s' a b = record {
@@ -262,6 +418,20 @@ module _ (gap : Gap) (s s' : Session) where
   read_grows blob version offset count reply (ReadAnswer.out_of_memory t) = grows_sees s s' _ t.seen
   read_grows blob version offset count reply (ReadAnswer.not_read t) = grows_sees s s' _ t.seen
 
+  finish_grows : (number : ℕ) (ticket : Option Held) (reply : Reply) → FinishAnswer gap s number ticket reply s' → Grows s s'
+  finish_grows number None reply a = grows_none s s' a.1
+  finish_grows number (Some ticket) reply (ReportAnswer.reported t) = grows_drops s s' _ ticket.number t.seen
+  finish_grows number (Some ticket) reply (ReportAnswer.finished t) = grows_drops s s' _ ticket.number t.seen
+  finish_grows number (Some ticket) reply (ReportAnswer.out_of_memory t) = grows_sees s s' _ t.seen
+
+  look_grows : (call : Call) (reply : Reply) → LookAnswer gap s call reply s' → Grows s s'
+  look_grows call reply t = grows_sees s s' _ t.seen
+
+  branch_grows : (blob version : ℕ) (reply : Reply) → BranchAnswer gap s blob version reply s' → Grows s s'
+  branch_grows blob version reply (BranchAnswer.branched t) = grows_sees s s' _ t.seen
+  branch_grows blob version reply (BranchAnswer.refused t) = grows_sees s s' _ t.seen
+  branch_grows blob version reply (BranchAnswer.out_of_memory t) = grows_sees s s' _ t.seen
+
   unless_grows : (o : Option Fault) (reply : Reply) (Answer : Type 0) → (Answer → Grows s s') → Unless o s reply s' Answer → Grows s s'
   unless_grows (Some fault) reply Answer f u = grows_none s s' u.1
   unless_grows None reply Answer f u = f u
@@ -269,10 +439,22 @@ module _ (gap : Gap) (s s' : Session) where
   updated_grows : (blob : ℕ) (place : Place) (bytes : List ℕ) (done : ℕ → ℕ → ℕ → Reply) (reply : Reply) → Updated gap s blob place bytes done reply s' → Grows s s'
   updated_grows blob place bytes done reply t = grows_sees s s' _ t.seen
 
+  started_grows : (blob : ℕ) (place : Place) (bytes : List ℕ) (started : ℕ → ℕ → ℕ → ℕ → Reply) (reply : Reply) → Started gap s blob place bytes started reply s' → Grows s s'
+  started_grows blob place bytes started reply t = grows_holds s s' _ blob t.version t.seen
+
   pub Answers-grows : (request : Request) (reply : Reply) → Answers gap s request reply s' → Grows s s'
   Answers-grows Requests.Create reply a = create_grows reply a
   Answers-grows (Requests.Append blob bytes) reply a = unless_grows (update_fault s bytes) reply _ (update_grows blob Append bytes reply _ (updated_grows _ _ _ _ reply)) a
+  Answers-grows (Requests.Write blob offset bytes) reply a = unless_grows (update_fault s bytes) reply _ (update_grows blob (WriteAt offset) bytes reply _ (updated_grows _ _ _ _ reply)) a
+  Answers-grows (Requests.StartAppend blob bytes) reply a = unless_grows (update_fault s bytes) reply _ (update_grows blob Append bytes reply _ (started_grows _ _ _ _ reply)) a
+  Answers-grows (Requests.StartWrite blob offset bytes) reply a = unless_grows (update_fault s bytes) reply _ (update_grows blob (WriteAt offset) bytes reply _ (started_grows _ _ _ _ reply)) a
+  Answers-grows (Requests.Finish number) reply a = finish_grows number (held_at s.tickets number) reply a
   Answers-grows (Requests.Read blob version offset count) reply a = unless_grows (read_fault count) reply _ (read_grows _ _ _ _ reply) a
+  Answers-grows (Requests.Recent blob) reply a = look_grows (Calls.Recent blob) reply a
+  Answers-grows (Requests.Size blob version) reply a = look_grows (Calls.Size blob version) reply a
+  Answers-grows (Requests.Sync blob version) reply a = look_grows (Calls.Sync blob version) reply a
+  Answers-grows (Requests.Status blob) reply a = look_grows (Calls.Status blob) reply a
+  Answers-grows (Requests.Branch blob version) reply a = branch_grows blob version reply a
   Answers-grows Requests.Quit reply a = grows_none s s' a.1
 
   pub ItemReply-grows : (h : Heard) (reply : Reply) → ItemReply gap s h reply s' → Grows s s'

@@ -1,4 +1,4 @@
-use Rattle.std.specs.Prelude.{◌≡◌, ◌≢◌, ℕ, ◌+◌, List, [], ◌∷◌, ◌++◌}
+use Rattle.std.specs.Prelude.{◌≡◌, ◌≢◌, ℕ, ◌+◌, ◌==◌, if◌then◌else◌, List, [], ◌∷◌, ◌++◌, Option, Some, None}
 use Rattle.blob_model.specs.Limits.{Bounds}
 use Rattle.blob_model.specs.Store.{Store}
 use Rattle.blob_model.specs.Answer.{answer}
@@ -65,3 +65,17 @@ holds s blob version = record {
   tickets = s.tickets ++ record { number = s.next; blob = blob; version = version } ∷ [];
   next = s.next + 1;
 }
+
+-- the ticket of that number among those that are held
+abbrev pub held_at : List Held → ℕ → Option Held
+held_at [] number = None
+held_at (ticket ∷ tickets) number = if ticket.number == number then Some ticket else held_at tickets number
+
+-- those tickets without the one of that number
+abbrev pub without_ticket : List Held → ℕ → List Held
+without_ticket [] number = []
+without_ticket (ticket ∷ tickets) number = if ticket.number == number then tickets else ticket ∷ without_ticket tickets number
+
+-- the session once it has given up the ticket of that number
+abbrev pub drops : Session → ℕ → Session
+drops s number = record { fixed = s.fixed; caller = s.caller; seen = s.seen; tickets = without_ticket s.tickets number; next = s.next }

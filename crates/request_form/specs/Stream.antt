@@ -19,6 +19,10 @@ abbrev pub IsWellHeard : Heard → Type 0
 IsWellHeard (Asked request) = Unit {0}
 IsWellHeard (Wrong fault) = page_faults fault ≡ 0
 
+abbrev pub AllWellHeard : List Heard → Type 0
+AllWellHeard [] = Unit {0}
+AllWellHeard (item ∷ items) = IsWellHeard item × AllWellHeard items
+
 abbrev pub IsFed : (List ℕ → Stream) → List ℕ → (List ℕ → Stream) → Type 0
 IsFed old piece new = (more : List ℕ) → new more ≡ old (piece ++ more)
 

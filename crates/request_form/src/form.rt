@@ -1,4 +1,4 @@
-use blob_model::{Bytes, Refusal};
+use blob_model::{Bytes, Outcome, Refusal};
 
 /// What a client asks of its session.
 #[derive(Drop)]
@@ -10,12 +10,56 @@ pub enum Request {
         blob: u64,
         bytes: Bytes,
     },
+    /// The bytes in place of those from `offset` on, as a new version.
+    Write {
+        blob: u64,
+        offset: u64,
+        bytes: Bytes,
+    },
+    /// An append that is numbered now. A Finish of its ticket reports it.
+    StartAppend {
+        blob: u64,
+        bytes: Bytes,
+    },
+    /// A write that is numbered now. A Finish of its ticket reports it.
+    StartWrite {
+        blob: u64,
+        offset: u64,
+        bytes: Bytes,
+    },
+    /// The report of the update that the session holds under this ticket.
+    Finish {
+        ticket: u64,
+    },
     /// `length` bytes from `offset` of a published version.
     Read {
         blob: u64,
         version: u64,
         offset: u64,
         length: u64,
+    },
+    /// The greatest published version of a blob, and its size.
+    Recent {
+        blob: u64,
+    },
+    /// The size of a published version, in bytes.
+    Size {
+        blob: u64,
+        version: u64,
+    },
+    /// Whether a numbered version is published.
+    Sync {
+        blob: u64,
+        version: u64,
+    },
+    /// How far the updates of a blob are.
+    Status {
+        blob: u64,
+    },
+    /// A new blob that shares the versions up to a published one.
+    Branch {
+        blob: u64,
+        version: u64,
     },
     /// The end of the stream's requests.
     Quit,
@@ -48,6 +92,8 @@ pub enum Fault {
     UpdateTooLong { length: u64 },
     /// The range would end at `end`, past the version's size.
     RangePastSize { end: u128, size: u64 },
+    /// The session holds no such ticket.
+    NoTicket { ticket: u64 },
     /// The session holds as many tickets as it may hold.
     TooManyTickets,
     /// No provider took, or gave, this page: of an update's bytes, or of the blob that is read.
@@ -91,15 +137,103 @@ impl Fault {
 #[derive(Drop)]
 pub enum Reply {
     /// The new blob's id.
-    Created { blob: u64 },
+    Created {
+        blob: u64,
+    },
     /// The append's version, the offset at which it fell, and the blob's size then. It is finished.
-    Appended { version: u64, at: u64, size: u64 },
+    Appended {
+        version: u64,
+        at: u64,
+        size: u64,
+    },
+    /// The write's version, the offset at which it fell, and the blob's size then. It is finished.
+    Wrote {
+        version: u64,
+        at: u64,
+        size: u64,
+    },
+    /// The append's ticket, version and offset, and the blob's size then. It waits for its Finish.
+    AppendStarted {
+        ticket: u64,
+        version: u64,
+        at: u64,
+        size: u64,
+    },
+    /// The write's ticket, version and offset, and the blob's size then. It waits for its Finish.
+    WriteStarted {
+        ticket: u64,
+        version: u64,
+        at: u64,
+        size: u64,
+    },
+    /// The greatest published version of the ticket's blob, now that the update is finished.
+    Finished {
+        published: u64,
+    },
     /// The bytes of the range.
-    Content { bytes: Bytes },
+    Content {
+        bytes: Bytes,
+    },
+    /// The greatest published version, and its size.
+    RecentIs {
+        version: u64,
+        size: u64,
+    },
+    /// The version's size.
+    SizeIs {
+        size: u64,
+    },
+    /// The version is published.
+    Synced {
+        version: u64,
+    },
+    /// The last numbered version, the greatest published one, and the least unfinished one or 0.
+    StatusIs {
+        assigned: u64,
+        published: u64,
+        held: u64,
+    },
+    /// The new blob's id.
+    Branched {
+        blob: u64,
+    },
     /// The request wasn't done.
     Refused(Fault),
     /// The stream's requests have ended.
     Bye,
+}
+
+impl Reply {
+    ghost use Rattle.std.specs.Prelude.{◌≡◌};
+    ghost use Rattle.request_form.specs.Replies.{reply_of};
+
+    /// The store's outcome as a reply, with the same numbers and bytes: a new blob as that of a Create, and an update as
+    /// an Append.
+    pub fn of(outcome: Outcome) -> Reply
+        ensures { result ≡ reply_of outcome }
+    {
+        match outcome {
+            Outcome::Blob(blob) => Reply::Created { blob },
+            Outcome::Assigned { version, at, size } => Reply::Appended { version, at, size },
+            Outcome::Published(published) => Reply::Finished { published },
+            Outcome::Content(bytes) => Reply::Content { bytes },
+            Outcome::Recent { version, size } => Reply::RecentIs { version, size },
+            Outcome::Size(size) => Reply::SizeIs { size },
+            Outcome::Synced(version) => Reply::Synced { version },
+            Outcome::Status {
+                assigned,
+                published,
+                held,
+            } => {
+                Reply::StatusIs {
+                    assigned,
+                    published,
+                    held,
+                }
+            }
+            Outcome::Refused(refusal) => Reply::Refused(Fault::of(refusal)),
+        }
+    }
 }
 
 /// What a dialect heard: a request, or something else and its fault.

@@ -5,6 +5,7 @@ use std::thread::Threads;
 /// One session of a store. Other sessions may change the store between and within its answers.
 pub trait Service {
     ghost use Rattle.std.specs.Prelude.{◌≡◌, ℕ, false};
+    ghost use denote.Param.Send.{IsSync};
     ghost use Rattle.ports.specs.Counts.{RoseBy};
     ghost use Rattle.request_form.specs.Session.{Session, AllOther};
     ghost use Rattle.request_form.specs.Answers.{Answers};
@@ -19,7 +20,8 @@ pub trait Service {
 
     /// Answers one request; Quit is answered by whoever serves the stream. It may wait for other sessions.
     fn answer<R: Wait + Threads + Sync>(&mut self, rt: &R, request: Request) -> Reply
-        requires { is_quit request ≡ false }
+        requires asks { is_quit request ≡ false }
+        requires sync { IsSync R.row }
         ensures answers { Answers AllOther (session self.old) request result (session self.new) }
         ensures faults { RoseBy (fault_count result) (faults self.old) (faults self.new) };
 }

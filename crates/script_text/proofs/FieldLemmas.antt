@@ -16,7 +16,7 @@ use Rattle.std.specs.List.{onto_first, slice_get}
 use Rattle.std.specs.Char.{is_ascii_digit}
 use Rattle.script_text.specs.Begun.{IsWithout}
 use Rattle.script_text.specs.Lines.{fields_of}
-use Rattle.script_text.specs.Requests.{create_of, append_of, read_of, request_of}
+use Rattle.script_text.specs.Requests.{numbered, bare, one_number, two_numbers, four_numbers, number_and_bytes, two_numbers_and_bytes, request_in}
 
 -- a text with a space has the field before it first
 pub fields_of-cut : (text front back : List ℕ) → text ≡ front ++ 32 ∷ back → IsWithout 32 front → fields_of text ≡ front ∷ fields_of back
@@ -46,17 +46,17 @@ fields_of-some (b ∷ text) = fields_some (b == 32) ([] ∷ fields_of text) (ont
 one_two : (x a b : List ℕ) → x ∷ [] ≢ a ∷ b ∷ []
 one_two x a b e = absurd (cc)
 
-rest_of_two : (x y a b : List ℕ) (more : List (List ℕ)) → x ∷ y ∷ more ≡ a ∷ b ∷ [] → more ≡ []
-rest_of_two x y a b more e = cc
+one_three : (x a b c : List ℕ) → x ∷ [] ≢ a ∷ b ∷ c ∷ []
+one_three x a b c e = absurd (cc)
 
 one_four : (x a b c d : List ℕ) → x ∷ [] ≢ a ∷ b ∷ c ∷ d ∷ []
 one_four x a b c d e = absurd (cc)
 
-two_four : (x y a b c d : List ℕ) → x ∷ y ∷ [] ≢ a ∷ b ∷ c ∷ d ∷ []
-two_four x y a b c d e = absurd (cc)
+rest_of : (x a : List ℕ) (more others : List (List ℕ)) → x ∷ more ≡ a ∷ others → more ≡ others
+rest_of x a more others e = cc
 
-rest_of_four : (x y a b c d : List ℕ) (more : List (List ℕ)) → x ∷ y ∷ more ≡ a ∷ b ∷ c ∷ d ∷ [] → more ≡ c ∷ d ∷ []
-rest_of_four x y a b c d more e = cc
+rest_of_two : (x y a b : List ℕ) (more : List (List ℕ)) → x ∷ y ∷ more ≡ a ∷ b ∷ [] → more ≡ []
+rest_of_two x y a b more e = cc
 
 -- one field isn't two, nor are three or more
 pub not_two-one : (text : List ℕ) → IsWithout 32 text → (a b : List ℕ) → fields_of text ≢ a ∷ b ∷ []
@@ -67,35 +67,54 @@ pub not_two-more : (text first second third more : List ℕ) → fields_of text 
 not_two-more text first second third more e f a b g =
     fields_of-some more (rest_of_two first third a b (fields_of more) (sym (ap (λ (fs : List (List ℕ)). first ∷ fs) f) ∙ (sym e ∙ g)))
 
--- one field isn't four, nor are two, and nor are two before others than two
+-- one field isn't three, nor are some before others than two
+pub not_three-one : (text : List ℕ) → IsWithout 32 text → (a b c : List ℕ) → fields_of text ≢ a ∷ b ∷ c ∷ []
+not_three-one text without a b c e = one_three text a b c (sym (fields_of-one text without) ∙ e)
+
+pub not_three-more : (text first rest : List ℕ) → fields_of text ≡ first ∷ fields_of rest → ((a b : List ℕ) → fields_of rest ≢ a ∷ b ∷ []) →
+    (a b c : List ℕ) → fields_of text ≢ a ∷ b ∷ c ∷ []
+not_three-more text first rest e not_two a b c g = not_two b c (rest_of first a (fields_of rest) (b ∷ c ∷ []) (sym e ∙ g))
+
+-- one field isn't four, nor are some before others than three
 pub not_four-one : (text : List ℕ) → IsWithout 32 text → (a b c d : List ℕ) → fields_of text ≢ a ∷ b ∷ c ∷ d ∷ []
 not_four-one text without a b c d e = one_four text a b c d (sym (fields_of-one text without) ∙ e)
 
-pub not_four-two : (text first second : List ℕ) → fields_of text ≡ first ∷ fields_of second → IsWithout 32 second →
+pub not_four-more : (text first rest : List ℕ) → fields_of text ≡ first ∷ fields_of rest → ((a b c : List ℕ) → fields_of rest ≢ a ∷ b ∷ c ∷ []) →
     (a b c d : List ℕ) → fields_of text ≢ a ∷ b ∷ c ∷ d ∷ []
-not_four-two text first second e without a b c d g =
-    two_four first second a b c d (sym (ap (λ (fs : List (List ℕ)). first ∷ fs) (fields_of-one second without)) ∙ (sym e ∙ g))
+not_four-more text first rest e not_three a b c d g = not_three b c d (rest_of first a (fields_of rest) (b ∷ c ∷ d ∷ []) (sym e ∙ g))
 
-pub not_four-more : (text first rest second more : List ℕ) → fields_of text ≡ first ∷ fields_of rest → fields_of rest ≡ second ∷ fields_of more →
-    ((a b : List ℕ) → fields_of more ≢ a ∷ b ∷ []) → (a b c d : List ℕ) → fields_of text ≢ a ∷ b ∷ c ∷ d ∷ []
-not_four-more text first rest second more e f not_two a b c d g =
-    not_two c d (rest_of_four first second a b c d (fields_of more) (sym (ap (λ (fs : List (List ℕ)). first ∷ fs) f) ∙ (sym e ∙ g)))
+-- ---- fields that are too few or too many
 
--- fields that aren't two are no append
-pub append_of-other : (fields : List (List ℕ)) → ((a b : List ℕ) → fields ≢ a ∷ b ∷ []) → append_of fields ≡ None
-append_of-other [] not_two = refl
-append_of-other (a ∷ []) not_two = refl
-append_of-other (a ∷ b ∷ []) not_two = absurd (not_two a b refl)
-append_of-other (a ∷ b ∷ c ∷ more) not_two = refl
+pub one_number-more : (first : List ℕ) (fields : List (List ℕ)) → fields ≢ [] → one_number (first ∷ fields) ≡ None
+one_number-more first [] some = absurd (some refl)
+one_number-more first (second ∷ fields) some = refl
 
--- fields that aren't four are no read
-pub read_of-other : (fields : List (List ℕ)) → ((a b c d : List ℕ) → fields ≢ a ∷ b ∷ c ∷ d ∷ []) → read_of fields ≡ None
-read_of-other [] not_four = refl
-read_of-other (a ∷ []) not_four = refl
-read_of-other (a ∷ b ∷ []) not_four = refl
-read_of-other (a ∷ b ∷ c ∷ []) not_four = refl
-read_of-other (a ∷ b ∷ c ∷ d ∷ []) not_four = absurd (not_four a b c d refl)
-read_of-other (a ∷ b ∷ c ∷ d ∷ e ∷ more) not_four = refl
+pub two_numbers-other : (fields : List (List ℕ)) → ((a b : List ℕ) → fields ≢ a ∷ b ∷ []) → two_numbers fields ≡ None
+two_numbers-other [] not_two = refl
+two_numbers-other (a ∷ []) not_two = refl
+two_numbers-other (a ∷ b ∷ []) not_two = absurd (not_two a b refl)
+two_numbers-other (a ∷ b ∷ c ∷ more) not_two = refl
+
+pub number_and_bytes-other : (fields : List (List ℕ)) → ((a b : List ℕ) → fields ≢ a ∷ b ∷ []) → number_and_bytes fields ≡ None
+number_and_bytes-other [] not_two = refl
+number_and_bytes-other (a ∷ []) not_two = refl
+number_and_bytes-other (a ∷ b ∷ []) not_two = absurd (not_two a b refl)
+number_and_bytes-other (a ∷ b ∷ c ∷ more) not_two = refl
+
+pub two_numbers_and_bytes-other : (fields : List (List ℕ)) → ((a b c : List ℕ) → fields ≢ a ∷ b ∷ c ∷ []) → two_numbers_and_bytes fields ≡ None
+two_numbers_and_bytes-other [] not_three = refl
+two_numbers_and_bytes-other (a ∷ []) not_three = refl
+two_numbers_and_bytes-other (a ∷ b ∷ []) not_three = refl
+two_numbers_and_bytes-other (a ∷ b ∷ c ∷ []) not_three = absurd (not_three a b c refl)
+two_numbers_and_bytes-other (a ∷ b ∷ c ∷ d ∷ more) not_three = refl
+
+pub four_numbers-other : (fields : List (List ℕ)) → ((a b c d : List ℕ) → fields ≢ a ∷ b ∷ c ∷ d ∷ []) → four_numbers fields ≡ None
+four_numbers-other [] not_four = refl
+four_numbers-other (a ∷ []) not_four = refl
+four_numbers-other (a ∷ b ∷ []) not_four = refl
+four_numbers-other (a ∷ b ∷ c ∷ []) not_four = refl
+four_numbers-other (a ∷ b ∷ c ∷ d ∷ []) not_four = absurd (not_four a b c d refl)
+four_numbers-other (a ∷ b ∷ c ∷ d ∷ e ∷ more) not_four = refl
 
 -- ---- requests
 
@@ -104,31 +123,13 @@ either_none true c = refl
 either_none false true = refl
 either_none false false = refl
 
--- of one field no request is made but `create`
-pub request_of-one : (line : List ℕ) → bytes_eq line (codes "create") ≡ false → request_of (line ∷ []) ≡ None
-request_of-one line create = rw create (either_none (bytes_eq line (codes "append")) (bytes_eq line (codes "read")))
-
--- there is a field behind a space, so `create` it isn't
-create_of-onto_first : (b : ℕ) (fields : List (List ℕ)) → create_of (onto_first b fields) ≡ None
-create_of-onto_first b [] = refl
-create_of-onto_first b (field ∷ fields) = refl
-
-create_of-cond : (b : Bool) (fs gs : List (List ℕ)) → create_of fs ≡ None → create_of gs ≡ None → create_of (cond b fs gs) ≡ None
-create_of-cond true fs gs f g = f
-create_of-cond false fs gs f g = g
-
-create_of-fields : (text : List ℕ) → create_of (fields_of text) ≡ None
-create_of-fields [] = refl
-create_of-fields (b ∷ text) = create_of-cond (b == 32) ([] ∷ fields_of text) (onto_first b (fields_of text)) refl (create_of-onto_first b (fields_of text))
-
-same_none : (b : Bool) (o : Option Request) → o ≡ None → cond b o None ≡ None
-same_none true o e = e
-same_none false o e = refl
-
--- of more fields no request is made but by the other forms
-pub request_of-other : (command text : List ℕ) → bytes_eq command (codes "append") ≡ false → bytes_eq command (codes "read") ≡ false →
-    request_of (command ∷ fields_of text) ≡ None
-request_of-other command text append read = rw (append, read) (same_none (bytes_eq command (codes "create")) (create_of (fields_of text)) (create_of-fields text))
+-- a command that is none of those with numbers makes no request of fields
+pub numbered-none : (command : List ℕ) (fields : List (List ℕ)) → fields ≢ [] → bytes_eq command (codes "finish") ≡ false → bytes_eq command (codes "read") ≡ false →
+    bytes_eq command (codes "recent") ≡ false → bytes_eq command (codes "size") ≡ false → bytes_eq command (codes "sync") ≡ false → bytes_eq command (codes "status") ≡ false →
+    bytes_eq command (codes "branch") ≡ false → request_in (numbered ++ bare) command fields ≡ None
+numbered-none command [] some finish read recent size sync status branch = absurd (some refl)
+numbered-none command (field ∷ fields) some finish read recent size sync status branch =
+    rw (finish, read, recent, size, sync, status, branch) (either_none (bytes_eq command (codes "create")) (bytes_eq command (codes "quit")))
 
 -- ---- numbers
 

@@ -44,11 +44,16 @@ ranges_heard : heard (lines (codes "create" ∷ codes "append 1 616263646566" �
 unfolding whole lines decode_pairs
 ranges_heard = refl
 
--- no bytes, and requests that aren't known yet
-unknown_heard : heard (lines (codes "create" ∷ codes "append 1 -" ∷ codes "quit" ∷ codes "write 1 0 ff" ∷ codes "append 1 aa" ∷ []))
-    ≡ whole (Asked Requests.Create ∷ malformed ∷ malformed ∷ malformed ∷ Asked (Requests.Append 1 (170 ∷ [])) ∷ [])
-unfolding whole lines malformed decode_pairs
-unknown_heard = refl
+-- each form once, and no bytes
+forms_heard : heard (lines
+    (codes "create" ∷ codes "append 1 -" ∷ codes "write 1 0 ff" ∷ codes "start-append 2 AA" ∷ codes "start-write 3 4 -" ∷ codes "finish 5" ∷ codes "read 1 2 3 4" ∷ codes "recent 1" ∷ codes "size 1 2"
+    ∷ codes "sync 1 2" ∷ codes "status 1" ∷ codes "branch 1 2" ∷ codes "quit" ∷ codes "append 1 aa" ∷ []))
+    ≡ whole
+    (Asked Requests.Create ∷ Asked (Requests.Append 1 []) ∷ Asked (Requests.Write 1 0 (255 ∷ [])) ∷ Asked (Requests.StartAppend 2 (170 ∷ [])) ∷ Asked (Requests.StartWrite 3 4 [])
+    ∷ Asked (Requests.Finish 5) ∷ Asked (Requests.Read 1 2 3 4) ∷ Asked (Requests.Recent 1) ∷ Asked (Requests.Size 1 2) ∷ Asked (Requests.Sync 1 2) ∷ Asked (Requests.Status 1) ∷ Asked (Requests.Branch 1 2)
+    ∷ Asked Requests.Quit ∷ Asked (Requests.Append 1 (170 ∷ [])) ∷ [])
+unfolding whole lines decode_pairs
+forms_heard = refl
 
 -- an odd number of digits, a command in upper case, digits in upper case, a leading zero, a comment, an empty line
 spellings_heard : heard (lines (codes "create" ∷ codes "append 1 abc" ∷ codes "Create" ∷ codes "append 1 FF" ∷ codes "read 1 01 0 1" ∷ codes "# note" ∷ codes "" ∷ codes "read 1 1 0 1" ∷ []))
@@ -68,10 +73,10 @@ other_carriage_returns_heard : heard (codes "create" ++ 13 ∷ 13 ∷ 10 ∷ 13 
 unfolding malformed
 other_carriage_returns_heard = refl
 
--- a last line without a line feed that is malformed, one that is a comment, and none
-last_lines_heard : (heard (codes "quit") ≡ record { items = malformed ∷ []; whole = []; cut = false }) × (heard (codes "# quit") ≡ whole []) × (heard (10 ∷ 10 ∷ []) ≡ whole [])
+-- a last line without a line feed that is malformed, one that is a request, one that is a comment, and none
+last_lines_heard : (heard (codes "Quit") ≡ record { items = malformed ∷ []; whole = []; cut = false }) × (heard (codes "quit") ≡ record { items = Asked Requests.Quit ∷ []; whole = []; cut = false }) × (heard (codes "# quit") ≡ whole []) × (heard (10 ∷ 10 ∷ []) ≡ whole [])
 unfolding malformed whole
-last_lines_heard = (refl, refl, refl)
+last_lines_heard = (refl, refl, refl, refl)
 
 -- exactly one space between two fields, none before the first or behind the last, and nothing but a space
 spaces_heard : heard (lines (codes " create" ∷ codes "create " ∷ codes "read 1  1 0 1" ∷ codes "read 1 1 0 1 " ∷ (codes "read" ++ 9 ∷ codes "1 1 0 1") ∷ codes " " ∷ codes " # note" ∷ []))
@@ -80,15 +85,15 @@ unfolding whole lines malformed
 spaces_heard = refl
 
 -- fields too many and too few
-counts_heard : heard (lines (codes "create 1" ∷ codes "append 1" ∷ codes "append 1 aa aa" ∷ codes "read 1 1 0" ∷ codes "read 1 1 0 1 1" ∷ []))
-    ≡ whole (malformed ∷ malformed ∷ malformed ∷ malformed ∷ malformed ∷ [])
+counts_heard : heard (lines (codes "create 1" ∷ codes "append 1" ∷ codes "append 1 aa aa" ∷ codes "read 1 1 0" ∷ codes "read 1 1 0 1 1" ∷ codes "write 1 aa" ∷ codes "start-write 1 2 3 aa" ∷ codes "finish" ∷ codes "finish 1 1" ∷ codes "status" ∷ codes "size 1" ∷ codes "branch 1 0 0" ∷ codes "quit now" ∷ codes "quit " ∷ []))
+    ≡ whole (malformed ∷ malformed ∷ malformed ∷ malformed ∷ malformed ∷ malformed ∷ malformed ∷ malformed ∷ malformed ∷ malformed ∷ malformed ∷ malformed ∷ malformed ∷ malformed ∷ [])
 unfolding whole lines malformed decode_pairs
 counts_heard = refl
 
--- numbers: zero, a zero more, the greatest, one more, signs, and the longest read and one more
+-- numbers: zero, a zero more, the greatest, one more, signs, and the longest read and one more, which is the session's to refuse
 numbers_heard : heard (lines (codes "read 0 0 0 0" ∷ codes "read 00 0 0 0" ∷ codes "read 18446744073709551615 0 0 0" ∷ codes "read 18446744073709551616 0 0 0" ∷ codes "read +1 0 0 0" ∷ codes "read -1 0 0 0" ∷ codes "read 1a 0 0 0"
     ∷ codes "read 1 1 0 16777216" ∷ codes "read 1 1 0 16777217" ∷ []))
-    ≡ whole (Asked (Requests.Read 0 0 0 0) ∷ malformed ∷ Asked (Requests.Read 18446744073709551615 0 0 0) ∷ malformed ∷ malformed ∷ malformed ∷ malformed ∷ Asked (Requests.Read 1 1 0 16777216) ∷ malformed ∷ [])
+    ≡ whole (Asked (Requests.Read 0 0 0 0) ∷ malformed ∷ Asked (Requests.Read 18446744073709551615 0 0 0) ∷ malformed ∷ malformed ∷ malformed ∷ malformed ∷ Asked (Requests.Read 1 1 0 16777216) ∷ Asked (Requests.Read 1 1 0 16777217) ∷ [])
 unfolding whole lines malformed
 numbers_heard = refl
 
@@ -110,6 +115,14 @@ longer_said : said_all (Replies.Appended 2 6 8 ∷ Replies.Content (101 ∷ 102 
 unfolding said_all lines digits encode_with
 longer_said = refl
 
+forms_said : said_all
+    (Replies.Wrote 2 6 7 ∷ Replies.AppendStarted 1 2 1 3 ∷ Replies.WriteStarted 2 3 0 3 ∷ Replies.Finished 0 ∷ Replies.RecentIs 3 9 ∷ Replies.SizeIs 8 ∷ Replies.Synced 2 ∷ Replies.StatusIs 2 0 1 ∷ Replies.Branched 2 ∷ [])
+    ≡ lines
+    (codes "version 2 at 6 size 7" ∷ codes "ticket 1 version 2 at 1 size 3" ∷ codes "ticket 2 version 3 at 0 size 3" ∷ codes "published 0" ∷ codes "recent 3 size 9" ∷ codes "size 8" ∷ codes "synced 2"
+    ∷ codes "status assigned 2 published 0 held 1" ∷ codes "blob 2" ∷ [])
+unfolding said_all lines digits
+forms_said = refl
+
 ranges_said : said_all (Replies.Refused (Faults.RangePastSize 7 6) ∷ Replies.Refused (Faults.RangePastSize 18446744073709551616 6) ∷ Replies.Refused Faults.Malformed ∷ Replies.Refused (Faults.NoBlob 1) ∷ [])
     ≡ lines (codes "error range-past-size 7 6" ∷ codes "error range-past-size 18446744073709551616 6" ∷ codes "error malformed" ∷ codes "error no-blob 1" ∷ [])
 unfolding said_all lines digits
@@ -125,10 +138,10 @@ unfolding said_all lines digits
 store_faults_said = refl
 
 session_faults_said : said_all
-    (Replies.Refused Faults.NoMemory ∷ Replies.Refused Faults.EmptyUpdate ∷ Replies.Refused (Faults.UpdateTooLong 1048577) ∷ Replies.Refused Faults.TooManyTickets ∷ Replies.Refused (Faults.PageFault 5)
+    (Replies.Refused Faults.NoMemory ∷ Replies.Refused Faults.EmptyUpdate ∷ Replies.Refused (Faults.UpdateTooLong 1048577) ∷ Replies.Refused (Faults.NoTicket 1) ∷ Replies.Refused Faults.TooManyTickets ∷ Replies.Refused (Faults.PageFault 5)
     ∷ Replies.Refused (Faults.ReadTooLong 16777217) ∷ Replies.Refused (Faults.NoMemoryTicket 7) ∷ [])
     ≡ lines
-    (codes "error no-memory" ∷ codes "error empty-update" ∷ codes "error update-too-long 1048577" ∷ codes "error too-many-tickets 64" ∷ codes "error page-fault 5"
+    (codes "error no-memory" ∷ codes "error empty-update" ∷ codes "error update-too-long 1048577" ∷ codes "error no-ticket 1" ∷ codes "error too-many-tickets 64" ∷ codes "error page-fault 5"
     ∷ codes "error read-too-long 16777217" ∷ codes "error no-memory ticket 7" ∷ [])
 unfolding said_all lines digits
 session_faults_said = refl

@@ -1,50 +1,91 @@
-use Rattle.std.specs.Prelude.{ℕ, nat_lt, nat_le, ◌&&◌, if◌then◌else◌, List, [], ◌∷◌, length, Option, Some, None, codes}
+use Rattle.std.specs.Prelude.{ℕ, if◌then◌else◌, List, [], ◌∷◌, ◌++◌, Option, Some, None, codes}
 use Rattle.std.specs.Str.{bytes_eq}
 use Rattle.request_form.specs.declared.form.Request.{Request}
 use Rattle.request_form.specs.declared.form.Request.TheVariants as Requests
-use Rattle.request_form.specs.Answers.{max_update, max_read}
 use Rattle.script_text.specs.Fields.{number_of, bytes_of}
+
+-- ---- what stands behind a command
+
+-- both of two things, or neither
+abbrev pub both : {A B : Type 0} → Option A → Option B → Option (A × B)
+both (Some a) (Some b) = Some (a, b)
+both (Some a) None = None
+both None b = None
+
+-- one number, and nothing else
+abbrev pub one_number : List (List ℕ) → Option ℕ
+one_number (a ∷ []) = number_of a
+one_number _ = None
+
+abbrev pub two_numbers : List (List ℕ) → Option (ℕ × ℕ)
+two_numbers (a ∷ b ∷ []) = both (number_of a) (number_of b)
+two_numbers _ = None
+
+abbrev pub four_numbers : List (List ℕ) → Option ((ℕ × ℕ) × (ℕ × ℕ))
+four_numbers (a ∷ b ∷ c ∷ d ∷ []) = both (both (number_of a) (number_of b)) (both (number_of c) (number_of d))
+four_numbers _ = None
+
+-- a number, and bytes in hex digits
+abbrev pub number_and_bytes : List (List ℕ) → Option (ℕ × List ℕ)
+number_and_bytes (a ∷ digits ∷ []) = both (number_of a) (bytes_of digits)
+number_and_bytes _ = None
+
+abbrev pub two_numbers_and_bytes : List (List ℕ) → Option ((ℕ × ℕ) × List ℕ)
+two_numbers_and_bytes (a ∷ b ∷ digits ∷ []) = both (both (number_of a) (number_of b)) (bytes_of digits)
+two_numbers_and_bytes _ = None
+
+-- ---- forms of lines
 
 -- a form of a line: its command, and the request that the fields behind the command make
 pub record Form : Type 0 where
   pub command : List ℕ
   pub makes : List (List ℕ) → Option Request
 
--- `create`
-abbrev pub create_of : List (List ℕ) → Option Request
-create_of [] = Some Requests.Create
-create_of (field ∷ fields) = None
+-- the request, where there is what it is made of
+abbrev pub made : {A : Type 0} → (A → Request) → Option A → Option Request
+made request None = None
+made request (Some a) = Some (request a)
 
--- an append of 1 to 1,048,576 bytes
-abbrev pub append_with : Option ℕ → Option (List ℕ) → Option Request
-append_with (Some blob) (Some bytes) =
-    if nat_lt 0 (length bytes) && nat_le (length bytes) max_update then Some (Requests.Append blob bytes) else None
-append_with (Some blob) None = None
-append_with None bytes = None
+-- a form whose fields are read so
+abbrev pub form : {A : Type 0} → List ℕ → (List (List ℕ) → Option A) → (A → Request) → Form
+form command fields request = record { command = command; makes = λ fs. made request (fields fs) }
 
--- `append B HEX`
-abbrev pub append_of : List (List ℕ) → Option Request
-append_of (blob ∷ bytes ∷ []) = append_with (number_of blob) (bytes_of bytes)
-append_of _ = None
+-- a request without fields
+abbrev pub alone : Request → List (List ℕ) → Option Request
+alone request [] = Some request
+alone request (field ∷ fields) = None
 
--- a read of at most 16,777,216 bytes
-abbrev pub read_with : Option ℕ → Option ℕ → Option ℕ → Option ℕ → Option Request
-read_with (Some blob) (Some version) (Some offset) (Some count) =
-    if nat_le count max_read then Some (Requests.Read blob version offset count) else None
-read_with _ _ _ _ = None
-
--- `read B V O N`
-abbrev pub read_of : List (List ℕ) → Option Request
-read_of (blob ∷ version ∷ offset ∷ count ∷ []) = read_with (number_of blob) (number_of version) (number_of offset) (number_of count)
-read_of _ = None
-
--- the table of requests
-abbrev pub forms : List Form
-forms =
-    record { command = codes "create"; makes = create_of }
-    ∷ record { command = codes "append"; makes = append_of }
-    ∷ record { command = codes "read"; makes = read_of }
+-- the updates, whose last field is their bytes
+abbrev pub updates : List Form
+updates =
+    form (codes "append") number_and_bytes (λ f. Requests.Append f.0 f.1)
+    ∷ form (codes "write") two_numbers_and_bytes (λ f. Requests.Write f.0.0 f.0.1 f.1)
+    ∷ form (codes "start-append") number_and_bytes (λ f. Requests.StartAppend f.0 f.1)
+    ∷ form (codes "start-write") two_numbers_and_bytes (λ f. Requests.StartWrite f.0.0 f.0.1 f.1)
     ∷ []
+
+-- the requests whose fields are numbers
+abbrev pub numbered : List Form
+numbered =
+    form (codes "finish") one_number (λ ticket. Requests.Finish ticket)
+    ∷ form (codes "read") four_numbers (λ f. Requests.Read f.0.0 f.0.1 f.1.0 f.1.1)
+    ∷ form (codes "recent") one_number (λ blob. Requests.Recent blob)
+    ∷ form (codes "size") two_numbers (λ f. Requests.Size f.0 f.1)
+    ∷ form (codes "sync") two_numbers (λ f. Requests.Sync f.0 f.1)
+    ∷ form (codes "status") one_number (λ blob. Requests.Status blob)
+    ∷ form (codes "branch") two_numbers (λ f. Requests.Branch f.0 f.1)
+    ∷ []
+
+-- the requests that are their command alone
+abbrev pub bare : List Form
+bare =
+    record { command = codes "create"; makes = alone Requests.Create }
+    ∷ record { command = codes "quit"; makes = alone Requests.Quit }
+    ∷ []
+
+-- the table of requests; no two have one command
+abbrev pub forms : List Form
+forms = updates ++ (numbered ++ bare)
 
 -- what the form with that command makes of the fields behind it
 abbrev pub request_in : List Form → List ℕ → List (List ℕ) → Option Request

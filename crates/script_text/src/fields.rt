@@ -55,6 +55,17 @@ pub fn two_fields(text: &[u8]) -> Option<(&[u8], &[u8])>
     }
 }
 
+/// The fields of a text that has exactly three.
+pub fn three_fields(text: &[u8]) -> Option<(&[u8], &[u8], &[u8])>
+    ensures { MatchOption result
+        ((a b c : List ℕ) → fields_of text.now ≢ a ∷ b ∷ c ∷ [])
+        (λ fields. fields_of text.now ≡ fields.0.now ∷ fields.1.now ∷ fields.2.now ∷ []) }
+{
+    let (first, rest) = cut_at(text, b' ')?;
+    let (second, third) = two_fields(rest)?;
+    Some((first, second, third))
+}
+
 /// The fields of a text that has exactly four.
 pub fn four_fields(text: &[u8]) -> Option<(&[u8], &[u8], &[u8], &[u8])>
     ensures { MatchOption result
@@ -63,7 +74,6 @@ pub fn four_fields(text: &[u8]) -> Option<(&[u8], &[u8], &[u8], &[u8])>
         ≡ fields.0.now ∷ fields.1.now ∷ fields.2.now ∷ fields.3.now ∷ []) }
 {
     let (first, rest) = cut_at(text, b' ')?;
-    let (second, rest) = cut_at(rest, b' ')?;
-    let (third, fourth) = two_fields(rest)?;
+    let (second, third, fourth) = three_fields(rest)?;
     Some((first, second, third, fourth))
 }

@@ -1,6 +1,6 @@
 ghost use Rattle.std.specs.Prelude.{◌≡◌, ◌++◌, ◌∷◌, [], IfOk, codes};
 ghost use Rattle.std.specs.String.{string_bytes};
-ghost use Rattle.script_text.specs.Said.{fault_text, hex_text, said};
+ghost use Rattle.script_text.specs.Said.{fault_text, hex_text, update_text, started_text, status_text, said};
 
 use hex::encode_to_slice;
 use request_form::{Fault, Reply};
@@ -29,6 +29,7 @@ fn fault_line(alloc: Global, fault: &Fault) -> Result<String, AllocError>
         Fault::RangePastSize { end, size } => {
             format!(in alloc; "error range-past-size {end} {size}\n")
         }
+        Fault::NoTicket { ticket } => format!(in alloc; "error no-ticket {ticket}\n"),
         Fault::TooManyTickets => format!(in alloc; "error too-many-tickets 64\n"),
         Fault::PageFault { page } => format!(in alloc; "error page-fault {page}\n"),
         Fault::Pending { version, held } => {
@@ -60,17 +61,77 @@ fn data_line(alloc: Global, bytes: &[u8]) -> Result<Vec<u8>, AllocError>
     Ok(line)
 }
 
+// What is said of an update.
+fn update_line(alloc: Global, version: u64, at: u64, size: u64) -> Result<Vec<u8>, AllocError>
+    ensures { IfOk result (λ line. line.items ≡ update_text version at size ++ 10 ∷ []) }
+{
+    Ok(format!(in alloc; "version {version} at {at} size {size}\n")?.into_bytes())
+}
+
+// What is said of an update that is only started.
+fn started_line(
+    alloc: Global,
+    ticket: u64,
+    version: u64,
+    at: u64,
+    size: u64,
+) -> Result<Vec<u8>, AllocError>
+    ensures { IfOk result (λ line. line.items ≡ started_text ticket version at size ++ 10 ∷ []) }
+{
+    Ok(format!(in alloc; "ticket {ticket} version {version} at {at} size {size}\n")?.into_bytes())
+}
+
+// What is said of how far a blob's updates are.
+fn status_line(
+    alloc: Global,
+    assigned: u64,
+    published: u64,
+    held: u64,
+) -> Result<Vec<u8>, AllocError>
+    ensures { IfOk result (λ line. line.items ≡ status_text assigned published held ++ 10 ∷ []) }
+{
+    Ok(format!(in alloc;
+        "status assigned {assigned} published {published} held {held}\n"
+    )?.into_bytes())
+}
+
 /// A reply's line, with its end.
-#[tactic(auto, using(crate::proofs::SaidLemmas::three_numbers))]
 pub fn reply_line(alloc: Global, reply: &Reply) -> Result<Vec<u8>, AllocError>
     ensures { IfOk result (λ line. line.items ≡ said reply.now) }
 {
     match reply {
-        Reply::Created { blob } => Ok(format!(in alloc; "blob {blob}\n")?.into_bytes()),
-        Reply::Appended { version, at, size } => {
-            Ok(format!(in alloc; "version {version} at {at} size {size}\n")?.into_bytes())
+        Reply::Created { blob } | Reply::Branched { blob } => {
+            Ok(format!(in alloc; "blob {blob}\n")?.into_bytes())
         }
+        Reply::Appended { version, at, size } | Reply::Wrote { version, at, size } => {
+            update_line(alloc, *version, *at, *size)
+        }
+        Reply::AppendStarted {
+            ticket,
+            version,
+            at,
+            size,
+        }
+        | Reply::WriteStarted {
+            ticket,
+            version,
+            at,
+            size,
+        } => { started_line(alloc, *ticket, *version, *at, *size) }
+        Reply::Finished { published } => Ok(format!(in alloc;
+            "published {published}\n"
+        )?.into_bytes()),
         Reply::Content { bytes } => data_line(alloc, bytes.as_slice()),
+        Reply::RecentIs { version, size } => {
+            Ok(format!(in alloc; "recent {version} size {size}\n")?.into_bytes())
+        }
+        Reply::SizeIs { size } => Ok(format!(in alloc; "size {size}\n")?.into_bytes()),
+        Reply::Synced { version } => Ok(format!(in alloc; "synced {version}\n")?.into_bytes()),
+        Reply::StatusIs {
+            assigned,
+            published,
+            held,
+        } => { status_line(alloc, *assigned, *published, *held) }
         Reply::Refused(fault) => Ok(fault_line(alloc, fault)?.into_bytes()),
         Reply::Bye => b"bye\n".to_vec(alloc),
     }

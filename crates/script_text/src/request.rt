@@ -1,77 +1,172 @@
-ghost use Rattle.std.specs.Prelude.{◌≡◌, IfOk};
-ghost use Rattle.script_text.specs.Requests.{append_of, read_of, request_of};
+ghost use Rattle.std.specs.Prelude.{◌≡◌, ◌++◌, [], IfOk};
+ghost use Rattle.script_text.specs.Requests as spec;
+ghost use Rattle.script_text.specs.Requests.{forms, request_in, request_of};
 ghost use Rattle.script_text.specs.Lines.{fields_of, item_of_text, item_of};
 ghost use Rattle.std.specs.Str.Lines.{strip_carriage_return};
 
 use crate::cut::cut_at;
-use crate::fields::{bytes, four_fields, number, two_fields};
+use crate::fields::{bytes, four_fields, number, three_fields, two_fields};
+use blob_model::Bytes;
 use request_form::{Fault, Heard, NoMemory, Request};
 use std::alloc::Global;
 
 /// The most bytes of a line, its end not counted.
 pub const MAX_LINE: usize = 4_194_304;
 
-/// The most bytes of an update.
-const MAX_UPDATE: usize = 1_048_576;
-
-/// The most bytes of a read.
-const MAX_READ: u64 = 16_777_216;
-
-// What the fields behind `append` ask for.
-fn append(alloc: Global, fields: &[u8]) -> Result<Option<Request>, NoMemory>
-    ensures { IfOk result (λ request. request ≡ append_of (fields_of fields.now)) }
+// One number, and nothing else.
+fn one_number(fields: &[u8]) -> Option<u64>
+    ensures { result ≡ spec.one_number (fields_of fields.now) }
 {
-    let Some((blob, digits)) = two_fields(fields) else {
-        return Ok(None);
-    };
-    let Some(blob) = number(blob) else {
-        return Ok(None);
-    };
-    let Some(bytes) = bytes(alloc, digits)? else {
-        return Ok(None);
-    };
-    if bytes.is_empty() || bytes.len() > MAX_UPDATE {
-        return Ok(None);
+    match cut_at(fields, b' ') {
+        None => number(fields),
+        Some(_) => None,
     }
-    Ok(Some(Request::Append { blob, bytes }))
 }
 
-// What the fields behind `read` ask for.
-fn read(fields: &[u8]) -> Option<Request>
-    ensures { result ≡ read_of (fields_of fields.now) }
+// Two numbers.
+fn two_numbers(fields: &[u8]) -> Option<(u64, u64)>
+    ensures { result ≡ spec.two_numbers (fields_of fields.now) }
 {
-    let (blob, version, offset, length) = four_fields(fields)?;
-    let blob = number(blob)?;
-    let version = number(version)?;
-    let offset = number(offset)?;
-    let length = number(length)?;
-    if length > MAX_READ {
-        return None;
+    let (first, second) = two_fields(fields)?;
+    Some((number(first)?, number(second)?))
+}
+
+// Four numbers, the first two and the last two.
+fn four_numbers(fields: &[u8]) -> Option<((u64, u64), (u64, u64))>
+    ensures { result ≡ spec.four_numbers (fields_of fields.now) }
+{
+    let (first, second, third, fourth) = four_fields(fields)?;
+    let front = (number(first)?, number(second)?);
+    Some((front, (number(third)?, number(fourth)?)))
+}
+
+// A number, and the bytes behind it.
+fn number_and_bytes(alloc: Global, fields: &[u8]) -> Result<Option<(u64, Bytes)>, NoMemory>
+    ensures { IfOk result (λ read. read ≡ spec.number_and_bytes (fields_of fields.now)) }
+{
+    let Some((first, digits)) = two_fields(fields) else {
+        return Ok(None);
+    };
+    let Some(first) = number(first) else {
+        return Ok(None);
+    };
+    match bytes(alloc, digits)? {
+        Some(bytes) => Ok(Some((first, bytes))),
+        None => Ok(None),
     }
-    Some(Request::Read {
-        blob,
-        version,
-        offset,
-        length,
-    })
+}
+
+// Two numbers, and the bytes behind them.
+fn two_numbers_and_bytes(
+    alloc: Global,
+    fields: &[u8],
+) -> Result<Option<((u64, u64), Bytes)>, NoMemory>
+    ensures { IfOk result (λ read. read ≡ spec.two_numbers_and_bytes (fields_of fields.now)) }
+{
+    let Some((first, second, digits)) = three_fields(fields) else {
+        return Ok(None);
+    };
+    let (Some(first), Some(second)) = (number(first), number(second)) else {
+        return Ok(None);
+    };
+    match bytes(alloc, digits)? {
+        Some(bytes) => Ok(Some(((first, second), bytes))),
+        None => Ok(None),
+    }
+}
+
+// What a command without fields asks for.
+fn bare(command: &[u8]) -> Option<Request>
+    ensures { result ≡ request_in forms command.now [] }
+{
+    if command == b"create".as_slice() {
+        Some(Request::Create)
+    } else if command == b"quit".as_slice() {
+        Some(Request::Quit)
+    } else {
+        None
+    }
+}
+
+// What a command and its fields ask for, if it is no update.
+fn numbered(command: &[u8], fields: &[u8]) -> Option<Request>
+    ensures { result ≡ request_in (spec.numbered ++ spec.bare) command.now (fields_of fields.now) }
+{
+    if command == b"finish".as_slice() {
+        let ticket = one_number(fields)?;
+        Some(Request::Finish { ticket })
+    } else if command == b"read".as_slice() {
+        let ((blob, version), (offset, length)) = four_numbers(fields)?;
+        Some(Request::Read {
+            blob,
+            version,
+            offset,
+            length,
+        })
+    } else if command == b"recent".as_slice() {
+        let blob = one_number(fields)?;
+        Some(Request::Recent { blob })
+    } else if command == b"size".as_slice() {
+        let (blob, version) = two_numbers(fields)?;
+        Some(Request::Size { blob, version })
+    } else if command == b"sync".as_slice() {
+        let (blob, version) = two_numbers(fields)?;
+        Some(Request::Sync { blob, version })
+    } else if command == b"status".as_slice() {
+        let blob = one_number(fields)?;
+        Some(Request::Status { blob })
+    } else if command == b"branch".as_slice() {
+        let (blob, version) = two_numbers(fields)?;
+        Some(Request::Branch { blob, version })
+    } else {
+        None
+    }
+}
+
+// What a command and its fields ask for.
+fn fielded(alloc: Global, command: &[u8], fields: &[u8]) -> Result<Option<Request>, NoMemory>
+    ensures { IfOk result (λ request. request ≡ request_in forms command.now (fields_of fields.now)) }
+{
+    if command == b"append".as_slice() {
+        let Some((blob, bytes)) = number_and_bytes(alloc, fields)? else {
+            return Ok(None);
+        };
+        Ok(Some(Request::Append { blob, bytes }))
+    } else if command == b"write".as_slice() {
+        let Some(((blob, offset), bytes)) = two_numbers_and_bytes(alloc, fields)? else {
+            return Ok(None);
+        };
+        Ok(Some(Request::Write {
+            blob,
+            offset,
+            bytes,
+        }))
+    } else if command == b"start-append".as_slice() {
+        let Some((blob, bytes)) = number_and_bytes(alloc, fields)? else {
+            return Ok(None);
+        };
+        Ok(Some(Request::StartAppend { blob, bytes }))
+    } else if command == b"start-write".as_slice() {
+        let Some(((blob, offset), bytes)) = two_numbers_and_bytes(alloc, fields)? else {
+            return Ok(None);
+        };
+        Ok(Some(Request::StartWrite {
+            blob,
+            offset,
+            bytes,
+        }))
+    } else {
+        Ok(numbered(command, fields))
+    }
 }
 
 // The request that a line spells, where it spells one.
 fn request(alloc: Global, line: &[u8]) -> Result<Option<Request>, NoMemory>
     ensures { IfOk result (λ request. request ≡ request_of (fields_of line.now)) }
 {
-    let Some((command, fields)) = cut_at(line, b' ') else {
-        if line == b"create".as_slice() {
-            return Ok(Some(Request::Create));
-        }
-        return Ok(None);
-    };
-    if command == b"append".as_slice() {
-        append(alloc, fields)
-    } else if command == b"read".as_slice() {
-        Ok(read(fields))
-    } else {
-        Ok(None)
+    match cut_at(line, b' ') {
+        Some((command, fields)) => fielded(alloc, command, fields),
+        None => Ok(bare(line)),
     }
 }
 

@@ -1,20 +1,33 @@
 -- What was written where nobody else was there.
-use Rattle.std.proofs.Common.{◌≡◌, ℕ, ◌<◌, List, ◌++◌, length, length-append, sym, ◌∙◌, ap, subst, append_assoc, append-nil, arith}
+use Rattle.std.proofs.Common.{◌≡◌, ℕ, ◌<◌, List, [], ◌∷◌, ◌++◌, length, length-append, sym, ◌∙◌, ap, subst, append_assoc, append-nil, arith}
 use Rattle.std.proofs.lemmas.List.Concat.{flat_map-append}
+use Rattle.std.proofs.lemmas.List.Sums.{sum_by-append}
 use Rattle.std.specs.Prelude.{Option, flat_map}
+use Rattle.ports.specs.Counts.{RoseBy}
 use Rattle.request_form.specs.Session.{Fixed, Session, AllOther, AllOwn, IsNobody}
-use Rattle.request_form.specs.Transcript.{Run, Transcript, until_quit, first_session, SaysAlone}
+use Rattle.request_form.specs.Replies.{fault_count}
+use Rattle.request_form.specs.Transcript.{Run, Transcript, until_quit, first_session, faults_of}
 use Rattle.request_form.specs.Laws.{OwnIsAlone, AlwaysAnswered}
-use Rattle.request_form.specs.Stream.{Stream}
+use Rattle.request_form.specs.Stream.{Stream, AllWellHeard}
 use Rattle.request_form.specs.declared.form.Reply.{Reply}
 use Rattle.request_form.specs.declared.form.Heard.{Heard}
 use Rattle.server_core.specs.declared.step.End.{End}
 use Rattle.server_core.specs.declared.step.End.TheVariants as Ends
 use Rattle.server_core.specs.Progress.{Point, Progress}
 use Rattle.server_core.specs.Served.{AnswersAll, AnswersFront, Ended}
-use Rattle.server_core.specs.Laws.{WroteAlone}
-use Rattle.server_core.proofs.Items.{until_quit-twice, until_quit-parts}
+use Rattle.server_core.specs.Laws.{SaysWithin, WroteAlone}
+use Rattle.server_core.proofs.Items.{until_quit-twice, until_quit-parts, well_until}
 use Rattle.server_core.proofs.Steps.{Run-append}
+
+well_back : (items more : List Heard) → AllWellHeard (items ++ more) → AllWellHeard more
+well_back [] more well = well
+well_back (item ∷ items) more well = well_back items more well.1
+
+-- replies that tell of no fault come after others
+faults_more : (replies more : List Reply) (before after : ℕ) → RoseBy (faults_of replies) before after → faults_of more ≡ 0 → RoseBy (faults_of (replies ++ more)) before after
+faults_more replies more before after rose none =
+    let same : faults_of (replies ++ more) ≡ faults_of replies = sum_by-append fault_count replies more ∙ omega (arith, none) in
+    subst (λ (n : ℕ). RoseBy n before after) (sym same) rose
 
 module _ (own_is_alone : OwnIsAlone) (always : AlwaysAnswered) (said : Reply → List ℕ) (fixed : Fixed) (old new : Point) (first : old.session ≡ first_session fixed 1) (own : AllOwn 1 new.session.seen) where
   -- the items up to a Quit were answered by nobody else
@@ -24,16 +37,19 @@ module _ (own_is_alone : OwnIsAlone) (always : AlwaysAnswered) (said : Reply →
       let transcript : Transcript AllOther (first_session fixed 1) heard replies new.session = subst (λ (xs : List Heard). Run AllOther (first_session fixed 1) xs replies new.session) is from_first in
       own_is_alone (first_session fixed 1) heard replies new.session own transcript
 
-  all_alone : (heard items : List Heard) (rest : List ℕ) → (p : Progress said old items rest new) → AnswersAll heard items rest → SaysAlone said fixed heard p.out
+  all_alone : (heard items : List Heard) (rest : List ℕ) → (p : Progress said old items rest new) → AnswersAll heard items rest → SaysWithin said fixed heard old.faults new.faults p.out
   all_alone heard items rest p all = record {
-    replies = p.replies;
-    last = new.session;
-    transcript = run_alone heard items p.replies all.0 p.run;
-    says = sym (p.says ∙ (ap (λ (x : List ℕ). p.out ++ x) all.1 ∙ append-nil p.out));
+    alone = record {
+      replies = p.replies;
+      last = new.session;
+      transcript = run_alone heard items p.replies all.0 p.run;
+      says = sym (p.says ∙ (ap (λ (x : List ℕ). p.out ++ x) all.1 ∙ append-nil p.out));
+    };
+    faults = λ well. p.faults;
   }
 
   -- A front of the items, and then what others would have been answered. What is still to be written begins with the rest.
-  front_alone : (heard items : List Heard) (rest : List ℕ) → (p : Progress said old items rest new) → AnswersFront heard items → (later : List ℕ) × SaysAlone said fixed heard (p.out ++ (rest ++ later))
+  front_alone : (heard items : List Heard) (rest : List ℕ) → (p : Progress said old items rest new) → AnswersFront heard items → (later : List ℕ) × SaysWithin said fixed heard old.faults new.faults (p.out ++ (rest ++ later))
   front_alone heard items rest p front =
       let parts = until_quit-parts items front.0 (subst (λ (xs : List Heard). until_quit xs ≡ xs) front.1 (until_quit-twice heard)) in
       let run : Run IsNobody (first_session fixed 1) items p.replies new.session = subst (λ (xs : List Heard). Run IsNobody (first_session fixed 1) xs p.replies new.session) parts.0 (run_alone items items p.replies (sym parts.0) p.run) in
@@ -42,10 +58,15 @@ module _ (own_is_alone : OwnIsAlone) (always : AlwaysAnswered) (said : Reply →
       let both : Run IsNobody (first_session fixed 1) (items ++ front.0) (p.replies ++ more.0) more.1.0 = Run-append IsNobody (first_session fixed 1) items p.replies new.session front.0 more.0 more.1.0 run run_more in (
         flat_map said more.0,
         record {
-          replies = p.replies ++ more.0;
-          last = more.1.0;
-          transcript = subst (λ (xs : List Heard). Run IsNobody (first_session fixed 1) xs (p.replies ++ more.0) more.1.0) (sym front.1) both;
-          says = sym (flat_map-append said p.replies more.0 ∙ (ap (λ (x : List ℕ). x ++ flat_map said more.0) p.says ∙ append_assoc p.out rest (flat_map said more.0)));
+          alone = record {
+            replies = p.replies ++ more.0;
+            last = more.1.0;
+            transcript = subst (λ (xs : List Heard). Run IsNobody (first_session fixed 1) xs (p.replies ++ more.0) more.1.0) (sym front.1) both;
+            says = sym (flat_map-append said p.replies more.0 ∙ (ap (λ (x : List ℕ). x ++ flat_map said more.0) p.says ∙ append_assoc p.out rest (flat_map said more.0)));
+          };
+          faults = λ well.
+              let later : AllWellHeard front.0 = well_back items front.0 (subst AllWellHeard front.1 (well_until heard well)) in
+              faults_more p.replies more.0 _ _ p.faults (more.1.2 later);
         },
       )
 
@@ -53,7 +74,7 @@ module _ (own_is_alone : OwnIsAlone) (always : AlwaysAnswered) (said : Reply →
   longer rest later some = rw (length-append rest later) (omega arith)
 
   pub wrote_alone : (heard : Stream) (taken limit : ℕ) (items : List Heard) (rest : List ℕ) (left : Option (List ℕ)) (end : End) → (p : Progress said old items rest new) →
-      Ended heard taken limit items rest left end → WroteAlone said fixed heard p.out end
+      Ended heard taken limit items rest left end → WroteAlone said fixed heard old.faults new.faults p.out end
   wrote_alone heard taken limit items rest left Ends.Quit p e = all_alone heard.items items rest p e.0
   wrote_alone heard taken limit items rest left Ends.InputEnd p e = all_alone heard.items items rest p e.0
   wrote_alone heard taken limit items rest left Ends.Cut p e = all_alone heard.whole items rest p e.0

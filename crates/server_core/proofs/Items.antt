@@ -1,6 +1,7 @@
 -- Lists of items up to a Quit.
-use Rattle.std.proofs.Common.{◌≡◌, Bool, true, false, ◌||◌, List, [], ◌∷◌, ◌++◌, refl, sym, ◌∙◌, ap}
+use Rattle.std.proofs.Common.{◌≡◌, Bool, true, false, if◌then◌else◌, ◌||◌, List, [], ◌∷◌, ◌++◌, refl, sym, ◌∙◌, ap}
 use Rattle.std.proofs.lemmas.Bool.{false≢true}
+use Rattle.request_form.specs.Stream.{AllWellHeard}
 use Rattle.request_form.specs.Transcript.{is_last, until_quit, has_quit}
 use Rattle.request_form.specs.declared.form.Heard.{Heard}
 
@@ -81,3 +82,12 @@ module _ (item : Heard) (items more : List Heard) where
 pub until_quit-parts : (items more : List Heard) → until_quit (items ++ more) ≡ items ++ more → (until_quit items ≡ items) × (until_quit more ≡ more)
 until_quit-parts [] more same = (refl, same)
 until_quit-parts (item ∷ items) more same = parts_cut item items more (is_last item) refl same (until_quit-parts items more)
+
+well_if : (b : Bool) (items : List Heard) → AllWellHeard items → AllWellHeard (if b then [] else items)
+well_if true items well = tt
+well_if false items well = well
+
+-- of well heard items those up to a Quit are well heard
+pub well_until : (items : List Heard) → AllWellHeard items → AllWellHeard (until_quit items)
+well_until [] well = tt
+well_until (item ∷ items) well = (well.0, well_if (is_last item) (until_quit items) (well_until items well.1))

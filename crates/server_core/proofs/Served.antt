@@ -1,5 +1,5 @@
 -- A stream that goes on, and how it ends.
-use Rattle.std.proofs.Common.{◌≡◌, ℕ, ◌+◌, ◌<◌, ◌≤◌, true, false, List, [], ◌++◌, length, length-append, refl, sym, ◌∙◌, subst, append-nil, inl, inr, arith}
+use Rattle.std.proofs.Common.{◌≡◌, ℕ, ◌+◌, ◌<◌, ◌≤◌, List, [], ◌++◌, length, length-append, refl, sym, ◌∙◌, subst, append-nil, inl, inr, arith}
 use Rattle.std.specs.Prelude.{Option}
 use Rattle.std.specs.Io.KnownBytes.{IsAtEnd}
 use Rattle.ports.specs.Counts.{RoseBy}
@@ -10,7 +10,7 @@ use Rattle.request_form.specs.declared.form.Heard.{Heard}
 use Rattle.server_core.specs.declared.step.End.{End}
 use Rattle.server_core.specs.declared.step.End.TheVariants as Ends
 use Rattle.server_core.specs.Progress.{Point, Goes, Quits, Stops}
-use Rattle.server_core.specs.Served.{AnswersAll, AnswersFront, Ended, Closing, Input, TakesOff, Stays, Served, Finished}
+use Rattle.server_core.specs.Served.{Ended, Closing, Input, TakesOff, Stays, Served, Finished}
 use Rattle.server_core.proofs.Steps.{Goes-none, Progress-none, Progress-trans}
 use Rattle.server_core.proofs.Endings.{Serving, TakesOff-none, TakesOff-trans, Goes-feed, Goes-trans, Goes-quits, Goes-stops, all_whole, no_quit_whole, finish_both, close_both}
 

@@ -1,8 +1,9 @@
 -- When each end comes, and what was written where nobody else was there.
 use Rattle.std.specs.Prelude.{◌≡◌, ℕ, ◌≢◌, ◌<◌, true, false, List, ◌++◌, length}
+use Rattle.ports.specs.Counts.{RoseBy}
 use Rattle.request_form.specs.Session.{Fixed, AllOwn}
-use Rattle.request_form.specs.Transcript.{has_quit, first_session, SaysAlone}
-use Rattle.request_form.specs.Stream.{Stream}
+use Rattle.request_form.specs.Transcript.{has_quit, first_session, SaysAlone, faults_of}
+use Rattle.request_form.specs.Stream.{Stream, AllWellHeard}
 use Rattle.request_form.specs.declared.form.Reply.{Reply}
 use Rattle.request_form.specs.declared.form.Heard.{Heard}
 use Rattle.server_core.specs.declared.step.End.{End}
@@ -27,19 +28,25 @@ ServedExactly = (said : Reply → List ℕ) (old : Point) (reads : List ℕ → 
     → (served : Served said old reads before after limit new end)
     → EndsExactly (reads served.taken) (length served.taken) limit served.items served.rest before.ends after.ends end
 
+-- The text is what is said of a transcript alone, whose replies tell of no more faults than a count rose by, where no wrong item is a fault of the outside.
+pub record SaysWithin (said : Reply → List ℕ) (fixed : Fixed) (heard : List Heard) (before after : ℕ) (text : List ℕ) : Type 0 where
+  pub alone : SaysAlone said fixed heard text
+  pub faults : AllWellHeard heard → RoseBy (faults_of alone.replies) before after
+
 -- What was written where nobody else was there, by the end: what is said of all items, of the whole ones, or a front of that.
-abbrev pub WroteAlone : (Reply → List ℕ) → Fixed → Stream → List ℕ → End → Type 0
-WroteAlone said fixed heard text Ends.Quit = SaysAlone said fixed heard.items text
-WroteAlone said fixed heard text Ends.InputEnd = SaysAlone said fixed heard.items text
-WroteAlone said fixed heard text Ends.Cut = SaysAlone said fixed heard.whole text
-WroteAlone said fixed heard text Ends.ReadFault = SaysAlone said fixed heard.whole text
-WroteAlone said fixed heard text Ends.InputTooLong = SaysAlone said fixed heard.whole text
-WroteAlone said fixed heard text Ends.WriteFault = (more : List ℕ) × (0 < length more) × SaysAlone said fixed heard.items (text ++ more)
-WroteAlone said fixed heard text Ends.NoMemory = (more : List ℕ) × SaysAlone said fixed heard.items (text ++ more)
+abbrev pub WroteAlone : (Reply → List ℕ) → Fixed → Stream → ℕ → ℕ → List ℕ → End → Type 0
+WroteAlone said fixed heard before after text Ends.Quit = SaysWithin said fixed heard.items before after text
+WroteAlone said fixed heard before after text Ends.InputEnd = SaysWithin said fixed heard.items before after text
+WroteAlone said fixed heard before after text Ends.Cut = SaysWithin said fixed heard.whole before after text
+WroteAlone said fixed heard before after text Ends.ReadFault = SaysWithin said fixed heard.whole before after text
+WroteAlone said fixed heard before after text Ends.InputTooLong = SaysWithin said fixed heard.whole before after text
+WroteAlone said fixed heard before after text Ends.WriteFault = (more : List ℕ) × (0 < length more) × SaysWithin said fixed heard.items before after (text ++ more)
+WroteAlone said fixed heard before after text Ends.NoMemory = (more : List ℕ) × SaysWithin said fixed heard.items before after (text ++ more)
 
 -- Where the session was the first caller's first one, and has seen no event but its own in the end, what was written is said of a transcript alone.
+-- The replies of that transcript tell of no more faults than the service's count rose by.
 abbrev pub ServedAlone : Type 0
 ServedAlone = (said : Reply → List ℕ) (fixed : Fixed) (old : Point) (reads : List ℕ → Stream) (before after : Input) (limit : ℕ) (new : Point) (end : End)
     → old.session ≡ first_session fixed 1 → AllOwn 1 new.session.seen
     → (served : Served said old reads before after limit new end)
-    → WroteAlone said fixed (reads served.taken) served.progress.out end
+    → WroteAlone said fixed (reads served.taken) old.faults new.faults served.progress.out end

@@ -10,14 +10,14 @@ use Rattle.range_reader.proofs.Joining.{taken_twice, overlaid_twice, first_from,
 use Rattle.range_reader.proofs.page.fill_leaf.Goals as goal
 
 pub fill_piece-requires-clause-version : goal.fill_piece-requires-clause-version
-fill_piece-requires-clause-version g c κs within =
+fill_piece-requires-clause-version g c =
     let f = c.leaves_fill.ensures in
     let s = c.args.source.now.snapshot.now in
     let leaf = leaf_of_version f.fill f.fit f.pieces c.page_bytes_stay.ensures.bytes c.page_bytes_stay.ensures.extents s c.version-version.ensures.stands c.args.j c.args.page c.requires.has in
     leaf.bounds
 
 pub fill_piece-requires-clause-fits : goal.fill_piece-requires-clause-fits
-fill_piece-requires-clause-fits g c κs within =
+fill_piece-requires-clause-fits g c =
     let f = c.leaves_fill.ensures in
     let s = c.args.source.now.snapshot.now in
     let leaf = leaf_of_version f.fill f.fit f.pieces c.page_bytes_stay.ensures.bytes c.page_bytes_stay.ensures.extents s c.version-version.ensures.stands c.args.j c.args.page c.requires.has in
@@ -25,7 +25,7 @@ fill_piece-requires-clause-fits g c κs within =
     subst P (sym c.requires.first) leaf.pieces.one
 
 pub fill_piece-requires-clause-placed : goal.fill_piece-requires-clause-placed
-fill_piece-requires-clause-placed g c κs within =
+fill_piece-requires-clause-placed g c =
     let f = c.leaves_fill.ensures in
     let s = c.args.source.now.snapshot.now in
     let leaf = leaf_of_version f.fill f.fit f.pieces c.page_bytes_stay.ensures.bytes c.page_bytes_stay.ensures.extents s c.version-version.ensures.stands c.args.j c.args.page c.requires.has in
@@ -62,14 +62,14 @@ returns-then-leaf-eq0-clause-taken g c = λ ok.
     taken_same _ _ _ _ c.args.begin c.args.marks.now c.fill_piece.new.marks c.requires.start len (c.fill_piece.ensures.taken c.if-not-fill_piece.false)
 
 pub fill_piece-requires-2-clause-version : goal.fill_piece-requires-2-clause-version
-fill_piece-requires-2-clause-version g c κs within =
+fill_piece-requires-2-clause-version g c =
     let f = c.leaves_fill.ensures in
     let s = c.args.source.now.snapshot.now in
     let leaf = leaf_of_version f.fill f.fit f.pieces c.page_bytes_stay.ensures.bytes c.page_bytes_stay.ensures.extents s c.version-version.ensures.stands c.args.j c.args.page c.requires.has in
     leaf.bounds
 
 pub fill_piece-requires-2-clause-fits : goal.fill_piece-requires-2-clause-fits
-fill_piece-requires-2-clause-fits g c κs within =
+fill_piece-requires-2-clause-fits g c =
     let f = c.leaves_fill.ensures in
     let s = c.args.source.now.snapshot.now in
     let leaf = leaf_of_version f.fill f.fit f.pieces c.page_bytes_stay.ensures.bytes c.page_bytes_stay.ensures.extents s c.version-version.ensures.stands c.args.j c.args.page c.requires.has in
@@ -78,7 +78,7 @@ fill_piece-requires-2-clause-fits g c κs within =
     subst P (sym c.requires.second) (leaf.pieces.two some).1
 
 pub fill_piece-requires-2-clause-placed : goal.fill_piece-requires-2-clause-placed
-fill_piece-requires-2-clause-placed g c κs within =
+fill_piece-requires-2-clause-placed g c =
     let f = c.leaves_fill.ensures in
     let s = c.args.source.now.snapshot.now in
     let leaf = leaf_of_version f.fill f.fit f.pieces c.page_bytes_stay.ensures.bytes c.page_bytes_stay.ensures.extents s c.version-version.ensures.stands c.args.j c.args.page c.requires.has in

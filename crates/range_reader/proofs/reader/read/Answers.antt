@@ -7,9 +7,10 @@ use Rattle.range_reader.proofs.Leaves.{page_pos}
 use Rattle.range_reader.proofs.Walking.{down, up}
 use Rattle.range_reader.proofs.Rooted.{not_zero, root_stands, root_newest, root_tree, walk_bound}
 use Rattle.range_reader.proofs.reader.read.Goals as goal
+use Rattle.range_reader.proofs.reader.read.Goals.{in-Ok, in-Err}
 
 pub walk-requires-clause-newest : goal.walk-requires-clause-newest
-walk-requires-clause-newest g c κs within =
+walk-requires-clause-newest g c =
     let s = c.args.snapshot.now in
     let is = c.version-version.ensures.stands in
     let key = ap (λ (k : NodeKey). k.range) c.in-Some.ensures.key in
@@ -17,7 +18,7 @@ walk-requires-clause-newest g c κs within =
     c.version-version.ensures.count ∙ root_newest c.page_bytes_stay.ensures.extents s is c.links_find.ensures.roots c.newest_is_greatest.ensures.greatest c.in-Some.root.range some key
 
 pub walk-requires-clause-has : goal.walk-requires-clause-has
-walk-requires-clause-has g c κs within =
+walk-requires-clause-has g c =
     let s = c.args.snapshot.now in
     let is = c.version-version.ensures.stands in
     let key = ap (λ (k : NodeKey). k.range) c.in-Some.ensures.key in
@@ -26,7 +27,7 @@ walk-requires-clause-has g c κs within =
     subst H (sym c.version-version.ensures.count) (root_stands c.page_bytes_stay.ensures.extents s is c.links_find.ensures.roots c.in-Some.root.range some key)
 
 pub walk-requires-clause-ends : goal.walk-requires-clause-ends
-walk-requires-clause-ends g c κs within =
+walk-requires-clause-ends g c =
     let start = ap (λ (k : NodeKey). k.range.offset) c.in-Some.ensures.key in
     omega (arith, start, c.in-Some.ensures.holds)
 
@@ -45,3 +46,8 @@ returns-clause-steps g c =
     let f = c.walk.ensures.steps (height_of p (size_now s)) 0 (o / p) ((o + n - 1) / p) (root_tree c.page_bytes_stay.ensures.extents s is c.in-Some.root.range some key) (down o p) (omega (arith, end, one)) in
     let fits : o + n ≤ size_now s = omega arith in
     omega (arith, f, walk_bound c.page_bytes_stay.ensures.extents s is c.visited_are_few.ensures.bounded o n one fits)
+
+pub returns-clause-some : goal.returns-clause-some
+returns-clause-some g c =
+    let one : 1 ≤ length c.args.out.now = grind (arith, nat_tests) in
+    elim c.match-walk.branch [ in-Ok w ↦ rw w.result-is tt | in-Err w ↦ rw w.result-is one ]

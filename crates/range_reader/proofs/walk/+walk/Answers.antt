@@ -1,4 +1,4 @@
-use Rattle.std.proofs.Common.{◌≡◌, ◌+◌, ◌-◌, ◌*◌, ◌/◌, ◌^◌, ◌<◌, ◌++◌, length, arith, ap, sym, ◌∙◌, subst, inl, inr}
+use Rattle.std.proofs.Common.{rules, ◌≡◌, ◌+◌, ◌-◌, ◌*◌, ◌/◌, ◌^◌, ◌<◌, ◌++◌, length, arith, ap, sym, ◌∙◌, subst, inl, inr}
 use Rattle.std.specs.Prelude.{slice_range}
 use Rattle.std.proofs.lemmas.Result.{err_from_is_err_and}
 use Rattle.tree_geom.specs.declared.range.Range.{Range}
@@ -14,7 +14,7 @@ use Rattle.range_reader.proofs.Walking.{page_of_range, page_step, larger, even, 
 use Rattle.range_reader.proofs.walk.+walk.Goals as goal
 
 pub fill_page-requires-clause-newest : goal.fill_page-requires-clause-newest
-fill_page-requires-clause-newest g t c κs within =
+fill_page-requires-clause-newest g t c =
     let s = c.args.source.now.snapshot.now in
     let is = c.version-version.ensures.stands in
     let size = c.bytes-size.ensures.is ∙ c.page_size.ensures in
@@ -23,7 +23,7 @@ fill_page-requires-clause-newest g t c κs within =
     c.requires.newest ∙ ap (newest_in s) at
 
 pub fill_page-requires-clause-has : goal.fill_page-requires-clause-has
-fill_page-requires-clause-has g t c κs within =
+fill_page-requires-clause-has g t c =
     let s = c.args.source.now.snapshot.now in
     let is = c.version-version.ensures.stands in
     let size = c.bytes-size.ensures.is ∙ c.page_size.ensures in
@@ -94,25 +94,56 @@ halves-requires-clause-even g t c =
     let large : s.page_size < c.args.range.size = larger s.page_size c.args.range (page_pos s.page_size is.page_size) c.requires.has.aligned (λ e. c.if-range-size.false (e ∙ sym size)) in
     even s.page_size c.args.range c.requires.has.aligned large
 
-pub walk-requires-clause-newest : goal.walk-requires-clause-newest
-walk-requires-clause-newest g t c κs within =
-    let s = c.args.source.now.snapshot.now in
-    let is = c.version-version.ensures.stands in
-    let size = c.bytes-size.ensures.is ∙ c.page_size.ensures in
-    let large : s.page_size < c.args.range.size = larger s.page_size c.args.range (page_pos s.page_size is.page_size) c.requires.has.aligned (λ e. c.if-range-size.false (e ∙ sym size)) in
-    (child c.links_step.ensures.step c.page_bytes_stay.ensures.extents s is c.args.at c.links-left.result.0 c.args.range c.halves.result.0 c.requires.newest c.requires.has large
-    (inl c.halves.ensures.lower) (let o = ap (λ (x : Range). x.offset) c.halves.ensures.lower in omega (arith, o, c.requires.begins, c.requires.valid, c.requires.some))
-    (c.links-left.ensures.left ∙ ap (newest_of s.page_size (log_of s) c.args.at) (sym c.halves.ensures.lower))).0
-
-pub walk-requires-clause-has : goal.walk-requires-clause-has
-walk-requires-clause-has g t c κs within =
-    let s = c.args.source.now.snapshot.now in
-    let is = c.version-version.ensures.stands in
-    let size = c.bytes-size.ensures.is ∙ c.page_size.ensures in
-    let large : s.page_size < c.args.range.size = larger s.page_size c.args.range (page_pos s.page_size is.page_size) c.requires.has.aligned (λ e. c.if-range-size.false (e ∙ sym size)) in
-    (child c.links_step.ensures.step c.page_bytes_stay.ensures.extents s is c.args.at c.links-left.result.0 c.args.range c.halves.result.0 c.requires.newest c.requires.has large
-    (inl c.halves.ensures.lower) (let o = ap (λ (x : Range). x.offset) c.halves.ensures.lower in omega (arith, o, c.requires.begins, c.requires.valid, c.requires.some))
-    (c.links-left.ensures.left ∙ ap (newest_of s.page_size (log_of s) c.args.at) (sym c.halves.ensures.lower))).1
+pub walk-requires : goal.walk-requires
+walk-requires g t c = λ κs lives. (
+  search rules,
+  (
+    lives.0,
+    (
+      lives.1,
+      (
+        search rules,
+        (
+          search rules,
+          (
+            search rules,
+            (
+              (let s = c.args.source.now.snapshot.now in
+                  let is = c.version-version.ensures.stands in
+                  let size = c.bytes-size.ensures.is ∙ c.page_size.ensures in
+                  let large : s.page_size < c.args.range.size = larger s.page_size c.args.range (page_pos s.page_size is.page_size) c.requires.has.aligned (λ e. c.if-range-size.false (e ∙ sym size)) in
+                  (child c.links_step.ensures.step c.page_bytes_stay.ensures.extents s is c.args.at c.links-left.result.0 c.args.range c.halves.result.0 c.requires.newest c.requires.has large
+                  (inl c.halves.ensures.lower) (let o = ap (λ (x : Range). x.offset) c.halves.ensures.lower in omega (arith, o, c.requires.begins, c.requires.valid, c.requires.some))
+                  (c.links-left.ensures.left ∙ ap (newest_of s.page_size (log_of s) c.args.at) (sym c.halves.ensures.lower))).0),
+              (
+                (let s = c.args.source.now.snapshot.now in
+                    let is = c.version-version.ensures.stands in
+                    let size = c.bytes-size.ensures.is ∙ c.page_size.ensures in
+                    let large : s.page_size < c.args.range.size = larger s.page_size c.args.range (page_pos s.page_size is.page_size) c.requires.has.aligned (λ e. c.if-range-size.false (e ∙ sym size)) in
+                    (child c.links_step.ensures.step c.page_bytes_stay.ensures.extents s is c.args.at c.links-left.result.0 c.args.range c.halves.result.0 c.requires.newest c.requires.has large
+                    (inl c.halves.ensures.lower) (let o = ap (λ (x : Range). x.offset) c.halves.ensures.lower in omega (arith, o, c.requires.begins, c.requires.valid, c.requires.some))
+                    (c.links-left.ensures.left ∙ ap (newest_of s.page_size (log_of s) c.args.at) (sym c.halves.ensures.lower))).1),
+                (
+                  search rules,
+                  (
+                    search rules,
+                    (
+                      search rules,
+                      (
+                        search rules,
+                        search rules,
+                      ),
+                    ),
+                  ),
+                ),
+              ),
+            ),
+          ),
+        ),
+      ),
+    ),
+  ),
+)
 
 pub returns-then-end-high-clause-steps : goal.returns-then-end-high-clause-steps
 returns-then-end-high-clause-steps g t c =
@@ -126,36 +157,63 @@ returns-then-end-high-clause-steps g t c =
     let f = c.walk.ensures.steps inner.below (2 * q) first last (c.halves.ensures.lower ∙ inner.left) before after in
     omega (arith, f, inner.visits, c.links-left.ensures.step)
 
-pub walk-requires-then-high-from-clause-newest : goal.walk-requires-then-high-from-clause-newest
-walk-requires-then-high-from-clause-newest g t c κs within =
-    let s = c.args.source.now.snapshot.now in
-    let is = c.version-version.ensures.stands in
-    let size = c.bytes-size.ensures.is ∙ c.page_size.ensures in
-    let large : s.page_size < c.args.range.size = larger s.page_size c.args.range (page_pos s.page_size is.page_size) c.requires.has.aligned (λ e. c.if-range-size.false (e ∙ sym size)) in
-    (child c.links_step.ensures.step c.page_bytes_stay.ensures.extents s is c.args.at c.links-left.result.1 c.args.range c.halves.result.1 c.requires.newest c.requires.has large
-    (inr c.halves.ensures.upper) (omega (arith, c.requires.valid, c.requires.some, c.if-high-from.true))
-    (c.links-left.ensures.right ∙ ap (newest_of s.page_size (log_of s) c.args.at) (sym c.halves.ensures.upper))).0
-
-pub walk-requires-then-high-from-clause-has : goal.walk-requires-then-high-from-clause-has
-walk-requires-then-high-from-clause-has g t c κs within =
-    let s = c.args.source.now.snapshot.now in
-    let is = c.version-version.ensures.stands in
-    let size = c.bytes-size.ensures.is ∙ c.page_size.ensures in
-    let large : s.page_size < c.args.range.size = larger s.page_size c.args.range (page_pos s.page_size is.page_size) c.requires.has.aligned (λ e. c.if-range-size.false (e ∙ sym size)) in
-    (child c.links_step.ensures.step c.page_bytes_stay.ensures.extents s is c.args.at c.links-left.result.1 c.args.range c.halves.result.1 c.requires.newest c.requires.has large
-    (inr c.halves.ensures.upper) (omega (arith, c.requires.valid, c.requires.some, c.if-high-from.true))
-    (c.links-left.ensures.right ∙ ap (newest_of s.page_size (log_of s) c.args.at) (sym c.halves.ensures.upper))).1
-
-pub walk-requires-then-high-from-clause-ends : goal.walk-requires-then-high-from-clause-ends
-walk-requires-then-high-from-clause-ends g t c κs within =
-    let s = c.args.source.now.snapshot.now in
-    let is = c.version-version.ensures.stands in
-    let size = c.bytes-size.ensures.is ∙ c.page_size.ensures in
-    let large : s.page_size < c.args.range.size = larger s.page_size c.args.range (page_pos s.page_size is.page_size) c.requires.has.aligned (λ e. c.if-range-size.false (e ∙ sym size)) in
-    let two = even s.page_size c.args.range c.requires.has.aligned large in
-    let o = ap (λ (x : Range). x.offset) c.halves.ensures.upper in
-    let half = ap (λ (x : Range). x.size) c.halves.ensures.upper in
-    omega (arith, o, half, two, c.requires.ends)
+pub walk-requires-then-high-from : goal.walk-requires-then-high-from
+walk-requires-then-high-from g t c = λ κs lives. (
+  search rules,
+  (
+    lives.0,
+    (
+      lives.1,
+      (
+        search rules,
+        (
+          search rules,
+          (
+            search rules,
+            (
+              (let s = c.args.source.now.snapshot.now in
+                  let is = c.version-version.ensures.stands in
+                  let size = c.bytes-size.ensures.is ∙ c.page_size.ensures in
+                  let large : s.page_size < c.args.range.size = larger s.page_size c.args.range (page_pos s.page_size is.page_size) c.requires.has.aligned (λ e. c.if-range-size.false (e ∙ sym size)) in
+                  (child c.links_step.ensures.step c.page_bytes_stay.ensures.extents s is c.args.at c.links-left.result.1 c.args.range c.halves.result.1 c.requires.newest c.requires.has large
+                  (inr c.halves.ensures.upper) (omega (arith, c.requires.valid, c.requires.some, c.if-high-from.true))
+                  (c.links-left.ensures.right ∙ ap (newest_of s.page_size (log_of s) c.args.at) (sym c.halves.ensures.upper))).0),
+              (
+                (let s = c.args.source.now.snapshot.now in
+                    let is = c.version-version.ensures.stands in
+                    let size = c.bytes-size.ensures.is ∙ c.page_size.ensures in
+                    let large : s.page_size < c.args.range.size = larger s.page_size c.args.range (page_pos s.page_size is.page_size) c.requires.has.aligned (λ e. c.if-range-size.false (e ∙ sym size)) in
+                    (child c.links_step.ensures.step c.page_bytes_stay.ensures.extents s is c.args.at c.links-left.result.1 c.args.range c.halves.result.1 c.requires.newest c.requires.has large
+                    (inr c.halves.ensures.upper) (omega (arith, c.requires.valid, c.requires.some, c.if-high-from.true))
+                    (c.links-left.ensures.right ∙ ap (newest_of s.page_size (log_of s) c.args.at) (sym c.halves.ensures.upper))).1),
+                (
+                  search rules,
+                  (
+                    (let s = c.args.source.now.snapshot.now in
+                        let is = c.version-version.ensures.stands in
+                        let size = c.bytes-size.ensures.is ∙ c.page_size.ensures in
+                        let large : s.page_size < c.args.range.size = larger s.page_size c.args.range (page_pos s.page_size is.page_size) c.requires.has.aligned (λ e. c.if-range-size.false (e ∙ sym size)) in
+                        let two = even s.page_size c.args.range c.requires.has.aligned large in
+                        let o = ap (λ (x : Range). x.offset) c.halves.ensures.upper in
+                        let half = ap (λ (x : Range). x.size) c.halves.ensures.upper in
+                        omega (arith, o, half, two, c.requires.ends)),
+                    (
+                      search rules,
+                      (
+                        search rules,
+                        search rules,
+                      ),
+                    ),
+                  ),
+                ),
+              ),
+            ),
+          ),
+        ),
+      ),
+    ),
+  ),
+)
 
 pub returns-then-high-from-clause-steps : goal.returns-then-high-from-clause-steps
 returns-then-high-from-clause-steps g t c =
@@ -169,25 +227,56 @@ returns-then-high-from-clause-steps g t c =
     let f = c.walk-then-high-from.ensures.steps inner.below (2 * q + 1) first last (c.halves.ensures.upper ∙ inner.right) before after in
     omega (arith, f, inner.visits, c.links-left.ensures.step)
 
-pub walk-requires-2-clause-newest : goal.walk-requires-2-clause-newest
-walk-requires-2-clause-newest g t c κs within =
-    let s = c.args.source.now.snapshot.now in
-    let is = c.version-version.ensures.stands in
-    let size = c.bytes-size.ensures.is ∙ c.page_size.ensures in
-    let large : s.page_size < c.args.range.size = larger s.page_size c.args.range (page_pos s.page_size is.page_size) c.requires.has.aligned (λ e. c.if-range-size.false (e ∙ sym size)) in
-    (child c.links_step.ensures.step c.page_bytes_stay.ensures.extents s is c.args.at c.links-left.result.0 c.args.range c.halves.result.0 c.requires.newest c.requires.has large
-    (inl c.halves.ensures.lower) (let o = ap (λ (x : Range). x.offset) c.halves.ensures.lower in omega (arith, o, c.requires.begins, c.requires.valid, c.requires.some))
-    (c.links-left.ensures.left ∙ ap (newest_of s.page_size (log_of s) c.args.at) (sym c.halves.ensures.lower))).0
-
-pub walk-requires-2-clause-has : goal.walk-requires-2-clause-has
-walk-requires-2-clause-has g t c κs within =
-    let s = c.args.source.now.snapshot.now in
-    let is = c.version-version.ensures.stands in
-    let size = c.bytes-size.ensures.is ∙ c.page_size.ensures in
-    let large : s.page_size < c.args.range.size = larger s.page_size c.args.range (page_pos s.page_size is.page_size) c.requires.has.aligned (λ e. c.if-range-size.false (e ∙ sym size)) in
-    (child c.links_step.ensures.step c.page_bytes_stay.ensures.extents s is c.args.at c.links-left.result.0 c.args.range c.halves.result.0 c.requires.newest c.requires.has large
-    (inl c.halves.ensures.lower) (let o = ap (λ (x : Range). x.offset) c.halves.ensures.lower in omega (arith, o, c.requires.begins, c.requires.valid, c.requires.some))
-    (c.links-left.ensures.left ∙ ap (newest_of s.page_size (log_of s) c.args.at) (sym c.halves.ensures.lower))).1
+pub walk-requires-2 : goal.walk-requires-2
+walk-requires-2 g t c = λ κs lives. (
+  search rules,
+  (
+    lives.0,
+    (
+      lives.1,
+      (
+        search rules,
+        (
+          search rules,
+          (
+            search rules,
+            (
+              (let s = c.args.source.now.snapshot.now in
+                  let is = c.version-version.ensures.stands in
+                  let size = c.bytes-size.ensures.is ∙ c.page_size.ensures in
+                  let large : s.page_size < c.args.range.size = larger s.page_size c.args.range (page_pos s.page_size is.page_size) c.requires.has.aligned (λ e. c.if-range-size.false (e ∙ sym size)) in
+                  (child c.links_step.ensures.step c.page_bytes_stay.ensures.extents s is c.args.at c.links-left.result.0 c.args.range c.halves.result.0 c.requires.newest c.requires.has large
+                  (inl c.halves.ensures.lower) (let o = ap (λ (x : Range). x.offset) c.halves.ensures.lower in omega (arith, o, c.requires.begins, c.requires.valid, c.requires.some))
+                  (c.links-left.ensures.left ∙ ap (newest_of s.page_size (log_of s) c.args.at) (sym c.halves.ensures.lower))).0),
+              (
+                (let s = c.args.source.now.snapshot.now in
+                    let is = c.version-version.ensures.stands in
+                    let size = c.bytes-size.ensures.is ∙ c.page_size.ensures in
+                    let large : s.page_size < c.args.range.size = larger s.page_size c.args.range (page_pos s.page_size is.page_size) c.requires.has.aligned (λ e. c.if-range-size.false (e ∙ sym size)) in
+                    (child c.links_step.ensures.step c.page_bytes_stay.ensures.extents s is c.args.at c.links-left.result.0 c.args.range c.halves.result.0 c.requires.newest c.requires.has large
+                    (inl c.halves.ensures.lower) (let o = ap (λ (x : Range). x.offset) c.halves.ensures.lower in omega (arith, o, c.requires.begins, c.requires.valid, c.requires.some))
+                    (c.links-left.ensures.left ∙ ap (newest_of s.page_size (log_of s) c.args.at) (sym c.halves.ensures.lower))).1),
+                (
+                  search rules,
+                  (
+                    search rules,
+                    (
+                      search rules,
+                      (
+                        search rules,
+                        search rules,
+                      ),
+                    ),
+                  ),
+                ),
+              ),
+            ),
+          ),
+        ),
+      ),
+    ),
+  ),
+)
 
 pub returns-in_err-walk-clause-steps : goal.returns-in_err-walk-clause-steps
 returns-in_err-walk-clause-steps g t c =
@@ -228,43 +317,70 @@ returns-in_err-walk-clause-failed g t c =
     let p = err_from_is_err_and c.from_residual.result c.from_residual.ensures.1 in
     rw (p.1, p.2) (failed_front s c.args.from m n _ _ _ (page_pos s.page_size is.page_size) (omega (arith, cut, lt, far)) c.in_err-walk.ensures.failed)
 
-pub walk-requires-3-clause-newest : goal.walk-requires-3-clause-newest
-walk-requires-3-clause-newest g t c κs within =
-    let s = c.args.source.now.snapshot.now in
-    let is = c.version-version.ensures.stands in
-    let size = c.bytes-size.ensures.is ∙ c.page_size.ensures in
-    let large : s.page_size < c.args.range.size = larger s.page_size c.args.range (page_pos s.page_size is.page_size) c.requires.has.aligned (λ e. c.if-range-size.false (e ∙ sym size)) in
-    (child c.links_step.ensures.step c.page_bytes_stay.ensures.extents s is c.args.at c.links-left.result.1 c.args.range c.halves.result.1 c.requires.newest c.requires.has large
-    (inr c.halves.ensures.upper) (omega (arith, c.requires.valid, c.requires.some, c.if-end-high.false))
-    (c.links-left.ensures.right ∙ ap (newest_of s.page_size (log_of s) c.args.at) (sym c.halves.ensures.upper))).0
-
-pub walk-requires-3-clause-has : goal.walk-requires-3-clause-has
-walk-requires-3-clause-has g t c κs within =
-    let s = c.args.source.now.snapshot.now in
-    let is = c.version-version.ensures.stands in
-    let size = c.bytes-size.ensures.is ∙ c.page_size.ensures in
-    let large : s.page_size < c.args.range.size = larger s.page_size c.args.range (page_pos s.page_size is.page_size) c.requires.has.aligned (λ e. c.if-range-size.false (e ∙ sym size)) in
-    (child c.links_step.ensures.step c.page_bytes_stay.ensures.extents s is c.args.at c.links-left.result.1 c.args.range c.halves.result.1 c.requires.newest c.requires.has large
-    (inr c.halves.ensures.upper) (omega (arith, c.requires.valid, c.requires.some, c.if-end-high.false))
-    (c.links-left.ensures.right ∙ ap (newest_of s.page_size (log_of s) c.args.at) (sym c.halves.ensures.upper))).1
-
-pub walk-requires-3-clause-ends : goal.walk-requires-3-clause-ends
-walk-requires-3-clause-ends g t c κs within =
-    let s = c.args.source.now.snapshot.now in
-    let is = c.version-version.ensures.stands in
-    let size = c.bytes-size.ensures.is ∙ c.page_size.ensures in
-    let large : s.page_size < c.args.range.size = larger s.page_size c.args.range (page_pos s.page_size is.page_size) c.requires.has.aligned (λ e. c.if-range-size.false (e ∙ sym size)) in
-    let two = even s.page_size c.args.range c.requires.has.aligned large in
-    let o = ap (λ (x : Range). x.offset) c.halves.ensures.upper in
-    let half = ap (λ (x : Range). x.size) c.halves.ensures.upper in
-    let front = c.split_at_mut-front.ensures.front_len in
-    let m = length c.split_at_mut-front.result.0.now in
-    let n = length c.args.out.now in
-    let mid = c.halves.result.1.offset in
-    let lt : c.args.from < mid = c.if-high-from.false in
-    let far : mid < c.args.from + n = c.if-end-high.false in
-    let cut : m ≡ mid - c.args.from = front in
-    omega (arith, o, half, two, c.requires.ends, c.split_at_mut-front.ensures.back_len, cut, lt, far)
+pub walk-requires-3 : goal.walk-requires-3
+walk-requires-3 g t c = λ κs lives. (
+  search rules,
+  (
+    lives.0,
+    (
+      lives.1,
+      (
+        search rules,
+        (
+          search rules,
+          (
+            search rules,
+            (
+              (let s = c.args.source.now.snapshot.now in
+                  let is = c.version-version.ensures.stands in
+                  let size = c.bytes-size.ensures.is ∙ c.page_size.ensures in
+                  let large : s.page_size < c.args.range.size = larger s.page_size c.args.range (page_pos s.page_size is.page_size) c.requires.has.aligned (λ e. c.if-range-size.false (e ∙ sym size)) in
+                  (child c.links_step.ensures.step c.page_bytes_stay.ensures.extents s is c.args.at c.links-left.result.1 c.args.range c.halves.result.1 c.requires.newest c.requires.has large
+                  (inr c.halves.ensures.upper) (omega (arith, c.requires.valid, c.requires.some, c.if-end-high.false))
+                  (c.links-left.ensures.right ∙ ap (newest_of s.page_size (log_of s) c.args.at) (sym c.halves.ensures.upper))).0),
+              (
+                (let s = c.args.source.now.snapshot.now in
+                    let is = c.version-version.ensures.stands in
+                    let size = c.bytes-size.ensures.is ∙ c.page_size.ensures in
+                    let large : s.page_size < c.args.range.size = larger s.page_size c.args.range (page_pos s.page_size is.page_size) c.requires.has.aligned (λ e. c.if-range-size.false (e ∙ sym size)) in
+                    (child c.links_step.ensures.step c.page_bytes_stay.ensures.extents s is c.args.at c.links-left.result.1 c.args.range c.halves.result.1 c.requires.newest c.requires.has large
+                    (inr c.halves.ensures.upper) (omega (arith, c.requires.valid, c.requires.some, c.if-end-high.false))
+                    (c.links-left.ensures.right ∙ ap (newest_of s.page_size (log_of s) c.args.at) (sym c.halves.ensures.upper))).1),
+                (
+                  search rules,
+                  (
+                    (let s = c.args.source.now.snapshot.now in
+                        let is = c.version-version.ensures.stands in
+                        let size = c.bytes-size.ensures.is ∙ c.page_size.ensures in
+                        let large : s.page_size < c.args.range.size = larger s.page_size c.args.range (page_pos s.page_size is.page_size) c.requires.has.aligned (λ e. c.if-range-size.false (e ∙ sym size)) in
+                        let two = even s.page_size c.args.range c.requires.has.aligned large in
+                        let o = ap (λ (x : Range). x.offset) c.halves.ensures.upper in
+                        let half = ap (λ (x : Range). x.size) c.halves.ensures.upper in
+                        let front = c.split_at_mut-front.ensures.front_len in
+                        let m = length c.split_at_mut-front.result.0.now in
+                        let n = length c.args.out.now in
+                        let mid = c.halves.result.1.offset in
+                        let lt : c.args.from < mid = c.if-high-from.false in
+                        let far : mid < c.args.from + n = c.if-end-high.false in
+                        let cut : m ≡ mid - c.args.from = front in
+                        omega (arith, o, half, two, c.requires.ends, c.split_at_mut-front.ensures.back_len, cut, lt, far)),
+                    (
+                      search rules,
+                      (
+                        search rules,
+                        search rules,
+                      ),
+                    ),
+                  ),
+                ),
+              ),
+            ),
+          ),
+        ),
+      ),
+    ),
+  ),
+)
 
 pub returns-clause-bytes : goal.returns-clause-bytes
 returns-clause-bytes g t c =

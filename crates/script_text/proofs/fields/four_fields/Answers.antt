@@ -1,5 +1,5 @@
 use Rattle.std.proofs.Common.{List, ℕ, ◌∷◌, ap, ◌∙◌}
-use Rattle.script_text.proofs.FieldLemmas.{fields_of-cut, not_four-one, not_four-two, not_four-more}
+use Rattle.script_text.proofs.FieldLemmas.{fields_of-cut, not_four-one, not_four-more}
 use Rattle.script_text.proofs.fields.four_fields.Goals as goal
 
 pub returns-in_err-first : goal.returns-in_err-first
@@ -9,23 +9,11 @@ pub returns-in_err-second : goal.returns-in_err-second
 returns-in_err-second c =
     let cut = c.in_ok-first.ensures in
     rw c.from_residual-in_err-second.ensures
-    (not_four-two c.args.text.now c.in_ok-first.first.now c.in_ok-first.rest.now
+    (not_four-more c.args.text.now c.in_ok-first.first.now c.in_ok-first.rest.now
     (fields_of-cut c.args.text.now c.in_ok-first.first.now c.in_ok-first.rest.now cut.0 cut.1) c.in_err-second.ensures)
-
-pub returns-in_err-third : goal.returns-in_err-third
-returns-in_err-third c =
-    let cut = c.in_ok-first.ensures in
-    let cut_again = c.in_ok-second.ensures in
-    rw c.from_residual-in_err-third.ensures
-    (not_four-more c.args.text.now c.in_ok-first.first.now c.in_ok-first.rest.now c.in_ok-second.second.now c.in_ok-second.rest.now
-    (fields_of-cut c.args.text.now c.in_ok-first.first.now c.in_ok-first.rest.now cut.0 cut.1)
-    (fields_of-cut c.in_ok-first.rest.now c.in_ok-second.second.now c.in_ok-second.rest.now cut_again.0 cut_again.1) c.in_err-third.ensures)
 
 pub returns : goal.returns
 returns c =
     let cut = c.in_ok-first.ensures in
-    let cut_again = c.in_ok-second.ensures in
     fields_of-cut c.args.text.now c.in_ok-first.first.now c.in_ok-first.rest.now cut.0 cut.1
-    ∙ ap (λ (fs : List (List ℕ)). c.in_ok-first.first.now ∷ fs)
-    (fields_of-cut c.in_ok-first.rest.now c.in_ok-second.second.now c.in_ok-second.rest.now cut_again.0 cut_again.1
-    ∙ ap (λ (fs : List (List ℕ)). c.in_ok-second.second.now ∷ fs) c.in_ok-third.ensures)
+    ∙ ap (λ (fs : List (List ℕ)). c.in_ok-first.first.now ∷ fs) c.in_ok-second.ensures

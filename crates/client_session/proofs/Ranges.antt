@@ -1,0 +1,92 @@
+-- What the store answers a read, by what it answers of the version's size.
+use Rattle.std.proofs.Common.{◌≡◌, refl, sym, ◌∙◌, ℕ, ◌+◌, ◌<◌, ◌≤◌, Bool, true, false, List, [], ◌∷◌, length, take, drop, Option, Some, None, arith, length-take, length-drop}
+use Rattle.std.specs.Prelude.{nat_lt}
+use Rattle.std.proofs.lemmas.Bool.{lt-ltb, ltb-true, false≢true}
+use Rattle.blob_model.specs.Content.{content, size_of}
+use Rattle.blob_model.specs.Store.{Store, Blob, blob_at, published}
+use Rattle.blob_model.specs.Answer.{Answered, Test, refuse, unless_refused, not_published, range_past_size, bytes_of}
+use Rattle.blob_model.specs.declared.call.Call.TheVariants as Calls
+use Rattle.blob_model.specs.declared.call.Outcome.TheVariants as Outcomes
+use Rattle.blob_model.specs.declared.call.Refusal.{Refusal}
+use Rattle.blob_model.specs.declared.call.Refusal.TheVariants as Refusals
+use Rattle.version_manager.specs.Desks.{DeskState, store_now, outcome_now, updates_or_none, updates_in}
+
+-- a test that refuses decides, whatever follows
+refused_first : (s : Store) (x : Bool) (r r' : Refusal) (n : ℕ) (tests : List Test) (done : Answered)
+    → (unless_refused s (record { refuses = x; refusal = r } ∷ []) (s, Outcomes.Size n)).1 ≡ Outcomes.Refused r'
+    → (unless_refused s (record { refuses = x; refusal = r } ∷ tests) done).1 ≡ Outcomes.Refused r'
+refused_first s true r r' n tests done e = e
+refused_first s false r r' n tests done e = cc
+
+-- a test that passes leaves it to the others
+passed_first : (s : Store) (x : Bool) (r : Refusal) (n m : ℕ) (tests : List Test) (done : Answered)
+    → (unless_refused s (record { refuses = x; refusal = r } ∷ []) (s, Outcomes.Size n)).1 ≡ Outcomes.Size m
+    → (unless_refused s (record { refuses = x; refusal = r } ∷ tests) done).1 ≡ (unless_refused s tests done).1
+passed_first s true r n m tests done e = cc
+passed_first s false r n m tests done e = refl
+
+last_refuses : (s : Store) (x : Bool) (r : Refusal) (done : Answered) → x ≡ true → (unless_refused s (record { refuses = x; refusal = r } ∷ []) done).1 ≡ Outcomes.Refused r
+last_refuses s true r done e = refl
+last_refuses s false r done e = absurd (false≢true e)
+
+last_passes : (s : Store) (x : Bool) (r : Refusal) (done : Answered) → x ≡ false → (unless_refused s (record { refuses = x; refusal = r } ∷ []) done).1 ≡ done.1
+last_passes s true r done e = absurd (false≢true (sym e))
+last_passes s false r done e = refl
+
+-- in a blob that may be there
+abbrev in_one : Store → Option Blob → ℕ → (Blob → Answered) → Answered
+in_one s o blob f = elim o [ None ↦ refuse s (Refusals.NoBlob blob) | Some b ↦ f b ]
+
+abbrev sized : Store → ℕ → Blob → Answered
+sized s version b = unless_refused s (not_published b version ∷ []) (s, Outcomes.Size (size_of b.updates version))
+
+abbrev ranged : Store → ℕ → ℕ → ℕ → Blob → Answered
+ranged s version offset count b = unless_refused s (not_published b version ∷ range_past_size b version offset count ∷ []) (s, Outcomes.Content (bytes_of b version offset count))
+
+refused_in : (s : Store) (o : Option Blob) (blob version offset count : ℕ) (r : Refusal) → (in_one s o blob (sized s version)).1 ≡ Outcomes.Refused r
+    → (in_one s o blob (ranged s version offset count)).1 ≡ Outcomes.Refused r
+refused_in s None blob version offset count r e = e
+refused_in s (Some b) blob version offset count r e =
+    refused_first s (nat_lt (published b) version) (Refusals.NotPublished version (published b)) r (size_of b.updates version)
+    (range_past_size b version offset count ∷ []) (s, Outcomes.Content (bytes_of b version offset count)) e
+
+past_in : (s : Store) (o : Option Blob) (blob version offset count n : ℕ) → (in_one s o blob (sized s version)).1 ≡ Outcomes.Size n → size_of (updates_or_none o) version < offset + count
+    → (in_one s o blob (ranged s version offset count)).1 ≡ Outcomes.Refused (Refusals.RangePastSize (offset + count) (size_of (updates_or_none o) version))
+past_in s None blob version offset count n e past = cc
+past_in s (Some b) blob version offset count n e past =
+    passed_first s (nat_lt (published b) version) (Refusals.NotPublished version (published b)) (size_of b.updates version) n
+    (range_past_size b version offset count ∷ []) (s, Outcomes.Content (bytes_of b version offset count)) e
+    ∙ last_refuses s (nat_lt (size_of b.updates version) (offset + count)) (Refusals.RangePastSize (offset + count) (size_of b.updates version))
+    (s, Outcomes.Content (bytes_of b version offset count)) (lt-ltb (size_of b.updates version) (offset + count) past)
+
+-- a test of what isn't below
+pub not_below : (x : Bool) (m n : ℕ) → (x ≡ true → m < n) → n ≤ m → x ≡ false
+not_below true m n f le = absurd (omega (arith, f refl))
+not_below false m n f le = refl
+
+within_in : (s : Store) (o : Option Blob) (blob version offset count n : ℕ) → (in_one s o blob (sized s version)).1 ≡ Outcomes.Size n → offset + count ≤ size_of (updates_or_none o) version
+    → (in_one s o blob (ranged s version offset count)).1 ≡ Outcomes.Content (take count (drop offset (content (updates_or_none o) version)))
+within_in s None blob version offset count n e within = cc
+within_in s (Some b) blob version offset count n e within =
+    passed_first s (nat_lt (published b) version) (Refusals.NotPublished version (published b)) (size_of b.updates version) n
+    (range_past_size b version offset count ∷ []) (s, Outcomes.Content (bytes_of b version offset count)) e
+    ∙ last_passes s (nat_lt (size_of b.updates version) (offset + count)) (Refusals.RangePastSize (offset + count) (size_of b.updates version))
+    (s, Outcomes.Content (bytes_of b version offset count))
+    (not_below (nat_lt (size_of b.updates version) (offset + count)) (size_of b.updates version) (offset + count) (ltb-true (size_of b.updates version) (offset + count)) within)
+
+-- ---- at a desk
+pub read_refused : (d : DeskState) (blob version offset count : ℕ) (r : Refusal) → outcome_now d 1 (Calls.Size blob version) ≡ Outcomes.Refused r
+    → outcome_now d 1 (Calls.Read blob version offset count) ≡ Outcomes.Refused r
+read_refused d blob version offset count r e = refused_in (store_now d) (blob_at (store_now d) blob) blob version offset count r e
+
+pub read_past : (d : DeskState) (blob version offset count n : ℕ) → outcome_now d 1 (Calls.Size blob version) ≡ Outcomes.Size n → size_of (updates_in d blob) version < offset + count
+    → outcome_now d 1 (Calls.Read blob version offset count) ≡ Outcomes.Refused (Refusals.RangePastSize (offset + count) (size_of (updates_in d blob) version))
+read_past d blob version offset count n e past = past_in (store_now d) (blob_at (store_now d) blob) blob version offset count n e past
+
+pub read_within : (d : DeskState) (blob version offset count n : ℕ) → outcome_now d 1 (Calls.Size blob version) ≡ Outcomes.Size n → offset + count ≤ size_of (updates_in d blob) version
+    → outcome_now d 1 (Calls.Read blob version offset count) ≡ Outcomes.Content (take count (drop offset (content (updates_in d blob) version)))
+read_within d blob version offset count n e within = within_in (store_now d) (blob_at (store_now d) blob) blob version offset count n e within
+
+-- how many bytes a range within the size has
+pub count_within : (bytes : List ℕ) (offset count : ℕ) → offset + count ≤ length bytes → length (take count (drop offset bytes)) ≡ count
+count_within bytes offset count within = simp (length-take, length-drop) (omega arith)

@@ -1,0 +1,6 @@
+pub mod Parts
+pub mod Tickets
+pub mod Updates
+pub mod Results
+pub mod Kept
+pub mod Sessions

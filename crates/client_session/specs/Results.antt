@@ -1,0 +1,58 @@
+-- The reply that each result of a session's call is.
+use Rattle.std.specs.Prelude.{ℕ, List, Result, Ok, Err}
+use Rattle.blob_model.specs.declared.call.Place.{Place}
+use Rattle.page_fan.specs.declared.storing.StoreFault.{StoreFault}
+use Rattle.page_fan.specs.declared.storing.StoreFault.TheVariants as StoreFaults
+use Rattle.client_session.specs.declared.reading.RangeFault.{RangeFault}
+use Rattle.client_session.specs.declared.reading.RangeFault.TheVariants as RangeFaults
+use Rattle.version_manager.specs.declared.fault.DeskFault.{DeskFault}
+use Rattle.version_manager.specs.declared.fault.DeskFault.TheVariants as DeskFaults
+use Rattle.request_form.specs.Replies.{fault_of}
+use Rattle.request_form.specs.declared.form.Reply.{Reply}
+use Rattle.request_form.specs.declared.form.Reply.TheVariants as Replies
+use Rattle.request_form.specs.declared.form.Fault.{Fault}
+use Rattle.request_form.specs.declared.form.Fault.TheVariants as Faults
+use Rattle.client_session.specs.declared.done.Started.{Started}
+use Rattle.client_session.specs.declared.done.Done.{Done}
+use Rattle.client_session.specs.Updates.{update_reply, start_reply}
+
+-- what a session says of the desk's fault
+abbrev pub desk_fault : DeskFault → Fault
+desk_fault (DeskFaults.Refused refusal) = fault_of refusal
+desk_fault DeskFaults.NoMemory = Faults.NoMemory
+
+-- what it says where an update's pages were not stored
+abbrev pub store_fault : StoreFault → Fault
+store_fault (StoreFaults.PageFault page) = Faults.PageFault page
+store_fault StoreFaults.NoMemory = Faults.NoMemory
+
+-- what it says where a range was not read
+abbrev pub range_fault : RangeFault → Fault
+range_fault (RangeFaults.RangePastSize end size) = Faults.RangePastSize end size
+range_fault (RangeFaults.PageFault page) = Faults.PageFault page
+range_fault RangeFaults.NoMemory = Faults.NoMemory
+
+abbrev pub create_reply : Result ℕ Fault → Reply
+create_reply (Ok blob) = Replies.Created blob
+create_reply (Err fault) = Replies.Refused fault
+
+abbrev pub branch_reply : Result ℕ Fault → Reply
+branch_reply (Ok blob) = Replies.Branched blob
+branch_reply (Err fault) = Replies.Refused fault
+
+abbrev pub finish_reply : Result ℕ Fault → Reply
+finish_reply (Ok published) = Replies.Finished published
+finish_reply (Err fault) = Replies.Refused fault
+
+abbrev pub read_reply : Result (List ℕ) Fault → Reply
+read_reply (Ok bytes) = Replies.Content bytes
+read_reply (Err fault) = Replies.Refused fault
+
+-- of an update at that place
+abbrev pub started_reply : Place → Result Started Fault → Reply
+started_reply place (Ok started) = start_reply place started.ticket started.version started.at started.size
+started_reply place (Err fault) = Replies.Refused fault
+
+abbrev pub done_reply : Place → Result Done Fault → Reply
+done_reply place (Ok done) = update_reply place done.version done.at done.size
+done_reply place (Err fault) = Replies.Refused fault

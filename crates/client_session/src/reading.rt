@@ -1,0 +1,93 @@
+// A range of a version, read into a buffer of its own.
+ghost use Rattle.std.specs.Prelude.{◌≡◌, ℕ, ◌+◌, ◌<◌, ◌≤◌, length, take, drop, map, sum_by, All, IfOk, OnOk, IfErr, Err};
+ghost use Rattle.blob_model.specs.Content.{content, size_of};
+ghost use Rattle.range_log.specs.Updates.{extents};
+ghost use Rattle.range_log.specs.Visits.{visits};
+ghost use Rattle.page_store.specs.Count.{HasRisen};
+ghost use Rattle.page_fan.specs.Counts.{NoneFell};
+ghost use Rattle.snapshot.specs.Versions.{IsVersionIn};
+ghost use Rattle.client_session.specs.Parts.{OverUpdates, IsMet, OnRangePast, OnPageLost};
+
+use blob_model::Bytes;
+use node_store::NodeHouse;
+use page_fan::Doors;
+use page_store::{Door, Houses};
+use range_reader::{ReadFault, ReadRoom, read};
+use snapshot::Snapshot;
+use std::alloc::Global;
+use std::sync::ledger::Ledger;
+use tree_geom::Steps;
+
+/// Why a range was not read.
+#[derive(Clone, Copy, Debug, PartialEq, Eq)]
+pub(crate) enum RangeFault {
+    /// The range would end at byte `end`, past the version's size.
+    RangePastSize { end: u128, size: u64 },
+    /// No provider gave this page of the blob, which the range meets; pages count from 0.
+    PageFault(u64),
+    /// Memory was refused.
+    NoMemory,
+}
+
+/// The `count` bytes of the version from byte `offset` on.
+///
+/// Memory is taken for them once the range is known to be within the size. It waits for nobody. It takes at most the stated
+/// number of node steps; none for a range past the size.
+pub(crate) fn read_range<D: Door, L: Ledger>(
+    alloc: Global,
+    snapshot: &Snapshot,
+    nodes: &NodeHouse,
+    houses: &Houses,
+    doors: &mut Doors<D>,
+    room: &mut ReadRoom,
+    offset: u64,
+    count: u64,
+    steps: &mut Steps<L>,
+) -> Result<Bytes, RangeFault>
+    requires here { IsVersionIn nodes.now houses.now snapshot.now }
+    requires doors { length doors.old ≡ length houses.now }
+    requires room { length room.old ≡ snapshot.now.page_size }
+    requires true_doors { All D.is_true doors.old }
+
+    // Where all is well.
+    ensures bytes { OverUpdates snapshot.now (λ us. IfOk result (λ bytes. bytes ≡ take count (drop offset (content us (length snapshot.now.rows))))) }
+    ensures within { OverUpdates snapshot.now (λ us. OnOk result (offset + count ≤ size_of us (length snapshot.now.rows))) }
+
+    // Why a fault is answered.
+    ensures refused { OverUpdates snapshot.now (λ us. size_of us (length snapshot.now.rows) < offset + count
+        → result ≡ Err (RangeFault.RangePastSize (offset + count) (size_of us (length snapshot.now.rows)))) }
+    ensures past { OverUpdates snapshot.now (λ us. IfErr result (λ fault. OnRangePast fault (size_of us (length snapshot.now.rows) < offset + count))) }
+    ensures lost_within { OverUpdates snapshot.now (λ us. IfErr result (λ fault. OnPageLost fault (λ _. offset + count ≤ size_of us (length snapshot.now.rows)))) }
+    ensures page { IfErr result (λ fault. OnPageLost fault (IsMet snapshot.now.page_size offset count)) }
+    ensures counted { IfErr result (λ fault. OnPageLost fault (λ _. HasRisen (sum_by D.faults doors.old) (sum_by D.faults doors.new))) }
+
+    // What it costs.
+    ensures steps { OverUpdates snapshot.now (λ us. steps.new ≤ steps.old + visits snapshot.now.page_size (extents us) (length snapshot.now.rows) offset count) }
+    ensures no_steps { OverUpdates snapshot.now (λ us. size_of us (length snapshot.now.rows) < offset + count → steps.new ≡ steps.old) }
+
+    // What becomes of the doors and the room.
+    ensures none_fell { NoneFell (map D.faults doors.old) (map D.faults doors.new) }
+    ensures sum_never_falls { sum_by D.faults doors.old ≤ sum_by D.faults doors.new }
+    ensures doors_stay { length doors.new ≡ length doors.old }
+    ensures room_stays { length room.new ≡ length room.old }
+    ensures truth_stays { All D.is_true doors.new }
+{
+    range_log::laws::older_versions_stay();
+    range_log::laws::page_bytes_stay();
+    let _page_size = snapshot.page_size().bytes();
+    let _version = snapshot.version();
+    let size = snapshot.size();
+    let end = u128::from(offset) + u128::from(count);
+    if end > u128::from(size) {
+        return Err(RangeFault::RangePastSize { end, size });
+    }
+    let Ok(mut out) = vec![in alloc; 0; count as usize] else {
+        return Err(RangeFault::NoMemory);
+    };
+    let buffer = out.as_mut_slice();
+    match read(snapshot, nodes, houses, doors, room, offset, buffer, steps) {
+        Ok(()) => Ok(Bytes::of(out)),
+        Err(ReadFault::RangePastSize { end, size }) => Err(RangeFault::RangePastSize { end, size }),
+        Err(ReadFault::PageFault(page)) => Err(RangeFault::PageFault(page)),
+    }
+}

@@ -1,0 +1,54 @@
+// The bytes of an update are stored before it is numbered.
+ghost use Rattle.std.specs.Prelude.{◌≡◌, ◌*◌, ◌<◌, ◌≤◌, length, IfOk, IfErr, All, map, sum_by};
+ghost use Rattle.std.specs.Arc.{arc_value};
+ghost use Rattle.page_store.specs.Count.{HasRisen};
+ghost use Rattle.page_store.specs.Stored.{joined, LieAmong};
+ghost use Rattle.page_fan.specs.Counts.{NoneFell};
+ghost use Rattle.page_fan.specs.Fault.{OnPageFault};
+
+use page_fan::{Doors, StoreFault, store};
+use page_store::{Door, Houses, Pages};
+use provider_manager::SharedLoads;
+use std::alloc::Global;
+use std::sync::{Arc, Wait};
+use std::thread::Threads;
+use tree_geom::PageSize;
+
+/// Places the bytes and stores them as pages of `p` bytes, the last one of what is left.
+///
+/// It may wait for the lock of the loads and for another thread's push into a house. After a fault some pages may lie unused
+/// in their houses.
+#[tactic(auto, using(crate::proofs::PartsStoring::pages_enough))]
+pub(crate) fn store_bytes<D: Door, R: Threads + Wait + Sync>(
+    rt: &R,
+    alloc: Global,
+    loads: &SharedLoads,
+    doors: &mut Doors<D>,
+    houses: &Houses,
+    p: PageSize,
+    bytes: &[u8],
+) -> Result<Arc<Pages>, StoreFault>
+    requires some { 1 ≤ length bytes.now }
+    requires few { length bytes.now ≤ 1048576 }
+    requires served { loads.now.providers ≡ length doors.old }
+    requires housed { length doors.old ≤ length houses.now }
+    ensures bytes { IfOk result (λ pages. joined (arc_value pages).pages ≡ bytes.now) }
+    ensures page_size { IfOk result (λ pages. (arc_value pages).page_size ≡ p) }
+    ensures here { IfOk result (λ pages. LieAmong houses.now (arc_value pages).pages) }
+    ensures page { IfErr result (λ fault. OnPageFault fault (λ i. p * i < length bytes.now)) }
+    ensures counted { IfErr result (λ fault. OnPageFault fault (λ _. HasRisen (sum_by D.faults doors.old) (sum_by D.faults doors.new))) }
+    ensures none_fell { NoneFell (map D.faults doors.old) (map D.faults doors.new) }
+    ensures sum_never_falls { sum_by D.faults doors.old ≤ sum_by D.faults doors.new }
+    ensures count { length doors.new ≡ length doors.old }
+    ensures truth_stays { All D.is_true doors.old → All D.is_true doors.new }
+{
+    let count = bytes.len().div_ceil(p.bytes() as usize) as u32;
+    let Ok(placements) = loads.place(rt, alloc, count) else {
+        return Err(StoreFault::NoMemory);
+    };
+    let pages = store(rt, alloc, doors, houses, p, bytes, &placements)?;
+    match Arc::new(alloc, pages) {
+        Ok(pages) => Ok(pages),
+        Err(_) => Err(StoreFault::NoMemory),
+    }
+}

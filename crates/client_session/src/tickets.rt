@@ -1,0 +1,147 @@
+// The updates that a session holds: numbered, and not yet finished.
+ghost use Rattle.std.specs.Prelude.{◌≡◌, ℕ, ◌<◌, ◌≤◌, List, [], ◌∷◌, ◌++◌, length, None, Some, IfOk, IfSome, MatchOption, option_map, remove, slice_get, slice_set};
+ghost use Rattle.std.specs.Arc.{arc_value};
+ghost use Rattle.request_form.specs.Session.{held_at};
+ghost use Rattle.client_session.specs.Tickets.{OpenUpdate, all_held, with_row, IsHeldAt};
+
+use border_hints::Ticket;
+use node_store::Row;
+use request_form::NoMemory;
+use std::alloc::Global;
+use std::marker::Model;
+use std::sync::Arc;
+
+// The most tickets that a session holds.
+pub(crate) const MAX_TICKETS: usize = 64;
+
+// An update that is held under a number, with its row where it is woven.
+#[derive(Drop)]
+pub(crate) struct OpenTicket {
+    number: u64,
+    ticket: Ticket,
+    row: Option<Arc<Row>>,
+}
+
+impl Model for OpenTicket {
+    ghost use Rattle.std.specs.Prelude.{option_map};
+    ghost use Rattle.std.specs.Arc.{arc_value};
+    ghost use Rattle.client_session.specs.Tickets.{OpenUpdate};
+
+    ghost Value = { OpenUpdate };
+
+    ghost view = { λ o. record { number = o.number; ticket = o.ticket; row = option_map arc_value o.row } };
+}
+
+impl OpenTicket {
+    pub(crate) fn new(number: u64, ticket: Ticket, row: Option<Arc<Row>>) -> OpenTicket
+        ensures { result ≡ record { number = number; ticket = ticket; row = option_map arc_value row } }
+    {
+        OpenTicket {
+            number,
+            ticket,
+            row,
+        }
+    }
+
+    pub(crate) fn number(&self) -> u64
+        ensures { result ≡ self.now.number }
+    {
+        self.number
+    }
+
+    pub(crate) fn ticket(&self) -> &Ticket
+        ensures { result.now ≡ self.now.ticket }
+    {
+        &self.ticket
+    }
+
+    // A share of the row, where it is woven.
+    pub(crate) fn row(&self) -> Result<Option<Arc<Row>>, NoMemory>
+        ensures { IfOk result (λ row. option_map arc_value row ≡ self.now.row) }
+    {
+        match &self.row {
+            None => Ok(None),
+            Some(row) => match Arc::try_clone(row) {
+                Ok(row) => Ok(Some(row)),
+                Err(_) => Err(NoMemory),
+            },
+        }
+    }
+}
+
+// At most 64 held updates, in the order of their numbers. The room is made once.
+#[derive(Drop)]
+pub(crate) struct Tickets {
+    open: Vec<OpenTicket>,
+}
+
+impl Model for Tickets {
+    ghost use Rattle.std.specs.Prelude.{List, ◌≤◌, vec_capacity, vec_len};
+    ghost use Rattle.client_session.specs.Tickets.{OpenUpdate};
+
+    ghost Value = { List OpenUpdate };
+
+    ghost view = { λ t. t.open.items };
+
+    ghost invariant = { λ t. (vec_len t.open ≤ 64) × (64 ≤ vec_capacity t.open) };
+}
+
+impl Tickets {
+    pub(crate) fn new(alloc: Global) -> Result<Tickets, NoMemory>
+        ensures { IfOk result (λ tickets. tickets ≡ []) }
+    {
+        match Vec::with_capacity(alloc, MAX_TICKETS) {
+            Ok(open) => Ok(Tickets { open }),
+            Err(_) => Err(NoMemory),
+        }
+    }
+
+    pub(crate) fn count(&self) -> usize
+        ensures count { result ≡ length self.now }
+        ensures few { result ≤ 64 }
+    {
+        self.open.len()
+    }
+
+    // Where the update of that number stands.
+    pub(crate) fn find(&self, number: u64) -> Option<usize>
+        ensures { MatchOption result (held_at (all_held self.now) number ≡ None) (λ place. IsHeldAt self.now number place) }
+    {
+        for (place, open) in self.open.iter().enumerate() {
+            if open.number() == number {
+                return Some(place);
+            }
+        }
+        None
+    }
+
+    pub(crate) fn at(&self, place: usize) -> &OpenTicket
+        requires { place < length self.now }
+        ensures { slice_get self.now place ≡ Some result.now }
+    {
+        &self.open[place]
+    }
+
+    pub(crate) fn add(&mut self, update: OpenTicket)
+        requires { length self.old < 64 }
+        ensures { self.new ≡ self.old ++ update ∷ [] }
+    {
+        self.open.push_reserved(update);
+    }
+
+    // Keeps the row of the update there.
+    pub(crate) fn set_row(&mut self, place: usize, row: Arc<Row>)
+        requires { place < length self.old }
+        ensures { (o : OpenUpdate) → slice_get self.old place ≡ Some o → self.new ≡ slice_set self.old place (with_row o (arc_value row)) }
+    {
+        self.open[place].row = Some(row);
+    }
+
+    // Gives the update there up.
+    pub(crate) fn remove(&mut self, place: usize)
+        requires { place < length self.old }
+        ensures { self.new ≡ remove self.old place }
+    {
+        let _open = self.open.remove(place);
+    }
+}
