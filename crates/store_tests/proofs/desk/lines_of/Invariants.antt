@@ -1,0 +1,8 @@
+use Rattle.std.proofs.Common.{◌≡◌, length}
+use Rattle.store_tests.proofs.desk.lines_of.Given as goal
+
+abbrev pub invariant-loop-step : goal.invariant-loop-step
+invariant-loop-step g l = record {
+  doors : length l.doors ≡ 1;
+  page_size : l.desk.page_size ≡ 4;
+}

@@ -1,0 +1,5 @@
+//! Tests of a store's desk.
+#![tactic(auto)]
+
+#[cfg(test)]
+mod desk;
