@@ -1,0 +1,195 @@
+//! How many node steps a read takes: as many as the shape of the tree asks for, and no step more.
+ghost use Rattle.std.specs.Prelude.{◌≡◌, ◌<◌};
+
+use crate::session::{replies_to, session_of};
+use client_session::Solo;
+use page_store::{PlainDoor, PlainMaker};
+use request_form::Fault;
+use std::alloc::Global;
+use std::marker::Brand;
+use std::sync::Wait;
+use std::sync::ledger::{Blank, Ledger};
+use std::test::Fail;
+use std::thread::Threads;
+use tree_geom::Steps;
+
+// A range of a version of blob 1.
+#[derive(Clone, Copy)]
+struct Part {
+    version: u64,
+    offset: u64,
+    count: u64,
+}
+
+// Reads it, and says how many bytes came and how many node steps it took.
+fn counted_by<R: Threads + Wait + Sync, L: Ledger>(
+    rt: &R,
+    solo: &mut Solo<PlainDoor>,
+    part: Part,
+    blank: Blank,
+) -> Result<(Vec<u8>, u64), Fault>
+    requires name { blank.name ≡ L.name }
+    requires parts { blank.parts ≡ L.parts }
+    requires some { 0 < blank.parts }
+{
+    let mut steps = Steps::<L>::open(blank);
+    let bytes = solo.read(rt, 1, part.version, part.offset, part.count, &mut steps)?;
+    Ok((bytes.into_vec(), steps.taken()))
+}
+
+fn counted<R: Threads + Wait + Sync>(
+    rt: &R,
+    solo: &mut Solo<PlainDoor>,
+    part: Part,
+) -> Result<(Vec<u8>, u64), Fail> {
+    match counted_by::<R, Brand>(rt, solo, part, Blank::new(1)) {
+        Ok(seen) => Ok(seen),
+        Err(_) => Err("a fault".into()),
+    }
+}
+
+// Updates of blob 1, a range of its last version, its bytes, and the node steps of reading it.
+#[derive(Clone, Copy)]
+struct Visits<'a> {
+    script: &'a str,
+    part: Part,
+    bytes: &'a [u8],
+    steps: u64,
+}
+
+// Pages of four bytes.
+const VISITS: [Visits; 6] = [
+    // The root, a leaf, and the older leaf of the same page.
+    Visits {
+        script: "create\nappend 1 616263646566\nappend 1 5859\n",
+        part: Part {
+            version: 2,
+            offset: 4,
+            count: 4,
+        },
+        bytes: b"efXY",
+        steps: 3,
+    },
+    Visits {
+        script: "create\nappend 1 00\nappend 1 0102030405060708090a0b0c0d0e0f101112131415161718191a1b1c1d1e1f\n",
+        part: Part {
+            version: 2,
+            offset: 0,
+            count: 32,
+        },
+        bytes: b"\x00\x01\x02\x03\x04\x05\x06\x07\x08\x09\x0a\x0b\x0c\x0d\x0e\x0f\x10\x11\x12\x13\x14\x15\x16\x17\x18\x19\x1a\x1b\x1c\x1d\x1e\x1f",
+        steps: 16,
+    },
+    Visits {
+        script: "create\nappend 1 61626364\nappend 1 65666768\nappend 1 69\n",
+        part: Part {
+            version: 3,
+            offset: 0,
+            count: 9,
+        },
+        bytes: b"abcdefghi",
+        steps: 6,
+    },
+    Visits {
+        script: "create\nappend 1 61626364\nwrite 1 0 ff\nwrite 1 1 fe\n",
+        part: Part {
+            version: 3,
+            offset: 0,
+            count: 4,
+        },
+        bytes: b"\xff\xfecd",
+        steps: 3,
+    },
+    Visits {
+        script: "create\nappend 1 616263646566\nwrite 1 3 ffff\n",
+        part: Part {
+            version: 2,
+            offset: 0,
+            count: 6,
+        },
+        bytes: b"abc\xff\xfff",
+        steps: 5,
+    },
+    // No byte needs no node.
+    Visits {
+        script: "create\nappend 1 616263646566\n",
+        part: Part {
+            version: 1,
+            offset: 6,
+            count: 0,
+        },
+        bytes: b"",
+        steps: 0,
+    },
+];
+
+// What a reader saw of a row's range.
+fn seen_of<R: Threads + Wait + Sync>(
+    rt: &R,
+    alloc: Global,
+    row: &Visits,
+) -> Result<(Vec<u8>, u64), Fail> {
+    let mut solo = session_of(alloc, 4, &mut PlainMaker::new())?;
+    replies_to(rt, alloc, &mut solo, row.script)?;
+    counted(rt, &mut solo, row.part)
+}
+
+#[test]
+fn a_read_takes_as_many_node_steps_as_it_needs(rt: HostRuntime) -> Result<(), Fail> {
+    for row in &VISITS {
+        let (bytes, steps) = seen_of(&rt, rt.alloc(), row)?;
+        let script = row.script;
+        assert_eq!(rt; bytes.as_slice(), row.bytes, "{script}");
+        assert_eq!(rt; steps, row.steps, "{script}");
+    }
+    Ok(())
+}
+
+// So many bytes, of which no two pages have the same.
+fn long_bytes(alloc: Global, count: u32) -> Result<Vec<u8>, Fail> {
+    let mut bytes = Vec::with_capacity(alloc, count as usize)?;
+    for i in 0..count {
+        bytes.push((i / 4 % 251) as u8)?;
+    }
+    Ok(bytes)
+}
+
+// A script that appends the bytes to a new blob.
+fn append_of(alloc: Global, bytes: &[u8]) -> Result<String, Fail> {
+    let digits = hex::encode(alloc, bytes)?;
+    Ok(format!(in alloc; "create\nappend 1 {digits}\n")?)
+}
+
+#[test]
+fn a_mebibyte_is_read_whole_in_511_node_steps(rt: HostRuntime) -> Result<(), Fail> {
+    let alloc = rt.alloc();
+    let bytes = long_bytes(alloc, 1_048_576)?;
+    let mut solo = session_of(alloc, 4096, &mut PlainMaker::new())?;
+    let replies = replies_to(&rt, alloc, &mut solo, append_of(alloc, &bytes)?.as_str())?;
+    assert_eq!(rt;
+        replies.as_slice(),
+        "blob 1\nversion 1 at 0 size 1048576\n".as_bytes()
+    );
+    let whole = Part {
+        version: 1,
+        offset: 0,
+        count: 1_048_576,
+    };
+    let (seen, steps) = counted(&rt, &mut solo, whole)?;
+    assert!(rt; seen.as_slice() == bytes.as_slice());
+    assert_eq!(rt; steps, 511);
+    Ok(())
+}
+
+#[test]
+fn a_mebibyte_and_a_byte_is_refused(rt: HostRuntime) -> Result<(), Fail> {
+    let alloc = rt.alloc();
+    let bytes = long_bytes(alloc, 1_048_577)?;
+    let mut solo = session_of(alloc, 4096, &mut PlainMaker::new())?;
+    let replies = replies_to(&rt, alloc, &mut solo, append_of(alloc, &bytes)?.as_str())?;
+    assert_eq!(rt;
+        replies.as_slice(),
+        "blob 1\nerror update-too-long 1048577\n".as_bytes()
+    );
+    Ok(())
+}
