@@ -16,6 +16,7 @@ use Rattle.range_log.specs.Log.{HasNode}
 use Rattle.range_log.specs.Updates.{extents}
 use Rattle.range_log.specs.Rows.{row_keys_of, node_of}
 use Rattle.range_log.specs.Laws.{ExtentsStand, RowKeysExact}
+use Rattle.range_log.proofs.Bytes.{length-extents}
 use Rattle.blob_core.specs.World.{World, Kept, joined, AreCut, node_at, log_of}
 use Rattle.blob_core.specs.Woven.{woven}
 use Rattle.blob_core.specs.Steps.{IsAllowed, IsNumberedIn, RowIsThere, next_kept, with_update, with_node}
@@ -25,7 +26,6 @@ use Rattle.blob_core.specs.declared.world.UpdateKey.{UpdateKey}
 use Rattle.blob_core.specs.declared.step.Step.TheVariants as Moves
 use Rattle.blob_core.proofs.Lists.{one_value}
 use Rattle.blob_core.proofs.Taken.{assign_done, finish_done}
-use Rattle.blob_core.proofs.Growing.{length_extents}
 use Rattle.blob_core.proofs.Refusing.{finish_refused}
 use Rattle.blob_core.proofs.Keeping.{with_update_is}
 
@@ -65,7 +65,7 @@ has_in_row stand exact p w blob version b log keys r pos sound there row =
     let same : row.b ≡ b = one_value (blob_at w.store blob) row.b b row.own.there there in
     let At : Blob → Type 0 = λ x. (version ≤ assigned x) × (keys ≡ row_keys_of p (log_of p x.updates) version) in
     let of : At b = subst At same (row.own.upto, row.ranges) in
-    let e = exact p version (extents b.updates) r pos (stand b.updates sound.replay).0 row.own.some (omega (arith, of.0, length_extents b.updates)) in
+    let e = exact p version (extents b.updates) r pos (stand b.updates sound.replay).0 row.own.some (omega (arith, of.0, length-extents b.updates)) in
     let C : List Range → Type 0 = λ l. Contains l r ↔ HasNode p (log_of p b.updates) version r in
     subst C (sym of.1) e
 

@@ -18,9 +18,10 @@ use Rattle.range_log.specs.Extents.{Extent, extent_at, InBounds}
 use Rattle.range_log.specs.Updates.{extents}
 use Rattle.range_log.specs.Rows.{node_of, inner_of, leaf_at, covered, back_of}
 use Rattle.tree_walk.specs.Walk.{half_toward, descend, root_of, found, waiting_of}
+use Rattle.range_log.proofs.Bytes.{length-extents}
 use Rattle.blob_core.specs.World.{World, Kept, node_in, log_of, waiting_after}
 use Rattle.blob_core.specs.Woven.{link_toward, followed, found_in, greatest_open, older_link, link_of, woven}
-use Rattle.blob_core.proofs.Growing.{Cited, length_extents}
+use Rattle.blob_core.proofs.Growing.{Cited}
 
 -- ---- ranges
 abbrev ranged : ℕ → ℕ → Range
@@ -174,7 +175,7 @@ found_same c p w blob us n pos ok known in_list zero h q le =
 found_same c p w blob us n pos ok known in_list (suc v) h q le =
     let log : List Touch = log_of p us in
     let t : Range = tree_range p h q in
-    let root : HasNode p log (suc v) (root_of p log (suc v)) = c.roots p (suc v) (extents us) pos ok (omega arith) (omega (arith, length_extents us)) in
+    let root : HasNode p log (suc v) (root_of p log (suc v)) = c.roots p (suc v) (extents us) pos ok (omega arith) (omega (arith, length-extents us)) in
     elim (cases_lt t.offset (span_of p (size_at log (suc v)))) [
       | inr past ↦ found_past p w blob log (suc v) t (test_le (span_of p (size_at log (suc v))) t.offset past)
       | inl inside ↦
@@ -186,7 +187,7 @@ pub found_newest : (c : Cited) (p : ℕ) (w : World) (blob : ℕ) (us : List Upd
     → (v : ℕ) (r : Range) → v ≤ n → Aligned p r → found_in p w blob (log_of p us) v r ≡ newest_of p (log_of p us) v r
 found_newest c p w blob us n pos ok known in_list v r le (h, q, e) =
     let P : Range → Type 0 = λ x. found_in p w blob (log_of p us) v x ≡ newest_of p (log_of p us) v x in
-    subst P (sym e) (found_same c p w blob us n pos ok known in_list v h q le ∙ c.find p v h q (extents us) pos ok (omega (arith, length_extents us)))
+    subst P (sym e) (found_same c p w blob us n pos ok known in_list v h q le ∙ c.find p v h q (extents us) pos ok (omega (arith, length-extents us)))
 
 -- ---- hints
 if_upto : (b : Bool) (x y m : ℕ) → x ≤ m → y ≤ m → (if b then x else y) ≤ m
@@ -224,7 +225,7 @@ older_is c p w blob b kept n pos ok known hints in_list r (h, q, e) =
     subst P (sym e)
     (ap (λ (x : ℕ). pick x (found_in p w blob log v t)) g
     ∙ ap (λ (x : ℕ). pick (waiting_of p log v n t) x) f
-    ∙ sym (c.weave p v n h q (extents b.updates) pos ok (omega (arith, length_extents b.updates))))
+    ∙ sym (c.weave p v n h q (extents b.updates) pos ok (omega (arith, length-extents b.updates))))
 
 woven_leaf : (p : ℕ) (w : World) (blob : ℕ) (b : Blob) (kept : Kept) (k : ℕ) (r : Range) → r.size ≡ p
     → older_link p w blob b kept (page_range p (r.offset / p)) ≡ newest_of p (log_of p b.updates) (k - 1) (page_range p (r.offset / p))

@@ -2,20 +2,20 @@
 use Rattle.std.proofs.Common.{◌≡◌, ℕ, ◌+◌, ◌<◌, ◌≤◌, zero, suc, List, [], ◌∷◌, ◌++◌, length, take, drop, arith, inl, inr, refl, ap, sym, subst, ◌∙◌}
 use Rattle.std.proofs.lemmas.Bool.{cases_lt}
 use Rattle.std.proofs.lemmas.List.{get_or_append_left, take-append-le, take-append-drop, length-take-le, length-append}
-use Rattle.std.proofs.lemmas.List.FromFn.{get_or-map-range_with_len, length-map-range_with_len}
 use Rattle.std.proofs.Math.Seq.{get_or-append_seam}
 use Rattle.blob_model.specs.Content.{Update, content_from, size_of, offset_of}
 use Rattle.tree_geom.specs.declared.range.Range.{Range}
 use Rattle.tree_geom.specs.declared.touch.Touch.{Touch}
-use Rattle.tree_geom.specs.Geometry.{no_touch}
 use Rattle.range_log.specs.Log.{touch_at, size_at, HasNode}
-use Rattle.range_log.specs.Extents.{Extent, no_extent, extent_at, size_after, touches, touch_of}
+use Rattle.range_log.specs.Extents.{Extent, size_after, touches}
 use Rattle.range_log.specs.Updates.{update_at, no_update, extent_of, extents, Replayable}
 use Rattle.range_log.specs.Rows.{node_of}
 use Rattle.range_log.specs.Laws.{LinksNameNodes, LinksLead, BacksLead, BacksHaveNoHoles, ExtentsStand, LeavesFill, LeavesFit, PiecesJoin, PageBytesStay, NewestIsGreatest, RowKeysExact, BacksStep, RowsStay, ExtentsGrow}
 use Rattle.tree_walk.specs.Walk.{RootsStand, LinksFind, ChildStands, WeaverFinds, VisitedNone, VisitedLeaf, VisitedInner, WalksAreBounded}
 use Rattle.range_log.specs.declared.«open».OpenTouch.{OpenTouch}
 use Rattle.blob_core.specs.World.{log_of, waiting_after}
+use Rattle.range_log.proofs.Bytes.{length-extents}
+use Rattle.range_log.proofs.Grown.{length-touches, size-touches}
 
 -- the laws of rows and walks
 pub record Cited : Type 0 where
@@ -43,31 +43,11 @@ pub record Cited : Type 0 where
   pub bounded : WalksAreBounded
 
 -- ---- where updates fall, and what they touch
-pub length_extents : (us : List Update) → length (extents us) ≡ length us
-unfolding extents
-length_extents us = length-map-range_with_len (λ k. extent_of us k) 1 (length us)
-
-pub extent_is : (us : List Update) (k : ℕ) → k < length us → extent_at (extents us) (suc k) ≡ extent_of us (suc k)
-unfolding extents
-extent_is us k h = get_or-map-range_with_len (λ j. extent_of us j) 1 (length us) k (suc k) no_extent h (omega arith)
-
-length_touches : (p : ℕ) (us : List Extent) → length (touches p us) ≡ length us
-unfolding touches
-length_touches p us = length-map-range_with_len (λ k. touch_of p us k) 1 (length us)
-
 pub length_log : (p : ℕ) (us : List Update) → length (log_of p us) ≡ length us
-length_log p us = length_touches p (extents us) ∙ length_extents us
-
-pub touch_is : (p : ℕ) (us : List Extent) (k : ℕ) → k < length us → touch_at (touches p us) (suc k) ≡ touch_of p us (suc k)
-unfolding touches
-touch_is p us k h = get_or-map-range_with_len (λ j. touch_of p us j) 1 (length us) k (suc k) no_touch h (omega arith)
-
-size_is : (p : ℕ) (us : List Extent) (k : ℕ) → k ≤ length us → size_at (touches p us) k ≡ size_after us k
-size_is p us zero h = refl
-size_is p us (suc k) h = ap (λ (t : Touch). t.size) (touch_is p us k (omega arith))
+length_log p us = length-touches p (extents us) ∙ length-extents us
 
 pub size_in_log : (p : ℕ) (us : List Update) (k : ℕ) → k ≤ length us → size_at (log_of p us) k ≡ size_after (extents us) k
-size_in_log p us k h = size_is p (extents us) k (omega (arith, length_extents us))
+size_in_log p us k h = size-touches p (extents us) k (omega (arith, length-extents us))
 
 -- ---- updates in bounds
 update_same : (us more : List Update) (k : ℕ) → k < length us → update_at (us ++ more) (suc k) ≡ update_at us (suc k)
@@ -152,7 +132,7 @@ pub agree_more : (c : Cited) (p : ℕ) (us more : List Update) → Agrees p us (
 agree_more c p us more =
     let (rest, e) = c.grow us more in
     let xs : List Extent = extents us in
-    let in_list : (j : ℕ) → j ≤ length us → j ≤ length xs = λ j le. omega (arith, le, length_extents us) in
+    let in_list : (j : ℕ) → j ≤ length us → j ≤ length xs = λ j le. omega (arith, le, length-extents us) in
     record {
       update = λ j some le. update_same_at us more j some le;
       touch = λ j le. ap (λ (x : List Extent). touch_at (touches p x) j) e ∙ (c.rows p j xs rest (in_list j le)).0;

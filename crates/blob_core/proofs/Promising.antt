@@ -11,12 +11,13 @@ use Rattle.range_log.specs.Updates.{extents}
 use Rattle.range_log.specs.Rows.{node_of}
 use Rattle.range_log.specs.Visits.{visits}
 use Rattle.tree_walk.specs.Walk.{root_of}
+use Rattle.range_log.proofs.Bytes.{length-extents}
 use Rattle.blob_core.specs.World.{World, empty_world, key_in, log_of}
 use Rattle.blob_core.specs.Steps.{world_after}
 use Rattle.blob_core.specs.Walk.{read_walk}
 use Rattle.blob_core.specs.Promises.{FinishedRowsAreThere, FoundIsNewest, ReachedIsThere, ReadsAreContent, StepsHold, IsRowNode}
 use Rattle.blob_core.proofs.Lists.{one_value}
-use Rattle.blob_core.proofs.Growing.{Cited, length_extents}
+use Rattle.blob_core.proofs.Growing.{Cited}
 use Rattle.blob_core.proofs.Finding.{found_newest}
 use Rattle.blob_core.proofs.Taken.{read_done}
 use Rattle.blob_core.proofs.Keeping.{Stands, BlobStands, rows_known, in_bounds, published_within, empty_stands}
@@ -28,7 +29,7 @@ rows_there : (c : Cited) (p : ℕ) (w : World) → 1 ≤ p → Stands p w → Fi
 rows_there c p w pos s blob version b r there some upto fin has =
     let bs : BlobStands p w blob b = s.blobs blob b there in
     let ok : InBounds (extents b.updates) = in_bounds c b.updates bs.replay in
-    let in_list : version ≤ length (extents b.updates) = omega (arith, length_extents b.updates) in
+    let in_list : version ≤ length (extents b.updates) = omega (arith, length-extents b.updates) in
     let node : HasNode p (log_of p b.updates) version r = (c.exact p version (extents b.updates) r pos ok some in_list).0 has in
     (node_of p (extents b.updates) version r, bs.rows version r fin node)
 
@@ -49,7 +50,7 @@ reached_there c p w pos s blob version b ways there some upto leads =
     let bs : BlobStands p w blob b = s.blobs blob b there in
     let within : published b ≤ assigned b = published_within p w blob b bs in
     let root : HasNode p (log_of p b.updates) version (root_of p (log_of p b.updates) version) =
-    c.roots p version (extents b.updates) pos (in_bounds c b.updates bs.replay) some (omega (arith, length_extents b.updates)) in
+    c.roots p version (extents b.updates) pos (in_bounds c b.updates bs.replay) some (omega (arith, length-extents b.updates)) in
     reached_is c p w blob b.updates (published b) pos bs.replay (rows_known p w blob b (published b) bs (omega arith)) (none_at_zero p w blob s) ways version
     (root_of p (log_of p b.updates) version) upto root leads
 

@@ -23,10 +23,11 @@ use Rattle.range_log.specs.Updates.{update_at, extent_of, extents, page_bytes, o
 use Rattle.range_log.specs.Rows.{node_of, leaf_of, inner_of, back_of, covered, leaf_start, leaf_from, leaf_len, first_piece, second_piece, piece_count}
 use Rattle.range_log.specs.Visits.{backs_of, visits}
 use Rattle.tree_walk.specs.Walk.{visited, root_of}
+use Rattle.range_log.proofs.Bytes.{extent_is, length-extents}
 use Rattle.blob_core.specs.World.{World, Kept, node_in, kept_at, origin, log_of}
 use Rattle.blob_core.specs.Walk.{Walked, nothing, both, over, bytes_of_piece, leaf_walk, tree_walk_from, cut_out, read_walk}
 use Rattle.blob_core.proofs.Lists.{nth_is}
-use Rattle.blob_core.proofs.Growing.{Cited, extent_is, length_extents, length_log, size_in_log}
+use Rattle.blob_core.proofs.Growing.{Cited, length_log, size_in_log}
 use Rattle.blob_core.proofs.Finding.{size_pos, left_is, right_is, page_is, inner_is, test_same, test_some, test_none, double}
 use Rattle.blob_core.proofs.Keeping.{Stands, BlobStands, UpdateStands, rows_known, in_bounds, published_within}
 
@@ -474,7 +475,7 @@ read_root : (c : Cited) (p : ℕ) (us : List Update) (v : ℕ) → 1 ≤ p → I
     → HasNode p (log_of p us) v (tree_range p (height_of p (size_after (extents us) v)) 0)
 read_root c p us v pos ok some within bytes =
     let H : Range → Type 0 = λ r. HasNode p (log_of p us) v r in
-    subst H (root_is p (log_of p us) v (size_after (extents us) v) (size_in_log p us v within) bytes) (c.roots p v (extents us) pos ok some (omega (arith, length_extents us)))
+    subst H (root_is p (log_of p us) v (size_after (extents us) v) (size_in_log p us v within) bytes) (c.roots p v (extents us) pos ok some (omega (arith, length-extents us)))
 
 read_bytes : (c : Cited) (p : ℕ) (w : World) (blob : ℕ) (b : Blob) (v o n : ℕ) → 1 ≤ p → Stands p w → BlobStands p w blob b → v ≤ published b
     → 1 ≤ n → 1 ≤ v → o + n ≤ size_of b.updates v

@@ -16,10 +16,11 @@ use Rattle.range_log.specs.Extents.{Extent, extent_at, size_after, touches}
 use Rattle.range_log.specs.Updates.{Replayable, extents, update_at, no_update}
 use Rattle.range_log.specs.Rows.{leaf_len, leaf_start, leaf_at, covered, back_of, node_of}
 use Rattle.range_log.specs.Laws.{ExtentsStand, LeavesFit}
+use Rattle.range_log.proofs.Bytes.{extent_is}
 use Rattle.blob_core.specs.World.{IsKnown, node_at, log_of}
 use Rattle.blob_core.specs.Acts.{AreThere}
 use Rattle.blob_core.proofs.Lists.{none_some}
-use Rattle.blob_core.proofs.Growing.{length_log, extent_is}
+use Rattle.blob_core.proofs.Growing.{length_log}
 use Rattle.blob_core.proofs.Finding.{size_pos, double, test_same}
 use Rattle.blob_core.proofs.Logs.{get_or_any}
 use Rattle.blob_core.proofs.Sound.{log_size}

@@ -19,13 +19,15 @@ use Rattle.range_log.specs.Log.{HasNode, touch_at, size_at}
 use Rattle.range_log.specs.Extents.{Extent, size_after}
 use Rattle.range_log.specs.Updates.{extents, Replayable, extent_of, update_at}
 use Rattle.range_log.specs.Laws.{ExtentsStand}
+use Rattle.range_log.proofs.Grown.{touch-touches}
+use Rattle.range_log.proofs.Bytes.{length-extents, extent_is}
 use Rattle.blob_core.specs.World.{World, empty_world, kept_at, origin, log_of, joined}
 use Rattle.blob_core.specs.Steps.{IsAllowed, AllAllowed, after, world_after}
 use Rattle.blob_core.specs.Standing.{IsSound, WeavesRow, Stays, ReachedStays}
 use Rattle.blob_core.specs.declared.step.Step.{Step}
 use Rattle.blob_core.specs.declared.step.Step.TheVariants as Moves
 use Rattle.blob_core.proofs.Lists.{joined_some}
-use Rattle.blob_core.proofs.Growing.{Cited, length_log, length_extents, touch_is, size_in_log, extent_is, update_next, replay_next}
+use Rattle.blob_core.proofs.Growing.{Cited, length_log, size_in_log, update_next, replay_next}
 use Rattle.blob_core.proofs.Finding.{woven_is}
 use Rattle.blob_core.proofs.Taken.{create_done, assign_done, finish_done, branch_done, more_was, with_was}
 use Rattle.blob_core.proofs.Keeping.{Stands, BlobStands, UpdateStands, rows_known, in_bounds, published_within, empty_stands}
@@ -58,7 +60,7 @@ pub touch_step : (stand : ExtentsStand) (p : ℕ) (us : List Update) (k : ℕ) �
     → touch_at (log_of p us) (suc k) ≡ touched_by p (offset_of (update_at us (suc k)).place (size_of us k)) (length (update_at us (suc k)).bytes) (size_of us (suc k))
 touch_step stand p us k ok lt =
     let of : Extent → ℕ → Touch = λ x n. touched_by p x.at x.len n in
-    touch_is p (extents us) k (omega (arith, lt, length_extents us))
+    touch-touches p (extents us) k (omega (arith, lt, length-extents us))
     ∙ ap (λ (x : Extent). of x (size_after (extents us) (suc k))) (extent_is us k lt)
     ∙ ap (λ (n : ℕ). of (extent_of us (suc k)) n) ((stand us ok).2 (suc k) (omega arith))
 

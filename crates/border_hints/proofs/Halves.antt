@@ -9,8 +9,9 @@ use Rattle.tree_geom.specs.declared.touch.Touch.{Touch}
 use Rattle.tree_geom.specs.Geometry.{tree_range, page_range, left_half, right_half, height_of, span_of, Meets}
 use Rattle.tree_geom.specs.Laws.{HeightsHold, SpanOfNone, SpanOfSome, LowHalvesAlign, HighHalvesAlign}
 use Rattle.range_log.specs.Log.{newest_of}
+use Rattle.tree_geom.proofs.Spans.{size_pos}
 use Rattle.border_hints.specs.Borders.{beside, IsRowRange, IsUntouchedHalf, IsBorder, BorderLinks, AreBorders}
-use Rattle.border_hints.proofs.Published.{double, size_pos, taller}
+use Rattle.border_hints.proofs.Published.{double, taller}
 use Rattle.border_hints.proofs.Turning.{beside_even, beside_odd}
 
 -- ---- numbers

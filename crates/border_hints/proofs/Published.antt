@@ -6,19 +6,20 @@ use Rattle.std.proofs.lemmas.List.{length-map}
 use Rattle.std.proofs.Math.Nat.{pow-succ', pow-le-pow_right}
 use Rattle.tree_geom.specs.declared.range.Range.{Range}
 use Rattle.tree_geom.specs.declared.touch.Touch.{Touch}
-use Rattle.tree_geom.specs.Geometry.{IsPageSize, doublings, tree_range, height_of, span_of, left_half, right_half}
+use Rattle.tree_geom.specs.Geometry.{doublings, tree_range, height_of, span_of, left_half, right_half}
 use Rattle.tree_geom.specs.Laws.{HeightsHold, SpanOfSome, RangesNest, LowHalvesAlign, HighHalvesAlign}
 use Rattle.range_log.specs.Log.{newest_of, touch_at, size_at, HasNode}
 use Rattle.range_log.specs.Laws.{Grown, LinksAgree, NewestOfNone, NewestHits, NewestHasNode, NewestIsNone, SizesAre, LogsAreGrown, ExtentsStand}
 use Rattle.range_log.specs.Updates.{extents}
 use Rattle.snapshot.specs.Versions.{Version, written, updates_of, size_now, IsVersion, IsFound, no_row, row_at}
+use Rattle.range_log.proofs.Bytes.{length-extents}
 use Rattle.border_hints.specs.Numbered.{log_of}
 use Rattle.boxcar.specs.Table.{Shelves}
 use Rattle.node_store.specs.House.{IsIn}
 use Rattle.node_store.specs.Placed.{PlacedNode}
 use Rattle.std.proofs.lemmas.List.Elements.{All-contains}
 use Rattle.border_hints.specs.Borders.{NodesLieIn}
-use Rattle.border_hints.proofs.Tickets.{length-extents}
+use Rattle.tree_geom.proofs.Spans.{size_pos}
 
 -- ---- the snapshot's log
 pub log_grown : LogsAreGrown → ExtentsStand → (s : Version) → IsVersion s → 1 ≤ s.page_size → Grown s.page_size (log_of s)
@@ -32,9 +33,6 @@ log_size sizes stand s is =
 
 pub double : (p h : ℕ) → p * 2 ^ (h + 1) ≡ 2 * (p * 2 ^ h)
 double p h = let e : h + 1 ≡ suc h = omega arith in rw (e, pow-succ' 2 h) (omega arith)
-
-pub size_pos : (p h : ℕ) → 1 ≤ p → 1 ≤ p * 2 ^ h
-size_pos p h pos = let e : 1 * 1 ≤ p * 2 ^ h = mul-le 1 1 p (2 ^ h) pos (pow_pos h) in omega arith
 
 pub taller : (p h top : ℕ) → h ≤ top → p * 2 ^ h ≤ p * 2 ^ top
 taller p h top le = let two : 0 < 2 = omega arith in mul-le p (2 ^ h) p (2 ^ top) (omega arith) (pow-le-pow_right two le)
@@ -165,9 +163,6 @@ size_small p h page le =
     omega arith
 
 -- ---- a snapshot's nodes
-pub page_pos : (p : ℕ) → IsPageSize p → 1 ≤ p
-page_pos p is = let pos : 0 < 2 ^ is.0 = pow_pos is.0 in omega (arith, is.1)
-
 pub placed_here : (nodes : List Shelves) (s : Version) (j : ℕ) (range : Range) (placed : PlacedNode) → NodesLieIn nodes s → 1 ≤ j → j ≤ length s.rows → IsFound s j range placed → IsIn nodes placed
 placed_here nodes s zero range placed here some le found = absurd (omega arith)
 placed_here nodes s (suc k) range placed here some le found = All-contains (IsIn nodes) (row_at s.rows (suc k)).nodes placed (here k no_row le) found.among

@@ -1,26 +1,20 @@
 -- What a ticket stands for.
 use Rattle.std.proofs.Common.{◌≡◌, ℕ, zero, suc, ◌+◌, ◌-◌, ◌^◌, ◌<◌, ◌≤◌, List, [], ◌∷◌, ◌++◌, length, map, max, arith, inl, inr, refl, ap, sym, subst, ◌∙◌, get_or, length-append}
 use Rattle.std.proofs.lemmas.Bool.{cases_lt}
-use Rattle.std.specs.List.{range_with_len}
 use Rattle.std.proofs.lemmas.List.{length-map, ext_get_or, get_or_append_left}
-use Rattle.std.proofs.lemmas.List.FromFn.{length-range_with_len}
 use Rattle.std.proofs.Math.Seq.{get_or-append_seam}
-use Rattle.blob_model.specs.Content.{Update}
 use Rattle.tree_geom.specs.declared.touch.Touch.{Touch}
 use Rattle.tree_geom.specs.Geometry.{no_touch, touched_by}
 use Rattle.range_log.specs.declared.open.OpenTouch.{OpenTouch}
 use Rattle.range_log.specs.Log.{touch_at, size_at}
 use Rattle.range_log.specs.Extents.{Extent, no_extent, InBounds, IsLog, extent_at, size_after, touches}
-use Rattle.range_log.specs.Updates.{extent_of, extents}
+use Rattle.range_log.specs.Updates.{extents}
 use Rattle.range_log.specs.Open.{open_at, Rises}
 use Rattle.range_log.specs.Laws.{TouchesAre, EachTouchIs, SizesAre, RowsStay}
 use Rattle.page_store.specs.Stored.{joined}
 use Rattle.snapshot.specs.Versions.{Version, written, updates_of, IsVersion}
 use Rattle.border_hints.specs.Numbered.{NumberedUpdate, log_of, log_with, own_touch, log_upto, IsNumbered}
-
-pub length-extents : (us : List Update) → length (extents us) ≡ length us
-unfolding extents
-length-extents us = length-map (range_with_len 1 (length us)) (λ k. extent_of us k) ∙ length-range_with_len 1 (length us)
+use Rattle.range_log.proofs.Bytes.{length-extents}
 
 pub length-log_of : TouchesAre → (s : Version) → length (log_of s) ≡ length s.rows
 length-log_of are s = are s.page_size (extents (updates_of s)) ∙ length-extents (updates_of s) ∙ length-map s.rows (written s.page_size)

@@ -1,16 +1,14 @@
 -- A window stands for the updates that were numbered.
 use Rattle.std.proofs.Common.{◌≡◌, ℕ, zero, suc, ◌+◌, ◌-◌, ◌^◌, ◌<◌, ◌≤◌, List, [], ◌∷◌, ◌++◌, length, take, drop, Option, None, Some, is_some, true≢false, arith, refl, ap, sym, ◌∙◌, subst, inl, inr, get_or, length-append}
-use Rattle.std.specs.List.{range_with_len}
 use Rattle.std.proofs.lemmas.Bool.{cases_lt}
 use Rattle.std.proofs.lemmas.List.{length-map, get_or-map, get_or_append_left, get_or-append_right, get_or_past, take-append-le, take-append-drop, get_or-take, length-take-le, ext_get_or}
-use Rattle.std.proofs.lemmas.List.FromFn.{length-range_with_len}
 use Rattle.std.proofs.Math.Seq.{get_or-append_seam, take-length}
 use Rattle.blob_model.specs.Content.{Update, content_from, size_of}
 use Rattle.tree_geom.specs.declared.touch.Touch.{Touch}
 use Rattle.tree_geom.specs.Geometry.{no_touch}
 use Rattle.range_log.specs.Log.{touch_at}
-use Rattle.range_log.specs.Extents.{Extent, touches, touch_of}
-use Rattle.range_log.specs.Updates.{extents, extent_of}
+use Rattle.range_log.specs.Extents.{Extent, touches}
+use Rattle.range_log.specs.Updates.{extents}
 use Rattle.range_log.specs.Laws.{RowsStay, ExtentsGrow}
 use Rattle.node_store.specs.Rows.{UpdateRow}
 use Rattle.snapshot.specs.Versions.{no_row, IsRowOf}
@@ -20,14 +18,8 @@ use Rattle.publisher.specs.Kept.{row_touches, present}
 use Rattle.publisher.specs.Laws.{IsNext, NewStands, NumberedStands, PublishedLogIs}
 use Rattle.publisher.proofs.Leading.{touches_match, leading_few}
 use Rattle.publisher.proofs.Standing.{some_is, rows_published}
-
-length-extents : (us : List Update) → length (extents us) ≡ length us
-unfolding extents
-length-extents us = length-map (range_with_len 1 (length us)) (λ k. extent_of us k) ∙ length-range_with_len 1 (length us)
-
-length-touches : (p : ℕ) (xs : List Extent) → length (touches p xs) ≡ length xs
-unfolding touches
-length-touches p xs = length-map (range_with_len 1 (length xs)) (λ k. touch_of p xs k) ∙ length-range_with_len 1 (length xs)
+use Rattle.range_log.proofs.Bytes.{length-extents}
+use Rattle.range_log.proofs.Grown.{length-touches}
 
 abbrev no_place : Option UpdateRow
 no_place = None

@@ -3,10 +3,8 @@ use Rattle.std.proofs.Common.{◌≡◌, ◌≢◌, ℕ, zero, suc, ◌+◌, ◌
 use Rattle.std.proofs.lemmas.Bool.{cases_lt}
 use Rattle.std.proofs.lemmas.Grind.{get_or-set_at}
 use Rattle.std.proofs.lemmas.List.{append_assoc, get_or_append_left, get_or-take, length-take}
-use Rattle.std.proofs.lemmas.Nat.{pow_pos}
 use Rattle.std.proofs.Math.Seq.{get_or-append_seam}
 use Rattle.blob_model.specs.Content.{Update, size_of}
-use Rattle.tree_geom.specs.Geometry.{IsPageSize}
 use Rattle.range_log.specs.Updates.{Replayable}
 use Rattle.node_store.specs.Rows.{UpdateRow}
 use Rattle.snapshot.specs.Versions.{Version, no_row, row_at, updates, IsRowOf, IsVersion}
@@ -15,9 +13,7 @@ use Rattle.publisher.specs.Windows.{Numbered, leading, with_finished, StandsFor}
 use Rattle.publisher.specs.Kept.{Ready}
 use Rattle.publisher.specs.Laws.{PublishedRowsAre}
 use Rattle.publisher.proofs.Leading.{leading_at, leading_few}
-
-page_pos : (p : ℕ) → IsPageSize p → 1 ≤ p
-page_pos p (i, e, low, high) = omega (arith, pow_pos i)
+use Rattle.tree_geom.proofs.Spans.{page_pos}
 
 pub some_is : (a b : UpdateRow) (x : Option UpdateRow) → x ≡ Some a → x ≡ Some b → a ≡ b
 some_is a b x e f = ap (λ (o : Option UpdateRow). unwrap_or o a) (sym e ∙ f)

@@ -8,7 +8,7 @@ use Rattle.range_log.specs.Updates.{extents, Replayable}
 use Rattle.node_store.specs.Rows.{UpdateRow}
 use Rattle.snapshot.specs.Versions.{Version, updates_of, older_version, IsRowOf}
 use Rattle.snapshot.specs.Laws.{AreRowsOf}
-use Rattle.publisher.specs.Windows.{Numbered, version_of, window_on, with_numbered, with_finished, StandsFor}
+use Rattle.publisher.specs.Windows.{Numbered, published_of, version_of, window_on, with_numbered, with_finished, StandsFor}
 
 -- u is the next of these updates, within bounds, and it touches this
 pub record IsNext (p : ℕ) (us : List Update) (u : Update) (touch : Touch) : Type 0 where
@@ -40,3 +40,7 @@ PublishedRowsAre = (us : List Update) (w : Numbered) (v : ℕ) → length w.rows
 abbrev pub PublishedLogIs : Type 0
 PublishedLogIs = (us : List Update) (w : Numbered) (v : ℕ) → 1 ≤ w.page_size → length w.rows ≡ length w.log → StandsFor us w → v ≤ length (version_of w).rows
     → touches w.page_size (extents (updates_of (older_version (version_of w) v))) ≡ take v w.log
+
+-- as many versions are published as the published version has rows
+abbrev pub PublishedCounts : Type 0
+PublishedCounts = (w : Numbered) → published_of w ≡ length (version_of w).rows

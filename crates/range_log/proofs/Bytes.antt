@@ -12,15 +12,15 @@ use Rattle.tree_geom.proofs.Touches.{meets_cases}
 use Rattle.range_log.specs.Log.{touch_at, newest_of}
 use Rattle.range_log.specs.Extents.{Extent, no_extent, extent_at, size_after, InBounds, touches}
 use Rattle.range_log.specs.Updates.{update_at, no_update, extent_of, extents, Replayable, page_bytes}
-use Rattle.range_log.specs.Laws.{PageBytesStay, ExtentsStand}
+use Rattle.range_log.specs.Laws.{ExtentsAre, EachExtentIs, ContentsGrow, PageBytesStay, ExtentsStand}
 use Rattle.range_log.proofs.Greatest.{newest_hit, newest_miss}
 use Rattle.range_log.proofs.Grown.{touch-touches}
 
-pub length-extents : (us : List Update) → length (extents us) ≡ length us
+pub length-extents : ExtentsAre
 unfolding extents
 length-extents us = length-map (range_with_len 1 (length us)) (λ k. extent_of us k) ∙ length-range_with_len 1 (length us)
 
-pub extent_is : (us : List Update) (k : ℕ) → k < length us → extent_at (extents us) (suc k) ≡ extent_of us (suc k)
+pub extent_is : EachExtentIs
 unfolding extents
 extent_is us k h = get_or-map-range_with_len (λ j. extent_of us j) 1 (length us) k (suc k) no_extent h (omega arith)
 
@@ -29,7 +29,7 @@ content_append c [] ys = refl
 content_append c (x ∷ xs) ys = content_append (put c (offset_of x.place (length c)) x.bytes) xs ys
 
 -- one more version's bytes
-pub content_next : (us : List Update) (v : ℕ) → v < length us → content us (suc v) ≡ put (content us v) (extent_of us (suc v)).at (update_at us (suc v)).bytes
+pub content_next : ContentsGrow
 content_next us v h = ap (content_from []) (take-suc us v no_update h) ∙ content_append [] (take v us) (update_at us (suc v) ∷ [])
 
 pub length-put : (c : List ℕ) (at : ℕ) (b : List ℕ) → at ≤ length c → length (put c at b) ≡ max (length c) (at + length b)

@@ -13,10 +13,10 @@ use Rattle.tree_geom.specs.Geometry.{Meets, no_touch, page_range, left_half, rig
 use Rattle.tree_geom.proofs.Touches.{meets_cases}
 use Rattle.range_log.specs.Log.{touch_at, newest_of, IsNewest, HasNode}
 use Rattle.range_log.specs.Extents.{Extent, no_extent, extent_at, size_after, touches}
-use Rattle.range_log.specs.Updates.{update_at, no_update, extent_of, extents}
+use Rattle.range_log.specs.Updates.{update_at, no_update, extents}
 use Rattle.range_log.specs.Rows.{row_keys_of, levels_of, back_of, covers, node_of, leaf_at, leaf_of, inner_of}
 use Rattle.range_log.specs.Visits.{backs_from, backs_of, pages_met, visits}
-use Rattle.range_log.specs.Laws.{NewestAbove, LogsGrow, RowsStay, ExtentsGrow}
+use Rattle.range_log.specs.Laws.{NewestAbove, LogsGrow, RowsStay, ExtentsGrow, SizesStay, PlacesStay}
 use Rattle.range_log.proofs.Bytes.{extent_is, length-extents}
 use Rattle.range_log.proofs.Counts.{back_falls}
 use Rattle.range_log.proofs.Greatest.{newest_is, only_one, newest_hit, newest_miss, newest_none}
@@ -159,11 +159,13 @@ rows_stay p k us more le =
     )
 
 -- ---- where the updates of a longer list fall
-same_place : (us more : List Update) (k : ℕ) → k < length us → extent_of (us ++ more) (suc k) ≡ extent_of us (suc k)
-same_place us more k h =
+pub size_front : SizesStay
+size_front us more v le = ap (λ l. length (content_from [] l)) (take-append-le v us more le)
+
+pub extent_of_front : PlacesStay
+extent_of_front us more k h =
     let u : update_at (us ++ more) (suc k) ≡ update_at us (suc k) = get_or_append_left us more no_update k h in
-    let c : size_of (us ++ more) k ≡ size_of us k = ap (λ l. length (content_from [] l)) (take-append-le k us more (omega arith)) in
-    ap (λ (x : Update). placed_at x (size_of (us ++ more) k)) u ∙ ap (placed_at (update_at us (suc k))) c
+    ap (λ (x : Update). placed_at x (size_of (us ++ more) k)) u ∙ ap (placed_at (update_at us (suc k))) (size_front us more k (omega arith))
 
 pub extents_grow : ExtentsGrow
 extents_grow us more =
@@ -178,6 +180,6 @@ extents_grow us more =
     let below : k < n = omega arith in
     get_or-take n all k no_extent below
     ∙ extent_is (us ++ more) k (omega (arith, length-append us more))
-    ∙ same_place us more k below
+    ∙ extent_of_front us more k below
     ∙ sym (extent_is us k below)) in
     (drop n all, sym (take-append-drop n all) ∙ ap (λ l. l ++ drop n all) front)

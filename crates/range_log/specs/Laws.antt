@@ -1,13 +1,13 @@
 use Rattle.std.specs.Prelude.{◌≡◌, ◌⊎◌, ℕ, ◌+◌, ◌-◌, ◌*◌, ◌^◌, ◌<◌, ◌≤◌, ◌↔◌, List, length, suc, true, false, take, drop, ◌++◌}
 use Rattle.std.specs.List.{Contains, AllPairs}
-use Rattle.blob_model.specs.Content.{Update, put, size_of}
+use Rattle.blob_model.specs.Content.{Update, put, content, size_of}
 use Rattle.tree_geom.specs.declared.range.Range.{Range}
 use Rattle.tree_geom.specs.declared.touch.Touch.{Touch}
 use Rattle.tree_geom.specs.Geometry.{tree_range, span_of, page_range, left_half, right_half, Meets}
 use Rattle.tree_geom.specs.Nodes.{left_link, right_link, back_link}
 use Rattle.range_log.specs.Log.{size_at, HasNode, newest_of, IsNewest, touch_at}
 use Rattle.range_log.specs.Extents.{Extent, InBounds, extent_at, size_after, touch_of, touches}
-use Rattle.range_log.specs.Updates.{extents, extent_of, Replayable, page_bytes, own_bytes, piece_bytes}
+use Rattle.range_log.specs.Updates.{update_at, extents, extent_of, Replayable, page_bytes, own_bytes, piece_bytes}
 use Rattle.range_log.specs.Rows.{back_of, covered, row_keys_of, levels_of, leaf_start, leaf_from, leaf_len, first_piece, second_piece, piece_count, no_piece, node_of}
 use Rattle.range_log.specs.Visits.{backs_of, visits}
 
@@ -83,6 +83,16 @@ BacksHaveNoHoles = (p k i : ℕ) (us : List Extent) → 1 ≤ p → InBounds us 
 abbrev pub PageBytesStay : Type 0
 PageBytesStay = (p v i : ℕ) (us : List Update) → 1 ≤ p → Replayable us → v ≤ length us
     → page_bytes p us v i ≡ page_bytes p us (newest_of p (touches p (extents us)) v (page_range p i)) i
+
+-- each update falls at its place, and leaves the bytes before with its own put there
+abbrev pub ExtentsAre : Type 0
+ExtentsAre = (us : List Update) → length (extents us) ≡ length us
+
+abbrev pub EachExtentIs : Type 0
+EachExtentIs = (us : List Update) (k : ℕ) → k < length us → extent_at (extents us) (suc k) ≡ extent_of us (suc k)
+
+abbrev pub ContentsGrow : Type 0
+ContentsGrow = (us : List Update) (v : ℕ) → v < length us → content us (suc v) ≡ put (content us v) (extent_of us (suc v)).at (update_at us (suc v)).bytes
 
 -- where updates fall keeps the bounds, and gives each version's size
 abbrev pub ExtentsStand : Type 0
@@ -205,3 +215,10 @@ RowsStay = (p k : ℕ) (us more : List Extent) → k ≤ length us
 -- where the updates of a longer list fall begins with where those of the shorter one do
 abbrev pub ExtentsGrow : Type 0
 ExtentsGrow = (us more : List Update) → (rest : List Extent) × (extents (us ++ more) ≡ extents us ++ rest)
+
+-- later updates leave the sizes of the older versions, and where older updates fall
+abbrev pub SizesStay : Type 0
+SizesStay = (us more : List Update) (v : ℕ) → v ≤ length us → size_of (us ++ more) v ≡ size_of us v
+
+abbrev pub PlacesStay : Type 0
+PlacesStay = (us more : List Update) (k : ℕ) → k < length us → extent_of (us ++ more) (suc k) ≡ extent_of us (suc k)

@@ -1,6 +1,6 @@
 //! The laws of the rows of a blob's versions, over every list of updates in which each begins at the size before it at the
 //! latest. Each is the contract of a function that does nothing.
-ghost use Rattle.range_log.specs.Laws.{LinksNameNodes, LinksLead, BacksLead, NoHoles, LinksHaveNoHoles, BacksHaveNoHoles, PageBytesStay, ExtentsStand, LeavesFill, LeavesFit, PiecesJoin, PiecesFit, NewestIsGreatest, LinksAgree, NewestAbove, NewestOfNone, NewestHits, NewestMisses, NewestHasNode, NewestIsSome, NewestIsNone, TouchesAre, EachTouchIs, SizesAre, LogsAreGrown, RowKeysExact, RowKeysInOrder, LevelsAreFew, BacksStep, LogsGrow, RowsStay, ExtentsGrow};
+ghost use Rattle.range_log.specs.Laws.{LinksNameNodes, LinksLead, BacksLead, NoHoles, LinksHaveNoHoles, BacksHaveNoHoles, PageBytesStay, ExtentsStand, LeavesFill, LeavesFit, PiecesJoin, PiecesFit, NewestIsGreatest, LinksAgree, NewestAbove, NewestOfNone, NewestHits, NewestMisses, NewestHasNode, NewestIsSome, NewestIsNone, TouchesAre, EachTouchIs, SizesAre, LogsAreGrown, RowKeysExact, RowKeysInOrder, LevelsAreFew, BacksStep, LogsGrow, RowsStay, ExtentsGrow, SizesStay, PlacesStay, ExtentsAre, EachExtentIs, ContentsGrow};
 
 /// Each link or back of a row that isn't 0 names a version whose row has a node for the link's range.
 pub fn links_name_nodes()
@@ -15,6 +15,13 @@ pub fn no_holes()
     ensures nodes { NoHoles }
     ensures links { LinksHaveNoHoles }
     ensures backs { BacksHaveNoHoles }
+{}
+
+/// Where some updates fall, and what each leaves.
+pub fn extents_hold()
+    ensures count { ExtentsAre }
+    ensures each { EachExtentIs }
+    ensures contents { ContentsGrow }
 {}
 
 /// The valid bytes of a page at a version are those at the newest version up to it that touches the page.
@@ -75,4 +82,6 @@ pub fn older_versions_stay()
     ensures grow { LogsGrow }
     ensures rows { RowsStay }
     ensures extents { ExtentsGrow }
+    ensures sizes { SizesStay }
+    ensures places { PlacesStay }
 {}

@@ -1,13 +1,11 @@
 -- What lies in the houses, and which rows have nodes.
-use Rattle.std.proofs.Common.{◌≡◌, ℕ, zero, suc, ◌≤◌, List, length, arith, ◌∙◌, subst}
+use Rattle.std.proofs.Common.{◌≡◌, ℕ, zero, suc, ◌≤◌, List, length, arith, subst}
 use Rattle.std.specs.Prelude.{Some, All, slice_get}
-use Rattle.std.specs.List.{Contains, range_with_len}
+use Rattle.std.specs.List.{Contains}
 use Rattle.std.proofs.lemmas.List.{length-map}
-use Rattle.std.proofs.lemmas.List.FromFn.{length-range_with_len}
 use Rattle.std.proofs.lemmas.Option.{slice_get_within, get_or_from_slice_get}
 use Rattle.boxcar.specs.Table.{Shelves}
 use Rattle.tree_geom.specs.declared.range.Range.{Range}
-use Rattle.range_log.specs.Extents.{Extent, touches, touch_of}
 use Rattle.page_store.specs.House.{House}
 use Rattle.page_store.specs.Page.{IsAmong}
 use Rattle.page_store.specs.Stored.{Stored}
@@ -15,18 +13,15 @@ use Rattle.node_store.specs.House.{IsIn}
 use Rattle.node_store.specs.Placed.{PlacedNode}
 use Rattle.node_store.specs.Rows.{IsRowIn}
 use Rattle.snapshot.specs.Versions.{Version, no_row, row_at, written, updates_of, HasNodeFor, IsVersionIn}
+use Rattle.range_log.proofs.Bytes.{length-extents}
 use Rattle.range_reader.specs.Reading.{falls}
-use Rattle.range_reader.proofs.LeafBytes.{length-extents}
-
-pub length-log : (p : ℕ) (xs : List Extent) → length (touches p xs) ≡ length xs
-unfolding touches
-length-log p xs = length-map (range_with_len 1 (length xs)) (λ k. touch_of p xs k) ∙ length-range_with_len 1 (length xs)
+use Rattle.range_log.proofs.Grown.{length-touches}
 
 pub length-updates : (s : Version) → length (updates_of s) ≡ length s.rows
 length-updates s = length-map s.rows (written s.page_size)
 
 pub in_rows : (s : Version) (j : ℕ) (range : Range) → HasNodeFor s j range → (1 ≤ j) × (j ≤ length s.rows)
-in_rows s j range has = (has.version.0, omega (arith, has.version.1, length-log s.page_size (falls s), length-extents (updates_of s), length-updates s))
+in_rows s j range has = (has.version.0, omega (arith, has.version.1, length-touches s.page_size (falls s), length-extents (updates_of s), length-updates s))
 
 row_in : (nodes : List Shelves) (houses : List House) (s : Version) (j : ℕ) → IsVersionIn nodes houses s → 1 ≤ j → j ≤ length s.rows → IsRowIn nodes houses (row_at s.rows j)
 row_in nodes houses s zero here some le = absurd (omega arith)

@@ -9,13 +9,13 @@ use Rattle.range_log.specs.Updates.{page_bytes}
 use Rattle.range_log.specs.Rows.{covered, back_of}
 use Rattle.range_log.specs.Laws.{PageBytesStay, BacksHaveNoHoles}
 use Rattle.snapshot.specs.Versions.{Version, updates_of, size_now, IsVersion}
+use Rattle.tree_geom.proofs.Spans.{page_pos}
 use Rattle.range_reader.specs.Reading.{newest_in}
 use Rattle.range_reader.specs.Filling.{Taken}
 use Rattle.range_reader.proofs.Parts.{either}
 use Rattle.range_reader.proofs.LeafBytes.{length-page}
 use Rattle.range_reader.proofs.Standing.{AreIn}
 use Rattle.range_reader.proofs.Among.{length-updates}
-use Rattle.range_reader.proofs.Leaves.{page_pos}
 
 pub not_true : (b : Bool) → (b ≡ true → ⊥) → b ≡ false
 not_true b never = elim (either b) [ inl yes' ↦ absurd (never yes') | inr is ↦ is ]

@@ -1,27 +1,16 @@
 -- The bytes of a page by its leaves.
 use Rattle.std.proofs.Common.{◌≡◌, ◌⊎◌, ℕ, zero, suc, ◌+◌, ◌-◌, ◌*◌, ◌<◌, ◌≤◌, List, ◌++◌, length, take, drop, arith, refl, ap, sym, ◌∙◌, subst, inl, inr, Bool, true, false, get_or, max, min, length-append, length-drop, length-take}
-use Rattle.std.specs.List.{range_with_len}
 use Rattle.std.proofs.lemmas.Bool.Decides.{nat_tests}
 use Rattle.std.proofs.lemmas.List.{get_or-take, get_or-drop, get_or_append_left, get_or-append_right, length-take-le}
-use Rattle.std.proofs.lemmas.List.FromFn.{get_or-map-range_with_len}
-use Rattle.std.proofs.lemmas.List.{length-map}
-use Rattle.std.proofs.lemmas.List.FromFn.{length-range_with_len}
 use Rattle.blob_model.specs.Content.{Update, put, size_of}
 use Rattle.tree_geom.specs.Geometry.{page_range}
 use Rattle.range_log.specs.Log.{HasNode, newest_of}
-use Rattle.range_log.specs.Extents.{Extent, no_extent, extent_at, size_after, touches}
+use Rattle.range_log.specs.Extents.{Extent, extent_at, size_after, touches}
 use Rattle.range_log.specs.Updates.{update_at, extents, extent_of, Replayable, page_bytes}
 use Rattle.range_log.specs.Rows.{leaf_lo, leaf_start, leaf_from, leaf_len, covers, covered, back_of}
 use Rattle.range_log.specs.Laws.{LeavesFill, LeavesFit, PageBytesStay, ExtentsStand}
 use Rattle.range_reader.proofs.Parts.{part_read, length_part}
-
-pub length-extents : (us : List Update) → length (extents us) ≡ length us
-unfolding extents
-length-extents us = length-map (range_with_len 1 (length us)) (λ k. extent_of us k) ∙ length-range_with_len 1 (length us)
-
-pub extent_is : (us : List Update) (k : ℕ) → k < length us → extent_at (extents us) (suc k) ≡ extent_of us (suc k)
-unfolding extents
-extent_is us k h = get_or-map-range_with_len (λ j. extent_of us j) 1 (length us) k (suc k) no_extent h (omega arith)
+use Rattle.range_log.proofs.Bytes.{extent_is}
 
 -- ---- the parts of bytes that were put over others
 put_front : (c : List ℕ) (at : ℕ) (b : List ℕ) (x : ℕ) → at ≤ length c → x < at → get_or (put c at b) x 0 ≡ get_or c x 0

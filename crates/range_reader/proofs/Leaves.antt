@@ -1,8 +1,7 @@
 -- A leaf of a snapshot: its bytes and its pieces.
-use Rattle.std.proofs.Common.{◌≡◌, ℕ, ◌+◌, ◌^◌, ◌<◌, ◌≤◌, length, arith, ap, inl, inr}
+use Rattle.std.proofs.Common.{◌≡◌, ℕ, ◌+◌, ◌≤◌, length, arith, ap, inl, inr}
 use Rattle.tree_geom.specs.declared.node.Piece.{Piece}
-use Rattle.tree_geom.specs.Geometry.{page_range, IsPageSize}
-use Rattle.std.proofs.lemmas.Nat.{pow_pos}
+use Rattle.tree_geom.specs.Geometry.{page_range}
 use Rattle.range_log.specs.Extents.{extent_at}
 use Rattle.range_log.specs.Updates.{update_at}
 use Rattle.range_log.specs.Rows.{first_piece, second_piece, piece_count}
@@ -11,9 +10,7 @@ use Rattle.snapshot.specs.Versions.{Version, row_at, bytes_of, updates_of, HasNo
 use Rattle.range_reader.specs.Reading.{falls, own_from, own_len}
 use Rattle.range_reader.proofs.LeafBytes.{LeafIs, leaf_is}
 use Rattle.range_reader.proofs.Among.{in_rows, length-updates}
-
-pub page_pos : (p : ℕ) → IsPageSize p → 1 ≤ p
-page_pos p is = let pos : 0 < 2 ^ is.0 = pow_pos is.0 in omega (arith, is.1)
+use Rattle.tree_geom.proofs.Spans.{page_pos}
 
 abbrev pub FitsIn : ℕ → ℕ → Piece → Type 0
 FitsIn p m piece = PieceFits p m piece.page piece.from piece.len

@@ -1,29 +1,19 @@
 -- The root of a version, and the bound of a walk from it.
-use Rattle.std.proofs.Common.{◌≡◌, ℕ, zero, suc, ◌+◌, ◌-◌, ◌*◌, ◌/◌, ◌^◌, ◌<◌, ◌≤◌, List, length, arith, refl, ap, sym, ◌∙◌, subst}
-use Rattle.std.proofs.lemmas.List.FromFn.{get_or-map-range_with_len}
+use Rattle.std.proofs.Common.{◌≡◌, ℕ, zero, suc, ◌+◌, ◌-◌, ◌*◌, ◌/◌, ◌^◌, ◌≤◌, List, length, arith, refl, ap, sym, ◌∙◌, subst}
 use Rattle.blob_model.specs.Content.{Update, size_of}
 use Rattle.tree_geom.specs.declared.range.Range.{Range}
-use Rattle.tree_geom.specs.declared.touch.Touch.{Touch}
-use Rattle.tree_geom.specs.Geometry.{tree_range, height_of, span_of, no_touch}
-use Rattle.range_log.specs.Log.{touch_at, size_at}
-use Rattle.range_log.specs.Extents.{Extent, touches, touch_of, size_after}
+use Rattle.tree_geom.specs.Geometry.{tree_range, height_of, span_of}
+use Rattle.range_log.specs.Extents.{size_after}
 use Rattle.range_log.specs.Laws.{NewestIsGreatest, ExtentsStand}
 use Rattle.tree_walk.specs.Walk.{visited, root_of, RootsStand, WalksAreBounded}
 use Rattle.snapshot.specs.Versions.{Version, updates_of, size_now, root_key, HasNodeFor, IsVersion}
+use Rattle.tree_geom.proofs.Spans.{page_pos}
+use Rattle.range_log.proofs.Bytes.{length-extents}
 use Rattle.range_reader.specs.Reading.{falls, log_of, newest_in, backs_in, bound}
-use Rattle.range_reader.proofs.LeafBytes.{length-extents}
 use Rattle.range_reader.proofs.Among.{length-updates}
-use Rattle.range_reader.proofs.Leaves.{page_pos}
 use Rattle.range_reader.proofs.Along.{own_newest}
 use Rattle.range_reader.proofs.Walking.{root_span}
-
-touch_is : (p : ℕ) (xs : List Extent) (k : ℕ) → k < length xs → touch_at (touches p xs) (suc k) ≡ touch_of p xs (suc k)
-unfolding touches
-touch_is p xs k h = get_or-map-range_with_len (λ j. touch_of p xs j) 1 (length xs) k (suc k) no_touch h (omega arith)
-
-size_is : (p : ℕ) (xs : List Extent) (v : ℕ) → v ≤ length xs → size_at (touches p xs) v ≡ size_after xs v
-size_is p xs zero le = refl
-size_is p xs (suc k) le = ap (λ (t : Touch). t.size) (touch_is p xs k le)
+use Rattle.range_log.proofs.Grown.{size-touches}
 
 -- a version of no updates has no bytes
 some_rows : (us : List Update) (v : ℕ) → 1 ≤ size_of us v → 1 ≤ v
@@ -37,7 +27,7 @@ module _ (stand : ExtentsStand) (s : Version) (is : IsVersion s) where
   root_is : root_of s.page_size (log_of s) (length s.rows) ≡ (root_key s).range
   root_is =
       let make : ℕ → Range = λ n. record { offset = 0; size = n } in
-      ap (λ n. make (span_of s.page_size n)) (size_is s.page_size (falls s) (length s.rows) (omega (arith, length-extents (updates_of s), length-updates s)) ∙ size_known)
+      ap (λ n. make (span_of s.page_size n)) (size-touches s.page_size (falls s) (length s.rows) (omega (arith, length-extents (updates_of s), length-updates s)) ∙ size_known)
 
   pub root_stands : RootsStand → (range : Range) → 1 ≤ size_now s → range ≡ (root_key s).range → HasNodeFor s (length s.rows) range
   root_stands roots range some same =

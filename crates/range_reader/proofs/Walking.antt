@@ -14,13 +14,13 @@ use Rattle.range_log.specs.Visits.{pages_met, backs_of}
 use Rattle.range_log.specs.Laws.{ExtentsStand}
 use Rattle.tree_walk.specs.Walk.{visited, LinksStep, VisitedLeaf, VisitedInner}
 use Rattle.snapshot.specs.Versions.{Version, updates_of, size_now, HasNodeFor, IsVersion}
+use Rattle.tree_geom.proofs.Spans.{page_pos}
+use Rattle.range_log.proofs.Bytes.{length-extents}
 use Rattle.range_reader.specs.Reading.{falls, log_of, newest_in, backs_in}
 use Rattle.range_reader.specs.Faults.{PageFailedIn}
 use Rattle.page_fan.specs.Counts.{NoneFell}
 use Rattle.range_reader.proofs.Counting.{page_since}
-use Rattle.range_reader.proofs.LeafBytes.{length-extents}
 use Rattle.range_reader.proofs.Among.{length-updates}
-use Rattle.range_reader.proofs.Leaves.{page_pos}
 
 -- ---- pages by their bytes
 pub page_le : (p a b x : ℕ) → 1 ≤ p → a * p ≤ x → x < (b + 1) * p → a ≤ b

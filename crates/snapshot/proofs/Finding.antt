@@ -1,5 +1,5 @@
 -- The nodes of a row that is that of its update.
-use Rattle.std.proofs.Common.{◌≡◌, ℕ, zero, suc, ◌^◌, ◌<◌, ◌≤◌, List, length, map, arith, ap, sym, ◌∙◌, subst, get_or}
+use Rattle.std.proofs.Common.{◌≡◌, ℕ, zero, suc, ◌<◌, ◌≤◌, List, length, map, arith, ap, sym, ◌∙◌, subst, get_or}
 use Rattle.std.specs.Prelude.{Option, Some, None, MatchOption, IfSome, IfNone, slice_get}
 use Rattle.std.specs.List.{Contains}
 use Rattle.std.proofs.lemmas.List.{length-map, get_or-map}
@@ -17,10 +17,11 @@ use Rattle.range_log.specs.Rows.{node_of, row_of, row_keys_of}
 use Rattle.range_log.specs.Laws.{RowKeysExact, ExtentsStand}
 use Rattle.node_store.specs.Placed.{PlacedNode}
 use Rattle.node_store.specs.Rows.{UpdateRow, IsNodeFor, HasNoNodeFor}
-use Rattle.std.proofs.lemmas.Nat.{pow_pos}
-use Rattle.tree_geom.specs.Geometry.{IsPageSize}
+use Rattle.range_log.proofs.Grown.{touch-touches}
+use Rattle.range_log.proofs.Bytes.{length-extents}
 use Rattle.snapshot.specs.Versions.{Version, row_at, updates_of, pairs_of, IsRowOf, IsVersion, IsFound, HasNodeFor}
-use Rattle.snapshot.proofs.Lists.{length-updates, length-extents, touch_is}
+use Rattle.snapshot.proofs.Lists.{length-updates}
+use Rattle.tree_geom.proofs.Spans.{page_pos}
 
 abbrev pub pair_of : PlacedNode → Range × Node
 pair_of n = (n.key.range, n.node)
@@ -83,12 +84,9 @@ found_none exact p j xs row range pos bounds some le is none has =
 pub touch_size : ExtentsStand → (p k : ℕ) (us : List Update) (row : UpdateRow) → Replayable us → 1 ≤ k → k ≤ length us → IsRowOf p us k row → row.touch.size ≡ size_of us k
 touch_size stand p zero us row ok some le is = absurd (omega arith)
 touch_size stand p (suc k) us row ok some le is =
-    ap (λ (t : Touch). t.size) (is.touch ∙ touch_is p (extents us) k (omega (arith, length-extents us))) ∙ (stand us ok).2 (suc k) le
+    ap (λ (t : Touch). t.size) (is.touch ∙ touch-touches p (extents us) k (omega (arith, length-extents us))) ∙ (stand us ok).2 (suc k) le
 
 -- ---- what a snapshot finds
-pub page_pos : (p : ℕ) → IsPageSize p → 1 ≤ p
-page_pos p is = let pos : 0 < 2 ^ is.0 = pow_pos is.0 in omega (arith, is.1)
-
 pub version_finds : RowKeysExact → ExtentsStand → (s : Version) (j : ℕ) (range : Range) (row : UpdateRow) (placed : PlacedNode) → IsVersion s → row ≡ row_at s.rows j
     → 1 ≤ j → j ≤ length s.rows → IsNodeFor row range placed → IsFound s j range placed
 version_finds exact stand s j range row placed is same some le found =

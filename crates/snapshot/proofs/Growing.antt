@@ -12,8 +12,10 @@ use Rattle.range_log.specs.Rows.{node_of, row_of, row_keys_of}
 use Rattle.range_log.specs.Laws.{RowsStay, ExtentsGrow}
 use Rattle.page_store.specs.Stored.{Cut, joined}
 use Rattle.node_store.specs.Rows.{UpdateRow}
+use Rattle.range_log.proofs.Bytes.{length-extents}
+use Rattle.range_log.proofs.Growth.{size_front, extent_of_front}
 use Rattle.snapshot.specs.Versions.{Version, row_at, written, updates, bytes_of, IsRowOf, IsVersion}
-use Rattle.snapshot.proofs.Lists.{row_at_front, row_at_new, length-updates, update_at_front, size_front, extent_of_front, length-extents, map_same}
+use Rattle.snapshot.proofs.Lists.{row_at_front, row_at_new, length-updates, update_at_front, map_same}
 
 -- a row stays that of its update in a longer list
 pub touch_stays : RowsStay → (p k : ℕ) (xs more : List Extent) → k ≤ length xs → touch_at (touches p (xs ++ more)) k ≡ touch_at (touches p xs) k

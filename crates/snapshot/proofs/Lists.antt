@@ -1,14 +1,10 @@
 -- Lists of rows, of updates and of where these fall.
-use Rattle.std.proofs.Common.{◌≡◌, ℕ, zero, suc, ◌+◌, ◌-◌, ◌<◌, ◌≤◌, List, [], ◌∷◌, ◌++◌, length, take, map, arith, refl, ap, sym, ◌∙◌, get_or}
+use Rattle.std.proofs.Common.{◌≡◌, ℕ, zero, suc, ◌+◌, ◌-◌, ◌<◌, ◌≤◌, List, [], ◌∷◌, ◌++◌, length, map, arith, refl, ap, sym, ◌∙◌, get_or}
 use Rattle.std.specs.List.{range_with_len}
-use Rattle.std.proofs.lemmas.List.{length-map, get_or-map, get_or_append_left, take-append-le}
-use Rattle.std.proofs.lemmas.List.FromFn.{length-range_with_len, get_or-map-range_with_len}
-use Rattle.std.proofs.Math.Seq.{take-suc, get_or-append_seam}
-use Rattle.blob_model.specs.Content.{Update, put, content, content_from, offset_of, size_of}
-use Rattle.tree_geom.specs.Geometry.{no_touch}
-use Rattle.range_log.specs.Log.{touch_at}
-use Rattle.range_log.specs.Extents.{Extent, no_extent, extent_at, touches, touch_of}
-use Rattle.range_log.specs.Updates.{update_at, no_update, extent_of, extents}
+use Rattle.std.proofs.lemmas.List.{length-map, get_or-map, get_or_append_left}
+use Rattle.std.proofs.Math.Seq.{get_or-append_seam}
+use Rattle.blob_model.specs.Content.{Update}
+use Rattle.range_log.specs.Updates.{update_at, no_update}
 use Rattle.node_store.specs.Rows.{UpdateRow}
 use Rattle.snapshot.specs.Versions.{no_row, row_at, written, updates}
 
@@ -37,42 +33,7 @@ pub update_at_front : (us more : List Update) (k : ℕ) → k ≤ length us → 
 update_at_front us more zero le = refl
 update_at_front us more (suc k) le = get_or_append_left us more no_update k le
 
-pub content_front : (us more : List Update) (v : ℕ) → v ≤ length us → content (us ++ more) v ≡ content us v
-content_front us more v le = ap (content_from []) (take-append-le v us more le)
-
-pub size_front : (us more : List Update) (v : ℕ) → v ≤ length us → size_of (us ++ more) v ≡ size_of us v
-size_front us more v le = ap length (content_front us more v le)
-
--- where an update falls after that size
-abbrev pub placed_at : Update → ℕ → Extent
-placed_at u size = record { at = offset_of u.place size; len = length u.bytes }
-
-pub extent_of_front : (us more : List Update) (k : ℕ) → suc k ≤ length us → extent_of (us ++ more) (suc k) ≡ extent_of us (suc k)
-extent_of_front us more k le =
-    ap (λ u. placed_at u (size_of (us ++ more) k)) (update_at_front us more (suc k) le)
-    ∙ ap (placed_at (update_at us (suc k))) (size_front us more k (omega arith))
-
-content_append : (c : List ℕ) (xs ys : List Update) → content_from c (xs ++ ys) ≡ content_from (content_from c xs) ys
-content_append c [] ys = refl
-content_append c (x ∷ xs) ys = content_append (put c (offset_of x.place (length c)) x.bytes) xs ys
-
--- one more version's bytes
-pub content_next : (us : List Update) (v : ℕ) → v < length us → content us (suc v) ≡ put (content us v) (extent_of us (suc v)).at (update_at us (suc v)).bytes
-content_next us v h = ap (content_from []) (take-suc us v no_update h) ∙ content_append [] (take v us) (update_at us (suc v) ∷ [])
-
--- ---- where updates fall
-pub length-extents : (us : List Update) → length (extents us) ≡ length us
-unfolding extents
-length-extents us = length-map (range_with_len 1 (length us)) (λ k. extent_of us k) ∙ length-range_with_len 1 (length us)
-
-pub extent_is : (us : List Update) (k : ℕ) → k < length us → extent_at (extents us) (suc k) ≡ extent_of us (suc k)
-unfolding extents
-extent_is us k h = get_or-map-range_with_len (λ j. extent_of us j) 1 (length us) k (suc k) no_extent h (omega arith)
-
-pub touch_is : (p : ℕ) (xs : List Extent) (k : ℕ) → k < length xs → touch_at (touches p xs) (suc k) ≡ touch_of p xs (suc k)
-unfolding touches
-touch_is p xs k h = get_or-map-range_with_len (λ j. touch_of p xs j) 1 (length xs) k (suc k) no_touch h (omega arith)
-
+-- ---- lists
 -- what a function makes of some numbers, one after another, by what it makes of each
 pub map_range : {X : Type 0} (f g : ℕ → X) (a n : ℕ) → ((i : ℕ) → a ≤ i → i < a + n → f i ≡ g i) → map f (range_with_len a n) ≡ map g (range_with_len a n)
 map_range f g a zero same = refl

@@ -19,9 +19,11 @@ use Rattle.range_log.specs.Updates.{update_at, extents, extent_of, Replayable}
 use Rattle.range_log.specs.Rows.{level_of, levels_of, row_keys_of, row_of, node_of, leaf_of, leaf_start}
 use Rattle.range_log.specs.Laws.{RowsStay}
 use Rattle.node_store.specs.Rows.{UpdateRow}
+use Rattle.range_log.proofs.Grown.{touch-touches}
+use Rattle.range_log.proofs.Bytes.{content_next, length-extents, extent_is}
 use Rattle.snapshot.specs.Versions.{row_at, pairs_of, same_range, start_of, start_in, written, updates, IsRowOf}
 use Rattle.snapshot.specs.Laws.{AreRowsOf, TellUpdates}
-use Rattle.snapshot.proofs.Lists.{length-updates, update_told, content_next, length-extents, extent_is, touch_is, map_range}
+use Rattle.snapshot.proofs.Lists.{length-updates, update_told, map_range}
 use Rattle.snapshot.proofs.Growing.{touch_stays, row_stays}
 
 -- ---- the start that a search by range finds
@@ -98,7 +100,7 @@ offset_told p k us row pos ok lt is =
     let f : ℕ = x.at / p in
     let in_list : k < length xs = omega (arith, length-extents us) in
     let e : x ≡ extent_of us (suc k) = extent_is us k lt in
-    let t = touch_is p xs k in_list in
+    let t = touch-touches p xs k in_list in
     let len : x.len ≡ (extent_of us (suc k)).len = ap (λ (y : Extent). y.len) e in
     let some : 1 ≤ x.len = omega (arith, len, (ok k lt).1) in
     let down : f * p ≤ x.at = div-mul-le_self x.at p in

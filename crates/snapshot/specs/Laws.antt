@@ -25,3 +25,7 @@ RowsTell = (p : ℕ) (us : List Update) (rows : List UpdateRow) → 1 ≤ p → 
 -- the row of an update is its row among more updates too
 abbrev pub OwnRowsStay : Type 0
 OwnRowsStay = (p k : ℕ) (us more : List Update) (row : UpdateRow) → k ≤ length us → IsRowOf p us k row → IsRowOf p (us ++ more) k row
+
+-- and the row of an update among more updates is its row without them
+abbrev pub OwnRowsStood : Type 0
+OwnRowsStood = (p k : ℕ) (us more : List Update) (row : UpdateRow) → k ≤ length us → IsRowOf p (us ++ more) k row → IsRowOf p us k row

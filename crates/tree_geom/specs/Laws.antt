@@ -1,7 +1,7 @@
 use Rattle.std.specs.Prelude.{◌≡◌, ◌⊎◌, ℕ, ◌+◌, ◌*◌, ◌/◌, ◌^◌, ◌<◌, ◌≤◌, suc, true, false}
 use Rattle.tree_geom.specs.declared.range.Range.{Range}
 use Rattle.tree_geom.specs.declared.touch.Touch.{Touch}
-use Rattle.tree_geom.specs.Geometry.{IsHeight, height_of, span_of, tree_range, page_range, left_half, right_half, Meets, meets_of}
+use Rattle.tree_geom.specs.Geometry.{IsPageSize, IsHeight, height_of, span_of, tree_range, page_range, left_half, right_half, Meets, meets_of}
 
 -- ---- spans
 -- the height of a size is the least at which a tree holds it
@@ -29,6 +29,10 @@ abbrev pub PageWithin : Type 0
 PageWithin = (p n : ℕ) → 1 ≤ p → 1 ≤ n → p ≤ span_of p n
 
 -- ---- ranges
+-- a page has a byte
+abbrev pub PagesHaveBytes : Type 0
+PagesHaveBytes = (p : ℕ) → IsPageSize p → 1 ≤ p
+
 -- a range of any height has a byte
 abbrev pub RangesHaveBytes : Type 0
 RangesHaveBytes = (p h : ℕ) → 1 ≤ p → 1 ≤ p * 2 ^ h

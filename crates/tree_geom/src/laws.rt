@@ -1,5 +1,5 @@
 //! The laws of pages and ranges that the crates above rest on. Each is the contract of a function that does nothing.
-ghost use Rattle.tree_geom.specs.Laws.{HeightsHold, SpanOfNone, SpanOfSome, SpansHold, WithinSpan, PageWithin, RangesHaveBytes, HeightsHalve, PagesAlign, LowHalvesAlign, HighHalvesAlign, RangesNest, MeetsIsTrue, MeetsIsFalse, MeetsOrNot};
+ghost use Rattle.tree_geom.specs.Laws.{PagesHaveBytes, HeightsHold, SpanOfNone, SpanOfSome, SpansHold, WithinSpan, PageWithin, RangesHaveBytes, HeightsHalve, PagesAlign, LowHalvesAlign, HighHalvesAlign, RangesNest, MeetsIsTrue, MeetsIsFalse, MeetsOrNot};
 
 /// What the height and the span of a size are, and which ranges are within the span.
 pub fn spans_hold()
@@ -11,8 +11,9 @@ pub fn spans_hold()
     ensures page { PageWithin }
 {}
 
-/// How the ranges of one height lie among those of another.
+/// A page and a range of any height has a byte, and how the ranges of one height lie among those of another.
 pub fn ranges_align()
+    ensures page { PagesHaveBytes }
     ensures bytes { RangesHaveBytes }
     ensures halve { HeightsHalve }
     ensures pages { PagesAlign }

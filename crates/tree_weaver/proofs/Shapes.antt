@@ -7,7 +7,7 @@ use Rattle.std.proofs.lemmas.Nat.{mul-le, pow_pos}
 use Rattle.std.proofs.Math.Nat.{pow-succ', pow-le-pow_right, div-mul-le_self, lt-div-mul-add, mul-div_cancel}
 use Rattle.tree_geom.specs.declared.range.Range.{Range}
 use Rattle.tree_geom.specs.declared.touch.Touch.{Touch}
-use Rattle.tree_geom.specs.Geometry.{IsPageSize, tree_range, page_range, height_of, span_of, Meets}
+use Rattle.tree_geom.specs.Geometry.{tree_range, page_range, height_of, span_of, Meets}
 use Rattle.tree_geom.specs.Laws.{HeightsHold, SpanOfSome, RangesNest}
 use Rattle.range_log.specs.Log.{newest_of, touch_at}
 use Rattle.range_log.specs.Rows.{covers}
@@ -16,15 +16,10 @@ use Rattle.range_log.specs.Laws.{NewestHits, NewestMisses}
 use Rattle.border_hints.specs.Numbered.{NumberedUpdate, own_touch, log_upto, IsNumbered}
 use Rattle.border_hints.specs.Borders.{IsRowRange, IsBorder, BorderLinks, AreBorders}
 use Rattle.tree_weaver.specs.Planned.{own_link, own_leaf, own_inner, own_node, IsHalf}
-
-pub page_pos : (p : ℕ) → IsPageSize p → 1 ≤ p
-page_pos p is = let pos : 0 < 2 ^ is.0 = pow_pos is.0 in omega (arith, is.1)
+use Rattle.tree_geom.proofs.Spans.{page_pos, size_pos}
 
 pub double : (p h : ℕ) → p * 2 ^ (h + 1) ≡ 2 * (p * 2 ^ h)
 double p h = let e : h + 1 ≡ suc h = omega arith in rw (e, pow-succ' 2 h) (omega arith)
-
-pub size_pos : (p h : ℕ) → 1 ≤ p → 1 ≤ p * 2 ^ h
-size_pos p h pos = let e : 1 * 1 ≤ p * 2 ^ h = mul-le 1 1 p (2 ^ h) pos (pow_pos h) in omega arith
 
 pub power_small : (h : ℕ) → h ≤ 38 → 2 ^ h < 2 ^ 64
 power_small h le = let two : 0 < 2 = omega arith in let e : 2 ^ h ≤ 2 ^ 38 = pow-le-pow_right two le in omega arith

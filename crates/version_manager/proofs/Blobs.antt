@@ -19,29 +19,17 @@ use Rattle.node_store.specs.Rows.{UpdateRow}
 use Rattle.snapshot.specs.Versions.{row_at, updates_of, older_version, under_blob, IsRowOf, IsVersion}
 use Rattle.snapshot.specs.Versions.{size_now as version_size}
 use Rattle.snapshot.specs.Laws.{AreRowsOf, TellUpdates}
-use Rattle.snapshot.proofs.Finding.{page_pos}
 use Rattle.snapshot.proofs.Growing.{IsRowOf-shorter}
-use Rattle.snapshot.proofs.Lists.{row_at_front, extent_of_front, size_front}
 use Rattle.snapshot.proofs.Telling.{told}
 use Rattle.publisher.specs.Windows.{Numbered, finished_of, published_of, leading, version_of, waiting_of, window_on, with_finished}
 use Rattle.publisher.specs.Windows.{is_finished as is_done}
 use Rattle.publisher.proofs.Growing.{new_stands}
 use Rattle.publisher.proofs.Leading.{published_counts}
-use Rattle.publisher.proofs.Standing.{are_rows, stands_finished}
+use Rattle.publisher.proofs.Standing.{rows_published, stands_finished}
+use Rattle.range_log.proofs.Growth.{extent_of_front, size_front}
+use Rattle.tree_geom.proofs.Spans.{page_pos}
 use Rattle.version_manager.specs.Kept.{Keeps}
 use Rattle.version_manager.proofs.BlobsSizes.{prefix_within, prefix_set, prefix_whole, all_present, opens_count, opens_touch, sizes_grow}
-
--- the first of some rows
-rows_front : (p v : ℕ) (us : List Update) (rows : List UpdateRow) → v ≤ length rows → AreRowsOf p us rows → AreRowsOf p us (take v rows)
-rows_front p v us rows le are =
-    let count : length (take v rows) ≡ v = length-take-le v rows le in
-    record { few = omega (arith, are.few); each = each count }
-  where
-    each : length (take v rows) ≡ v → (k : ℕ) → 1 ≤ k → k ≤ length (take v rows) → IsRowOf p us k (row_at (take v rows) k)
-    each count k some le' =
-        let same : row_at rows k ≡ row_at (take v rows) k = ap (λ l. row_at l k) (sym (take-append-drop v rows)) ∙ row_at_front (take v rows) (drop v rows) k le' in
-        let R : UpdateRow → Type 0 = λ r. IsRowOf p us k r in
-        subst R same (are.each k some (omega arith))
 
 -- rows of updates are those of the first of them
 rows_of_front : (p v : ℕ) (us : List Update) (rows : List UpdateRow) → v ≤ length us → length rows ≤ v → AreRowsOf p us rows → AreRowsOf p (take v us) rows
@@ -133,7 +121,7 @@ module _ (limits : Bounds) (w : Numbered) (b : Blob) (k : Keeps limits w b) wher
       page_some = page_pos w.page_size is.page_size
 
       own_rows : (v : ℕ) → v ≤ published_of w → AreRowsOf w.page_size b.updates (take v (leading w.rows))
-      own_rows v le = rows_front w.page_size v b.updates (leading w.rows) (omega (arith, leads)) (are_rows b.updates w (omega (arith, leads, published_few)) k.stands)
+      own_rows v le = rows_published b.updates w v even k.stands
 
       pub rows_count : (v : ℕ) → v ≤ published_of w → length (take v (leading w.rows)) ≡ v
       rows_count v le = length-take-le v (leading w.rows) (omega (arith, leads))

@@ -1,14 +1,14 @@
 -- The next update of a blob.
-use Rattle.std.proofs.Common.{◌≡◌, ℕ, suc, ◌+◌, ◌<◌, ◌≤◌, false, List, [], ◌∷◌, ◌++◌, length, take, drop, map, max, arith, refl, ap, sym, subst, inl, inr, ◌∙◌, get_or, None, is_some, length-append, take-append-drop}
+use Rattle.std.proofs.Common.{◌≡◌, ℕ, suc, ◌+◌, ◌<◌, ◌≤◌, false, List, [], ◌∷◌, ◌++◌, length, take, drop, map, max, arith, refl, ap, sym, subst, inl, inr, ◌∙◌, None, is_some, length-append, take-append-drop}
 use Rattle.std.proofs.lemmas.Bool.{cases_lt}
 use Rattle.std.proofs.lemmas.List.{map-append}
-use Rattle.std.proofs.Math.Seq.{get_or-append_seam}
+use Rattle.std.proofs.Math.Seq.{get_or-append_seam, take-length}
 use Rattle.blob_model.specs.Content.{Update, offset_of, size_of}
 use Rattle.blob_model.specs.Limits.{Bounds}
 use Rattle.blob_model.specs.Store.{Blob, waiting, size_now, size_with, and_update}
 use Rattle.blob_model.specs.declared.call.Place.{Place}
 use Rattle.tree_geom.specs.declared.touch.Touch.{Touch}
-use Rattle.tree_geom.specs.Geometry.{no_touch, touched_by}
+use Rattle.tree_geom.specs.Geometry.{touched_by}
 use Rattle.range_log.specs.declared.open.OpenTouch.{OpenTouch}
 use Rattle.range_log.specs.Log.{touch_at, size_at}
 use Rattle.range_log.specs.Extents.{Extent, IsLog, extent_at, size_after, touches}
@@ -19,19 +19,18 @@ use Rattle.range_log.proofs.Grown.{touch-touches}
 use Rattle.range_log.proofs.Growth.{rows_stay, extents_grow}
 use Rattle.node_store.specs.Rows.{UpdateRow}
 use Rattle.snapshot.specs.Versions.{Version, updates, IsVersion}
-use Rattle.snapshot.specs.Laws.{AreRowsOf}
 use Rattle.snapshot.proofs.Growing.{IsRowOf-longer}
-use Rattle.snapshot.proofs.Lists.{size_front, extent_of_front, length-updates}
+use Rattle.snapshot.proofs.Telling.{told}
+use Rattle.tree_geom.proofs.Spans.{page_pos}
 use Rattle.border_hints.specs.Numbered.{NumberedUpdate, log_of, log_with, own_touch}
 use Rattle.border_hints.specs.Numbered.{StandsFor as TicketStands}
 use Rattle.publisher.specs.Windows.{Numbered, leading, published_of, version_of, waiting_of, with_numbered, StandsFor}
-use Rattle.publisher.proofs.Growing.{new_stands, numbered_stands}
-use Rattle.publisher.proofs.Leading.{touches_match}
-use Rattle.publisher.proofs.Standing.{are_rows}
+use Rattle.publisher.proofs.Growing.{numbered_stands, log_published}
+use Rattle.range_log.proofs.Growth.{size_front, extent_of_front}
 use Rattle.version_manager.specs.Blobs.{Takes}
 use Rattle.version_manager.specs.Kept.{Keeps}
 use Rattle.version_manager.proofs.BlobsSizes.{prefix_more, opens_touches, opens_first}
-use Rattle.version_manager.proofs.Blobs.{leads, published_few, waiting_count, log_size, tells_all}
+use Rattle.version_manager.proofs.Blobs.{leads, published_few, waiting_count, log_size}
 
 -- one update more, that begins within the size and has a byte
 module _ (us : List Update) (u : Update) (ok : Replayable us) (begins : offset_of u.place (size_of us (length us)) ≤ size_of us (length us)) (some : 1 ≤ length u.bytes) where
@@ -106,16 +105,11 @@ module _ (us : List Update) (u : Update) (ok : Replayable us) (begins : offset_o
 module _ (limits : Bounds) (w : Numbered) (b : Blob) (k : Keeps limits w b) (even : length w.rows ≡ length w.log) (is : IsVersion (version_of w)) where
   front : log_of (version_of w) ≡ take (published_of w) w.log
   front =
-      let p : ℕ = w.page_size in
       let rows : List UpdateRow = leading w.rows in
-      let tell = tells_all limits w b k even is in
-      let n = leads limits w b k even in
-      let few = published_few limits w b k even in
-      let are : AreRowsOf p b.updates rows = are_rows b.updates w (omega arith) k.stands in
-      let told = new_stands (updates p rows) (version_of w) tell.replayable (λ v le. is.fits v (omega (arith, length-updates p rows))) (length-updates p rows) tell.own in
-      sym told.log
-      ∙ touches_match rows w.log (omega arith) (λ i lt. (are.each (suc i) (omega arith) (omega arith)).touch ∙ ap (λ l. get_or l i no_touch) (sym k.stands.log))
-      ∙ ap (λ m. take m w.log) n
+      let whole : take (length rows) rows ≡ rows = take-length rows in
+      ap (λ l. touches w.page_size (extents (updates w.page_size l))) (sym whole)
+      ∙ log_published rows_stay (told rows_stay) b.updates w (length rows) (page_pos w.page_size is.page_size) even k.stands (omega arith)
+      ∙ ap (λ m. take m w.log) (leads limits w b k even)
 
   pub log_whole : log_with (version_of w) (waiting_of w) ≡ w.log
   log_whole =

@@ -26,9 +26,7 @@ use Rattle.weaver_tests.specs.Blobs.{OneBlob, IsOneBlob, Start, update_of, updat
 use Rattle.weaver_tests.proofs.Opens.{opens_at, length-opens, opens_touch, length-between, between_joined}
 use Rattle.weaver_tests.proofs.Rows.{leading_here}
 use Rattle.weaver_tests.proofs.Updates.{replayable_first, touches_first, extent_first, size_next, touch_next, size_told}
-
-page_pos : (p : ℕ) → IsPageSize p → 1 ≤ p
-page_pos p (i, e, low, high) = omega (arith, pow_pos i)
+use Rattle.tree_geom.proofs.Spans.{page_pos}
 
 size_at-take : (k : ℕ) (log : List Touch) → size_at (take k log) k ≡ size_at log k
 size_at-take zero log = refl

@@ -15,30 +15,16 @@ use Rattle.range_log.specs.Laws.{TouchesAre, EachTouchIs, SizesAre, RowsStay, Ex
 use Rattle.page_store.specs.Stored.{joined}
 use Rattle.publisher.specs.Laws.{IsNext}
 use Rattle.weaver_tests.specs.Blobs.{Start, update_of}
+use Rattle.range_log.proofs.Bytes.{length-extents, extent_is}
+use Rattle.range_log.proofs.Growth.{size_front, extent_of_front}
 
 update_at_front : (us more : List Update) (k : ℕ) → k ≤ length us → update_at (us ++ more) k ≡ update_at us k
 update_at_front us more zero le = refl
 update_at_front us more (suc k) le = get_or_append_left us more no_update k le
 
-size_front : (us more : List Update) (v : ℕ) → v ≤ length us → size_of (us ++ more) v ≡ size_of us v
-size_front us more v le = ap (λ l. length (content_from [] l)) (take-append-le v us more le)
-
 -- where an update falls after that size
 abbrev placed_at : Update → ℕ → Extent
 placed_at u size = record { at = offset_of u.place size; len = length u.bytes }
-
-extent_of_front : (us more : List Update) (k : ℕ) → k < length us → extent_of (us ++ more) (suc k) ≡ extent_of us (suc k)
-extent_of_front us more k lt =
-    ap (λ u. placed_at u (size_of (us ++ more) k)) (update_at_front us more (suc k) lt)
-    ∙ ap (placed_at (update_at us (suc k))) (size_front us more k (omega arith))
-
-extent_is : (us : List Update) (k : ℕ) → k < length us → extent_at (extents us) (suc k) ≡ extent_of us (suc k)
-unfolding extents
-extent_is us k h = get_or-map-range_with_len (λ j. extent_of us j) 1 (length us) k (suc k) no_extent h (omega arith)
-
-pub length-extents : (us : List Update) → length (extents us) ≡ length us
-unfolding extents
-length-extents us = length-map (range_with_len 1 (length us)) (λ k. extent_of us k) ∙ length-range_with_len 1 (length us)
 
 -- it begins at the size at the latest, and has a byte
 abbrev Begins : Extent → ℕ → Type 0

@@ -2,8 +2,9 @@ use Rattle.std.proofs.Common.{◌≡◌, ℕ, ◌-◌, ◌≤◌, length, arith,
 use Rattle.tree_geom.specs.Geometry.{height_of}
 use Rattle.range_log.specs.Log.{newest_of}
 use Rattle.snapshot.specs.Versions.{Version}
+use Rattle.tree_geom.proofs.Spans.{page_pos}
 use Rattle.border_hints.specs.Numbered.{NumberedUpdate, log_of, log_upto, IsNumbered}
-use Rattle.border_hints.proofs.Published.{page_pos, log_grown}
+use Rattle.border_hints.proofs.Published.{log_grown}
 use Rattle.border_hints.proofs.Turning.{down_started, down_turn, edge_known, root_fits, leaf_fits, leaf_range}
 use Rattle.border_hints.proofs.descent.descend.Goals as goal
 

@@ -1,8 +1,9 @@
 use Rattle.std.proofs.Common.{ℕ, ◌+◌, ◌-◌, ◌*◌, ◌/◌, ◌^◌, ◌≤◌, arith, ap, sym, subst, ◌∙◌}
 use Rattle.tree_geom.specs.Geometry.{tree_range}
 use Rattle.snapshot.specs.Versions.{Version}
+use Rattle.tree_geom.proofs.Spans.{page_pos}
 use Rattle.border_hints.specs.Borders.{newest_known}
-use Rattle.border_hints.proofs.Published.{page_pos, size_is}
+use Rattle.border_hints.proofs.Published.{size_is}
 use Rattle.border_hints.proofs.Turning.{halved, path_fits, side_fits}
 use Rattle.border_hints.proofs.descent.turn.Goals as goal
 

@@ -4,9 +4,10 @@ use Rattle.tree_geom.specs.Geometry.{height_of}
 use Rattle.range_log.specs.Log.{size_at, HasNode}
 use Rattle.range_log.specs.Laws.{TouchesAre, SizesAre, LogsAreGrown, ExtentsStand, Grown}
 use Rattle.snapshot.specs.Versions.{Version, size_now, IsVersion}
+use Rattle.tree_geom.proofs.Spans.{page_pos}
 use Rattle.border_hints.specs.Numbered.{log_of}
 use Rattle.border_hints.proofs.Tickets.{length-log_of}
-use Rattle.border_hints.proofs.Published.{page_pos, log_grown, log_size, none_in_half, above_root, node_below, range_is, size_is, inner_size, link_low, link_high}
+use Rattle.border_hints.proofs.Published.{log_grown, log_size, none_in_half, above_root, node_below, range_is, size_is, inner_size, link_low, link_high}
 use Rattle.border_hints.proofs.known.halves_known.Goals as goal
 
 pub returns-then-at-eq0-clause-low : goal.returns-then-at-eq0-clause-low

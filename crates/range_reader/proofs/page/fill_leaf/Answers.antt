@@ -2,10 +2,11 @@ use Rattle.std.proofs.Common.{◌≡◌, ◌+◌, ◌*◌, ◌≤◌, length, ma
 use Rattle.tree_geom.specs.declared.node.Piece.{Piece}
 use Rattle.snapshot.specs.Versions.{row_at, bytes_of}
 use Rattle.range_log.specs.Rows.{second_piece}
+use Rattle.tree_geom.proofs.Spans.{page_pos}
 use Rattle.range_reader.specs.Reading.{falls, own_from, own_len}
 use Rattle.range_reader.proofs.Counting.{kept_twice, risen_since, stored_since}
 use Rattle.range_reader.proofs.NodeParts.{piece_one, piece_two}
-use Rattle.range_reader.proofs.Leaves.{leaf_of_version, FitsIn, page_pos}
+use Rattle.range_reader.proofs.Leaves.{leaf_of_version, FitsIn}
 use Rattle.range_reader.proofs.Joining.{taken_twice, overlaid_twice, first_from, second_from, overlaid_same, taken_same}
 use Rattle.range_reader.proofs.page.fill_leaf.Goals as goal
 

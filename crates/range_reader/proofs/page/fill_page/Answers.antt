@@ -6,12 +6,13 @@ use Rattle.range_log.specs.Updates.{page_bytes}
 use Rattle.range_log.specs.Rows.{back_of, covered}
 use Rattle.range_log.specs.Visits.{backs_of}
 use Rattle.snapshot.specs.Versions.{updates_of, HasNodeFor}
+use Rattle.tree_geom.proofs.Spans.{page_pos}
 use Rattle.range_reader.specs.Faults.{IsLedTo, Newest, Back}
 use Rattle.range_reader.specs.Filling.{Overlaid}
 use Rattle.range_reader.specs.Reading.{falls, content_of, own_start, own_from, own_len}
 use Rattle.range_reader.proofs.Counting.{kept_yet, kept_twice, stored_since, risen_since}
 use Rattle.range_reader.proofs.Standing.{AreIn, there_after, in_after, still_wanted, all_there}
-use Rattle.range_reader.proofs.Leaves.{leaf_of_version, page_pos}
+use Rattle.range_reader.proofs.Leaves.{leaf_of_version}
 use Rattle.range_reader.proofs.Along.{backs_at, same_backs}
 use Rattle.range_reader.proofs.Going.{not_true, stays_unmarked, in_newest, back_less}
 use Rattle.range_reader.proofs.page.fill_page.Goals as goal

@@ -3,7 +3,7 @@ use Rattle.std.proofs.lemmas.Bool.Decides.{nat_tests}
 use Rattle.tree_geom.specs.declared.node.NodeKey.{NodeKey}
 use Rattle.tree_geom.specs.Geometry.{height_of}
 use Rattle.snapshot.specs.Versions.{size_now, HasNodeFor}
-use Rattle.range_reader.proofs.Leaves.{page_pos}
+use Rattle.tree_geom.proofs.Spans.{page_pos}
 use Rattle.range_reader.proofs.Walking.{down, up}
 use Rattle.range_reader.proofs.Rooted.{not_zero, root_stands, root_newest, root_tree, walk_bound}
 use Rattle.range_reader.proofs.reader.read.Goals as goal

@@ -6,10 +6,10 @@ use Rattle.tree_geom.specs.Geometry.{page_range}
 use Rattle.range_log.specs.Log.{newest_of}
 use Rattle.range_log.specs.Visits.{backs_of}
 use Rattle.snapshot.specs.Versions.{HasNodeFor}
+use Rattle.tree_geom.proofs.Spans.{page_pos}
 use Rattle.range_reader.specs.Reading.{falls, log_of, newest_in, bytes_at, content_of, backs_in}
 use Rattle.range_reader.proofs.Parts.{range_join}
 use Rattle.range_reader.proofs.Counting.{risen_since}
-use Rattle.range_reader.proofs.Leaves.{page_pos}
 use Rattle.range_reader.proofs.Walking.{page_of_range, page_step, larger, even, child, inner_step, backs_join, failed_front, failed_back, err_then, ok_then}
 use Rattle.range_reader.proofs.walk.+walk.Goals as goal
 

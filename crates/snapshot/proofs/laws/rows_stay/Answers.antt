@@ -1,5 +1,8 @@
-use Rattle.snapshot.proofs.Growing.{IsRowOf-longer}
+use Rattle.snapshot.proofs.Growing.{IsRowOf-longer, IsRowOf-shorter}
 use Rattle.snapshot.proofs.laws.rows_stay.Goals as goal
 
-pub returns : goal.returns
-returns c p k us more row le is = IsRowOf-longer c.older_versions_stay.ensures.rows c.older_versions_stay.ensures.extents p k us more row le is
+pub returns-clause-more : goal.returns-clause-more
+returns-clause-more c = IsRowOf-longer c.older_versions_stay.ensures.rows c.older_versions_stay.ensures.extents
+
+pub returns-clause-fewer : goal.returns-clause-fewer
+returns-clause-fewer c = IsRowOf-shorter c.older_versions_stay.ensures.rows c.older_versions_stay.ensures.extents

@@ -1,5 +1,8 @@
-use Rattle.tree_geom.proofs.Spans.{size_pos, half_size, page_aligned, left_aligned, right_aligned, ranges_nest}
+use Rattle.tree_geom.proofs.Spans.{page_pos, size_pos, half_size, page_aligned, left_aligned, right_aligned, ranges_nest}
 use Rattle.tree_geom.proofs.laws.ranges_align.Goals as goal
+
+pub returns-clause-page : goal.returns-clause-page
+returns-clause-page c = page_pos
 
 pub returns-clause-bytes : goal.returns-clause-bytes
 returns-clause-bytes c = size_pos

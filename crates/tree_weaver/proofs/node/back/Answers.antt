@@ -1,6 +1,7 @@
 use Rattle.std.proofs.Common.{arith, ap, sym, ◌∙◌}
 use Rattle.snapshot.specs.Versions.{Version}
-use Rattle.tree_weaver.proofs.Shapes.{page_pos, uncovered_edge, edge_border, page_is, asked}
+use Rattle.tree_geom.proofs.Spans.{page_pos}
+use Rattle.tree_weaver.proofs.Shapes.{uncovered_edge, edge_border, page_is, asked}
 use Rattle.tree_weaver.proofs.node.back.Goals as goal
 
 pub of-requires : goal.of-requires

@@ -5,8 +5,9 @@ use Rattle.tree_geom.specs.Geometry.{tree_range}
 use Rattle.snapshot.specs.Versions.{Version}
 use Rattle.border_hints.specs.Numbered.{own_touch}
 use Rattle.border_hints.specs.Borders.{IsRowRange}
+use Rattle.tree_geom.proofs.Spans.{page_pos}
 use Rattle.tree_weaver.specs.Planned.{own_inner}
-use Rattle.tree_weaver.proofs.Shapes.{page_pos, size_is, range_is, own_range, own_fits, inner_wide, node_leaf, node_inner}
+use Rattle.tree_weaver.proofs.Shapes.{size_is, range_is, own_range, own_fits, inner_wide, node_leaf, node_inner}
 use Rattle.tree_weaver.proofs.weave.node.Goals as goal
 
 pub overflow_mul-range : goal.overflow_mul-range

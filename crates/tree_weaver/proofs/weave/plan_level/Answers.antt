@@ -1,8 +1,8 @@
 use Rattle.std.proofs.Common.{◌/◌, ◌≤◌, ap, subst}
 use Rattle.tree_geom.specs.declared.touch.Touch.{Touch}
 use Rattle.border_hints.specs.Numbered.{own_touch}
+use Rattle.tree_geom.proofs.Spans.{page_pos}
 use Rattle.tree_weaver.proofs.Plans.{numbered_node, level_begun, level_more, level_finished}
-use Rattle.tree_weaver.proofs.Shapes.{page_pos}
 use Rattle.tree_weaver.proofs.weave.plan_level.Goals as goal
 
 pub loop-q-init : goal.loop-q-init

@@ -1,4 +1,4 @@
-use Rattle.std.proofs.Common.{◌≡◌, ap, ◌∙◌}
+use Rattle.std.proofs.Common.{ap, ◌∙◌}
 use Rattle.node_store.specs.Rows.{UpdateRow, cut_at}
 use Rattle.snapshot.specs.Versions.{row_at, bytes_of}
 use Rattle.snapshot.proofs.version.Snapshot.page.Goals as goal
