@@ -18,3 +18,4 @@ mod Rowing
 mod Onward
 mod Walking
 mod Sound
+mod Lines

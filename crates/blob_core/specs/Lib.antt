@@ -5,3 +5,4 @@ pub mod Walk
 pub mod Promises
 pub mod Standing
 pub mod Acts
+pub mod Lines
