@@ -1,0 +1,13 @@
+use Rattle.std.proofs.Common.{◌/◌, sym, ap, ◌∙◌}
+use Rattle.std.specs.Option.{option_copied}
+use Rattle.radix_list.specs.Packing.{groups}
+use Rattle.radix_list.proofs.Tree.{grouped_none, grouped_some}
+use Rattle.radix_list.proofs.list.RadixList.twig.Goals as goal
+
+pub returns-in_err-limb : goal.returns-in_err-limb
+returns-in_err-limb g c =
+    ap option_copied c.from_residual.ensures ∙ sym (grouped_none (groups (groups c.args.self.now)) (c.args.i / 32) (sym c.limb.ensures ∙ ap option_copied c.in_err-limb.was))
+
+pub returns : goal.returns
+returns g c =
+    c.at.ensures ∙ sym (grouped_some (groups (groups c.args.self.now)) (c.args.i / 32) c.in_ok-limb.field-0.now (sym c.limb.ensures ∙ ap option_copied c.in_ok-limb.was))

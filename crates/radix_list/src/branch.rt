@@ -1,0 +1,118 @@
+// A node of the tree, which shares its children with other nodes.
+ghost use Rattle.std.specs.Prelude.{◌≡◌, ◌+◌, ◌^◌, ◌<◌, ◌≤◌, [], ◌∷◌, ◌++◌, length, take, map, unwrap_or, vec_len, vec_capacity, IfOk, slice_get};
+ghost use Rattle.std.specs.Arc.{arc_value};
+ghost use Rattle.std.specs.Option.{option_copied, option_map};
+
+use crate::NoMemory;
+use std::alloc::Global;
+use std::marker::Model;
+use std::sync::Arc;
+
+/// How many children a node may have.
+pub(crate) const WIDTH: usize = 32;
+
+/// The children of a node, in order.
+#[derive(Drop)]
+pub(crate) struct Branch<C> {
+    children: Vec<Arc<C>>,
+}
+
+impl<C> Model for Branch<C> {
+    ghost use Rattle.std.specs.Prelude.{List, map};
+    ghost use Rattle.std.specs.Coded.{coded_list};
+    ghost use Rattle.std.specs.Arc.{arc_value};
+
+    ghost Value = { List C };
+
+    ghost coded = { coded_list C.code };
+
+    ghost view = { λ b. map arc_value b.children.items };
+}
+
+impl<C> Branch<C> {
+    /// A node without children. It takes no memory.
+    pub(crate) fn empty(alloc: Global) -> Branch<C>
+        ensures { result ≡ [] }
+    {
+        Branch {
+            children: Vec::new(alloc),
+        }
+    }
+
+    /// Child `k` from 0, and the share that this node has in it.
+    pub(crate) fn handle(&self, k: usize) -> Option<&Arc<C>>
+        ensures { option_map (λ child. arc_value child.now) result ≡ slice_get self.now k }
+    {
+        if k < self.children.len() {
+            Some(&self.children[k])
+        } else {
+            None
+        }
+    }
+
+    /// Child `k` from 0.
+    pub(crate) fn at(&self, k: usize) -> Option<&C>
+        ensures { option_copied result ≡ slice_get self.now k }
+    {
+        match self.handle(k) {
+            Some(child) => Some(child),
+            None => None,
+        }
+    }
+}
+
+impl<C: Drop> Branch<C> {
+    /// A node of the first `keep` children of `base`, or of all that it has, and then this child.
+    pub(crate) fn ending(
+        alloc: Global,
+        base: Option<&Branch<C>>,
+        keep: usize,
+        child: Arc<C>,
+    ) -> Result<Branch<C>, NoMemory>
+        requires { keep < WIDTH }
+        ensures { IfOk result (λ node. node ≡ take keep (unwrap_or (option_copied base.entry) []) ++ arc_value child ∷ []) }
+    {
+        let kept: &[Arc<C>] = match base {
+            Some(node) => node.front(keep),
+            None => &[],
+        };
+        let mut children = copy_of(alloc, kept, keep + 1)?;
+        children.push_reserved(child);
+        Ok(Branch { children })
+    }
+
+    /// The same children once more.
+    pub(crate) fn share(&self, alloc: Global) -> Result<Branch<C>, NoMemory>
+        ensures { IfOk result (λ node. node ≡ self.now) }
+    {
+        Ok(Branch {
+            children: copy_of(alloc, &self.children, self.children.len())?,
+        })
+    }
+
+    // The first `count` children, or all.
+    fn front(&self, count: usize) -> &[Arc<C>]
+        ensures children { map arc_value result.now ≡ take count self.now }
+        ensures few { length result.now ≤ count }
+    {
+        &self.children[..count.min(self.children.len())]
+    }
+}
+
+// The same children once more, in a vector with room for `room` children.
+fn copy_of<C: Drop>(
+    alloc: Global,
+    children: &[Arc<C>],
+    room: usize,
+) -> Result<Vec<Arc<C>>, NoMemory>
+    requires { length children.now ≤ room }
+    ensures children { IfOk result (λ copy. map arc_value copy.items ≡ map arc_value children.now) }
+    ensures count { IfOk result (λ copy. vec_len copy ≡ length children.now) }
+    ensures room { IfOk result (λ copy. vec_capacity copy ≡ room) }
+{
+    let mut copy = Vec::with_capacity(alloc, room)?;
+    for child in children {
+        copy.push_reserved(Arc::try_clone(child)?);
+    }
+    Ok(copy)
+}

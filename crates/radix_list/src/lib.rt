@@ -1,0 +1,27 @@
+//! A list of shared items that shares all but one path with the list it was made from.
+//!
+//! Its items stand in the leaves of a tree of four levels, whose nodes have up to 32 children each. A node never changes,
+//! and any number of lists may share it.
+#![tactic(auto)]
+
+mod branch;
+mod list;
+
+pub use list::RadixList;
+use std::alloc::{AllocError, AllocFailed};
+
+/// Memory was refused.
+#[derive(Clone, Copy, Debug, PartialEq, Eq)]
+pub struct NoMemory;
+
+impl From<AllocError> for NoMemory {
+    fn from(_error: AllocError) -> NoMemory {
+        NoMemory
+    }
+}
+
+impl<T: Drop> From<AllocFailed<T>> for NoMemory {
+    fn from(_error: AllocFailed<T>) -> NoMemory {
+        NoMemory
+    }
+}
