@@ -7,12 +7,10 @@ ghost use Rattle.publisher.specs.Kept.{Ready};
 
 use node_store::{NoMemory, Row};
 use snapshot::{Snapshot, laws};
-use std::alloc::Global;
 use std::sync::Arc;
 
 /// The version after that one and after the rows that stand next above it, none of which is missing.
 pub(crate) fn moved_on(
-    alloc: Global,
     base: &Snapshot,
     row: &Arc<Row>,
     above: &[Option<Arc<Row>>],
@@ -22,10 +20,10 @@ pub(crate) fn moved_on(
     ensures page_size { IfOk result (λ s. s.page_size ≡ base.now.page_size) }
     ensures rows { IfOk result (λ s. s.rows ≡ base.now.rows ++ arc_value row.now ∷ leading (map (option_map arc_value) above.now)) }
 {
-    let mut snapshot = with_next(alloc, base, row)?;
+    let mut snapshot = with_next(base, row)?;
     for place in above {
         match place {
-            Some(row) => snapshot = with_next(alloc, &snapshot, row)?,
+            Some(row) => snapshot = with_next(&snapshot, row)?,
             None => return Ok(snapshot),
         }
     }
@@ -33,13 +31,13 @@ pub(crate) fn moved_on(
 }
 
 // The version after that one, whose row this is.
-fn with_next(alloc: Global, snapshot: &Snapshot, row: &Arc<Row>) -> Result<Snapshot, NoMemory>
+fn with_next(snapshot: &Snapshot, row: &Arc<Row>) -> Result<Snapshot, NoMemory>
     requires { Ready snapshot.now.page_size (snapshot.now.rows ++ arc_value row.now ∷ []) }
     ensures { IfOk result (λ s. s ≡ next_version snapshot.now (arc_value row.now)) }
 {
     laws::rows_tell();
     let _version = snapshot.version();
-    match snapshot.with_row(alloc, Arc::try_clone(row)?) {
+    match snapshot.with_row(Arc::try_clone(row)?) {
         Ok(next) => Ok(next),
         Err(_) => Err(NoMemory),
     }

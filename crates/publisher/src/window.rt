@@ -88,12 +88,7 @@ impl Window {
     /// all are finished. A row above an unfinished version is kept until that one is finished.
     ///
     /// `Already` exactly where the version is finished. On an error the row comes back, and all is as before.
-    pub fn finish(
-        &mut self,
-        alloc: Global,
-        version: u64,
-        row: Arc<Row>,
-    ) -> Result<u64, (FinishFault, Arc<Row>)>
+    pub fn finish(&mut self, version: u64, row: Arc<Row>) -> Result<u64, (FinishFault, Arc<Row>)>
         requires numbered { (1 ≤ version) × (version ≤ length self.old.log) }
         requires own { IsRowIn self.old version (arc_value row) }
         ensures finished { IfOk result (λ _. self.new ≡ with_finished self.old version (arc_value row)) }
@@ -114,7 +109,7 @@ impl Window {
             self.above[place] = Some(row);
             return Ok(published);
         }
-        let Ok(next) = moved_on(alloc, &self.snapshot, &row, &self.above[1..]) else {
+        let Ok(next) = moved_on(&self.snapshot, &row, &self.above[1..]) else {
             return Err((FinishFault::NoMemory, row));
         };
         let now = next.version();
@@ -167,10 +162,10 @@ impl Window {
     }
 
     /// The snapshot of a published version.
-    pub fn snapshot_at(&self, alloc: Global, version: u64) -> Result<Snapshot, NoMemory>
+    pub fn snapshot_at(&self, version: u64) -> Result<Snapshot, NoMemory>
         requires { version ≤ published_of self.now }
         ensures { IfOk result (λ s. s ≡ older_version (version_of self.now) version) }
     {
-        self.snapshot.at(alloc, version)
+        self.snapshot.at(version)
     }
 }

@@ -1,5 +1,5 @@
 // A published version and its rows.
-ghost use Rattle.std.specs.Prelude.{◌≡◌, ℕ, ◌+◌, ◌*◌, ◌^◌, ◌<◌, ◌≤◌, ◌↔◌, length, take, map, min, IfOk, IfErr, IfNone, IfSome, IsNone, Some, vec_len, vec_capacity, slice_get, slice_range, [], ◌∷◌, ◌++◌};
+ghost use Rattle.std.specs.Prelude.{◌≡◌, ℕ, ◌+◌, ◌*◌, ◌^◌, ◌<◌, ◌≤◌, ◌↔◌, length, take, map, min, IfOk, IfErr, IfNone, IfSome, IsNone, Some, slice_get, slice_range, [], ◌∷◌, ◌++◌};
 ghost use Rattle.std.specs.Arc.{arc_value};
 ghost use Rattle.blob_model.specs.Content.{size_of};
 ghost use Rattle.range_log.specs.Updates.{Replayable};
@@ -9,52 +9,48 @@ ghost use Rattle.snapshot.specs.Versions.{row_at, bytes_of, updates_of, next_ver
 
 use node_store::{NoMemory, NodeRef, Row};
 use page_store::StoredPage;
+use radix_list::RadixList;
 use range_log::laws;
 use std::alloc::Global;
-use std::marker::Model;
+use std::marker::{Brand, Model};
 use std::sync::Arc;
-use std::sync::ledger::Ledger;
+use std::sync::ledger::{Blank, Ledger};
 use tree_geom::{NodeKey, PageSize, Range, Steps, span};
-
-/// How many updates a version may have.
-const MAX_VERSIONS: usize = 1_048_576;
 
 /// A published version of a blob, and what is needed to read it: the rows of updates 1 to the version.
 ///
-/// The rows are shared with other versions and never change.
+/// The rows never change, and other versions share them, and all of the list that holds them but one path.
 #[derive(Drop)]
 pub struct Snapshot {
     blob: u64,
     page_size: PageSize,
-    rows: Vec<Arc<Row>>,
+    rows: RadixList<Row>,
 }
 
 impl Model for Snapshot {
-    ghost use Rattle.std.specs.Prelude.{map};
-    ghost use Rattle.std.specs.Arc.{arc_value};
     ghost use Rattle.snapshot.specs.Versions.{Version, IsVersion};
 
     ghost Value = { Version };
 
-    ghost view = { λ s. record { blob = s.blob; page_size = s.page_size; rows = map arc_value s.rows.items } };
+    ghost view = { λ s. record { blob = s.blob; page_size = s.page_size; rows = s.rows } };
 
-    ghost invariant = { λ s. IsVersion (record { blob = s.blob; page_size = s.page_size; rows = map arc_value s.rows.items }) };
+    ghost invariant = { λ s. IsVersion (record { blob = s.blob; page_size = s.page_size; rows = s.rows }) };
 }
 
 impl Snapshot {
-    /// Version 0 of the blob, which is empty.
+    /// Version 0 of the blob, which is empty. The versions that are made from it take their memory from this allocator.
     pub fn empty(alloc: Global, blob: u64, p: PageSize) -> Result<Snapshot, NoMemory>
         ensures { IfOk result (λ s. s ≡ record { blob = blob; page_size = p; rows = [] }) }
     {
         Ok(Snapshot {
             blob,
             page_size: p,
-            rows: Vec::with_capacity(alloc, 0)?,
+            rows: RadixList::empty(alloc),
         })
     }
 
     /// The version after this one, with the row of its update. Where memory is refused, the row comes back.
-    pub fn with_row(&self, alloc: Global, row: Arc<Row>) -> Result<Snapshot, Arc<Row>>
+    pub fn with_row(&self, row: Arc<Row>) -> Result<Snapshot, Arc<Row>>
         requires room { length self.now.rows < 1048576 }
         requires row { let next = next_version self.now (arc_value row) in
             IsRowOf next.page_size (updates_of next) (length self.now.rows + 1) (arc_value row) }
@@ -65,41 +61,41 @@ impl Snapshot {
     {
         laws::older_versions_stay();
         let _pages = row.pages().count();
-        match copy_of(alloc, &self.rows, self.rows.len() + 1) {
-            Ok(mut rows) => {
-                rows.push_reserved(row);
-                Ok(Snapshot {
-                    blob: self.blob,
-                    page_size: self.page_size,
-                    rows,
-                })
-            }
-            Err(NoMemory) => Err(row),
-        }
+        let rows = self.rows.push(row)?;
+        Ok(Snapshot {
+            blob: self.blob,
+            page_size: self.page_size,
+            rows,
+        })
     }
 
     /// The snapshot of an older version, or of this one.
-    pub fn at(&self, alloc: Global, version: u64) -> Result<Snapshot, NoMemory>
+    pub fn at(&self, version: u64) -> Result<Snapshot, NoMemory>
         requires { version ≤ length self.now.rows }
         ensures { IfOk result (λ s. s ≡ older_version self.now version) }
     {
         laws::older_versions_stay();
-        let count = version as usize;
+        let Ok(rows) = self.rows.prefix(version) else {
+            return Err(NoMemory);
+        };
         Ok(Snapshot {
             blob: self.blob,
             page_size: self.page_size,
-            rows: copy_of(alloc, &self.rows[..count], count)?,
+            rows,
         })
     }
 
     /// The same version with the same rows under another blob's id. The nodes keep the keys under which they were put.
-    pub fn under(&self, alloc: Global, blob: u64) -> Result<Snapshot, NoMemory>
+    pub fn under(&self, blob: u64) -> Result<Snapshot, NoMemory>
         ensures { IfOk result (λ s. s ≡ under_blob self.now blob) }
     {
+        let Ok(rows) = self.rows.share() else {
+            return Err(NoMemory);
+        };
         Ok(Snapshot {
             blob,
             page_size: self.page_size,
-            rows: copy_of(alloc, &self.rows, self.rows.len())?,
+            rows,
         })
     }
 
@@ -115,7 +111,7 @@ impl Snapshot {
         ensures count { result ≡ length self.now.rows }
         ensures stands { IsVersion self.now }
     {
-        self.rows.len() as u64
+        self.rows.len()
     }
 
     /// The size of the version, in bytes.
@@ -204,20 +200,19 @@ impl Snapshot {
         ensures this { result.now ≡ row_at self.now.rows j }
         ensures stands { IsVersion self.now }
     {
-        &self.rows[j as usize - 1]
+        self.row_by::<Brand>(j, Blank::new(1))
     }
-}
 
-// The same rows once more, in a vector with room for `room` rows.
-fn copy_of(alloc: Global, rows: &[Arc<Row>], room: usize) -> Result<Vec<Arc<Row>>, NoMemory>
-    requires { length rows.now ≤ room }
-    ensures rows { IfOk result (λ copy. map arc_value copy.items ≡ map arc_value rows.now) }
-    ensures count { IfOk result (λ copy. vec_len copy ≡ length rows.now) }
-    ensures room { IfOk result (λ copy. vec_capacity copy ≡ room) }
-{
-    let mut copy = Vec::with_capacity(alloc, room)?;
-    for row in rows {
-        copy.push_reserved(Arc::try_clone(row)?);
+    // The same. What it takes to come to a row in the list of rows is no node step, and nobody counts it.
+    fn row_by<L: Ledger>(&self, j: u64, blank: Blank) -> &Row
+        requires version { (1 ≤ j) × (j ≤ length self.now.rows) }
+        requires name { blank.name ≡ L.name }
+        requires parts { blank.parts ≡ L.parts }
+        requires some { 0 < blank.parts }
+        ensures this { result.now ≡ row_at self.now.rows j }
+        ensures stands { IsVersion self.now }
+    {
+        let mut steps = Steps::<L>::open(blank);
+        self.rows.get(j - 1, &mut steps).unwrap()
     }
-    Ok(copy)
 }

@@ -117,7 +117,7 @@ fn next_version(
         by_hand,
     )?;
     let row = Arc::new(alloc, row)?;
-    match before.with_row(alloc, row) {
+    match before.with_row(row) {
         Ok(next) => Ok(next),
         Err(_) => Err("no memory".into()),
     }

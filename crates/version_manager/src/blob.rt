@@ -167,7 +167,7 @@ fn hints_of(alloc: Global, window: &Window) -> Result<Hints, NoMemory>
 {
     let snapshot = window.snapshot();
     Ok(Hints {
-        snapshot: snapshot.at(alloc, snapshot.version())?,
+        snapshot: snapshot.at(snapshot.version())?,
         waiting: copy_of(alloc, window.waiting())?,
     })
 }
@@ -206,6 +206,6 @@ pub(crate) fn branch_in(
 {
     let _assigned = window.assigned();
     let _version = window.snapshot().version();
-    let shared = window.snapshot_at(alloc, version)?;
-    Window::new(alloc, shared.under(alloc, new_id)?)
+    let shared = window.snapshot_at(version)?;
+    Window::new(alloc, shared.under(new_id)?)
 }

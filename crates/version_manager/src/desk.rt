@@ -203,7 +203,7 @@ impl Desk {
         if self.history.reserve(1).is_err() {
             return Err((DeskFault::NoMemory, row));
         }
-        match self.windows[place].finish(self.alloc, version, row) {
+        match self.windows[place].finish(version, row) {
             Ok(published) => {
                 self.history.push_reserved(Entry {
                     caller,
@@ -264,7 +264,7 @@ impl Desk {
         ensures here { (nodes : List Shelves) (houses : List House) → LiesIn nodes houses self.now → IfOk result (λ s. IsVersionIn nodes houses s) }
     {
         match place_of(&self.windows, blob) {
-            Some(place) => snapshot_in(self.alloc, &self.windows[place], version),
+            Some(place) => snapshot_in(&self.windows[place], version),
             None => Err(DeskFault::Refused(Refusal::NoBlob { blob })),
         }
     }

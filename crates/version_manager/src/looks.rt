@@ -15,7 +15,6 @@ use crate::fault::DeskFault;
 use blob_model::{Outcome, Refusal};
 use publisher::{NoMemory, Window};
 use snapshot::Snapshot;
-use std::alloc::Global;
 
 // Why a look at that version is refused, if it is: it isn't published.
 fn unpublished(window: &Window, version: u64) -> Option<Refusal>
@@ -97,11 +96,7 @@ pub(crate) fn status_in(window: &Window) -> Outcome
 }
 
 /// The snapshot of a published version.
-pub(crate) fn snapshot_in(
-    alloc: Global,
-    window: &Window,
-    version: u64,
-) -> Result<Snapshot, DeskFault>
+pub(crate) fn snapshot_in(window: &Window, version: u64) -> Result<Snapshot, DeskFault>
     ensures size { (limits : Bounds) (s : Store) (b : Blob) → Keeps limits window.now b
         → IfOk result (λ x. (unless_refused s (not_published b version ∷ []) (s, Outcomes.Size (size_of b.updates version))).1 ≡ Outcomes.Size (size_now x)) }
     ensures refused { (limits : Bounds) (s : Store) (b : Blob) → Keeps limits window.now b
@@ -115,7 +110,7 @@ pub(crate) fn snapshot_in(
     if let Some(refusal) = unpublished(window, version) {
         return Err(DeskFault::Refused(refusal));
     }
-    match window.snapshot_at(alloc, version) {
+    match window.snapshot_at(version) {
         Ok(snapshot) => Ok(snapshot),
         Err(NoMemory) => Err(DeskFault::NoMemory),
     }

@@ -176,7 +176,7 @@ impl Blob {
             return Err("not published, or too long ago".into());
         }
         let place = version as usize - 1;
-        let snapshot = latest.at(alloc, published)?;
+        let snapshot = latest.at(published)?;
         let waiting = open_between(alloc, &self.touches, published as usize, place)?;
         let begun = &self.begun[place];
         let pages = Arc::try_clone(&begun.pages)?;
@@ -243,6 +243,6 @@ impl Blob {
         let (planned, _) = self.plan(alloc, &ticket)?;
         let row = put_row(alloc, rt, &ticket, &planned, &self.nodes)?;
         let version = ticket.version();
-        Ok(self.window.finish(alloc, version, row))
+        Ok(self.window.finish(version, row))
     }
 }

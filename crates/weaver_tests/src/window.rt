@@ -40,11 +40,11 @@ fn waits(window: &Window, want: &[OpenTouch]) -> bool {
 }
 
 // The size of a published version, by its snapshot, or None where that is another version's.
-fn opened(alloc: Global, window: &Window, version: u64) -> Result<Option<u64>, Fail> {
+fn opened(window: &Window, version: u64) -> Result<Option<u64>, Fail> {
     if version > window.published() {
         return Err("not published".into());
     }
-    let snapshot = window.snapshot_at(alloc, version)?;
+    let snapshot = window.snapshot_at(version)?;
     if snapshot.version() != version {
         return Ok(None);
     }
@@ -97,12 +97,8 @@ fn finished_in_turn(
 }
 
 // The sizes of versions 0, 1 and 2, by their snapshots.
-fn sizes(alloc: Global, window: &Window) -> Result<[Option<u64>; 3], Fail> {
-    Ok([
-        opened(alloc, window, 0)?,
-        opened(alloc, window, 1)?,
-        opened(alloc, window, 2)?,
-    ])
+fn sizes(window: &Window) -> Result<[Option<u64>; 3], Fail> {
+    Ok([opened(window, 0)?, opened(window, 1)?, opened(window, 2)?])
 }
 
 #[test]
@@ -114,10 +110,7 @@ fn a_later_update_is_published_once_the_earlier_one_is_finished(
         finished_in_turn(&rt, rt.alloc(), &mut blob)?,
         [Some(0), Some(2)]
     );
-    assert_eq!(rt;
-        sizes(rt.alloc(), blob.window())?,
-        [Some(0), Some(1), Some(32)]
-    );
+    assert_eq!(rt; sizes(blob.window())?, [Some(0), Some(1), Some(32)]);
     Ok(())
 }
 

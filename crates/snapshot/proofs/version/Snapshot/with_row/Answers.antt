@@ -1,6 +1,5 @@
-use Rattle.std.proofs.Common.{◌++◌, [], ◌∷◌, List, map, sym, ap, ◌∙◌, subst}
+use Rattle.std.proofs.Common.{List, sym, ap, subst, ◌∙◌}
 use Rattle.std.specs.Arc.{arc_value}
-use Rattle.std.proofs.lemmas.List.{map-append}
 use Rattle.node_store.specs.Rows.{UpdateRow}
 use Rattle.snapshot.specs.Versions.{IsVersion}
 use Rattle.snapshot.proofs.Growing.{IsVersion-push, of_rows, paged_of}
@@ -8,18 +7,15 @@ use Rattle.snapshot.proofs.version.Snapshot.with_row.Goals as goal
 
 pub invariant_of-result : goal.invariant_of-result
 invariant_of-result c =
-    let items = c.self.inside.rows.items in
     let row = arc_value c.args.row in
-    let e = ap (map arc_value) c.push_reserved.ensures.items ∙ map-append arc_value c.in-Ok.rows.items (c.args.row ∷ [])
-    ∙ ap (λ l. l ++ row ∷ []) (c.in-Ok.ensures.rows ∙ ap (map arc_value) c.deref-2.ensures.value) in
     let pages = c.pages.ensures ∙ ap (λ (r : UpdateRow). r.pages) c.deref.ensures in
     let P : List UpdateRow → Type 0 = λ l. IsVersion (of_rows c.self.inside.blob c.self.inside.page_size l) in
     let room = rw (← c.self.view_is) at c.requires.room in
     let own = rw (← c.self.view_is) at c.requires.row in
     let in_bounds = rw (← c.self.view_is) at c.requires.in_bounds in
     let fits = rw (← c.self.view_is) at c.requires.fits in
-    subst P (sym e)
-    (IsVersion-push c.older_versions_stay.ensures.rows c.older_versions_stay.ensures.extents c.self.inside.blob c.self.inside.page_size (map arc_value items) row
+    subst P (sym c.in_ok-rows.ensures.ok)
+    (IsVersion-push c.older_versions_stay.ensures.rows c.older_versions_stay.ensures.extents c.self.inside.blob c.self.inside.page_size c.self.inside.rows row
     c.self.invariant room own in_bounds
     (paged_of row.pages c.pages.result.now c.count-pages.result c.self.inside.page_size (sym pages) c.count-pages.ensures.count c.count-pages.ensures.enough own.page_size)
     fits)
