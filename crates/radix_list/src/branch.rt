@@ -7,6 +7,8 @@ use crate::NoMemory;
 use std::alloc::Global;
 use std::marker::Model;
 use std::sync::Arc;
+use std::sync::ledger::Ledger;
+use tree_geom::Steps;
 
 /// How many children a node may have.
 pub(crate) const WIDTH: usize = 32;
@@ -58,6 +60,15 @@ impl<C> Branch<C> {
             Some(child) => Some(child),
             None => None,
         }
+    }
+
+    /// Child `k` from 0, which takes a node step.
+    pub(crate) fn visit<L: Ledger>(&self, k: usize, steps: &mut Steps<L>) -> Option<&C>
+        ensures child { option_copied result ≡ slice_get self.now k }
+        ensures step { steps.new ≡ steps.old + 1 }
+    {
+        steps.tick();
+        self.at(k)
     }
 }
 

@@ -1,5 +1,5 @@
 // A list in a tree of four levels.
-ghost use Rattle.std.specs.Prelude.{◌≡◌, ℕ, ◌+◌, ◌*◌, ◌/◌, ◌<◌, ◌≤◌, [], ◌∷◌, ◌++◌, length, take, IfOk, IfErr, Some, slice_get};
+ghost use Rattle.std.specs.Prelude.{◌≡◌, ℕ, ◌+◌, ◌*◌, ◌/◌, ◌<◌, ◌≤◌, [], ◌∷◌, ◌++◌, length, take, IfOk, IfErr, IfSome, Some, slice_get};
 ghost use Rattle.std.specs.Arc.{arc_value};
 ghost use Rattle.std.specs.Option.{option_copied, option_map};
 ghost use Rattle.radix_list.specs.Packing.{groups};
@@ -63,21 +63,18 @@ impl<T> RadixList<T> {
         self.len
     }
 
-    /// Item `i` from 0. None exactly where `i` isn't below the length. It takes a node step for each node on the way, four
-    /// at most.
+    /// Item `i` from 0. None exactly where `i` isn't below the length. It takes a node step for each node on the way: four
+    /// to an item, and no more where there is none.
     pub fn get<L: Ledger>(&self, i: u64, steps: &mut Steps<L>) -> Option<&T>
         ensures item { option_copied result ≡ slice_get self.now i }
         ensures few { steps.new ≤ steps.old + 4 }
+        ensures counted { IfSome result (λ _. steps.new ≡ steps.old + 4) }
     {
         let i = i as usize;
-        steps.tick();
-        let limb = self.root.at(i / WIDTH / WIDTH / WIDTH)?;
-        steps.tick();
-        let twig = limb.at(i / WIDTH / WIDTH % WIDTH)?;
-        steps.tick();
-        let leaf = twig.at(i / WIDTH % WIDTH)?;
-        steps.tick();
-        leaf.at(i % WIDTH)
+        let limb = self.root.visit(i / WIDTH / WIDTH / WIDTH, steps)?;
+        let twig = limb.visit(i / WIDTH / WIDTH % WIDTH, steps)?;
+        let leaf = twig.visit(i / WIDTH % WIDTH, steps)?;
+        leaf.visit(i % WIDTH, steps)
     }
 
     /// The list with the item at its end. This list stays as it is. An `Err` is want of memory and gives the item back.
@@ -94,7 +91,7 @@ impl<T> RadixList<T> {
         }
     }
 
-    /// The same list once more. No node and no item is copied.
+    /// The same list once more. Of its nodes and items none is copied, but for the root's pointers to its children, 32 at most.
     pub fn share(&self) -> Result<RadixList<T>, NoMemory>
     where
         T: Drop,

@@ -1,4 +1,4 @@
-use Rattle.std.proofs.Common.{ℕ, List, take, map, sym, ap, ◌∙◌, ◌≡◌, length, min, refl}
+use Rattle.std.proofs.Common.{ℕ, List, take, map, sym, ap, ◌∙◌, ◌≡◌, length, min}
 use Rattle.std.specs.Arc.{arc_value}
 use Rattle.std.proofs.lemmas.List.{take-map, take_min}
 use Rattle.radix_list.proofs.branch.Branch.front.Goals as goal

@@ -1,6 +1,5 @@
 use Rattle.std.proofs.Common.{◌+◌, ap, ◌∙◌, take, ◌++◌, ◌∷◌, []}
 use Rattle.std.specs.Arc.{arc_value}
-use Rattle.std.specs.Option.{option_copied}
 use Rattle.radix_list.proofs.Tree.{tree_is, tree_ending, IsTreeOf}
 use Rattle.radix_list.proofs.list.RadixList.ending.Given.{Over}
 use Rattle.radix_list.proofs.list.RadixList.ending.Goals as goal

@@ -1,4 +1,4 @@
-use Rattle.std.proofs.Common.{◌≡◌, ℕ, ◌/◌, List, sym, ap, ◌∙◌}
+use Rattle.std.proofs.Common.{◌≡◌, ℕ, ◌/◌, List, None, Some, sym, ap, ◌∙◌}
 use Rattle.std.specs.Prelude.{slice_get}
 use Rattle.std.specs.Option.{option_copied}
 use Rattle.radix_list.specs.Packing.{groups, tree_of, items_of, IsPacked}
@@ -13,32 +13,32 @@ pub returns-in_err-limb-clause-item : goal.returns-in_err-limb-clause-item
 returns-in_err-limb-clause-item g c =
     let xs = c.args.self.now in
     let i = c.args.i in
-    let limb = root_read c.self.inside.root c.self.inside.len xs i c.self.invariant c.self.view_is ∙ (sym c.at.ensures ∙ ap option_copied c.in_err-limb.was) in
-    let twig = grouped_none (groups (groups xs)) (i / 32 / 32) limb in
+    let limb : slice_get (tree_of xs) (i / 32 / 32 / 32) ≡ None = root_read c.self.inside.root c.self.inside.len xs i c.self.invariant c.self.view_is ∙ (sym c.visit.ensures.child ∙ ap option_copied c.in_err-limb.was) in
+    let twig : slice_get (groups (groups xs)) (i / 32 / 32) ≡ None = grouped_none (groups (groups xs)) (i / 32 / 32) limb in
     ap option_copied c.from_residual.ensures ∙ sym (grouped_none xs i (grouped_none (groups xs) (i / 32) twig))
 
 pub returns-in_err-twig-clause-item : goal.returns-in_err-twig-clause-item
 returns-in_err-twig-clause-item g c =
     let xs = c.args.self.now in
     let i = c.args.i in
-    let limb = root_read c.self.inside.root c.self.inside.len xs i c.self.invariant c.self.view_is ∙ (sym c.at.ensures ∙ ap option_copied c.in_ok-limb.was) in
-    let twig = grouped_some (groups (groups xs)) (i / 32 / 32) c.in_ok-limb.limb.now limb ∙ (sym c.at-2.ensures ∙ ap option_copied c.in_err-twig.was) in
+    let limb : slice_get (tree_of xs) (i / 32 / 32 / 32) ≡ Some c.in_ok-limb.limb.now = root_read c.self.inside.root c.self.inside.len xs i c.self.invariant c.self.view_is ∙ (sym c.visit.ensures.child ∙ ap option_copied c.in_ok-limb.was) in
+    let twig : slice_get (groups (groups xs)) (i / 32 / 32) ≡ None = grouped_some (groups (groups xs)) (i / 32 / 32) c.in_ok-limb.limb.now limb ∙ (sym c.visit-2.ensures.child ∙ ap option_copied c.in_err-twig.was) in
     ap option_copied c.from_residual-in_err-twig.ensures ∙ sym (grouped_none xs i (grouped_none (groups xs) (i / 32) twig))
 
 pub returns-in_err-leaf-clause-item : goal.returns-in_err-leaf-clause-item
 returns-in_err-leaf-clause-item g c =
     let xs = c.args.self.now in
     let i = c.args.i in
-    let limb = root_read c.self.inside.root c.self.inside.len xs i c.self.invariant c.self.view_is ∙ (sym c.at.ensures ∙ ap option_copied c.in_ok-limb.was) in
-    let twig = grouped_some (groups (groups xs)) (i / 32 / 32) c.in_ok-limb.limb.now limb ∙ (sym c.at-2.ensures ∙ ap option_copied c.in_ok-twig.was) in
-    let leaf = grouped_some (groups xs) (i / 32) c.in_ok-twig.twig.now twig ∙ (sym c.at-3.ensures ∙ ap option_copied c.in_err-leaf.was) in
+    let limb : slice_get (tree_of xs) (i / 32 / 32 / 32) ≡ Some c.in_ok-limb.limb.now = root_read c.self.inside.root c.self.inside.len xs i c.self.invariant c.self.view_is ∙ (sym c.visit.ensures.child ∙ ap option_copied c.in_ok-limb.was) in
+    let twig : slice_get (groups (groups xs)) (i / 32 / 32) ≡ Some c.in_ok-twig.twig.now = grouped_some (groups (groups xs)) (i / 32 / 32) c.in_ok-limb.limb.now limb ∙ (sym c.visit-2.ensures.child ∙ ap option_copied c.in_ok-twig.was) in
+    let leaf : slice_get (groups xs) (i / 32) ≡ None = grouped_some (groups xs) (i / 32) c.in_ok-twig.twig.now twig ∙ (sym c.visit-3.ensures.child ∙ ap option_copied c.in_err-leaf.was) in
     ap option_copied c.from_residual-in_err-leaf.ensures ∙ sym (grouped_none xs i leaf)
 
 pub returns-clause-item : goal.returns-clause-item
 returns-clause-item g c =
     let xs = c.args.self.now in
     let i = c.args.i in
-    let limb = root_read c.self.inside.root c.self.inside.len xs i c.self.invariant c.self.view_is ∙ (sym c.at.ensures ∙ ap option_copied c.in_ok-limb.was) in
-    let twig = grouped_some (groups (groups xs)) (i / 32 / 32) c.in_ok-limb.limb.now limb ∙ (sym c.at-2.ensures ∙ ap option_copied c.in_ok-twig.was) in
-    let leaf = grouped_some (groups xs) (i / 32) c.in_ok-twig.twig.now twig ∙ (sym c.at-3.ensures ∙ ap option_copied c.in_ok-leaf.was) in
-    c.at-4.ensures ∙ sym (grouped_some xs i c.in_ok-leaf.leaf.now leaf)
+    let limb : slice_get (tree_of xs) (i / 32 / 32 / 32) ≡ Some c.in_ok-limb.limb.now = root_read c.self.inside.root c.self.inside.len xs i c.self.invariant c.self.view_is ∙ (sym c.visit.ensures.child ∙ ap option_copied c.in_ok-limb.was) in
+    let twig : slice_get (groups (groups xs)) (i / 32 / 32) ≡ Some c.in_ok-twig.twig.now = grouped_some (groups (groups xs)) (i / 32 / 32) c.in_ok-limb.limb.now limb ∙ (sym c.visit-2.ensures.child ∙ ap option_copied c.in_ok-twig.was) in
+    let leaf : slice_get (groups xs) (i / 32) ≡ Some c.in_ok-leaf.leaf.now = grouped_some (groups xs) (i / 32) c.in_ok-twig.twig.now twig ∙ (sym c.visit-3.ensures.child ∙ ap option_copied c.in_ok-leaf.was) in
+    c.visit-4.ensures.child ∙ sym (grouped_some xs i c.in_ok-leaf.leaf.now leaf)

@@ -1,4 +1,4 @@
-use Rattle.std.proofs.Common.{◌/◌, sym, ap, ◌∙◌}
+use Rattle.std.proofs.Common.{sym, ap, ◌∙◌}
 use Rattle.std.specs.Option.{option_copied}
 use Rattle.radix_list.proofs.Tree.{grouped_none, grouped_some}
 use Rattle.radix_list.proofs.list.RadixList.handle.Goals as goal
