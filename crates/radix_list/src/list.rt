@@ -104,7 +104,7 @@ impl<T> RadixList<T> {
         })
     }
 
-    /// The list of the first `n` items. This list stays as it is.
+    /// The list of the first `n` items. This list stays as it is. Where these are all, no node is copied but the root.
     pub fn prefix(&self, n: u64) -> Result<RadixList<T>, NoMemory>
     where
         T: Drop,
@@ -113,6 +113,9 @@ impl<T> RadixList<T> {
     {
         if n == 0 {
             return Ok(RadixList::empty(self.alloc));
+        }
+        if n == self.len {
+            return self.share();
         }
         let last = self.handle(n as usize - 1).unwrap();
         self.ending(n - 1, last)
