@@ -9,4 +9,6 @@ mod scripts;
 #[cfg(test)]
 mod session;
 #[cfg(test)]
+mod tickets;
+#[cfg(test)]
 mod visits;
