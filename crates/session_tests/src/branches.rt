@@ -29,8 +29,8 @@ fn first_blob(alloc: Global) -> Result<Talk, Fail> {
     })
 }
 
-// Branches a blob at the version of its own number, and writes a byte of the branch. The blob itself goes on with a byte of
-// its own, which no branch is to see.
+// Lets a blob go on with a byte of its own, which no branch is to see. Then branches it at the version before, the one of its
+// own number, and writes a byte of the branch.
 fn branch_off(
     alloc: Global,
     talk: &mut Talk,
@@ -39,10 +39,10 @@ fn branch_off(
     offset: usize,
 ) -> Result<(), Fail> {
     let lines = format!(in alloc;
-        "branch {parent} {parent}\nwrite {branch} {offset} {branch:02x}\nwrite {parent} 5 21\n"
+        "write {parent} 5 21\nbranch {parent} {parent}\nwrite {branch} {offset} {branch:02x}\n"
     )?;
     let replies = format!(in alloc;
-        "blob {branch}\nversion {branch} at {offset} size 6\nversion {branch} at 5 size 6\n"
+        "version {branch} at 5 size 6\nblob {branch}\nversion {branch} at {offset} size 6\n"
     )?;
     say(talk, &lines, &replies)
 }
@@ -91,7 +91,7 @@ fn read_shared(alloc: Global, talk: &mut Talk, contents: &[[u8; 6]]) -> Result<(
     Ok(())
 }
 
-// Reads what each blob but the last wrote once it was branched.
+// Reads what each blob but the last wrote before it was branched.
 fn read_own(alloc: Global, talk: &mut Talk, contents: &[[u8; 6]]) -> Result<(), Fail> {
     for (before, content) in contents.iter().enumerate() {
         let mut own = *content;
