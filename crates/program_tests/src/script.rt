@@ -200,10 +200,7 @@ fn said(alloc: Global, reply: Reply) -> Result<Bytes, Fail> {
 }
 
 #[test]
-fn replies_are_written_as_lines(rt: HostRuntime) -> Result<(), Fail> {
-    let alloc = rt.alloc();
-    let bytes = Bytes::of(b"\x00abz\xff".to_vec(alloc)?);
-    let none = Bytes::of(Vec::new(alloc));
+fn replies_to_changes_are_written_as_lines(rt: HostRuntime) -> Result<(), Fail> {
     let size = 18_446_744_073_709_551_615;
     let (version, at, ticket) = (2, 6, 3);
     let replies = [
@@ -235,20 +232,38 @@ fn replies_are_written_as_lines(rt: HostRuntime) -> Result<(), Fail> {
             "ticket 3 version 2 at 6 size 18446744073709551615\n",
         ),
         (Reply::Finished { published: 2 }, "published 2\n"),
+        (Reply::Branched { blob: 4 }, "blob 4\n"),
+    ];
+    for (reply, want) in replies {
+        let line = said(rt.alloc(), reply)?;
+        assert_eq!(rt; line.as_slice(), want.as_bytes());
+    }
+    Ok(())
+}
+
+#[test]
+fn replies_to_looks_are_written_as_lines(rt: HostRuntime) -> Result<(), Fail> {
+    let alloc = rt.alloc();
+    let bytes = Bytes::of(b"\x00abz\xff".to_vec(alloc)?);
+    let none = Bytes::of(Vec::new(alloc));
+    let status = Reply::StatusIs {
+        assigned: 3,
+        published: 1,
+        held: 2,
+    };
+    let replies = [
         (Reply::Content { bytes }, "data 0061627aff\n"),
         (Reply::Content { bytes: none }, "data -\n"),
-        (Reply::RecentIs { version, size: 7 }, "recent 2 size 7\n"),
-        (Reply::SizeIs { size: 7 }, "size 7\n"),
-        (Reply::Synced { version }, "synced 2\n"),
         (
-            Reply::StatusIs {
-                assigned: 3,
-                published: 1,
-                held: 2,
+            Reply::RecentIs {
+                version: 2,
+                size: 7,
             },
-            "status assigned 3 published 1 held 2\n",
+            "recent 2 size 7\n",
         ),
-        (Reply::Branched { blob: 4 }, "blob 4\n"),
+        (Reply::SizeIs { size: 7 }, "size 7\n"),
+        (Reply::Synced { version: 2 }, "synced 2\n"),
+        (status, "status assigned 3 published 1 held 2\n"),
         (Reply::Bye, "bye\n"),
     ];
     for (reply, want) in replies {
