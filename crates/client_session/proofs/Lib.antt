@@ -1,14 +1,7 @@
+pub mod Turns
+pub mod Standing
+pub mod Rows
 pub mod Finding
 pub mod PartsReading
 pub mod PartsStoring
 pub mod PartsWeaving
-pub mod Alone
-pub mod Standing
-pub mod Rows
-pub mod Hints
-pub mod Numbering
-pub mod Finishing
-pub mod Solos
-pub mod Ranges
-pub mod RangeAnswers
-pub mod Gaps

@@ -1,55 +1,18 @@
--- A store that one session owns: what its clauses see, and what it keeps.
-use Rattle.std.specs.Prelude.{◌≡◌, ◌≢◌, ℕ, ◌+◌, ◌≤◌, List, [], ◌∷◌, ◌++◌, length, Option, IfSome, All, AllPairs}
+-- What a session keeps between two calls.
+use Rattle.std.specs.Prelude.{◌≡◌, ℕ, ◌+◌, ◌<◌, ◌≤◌, List, Bool, length, IfSome, All, AllPairs, Some}
 use Rattle.boxcar.specs.Table.{Shelves}
 use Rattle.page_store.specs.House.{House}
 use Rattle.page_store.specs.Stored.{LieAmong}
+use Rattle.blob_model.specs.declared.call.Event.{Event}
 use Rattle.node_store.specs.Rows.{UpdateRow, IsRowIn}
 use Rattle.border_hints.specs.Borders.{NodesLieIn}
 use Rattle.border_hints.specs.Numbered.{NumberedUpdate}
-use Rattle.version_manager.specs.Desks.{DeskState, IsTicketOf, IsUnfinished, IsRowFor}
-use Rattle.request_form.specs.Session.{Session, Held, AllOwn}
-use Rattle.client_session.specs.Tickets.{OpenUpdate, all_held}
-
--- the desk, the houses of its pages and nodes, the updates that are held, and the number of the next one
-pub record OwnState : Type 0 where
-  pub desk : DeskState
-  pub houses : List House
-  pub nodes : List Shelves
-  pub tickets : List OpenUpdate
-  pub next : ℕ
-
--- the session of the one caller, which has seen the whole history
-abbrev pub session_of : OwnState → Session
-session_of o = record {
-  fixed = record { limits = o.desk.limits; page = o.desk.page_size };
-  caller = 1;
-  seen = o.desk.history;
-  tickets = all_held o.tickets;
-  next = o.next;
-}
-
--- with another desk
-abbrev pub with_desk : OwnState → DeskState → OwnState
-with_desk o d = record { desk = d; houses = o.houses; nodes = o.nodes; tickets = o.tickets; next = o.next }
-
--- with another desk, and an update more, under the next number
-abbrev pub with_held : OwnState → DeskState → NumberedUpdate → Option UpdateRow → OwnState
-with_held o d t row = record {
-  desk = d;
-  houses = o.houses;
-  nodes = o.nodes;
-  tickets = o.tickets ++ record { number = o.next; ticket = t; row = row } ∷ [];
-  next = o.next + 1;
-}
-
--- with another desk and these updates
-abbrev pub with_tickets : OwnState → DeskState → List OpenUpdate → OwnState
-with_tickets o d os = record { desk = d; houses = o.houses; nodes = o.nodes; tickets = os; next = o.next }
-
--- what no call changes beside the limits
-pub record IsSamePlace (o o' : OwnState) : Type 0 where
-  pub houses : o'.houses ≡ o.houses
-  pub page_size : o'.desk.page_size ≡ o.desk.page_size
+use Rattle.turn_lock.specs.Shown.{Held}
+use Rattle.version_manager.specs.Desks.{DeskState, IsTicketOf, IsRowFor}
+use Rattle.version_manager.specs.Log.{desk_at}
+use Rattle.version_manager.specs.declared.journal.DeskFixed.{DeskFixed}
+use Rattle.client_session.specs.Tickets.{OpenUpdate, Rise}
+use Rattle.client_session.specs.Sessions.{StoreState, IsPassOf}
 
 -- ---- what a held update keeps
 -- the row is that of the ticket at each desk which the ticket is of, and lies in these houses
@@ -62,27 +25,23 @@ pub record IsHere (nodes : List Shelves) (houses : List House) (t : NumberedUpda
   pub snapshot : NodesLieIn nodes t.snapshot
   pub pages : LieAmong houses t.pages.pages
 
--- the update is numbered at this desk and unfinished, and it and its row lie in these houses
-pub record IsOpen (d : DeskState) (nodes : List Shelves) (houses : List House) (o : OpenUpdate) : Type 0 where
-  pub ticket : IsTicketOf d o.ticket
-  pub unfinished : IsUnfinished d o.ticket.blob o.ticket.version
-  pub here : IsHere nodes houses o.ticket
-  pub row : IfSome o.row (IsWoven nodes houses o.ticket)
+-- the update was numbered in that history, and it and its row lie in the store's houses
+pub record IsOpen (f : DeskFixed) (log : List (ℕ × Event)) (o : OpenUpdate) : Type 0 where
+  pub ticket : IsTicketOf (desk_at f log) o.ticket
+  pub here : IsHere f.nodes f.houses o.ticket
+  pub row : IfSome o.row (IsWoven f.nodes f.houses o.ticket)
 
--- the desk is one of these houses
-pub record IsHousedIn (nodes : List Shelves) (houses : List House) (d : DeskState) : Type 0 where
-  pub nodes_are : d.nodes ≡ nodes
-  pub houses_are : d.houses ≡ houses
+-- Each held update is a numbered one. Their numbers rise to the next one, of which no more were drawn than there are events.
+pub record IsHolding (f : DeskFixed) (log : List (ℕ × Event)) (held : List OpenUpdate) (next : ℕ) : Type 0 where
+  pub open_ : All (IsOpen f log) held
+  pub rise : Rise held next
+  pub drawn : next ≤ length log + 1
 
--- not the same version of the same blob
-abbrev pub Differ : Held → Held → Type 0
-Differ a b = a.blob ≡ b.blob → a.version ≢ b.version
-
--- The desk is of these houses, and the held updates lie in them. All events are the one caller's, and the updates are
--- unfinished, each another one. No more numbers were drawn than there are events.
-pub record IsKept (o : OwnState) : Type 0 where
-  pub lies : IsHousedIn o.nodes o.houses o.desk
-  pub own : AllOwn 1 o.desk.history
-  pub drawn : o.next ≤ length o.desk.history + 1
-  pub open_ : All (IsOpen o.desk o.nodes o.houses) o.tickets
-  pub differ : AllPairs Differ (all_held o.tickets)
+-- The pass is of the store, there is a true door to each of its providers, and room for a page's marks.
+pub record IsSession {D : Type 0} (is_true : D → Type 0) (store : StoreState) (pass : Held Event DeskFixed) (held : List OpenUpdate) (next : ℕ) (doors : List D) (room : List Bool) : Type 0 where
+  pub pass_is : IsPassOf store pass
+  pub holding : IsHolding store.fixed pass.seen held next
+  pub housed : length store.fixed.houses ≡ store.providers
+  pub served : length doors ≡ store.providers
+  pub true_doors : All is_true doors
+  pub marks : length room ≡ store.fixed.page_size

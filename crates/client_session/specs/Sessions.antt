@@ -1,22 +1,76 @@
--- A session that owns its store: what its clauses see, and what it keeps.
-use Rattle.std.specs.Prelude.{◌≡◌, ℕ, ◌<◌, List, [], All, Bool, length}
+-- A store that sessions share, and a session of it: what their clauses see.
+use Rattle.std.specs.Prelude.{◌≡◌, ◌≢◌, ℕ, ◌<◌, List, [], Option, Some}
+use Rattle.atomic_table.specs.Seated.{TableId}
 use Rattle.blob_model.specs.Content.{Update}
 use Rattle.blob_model.specs.Store.{blob_at}
 use Rattle.blob_model.specs.History.{store_of}
-use Rattle.range_log.specs.Updates.{extents}
-use Rattle.range_log.specs.Visits.{visits}
-use Rattle.version_manager.specs.Desks.{updates_or_none}
 use Rattle.blob_model.specs.declared.call.Call.TheVariants as Calls
+use Rattle.blob_model.specs.declared.call.Event.{Event}
+use Rattle.blob_model.specs.declared.call.Outcome.{Outcome}
 use Rattle.blob_model.specs.declared.call.Outcome.TheVariants as Outcomes
 use Rattle.blob_model.specs.declared.call.Refusal.{Refusal}
+use Rattle.blob_model.specs.declared.call.Refusal.TheVariants as Refusals
+use Rattle.range_log.specs.Updates.{extents}
+use Rattle.range_log.specs.Visits.{visits}
+use Rattle.turn_lock.specs.History.{Begins}
+use Rattle.turn_lock.specs.Shown.{Held, Owned}
+use Rattle.version_manager.specs.Desks.{updates_or_none}
+use Rattle.version_manager.specs.Log.{IsLog, events}
+use Rattle.version_manager.specs.declared.journal.DeskFixed.{DeskFixed}
 use Rattle.request_form.specs.Answers.{max_read}
 use Rattle.request_form.specs.Session.{Session, outcome_at}
-use Rattle.client_session.specs.Kept.{OwnState}
+use Rattle.client_session.specs.Tickets.{OpenUpdate, all_held}
 
--- the session, and its doors
-pub record SoloState (D : Type 0) : Type 0 where
-  pub session : Session
+-- a store that sessions share: the lock of its desk, what no act changes, and how many providers it has
+pub record StoreState : Type 0 where
+  pub lock : TableId
+  pub fixed : DeskFixed
+  pub providers : ℕ
+
+-- The pass is of the store: of its lock, with its fixed data, and what it has seen is a history of it.
+pub record IsPassOf (store : StoreState) (pass : Held Event DeskFixed) : Type 0 where
+  pub lock : pass.lock ≡ store.lock
+  pub fixed : pass.fixed ≡ Some store.fixed
+  pub log : IsLog store.fixed pass.seen
+
+-- the owner is of the store in the same way
+pub record IsOwnerOf (store : StoreState) (owner : Owned Event DeskFixed) : Type 0 where
+  pub lock : owner.lock ≡ store.lock
+  pub fixed : owner.fixed ≡ Some store.fixed
+  pub log : IsLog store.fixed owner.seen
+
+-- A session: its store, its caller, the history that it has seen, each event with its caller, the updates that it has numbered
+-- and not yet finished, the number of the next one, and its doors.
+pub record SessionState (D : Type 0) : Type 0 where
+  pub store : StoreState
+  pub caller : ℕ
+  pub log : List (ℕ × Event)
+  pub held : List OpenUpdate
+  pub next : ℕ
   pub doors : List D
+
+-- a session as the definition of its answers sees it
+abbrev pub session_at : DeskFixed → ℕ → List (ℕ × Event) → List OpenUpdate → ℕ → Session
+session_at f caller log held next = record {
+  fixed = record { limits = f.limits; page = f.page_size };
+  caller = caller;
+  seen = events log;
+  tickets = all_held held;
+  next = next;
+}
+
+abbrev pub session_of : {D : Type 0} → SessionState D → Session
+session_of s = session_at s.store.fixed s.caller s.log s.held s.next
+
+-- the pass that the session works with
+abbrev pub pass_of : {D : Type 0} → SessionState D → Held Event DeskFixed
+pass_of s = record { lock = s.store.lock; caller = s.caller; seen = s.log; fixed = Some s.store.fixed }
+
+-- what no call of a session changes, and what it has seen only grows
+pub record Continues {D : Type 0} (old new : SessionState D) : Type 0 where
+  pub store : new.store ≡ old.store
+  pub caller : new.caller ≡ old.caller
+  pub begins : Begins old.log new.log
 
 -- the updates of a blob, in the store of all that the session has seen; one that isn't there has none
 abbrev pub updates_seen : Session → ℕ → List Update
@@ -26,14 +80,11 @@ updates_seen s blob = updates_or_none (blob_at (store_of s.fixed.limits s.seen) 
 abbrev pub visits_seen : Session → ℕ → ℕ → ℕ → ℕ → ℕ
 visits_seen s blob version offset count = visits s.fixed.page (extents (updates_seen s blob)) version offset count
 
--- a read that is refused, and one of too many bytes, takes no node step
+-- A read that is refused, and one of too many bytes, takes no node step. The session is the one after the read.
 pub record NoStepIfRefused (s : Session) (blob version offset count before after : ℕ) : Type 0 where
   pub refused : (r : Refusal) → outcome_at s [] (Calls.Read blob version offset count) ≡ Outcomes.Refused r → after ≡ before
   pub too_long : max_read < count → after ≡ before
 
--- There is a true door to each house's provider, among which the loads are placed, and room for a page's marks.
-pub record IsSolo {D : Type 0} (is_true : D → Type 0) (store : OwnState) (doors : List D) (providers : ℕ) (room : List Bool) : Type 0 where
-  pub housed : length doors ≡ length store.houses
-  pub served : providers ≡ length doors
-  pub true_doors : All is_true doors
-  pub marks : length room ≡ store.desk.page_size
+-- it isn't said that the version is pending
+abbrev pub IsSettled : Outcome → Type 0
+IsSettled outcome = (version held : ℕ) → outcome ≢ Outcomes.Refused (Refusals.Pending version held)

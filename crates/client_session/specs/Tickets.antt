@@ -1,5 +1,5 @@
 -- The updates that a session has numbered and not yet finished.
-use Rattle.std.specs.Prelude.{◌≡◌, ℕ, ◌<◌, List, length, map, remove, slice_get, Option, Some}
+use Rattle.std.specs.Prelude.{◌≡◌, ℕ, ◌<◌, List, length, map, remove, slice_get, Option, Some, All, AllPairs}
 use Rattle.node_store.specs.Rows.{UpdateRow}
 use Rattle.border_hints.specs.Numbered.{NumberedUpdate}
 use Rattle.request_form.specs.Session.{Held, held_at, without_ticket}
@@ -29,3 +29,8 @@ pub record IsHeldAt (os : List OpenUpdate) (number i : ℕ) : Type 0 where
   pub number_is : update.number ≡ number
   pub held : held_at (all_held os) number ≡ Some (held_of update)
   pub left : without_ticket (all_held os) number ≡ all_held (remove os i)
+
+-- the numbers rise, and the next one is above them all
+pub record Rise (os : List OpenUpdate) (next : ℕ) : Type 0 where
+  pub below : All (λ (o : OpenUpdate). o.number < next) os
+  pub pairs : AllPairs (λ (a b : OpenUpdate). a.number < b.number) os

@@ -2,7 +2,8 @@
 use Rattle.std.specs.Prelude.{ℕ, List}
 use Rattle.blob_model.specs.declared.call.Place.{Place}
 use Rattle.blob_model.specs.declared.call.Place.TheVariants.{WriteAt, Append}
-use Rattle.request_form.specs.Session.{Session, IsNobody}
+use Rattle.blob_model.specs.History.{AllOther}
+use Rattle.request_form.specs.Session.{Session}
 use Rattle.request_form.specs.Answers.{Updated, Started, UpdateAnswer}
 use Rattle.request_form.specs.declared.form.Request.{Request}
 use Rattle.request_form.specs.declared.form.Request.TheVariants as Requests
@@ -29,12 +30,12 @@ abbrev pub start_reply : Place → ℕ → ℕ → ℕ → ℕ → Reply
 start_reply Append ticket version at size = Replies.AppendStarted ticket version at size
 start_reply (WriteAt offset) ticket version at size = Replies.WriteStarted ticket version at size
 
--- an update that is finished at once, of a session that is alone
-abbrev pub UpdateAlone : Session → ℕ → Place → List ℕ → Reply → Session → Type 0
-UpdateAlone s blob place bytes reply s' =
-    UpdateAnswer IsNobody s blob place bytes (Updated IsNobody s blob place bytes (update_reply place) reply s') reply s'
+-- an update that is finished at once, and that the session itself doesn't refuse
+abbrev pub UpdateDone : Session → ℕ → Place → List ℕ → Reply → Session → Type 0
+UpdateDone s blob place bytes reply s' =
+    UpdateAnswer AllOther s blob place bytes (Updated AllOther s blob place bytes (update_reply place) reply s') reply s'
 
--- an update that is finished later, of a session that is alone
-abbrev pub StartAlone : Session → ℕ → Place → List ℕ → Reply → Session → Type 0
-StartAlone s blob place bytes reply s' =
-    UpdateAnswer IsNobody s blob place bytes (Started IsNobody s blob place bytes (start_reply place) reply s') reply s'
+-- an update that is finished later, and that the session itself doesn't refuse
+abbrev pub StartDone : Session → ℕ → Place → List ℕ → Reply → Session → Type 0
+StartDone s blob place bytes reply s' =
+    UpdateAnswer AllOther s blob place bytes (Started AllOther s blob place bytes (start_reply place) reply s') reply s'

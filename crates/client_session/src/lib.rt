@@ -1,14 +1,18 @@
-//! A session of a store: what a client's calls do, and what they are answered.
+//! Sessions of a shared store: what a client's calls do, and what they are answered, while other clients go on.
 #![tactic(auto)]
 
 mod done;
-mod own_store;
+mod gate_stub;
+mod notices;
 mod reading;
-mod serve;
-mod solo;
+mod session;
+mod shared;
 mod storing;
 mod tickets;
 mod weaving;
 
 pub use done::{Done, Started};
-pub use solo::Solo;
+pub use gate_stub::{Gate, Point};
+pub use session::Session;
+pub use shared::{Shared, SharedOut};
+pub use version_manager::{Owner, Pass};

@@ -1,0 +1,105 @@
+-- What a turn of a session's pass did, in the words of the definition of answers.
+use Rattle.std.proofs.Common.{◌≡◌, refl, sym, ◌∙◌, ap, subst, ℕ, ◌+◌, ◌≤◌, List, [], ◌∷◌, ◌++◌, append_assoc, length, length-append, Option, Some, Result, Ok, Err, arith}
+use Rattle.std.specs.Prelude.{All}
+use Rattle.std.proofs.lemmas.List.{map-append}
+use Rattle.blob_model.specs.Answer.{answer}
+use Rattle.blob_model.specs.History.{AllOther, store_of}
+use Rattle.blob_model.specs.declared.call.Call.{Call}
+use Rattle.blob_model.specs.declared.call.Event.{Event}
+use Rattle.blob_model.specs.declared.call.Outcome.{Outcome}
+use Rattle.blob_model.specs.declared.call.Outcome.TheVariants as Outcomes
+use Rattle.turn_lock.specs.History.{Begins}
+use Rattle.turn_lock.specs.Shown.{Held, Turned}
+use Rattle.version_manager.specs.Desks.{OnRefused}
+use Rattle.version_manager.specs.Laws.{GapsAreOfOthers}
+use Rattle.version_manager.specs.Log.{IsLog, Looked, Changed, tag, events, outcome_in}
+use Rattle.version_manager.specs.declared.journal.DeskFixed.{DeskFixed}
+use Rattle.version_manager.specs.declared.fault.DeskFault.{DeskFault}
+use Rattle.version_manager.specs.declared.fault.DeskFault.TheVariants as DeskFaults
+use Rattle.request_form.specs.Session.{Session, sees, outcome_at}
+use Rattle.request_form.specs.Replies.{reply_of}
+use Rattle.request_form.specs.Answers.{Refused, OutOfMemory, LookAnswer}
+use Rattle.request_form.specs.declared.form.Reply.{Reply}
+use Rattle.request_form.specs.declared.form.Reply.TheVariants as Replies
+use Rattle.client_session.specs.Tickets.{OpenUpdate}
+use Rattle.client_session.specs.Results.{desk_fault}
+use Rattle.client_session.specs.Sessions.{session_at}
+
+-- Others' events came, and then the act gave what it gives, of the history before it and after it.
+pub record Took (caller : ℕ) (log log' : List (ℕ × Event)) (Gives : List (ℕ × Event) → List (ℕ × Event) → Type 0) : Type 0 where
+  pub gap : List (ℕ × Event)
+  pub others : AllOther caller (events gap)
+  pub gives : Gives (log ++ gap) log'
+
+pub took : GapsAreOfOthers → (f : DeskFixed) (v w : Held Event DeskFixed) (Gives : List (ℕ × Event) → DeskFixed → List (ℕ × Event) → Type 0) → v.fixed ≡ Some f
+    → ((before after : List (ℕ × Event)) → Gives before f after → IsLog f before) → Turned Gives v w → Took v.caller v.seen w.seen (λ before after. Gives before f after)
+took others f v w Gives fixed log turned =
+    let (f', gap, is, lacks, adds, gives) = turned in
+    let same : f' ≡ f = cc in
+    let gives' : Gives (v.seen ++ gap) f w.seen = subst (λ (x : DeskFixed). Gives (v.seen ++ gap) x w.seen) same gives in
+    record { gap = gap; others = others f v.seen gap v.caller (log (v.seen ++ gap) w.seen gives') lacks; gives = gives' }
+
+-- the history goes on, and is one of the store
+pub record Went (f : DeskFixed) (log log' : List (ℕ × Event)) : Type 0 where
+  pub begins : Begins log log'
+  pub log_is : IsLog f log'
+
+module _ (f : DeskFixed) (caller : ℕ) (log log' : List (ℕ × Event)) where
+  pub went_looked : (call : Call) (said : Outcome) → Took caller log log' (λ before after. Looked f call before caller said after) → Went f log log'
+  went_looked call said t = record { begins = (t.gap, t.gives.same); log_is = subst (IsLog f) (sym t.gives.same) t.gives.log }
+
+  pub went_changed : {A E : Type 0} → (call : Call) (event : Event) (tells : A → Outcome) (fault : E → DeskFault) (r : Result A E)
+      → Took caller log log' (λ before after. Changed f call event tells fault before caller r after) → Went f log log'
+  went_changed call event tells fault (Ok a) t = record { begins = (t.gap ++ tag event ∷ [], t.gives.added ∙ append_assoc log t.gap (tag event ∷ [])); log_is = t.gives.log_after }
+  went_changed call event tells fault (Err e) t = record { begins = (t.gap, t.gives.same); log_is = t.gives.log_after }
+
+  -- what the store answers after the gap
+  pub outcome_of_gap : (gap : List (ℕ × Event)) (held : List OpenUpdate) (next : ℕ) (call : Call) → outcome_at (session_at f caller log held next) (events gap) call ≡ outcome_in f (log ++ gap) caller call
+  outcome_of_gap gap held next call = ap (λ (h : List Event). (answer (store_of f.limits h) caller call).1) (sym (map-append (λ (x : ℕ × Event). x.1) log gap))
+
+  with_seen : List OpenUpdate → ℕ → List Event → Session
+  with_seen held next h = record { fixed = (session_at f caller log held next).fixed; caller = caller; seen = h; tickets = (session_at f caller log held next).tickets; next = next }
+
+  -- what the session has seen after a gap
+  pub seen_gap : (gap : List (ℕ × Event)) (held : List OpenUpdate) (next : ℕ) → log' ≡ log ++ gap → session_at f caller log' held next ≡ sees (session_at f caller log held next) (events gap)
+  unfolding with_seen
+  seen_gap gap held next is = ap (with_seen held next) (ap events is ∙ map-append (λ (x : ℕ × Event). x.1) log gap)
+
+  -- and after an event of its own
+  pub seen_event : (gap : List (ℕ × Event)) (e : Event) (held : List OpenUpdate) (next : ℕ) → log' ≡ (log ++ gap) ++ tag e ∷ []
+      → session_at f caller log' held next ≡ sees (session_at f caller log held next) (events gap ++ e ∷ [])
+  unfolding with_seen
+  seen_event gap e held next is =
+      ap (with_seen held next) (ap events is
+      ∙ (map-append (λ (x : ℕ × Event). x.1) (log ++ gap) (tag e ∷ [])
+      ∙ (ap (λ (h : List Event). h ++ e ∷ []) (map-append (λ (x : ℕ × Event). x.1) log gap)
+      ∙ append_assoc (events log) (events gap) (e ∷ []))))
+
+  -- a look
+  pub looked : (call : Call) (said : Outcome) (held : List OpenUpdate) (next : ℕ) → Took caller log log' (λ before after. Looked f call before caller said after)
+      → LookAnswer AllOther (session_at f caller log held next) call (reply_of said) (session_at f caller log' held next)
+  looked call said held next t = record {
+    others = events t.gap;
+    is_gap = t.others;
+    said = ap reply_of (t.gives.said_is ∙ sym (outcome_of_gap t.gap held next call));
+    seen = seen_gap t.gap held next t.gives.same;
+  }
+
+  -- A call that was not done: the store refused it, or no memory was found.
+  pub data NotDone (call : Call) (held : List OpenUpdate) (next : ℕ) (reply : Reply) : Type 0 where
+    refused : Refused AllOther (session_at f caller log held next) call reply (session_at f caller log' held next) → NotDone call held next reply
+    out_of_memory : OutOfMemory AllOther (session_at f caller log held next) reply (session_at f caller log' held next) → NotDone call held next reply
+
+  pub not_done : (call : Call) (held : List OpenUpdate) (next : ℕ) (gap : List (ℕ × Event)) (fault : DeskFault) → AllOther caller (events gap) → log' ≡ log ++ gap
+      → OnRefused fault (λ refusal. outcome_in f (log ++ gap) caller call ≡ Outcomes.Refused refusal) → NotDone call held next (Replies.Refused (desk_fault fault))
+  not_done call held next gap (DeskFaults.Refused refusal) others is refused =
+      NotDone.refused record {
+        others = events gap;
+        is_gap = others;
+        refusal = refusal;
+        refused = outcome_of_gap gap held next call ∙ refused;
+        said = refl;
+        seen = seen_gap gap held next is;
+      }
+  not_done call held next gap DeskFaults.NoMemory others is refused =
+      NotDone.out_of_memory record { others = events gap; is_gap = others; said = refl; seen = seen_gap gap held next is }

@@ -1,4 +1,0 @@
-use Rattle.client_session.proofs.serve.SoloService.answer.Given as goal
-
-abbrev pub ghosts-read_uncounted : goal.ghosts-read_uncounted
-ghosts-read_uncounted g a = record { name = a.blank.name; parts = a.blank.parts }

@@ -1,0 +1,259 @@
+// A session of a store.
+ghost use Rattle.std.specs.Prelude.{◌≡◌, ◌≢◌, ℕ, ◌+◌, ◌<◌, ◌≤◌, List, [], length, sum_by, IfOk, IfErr, All};
+ghost use Rattle.ports.specs.Counts.{RoseBy};
+ghost use Rattle.blob_model.specs.History.{AllOther};
+ghost use Rattle.request_form.specs.Replies.{reply_of, page_faults, fault_count};
+ghost use Rattle.request_form.specs.Answers.{Answers};
+ghost use Rattle.request_form.specs.declared.form.Request.TheVariants as Requests;
+ghost use Rattle.client_session.specs.Results.{desk_fault, range_fault, create_reply, branch_reply, read_reply};
+ghost use Rattle.client_session.specs.Sessions.{IsPassOf, session_of, pass_of, Continues, visits_seen, NoStepIfRefused, IsSettled};
+
+use crate::gate_stub::Gate;
+use crate::reading::{RangeFault, read_range};
+use crate::shared::Shared;
+use crate::tickets::Tickets;
+use blob_model::{Bytes, Outcome, Refusal};
+use page_fan::Doors;
+use page_store::Door;
+use range_reader::ReadRoom;
+use request_form::{Fault, NoMemory};
+use std::alloc::Global;
+use std::marker::Model;
+use std::sync::Wait;
+use std::sync::ledger::Ledger;
+use tree_geom::Steps;
+use version_manager::{DeskFault, Pass};
+
+// The most bytes of a read.
+const MAX_READ: u64 = 16_777_216;
+
+// The desk's fault as the session's.
+pub(crate) fn fault_of(fault: DeskFault) -> Fault
+    ensures is { result ≡ desk_fault fault }
+    ensures calm { page_faults result ≡ 0 }
+{
+    match fault {
+        DeskFault::Refused(refusal) => Fault::of(refusal),
+        DeskFault::NoMemory => Fault::NoMemory,
+    }
+}
+
+// What the session says where a range was not read.
+fn fault_of_reading(fault: RangeFault) -> Fault
+    ensures { result ≡ range_fault fault }
+{
+    match fault {
+        RangeFault::RangePastSize { end, size } => Fault::RangePastSize { end, size },
+        RangeFault::PageFault(page) => Fault::PageFault { page },
+        RangeFault::NoMemory => Fault::NoMemory,
+    }
+}
+
+/// A session of a shared store: what one client's calls do, and what they are answered, while other sessions go on.
+///
+/// It works with one pass, under whose caller all its events are entered, and has a door to each provider. Its store is lent to
+/// it; the gate is called between the acts of its updates. A contract sees the history that the session has seen, which is a
+/// beginning of the store's one history and never gets shorter: each call sees what others have done meanwhile, the gap, and
+/// then its own event. A call that is refused, and one that finds no memory before an update is numbered, enters nothing. It
+/// holds no turn when a call returns, nor when the gate is called.
+#[derive(Drop)]
+pub struct Session<'a, D: Door, G: Gate> {
+    pub(crate) alloc: Global,
+    pub(crate) shared: &'a Shared,
+    pub(crate) gate: &'a G,
+    pub(crate) pass: Pass,
+    pub(crate) doors: Doors<D>,
+    pub(crate) held: Tickets,
+    pub(crate) next: u64,
+    room: ReadRoom,
+}
+
+impl<'a, D: Door, G: Gate> Model for Session<'a, D, G> {
+    ghost use Rattle.std.specs.Coded.{coded_list};
+    ghost use Rattle.client_session.specs.Sessions.{SessionState};
+    ghost use Rattle.client_session.specs.Kept.{IsSession};
+
+    ghost Value = { SessionState D };
+
+    ghost view = { λ s. record { store = s.shared.now; caller = s.pass.caller; log = s.pass.seen; held = s.held; next = s.next; doors = s.doors } };
+
+    ghost invariant = { λ s. IsSession D.is_true s.shared.now s.pass s.held s.next s.doors s.room };
+}
+
+impl<'a, D: Door, G: Gate> Session<'a, D, G> {
+    /// A session that works with this pass of the store, and with doors that give back what was put, one to each of its
+    /// providers. It has seen what the pass has, holds no ticket, and its first one will be number 1. Where no memory is found the
+    /// pass and the doors come back.
+    pub fn new(
+        alloc: Global,
+        shared: &'a Shared,
+        gate: &'a G,
+        pass: Pass,
+        doors: Doors<D>,
+    ) -> Result<Session<'a, D, G>, (Pass, Doors<D>)>
+        requires pass { IsPassOf shared.now pass }
+        requires served { length doors ≡ shared.now.providers }
+        requires true_doors { All D.is_true doors }
+        ensures session { IfOk result (λ s. s ≡ record { store = shared.now; caller = pass.caller; log = pass.seen; held = []; next = 1; doors = doors }) }
+        ensures pass_back { IfErr result (λ e. e.0 ≡ pass) }
+        ensures doors_back { IfErr result (λ e. e.1 ≡ doors) }
+    {
+        let _housed = shared.houses();
+        let Ok(held) = Tickets::new(alloc) else {
+            return Err((pass, doors));
+        };
+        let Ok(room) = ReadRoom::new(alloc, shared.page_size()) else {
+            return Err((pass, doors));
+        };
+        Ok(Session {
+            alloc,
+            shared,
+            gate,
+            pass,
+            doors,
+            held,
+            next: 1,
+            room,
+        })
+    }
+
+    /// Ends the session. Its pass has seen what the session has, and is of the store still. Tickets that it holds are dropped with
+    /// it, and their updates stay unfinished: hang up first.
+    pub fn into_parts(self) -> (Pass, Doors<D>)
+        ensures pass { result.0 ≡ pass_of self }
+        ensures pass_is { IsPassOf self.store result.0 }
+        ensures doors { result.1 ≡ self.doors }
+    {
+        let Session { pass, doors, .. } = self;
+        (pass, doors)
+    }
+
+    /// Makes an empty blob, and gives its id. One turn.
+    pub fn create<R: Wait>(&mut self, rt: &R) -> Result<u64, Fault>
+        ensures answers { Answers AllOther (session_of self.old) Requests.Create (create_reply result) (session_of self.new) }
+        ensures faults { RoseBy (fault_count (create_reply result)) (sum_by D.faults self.old.doors) (sum_by D.faults self.new.doors) }
+        ensures goes_on { Continues self.old self.new }
+    {
+        let shared = self.shared;
+        match shared.desk().create(rt, &mut self.pass) {
+            Ok(blob) => Ok(blob),
+            Err(fault) => Err(fault_of(fault)),
+        }
+    }
+
+    /// Makes a blob that shares the versions of this one up to a published one, and gives its id. One turn.
+    pub fn branch<R: Wait>(&mut self, rt: &R, blob: u64, version: u64) -> Result<u64, Fault>
+        ensures answers { Answers AllOther (session_of self.old) (Requests.Branch blob version) (branch_reply result) (session_of self.new) }
+        ensures faults { RoseBy (fault_count (branch_reply result)) (sum_by D.faults self.old.doors) (sum_by D.faults self.new.doors) }
+        ensures goes_on { Continues self.old self.new }
+    {
+        let shared = self.shared;
+        match shared.desk().branch(rt, &mut self.pass, blob, version) {
+            Ok(branch) => Ok(branch),
+            Err(fault) => Err(fault_of(fault)),
+        }
+    }
+
+    /// The greatest published version of a blob, and its size. One turn.
+    pub fn recent<R: Wait>(&mut self, rt: &R, blob: u64) -> Outcome
+        ensures answers { Answers AllOther (session_of self.old) (Requests.Recent blob) (reply_of result) (session_of self.new) }
+        ensures faults { RoseBy (fault_count (reply_of result)) (sum_by D.faults self.old.doors) (sum_by D.faults self.new.doors) }
+        ensures goes_on { Continues self.old self.new }
+    {
+        let shared = self.shared;
+        shared.desk().recent(rt, &mut self.pass, blob)
+    }
+
+    /// The size of a published version. One turn.
+    pub fn size<R: Wait>(&mut self, rt: &R, blob: u64, version: u64) -> Outcome
+        ensures answers { Answers AllOther (session_of self.old) (Requests.Size blob version) (reply_of result) (session_of self.new) }
+        ensures faults { RoseBy (fault_count (reply_of result)) (sum_by D.faults self.old.doors) (sum_by D.faults self.new.doors) }
+        ensures goes_on { Continues self.old self.new }
+    {
+        let shared = self.shared;
+        shared.desk().size(rt, &mut self.pass, blob, version)
+    }
+
+    /// Whether a numbered version is published: one look, in one turn.
+    pub fn sync<R: Wait>(&mut self, rt: &R, blob: u64, version: u64) -> Outcome
+        ensures answers { Answers AllOther (session_of self.old) (Requests.Sync blob version) (reply_of result) (session_of self.new) }
+        ensures faults { RoseBy (fault_count (reply_of result)) (sum_by D.faults self.old.doors) (sum_by D.faults self.new.doors) }
+        ensures goes_on { Continues self.old self.new }
+    {
+        let shared = self.shared;
+        shared.desk().sync(rt, &mut self.pass, blob, version)
+    }
+
+    /// How far the updates of a blob are. One turn.
+    pub fn status<R: Wait>(&mut self, rt: &R, blob: u64) -> Outcome
+        ensures answers { Answers AllOther (session_of self.old) (Requests.Status blob) (reply_of result) (session_of self.new) }
+        ensures faults { RoseBy (fault_count (reply_of result)) (sum_by D.faults self.old.doors) (sum_by D.faults self.new.doors) }
+        ensures goes_on { Continues self.old self.new }
+    {
+        let shared = self.shared;
+        shared.desk().status(rt, &mut self.pass, blob)
+    }
+
+    /// Waits until a numbered version is published. It looks at once, and then after each finish of a session of this store,
+    /// while the version is pending, and never answers that it is. Between two looks it sleeps.
+    pub fn sync_wait<R: Wait>(&mut self, rt: &R, blob: u64, version: u64) -> Outcome
+        ensures answers { Answers AllOther (session_of self.old) (Requests.Sync blob version) (reply_of result) (session_of self.new) }
+        ensures settled { IsSettled result }
+        ensures faults { RoseBy (fault_count (reply_of result)) (sum_by D.faults self.old.doors) (sum_by D.faults self.new.doors) }
+        ensures goes_on { Continues self.old self.new }
+    {
+        for _ in rt.forever() {
+            let finishes = self.shared.notices().count(rt);
+            let outcome = self.sync(rt, blob, version);
+            if !matches!(outcome, Outcome::Refused(Refusal::Pending { .. })) {
+                return outcome;
+            }
+            self.shared.notices().wait_past(rt, finishes);
+        }
+        unreachable!()
+    }
+
+    /// `count` bytes of a published version from byte `offset` on.
+    ///
+    /// `ReadTooLong` comes first, exactly where more than 16,777,216 bytes are asked for, then the store's refusals, then
+    /// `PageFault`. It takes one turn, in which it gets the version's snapshot, and then walks without a lock through at most the
+    /// stated number of tree nodes; none where it is refused.
+    pub fn read<R: Wait, L: Ledger>(
+        &mut self,
+        rt: &R,
+        blob: u64,
+        version: u64,
+        offset: u64,
+        count: u64,
+        steps: &mut Steps<L>,
+    ) -> Result<Bytes, Fault>
+        ensures answers { Answers AllOther (session_of self.old) (Requests.Read blob version offset count) (read_reply result) (session_of self.new) }
+        ensures faults { RoseBy (fault_count (read_reply result)) (sum_by D.faults self.old.doors) (sum_by D.faults self.new.doors) }
+        ensures goes_on { Continues self.old self.new }
+        ensures steps { steps.new ≤ steps.old + visits_seen (session_of self.new) blob version offset count }
+        ensures no_step { NoStepIfRefused (session_of self.new) blob version offset count steps.old steps.new }
+    {
+        if count > MAX_READ {
+            return Err(Fault::ReadTooLong { length: count });
+        }
+        let shared = self.shared;
+        let snapshot = match shared.desk().snapshot_of(rt, &mut self.pass, blob, version) {
+            Ok(snapshot) => snapshot,
+            Err(fault) => return Err(fault_of(fault)),
+        };
+        match read_range(
+            self.alloc,
+            &snapshot,
+            shared.nodes(),
+            shared.houses(),
+            &mut self.doors,
+            &mut self.room,
+            offset,
+            count,
+            steps,
+        ) {
+            Ok(bytes) => Ok(bytes),
+            Err(fault) => Err(fault_of_reading(fault)),
+        }
+    }
+}

@@ -1,0 +1,234 @@
+// The updates of a session: started, finished, or both at once.
+ghost use Rattle.std.specs.Prelude.{◌≡◌, ◌≢◌, ℕ, ◌+◌, ◌<◌, ◌≤◌, [], ◌∷◌, ◌++◌, option_map, length, sum_by, IfOk, IfErr, IfNone, IfSome, OnOk};
+ghost use Rattle.std.specs.Arc.{arc_value};
+ghost use denote.Param.Send.{IsSync};
+ghost use Rattle.ports.specs.Counts.{RoseBy};
+ghost use Rattle.blob_model.specs.History.{AllOther};
+ghost use Rattle.blob_model.specs.declared.call.Place.TheVariants.{WriteAt, Append};
+ghost use Rattle.request_form.specs.Session.{Session as Seen};
+ghost use Rattle.request_form.specs.Replies.{page_faults, fault_count};
+ghost use Rattle.request_form.specs.Answers.{Answers, update_fault};
+ghost use Rattle.request_form.specs.declared.form.Request.TheVariants as Requests;
+ghost use Rattle.client_session.specs.Kept.{IsOpen};
+ghost use Rattle.client_session.specs.Results.{store_fault, finish_reply, started_reply, done_reply};
+ghost use Rattle.client_session.specs.Sessions.{session_of, Continues};
+ghost use Rattle.client_session.specs.Tickets.{OpenUpdate, HasRow};
+ghost use Rattle.client_session.specs.Updates.{update_request, start_request, IsNumbered, NotNumbered};
+
+use crate::done::{Done, Started};
+use crate::gate_stub::{Gate, Point};
+use crate::session::{Session, fault_of};
+use crate::storing::store_bytes;
+use crate::tickets::{MAX_TICKETS, OpenTicket};
+use crate::weaving::weave;
+use blob_model::Place;
+use border_hints::Ticket;
+use node_store::Row;
+use page_fan::StoreFault;
+use page_store::Door;
+use request_form::{Fault, NoMemory};
+use std::sync::{Arc, Wait};
+use std::thread::Threads;
+use version_manager::DeskFault;
+
+// The most bytes of an update.
+const MAX_UPDATE: u64 = 1_048_576;
+
+// Why the session itself refuses an update, where it holds so many tickets.
+fn fault_of_update(held: usize, bytes: &[u8]) -> Option<Fault>
+    ensures fault { (s : Seen) → length s.tickets ≡ held → result ≡ update_fault s bytes.now }
+    ensures calm { IfSome result (λ fault. page_faults fault ≡ 0) }
+    ensures some { IfNone result (1 ≤ length bytes.now) }
+    ensures few { IfNone result (length bytes.now ≤ 1048576) }
+    ensures room { IfNone result (held ≢ 64) }
+{
+    let length = bytes.len() as u64;
+    if length == 0 {
+        return Some(Fault::EmptyUpdate);
+    }
+    if length > MAX_UPDATE {
+        return Some(Fault::UpdateTooLong { length });
+    }
+    if held == MAX_TICKETS {
+        return Some(Fault::TooManyTickets);
+    }
+    None
+}
+
+// What the session says where pages were not stored.
+fn fault_of_storing(fault: StoreFault) -> Fault
+    ensures { result ≡ store_fault fault }
+{
+    match fault {
+        StoreFault::PageFault(page) => Fault::PageFault { page },
+        StoreFault::NoMemory => Fault::NoMemory,
+    }
+}
+
+impl<'a, D: Door, G: Gate> Session<'a, D, G> {
+    // Stores the bytes, numbers the update and weaves its row, which every form of update begins with. The row is missing where
+    // no memory was found for it. The gate is called between these acts.
+    fn number<R: Threads + Wait + Sync>(
+        &mut self,
+        rt: &R,
+        blob: u64,
+        place: Place,
+        bytes: &[u8],
+    ) -> Result<(Ticket, Option<Arc<Row>>), Fault>
+        requires sync { IsSync R.row }
+        ensures numbered { IfOk result (λ r. IsNumbered self.old blob place bytes.now r.0 (option_map arc_value r.1) self.new) }
+        ensures refused { IfErr result (λ fault. NotNumbered self.old blob place bytes.now fault self.new) }
+        ensures risen { IfErr result (λ fault. RoseBy (page_faults fault) (sum_by D.faults self.old.doors) (sum_by D.faults self.new.doors)) }
+        ensures never_falls { sum_by D.faults self.old.doors ≤ sum_by D.faults self.new.doors }
+        ensures goes_on { Continues self.old self.new }
+    {
+        if let Some(fault) = fault_of_update(self.held.count(), bytes) {
+            return Err(fault);
+        }
+        let shared = self.shared;
+        let pages = match store_bytes(
+            rt,
+            self.alloc,
+            shared.loads(),
+            &mut self.doors,
+            shared.houses(),
+            shared.page_size(),
+            bytes,
+        ) {
+            Ok(pages) => pages,
+            Err(fault) => return Err(fault_of_storing(fault)),
+        };
+        let ticket = match shared.desk().assign(rt, &mut self.pass, blob, place, &pages) {
+            Ok(ticket) => ticket,
+            Err(fault) => return Err(fault_of(fault)),
+        };
+        self.gate.at(rt, Point::Numbered, &self.pass);
+        let row = match weave(rt, self.alloc, &ticket, shared.nodes()) {
+            Ok(row) => {
+                self.gate.at(rt, Point::Woven, &self.pass);
+                Some(row)
+            }
+            Err(_) => None,
+        };
+        Ok((ticket, row))
+    }
+
+    // Holds a numbered update under the next number, which it answers.
+    fn hold(&mut self, ticket: Ticket, row: Option<Arc<Row>>) -> u64
+        requires open_ { IsOpen self.old.store.fixed self.old.log record { number = self.old.next; ticket = ticket; row = option_map arc_value row } }
+        requires room { length self.old.held < 64 }
+        requires drawn { self.old.next ≤ length self.old.log }
+        ensures number { result ≡ self.old.next }
+        ensures held { self.new ≡ record self.old { held = self.old.held ++ record { number = self.old.next; ticket = ticket; row = option_map arc_value row } ∷ []; next = self.old.next + 1 } }
+    {
+        let number = self.next;
+        self.held.add(OpenTicket::new(number, ticket, row));
+        self.next += 1;
+        number
+    }
+
+    /// Stores and numbers an update of a blob, weaves its tree, and holds it under the session's next ticket number, until it is
+    /// finished.
+    ///
+    /// The refusals come in this order: no bytes, more than 1,048,576, 64 tickets held; then a page that no provider took, or want
+    /// of memory; then the store's refusals. Want of memory once it is numbered is `NoMemoryTicket`: it is held all the same, and
+    /// `finish` goes on with it. After any other refusal the store is as before, but for pages that may lie unused at providers.
+    pub fn start<R: Threads + Wait + Sync>(
+        &mut self,
+        rt: &R,
+        blob: u64,
+        place: Place,
+        bytes: &[u8],
+    ) -> Result<Started, Fault>
+        requires sync { IsSync R.row }
+        ensures answers { Answers AllOther (session_of self.old) (start_request blob place bytes.now) (started_reply place result) (session_of self.new) }
+        ensures woven { IfOk result (λ started. HasRow self.new.held started.ticket) }
+        ensures faults { RoseBy (fault_count (started_reply place result)) (sum_by D.faults self.old.doors) (sum_by D.faults self.new.doors) }
+        ensures goes_on { Continues self.old self.new }
+    {
+        let (ticket, row) = match self.number(rt, blob, place, bytes) {
+            Ok(numbered) => numbered,
+            Err(fault) => return Err(fault),
+        };
+        let (version, at, size) = (ticket.version(), ticket.at(), ticket.size());
+        let Some(row) = row else {
+            let ticket = self.hold(ticket, None);
+            return Err(Fault::NoMemoryTicket { ticket });
+        };
+        let ticket = self.hold(ticket, Some(row));
+        Ok(Started {
+            ticket,
+            version,
+            at,
+            size,
+        })
+    }
+
+    /// Appends the bytes to the blob: they are stored, numbered and finished. The refusals are those of `start`; `Already` where
+    /// another session finished the update meanwhile.
+    pub fn append<R: Threads + Wait + Sync>(
+        &mut self,
+        rt: &R,
+        blob: u64,
+        bytes: &[u8],
+    ) -> Result<Done, Fault>
+        requires sync { IsSync R.row }
+        ensures answers { Answers AllOther (session_of self.old) (Requests.Append blob bytes.now) (done_reply Append result) (session_of self.new) }
+        ensures faults { RoseBy (fault_count (done_reply Append result)) (sum_by D.faults self.old.doors) (sum_by D.faults self.new.doors) }
+        ensures goes_on { Continues self.old self.new }
+    {
+        self.update(rt, blob, Place::Append, bytes)
+    }
+
+    /// Writes the bytes into the blob from byte `offset` on: they are stored, numbered and finished. The refusals are those of
+    /// `start`; `Already` where another session finished the update meanwhile.
+    pub fn write<R: Threads + Wait + Sync>(
+        &mut self,
+        rt: &R,
+        blob: u64,
+        offset: u64,
+        bytes: &[u8],
+    ) -> Result<Done, Fault>
+        requires sync { IsSync R.row }
+        ensures answers { Answers AllOther (session_of self.old) (Requests.Write blob offset bytes.now) (done_reply (WriteAt offset) result) (session_of self.new) }
+        ensures faults { RoseBy (fault_count (done_reply (WriteAt offset) result)) (sum_by D.faults self.old.doors) (sum_by D.faults self.new.doors) }
+        ensures goes_on { Continues self.old self.new }
+    {
+        self.update(rt, blob, Place::WriteAt(offset), bytes)
+    }
+
+    // An update that is finished at once. Where no memory is found once it is numbered, it is held.
+    fn update<R: Threads + Wait + Sync>(
+        &mut self,
+        rt: &R,
+        blob: u64,
+        place: Place,
+        bytes: &[u8],
+    ) -> Result<Done, Fault>
+        requires sync { IsSync R.row }
+        ensures answers { Answers AllOther (session_of self.old) (update_request blob place bytes.now) (done_reply place result) (session_of self.new) }
+        ensures faults { RoseBy (fault_count (done_reply place result)) (sum_by D.faults self.old.doors) (sum_by D.faults self.new.doors) }
+        ensures goes_on { Continues self.old self.new }
+    {
+        let (ticket, row) = match self.number(rt, blob, place, bytes) {
+            Ok(numbered) => numbered,
+            Err(fault) => return Err(fault),
+        };
+        let Some(row) = row else {
+            let ticket = self.hold(ticket, None);
+            return Err(Fault::NoMemoryTicket { ticket });
+        };
+        match self.report(rt, &ticket, row) {
+            Ok(_published) => Ok(Done {
+                version: ticket.version(),
+                at: ticket.at(),
+                size: ticket.size(),
+            }),
+            Err((DeskFault::Refused(refusal), _row)) => Err(Fault::of(refusal)),
+            Err((DeskFault::NoMemory, row)) => {
+                let ticket = self.hold(ticket, Some(row));
+                Err(Fault::NoMemoryTicket { ticket })
+            }
+        }
+    }
+}
