@@ -9,5 +9,4 @@ mod turn;
 mod view;
 
 pub use journal::{Act, Journaled};
-pub use turn::{CloseRefused, MAX_PASSES, NoMemory, Owner, Pass, PassFault, Turn};
-pub use view::{Known, Stage};
+pub use turn::{CloseRefused, NoMemory, Owner, Pass, PassFault, Turn};

@@ -111,7 +111,9 @@ pub fn take_turn<S: Journaled, A: Act<S>, R: Wait>(
     let number = draw(board, place);
     enter(rt, board, place, number);
     let (answer, added) = run(board, place, act, caller);
-    book(board, place, added);
+    if added > 0 {
+        book(board, place, added);
+    }
     pass_on(board, place);
     answer
 }

@@ -9,11 +9,11 @@ use crate::steps::{deal, end_turns, take_in, take_turn};
 use std::alloc::Global;
 use std::marker::Model;
 use std::snapshot::Snapshot;
-use std::sync::Wait;
+use std::sync::{Mutex, Wait};
 use thiserror::Error;
 
-/// The most passes that one lock gives.
-pub const MAX_PASSES: u32 = 1024;
+// The most passes that one lock gives.
+const MAX_PASSES: u32 = 1024;
 
 // The number of the first turn. Words 0 and 1 wrap after three turns, so that every use of the lock goes past 2^64.
 const FIRST: u64 = u64::MAX - 2;
@@ -22,6 +22,8 @@ const FIRST: u64 = u64::MAX - 2;
 #[derive(Drop)]
 pub struct Turn<S: Journaled> {
     table: Room<S>,
+    // Where passes wait before they draw a number. A turn that is passed on then wakes one sleeper, and not all of them. No proof rests on it.
+    queue: Mutex<()>,
 }
 
 impl<S: Journaled> Model for Turn<S> {
@@ -116,7 +118,8 @@ impl<S: Journaled + Drop> Turn<S> {
             made: 0,
             out: 0,
         };
-        Ok((Turn { table }, owner))
+        let queue = Mutex::new(());
+        Ok((Turn { table, queue }, owner))
     }
 }
 
@@ -129,6 +132,7 @@ impl<S: Journaled> Turn<S> {
         ensures turned { Turned (λ before f after. A.gives act before f pass.old.caller result after) pass.old pass.new }
     {
         let caller = pass.caller;
+        let _queued = self.queue.lock(rt);
         take_turn(rt, &self.table.shared, &mut pass.seat, act, caller)
     }
 }
@@ -143,10 +147,10 @@ impl<S: Journaled> Pass<S> {
 }
 
 impl<S: Journaled> Owner<S> {
-    /// A new pass, which has seen what the owner has. Passes get the callers 1, 2, 3 and so on, and no caller twice. After `MAX_PASSES` there is none.
+    /// A new pass, which has seen what the owner has. Passes get the callers 1, 2, 3 and so on, and no caller twice. After 1,024 passes there is none, whether they were taken back or not.
     pub fn pass(&mut self, turn: &Turn<S>) -> Result<Pass<S>, PassFault>
         requires { self.old.lock ≡ turn.now }
-        ensures too_many { IsErr result ↔ (self.old.made ≡ MAX_PASSES) }
+        ensures too_many { IsErr result ↔ (self.old.made ≡ 1024) }
         ensures pass { IfOk result (λ p. p ≡ record { lock = turn.now; caller = self.old.made + 1; seen = self.old.seen; fixed = self.old.fixed }) }
         ensures own { IfOk result (λ p. entries_by p.caller p.seen ≡ []) }
         ensures counts { OnOk result (self.new ≡ record self.old { made = self.old.made + 1; out = self.old.out + 1 }) }
@@ -197,7 +201,7 @@ impl<S: Journaled> Owner<S> {
             });
         }
         let Owner { seat, made, out: _ } = self;
-        let Turn { table } = turn;
+        let Turn { table, queue: _ } = turn;
         Ok(end_turns(table, seat, made))
     }
 }
