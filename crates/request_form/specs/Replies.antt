@@ -52,6 +52,8 @@ page_faults Faults.TooManyTickets = 0
 page_faults (Faults.PageFault page) = 1
 page_faults (Faults.Pending version held) = 0
 page_faults Faults.Malformed = 0
+page_faults (Faults.FrameTooLong size) = 0
+page_faults Faults.BadFrame = 0
 page_faults (Faults.ReadTooLong size) = 0
 page_faults (Faults.NoMemoryTicket ticket) = 0
 

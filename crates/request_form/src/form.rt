@@ -100,8 +100,12 @@ pub enum Fault {
     PageFault { page: u64 },
     /// The version waits; `held` is the least unfinished version of its blob.
     Pending { version: u64, held: u64 },
-    /// What was heard is no request.
+    /// A line that is no request.
     Malformed,
+    /// A frame whose length counts more than 2,097,152 bytes.
+    FrameTooLong { length: u64 },
+    /// A frame that is no request.
+    BadFrame,
     /// A read of more than 16,777,216 bytes.
     ReadTooLong { length: u64 },
     /// No memory was found once the update was numbered. The session holds the update under this ticket.

@@ -1,4 +1,4 @@
-//! Requests and replies, what a session may answer, and the traits of services and dialects.
+//! Requests and replies, what a session may answer, the traits of services and dialects, and the bytes that a dialect was fed.
 #![tactic(auto)]
 
 ghost use Rattle.std.specs.Prelude.{◌≡◌};
@@ -6,8 +6,10 @@ ghost use Rattle.std.specs.Prelude.{◌≡◌};
 mod dialect;
 mod form;
 pub mod laws;
+mod piece;
 mod service;
 
 pub use dialect::Dialect;
 pub use form::{Ending, Fault, Heard, NoMemory, Reply, Request};
+pub use piece::Piece;
 pub use service::Service;

@@ -145,3 +145,8 @@ session_faults_said : said_all
     ∷ codes "error read-too-long 16777217" ∷ codes "error no-memory ticket 7" ∷ [])
 unfolding said_all lines digits
 session_faults_said = refl
+
+frame_faults_said : said_all (Replies.Refused (Faults.FrameTooLong 2097153) ∷ Replies.Refused Faults.BadFrame ∷ [])
+    ≡ lines (codes "error frame-too-long 2097153" ∷ codes "error bad-frame" ∷ [])
+unfolding said_all lines digits
+frame_faults_said = refl

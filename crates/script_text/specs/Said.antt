@@ -30,6 +30,8 @@ fault_text Faults.TooManyTickets = codes "error too-many-tickets 64"
 fault_text (Faults.PageFault page) = codes "error page-fault " ++ decimal page
 fault_text (Faults.Pending version held) = codes "error pending " ++ decimal version ++ codes " held " ++ decimal held
 fault_text Faults.Malformed = codes "error malformed"
+fault_text (Faults.FrameTooLong size) = codes "error frame-too-long " ++ decimal size
+fault_text Faults.BadFrame = codes "error bad-frame"
 fault_text (Faults.ReadTooLong size) = codes "error read-too-long " ++ decimal size
 fault_text (Faults.NoMemoryTicket ticket) = codes "error no-memory ticket " ++ decimal ticket
 

@@ -3,10 +3,9 @@ ghost use Rattle.script_text.specs.Begun.{IsWithout, TakesLine, TakesItem};
 
 use crate::cut::cut_at;
 use crate::line::Line;
-use crate::piece::Piece;
 use crate::reply::reply_line;
 use blob_model::Bytes;
-use request_form::{Dialect, Ending, Heard, NoMemory, Reply};
+use request_form::{Dialect, Ending, Heard, NoMemory, Piece, Reply};
 use std::alloc::Global;
 use std::marker::Model;
 

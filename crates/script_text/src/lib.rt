@@ -10,7 +10,6 @@ mod cut;
 mod dialect;
 mod fields;
 mod line;
-mod piece;
 mod reply;
 mod request;
 

@@ -36,6 +36,8 @@ fn fault_line(alloc: Global, fault: &Fault) -> Result<String, AllocError>
             format!(in alloc; "error pending {version} held {held}\n")
         }
         Fault::Malformed => format!(in alloc; "error malformed\n"),
+        Fault::FrameTooLong { length } => format!(in alloc; "error frame-too-long {length}\n"),
+        Fault::BadFrame => format!(in alloc; "error bad-frame\n"),
         Fault::ReadTooLong { length } => format!(in alloc; "error read-too-long {length}\n"),
         Fault::NoMemoryTicket { ticket } => format!(in alloc; "error no-memory ticket {ticket}\n"),
     }

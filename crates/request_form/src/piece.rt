@@ -1,10 +1,10 @@
 ghost use Rattle.std.specs.Prelude.{◌≡◌, ◌≤◌, ◌++◌, [], length, drop, OnOk, IfOk};
 
-use request_form::NoMemory;
+use crate::form::NoMemory;
 use std::alloc::Global;
 use std::marker::Model;
 
-/// The bytes that were fed and that no line has taken yet.
+/// Bytes that a dialect was fed and hasn't read yet. Contracts see those that are left.
 #[derive(Drop)]
 pub struct Piece {
     bytes: Vec<u8>,
