@@ -69,16 +69,23 @@ pub trait DoorMaker {
     /// The faults of the doors that came back, up to the greatest u64.
     ghost faults: { Self → ℕ };
 
+    /// This is a door that it makes for the provider of that number.
+    ghost makes: { Self → ℕ → Self.Door → Type 0 };
+
     /// A door to the provider, with no fault counted.
     fn make(&mut self, provider: u32) -> Result<Self::Door, NoMemory>
         requires { 1 ≤ provider }
+        ensures made { IfOk result (makes self.old provider) }
         ensures true_doors { is_true self.old → IfOk result (λ door. Self.Door.is_true door) }
         ensures fresh { IfOk result (λ door. Self.Door.faults door ≡ 0) }
+        ensures bounded { faults self.old ≤ 2 ^ 64 - 1 }
         ensures count_stays { faults self.new ≡ faults self.old }
-        ensures truth_stays { is_true self.old ↔ is_true self.new };
+        ensures truth_stays { is_true self.old ↔ is_true self.new }
+        ensures plan_stays { (n : ℕ) (door : _) → makes self.old n door ↔ makes self.new n door };
 
     /// Takes a door back, and adds its count.
     fn back(&mut self, door: Self::Door)
         ensures adds { faults self.new ≡ min (faults self.old + Self.Door.faults door) (2 ^ 64 - 1) }
-        ensures truth_stays { is_true self.old ↔ is_true self.new };
+        ensures truth_stays { is_true self.old ↔ is_true self.new }
+        ensures plan_stays { (n : ℕ) (other : _) → makes self.old n other ↔ makes self.new n other };
 }

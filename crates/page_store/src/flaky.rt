@@ -156,11 +156,15 @@ impl DoorMaker for FlakyMaker {
 
     ghost faults = { λ m. m.faults };
 
+    ghost makes = { λ m provider door. door ≡ planned_door m provider };
+
     fn make(&mut self, provider: u32) -> Result<FlakyDoor, NoMemory>
         requires { 1 ≤ provider }
         ensures planned { IfOk result (λ door. door ≡ planned_door self.old provider) }
+        ensures bounded { self.old.faults ≤ 2 ^ 64 - 1 }
         ensures stays { self.new ≡ self.old }
     {
+        let _faults = self.faults;
         let list = provider as usize - 1;
         if list >= self.failing.len() {
             return Ok(FlakyDoor::new(Vec::new(self.alloc)));

@@ -55,6 +55,8 @@ impl DoorMaker for PlainMaker {
 
     ghost faults = { λ _. 0 };
 
+    ghost makes = { λ _ _ _. ⊤ };
+
     fn make(&mut self, _provider: u32) -> Result<PlainDoor, NoMemory> {
         Ok(PlainDoor)
     }
