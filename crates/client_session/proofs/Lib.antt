@@ -1,4 +1,7 @@
 pub mod Turns
+pub mod Ranges
+pub mod RangeAnswers
+pub mod Answering
 pub mod Standing
 pub mod Rows
 pub mod Finding

@@ -9,7 +9,11 @@ use Rattle.blob_model.specs.declared.call.Call.TheVariants as Calls
 use Rattle.blob_model.specs.declared.call.Outcome.TheVariants as Outcomes
 use Rattle.blob_model.specs.declared.call.Refusal.{Refusal}
 use Rattle.blob_model.specs.declared.call.Refusal.TheVariants as Refusals
-use Rattle.version_manager.specs.Desks.{DeskState, store_now, outcome_now, updates_or_none, updates_in}
+use Rattle.blob_model.specs.History.{store_of}
+use Rattle.blob_model.specs.declared.call.Event.{Event}
+use Rattle.version_manager.specs.Desks.{updates_or_none, updates_in}
+use Rattle.version_manager.specs.Log.{desk_at, events, outcome_in}
+use Rattle.version_manager.specs.declared.journal.DeskFixed.{DeskFixed}
 
 -- a test that refuses decides, whatever follows
 refused_first : (s : Store) (x : Bool) (r r' : Refusal) (n : ℕ) (tests : List Test) (done : Answered)
@@ -74,18 +78,19 @@ within_in s (Some b) blob version offset count n e within =
     (s, Outcomes.Content (bytes_of b version offset count))
     (not_below (nat_lt (size_of b.updates version) (offset + count)) (size_of b.updates version) (offset + count) (ltb-true (size_of b.updates version) (offset + count)) within)
 
--- ---- at a desk
-pub read_refused : (d : DeskState) (blob version offset count : ℕ) (r : Refusal) → outcome_now d 1 (Calls.Size blob version) ≡ Outcomes.Refused r
-    → outcome_now d 1 (Calls.Read blob version offset count) ≡ Outcomes.Refused r
-read_refused d blob version offset count r e = refused_in (store_now d) (blob_at (store_now d) blob) blob version offset count r e
+-- ---- in the store of a history
+pub read_refused : (f : DeskFixed) (log : List (ℕ × Event)) (caller blob version offset count : ℕ) (r : Refusal) → outcome_in f log caller (Calls.Size blob version) ≡ Outcomes.Refused r
+    → outcome_in f log caller (Calls.Read blob version offset count) ≡ Outcomes.Refused r
+read_refused f log caller blob version offset count r e = refused_in (store_of f.limits (events log)) (blob_at (store_of f.limits (events log)) blob) blob version offset count r e
 
-pub read_past : (d : DeskState) (blob version offset count n : ℕ) → outcome_now d 1 (Calls.Size blob version) ≡ Outcomes.Size n → size_of (updates_in d blob) version < offset + count
-    → outcome_now d 1 (Calls.Read blob version offset count) ≡ Outcomes.Refused (Refusals.RangePastSize (offset + count) (size_of (updates_in d blob) version))
-read_past d blob version offset count n e past = past_in (store_now d) (blob_at (store_now d) blob) blob version offset count n e past
+module _ (f : DeskFixed) (log : List (ℕ × Event)) (caller blob version offset count n : ℕ) (there : outcome_in f log caller (Calls.Size blob version) ≡ Outcomes.Size n) where
+  pub read_past : size_of (updates_in (desk_at f log) blob) version < offset + count
+      → outcome_in f log caller (Calls.Read blob version offset count) ≡ Outcomes.Refused (Refusals.RangePastSize (offset + count) (size_of (updates_in (desk_at f log) blob) version))
+  read_past past = past_in (store_of f.limits (events log)) (blob_at (store_of f.limits (events log)) blob) blob version offset count n there past
 
-pub read_within : (d : DeskState) (blob version offset count n : ℕ) → outcome_now d 1 (Calls.Size blob version) ≡ Outcomes.Size n → offset + count ≤ size_of (updates_in d blob) version
-    → outcome_now d 1 (Calls.Read blob version offset count) ≡ Outcomes.Content (take count (drop offset (content (updates_in d blob) version)))
-read_within d blob version offset count n e within = within_in (store_now d) (blob_at (store_now d) blob) blob version offset count n e within
+  pub read_within : offset + count ≤ size_of (updates_in (desk_at f log) blob) version
+      → outcome_in f log caller (Calls.Read blob version offset count) ≡ Outcomes.Content (take count (drop offset (content (updates_in (desk_at f log) blob) version)))
+  read_within within = within_in (store_of f.limits (events log)) (blob_at (store_of f.limits (events log)) blob) blob version offset count n there within
 
 -- how many bytes a range within the size has
 pub count_within : (bytes : List ℕ) (offset count : ℕ) → offset + count ≤ length bytes → length (take count (drop offset bytes)) ≡ count

@@ -11,8 +11,7 @@ use Rattle.version_manager.specs.Stays.{ticket_stays}
 use Rattle.version_manager.specs.declared.journal.DeskFixed.{DeskFixed}
 use Rattle.client_session.specs.Tickets.{OpenUpdate, Rise}
 use Rattle.client_session.specs.Kept.{IsOpen, IsHolding, IsSession}
-use Rattle.client_session.specs.Sessions.{StoreState, IsPassOf}
-use Rattle.client_session.proofs.Turns.{Went}
+use Rattle.client_session.specs.Sessions.{StoreState, IsPassOf, Went}
 
 -- a held update stays one as the history goes on
 pub open_stays : (f : DeskFixed) (log log' : List (ℕ × Event)) (o : OpenUpdate) → Begins log log' → IsOpen f log o → IsOpen f log' o

@@ -8,7 +8,6 @@ use Rattle.blob_model.specs.declared.call.Call.{Call}
 use Rattle.blob_model.specs.declared.call.Event.{Event}
 use Rattle.blob_model.specs.declared.call.Outcome.{Outcome}
 use Rattle.blob_model.specs.declared.call.Outcome.TheVariants as Outcomes
-use Rattle.turn_lock.specs.History.{Begins}
 use Rattle.turn_lock.specs.Shown.{Held, Turned}
 use Rattle.version_manager.specs.Desks.{OnRefused}
 use Rattle.version_manager.specs.Laws.{GapsAreOfOthers}
@@ -23,7 +22,7 @@ use Rattle.request_form.specs.declared.form.Reply.{Reply}
 use Rattle.request_form.specs.declared.form.Reply.TheVariants as Replies
 use Rattle.client_session.specs.Tickets.{OpenUpdate}
 use Rattle.client_session.specs.Results.{desk_fault}
-use Rattle.client_session.specs.Sessions.{session_at}
+use Rattle.client_session.specs.Sessions.{Went, session_at}
 
 -- Others' events came, and then the act gave what it gives, of the history before it and after it.
 pub record Took (caller : ℕ) (log log' : List (ℕ × Event)) (Gives : List (ℕ × Event) → List (ℕ × Event) → Type 0) : Type 0 where
@@ -38,11 +37,6 @@ took others f v w Gives fixed log turned =
     let same : f' ≡ f = cc in
     let gives' : Gives (v.seen ++ gap) f w.seen = subst (λ (x : DeskFixed). Gives (v.seen ++ gap) x w.seen) same gives in
     record { gap = gap; others = others f v.seen gap v.caller (log (v.seen ++ gap) w.seen gives') lacks; gives = gives' }
-
--- the history goes on, and is one of the store
-pub record Went (f : DeskFixed) (log log' : List (ℕ × Event)) : Type 0 where
-  pub begins : Begins log log'
-  pub log_is : IsLog f log'
 
 module _ (f : DeskFixed) (caller : ℕ) (log log' : List (ℕ × Event)) where
   pub went_looked : (call : Call) (said : Outcome) → Took caller log log' (λ before after. Looked f call before caller said after) → Went f log log'

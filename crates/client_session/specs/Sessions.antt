@@ -39,6 +39,11 @@ pub record IsOwnerOf (store : StoreState) (owner : Owned Event DeskFixed) : Type
   pub fixed : owner.fixed ≡ Some store.fixed
   pub log : IsLog store.fixed owner.seen
 
+-- the history goes on, and is one of the store
+pub record Went (f : DeskFixed) (log log' : List (ℕ × Event)) : Type 0 where
+  pub begins : Begins log log'
+  pub log_is : IsLog f log'
+
 -- A session: its store, its caller, the history that it has seen, each event with its caller, the updates that it has numbered
 -- and not yet finished, the number of the next one, and its doors.
 pub record SessionState (D : Type 0) : Type 0 where

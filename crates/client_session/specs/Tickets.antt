@@ -34,3 +34,12 @@ pub record IsHeldAt (os : List OpenUpdate) (number i : ℕ) : Type 0 where
 pub record Rise (os : List OpenUpdate) (next : ℕ) : Type 0 where
   pub below : All (λ (o : OpenUpdate). o.number < next) os
   pub pairs : AllPairs (λ (a b : OpenUpdate). a.number < b.number) os
+
+-- the update of that number is held with its row
+pub record HasRow (os : List OpenUpdate) (number : ℕ) : Type 0 where
+  pub place : ℕ
+  pub update : OpenUpdate
+  pub is : slice_get os place ≡ Some update
+  pub number_is : update.number ≡ number
+  pub row : UpdateRow
+  pub row_is : update.row ≡ Some row

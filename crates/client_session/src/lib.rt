@@ -5,10 +5,12 @@ mod done;
 mod gate_stub;
 mod notices;
 mod reading;
+mod serve;
 mod session;
 mod shared;
 mod storing;
 mod tickets;
+mod updating;
 mod weaving;
 
 pub use done::{Done, Started};

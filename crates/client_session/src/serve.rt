@@ -1,14 +1,16 @@
 // A session answers the requests of a stream.
 ghost use Rattle.std.specs.Prelude.{◌≡◌, ◌+◌, ◌<◌, length, sum_by};
 ghost use Rattle.ports.specs.Counts.{RoseBy};
-ghost use Rattle.request_form.specs.Session.{IsNobody};
+ghost use Rattle.blob_model.specs.History.{AllOther};
 ghost use Rattle.request_form.specs.Replies.{fault_count};
 ghost use Rattle.request_form.specs.Answers.{Answers};
 ghost use Rattle.request_form.specs.declared.form.Request.TheVariants as Requests;
+ghost use Rattle.client_session.specs.Sessions.{session_of};
 ghost use Rattle.client_session.specs.Results.{create_reply, branch_reply, finish_reply, read_reply, started_reply, done_reply};
 
 use crate::done::{Done, Started};
-use crate::solo::Solo;
+use crate::gate_stub::Gate;
+use crate::session::Session;
 use blob_model::{Bytes, Place};
 use page_store::Door;
 use request_form::{Fault, Reply, Request, Service};
@@ -102,8 +104,8 @@ fn said_of_update(place: Place, done: Result<Done, Fault>) -> Reply
 }
 
 // A read whose node steps nobody counts.
-fn read_uncounted<D: Door, R: Wait, L: Ledger>(
-    solo: &mut Solo<D>,
+fn read_uncounted<D: Door, G: Gate, R: Wait, L: Ledger>(
+    session: &mut Session<'_, D, G>,
     rt: &R,
     blob: u64,
     version: u64,
@@ -114,19 +116,18 @@ fn read_uncounted<D: Door, R: Wait, L: Ledger>(
     requires name { blank.name ≡ L.name }
     requires parts { blank.parts ≡ L.parts }
     requires some { 0 < blank.parts }
-    ensures answers { Answers IsNobody solo.old.session (Requests.Read blob version offset count) (read_reply result) solo.new.session }
-    ensures faults { RoseBy (fault_count (read_reply result)) (sum_by D.faults solo.old.doors) (sum_by D.faults solo.new.doors) }
+    ensures answers { Answers AllOther (session_of session.old) (Requests.Read blob version offset count) (read_reply result) (session_of session.new) }
+    ensures faults { RoseBy (fault_count (read_reply result)) (sum_by D.faults session.old.doors) (sum_by D.faults session.new.doors) }
 {
     let mut steps = Steps::<L>::open(blank);
-    solo.read(rt, blob, version, offset, count, &mut steps)
+    session.read(rt, blob, version, offset, count, &mut steps)
 }
 
-impl<D: Door> Service for Solo<D> {
-    ghost session = { λ s. s.session };
+impl<'a, D: Door, G: Gate> Service for Session<'a, D, G> {
+    ghost session = { λ s. session_of s };
 
     ghost faults = { λ s. sum_by D.faults s.doors };
 
-    #[tactic(auto, using(crate::proofs::Gaps::alone_is_other))]
     fn answer<R: Wait + Threads + Sync>(&mut self, rt: &R, request: Request) -> Reply {
         match request {
             Request::Create => said_of_create(self.create(rt)),
@@ -161,7 +162,7 @@ impl<D: Door> Service for Solo<D> {
                 length,
             } => {
                 let blank = Blank::new(1);
-                said_of_read(read_uncounted::<D, R, Brand>(
+                said_of_read(read_uncounted::<D, G, R, Brand>(
                     self, rt, blob, version, offset, length, blank,
                 ))
             }

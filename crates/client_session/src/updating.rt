@@ -1,5 +1,5 @@
 // The updates of a session: started, finished, or both at once.
-ghost use Rattle.std.specs.Prelude.{◌≡◌, ◌≢◌, ℕ, ◌+◌, ◌<◌, ◌≤◌, [], ◌∷◌, ◌++◌, option_map, length, sum_by, IfOk, IfErr, IfNone, IfSome, OnOk};
+ghost use Rattle.std.specs.Prelude.{◌≡◌, ◌≢◌, ℕ, ◌+◌, ◌<◌, ◌≤◌, [], ◌∷◌, ◌++◌, option_map, length, sum_by, IfOk, IfErr, IfNone, IfSome, OnErr, Some, slice_get, slice_set};
 ghost use Rattle.std.specs.Arc.{arc_value};
 ghost use denote.Param.Send.{IsSync};
 ghost use Rattle.ports.specs.Counts.{RoseBy};
@@ -9,15 +9,17 @@ ghost use Rattle.request_form.specs.Session.{Session as Seen};
 ghost use Rattle.request_form.specs.Replies.{page_faults, fault_count};
 ghost use Rattle.request_form.specs.Answers.{Answers, update_fault};
 ghost use Rattle.request_form.specs.declared.form.Request.TheVariants as Requests;
-ghost use Rattle.client_session.specs.Kept.{IsOpen};
+ghost use Rattle.version_manager.specs.Log.{MayFinish};
+ghost use Rattle.client_session.specs.Kept.{IsOpen, IsWoven};
 ghost use Rattle.client_session.specs.Results.{store_fault, finish_reply, started_reply, done_reply};
-ghost use Rattle.client_session.specs.Sessions.{session_of, Continues};
-ghost use Rattle.client_session.specs.Tickets.{OpenUpdate, HasRow};
-ghost use Rattle.client_session.specs.Updates.{update_request, start_request, IsNumbered, NotNumbered};
+ghost use Rattle.client_session.specs.Sessions.{IsPassOf, Went, session_of, Continues};
+ghost use Rattle.client_session.specs.Tickets.{OpenUpdate, HasRow, with_row};
+ghost use Rattle.client_session.specs.Updates.{update_request, start_request, IsNumbered, NotNumbered, Reporting};
 
 use crate::done::{Done, Started};
 use crate::gate_stub::{Gate, Point};
 use crate::session::{Session, fault_of};
+use crate::shared::Shared;
 use crate::storing::store_bytes;
 use crate::tickets::{MAX_TICKETS, OpenTicket};
 use crate::weaving::weave;
@@ -29,7 +31,7 @@ use page_store::Door;
 use request_form::{Fault, NoMemory};
 use std::sync::{Arc, Wait};
 use std::thread::Threads;
-use version_manager::DeskFault;
+use version_manager::{DeskFault, Pass};
 
 // The most bytes of an update.
 const MAX_UPDATE: u64 = 1_048_576;
@@ -63,6 +65,31 @@ fn fault_of_storing(fault: StoreFault) -> Fault
         StoreFault::PageFault(page) => Fault::PageFault { page },
         StoreFault::NoMemory => Fault::NoMemory,
     }
+}
+
+// Reports an update as finished, in one turn, and wakes those that wait for a publication. Where it isn't done the row comes back.
+fn report<R: Wait>(
+    rt: &R,
+    shared: &Shared,
+    pass: &mut Pass,
+    ticket: &Ticket,
+    row: Arc<Row>,
+) -> Result<u64, (DeskFault, Arc<Row>)>
+    requires pass { IsPassOf shared.now pass.old }
+    requires may { MayFinish ticket.now (arc_value row) pass.old.seen shared.now.fixed }
+    ensures pass { pass.new ≡ record pass.old { seen = pass.new.seen } }
+    ensures went { Went shared.now.fixed pass.old.seen pass.new.seen }
+    ensures reporting { Reporting shared.now.fixed pass.old.caller pass.old.seen ticket.now result pass.new.seen }
+    ensures back { IfErr result (λ e. e.1 ≡ row) }
+{
+    version_manager::laws::gaps_are_of_others();
+    version_manager::laws::finished_by_gap();
+    let _version = ticket.version();
+    let reported = shared.desk().finish(rt, pass, ticket, row);
+    if reported.is_ok() {
+        shared.notices().notify(rt);
+    }
+    reported
 }
 
 impl<'a, D: Door, G: Gate> Session<'a, D, G> {
@@ -218,7 +245,7 @@ impl<'a, D: Door, G: Gate> Session<'a, D, G> {
             let ticket = self.hold(ticket, None);
             return Err(Fault::NoMemoryTicket { ticket });
         };
-        match self.report(rt, &ticket, row) {
+        match report(rt, self.shared, &mut self.pass, &ticket, row) {
             Ok(_published) => Ok(Done {
                 version: ticket.version(),
                 at: ticket.at(),
@@ -230,5 +257,56 @@ impl<'a, D: Door, G: Gate> Session<'a, D, G> {
                 Err(Fault::NoMemoryTicket { ticket })
             }
         }
+    }
+
+    /// Finishes the update of a ticket, and gives the greatest published version of its blob. Its tree is woven first where no
+    /// memory was found for that yet.
+    ///
+    /// `NoTicket` exactly where the session doesn't hold it. After `NoMemory` it still does, after `Already` not: then another
+    /// session has finished the update.
+    pub fn finish<R: Wait>(&mut self, rt: &R, ticket: u64) -> Result<u64, Fault>
+        ensures answers { Answers AllOther (session_of self.old) (Requests.Finish ticket) (finish_reply result) (session_of self.new) }
+        ensures doors { self.new.doors ≡ self.old.doors }
+        ensures goes_on { Continues self.old self.new }
+    {
+        let Some(place) = self.held.find(ticket) else {
+            return Err(Fault::NoTicket { ticket });
+        };
+        let shared = self.shared;
+        let Ok(row) = self.row_at(rt, place) else {
+            return Err(Fault::NoMemory);
+        };
+        match report(rt, shared, &mut self.pass, self.held.at(place).ticket(), row) {
+            Ok(published) => {
+                self.held.remove(place);
+                Ok(published)
+            }
+            Err((DeskFault::Refused(refusal), _row)) => {
+                self.held.remove(place);
+                Err(Fault::of(refusal))
+            }
+            Err((DeskFault::NoMemory, _row)) => Err(Fault::NoMemory),
+        }
+    }
+
+    // The row of the held update at that place, woven where it isn't yet. It is kept beside the update.
+    fn row_at<R: Wait>(&mut self, rt: &R, place: usize) -> Result<Arc<Row>, NoMemory>
+        requires within { place < length self.old.held }
+        ensures woven { IfOk result (λ row. (o : OpenUpdate) → slice_get self.old.held place ≡ Some o → IsWoven self.old.store.fixed.nodes self.old.store.fixed.houses o.ticket (arc_value row)) }
+        ensures kept { IfOk result (λ row. (o : OpenUpdate) → slice_get self.old.held place ≡ Some o → self.new ≡ record self.old { held = slice_set self.old.held place (with_row o (arc_value row)) }) }
+        ensures same { OnErr result (self.new ≡ self.old) }
+    {
+        if let Some(row) = self.held.at(place).row()? {
+            return Ok(row);
+        }
+        let Ok(row) = weave(rt, self.alloc, self.held.at(place).ticket(), self.shared.nodes()) else {
+            return Err(NoMemory);
+        };
+        self.gate.at(rt, Point::Woven, &self.pass);
+        let Ok(kept) = Arc::try_clone(&row) else {
+            return Err(NoMemory);
+        };
+        self.held.set_row(place, kept);
+        Ok(row)
     }
 }

@@ -1,0 +1,95 @@
+-- The answers of a session, by what the turns of its calls gave.
+use Rattle.std.proofs.Common.{◌≡◌, refl, sym, ◌∙◌, ap, subst, ℕ, ◌+◌, List, [], ◌∷◌, ◌++◌, append-nil, append_assoc, Option, Some, None, Result, Ok, Err, Bool, true, false, if◌then◌else◌}
+use Rattle.std.proofs.lemmas.List.{map-append, map_push}
+use Rattle.blob_model.specs.History.{AllOther, finishes}
+use Rattle.blob_model.specs.declared.call.Place.{Place}
+use Rattle.blob_model.specs.declared.call.Place.TheVariants.{WriteAt, Append}
+use Rattle.blob_model.specs.declared.call.Call.{Call}
+use Rattle.blob_model.specs.declared.call.Call.TheVariants as Calls
+use Rattle.blob_model.specs.declared.call.Event.{Event}
+use Rattle.blob_model.specs.declared.call.Event.TheVariants as Events
+use Rattle.blob_model.specs.declared.call.Outcome.{Outcome}
+use Rattle.blob_model.specs.declared.call.Outcome.TheVariants as Outcomes
+use Rattle.node_store.specs.Rows.{UpdateRow}
+use Rattle.border_hints.specs.Numbered.{NumberedUpdate}
+use Rattle.version_manager.specs.Desks.{IsUnfinished, OnRefused, is_finished_in}
+use Rattle.version_manager.specs.Log.{Changed, tag, events, outcome_in, desk_at}
+use Rattle.version_manager.specs.declared.journal.DeskFixed.{DeskFixed}
+use Rattle.version_manager.specs.declared.fault.DeskFault.{DeskFault}
+use Rattle.version_manager.specs.declared.fault.DeskFault.TheVariants as DeskFaults
+use Rattle.request_form.specs.Session.{Session, Held, outcome_at, sees, holds, drops, held_at, without_ticket}
+use Rattle.request_form.specs.Answers.{OutOfMemory, Refused, Updated, Started, Kept, CreateAnswer, BranchAnswer, UpdateAnswer, ReportAnswer, FinishAnswer, Unless, update_fault}
+use Rattle.request_form.specs.declared.form.Reply.{Reply}
+use Rattle.request_form.specs.declared.form.Reply.TheVariants as Replies
+use Rattle.request_form.specs.declared.form.Fault.{Fault}
+use Rattle.request_form.specs.declared.form.Fault.TheVariants as Faults
+use Rattle.client_session.specs.Tickets.{OpenUpdate, held_of, all_held}
+use Rattle.client_session.specs.Results.{desk_fault}
+use Rattle.client_session.specs.Sessions.{session_at}
+use Rattle.client_session.specs.Updates.{Reporting, update_reply, start_reply}
+use Rattle.client_session.proofs.Turns.{Took, NotDone, not_done, outcome_of_gap, seen_gap, seen_event}
+
+-- seeing nothing changes nothing
+pub sees-nothing : (s : Session) → s ≡ sees s []
+sees-nothing s = ap (λ (h : List Event). record { fixed = s.fixed; caller = s.caller; seen = h; tickets = s.tickets; next = s.next }) (sym (append-nil s.seen))
+
+-- no memory was found, and nothing was done
+pub no_memory : (s : Session) → OutOfMemory AllOther s (Replies.Refused Faults.NoMemory) s
+no_memory s = record { others = []; is_gap = tt; said = refl; seen = sees-nothing s }
+
+module _ (f : DeskFixed) (caller : ℕ) (log log' : List (ℕ × Event)) (held : List OpenUpdate) (next : ℕ) where
+  -- ---- a new blob
+  pub created : (blob : ℕ) → Took caller log log' (λ before after. Changed f Calls.Create (Events.Create caller) (λ id. Outcomes.Blob id) (λ (x : DeskFault). x) before caller (Ok blob) after)
+      → CreateAnswer AllOther (session_at f caller log held next) (Replies.Created blob) (session_at f caller log' held next)
+  created blob t =
+      CreateAnswer.created record {
+        others = events t.gap;
+        is_gap = t.others;
+        blob = blob;
+        done = outcome_of_gap f caller log log' t.gap held next Calls.Create ∙ t.gives.done;
+        said = refl;
+        seen = seen_event f caller log log' t.gap (Events.Create caller) held next t.gives.added;
+      }
+
+  as_create : (reply : Reply) → NotDone f caller log log' Calls.Create held next reply → CreateAnswer AllOther (session_at f caller log held next) reply (session_at f caller log' held next)
+  as_create reply (NotDone.refused a) = CreateAnswer.refused a
+  as_create reply (NotDone.out_of_memory a) = CreateAnswer.out_of_memory a
+
+  pub not_created : (fault : DeskFault) → Took caller log log' (λ before after. Changed f Calls.Create (Events.Create caller) (λ (id : ℕ). Outcomes.Blob id) (λ (x : DeskFault). x) before caller (Err fault) after)
+      → CreateAnswer AllOther (session_at f caller log held next) (Replies.Refused (desk_fault fault)) (session_at f caller log' held next)
+  not_created fault t = as_create _ (not_done f caller log log' Calls.Create held next t.gap fault t.others t.gives.same t.gives.refused)
+
+  -- ---- a branch
+  module _ (blob version : ℕ) where
+    pub branched : (id : ℕ) → Took caller log log' (λ before after. Changed f (Calls.Branch blob version) (Events.Branch caller blob version) (λ id. Outcomes.Blob id) (λ (x : DeskFault). x) before caller (Ok id) after)
+        → BranchAnswer AllOther (session_at f caller log held next) blob version (Replies.Branched id) (session_at f caller log' held next)
+    branched id t =
+        BranchAnswer.branched record {
+          others = events t.gap;
+          is_gap = t.others;
+          branch = id;
+          done = outcome_of_gap f caller log log' t.gap held next (Calls.Branch blob version) ∙ t.gives.done;
+          said = refl;
+          seen = seen_event f caller log log' t.gap (Events.Branch caller blob version) held next t.gives.added;
+        }
+
+    as_branch : (reply : Reply) → NotDone f caller log log' (Calls.Branch blob version) held next reply → BranchAnswer AllOther (session_at f caller log held next) blob version reply (session_at f caller log' held next)
+    as_branch reply (NotDone.refused a) = BranchAnswer.refused a
+    as_branch reply (NotDone.out_of_memory a) = BranchAnswer.out_of_memory a
+
+    pub not_branched : (fault : DeskFault)
+        → Took caller log log' (λ before after. Changed f (Calls.Branch blob version) (Events.Branch caller blob version) (λ (id : ℕ). Outcomes.Blob id) (λ (x : DeskFault). x) before caller (Err fault) after)
+        → BranchAnswer AllOther (session_at f caller log held next) blob version (Replies.Refused (desk_fault fault)) (session_at f caller log' held next)
+    not_branched fault t = as_branch _ (not_done f caller log log' (Calls.Branch blob version) held next t.gap fault t.others t.gives.same t.gives.refused)
+
+  -- ---- an update that wasn't numbered
+  module _ (blob : ℕ) (place : Place) (bytes : List ℕ) where
+    as_update : (Does : Type 0) (reply : Reply) → NotDone f caller log log' (Calls.Assign blob place bytes) held next reply
+        → UpdateAnswer AllOther (session_at f caller log held next) blob place bytes Does reply (session_at f caller log' held next)
+    as_update Does reply (NotDone.refused a) = UpdateAnswer.refused a
+    as_update Does reply (NotDone.out_of_memory a) = UpdateAnswer.out_of_memory a
+
+    pub not_assigned : {A : Type 0} → (tells : A → Outcome) (Does : Type 0) (fault : DeskFault)
+        → Took caller log log' (λ before after. Changed f (Calls.Assign blob place bytes) (Events.Assign caller blob place bytes) tells (λ (x : DeskFault). x) before caller (Err fault) after)
+        → UpdateAnswer AllOther (session_at f caller log held next) blob place bytes Does (Replies.Refused (desk_fault fault)) (session_at f caller log' held next)
+    not_assigned tells Does fault t = as_update Does _ (not_done f caller log log' (Calls.Assign blob place bytes) held next t.gap fault t.others t.gives.same t.gives.refused)
