@@ -1,9 +1,10 @@
 -- What a turn's gap is, as a list of events.
-use Rattle.std.proofs.Common.{◌≡◌, ◌≢◌, ℕ, ◌==◌, Bool, true, false, List, [], ◌∷◌, ◌++◌, refl, sym, ap, ◌∙◌, arith}
+use Rattle.std.proofs.Common.{◌≡◌, ◌≢◌, ℕ, ◌==◌, Bool, true, false, if◌then◌else◌, List, [], ◌∷◌, ◌++◌, refl, sym, ap, ◌∙◌, arith}
 use Rattle.std.proofs.lemmas.Bool.Decides.{nat_tests}
-use Rattle.blob_model.specs.History.{caller_of}
+use Rattle.blob_model.specs.History.{caller_of, events_by, AllOther}
 use Rattle.blob_model.specs.declared.call.Event.{Event}
 use Rattle.turn_lock.specs.History.{entries_by}
+use Rattle.version_manager.specs.Laws.{GapsAreOfOthers, EntriesAreEvents}
 use Rattle.version_manager.specs.Log.{tag, tagged, events}
 
 first_tag : (x : ℕ × Event) (xs : List (ℕ × Event)) → x ∷ xs ≡ tagged (events (x ∷ xs)) → x ≡ tag x.1
@@ -35,3 +36,20 @@ module _ (c : ℕ) (P : List Event → Type 0) (none : P []) (more : (e : Event)
       (λ t. let other : x.0 ≢ c = λ same. grind (arith, nat_tests) in
       let left : entries_by c xs ≡ [] = rw t at lacks in
       more x.1 (events xs) (λ is. other (sym caller ∙ is)) (gap_of_others xs (later_tags x xs e) left))
+
+pub gaps_other : GapsAreOfOthers
+gaps_other f seen gap caller log lacks =
+    gap_of_others caller (λ es. AllOther caller es) tt (λ e es other all. (other, all)) gap (rest_tagged seen gap log.tags) lacks
+
+-- one entry more, and its event
+one_more : (caller : ℕ) (x : ℕ × Event) (xs : List (ℕ × Event)) (es : List Event) (t : Bool) → x ≡ tag x.1 → xs ≡ tagged es → (if t then x ∷ xs else xs) ≡ tagged (if t then x.1 ∷ es else es)
+one_more caller x xs es true is rest = cc
+one_more caller x xs es false is rest = rest
+
+pub entries_events : EntriesAreEvents
+entries_events [] caller e = refl
+entries_events (x ∷ xs) caller e =
+    let is : x ≡ tag x.1 = first_tag x xs e in
+    let rest = entries_events xs caller (later_tags x xs e) in
+    ap (λ (n : ℕ). if n == caller then x ∷ entries_by caller xs else entries_by caller xs) (ap (λ (y : ℕ × Event). y.0) is)
+    ∙ one_more caller x (entries_by caller xs) (events_by caller (events xs)) (caller_of x.1 == caller) is rest

@@ -1,12 +1,13 @@
 -- What stays true of a desk as it goes on.
 use Rattle.std.specs.Prelude.{◌≡◌, ℕ, ◌≤◌, ◌||◌, List, [], ◌∷◌, ◌++◌, length}
-use Rattle.blob_model.specs.History.{call_of, finishes}
+use Rattle.turn_lock.specs.History.{entries_by}
+use Rattle.blob_model.specs.History.{call_of, events_by, finishes, AllOther}
 use Rattle.blob_model.specs.declared.call.Call.TheVariants as Calls
 use Rattle.blob_model.specs.declared.call.Event.{Event}
 use Rattle.border_hints.specs.Numbered.{NumberedUpdate}
 use Rattle.version_manager.specs.Desks.{DeskState, IsTicketOf, IsUnfinished, updates_in, is_finished_in}
 use Rattle.version_manager.specs.declared.journal.DeskFixed.{DeskFixed}
-use Rattle.version_manager.specs.Log.{desk_at, events}
+use Rattle.version_manager.specs.Log.{IsLog, desk_at, events, tagged}
 
 -- a ticket of a desk is one of the desk with a longer history
 abbrev pub TicketsStay : Type 0
@@ -22,3 +23,11 @@ UnfinishedStay = (d d' : DeskState) (event : Event) (blob version : ℕ) → d'.
 abbrev pub FinishedByGap : Type 0
 FinishedByGap = (f : DeskFixed) (seen gap : List (ℕ × Event)) (blob version : ℕ) → 1 ≤ version → version ≤ length (updates_in (desk_at f seen) blob)
     → is_finished_in (desk_at f (seen ++ gap)) blob version ≡ (is_finished_in (desk_at f seen) blob version || finishes blob version (events gap))
+
+-- a gap in which a pass has no entry has events of others alone
+abbrev pub GapsAreOfOthers : Type 0
+GapsAreOfOthers = (f : DeskFixed) (seen gap : List (ℕ × Event)) (caller : ℕ) → IsLog f (seen ++ gap) → entries_by caller gap ≡ [] → AllOther caller (events gap)
+
+-- where each entry has its event's caller, a caller's entries are its events
+abbrev pub EntriesAreEvents : Type 0
+EntriesAreEvents = (log : List (ℕ × Event)) (caller : ℕ) → log ≡ tagged (events log) → entries_by caller log ≡ tagged (events_by caller (events log))
