@@ -2,6 +2,9 @@ pub mod Turns
 pub mod Ranges
 pub mod RangeAnswers
 pub mod Answering
+pub mod Reports
+pub mod Finishing
+pub mod Holding
 pub mod Standing
 pub mod Rows
 pub mod Finding

@@ -11,7 +11,7 @@ use Rattle.turn_lock.specs.Shown.{Held}
 use Rattle.version_manager.specs.Desks.{DeskState, IsTicketOf, IsRowFor}
 use Rattle.version_manager.specs.Log.{desk_at}
 use Rattle.version_manager.specs.declared.journal.DeskFixed.{DeskFixed}
-use Rattle.client_session.specs.Tickets.{OpenUpdate, Rise}
+use Rattle.client_session.specs.Tickets.{OpenUpdate, Rise, all_held}
 use Rattle.client_session.specs.Sessions.{StoreState, IsPassOf}
 
 -- ---- what a held update keeps
@@ -34,7 +34,7 @@ pub record IsOpen (f : DeskFixed) (log : List (ℕ × Event)) (o : OpenUpdate) :
 -- Each held update is a numbered one. Their numbers rise to the next one, of which no more were drawn than there are events.
 pub record IsHolding (f : DeskFixed) (log : List (ℕ × Event)) (held : List OpenUpdate) (next : ℕ) : Type 0 where
   pub open_ : All (IsOpen f log) held
-  pub rise : Rise held next
+  pub rise : Rise (all_held held) next
   pub drawn : next ≤ length log + 1
 
 -- The pass is of the store, there is a true door to each of its providers, and room for a page's marks.

@@ -30,10 +30,10 @@ pub record IsHeldAt (os : List OpenUpdate) (number i : ℕ) : Type 0 where
   pub held : held_at (all_held os) number ≡ Some (held_of update)
   pub left : without_ticket (all_held os) number ≡ all_held (remove os i)
 
--- the numbers rise, and the next one is above them all
-pub record Rise (os : List OpenUpdate) (next : ℕ) : Type 0 where
-  pub below : All (λ (o : OpenUpdate). o.number < next) os
-  pub pairs : AllPairs (λ (a b : OpenUpdate). a.number < b.number) os
+-- the numbers of the tickets rise, and the next one is above them all
+pub record Rise (tickets : List Held) (next : ℕ) : Type 0 where
+  pub below : All (λ (t : Held). t.number < next) tickets
+  pub pairs : AllPairs (λ (a b : Held). a.number < b.number) tickets
 
 -- the update of that number is held with its row
 pub record HasRow (os : List OpenUpdate) (number : ℕ) : Type 0 where
