@@ -2,7 +2,6 @@
 #![tactic(auto)]
 
 mod done;
-mod gate_stub;
 mod notices;
 mod reading;
 mod serve;
@@ -14,7 +13,6 @@ mod updating;
 mod weaving;
 
 pub use done::{Done, Started};
-pub use gate_stub::{Gate, Point};
 pub use session::Session;
 pub use shared::{Shared, SharedOut};
 pub use version_manager::{Owner, Pass};

@@ -9,7 +9,7 @@ ghost use Rattle.client_session.specs.Sessions.{session_of};
 ghost use Rattle.client_session.specs.Results.{create_reply, branch_reply, finish_reply, read_reply, started_reply, done_reply};
 
 use crate::done::{Done, Started};
-use crate::gate_stub::Gate;
+use ports::gate::Gate;
 use crate::session::Session;
 use blob_model::{Bytes, Place};
 use page_store::Door;

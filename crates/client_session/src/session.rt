@@ -8,7 +8,7 @@ ghost use Rattle.request_form.specs.declared.form.Request.TheVariants as Request
 ghost use Rattle.client_session.specs.Results.{desk_fault, range_fault, create_reply, branch_reply, read_reply};
 ghost use Rattle.client_session.specs.Sessions.{IsPassOf, session_of, pass_of, Continues, visits_seen, NoStepIfRefused, IsSettled};
 
-use crate::gate_stub::Gate;
+use ports::gate::Gate;
 use crate::reading::{RangeFault, read_range};
 use crate::shared::Shared;
 use crate::tickets::Tickets;

@@ -17,7 +17,7 @@ ghost use Rattle.client_session.specs.Tickets.{OpenUpdate, HasRow, with_row};
 ghost use Rattle.client_session.specs.Updates.{update_request, start_request, IsNumbered, NotNumbered, Reporting};
 
 use crate::done::{Done, Started};
-use crate::gate_stub::{Gate, Point};
+use ports::gate::{Gate, Point};
 use crate::session::{Session, fault_of};
 use crate::shared::Shared;
 use crate::storing::store_bytes;

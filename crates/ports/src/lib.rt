@@ -5,6 +5,7 @@
 ghost use Rattle.std.specs.Prelude.{◌≡◌};
 
 mod count;
+pub mod gate;
 pub mod memory;
 pub mod pair;
 pub mod reader;
