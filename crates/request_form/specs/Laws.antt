@@ -2,7 +2,10 @@ use Rattle.std.specs.Prelude.{◌≡◌, List}
 use Rattle.blob_model.specs.History.{AllOther}
 use Rattle.request_form.specs.Session.{Session, AllOwn, IsNobody}
 use Rattle.request_form.specs.Stream.{AllWellHeard}
-use Rattle.request_form.specs.Transcript.{Transcript, faults_of}
+use Rattle.request_form.specs.Answers.{Answers}
+use Rattle.request_form.specs.Transcript.{Run, Transcript, faults_of}
+use Rattle.request_form.specs.Own.{Makes, made, made_by}
+use Rattle.request_form.specs.declared.form.Request.{Request}
 use Rattle.request_form.specs.declared.form.Reply.{Reply}
 use Rattle.request_form.specs.declared.form.Heard.{Heard}
 
@@ -14,3 +17,11 @@ OwnIsAlone = (s : Session) (heard : List Heard) (replies : List Reply) (s' : Ses
 -- Each list of items has a transcript, also where nobody else is there, in which the outside failed for no request.
 abbrev pub AlwaysAnswered : Type 0
 AlwaysAnswered = (s : Session) (heard : List Heard) → (replies : List Reply) × ((s' : Session) × Transcript IsNobody s heard replies s' × (AllWellHeard heard → faults_of replies ≡ 0))
+
+-- Each answer makes the session's own events that its request and reply tell, and a run those of its items in order.
+abbrev pub OwnEventsAreMade : Type 0
+OwnEventsAreMade = (s : Session) (request : Request) (reply : Reply) (s' : Session) → Answers AllOther s request reply s' → Makes s (made s request reply) s'
+
+abbrev pub RunsMakeOwnEvents : Type 0
+RunsMakeOwnEvents = (s : Session) (items : List Heard) (replies : List Reply) (s' : Session) (run : Run AllOther s items replies s')
+    → Makes s (made_by AllOther s items replies s' run) s'

@@ -3,4 +3,5 @@ pub mod Session
 pub mod Answers
 pub mod Transcript
 pub mod Stream
+pub mod Own
 pub mod Laws
