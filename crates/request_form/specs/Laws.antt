@@ -1,10 +1,12 @@
-use Rattle.std.specs.Prelude.{◌≡◌, List}
-use Rattle.blob_model.specs.History.{AllOther}
-use Rattle.request_form.specs.Session.{Session, AllOwn, IsNobody}
+use Rattle.std.specs.Prelude.{◌≡◌, ℕ, List, [], ◌∷◌, ◌++◌}
+use Rattle.blob_model.specs.History.{AllOther, store_of}
+use Rattle.blob_model.specs.declared.call.Call.{Call}
+use Rattle.request_form.specs.Session.{Session, Held, AllOwn, IsNobody}
 use Rattle.request_form.specs.Stream.{AllWellHeard}
-use Rattle.request_form.specs.Answers.{Answers}
+use Rattle.request_form.specs.Answers.{Answers, LookAnswer}
 use Rattle.request_form.specs.Transcript.{Run, Transcript, faults_of}
 use Rattle.request_form.specs.Own.{Makes, made, made_by}
+use Rattle.request_form.specs.HangUp.{GivenUp, GivesUp, HungUp, LeavesNoTicket, AllNumbered, AllFinished}
 use Rattle.request_form.specs.declared.form.Request.{Request}
 use Rattle.request_form.specs.declared.form.Reply.{Reply}
 use Rattle.request_form.specs.declared.form.Heard.{Heard}
@@ -25,3 +27,22 @@ OwnEventsAreMade = (s : Session) (request : Request) (reply : Reply) (s' : Sessi
 abbrev pub RunsMakeOwnEvents : Type 0
 RunsMakeOwnEvents = (s : Session) (items : List Heard) (replies : List Reply) (s' : Session) (run : Run AllOther s items replies s')
     → Makes s (made_by AllOther s items replies s' run) s'
+
+-- After one look and another the session has had the second alone, with a longer gap.
+abbrev pub LooksJoin : Type 0
+LooksJoin = (s : Session) (earlier call : Call) (first reply : Reply) (mid s' : Session) → LookAnswer AllOther s earlier first mid → LookAnswer AllOther mid call reply s'
+    → LookAnswer AllOther s call reply s'
+
+-- tickets that are given up, and then one more
+abbrev pub GivingUpGoesOn : Type 0
+GivingUpGoesOn = (s : Session) (tickets : List Held) (replies : List Reply) (mid : Session) (ticket : Held) (reply : Reply) (s' : Session)
+    → GivesUp AllOther s tickets replies mid → GivenUp AllOther mid ticket reply s' → GivesUp AllOther s (tickets ++ ticket ∷ []) (replies ++ reply ∷ []) s'
+
+-- What hanging up leaves. A ticket that is counted as finished has its update finished in what the session has seen then,
+-- if it was numbered in what the session had seen.
+abbrev pub HangUpsHold : Type 0
+HangUpsHold = (s : Session) (finished no_memory : ℕ) (s' : Session) (h : HungUp AllOther s finished no_memory s') → LeavesNoTicket s finished no_memory h.replies s'
+
+abbrev pub HungUpAreFinished : Type 0
+HungUpAreFinished = (s : Session) (finished no_memory : ℕ) (s' : Session) (h : HungUp AllOther s finished no_memory s')
+    → AllNumbered (store_of s.fixed.limits s.seen) s.tickets → AllFinished (store_of s'.fixed.limits s'.seen) s.tickets h.replies

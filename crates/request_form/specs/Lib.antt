@@ -4,4 +4,5 @@ pub mod Answers
 pub mod Transcript
 pub mod Stream
 pub mod Own
+pub mod HangUp
 pub mod Laws

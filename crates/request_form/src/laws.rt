@@ -1,6 +1,6 @@
 //! Laws of the transcript.
 
-ghost use Rattle.request_form.specs.Laws.{OwnIsAlone, AlwaysAnswered, OwnEventsAreMade, RunsMakeOwnEvents};
+ghost use Rattle.request_form.specs.Laws.{OwnIsAlone, AlwaysAnswered, OwnEventsAreMade, RunsMakeOwnEvents, LooksJoin, GivingUpGoesOn, HangUpsHold, HungUpAreFinished};
 
 /// A session that in the end has seen its own events alone was alone all along, and each list of items has a transcript
 /// in which the outside failed for no request.
@@ -19,3 +19,27 @@ pub fn own_events_are_made()
 pub fn runs_make_own_events()
     ensures { RunsMakeOwnEvents }
 {}
+
+/// A look after a look is one that the first session could have had, with all that came in between as its gap.
+pub fn looks_join()
+    ensures { LooksJoin }
+{}
+
+/// Tickets that are given up one after another, and then one more.
+pub fn giving_up_goes_on()
+    ensures { GivingUpGoesOn }
+{}
+
+/// Hanging up leaves no ticket and 1 as the next number, counts each ticket that was held once, and adds to the session's
+/// own events the finishes of the tickets whose reply was Finished, in their order.
+pub fn hang_ups_hold()
+    ensures { HangUpsHold }
+{}
+
+/// A ticket that hanging up counted as finished has its version finished in what the session has seen then.
+pub fn hung_up_are_finished()
+    ensures { HungUpAreFinished }
+{
+    blob_model::laws::old_versions_stay();
+    blob_model::laws::finished_by_events();
+}
