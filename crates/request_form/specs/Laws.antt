@@ -1,14 +1,18 @@
 use Rattle.std.specs.Prelude.{◌≡◌, ℕ, List, [], ◌∷◌, ◌++◌}
+use Rattle.blob_model.specs.Limits.{Bounds}
 use Rattle.blob_model.specs.History.{AllOther, store_of}
+use Rattle.blob_model.specs.declared.call.Event.{Event}
 use Rattle.blob_model.specs.declared.call.Call.{Call}
 use Rattle.request_form.specs.Session.{Session, Held, AllOwn, IsNobody}
 use Rattle.request_form.specs.Stream.{AllWellHeard}
 use Rattle.request_form.specs.Answers.{Answers, LookAnswer}
 use Rattle.request_form.specs.Transcript.{Run, Transcript, faults_of}
 use Rattle.request_form.specs.Own.{Makes, made, made_by}
+use Rattle.request_form.specs.PublishedReads.{IsPublishedIn, Range, ReadAfter, Tells, read_outcome}
 use Rattle.request_form.specs.HangUp.{GivenUp, GivesUp, HungUp, LeavesNoTicket, AllNumbered, AllFinished}
 use Rattle.request_form.specs.declared.form.Request.{Request}
 use Rattle.request_form.specs.declared.form.Reply.{Reply}
+use Rattle.request_form.specs.declared.form.Reply.TheVariants as Replies
 use Rattle.request_form.specs.declared.form.Heard.{Heard}
 
 -- Where all that a session has seen in the end is its own, each gap was empty.
@@ -46,3 +50,14 @@ HangUpsHold = (s : Session) (finished no_memory : ℕ) (s' : Session) (h : HungU
 abbrev pub HungUpAreFinished : Type 0
 HungUpAreFinished = (s : Session) (finished no_memory : ℕ) (s' : Session) (h : HungUp AllOther s finished no_memory s')
     → AllNumbered (store_of s.fixed.limits s.seen) s.tickets → AllFinished (store_of s'.fixed.limits s'.seen) s.tickets h.replies
+
+-- Where a version is published in a history, each session that has seen it tells of a range of that version what the store
+-- of that history answers, also once more events have come.
+abbrev pub PublishedReadsStay : Type 0
+PublishedReadsStay = (limits : Bounds) (history : List Event) (range : Range) (reply : Reply) → IsPublishedIn (store_of limits history) range.blob range.version
+    → ReadAfter limits history range reply → Tells (read_outcome (store_of limits history) range) range.count reply
+
+-- so any two of them read the same bytes
+abbrev pub PublishedReadsAgree : Type 0
+PublishedReadsAgree = (limits : Bounds) (history : List Event) (range : Range) (bytes others : List ℕ) → IsPublishedIn (store_of limits history) range.blob range.version
+    → ReadAfter limits history range (Replies.Content bytes) → ReadAfter limits history range (Replies.Content others) → bytes ≡ others

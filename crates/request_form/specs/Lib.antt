@@ -5,4 +5,5 @@ pub mod Transcript
 pub mod Stream
 pub mod Own
 pub mod HangUp
+pub mod PublishedReads
 pub mod Laws

@@ -1,6 +1,8 @@
-//! Laws of the transcript.
+//! Laws of answers and transcripts. A law is the contract of a function that does nothing.
 
-ghost use Rattle.request_form.specs.Laws.{OwnIsAlone, AlwaysAnswered, OwnEventsAreMade, RunsMakeOwnEvents, LooksJoin, GivingUpGoesOn, HangUpsHold, HungUpAreFinished};
+ghost use Rattle.request_form.specs.Laws.{OwnIsAlone, AlwaysAnswered, OwnEventsAreMade, RunsMakeOwnEvents};
+ghost use Rattle.request_form.specs.Laws.{LooksJoin, PublishedReadsStay, PublishedReadsAgree};
+ghost use Rattle.request_form.specs.Laws.{GivingUpGoesOn, HangUpsHold, HungUpAreFinished};
 
 /// A session that in the end has seen its own events alone was alone all along, and each list of items has a transcript
 /// in which the outside failed for no request.
@@ -42,4 +44,21 @@ pub fn hung_up_are_finished()
 {
     blob_model::laws::old_versions_stay();
     blob_model::laws::finished_by_events();
+}
+
+/// A session that has seen a history answers a read of a version that is published there from the store of that history,
+/// whatever has come since: the same bytes, or the same refusal, if nothing outside fails.
+pub fn published_reads_stay()
+    ensures { PublishedReadsStay }
+{
+    blob_model::laws::old_versions_stay();
+    blob_model::laws::published_are_numbered();
+}
+
+/// Two sessions that have seen a history read the same bytes of a version that is published there.
+pub fn published_reads_agree()
+    ensures { PublishedReadsAgree }
+{
+    blob_model::laws::old_versions_stay();
+    blob_model::laws::published_are_numbered();
 }
