@@ -9,7 +9,7 @@ use Rattle.blob_model.specs.Content.{Update}
 use Rattle.blob_model.specs.Store.{Store, Blob, blob_at, empty_store, with_blob, and_blob, and_update, is_finished, finish, branch_of, true_prefix, published}
 use Rattle.blob_model.specs.Answer.{Answered, answer, refuse, first_refusal, too_many_blobs, offset_past_size, blob_too_big, too_many_versions, too_many_open, already}
 use Rattle.blob_model.specs.History.{caller_of, call_of, store_from, store_of, finishes}
-use Rattle.blob_model.specs.Laws.{FinishedByEvents}
+use Rattle.blob_model.specs.Laws.{FinishedByEvents, PublishedAreNumbered}
 use Rattle.blob_model.specs.declared.call.Event.{Event}
 use Rattle.blob_model.specs.declared.call.Event.TheVariants as Events
 use Rattle.blob_model.specs.declared.call.Outcome.TheVariants as Outcomes
@@ -304,3 +304,8 @@ finished_by limits history more id version old new is is_new within = by_test _ 
     let there : blob_at (store_of limits (history ++ more)) id ≡ Some k.b = ap (λ (x : Store). blob_at x id) (store_from-append (empty_store limits) history more) ∙ k.at in
     let same : new ≡ k.b = same_Some new k.b (sym is_new ∙ there) in
     ap (λ (b : Blob). is_finished b version) same ∙ k.mark)
+
+pub published_within : PublishedAreNumbered
+published_within limits history id b is =
+    let even : length b.finished ≡ length b.updates = unfolded b (even_at (store_of limits history) id b (from_even (empty_store limits) history no_blobs) is) in
+    omega (arith, prefix_within b.finished, even)

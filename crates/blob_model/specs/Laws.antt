@@ -21,3 +21,7 @@ OldVersionsStay = (limits : Bounds) (history more : List Event) (id : ℕ) (old 
 abbrev pub FinishedByEvents : Type 0
 FinishedByEvents = (limits : Bounds) (history more : List Event) (id version : ℕ) (old new : Blob) → blob_at (store_of limits history) id ≡ Some old
     → blob_at (store_of limits (history ++ more)) id ≡ Some new → version ≤ assigned old → is_finished new version ≡ (is_finished old version || finishes id version more)
+
+-- what a store published was numbered there
+abbrev pub PublishedAreNumbered : Type 0
+PublishedAreNumbered = (limits : Bounds) (history : List Event) (id : ℕ) (b : Blob) → blob_at (store_of limits history) id ≡ Some b → published b ≤ assigned b

@@ -1,6 +1,6 @@
 //! What holds of every history.
 
-ghost use Rattle.blob_model.specs.Laws.{OldVersionsStay, FinishedByEvents};
+ghost use Rattle.blob_model.specs.Laws.{OldVersionsStay, FinishedByEvents, PublishedAreNumbered};
 
 /// Old versions stay, whatever is added to a history: each blob's updates are a beginning of what they become, each content of
 /// each of its versions is the same, and what was published stays published.
@@ -11,4 +11,9 @@ pub fn old_versions_stay()
 /// A version that was numbered is finished once more events came exactly where it was finished before, or they finish it.
 pub fn finished_by_events()
     ensures { FinishedByEvents }
+{}
+
+/// The greatest published version of a blob is one that was numbered, or 0.
+pub fn published_are_numbered()
+    ensures { PublishedAreNumbered }
 {}

@@ -3,4 +3,7 @@ pub mod Session
 pub mod Answers
 pub mod Transcript
 pub mod Stream
+pub mod Own
+pub mod HangUp
+pub mod PublishedReads
 pub mod Laws
