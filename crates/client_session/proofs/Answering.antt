@@ -1,33 +1,24 @@
 -- The answers of a session, by what the turns of its calls gave.
-use Rattle.std.proofs.Common.{◌≡◌, refl, sym, ◌∙◌, ap, subst, ℕ, ◌+◌, List, [], ◌∷◌, ◌++◌, append-nil, append_assoc, Option, Some, None, Result, Ok, Err, Bool, true, false, if◌then◌else◌}
-use Rattle.std.proofs.lemmas.List.{map-append, map_push}
-use Rattle.blob_model.specs.History.{AllOther, finishes}
+use Rattle.std.proofs.Common.{◌≡◌, refl, sym, ◌∙◌, ap, ℕ, List, [], append-nil, Result, Ok, Err}
+use Rattle.blob_model.specs.History.{AllOther}
 use Rattle.blob_model.specs.declared.call.Place.{Place}
-use Rattle.blob_model.specs.declared.call.Place.TheVariants.{WriteAt, Append}
-use Rattle.blob_model.specs.declared.call.Call.{Call}
 use Rattle.blob_model.specs.declared.call.Call.TheVariants as Calls
 use Rattle.blob_model.specs.declared.call.Event.{Event}
 use Rattle.blob_model.specs.declared.call.Event.TheVariants as Events
 use Rattle.blob_model.specs.declared.call.Outcome.{Outcome}
 use Rattle.blob_model.specs.declared.call.Outcome.TheVariants as Outcomes
-use Rattle.node_store.specs.Rows.{UpdateRow}
-use Rattle.border_hints.specs.Numbered.{NumberedUpdate}
-use Rattle.version_manager.specs.Desks.{IsUnfinished, OnRefused, is_finished_in}
-use Rattle.version_manager.specs.Log.{Changed, tag, events, outcome_in, desk_at}
+use Rattle.version_manager.specs.Log.{Changed, events}
 use Rattle.version_manager.specs.declared.journal.DeskFixed.{DeskFixed}
 use Rattle.version_manager.specs.declared.fault.DeskFault.{DeskFault}
-use Rattle.version_manager.specs.declared.fault.DeskFault.TheVariants as DeskFaults
-use Rattle.request_form.specs.Session.{Session, Held, outcome_at, sees, holds, drops, held_at, without_ticket}
-use Rattle.request_form.specs.Answers.{OutOfMemory, Refused, Updated, Started, Kept, CreateAnswer, BranchAnswer, UpdateAnswer, ReportAnswer, FinishAnswer, Unless, update_fault}
+use Rattle.request_form.specs.Session.{Session, sees}
+use Rattle.request_form.specs.Answers.{OutOfMemory, CreateAnswer, BranchAnswer, UpdateAnswer}
 use Rattle.request_form.specs.declared.form.Reply.{Reply}
 use Rattle.request_form.specs.declared.form.Reply.TheVariants as Replies
-use Rattle.request_form.specs.declared.form.Fault.{Fault}
 use Rattle.request_form.specs.declared.form.Fault.TheVariants as Faults
-use Rattle.client_session.specs.Tickets.{OpenUpdate, held_of, all_held}
-use Rattle.client_session.specs.Results.{desk_fault}
+use Rattle.client_session.specs.Tickets.{OpenUpdate}
+use Rattle.client_session.specs.Results.{desk_fault, told_of, create_reply, branch_reply}
 use Rattle.client_session.specs.Sessions.{session_at}
-use Rattle.client_session.specs.Updates.{Reporting, update_reply, start_reply}
-use Rattle.client_session.proofs.Turns.{Took, NotDone, not_done, outcome_of_gap, seen_gap, seen_event}
+use Rattle.client_session.proofs.Turns.{Took, NotDone, not_done, outcome_of_gap, seen_event}
 
 -- seeing nothing changes nothing
 pub sees-nothing : (s : Session) → s ≡ sees s []
@@ -59,6 +50,11 @@ module _ (f : DeskFixed) (caller : ℕ) (log log' : List (ℕ × Event)) (held :
       → CreateAnswer AllOther (session_at f caller log held next) (Replies.Refused (desk_fault fault)) (session_at f caller log' held next)
   not_created fault t = as_create _ (not_done f caller log log' Calls.Create held next t.gap fault t.others t.gives.same t.gives.refused)
 
+  pub create_told : (r : Result ℕ DeskFault) → Took caller log log' (λ before after. Changed f Calls.Create (Events.Create caller) (λ (id : ℕ). Outcomes.Blob id) (λ (x : DeskFault). x) before caller r after)
+      → CreateAnswer AllOther (session_at f caller log held next) (create_reply (told_of r)) (session_at f caller log' held next)
+  create_told (Ok blob) t = created blob t
+  create_told (Err fault) t = not_created fault t
+
   -- ---- a branch
   module _ (blob version : ℕ) where
     pub branched : (id : ℕ) → Took caller log log' (λ before after. Changed f (Calls.Branch blob version) (Events.Branch caller blob version) (λ id. Outcomes.Blob id) (λ (x : DeskFault). x) before caller (Ok id) after)
@@ -81,6 +77,12 @@ module _ (f : DeskFixed) (caller : ℕ) (log log' : List (ℕ × Event)) (held :
         → Took caller log log' (λ before after. Changed f (Calls.Branch blob version) (Events.Branch caller blob version) (λ (id : ℕ). Outcomes.Blob id) (λ (x : DeskFault). x) before caller (Err fault) after)
         → BranchAnswer AllOther (session_at f caller log held next) blob version (Replies.Refused (desk_fault fault)) (session_at f caller log' held next)
     not_branched fault t = as_branch _ (not_done f caller log log' (Calls.Branch blob version) held next t.gap fault t.others t.gives.same t.gives.refused)
+
+    pub branch_told : (r : Result ℕ DeskFault)
+        → Took caller log log' (λ before after. Changed f (Calls.Branch blob version) (Events.Branch caller blob version) (λ (id : ℕ). Outcomes.Blob id) (λ (x : DeskFault). x) before caller r after)
+        → BranchAnswer AllOther (session_at f caller log held next) blob version (branch_reply (told_of r)) (session_at f caller log' held next)
+    branch_told (Ok id) t = branched id t
+    branch_told (Err fault) t = not_branched fault t
 
   -- ---- an update that wasn't numbered
   module _ (blob : ℕ) (place : Place) (bytes : List ℕ) where

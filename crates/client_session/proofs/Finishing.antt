@@ -1,22 +1,19 @@
 -- The report of an update, and the answers in which it ends.
-use Rattle.std.proofs.Common.{◌≡◌, refl, sym, ◌∙◌, ap, subst, ℕ, ◌+◌, ◌<◌, ◌≤◌, ◌||◌, List, [], ◌∷◌, ◌++◌, append_assoc, length, Option, Some, None, Result, Ok, Err, Bool, true, false, if◌then◌else◌, arith}
-use Rattle.std.specs.Prelude.{slice_get, remove}
-use Rattle.std.proofs.lemmas.List.{map-append}
+use Rattle.std.proofs.Common.{◌≡◌, refl, sym, ◌∙◌, ap, ℕ, ◌≤◌, ◌||◌, List, [], ◌∷◌, ◌++◌, length, Option, Some, None, Result, Ok, Err, Bool, true, false, arith}
 use Rattle.std.proofs.lemmas.Bool.{false≢true}
 use Rattle.blob_model.specs.Store.{Store, Blob, blob_at, is_finished, published, finish, with_blob}
-use Rattle.blob_model.specs.Answer.{Answered, answer, refuse, unless_refused, already}
-use Rattle.blob_model.specs.History.{AllOther, finishes, store_of}
+use Rattle.blob_model.specs.Answer.{Answered, refuse, unless_refused, already}
+use Rattle.blob_model.specs.History.{finishes, store_of}
 use Rattle.blob_model.specs.declared.call.Call.TheVariants as Calls
 use Rattle.blob_model.specs.declared.call.Event.{Event}
 use Rattle.blob_model.specs.declared.call.Event.TheVariants as Events
-use Rattle.blob_model.specs.declared.call.Outcome.{Outcome}
 use Rattle.blob_model.specs.declared.call.Outcome.TheVariants as Outcomes
 use Rattle.blob_model.specs.declared.call.Refusal.{Refusal}
 use Rattle.blob_model.specs.declared.call.Refusal.TheVariants as Refusals
 use Rattle.border_hints.specs.Numbered.{NumberedUpdate}
-use Rattle.version_manager.specs.Desks.{IsTicketOf, OnRefused, updates_in, updates_or_none, is_finished_in}
+use Rattle.version_manager.specs.Desks.{IsTicketOf, updates_in, updates_or_none, is_finished_in}
 use Rattle.version_manager.specs.Laws.{FinishedByGap}
-use Rattle.version_manager.specs.Log.{Changed, Finishes, tag, events, outcome_in, desk_at}
+use Rattle.version_manager.specs.Log.{Changed, Finishes, events, outcome_in, desk_at}
 use Rattle.version_manager.specs.Stays.{ticket_stays}
 use Rattle.version_manager.specs.declared.journal.DeskFixed.{DeskFixed}
 use Rattle.version_manager.specs.declared.fault.DeskFault.{DeskFault}

@@ -1,12 +1,11 @@
 -- What becomes of the held updates.
-use Rattle.std.proofs.Common.{◌≡◌, ◌≢◌, refl, sym, ◌∙◌, ap, subst, ℕ, ◌+◌, ◌<◌, ◌≤◌, List, [], ◌∷◌, ◌++◌, length, get_or, Option, Some, inl, inr, arith}
-use Rattle.std.specs.Prelude.{All, AllPairs, IfSome, slice_get, slice_set, remove}
+use Rattle.std.proofs.Common.{◌≡◌, sym, subst, ℕ, ◌+◌, ◌<◌, ◌≤◌, List, [], ◌∷◌, ◌++◌, length, Some, inl, inr, arith}
+use Rattle.std.specs.Prelude.{All, slice_get, slice_set, remove}
 use Rattle.std.proofs.lemmas.Bool.{cases_lt}
-use Rattle.std.proofs.lemmas.List.{length_push, map_push, length-map}
+use Rattle.std.proofs.lemmas.List.{map_push, length-map}
 use Rattle.std.proofs.lemmas.List.Edits.{length-remove, get_or-remove_below, get_or-remove_above}
 use Rattle.std.proofs.lemmas.List.Elements.{All-push, All-set}
 use Rattle.std.proofs.lemmas.List.Quantifiers.{all_pairs_push, all_pairs_remove}
-use Rattle.std.proofs.lemmas.Option.{slice_get_within}
 use Rattle.blob_model.specs.declared.call.Event.{Event}
 use Rattle.node_store.specs.Rows.{UpdateRow}
 use Rattle.version_manager.specs.declared.journal.DeskFixed.{DeskFixed}

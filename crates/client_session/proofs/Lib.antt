@@ -11,3 +11,6 @@ pub mod Finding
 pub mod PartsReading
 pub mod PartsStoring
 pub mod PartsWeaving
+pub mod Opened
+pub mod Waiting
+pub mod HangingUp

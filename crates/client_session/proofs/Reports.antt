@@ -1,31 +1,27 @@
 -- The answers of a finish and of an update, by what the report gave.
-use Rattle.std.proofs.Common.{◌≡◌, refl, sym, ◌∙◌, ap, subst, ℕ, ◌+◌, List, [], ◌∷◌, ◌++◌, append_assoc, append-nil, Option, Some, None, Result, Ok, Err, Bool, true, false, if◌then◌else◌}
+use Rattle.std.proofs.Common.{◌≡◌, refl, sym, ◌∙◌, ap, subst, ℕ, ◌+◌, List, [], ◌∷◌, ◌++◌, append_assoc, append-nil, Option, Some, None, Ok, Err, Bool, true, false, if◌then◌else◌}
 use Rattle.std.specs.Prelude.{remove}
-use Rattle.std.proofs.lemmas.List.{map-append, map_push}
+use Rattle.std.proofs.lemmas.List.{map_push}
 use Rattle.blob_model.specs.History.{AllOther, finishes}
 use Rattle.blob_model.specs.declared.call.Place.{Place}
 use Rattle.blob_model.specs.declared.call.Place.TheVariants.{WriteAt, Append}
 use Rattle.blob_model.specs.declared.call.Call.TheVariants as Calls
 use Rattle.blob_model.specs.declared.call.Event.{Event}
 use Rattle.blob_model.specs.declared.call.Event.TheVariants as Events
-use Rattle.blob_model.specs.declared.call.Outcome.TheVariants as Outcomes
 use Rattle.blob_model.specs.declared.call.Refusal.{Refusal}
-use Rattle.blob_model.specs.declared.call.Refusal.TheVariants as Refusals
 use Rattle.node_store.specs.Rows.{UpdateRow}
 use Rattle.border_hints.specs.Numbered.{NumberedUpdate}
-use Rattle.version_manager.specs.Desks.{OnRefused, is_finished_in}
-use Rattle.version_manager.specs.Log.{events, tag, outcome_in, desk_at}
+use Rattle.version_manager.specs.Log.{events}
 use Rattle.version_manager.specs.declared.journal.DeskFixed.{DeskFixed}
-use Rattle.version_manager.specs.declared.fault.DeskFault.{DeskFault}
 use Rattle.version_manager.specs.declared.fault.DeskFault.TheVariants as DeskFaults
-use Rattle.request_form.specs.Session.{Session, Held, outcome_at, sees, holds, drops, held_at, without_ticket}
-use Rattle.request_form.specs.Answers.{OutOfMemory, Updated, Started, Kept, UpdateAnswer, ReportAnswer, FinishAnswer, Unless, Answers, update_fault}
+use Rattle.request_form.specs.Session.{Session, Held, sees, holds, drops, held_at, without_ticket}
+use Rattle.request_form.specs.Answers.{UpdateAnswer, ReportAnswer, FinishAnswer, Unless, Answers, update_fault}
 use Rattle.request_form.specs.Replies.{fault_of}
 use Rattle.request_form.specs.declared.form.Reply.{Reply}
 use Rattle.request_form.specs.declared.form.Reply.TheVariants as Replies
 use Rattle.request_form.specs.declared.form.Fault.{Fault}
 use Rattle.request_form.specs.declared.form.Fault.TheVariants as Faults
-use Rattle.client_session.specs.Tickets.{OpenUpdate, held_of, all_held, IsHeldAt}
+use Rattle.client_session.specs.Tickets.{OpenUpdate, held_of, all_held}
 use Rattle.client_session.specs.Sessions.{SessionState, session_at, session_of}
 use Rattle.client_session.specs.Updates.{Reporting, IsNumbered, UpdateDone, StartDone, update_request, start_request, update_reply, start_reply}
 use Rattle.client_session.proofs.Turns.{outcome_of_gap, seen_gap, seen_event}
@@ -89,6 +85,14 @@ module _ (f : DeskFixed) (caller : ℕ) (log log' : List (ℕ × Event)) (held o
         seen = ap (with_tickets (session_at f caller log' held next)) taken.same ∙ seen_gap f caller log log' r.gap held next r.same;
       })
 
+-- the session that holds one more
+pub held_more : {D : Type 0} (m m' : SessionState D) (t : NumberedUpdate) (row : Option UpdateRow) → m' ≡ record m { held = m.held ++ record { number = m.next; ticket = t; row = row } ∷ []; next = m.next + 1 }
+    → session_of m' ≡ holds (session_of m) t.blob t.version
+held_more m m' t row is =
+    ap session_of is
+    ∙ ap (λ (hs : List Held). record { fixed = (session_of m).fixed; caller = m.caller; seen = (session_of m).seen; tickets = hs; next = m.next + 1 })
+    (map_push held_of m.held (record { number = m.next; ticket = t; row = row }))
+
 -- ---- an update
 -- what is done where the session itself doesn't refuse
 pub update_done : (s : Session) (blob : ℕ) (place : Place) (bytes : List ℕ) (reply : Reply) (s' : Session) → update_fault s bytes ≡ None → UpdateDone s blob place bytes reply s' → Answers AllOther s (update_request blob place bytes) reply s'
@@ -123,7 +127,7 @@ start_not_numbered s blob Append bytes reply s' a = unless_widen (update_fault s
 start_not_numbered s blob (WriteAt offset) bytes reply s' a = unless_widen (update_fault s bytes) _ s blob (WriteAt offset) bytes reply s' a
 
 module _ {D : Type 0} (s mid : SessionState D) (blob : ℕ) (place : Place) (bytes : List ℕ) (t : NumberedUpdate) (row : Option UpdateRow) (n : IsNumbered s blob place bytes t row mid) (next : mid.next ≡ s.next) where
-  assigns : Event
+  abbrev assigns : Event
   assigns = Events.Assign s.caller blob place bytes
 
   -- the tickets of the session that holds it

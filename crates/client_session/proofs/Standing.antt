@@ -1,17 +1,23 @@
 -- What a session keeps, from call to call.
-use Rattle.std.proofs.Common.{◌≡◌, refl, sym, ◌∙◌, ap, subst, ℕ, ◌+◌, ◌≤◌, List, [], ◌∷◌, ◌++◌, length, length-append, get_or, Option, Some, arith}
-use Rattle.std.specs.Prelude.{All, Bool, IfSome}
+use Rattle.std.proofs.Common.{◌≡◌, sym, ◌∙◌, ap, subst, ℕ, ◌≤◌, List, ◌++◌, append_assoc, length, length-append, get_or, arith}
+use Rattle.std.specs.Prelude.{All, Bool}
 use Rattle.blob_model.specs.declared.call.Event.{Event}
-use Rattle.node_store.specs.Rows.{UpdateRow}
 use Rattle.turn_lock.specs.History.{Begins}
 use Rattle.turn_lock.specs.Shown.{Held}
 use Rattle.version_manager.specs.Desks.{IsTicketOf}
-use Rattle.version_manager.specs.Log.{IsLog, desk_at}
+use Rattle.version_manager.specs.Log.{desk_at}
 use Rattle.version_manager.specs.Stays.{ticket_stays}
 use Rattle.version_manager.specs.declared.journal.DeskFixed.{DeskFixed}
-use Rattle.client_session.specs.Tickets.{OpenUpdate, Rise}
+use Rattle.client_session.specs.Tickets.{OpenUpdate}
 use Rattle.client_session.specs.Kept.{IsOpen, IsHolding, IsSession}
 use Rattle.client_session.specs.Sessions.{StoreState, IsPassOf, Went}
+
+-- a beginning of a beginning
+pub begins_both : (a b c : List (ℕ × Event)) → Begins a b → Begins b c → Begins a c
+begins_both a b c ab bc =
+    let (x, is) = ab in
+    let (y, is') = bc in
+    (x ++ y, is' ∙ (ap (λ (l : List (ℕ × Event)). l ++ y) is ∙ append_assoc a x y))
 
 -- a held update stays one as the history goes on
 pub open_stays : (f : DeskFixed) (log log' : List (ℕ × Event)) (o : OpenUpdate) → Begins log log' → IsOpen f log o → IsOpen f log' o
@@ -59,3 +65,15 @@ module _ {D : Type 0} (is_true : D → Type 0) (store : StoreState) (pass pass' 
   pub session_after : (held : List OpenUpdate) (next : ℕ) → IsSession is_true store pass held next doors room → pass' ≡ record pass { seen = pass'.seen } → Went store.fixed pass.seen pass'.seen
       → IsSession is_true store pass' held next doors room
   session_after held next s same went = session_with held held next next s same went (holding_stays store.fixed pass.seen pass'.seen held next went.begins s.holding)
+
+-- with other doors, as many and as true
+pub session_doors : {D : Type 0} (is_true : D → Type 0) (store : StoreState) (pass : Held Event DeskFixed) (held : List OpenUpdate) (next : ℕ) (doors doors' : List D) (room room' : List Bool)
+    → length doors' ≡ length doors → All is_true doors' → length room' ≡ length room → IsSession is_true store pass held next doors room → IsSession is_true store pass held next doors' room'
+session_doors is_true store pass held next doors doors' room room' count true_ marks s = record {
+  pass_is = s.pass_is;
+  holding = s.holding;
+  housed = s.housed;
+  served = count ∙ s.served;
+  true_doors = true_;
+  marks = marks ∙ s.marks;
+}

@@ -1,6 +1,5 @@
 -- What a turn of a session's pass did, in the words of the definition of answers.
-use Rattle.std.proofs.Common.{◌≡◌, refl, sym, ◌∙◌, ap, subst, ℕ, ◌+◌, ◌≤◌, List, [], ◌∷◌, ◌++◌, append_assoc, length, length-append, Option, Some, Result, Ok, Err, arith}
-use Rattle.std.specs.Prelude.{All}
+use Rattle.std.proofs.Common.{◌≡◌, refl, sym, ◌∙◌, ap, subst, ℕ, List, [], ◌∷◌, ◌++◌, append_assoc, Some, Result, Ok, Err}
 use Rattle.std.proofs.lemmas.List.{map-append}
 use Rattle.blob_model.specs.Answer.{answer}
 use Rattle.blob_model.specs.History.{AllOther, store_of}
@@ -11,7 +10,8 @@ use Rattle.blob_model.specs.declared.call.Outcome.TheVariants as Outcomes
 use Rattle.turn_lock.specs.Shown.{Held, Turned}
 use Rattle.version_manager.specs.Desks.{OnRefused}
 use Rattle.version_manager.specs.Laws.{GapsAreOfOthers}
-use Rattle.version_manager.specs.Log.{IsLog, Looked, Changed, tag, events, outcome_in}
+use Rattle.snapshot.specs.Versions.{Version}
+use Rattle.version_manager.specs.Log.{IsLog, Looked, Opened, Changed, tag, events, outcome_in}
 use Rattle.version_manager.specs.declared.journal.DeskFixed.{DeskFixed}
 use Rattle.version_manager.specs.declared.fault.DeskFault.{DeskFault}
 use Rattle.version_manager.specs.declared.fault.DeskFault.TheVariants as DeskFaults
@@ -41,6 +41,9 @@ took others f v w Gives fixed log turned =
 module _ (f : DeskFixed) (caller : ℕ) (log log' : List (ℕ × Event)) where
   pub went_looked : (call : Call) (said : Outcome) → Took caller log log' (λ before after. Looked f call before caller said after) → Went f log log'
   went_looked call said t = record { begins = (t.gap, t.gives.same); log_is = subst (IsLog f) (sym t.gives.same) t.gives.log }
+
+  pub went_opened : (blob version : ℕ) (said : Result Version DeskFault) → Took caller log log' (λ before after. Opened f blob version before caller said after) → Went f log log'
+  went_opened blob version said t = record { begins = (t.gap, t.gives.same); log_is = subst (IsLog f) (sym t.gives.same) t.gives.log }
 
   pub went_changed : {A E : Type 0} → (call : Call) (event : Event) (tells : A → Outcome) (fault : E → DeskFault) (r : Result A E)
       → Took caller log log' (λ before after. Changed f call event tells fault before caller r after) → Went f log log'
@@ -86,14 +89,14 @@ module _ (f : DeskFixed) (caller : ℕ) (log log' : List (ℕ × Event)) where
 
   pub not_done : (call : Call) (held : List OpenUpdate) (next : ℕ) (gap : List (ℕ × Event)) (fault : DeskFault) → AllOther caller (events gap) → log' ≡ log ++ gap
       → OnRefused fault (λ refusal. outcome_in f (log ++ gap) caller call ≡ Outcomes.Refused refusal) → NotDone call held next (Replies.Refused (desk_fault fault))
-  not_done call held next gap (DeskFaults.Refused refusal) others is refused =
+  not_done call held next gap (DeskFaults.Refused refusal) others is why =
       NotDone.refused record {
         others = events gap;
         is_gap = others;
         refusal = refusal;
-        refused = outcome_of_gap gap held next call ∙ refused;
+        refused = outcome_of_gap gap held next call ∙ why;
         said = refl;
         seen = seen_gap gap held next is;
       }
-  not_done call held next gap DeskFaults.NoMemory others is refused =
+  not_done call held next gap DeskFaults.NoMemory others is why =
       NotDone.out_of_memory record { others = events gap; is_gap = others; said = refl; seen = seen_gap gap held next is }

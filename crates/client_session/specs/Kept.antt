@@ -1,5 +1,5 @@
 -- What a session keeps between two calls.
-use Rattle.std.specs.Prelude.{◌≡◌, ℕ, ◌+◌, ◌<◌, ◌≤◌, List, Bool, length, IfSome, All, AllPairs, Some}
+use Rattle.std.specs.Prelude.{◌≡◌, ℕ, ◌+◌, ◌≤◌, List, Bool, length, IfSome, All}
 use Rattle.boxcar.specs.Table.{Shelves}
 use Rattle.page_store.specs.House.{House}
 use Rattle.page_store.specs.Stored.{LieAmong}

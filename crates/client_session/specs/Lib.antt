@@ -4,3 +4,5 @@ pub mod Sessions
 pub mod Kept
 pub mod Updates
 pub mod Results
+pub mod HangUp
+pub mod Waiting

@@ -21,6 +21,11 @@ abbrev pub desk_fault : DeskFault → Fault
 desk_fault (DeskFaults.Refused refusal) = fault_of refusal
 desk_fault DeskFaults.NoMemory = Faults.NoMemory
 
+-- what it says of the desk's answer
+abbrev pub told_of : Result ℕ DeskFault → Result ℕ Fault
+told_of (Ok number) = Ok number
+told_of (Err fault) = Err (desk_fault fault)
+
 -- what it says where an update's pages were not stored
 abbrev pub store_fault : StoreFault → Fault
 store_fault (StoreFaults.PageFault page) = Faults.PageFault page

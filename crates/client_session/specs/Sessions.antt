@@ -1,5 +1,5 @@
 -- A store that sessions share, and a session of it: what their clauses see.
-use Rattle.std.specs.Prelude.{◌≡◌, ◌≢◌, ℕ, ◌<◌, List, [], Option, Some}
+use Rattle.std.specs.Prelude.{◌≡◌, ◌≢◌, ℕ, ◌<◌, List, [], Some}
 use Rattle.atomic_table.specs.Seated.{TableId}
 use Rattle.blob_model.specs.Content.{Update}
 use Rattle.blob_model.specs.Store.{blob_at}

@@ -21,3 +21,16 @@ pub struct Done {
     /// The blob's size then, in bytes.
     pub size: u64,
 }
+
+/// What became of the tickets that a session gave up, each counted once.
+#[derive(Clone, Copy, Debug, PartialEq, Eq)]
+pub struct HangUp {
+    /// Those whose updates are finished, by the session or by others before it.
+    pub finished: u32,
+    /// Those that were dropped for want of memory. Their updates stay unfinished.
+    pub no_memory: u32,
+    /// Those whose updates wait for the version before them. None does yet.
+    pub pending: u32,
+    /// Those of whose pages no provider gave one. None is read yet.
+    pub page_fault: u32,
+}

@@ -2,6 +2,7 @@
 #![tactic(auto)]
 
 mod done;
+mod hanging_up;
 mod notices;
 mod reading;
 mod serve;
@@ -12,7 +13,7 @@ mod tickets;
 mod updating;
 mod weaving;
 
-pub use done::{Done, Started};
+pub use done::{Done, HangUp, Started};
 pub use session::Session;
 pub use shared::{Shared, SharedOut};
 pub use version_manager::{Owner, Pass};

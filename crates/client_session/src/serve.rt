@@ -9,10 +9,10 @@ ghost use Rattle.client_session.specs.Sessions.{session_of};
 ghost use Rattle.client_session.specs.Results.{create_reply, branch_reply, finish_reply, read_reply, started_reply, done_reply};
 
 use crate::done::{Done, Started};
-use ports::gate::Gate;
 use crate::session::Session;
 use blob_model::{Bytes, Place};
 use page_store::Door;
+use ports::gate::Gate;
 use request_form::{Fault, Reply, Request, Service};
 use std::marker::Brand;
 use std::sync::Wait;

@@ -5,16 +5,16 @@ ghost use Rattle.blob_model.specs.History.{AllOther};
 ghost use Rattle.request_form.specs.Replies.{reply_of, page_faults, fault_count};
 ghost use Rattle.request_form.specs.Answers.{Answers};
 ghost use Rattle.request_form.specs.declared.form.Request.TheVariants as Requests;
-ghost use Rattle.client_session.specs.Results.{desk_fault, range_fault, create_reply, branch_reply, read_reply};
+ghost use Rattle.client_session.specs.Results.{desk_fault, told_of, range_fault, create_reply, branch_reply, read_reply};
 ghost use Rattle.client_session.specs.Sessions.{IsPassOf, session_of, pass_of, Continues, visits_seen, NoStepIfRefused, IsSettled};
 
-use ports::gate::Gate;
 use crate::reading::{RangeFault, read_range};
 use crate::shared::Shared;
 use crate::tickets::Tickets;
 use blob_model::{Bytes, Outcome, Refusal};
 use page_fan::Doors;
 use page_store::Door;
+use ports::gate::Gate;
 use range_reader::ReadRoom;
 use request_form::{Fault, NoMemory};
 use std::alloc::Global;
@@ -35,6 +35,17 @@ pub(crate) fn fault_of(fault: DeskFault) -> Fault
     match fault {
         DeskFault::Refused(refusal) => Fault::of(refusal),
         DeskFault::NoMemory => Fault::NoMemory,
+    }
+}
+
+// The desk's answer as the session's.
+fn told(answer: Result<u64, DeskFault>) -> Result<u64, Fault>
+    ensures is { result ≡ told_of answer }
+    ensures calm { IfErr result (λ fault. page_faults fault ≡ 0) }
+{
+    match answer {
+        Ok(number) => Ok(number),
+        Err(fault) => Err(fault_of(fault)),
     }
 }
 
@@ -120,9 +131,9 @@ impl<'a, D: Door, G: Gate> Session<'a, D, G> {
     /// Ends the session. Its pass has seen what the session has, and is of the store still. Tickets that it holds are dropped with
     /// it, and their updates stay unfinished: hang up first.
     pub fn into_parts(self) -> (Pass, Doors<D>)
-        ensures pass { result.0 ≡ pass_of self }
-        ensures pass_is { IsPassOf self.store result.0 }
-        ensures doors { result.1 ≡ self.doors }
+        ensures pass { result.0 ≡ pass_of self.entry }
+        ensures pass_is { IsPassOf self.entry.store result.0 }
+        ensures doors { result.1 ≡ self.entry.doors }
     {
         let Session { pass, doors, .. } = self;
         (pass, doors)
@@ -134,11 +145,9 @@ impl<'a, D: Door, G: Gate> Session<'a, D, G> {
         ensures faults { RoseBy (fault_count (create_reply result)) (sum_by D.faults self.old.doors) (sum_by D.faults self.new.doors) }
         ensures goes_on { Continues self.old self.new }
     {
+        version_manager::laws::gaps_are_of_others();
         let shared = self.shared;
-        match shared.desk().create(rt, &mut self.pass) {
-            Ok(blob) => Ok(blob),
-            Err(fault) => Err(fault_of(fault)),
-        }
+        told(shared.desk().create(rt, &mut self.pass))
     }
 
     /// Makes a blob that shares the versions of this one up to a published one, and gives its id. One turn.
@@ -147,11 +156,9 @@ impl<'a, D: Door, G: Gate> Session<'a, D, G> {
         ensures faults { RoseBy (fault_count (branch_reply result)) (sum_by D.faults self.old.doors) (sum_by D.faults self.new.doors) }
         ensures goes_on { Continues self.old self.new }
     {
+        version_manager::laws::gaps_are_of_others();
         let shared = self.shared;
-        match shared.desk().branch(rt, &mut self.pass, blob, version) {
-            Ok(branch) => Ok(branch),
-            Err(fault) => Err(fault_of(fault)),
-        }
+        told(shared.desk().branch(rt, &mut self.pass, blob, version))
     }
 
     /// The greatest published version of a blob, and its size. One turn.
@@ -160,6 +167,7 @@ impl<'a, D: Door, G: Gate> Session<'a, D, G> {
         ensures faults { RoseBy (fault_count (reply_of result)) (sum_by D.faults self.old.doors) (sum_by D.faults self.new.doors) }
         ensures goes_on { Continues self.old self.new }
     {
+        version_manager::laws::gaps_are_of_others();
         let shared = self.shared;
         shared.desk().recent(rt, &mut self.pass, blob)
     }
@@ -170,6 +178,7 @@ impl<'a, D: Door, G: Gate> Session<'a, D, G> {
         ensures faults { RoseBy (fault_count (reply_of result)) (sum_by D.faults self.old.doors) (sum_by D.faults self.new.doors) }
         ensures goes_on { Continues self.old self.new }
     {
+        version_manager::laws::gaps_are_of_others();
         let shared = self.shared;
         shared.desk().size(rt, &mut self.pass, blob, version)
     }
@@ -180,6 +189,7 @@ impl<'a, D: Door, G: Gate> Session<'a, D, G> {
         ensures faults { RoseBy (fault_count (reply_of result)) (sum_by D.faults self.old.doors) (sum_by D.faults self.new.doors) }
         ensures goes_on { Continues self.old self.new }
     {
+        version_manager::laws::gaps_are_of_others();
         let shared = self.shared;
         shared.desk().sync(rt, &mut self.pass, blob, version)
     }
@@ -190,6 +200,7 @@ impl<'a, D: Door, G: Gate> Session<'a, D, G> {
         ensures faults { RoseBy (fault_count (reply_of result)) (sum_by D.faults self.old.doors) (sum_by D.faults self.new.doors) }
         ensures goes_on { Continues self.old self.new }
     {
+        version_manager::laws::gaps_are_of_others();
         let shared = self.shared;
         shared.desk().status(rt, &mut self.pass, blob)
     }
@@ -236,6 +247,7 @@ impl<'a, D: Door, G: Gate> Session<'a, D, G> {
         if count > MAX_READ {
             return Err(Fault::ReadTooLong { length: count });
         }
+        version_manager::laws::gaps_are_of_others();
         let shared = self.shared;
         let snapshot = match shared.desk().snapshot_of(rt, &mut self.pass, blob, version) {
             Ok(snapshot) => snapshot,

@@ -17,7 +17,6 @@ ghost use Rattle.client_session.specs.Tickets.{OpenUpdate, HasRow, with_row};
 ghost use Rattle.client_session.specs.Updates.{update_request, start_request, IsNumbered, NotNumbered, Reporting};
 
 use crate::done::{Done, Started};
-use ports::gate::{Gate, Point};
 use crate::session::{Session, fault_of};
 use crate::shared::Shared;
 use crate::storing::store_bytes;
@@ -28,6 +27,7 @@ use border_hints::Ticket;
 use node_store::Row;
 use page_fan::StoreFault;
 use page_store::Door;
+use ports::gate::{Gate, Point};
 use request_form::{Fault, NoMemory};
 use std::sync::{Arc, Wait};
 use std::thread::Threads;
@@ -109,6 +109,7 @@ impl<'a, D: Door, G: Gate> Session<'a, D, G> {
         ensures never_falls { sum_by D.faults self.old.doors ≤ sum_by D.faults self.new.doors }
         ensures goes_on { Continues self.old self.new }
     {
+        version_manager::laws::gaps_are_of_others();
         if let Some(fault) = fault_of_update(self.held.count(), bytes) {
             return Err(fault);
         }
@@ -125,7 +126,10 @@ impl<'a, D: Door, G: Gate> Session<'a, D, G> {
             Ok(pages) => pages,
             Err(fault) => return Err(fault_of_storing(fault)),
         };
-        let ticket = match shared.desk().assign(rt, &mut self.pass, blob, place, &pages) {
+        let ticket = match shared
+            .desk()
+            .assign(rt, &mut self.pass, blob, place, &pages)
+        {
             Ok(ticket) => ticket,
             Err(fault) => return Err(fault_of(fault)),
         };
@@ -272,11 +276,16 @@ impl<'a, D: Door, G: Gate> Session<'a, D, G> {
         let Some(place) = self.held.find(ticket) else {
             return Err(Fault::NoTicket { ticket });
         };
-        let shared = self.shared;
         let Ok(row) = self.row_at(rt, place) else {
             return Err(Fault::NoMemory);
         };
-        match report(rt, shared, &mut self.pass, self.held.at(place).ticket(), row) {
+        match report(
+            rt,
+            self.shared,
+            &mut self.pass,
+            self.held.at(place).ticket(),
+            row,
+        ) {
             Ok(published) => {
                 self.held.remove(place);
                 Ok(published)
@@ -299,7 +308,12 @@ impl<'a, D: Door, G: Gate> Session<'a, D, G> {
         if let Some(row) = self.held.at(place).row()? {
             return Ok(row);
         }
-        let Ok(row) = weave(rt, self.alloc, self.held.at(place).ticket(), self.shared.nodes()) else {
+        let Ok(row) = weave(
+            rt,
+            self.alloc,
+            self.held.at(place).ticket(),
+            self.shared.nodes(),
+        ) else {
             return Err(NoMemory);
         };
         self.gate.at(rt, Point::Woven, &self.pass);

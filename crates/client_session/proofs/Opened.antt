@@ -1,0 +1,37 @@
+-- What a session's fields give to its calls.
+use Rattle.std.proofs.Common.{◌≡◌, sym, ◌∙◌, ap, subst, ℕ, List, Option, Some}
+use Rattle.std.specs.Prelude.{IfSome, slice_set, remove}
+use Rattle.blob_model.specs.declared.call.Event.{Event}
+use Rattle.boxcar.specs.Table.{Shelves}
+use Rattle.page_store.specs.House.{House}
+use Rattle.node_store.specs.Rows.{UpdateRow}
+use Rattle.snapshot.specs.Versions.{Version, IsVersionIn}
+use Rattle.border_hints.specs.Borders.{NodesLieIn}
+use Rattle.version_manager.specs.Log.{MayFinish, desk_at}
+use Rattle.version_manager.specs.declared.journal.DeskFixed.{DeskFixed}
+use Rattle.request_form.specs.Session.{Held}
+use Rattle.client_session.specs.Tickets.{OpenUpdate, all_held, with_row, IsHeldAt}
+use Rattle.client_session.specs.Kept.{IsOpen, IsWoven}
+use Rattle.client_session.proofs.Rows.{all_held-with_row, all_held-remove}
+use Rattle.client_session.proofs.Reports.{IsTaken}
+
+-- the nodes of a version that lies in these houses
+pub nodes_of : (nodes : List Shelves) (houses : List House) (s : Version) → IsVersionIn nodes houses s → NodesLieIn nodes s
+nodes_of nodes houses s h = λ k row lt. (h k row lt).nodes_here
+
+-- an open update with its row may be finished
+pub may_finish : (f : DeskFixed) (log : List (ℕ × Event)) (o : OpenUpdate) (row : UpdateRow) → IsOpen f log o → o.row ≡ Some row → MayFinish o.ticket row log f
+may_finish f log o row open_ is =
+    let woven : IsWoven f.nodes f.houses o.ticket row = subst (λ (x : Option UpdateRow). IfSome x (IsWoven f.nodes f.houses o.ticket)) is open_.row in
+    record { ticket = open_.ticket; row_for = woven.for (desk_at f log) open_.ticket; here = woven.here }
+
+-- the update of that number, once its row is kept
+pub taken_of : (held os : List OpenUpdate) (place number : ℕ) (row : UpdateRow) → (h : IsHeldAt held number place) → os ≡ slice_set held place (with_row h.update row) → IsTaken held os place number h.update
+taken_of held os place number row h is =
+    let same : all_held os ≡ all_held held = ap all_held is ∙ all_held-with_row held place h.update row h.is in
+    record {
+      found = h.held;
+      number_is = h.number_is;
+      same = same;
+      left = all_held-remove os place ∙ (ap (λ (hs : List Held). remove hs place) same ∙ (sym (all_held-remove held place) ∙ sym h.left));
+    }

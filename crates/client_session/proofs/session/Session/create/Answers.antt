@@ -1,0 +1,49 @@
+use Rattle.std.proofs.Common.{◌≡◌, refl, ap}
+use Rattle.blob_model.specs.declared.call.Call.TheVariants as Calls
+use Rattle.blob_model.specs.declared.call.Event.TheVariants as Events
+use Rattle.blob_model.specs.declared.call.Event.{Event}
+use Rattle.blob_model.specs.declared.call.Outcome.TheVariants as Outcomes
+use Rattle.turn_lock.specs.Shown.{Held}
+use Rattle.version_manager.specs.Log.{Changed}
+use Rattle.version_manager.specs.declared.journal.DeskFixed.{DeskFixed}
+use Rattle.version_manager.specs.declared.fault.DeskFault.{DeskFault}
+use Rattle.client_session.proofs.Turns.{Took, took, went_changed}
+use Rattle.client_session.proofs.Standing.{session_after}
+use Rattle.client_session.proofs.Answering.{create_told}
+use Rattle.client_session.proofs.session.Session.create.Goals as goal
+
+pub invariant_of-self : goal.invariant_of-self
+invariant_of-self g c =
+    let i = c.self.inside in
+    let by = i.pass.caller in
+    let fixed = i.shared.now.fixed in
+    let t : Took by i.pass.seen c.create.new.pass.seen (λ before after. Changed fixed (Calls.Create) (Events.Create by) (λ id. Outcomes.Blob id) (λ (x : DeskFault). x) before by c.create.result after) =
+    took c.gaps_are_of_others.ensures fixed i.pass c.create.new.pass (λ before f after. Changed f (Calls.Create) (Events.Create by) (λ id. Outcomes.Blob id) (λ (x : DeskFault). x) before by c.create.result after) c.self.invariant.pass_is.fixed (λ before after x. x.log) c.create.ensures.turned
+    in
+    session_after g.D.Door.is_true i.shared.now i.pass c.create.new.pass i.doors i.room i.held i.next c.self.invariant c.create.ensures.pass
+    (went_changed fixed by i.pass.seen c.create.new.pass.seen (Calls.Create) (Events.Create by) (λ id. Outcomes.Blob id) (λ (x : DeskFault). x) c.create.result t)
+
+pub returns-clause-answers : goal.returns-clause-answers
+returns-clause-answers g c =
+    let i = c.self.inside in
+    let by = i.pass.caller in
+    let fixed = i.shared.now.fixed in
+    let t : Took by i.pass.seen c.create.new.pass.seen (λ before after. Changed fixed (Calls.Create) (Events.Create by) (λ id. Outcomes.Blob id) (λ (x : DeskFault). x) before by c.create.result after) =
+    took c.gaps_are_of_others.ensures fixed i.pass c.create.new.pass (λ before f after. Changed f (Calls.Create) (Events.Create by) (λ id. Outcomes.Blob id) (λ (x : DeskFault). x) before by c.create.result after) c.self.invariant.pass_is.fixed (λ before after x. x.log) c.create.ensures.turned
+    in
+    let same : c.create.new.pass.caller ≡ by = ap (λ (p : Held Event DeskFixed). p.caller) c.create.ensures.pass in
+    rw (← c.self.view_is, c.told.ensures.is, same) (create_told fixed by i.pass.seen c.create.new.pass.seen i.held i.next c.create.result t)
+
+pub returns-clause-goes_on : goal.returns-clause-goes_on
+returns-clause-goes_on g c =
+    let i = c.self.inside in
+    let by = i.pass.caller in
+    let fixed = i.shared.now.fixed in
+    let t : Took by i.pass.seen c.create.new.pass.seen (λ before after. Changed fixed (Calls.Create) (Events.Create by) (λ id. Outcomes.Blob id) (λ (x : DeskFault). x) before by c.create.result after) =
+    took c.gaps_are_of_others.ensures fixed i.pass c.create.new.pass (λ before f after. Changed f (Calls.Create) (Events.Create by) (λ id. Outcomes.Blob id) (λ (x : DeskFault). x) before by c.create.result after) c.self.invariant.pass_is.fixed (λ before after x. x.log) c.create.ensures.turned
+    in
+    rw (← c.self.view_is) (record {
+      store = refl;
+      caller = ap (λ (p : Held Event DeskFixed). p.caller) c.create.ensures.pass;
+      begins = (went_changed fixed by i.pass.seen c.create.new.pass.seen (Calls.Create) (Events.Create by) (λ id. Outcomes.Blob id) (λ (x : DeskFault). x) c.create.result t).begins;
+    })

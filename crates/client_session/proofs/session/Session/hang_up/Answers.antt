@@ -1,0 +1,49 @@
+use Rattle.std.proofs.Common.{◌≡◌, ap, subst, ℕ, ◌+◌, ◌<◌, ◌≤◌, List, ◌∷◌, length, true, false, Bool, arith}
+use Rattle.request_form.specs.Session.{Held}
+use Rattle.request_form.specs.HangUp.{numbers_anew}
+use Rattle.client_session.specs.Sessions.{SessionState, session_of}
+use Rattle.client_session.specs.Tickets.{all_held}
+use Rattle.client_session.specs.HangUp.{GivesUpOne, GivingUp}
+use Rattle.client_session.proofs.HangingUp.{some_held, giving_start, giving_more, hung_up}
+use Rattle.client_session.proofs.session.Session.hang_up.Goals as goal
+
+nothing_more : (n : ℕ) → n + 0 ≡ n
+nothing_more n = omega arith
+
+pub tickets-init : goal.tickets-init
+tickets-init g c =
+    giving_start g.D.Door.faults c.args.self.now
+
+pub tickets-preserved-then-give_up_first : goal.tickets-preserved-then-give_up_first
+tickets-preserved-then-give_up_first g c =
+    let b = c.tickets.self in
+    let some : 0 < length b.held = subst (λ (s : SessionState g.row.D.Denot). 0 < length s.held) c.self-in-tickets.view_is (let n = c.count.ensures.count in let t = c.tickets-test.true in omega arith) in
+    let first = some_held b.held some in
+    let t : Held = first.0 in
+    let ts : List Held = first.1.0 in
+    let is : all_held b.held ≡ t ∷ ts = first.1.1 in
+    let x = c.give_up_first.ensures in
+    let d = c.give_up_first.new.self in
+    let one : GivesUpOne (session_of b) t ts true (session_of d) = subst (λ (z : Bool). GivesUpOne (session_of b) t ts z (session_of d)) c.if-give_up_first.true (x.given_up t ts is) in
+    subst (λ (n : ℕ). GivingUp c.args.self.now d (c.tickets.finished + 1) n) (nothing_more c.tickets.no_memory)
+    (giving_more g.D.Door.faults c.giving_up_goes_on.ensures c.args.self.now b d c.tickets.finished c.tickets.no_memory true t ts c.tickets.invariant is one x.fewer x.doors x.goes_on)
+
+pub tickets-preserved : goal.tickets-preserved
+tickets-preserved g c =
+    let b = c.tickets.self in
+    let some : 0 < length b.held = subst (λ (s : SessionState g.row.D.Denot). 0 < length s.held) c.self-in-tickets.view_is (let n = c.count.ensures.count in let t = c.tickets-test.true in omega arith) in
+    let first = some_held b.held some in
+    let t : Held = first.0 in
+    let ts : List Held = first.1.0 in
+    let is : all_held b.held ≡ t ∷ ts = first.1.1 in
+    let x = c.give_up_first.ensures in
+    let d = c.give_up_first.new.self in
+    let one : GivesUpOne (session_of b) t ts false (session_of d) = subst (λ (z : Bool). GivesUpOne (session_of b) t ts z (session_of d)) c.if-give_up_first.false (x.given_up t ts is) in
+    subst (λ (n : ℕ). GivingUp c.args.self.now d n (c.tickets.no_memory + 1)) (nothing_more c.tickets.finished)
+    (giving_more g.D.Door.faults c.giving_up_goes_on.ensures c.args.self.now b d c.tickets.finished c.tickets.no_memory false t ts c.tickets.invariant is one x.fewer x.doors x.goes_on)
+
+pub returns-clause-hung_up : goal.returns-clause-hung_up
+returns-clause-hung_up g c =
+    let b = c.tickets.self in
+    let none : length b.held ≤ 0 = subst (λ (s : SessionState g.row.D.Denot). length s.held ≤ 0) c.self-in-tickets.view_is (let n = c.count.ensures.count in let t = c.tickets-test.false in omega arith) in
+    hung_up g.D.Door.faults c.args.self.now b c.tickets.finished c.tickets.no_memory _ c.tickets.invariant none (ap (λ (s : SessionState g.row.D.Denot). numbers_anew (session_of s)) c.self-2.view_is)

@@ -1,0 +1,9 @@
+use Rattle.std.proofs.Common.{length}
+use Rattle.client_session.specs.HangUp.{GivingUp}
+use Rattle.client_session.proofs.session.Session.hang_up.Given as goal
+
+abbrev pub invariant-tickets : goal.invariant-tickets
+invariant-tickets g l = GivingUp l.fn.self l.self l.finished l.no_memory
+
+abbrev pub decreases-tickets : goal.decreases-tickets
+decreases-tickets g l = length l.self.held

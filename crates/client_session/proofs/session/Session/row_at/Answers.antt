@@ -1,0 +1,78 @@
+use Rattle.std.proofs.Common.{◌≡◌, sym, ◌∙◌, ap, subst, List, Some}
+use Rattle.std.specs.Prelude.{option_map, slice_get, slice_set}
+use Rattle.std.specs.Arc.{arc_value}
+use Rattle.boxcar.specs.Table.{Shelves}
+use Rattle.page_store.specs.Stored.{LieAmong}
+use Rattle.border_hints.specs.Borders.{NodesLieIn}
+use Rattle.border_hints.specs.Numbered.{NumberedUpdate}
+use Rattle.node_store.specs.Rows.{UpdateRow}
+use Rattle.client_session.specs.Tickets.{OpenUpdate, with_row}
+use Rattle.client_session.specs.Kept.{IsOpen, IsWoven, IsSession}
+use Rattle.client_session.specs.Sessions.{SessionState}
+use Rattle.client_session.proofs.Rows.{at_place, kept_row, same_at}
+use Rattle.client_session.proofs.Holding.{holding_row}
+use Rattle.client_session.proofs.session.Session.row_at.Goals as goal
+
+pub returns-in-Some-clause-kept : goal.returns-in-Some-clause-kept
+returns-in-Some-clause-kept g c = λ o at.
+    let i = c.self.inside in
+    let v = c.args.self.now in
+    let held : i.held ≡ v.held = ap (λ (s : SessionState g.row.D.Denot). s.held) c.self.view_is in
+    let there : slice_get i.held c.args.place ≡ Some o = ap (λ (os : List OpenUpdate). slice_get os c.args.place) held ∙ at in
+    let same : o ≡ c.at.result.now = same_at i.held c.args.place o c.at.result.now there c.at.ensures in
+    let asked : option_map (λ r. arc_value r) c.in_ok-row.field-0 ≡ c.at.result.now.row = c.in_ok-row.ensures in
+    let row : option_map (λ r. arc_value r) c.in_ok-row.field-0 ≡ Some (arc_value c.in-Some.row) = ap (λ r. option_map (λ x. arc_value x) r) c.in-Some.is in
+    let stays : v.held ≡ slice_set v.held c.args.place (with_row o (arc_value c.in-Some.row)) = kept_row v.held c.args.place o (arc_value c.in-Some.row) at (ap (λ (x : OpenUpdate). x.row) same ∙ (sym asked ∙ row)) in
+    ap (λ (os : List OpenUpdate). record { store = v.store; caller = v.caller; log = v.log; held = os; next = v.next; doors = v.doors }) stays
+
+pub weave-requires : goal.weave-requires
+weave-requires g c =
+    let i = c.self.inside in
+    let open_ : IsOpen i.shared.now.fixed i.pass.seen c.at-2.result.now = at_place (IsOpen i.shared.now.fixed i.pass.seen) i.held c.args.place c.at-2.result.now c.at-2.ensures c.self.invariant.holding.open_ in
+    subst (λ (n : List Shelves). NodesLieIn n c.ticket.result.now.snapshot) (sym c.nodes.ensures)
+    (subst (λ (t : NumberedUpdate). NodesLieIn i.shared.now.fixed.nodes t.snapshot) (sym c.ticket.ensures) open_.here.snapshot)
+
+pub invariant_of-self : goal.invariant_of-self
+invariant_of-self g c =
+    let i = c.self.inside in
+    let o : OpenUpdate = c.at-2.result.now in
+    let fixed = i.shared.now.fixed in
+    let open_ : IsOpen fixed i.pass.seen o = at_place (IsOpen fixed i.pass.seen) i.held c.args.place o c.at-2.ensures c.self.invariant.holding.open_ in
+    let pages : LieAmong fixed.houses c.ticket.result.now.pages.pages = subst (λ (t : NumberedUpdate). LieAmong fixed.houses t.pages.pages) (sym c.ticket.ensures) open_.here.pages in
+    let own : IsWoven c.nodes.result.now fixed.houses c.ticket.result.now (arc_value c.in-Ok.row) = record { for = c.in-Ok.ensures.row; here = c.in-Ok.ensures.here fixed.houses pages } in
+    let woven : IsWoven fixed.nodes fixed.houses o.ticket (arc_value c.in-Ok.row) =
+    subst (λ (n : List Shelves). IsWoven n fixed.houses o.ticket (arc_value c.in-Ok.row)) c.nodes.ensures
+    (subst (λ (t : NumberedUpdate). IsWoven c.nodes.result.now fixed.houses t (arc_value c.in-Ok.row)) c.ticket.ensures own)
+    in
+    let s = c.self.invariant in
+    let kept : arc_value c.in-Ok-try_clone.kept ≡ arc_value c.in-Ok.row = c.in-Ok-try_clone.ensures in
+    let held : c.set_row.new.self ≡ slice_set i.held c.args.place (with_row o (arc_value c.in-Ok.row)) =
+    c.set_row.ensures o c.at-2.ensures ∙ ap (λ (r : UpdateRow). slice_set i.held c.args.place (with_row o r)) kept
+    in
+    subst (λ (os : List OpenUpdate). IsSession g.D.Door.is_true i.shared.now i.pass os i.next i.doors i.room) (sym held)
+    (record {
+      pass_is = s.pass_is;
+      holding = holding_row fixed i.pass.seen i.held i.next c.args.place o (arc_value c.in-Ok.row) c.at-2.ensures woven s.holding;
+      housed = s.housed;
+      served = s.served;
+      true_doors = s.true_doors;
+      marks = s.marks;
+    })
+
+pub returns-clause-woven : goal.returns-clause-woven
+returns-clause-woven g c = λ u at.
+    let i = c.self.inside in
+    let o : OpenUpdate = c.at-2.result.now in
+    let fixed = i.shared.now.fixed in
+    let open_ : IsOpen fixed i.pass.seen o = at_place (IsOpen fixed i.pass.seen) i.held c.args.place o c.at-2.ensures c.self.invariant.holding.open_ in
+    let pages : LieAmong fixed.houses c.ticket.result.now.pages.pages = subst (λ (t : NumberedUpdate). LieAmong fixed.houses t.pages.pages) (sym c.ticket.ensures) open_.here.pages in
+    let own : IsWoven c.nodes.result.now fixed.houses c.ticket.result.now (arc_value c.in-Ok.row) = record { for = c.in-Ok.ensures.row; here = c.in-Ok.ensures.here fixed.houses pages } in
+    let woven : IsWoven fixed.nodes fixed.houses o.ticket (arc_value c.in-Ok.row) =
+    subst (λ (n : List Shelves). IsWoven n fixed.houses o.ticket (arc_value c.in-Ok.row)) c.nodes.ensures
+    (subst (λ (t : NumberedUpdate). IsWoven c.nodes.result.now fixed.houses t (arc_value c.in-Ok.row)) c.ticket.ensures own)
+    in
+    let v = c.args.self.now in
+    let there : slice_get i.held c.args.place ≡ Some u = ap (λ (s : SessionState g.row.D.Denot). slice_get s.held c.args.place) c.self.view_is ∙ at in
+    let same : o ≡ u = same_at i.held c.args.place o u c.at-2.ensures there in
+    subst (λ (s : SessionState g.row.D.Denot). IsWoven s.store.fixed.nodes s.store.fixed.houses u.ticket (arc_value c.in-Ok.row)) c.self.view_is
+    (subst (λ (x : OpenUpdate). IsWoven fixed.nodes fixed.houses x.ticket (arc_value c.in-Ok.row)) same woven)

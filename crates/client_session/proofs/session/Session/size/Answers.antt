@@ -1,0 +1,31 @@
+use Rattle.std.proofs.Common.{◌≡◌, ap}
+use Rattle.blob_model.specs.declared.call.Call.TheVariants as Calls
+use Rattle.blob_model.specs.declared.call.Event.{Event}
+use Rattle.turn_lock.specs.Shown.{Held}
+use Rattle.version_manager.specs.Log.{Looked}
+use Rattle.version_manager.specs.declared.journal.DeskFixed.{DeskFixed}
+use Rattle.client_session.proofs.Turns.{Took, took, looked, went_looked}
+use Rattle.client_session.proofs.Standing.{session_after}
+use Rattle.client_session.proofs.session.Session.size.Goals as goal
+
+pub invariant_of-self : goal.invariant_of-self
+invariant_of-self g c =
+    let i = c.self.inside in
+    let by = i.pass.caller in
+    let fixed = i.shared.now.fixed in
+    let t : Took by i.pass.seen c.size.new.pass.seen (λ before after. Looked fixed (Calls.Size c.args.blob c.args.version) before by c.size.result after) =
+    took c.gaps_are_of_others.ensures fixed i.pass c.size.new.pass (λ before f after. Looked f (Calls.Size c.args.blob c.args.version) before by c.size.result after) c.self.invariant.pass_is.fixed (λ before after x. x.log) c.size.ensures.turned
+    in
+    session_after g.D.Door.is_true i.shared.now i.pass c.size.new.pass i.doors i.room i.held i.next c.self.invariant c.size.ensures.pass
+    (went_looked fixed by i.pass.seen c.size.new.pass.seen (Calls.Size c.args.blob c.args.version) c.size.result t)
+
+pub returns-clause-answers : goal.returns-clause-answers
+returns-clause-answers g c =
+    let i = c.self.inside in
+    let by = i.pass.caller in
+    let fixed = i.shared.now.fixed in
+    let t : Took by i.pass.seen c.size.new.pass.seen (λ before after. Looked fixed (Calls.Size c.args.blob c.args.version) before by c.size.result after) =
+    took c.gaps_are_of_others.ensures fixed i.pass c.size.new.pass (λ before f after. Looked f (Calls.Size c.args.blob c.args.version) before by c.size.result after) c.self.invariant.pass_is.fixed (λ before after x. x.log) c.size.ensures.turned
+    in
+    let same : c.size.new.pass.caller ≡ by = ap (λ (p : Held Event DeskFixed). p.caller) c.size.ensures.pass in
+    rw (← c.self.view_is, same) (looked fixed by i.pass.seen c.size.new.pass.seen (Calls.Size c.args.blob c.args.version) c.size.result i.held i.next t)
