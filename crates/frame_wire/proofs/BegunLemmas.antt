@@ -1,6 +1,6 @@
 -- Frames that have begun, seen as their length and the bytes that have come behind it.
-use Rattle.std.proofs.Common.{◌≡◌, ◌∙◌, ℕ, zero, suc, ◌+◌, ◌-◌, ◌^◌, ◌<◌, ◌≤◌, nat_lt, Bool, cond, true, false, List, [], ◌∷◌, ◌++◌, length, take, drop, get_or, replicate, Some, None, refl, sym, ap, ap₂, subst, arith, append_assoc, append-nil, length-append}
-use Rattle.std.proofs.lemmas.List.{length-replicate, length-take-le}
+use Rattle.std.proofs.Common.{◌≡◌, ◌∙◌, ℕ, zero, suc, ◌+◌, ◌-◌, ◌^◌, ◌<◌, ◌≤◌, nat_lt, Bool, cond, true, false, List, [], ◌∷◌, ◌++◌, length, drop, replicate, None, refl, sym, ap, arith, append_assoc, length-append}
+use Rattle.std.proofs.lemmas.List.{length-replicate}
 use Rattle.std.proofs.lemmas.Bool.Decides.{nat_tests}
 use Rattle.byteorder.specs.Endian.{big_bytes}
 use Rattle.byteorder.specs.Numbers.{big_number-reads_back, length-bytes_high_first}
@@ -11,7 +11,7 @@ use Rattle.frame_wire.specs.Requests.{request_of}
 use Rattle.frame_wire.specs.Frames.{max_frame, length_of, heard_as, item_of, is_whole, heard}
 use Rattle.frame_wire.specs.Begun.{GoesOnAs, opened}
 use Rattle.frame_wire.specs.Taken.{IsOpen}
-use Rattle.frame_wire.proofs.HeardLemmas.{Alike, alike_on, whole_heard, is_whole_by}
+use Rattle.frame_wire.proofs.HeardLemmas.{alike_on, is_whole_by}
 
 pub opened-length : (n : ℕ) (bytes : List ℕ) → length (opened n bytes) ≡ 4 + length bytes
 unfolding opened

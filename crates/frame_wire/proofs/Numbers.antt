@@ -1,5 +1,5 @@
 -- Bytes are those of the number that they make.
-use Rattle.std.proofs.Common.{◌≡◌, ◌∙◌, ℕ, zero, suc, ◌+◌, ◌*◌, ◌/◌, ◌^◌, ◌<◌, ◌≤◌, List, [], ◌∷◌, ◌++◌, length, slice_index, refl, sym, ap, ap₂, arith, append-nil, inl, inr}
+use Rattle.std.proofs.Common.{◌≡◌, ◌∙◌, ℕ, zero, suc, ◌+◌, ◌*◌, ◌/◌, ◌^◌, ◌<◌, ◌≤◌, List, [], ◌∷◌, length, slice_index, refl, sym, ap, ap₂, arith, append-nil, inl, inr}
 use Rattle.std.proofs.Math.Nat.{add-mul, mod-lt, mul-le-mul_right}
 use Rattle.std.proofs.lemmas.Bool.{cases_order}
 use Rattle.std.specs.Int.{byte_at, bytes_high_first}

@@ -1,5 +1,5 @@
 -- Bytes taken off the front of a piece, and whole frames.
-use Rattle.std.proofs.Common.{◌≡◌, ◌∙◌, ℕ, zero, suc, ◌+◌, ◌-◌, ◌^◌, ◌<◌, ◌≤◌, ◌==◌, true, false, List, [], ◌∷◌, ◌++◌, length, take, drop, take-add, get_or, replicate, refl, sym, ap, arith, append_assoc, append-nil, length-append, length-drop}
+use Rattle.std.proofs.Common.{◌≡◌, ◌∙◌, ℕ, ◌+◌, ◌-◌, ◌<◌, ◌≤◌, ◌==◌, true, false, List, [], ◌∷◌, ◌++◌, length, take, drop, take-add, get_or, replicate, refl, sym, ap, arith, append_assoc, length-append, length-drop}
 use Rattle.std.proofs.lemmas.List.{length-replicate, length-take-le, take_all}
 use Rattle.std.proofs.lemmas.Bool.{false≢true}
 use Rattle.std.proofs.lemmas.Bool.Decides.{nat_tests}
@@ -7,9 +7,9 @@ use Rattle.arrayvec.specs.ArrayVec.{ArrayVec}
 use Rattle.request_form.specs.Stream.{after_item}
 use Rattle.request_form.specs.declared.form.Heard.{Heard}
 use Rattle.frame_wire.specs.Come.{Come, TakesBytes}
-use Rattle.frame_wire.specs.Frames.{max_frame, item_of, is_whole, heard}
+use Rattle.frame_wire.specs.Frames.{item_of, is_whole, heard}
 use Rattle.frame_wire.specs.Begun.{GoesOnAs, opened, begun_bytes, is_complete, IsBegun, TakesPart}
-use Rattle.frame_wire.specs.Taken.{IsOpen, Gives}
+use Rattle.frame_wire.specs.Taken.{IsOpen}
 use Rattle.frame_wire.specs.declared.begun.Begun.{Begun}
 use Rattle.frame_wire.specs.declared.begun.Begun.TheVariants.{Length, Counted, Asked, Wrong}
 use Rattle.frame_wire.proofs.HeardLemmas.{whole_heard, whole_is}

@@ -1,7 +1,6 @@
 -- A frame that has begun, and the bytes in whose place stands what is kept of it.
 use Rattle.std.specs.Prelude.{◌≡◌, ◌+◌, ◌-◌, ◌<◌, ◌≤◌, ◌^◌, ◌==◌, ℕ, Bool, false, List, [], ◌++◌, length, take, replicate}
 use Rattle.byteorder.specs.Endian.{big_bytes}
-use Rattle.frame_wire.specs.Come.{Come}
 use Rattle.frame_wire.specs.Frames.{max_frame, heard}
 use Rattle.frame_wire.specs.declared.begun.Dropped.{Dropped}
 use Rattle.frame_wire.specs.declared.begun.Begun.{Begun}

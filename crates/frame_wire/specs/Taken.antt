@@ -1,5 +1,5 @@
 -- What is taken off the front of a piece, and what a frame gives.
-use Rattle.std.specs.Prelude.{◌≡◌, ◌+◌, ◌<◌, ◌≤◌, ℕ, true, false, List, [], ◌++◌, length, take, Option, Some, None}
+use Rattle.std.specs.Prelude.{◌≡◌, ◌+◌, ◌<◌, ◌≤◌, ℕ, true, List, [], ◌++◌, length, take, Option, Some, None}
 use Rattle.request_form.specs.Stream.{after_item, IsWellHeard}
 use Rattle.request_form.specs.declared.form.Heard.{Heard}
 use Rattle.frame_wire.specs.Frames.{length_of, heard}

@@ -1,4 +1,4 @@
-use Rattle.std.proofs.Common.{ℕ, ◌-◌, Bool, List, ◌∷◌, length, sym, ap, ◌∙◌}
+use Rattle.std.proofs.Common.{ℕ, ◌∷◌, sym, ap, ◌∙◌}
 use Rattle.frame_wire.specs.Requests.{request_of}
 use Rattle.frame_wire.specs.Operations.{fits}
 use Rattle.frame_wire.proofs.BegunLemmas.{goes_wrong}

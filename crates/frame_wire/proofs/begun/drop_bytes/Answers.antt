@@ -1,4 +1,4 @@
-use Rattle.std.proofs.Common.{◌≡◌, ℕ, ◌+◌, ◌-◌, ◌<◌, length, take, arith}
+use Rattle.std.proofs.Common.{◌≡◌, ◌-◌, length, take, arith}
 use Rattle.std.proofs.lemmas.List.{length-take-le}
 use Rattle.frame_wire.proofs.BegunLemmas.{goes_on_wrong}
 use Rattle.frame_wire.proofs.begun.drop_bytes.Goals as goal

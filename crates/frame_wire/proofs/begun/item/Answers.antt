@@ -1,4 +1,4 @@
-use Rattle.std.proofs.Common.{◌+◌, length, sym, ap, ◌∙◌}
+use Rattle.std.proofs.Common.{◌+◌, length, ap, ◌∙◌}
 use Rattle.frame_wire.specs.Frames.{heard_as}
 use Rattle.frame_wire.proofs.BegunLemmas.{item_short, item_long, item_bad}
 use Rattle.frame_wire.proofs.begun.item.Goals as goal

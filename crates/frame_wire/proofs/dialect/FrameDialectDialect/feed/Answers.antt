@@ -1,4 +1,3 @@
-use Rattle.std.proofs.Common.{◌∙◌, List, ℕ, ◌++◌, Result, OnOk, ap, subst}
 use Rattle.frame_wire.proofs.TakenLemmas.{tail_is}
 use Rattle.frame_wire.proofs.DialectLemmas.{fed, fed_straight, none_left, as_added}
 use Rattle.frame_wire.proofs.dialect.FrameDialectDialect.feed.Goals as goal
