@@ -1,0 +1,95 @@
+-- Worked rows, computed from the definitions alone. What they say is what the product's tables give.
+use Rattle.std.specs.Prelude.{◌≡◌, ℕ, List, [], ◌∷◌, ◌++◌, true, false, refl, codes}
+use Rattle.request_form.specs.Stream.{Stream}
+use Rattle.request_form.specs.declared.form.Request.TheVariants as Requests
+use Rattle.request_form.specs.declared.form.Reply.TheVariants as Replies
+use Rattle.request_form.specs.declared.form.Heard.{Heard}
+use Rattle.request_form.specs.declared.form.Heard.TheVariants.{Asked, Wrong}
+use Rattle.request_form.specs.declared.form.Fault.TheVariants as Faults
+use Rattle.frame_wire.specs.Frames.{heard}
+use Rattle.frame_wire.specs.Said.{field, wide_field, framed, said}
+
+-- a stream that ends behind a whole frame
+whole : List Heard → Stream
+whole items = record { items = items; whole = items; cut = false }
+
+-- a small number in 8 bytes
+small : ℕ → List ℕ
+small n = 0 ∷ 0 ∷ 0 ∷ 0 ∷ 0 ∷ 0 ∷ 0 ∷ n ∷ []
+
+-- a small number of bytes, and these bytes
+counted : ℕ → List ℕ → List ℕ
+counted n bytes = 0 ∷ 0 ∷ 0 ∷ n ∷ bytes
+
+-- ---- what streams say
+
+nothing_heard : heard [] ≡ whole []
+unfolding whole
+nothing_heard = refl
+
+create_and_append_heard : heard (counted 1 (1 ∷ []) ++ counted 12 (2 ∷ small 1 ++ codes "abc")) ≡ whole (Asked Requests.Create ∷ Asked (Requests.Append 1 (codes "abc")) ∷ [])
+unfolding whole counted small
+create_and_append_heard = refl
+
+read_heard : heard (counted 33 (7 ∷ small 1 ++ small 1 ++ small 0 ++ small 3) ++ counted 1 (13 ∷ [])) ≡ whole (Asked (Requests.Read 1 1 0 3) ∷ Asked Requests.Quit ∷ [])
+unfolding whole counted small
+read_heard = refl
+
+-- a length of 0, and then a part of a length
+no_bytes_heard : heard (0 ∷ 0 ∷ 0 ∷ 0 ∷ 0 ∷ 0 ∷ 0 ∷ []) ≡ record { items = Wrong Faults.BadFrame ∷ []; whole = Wrong Faults.BadFrame ∷ []; cut = true }
+no_bytes_heard = refl
+
+-- a byte left over, and the next frame
+left_over_heard : heard (counted 10 (6 ∷ small 1 ++ 0 ∷ []) ++ counted 1 (1 ∷ [])) ≡ whole (Wrong Faults.BadFrame ∷ Asked Requests.Create ∷ [])
+unfolding whole counted small
+left_over_heard = refl
+
+-- a field of 7 bytes
+short_heard : heard (counted 8 (6 ∷ 0 ∷ 0 ∷ 0 ∷ 0 ∷ 0 ∷ 0 ∷ 1 ∷ [])) ≡ whole (Wrong Faults.BadFrame ∷ [])
+unfolding whole counted
+short_heard = refl
+
+-- no such operation
+unknown_heard : heard (counted 1 (14 ∷ []) ++ counted 1 (0 ∷ [])) ≡ whole (Wrong Faults.BadFrame ∷ Wrong Faults.BadFrame ∷ [])
+unfolding whole counted
+unknown_heard = refl
+
+-- an update without bytes
+empty_update_heard : heard (counted 9 (2 ∷ small 1)) ≡ whole (Asked (Requests.Append 1 []) ∷ [])
+unfolding whole counted small
+empty_update_heard = refl
+
+-- a frame that is too long, of which the length alone has come, and one that ends before its last byte
+cut_heard : (heard (255 ∷ 255 ∷ 255 ∷ 255 ∷ []) ≡ record { items = []; whole = []; cut = true }) × (heard (counted 9 (6 ∷ 0 ∷ [])) ≡ record { items = []; whole = []; cut = true })
+unfolding counted
+cut_heard = (refl, refl)
+
+-- ---- how replies are framed
+
+bye_said : said Replies.Bye ≡ counted 1 (141 ∷ [])
+unfolding framed counted
+bye_said = refl
+
+created_said : said (Replies.Created 1) ≡ counted 9 (129 ∷ small 1)
+unfolding framed field counted small
+created_said = refl
+
+appended_said : said (Replies.Appended 1 0 3) ≡ counted 25 (130 ∷ small 1 ++ small 0 ++ small 3)
+unfolding framed field counted small
+appended_said = refl
+
+content_said : said (Replies.Content (codes "abc")) ≡ counted 4 (135 ∷ codes "abc")
+unfolding framed counted
+content_said = refl
+
+bad_frame_said : said (Replies.Refused Faults.BadFrame) ≡ counted 9 (255 ∷ small 19)
+unfolding framed field counted small
+bad_frame_said = refl
+
+not_published_said : said (Replies.Refused (Faults.NotPublished 1 0)) ≡ counted 25 (255 ∷ small 2 ++ small 1 ++ small 0)
+unfolding framed field counted small
+not_published_said = refl
+
+range_said : said (Replies.Refused (Faults.RangePastSize 18446744073709551616 6)) ≡ counted 33 (255 ∷ small 12 ++ small 1 ++ small 0 ++ small 6)
+unfolding framed field wide_field counted small
+range_said = refl

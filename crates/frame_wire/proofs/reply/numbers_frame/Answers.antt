@@ -1,0 +1,19 @@
+use Rattle.std.proofs.Common.{◌≡◌, ◌∙◌, ◌+◌, ◌*◌, ℕ, List, ◌∷◌, ◌++◌, length, take, get_or, ap, arith}
+use Rattle.frame_wire.specs.Said.{field, fields}
+use Rattle.frame_wire.specs.Begun.{opened}
+use Rattle.frame_wire.proofs.ReplyLemmas.{numbers_more, framed_numbers}
+use Rattle.frame_wire.proofs.reply.numbers_frame.Goals as goal
+
+pub loop-number-preserved : goal.loop-number-preserved
+loop-number-preserved c =
+    let ns = c.args.numbers.now in
+    let n = 1 + 8 * length ns in
+    c.in_ok-add.ensures
+    ∙ ap (λ (l : List ℕ). l ++ field (get_or ns c.loop-number.number-index 0)) c.loop-number.invariant
+    ∙ numbers_more n c.args.operation c.loop-number.number-index ns c.loop-number-test.true
+
+pub returns : goal.returns
+returns c =
+    let ns = c.args.numbers.now in
+    let all : c.loop-number.number-index ≡ length ns = omega arith in
+    c.loop-number.invariant ∙ ap (λ (i : ℕ). opened (1 + 8 * length ns) (c.args.operation ∷ fields (take i ns))) all ∙ framed_numbers c.args.operation ns

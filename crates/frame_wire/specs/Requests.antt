@@ -1,0 +1,75 @@
+-- The operations of requests, and what the fields behind each make.
+use Rattle.std.specs.Prelude.{ℕ, ◌==◌, nat_le, if◌then◌else◌, List, [], ◌∷◌, length, drop, Option, Some, None}
+use Rattle.std.specs.Option.{option_map}
+use Rattle.byteorder.specs.Endian.{big_number}
+use Rattle.request_form.specs.declared.form.Request.{Request}
+use Rattle.request_form.specs.declared.form.Request.TheVariants as Requests
+
+-- ---- what stands behind an operation
+
+-- the number in the 8 bytes from that place on
+abbrev pub number_at : ℕ → List ℕ → ℕ
+number_at place fields = big_number 8 (drop place fields)
+
+-- one number, and nothing else
+abbrev pub one_number : List ℕ → Option ℕ
+one_number fields = if length fields == 8 then Some (number_at 0 fields) else None
+
+abbrev pub two_numbers : List ℕ → Option (ℕ × ℕ)
+two_numbers fields = if length fields == 16 then Some (number_at 0 fields, number_at 8 fields) else None
+
+abbrev pub four_numbers : List ℕ → Option ((ℕ × ℕ) × (ℕ × ℕ))
+four_numbers fields =
+    if length fields == 32 then Some ((number_at 0 fields, number_at 8 fields), (number_at 16 fields, number_at 24 fields)) else None
+
+-- a number, and all that is left are bytes
+abbrev pub number_and_bytes : List ℕ → Option (ℕ × List ℕ)
+number_and_bytes fields = if nat_le 8 (length fields) then Some (number_at 0 fields, drop 8 fields) else None
+
+abbrev pub two_numbers_and_bytes : List ℕ → Option ((ℕ × ℕ) × List ℕ)
+two_numbers_and_bytes fields =
+    if nat_le 16 (length fields) then Some ((number_at 0 fields, number_at 8 fields), drop 16 fields) else None
+
+-- ---- the operations
+
+-- an operation's number, and the request that the fields behind it make
+pub record Form : Type 0 where
+  pub operation : ℕ
+  pub makes : List ℕ → Option Request
+
+-- an operation whose fields are read so
+abbrev pub form : {A : Type 0} → ℕ → (List ℕ → Option A) → (A → Request) → Form
+form operation fields request = record { operation = operation; makes = λ bytes. option_map request (fields bytes) }
+
+-- a request without fields
+abbrev pub alone : Request → List ℕ → Option Request
+alone request [] = Some request
+alone request (b ∷ bs) = None
+
+-- the table of operations; no two have one number
+abbrev pub forms : List Form
+forms =
+    record { operation = 1; makes = alone Requests.Create }
+    ∷ form 2 number_and_bytes (λ f. Requests.Append f.0 f.1)
+    ∷ form 3 two_numbers_and_bytes (λ f. Requests.Write f.0.0 f.0.1 f.1)
+    ∷ form 4 number_and_bytes (λ f. Requests.StartAppend f.0 f.1)
+    ∷ form 5 two_numbers_and_bytes (λ f. Requests.StartWrite f.0.0 f.0.1 f.1)
+    ∷ form 6 one_number (λ ticket. Requests.Finish ticket)
+    ∷ form 7 four_numbers (λ f. Requests.Read f.0.0 f.0.1 f.1.0 f.1.1)
+    ∷ form 8 one_number (λ blob. Requests.Recent blob)
+    ∷ form 9 two_numbers (λ f. Requests.Size f.0 f.1)
+    ∷ form 10 two_numbers (λ f. Requests.Sync f.0 f.1)
+    ∷ form 11 one_number (λ blob. Requests.Status blob)
+    ∷ form 12 two_numbers (λ f. Requests.Branch f.0 f.1)
+    ∷ record { operation = 13; makes = alone Requests.Quit }
+    ∷ []
+
+-- what the form with that operation makes of the bytes behind it
+abbrev pub request_in : List Form → ℕ → List ℕ → Option Request
+request_in [] operation fields = None
+request_in (form ∷ others) operation fields = if operation == form.operation then form.makes fields else request_in others operation fields
+
+-- the request that the bytes counted by a frame's length spell, where they spell one
+abbrev pub request_of : List ℕ → Option Request
+request_of [] = None
+request_of (operation ∷ fields) = request_in forms operation fields

@@ -1,0 +1,17 @@
+//! Requests and replies as frames of bytes: which requests they spell, and how replies are framed.
+//!
+//! A stream of frames is read by `FrameDialect`. What it hears is the definition `heard` of the bytes that it was fed,
+//! wherever they were cut into pieces, and a reply is framed as `said` tells.
+#![tactic(auto)]
+
+ghost use Rattle.std.specs.Prelude.{◌≡◌};
+
+mod begun;
+mod dialect;
+mod fields;
+mod frame;
+mod number;
+mod operation;
+mod reply;
+
+pub use dialect::FrameDialect;
