@@ -2,6 +2,12 @@
 #![tactic(auto)]
 
 #[cfg(test)]
+mod files;
+#[cfg(test)]
 mod gate;
 #[cfg(test)]
+mod listener;
+#[cfg(test)]
 mod tally;
+#[cfg(test)]
+mod tcp;

@@ -2,6 +2,7 @@ ghost use Rattle.std.specs.Prelude.{◌≡◌, ℕ, ◌+◌, ◌-◌, ◌<◌, �
 ghost use Rattle.ports.specs.Counts.{counted, RoseBy};
 
 use crate::count::count_up;
+use crate::plan::Plan;
 use crate::stream::{Ends, Sink, Source, Taken, Written};
 use std::alloc::Global;
 use std::marker::Model;
@@ -16,8 +17,7 @@ pub struct MemSource {
     bytes: Vec<u8>,
     at: usize,
     piece: usize,
-    failing: Vec<bool>,
-    calls: usize,
+    plan: Plan,
     faults: u64,
     ends: u64,
 }
@@ -32,7 +32,7 @@ impl Model for MemSource {
       given = take s.at s.bytes.items;
       left = drop s.at s.bytes.items;
       piece = s.piece;
-      plan = drop s.calls s.failing.items;
+      plan = s.plan;
       faults = s.faults;
       ends = s.ends;
     } };
@@ -41,8 +41,6 @@ impl Model for MemSource {
 }
 
 impl MemSource {
-    ghost use Rattle.ports.specs.Memory.{fails_next};
-
     /// A source of these bytes, in pieces of at most `piece` bytes, at least one. Read number `i`, from
     /// 0, fails where `failing[i]` says so; a read past the end of that list doesn't fail.
     pub fn new(bytes: Vec<u8>, piece: usize, failing: Vec<bool>) -> MemSource
@@ -53,30 +51,9 @@ impl MemSource {
             bytes,
             at: 0,
             piece,
-            failing,
-            calls: 0,
+            plan: Plan::new(failing),
             faults: 0,
             ends: 0,
-        }
-    }
-
-    // Counts this call, and says whether it fails.
-    fn fails_now(&mut self) -> bool
-        ensures fails { result ≡ fails_next self.old.plan }
-        ensures plan { self.new.plan ≡ drop 1 self.old.plan }
-        ensures given { self.new.given ≡ self.old.given }
-        ensures left { self.new.left ≡ self.old.left }
-        ensures piece { self.new.piece ≡ self.old.piece }
-        ensures faults { self.new.faults ≡ self.old.faults }
-        ensures ends { self.new.ends ≡ self.old.ends }
-    {
-        match self.failing.get(self.calls) {
-            None => false,
-            Some(fails) => {
-                let fails = *fails;
-                self.calls += 1;
-                fails
-            }
         }
     }
 
@@ -158,7 +135,7 @@ impl Source for MemSource {
         ensures same_pieces { self.new.piece ≡ self.old.piece }
         ensures calm { fails_next self.old.plan ≡ false → self.new.faults ≡ self.old.faults }
     {
-        if self.fails_now() {
+        if self.plan.fails_now() {
             self.faults = count_up(self.faults);
             return Taken::Failed;
         }

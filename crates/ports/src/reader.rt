@@ -1,7 +1,7 @@
 ghost use Rattle.std.specs.Prelude.{◌≡◌, ◌<◌, ◌≤◌, length};
 ghost use Rattle.std.specs.Io.KnownBytes.{Consumes};
-ghost use Rattle.ports.specs.Counts.{counted};
-ghost use Rattle.ports.specs.Stream.{taken_bytes, IsPiece, EndsAtEnd, IsWithin};
+ghost use Rattle.ports.specs.Counts.{counted, RoseBy};
+ghost use Rattle.ports.specs.Stream.{taken_bytes, IsPiece, EndsAtEnd, CountsEnd, IsWithin, read_fault_count};
 
 use crate::count::count_up;
 use crate::stream::{Ends, Source, Taken};
@@ -75,7 +75,7 @@ fn empty_piece() -> [u8; PIECE] {
 
 // One read into the front of a buffer. The reader gets bytes of its own to fill, since std lets it
 // write past those that it answers, and the rest of the buffer is to stay.
-fn read_front<R: Read>(reader: &mut R, buf: &mut [u8]) -> Taken
+pub(crate) fn read_front<R: Read>(reader: &mut R, buf: &mut [u8]) -> Taken
     requires { 0 < length buf.old }
     ensures piece { IsPiece buf.old buf.new result }
     ensures left { Consumes (R.remaining reader.old) (R.remaining reader.new) (taken_bytes buf.new result) }
@@ -109,7 +109,20 @@ impl<R: Read> Ends for ReaderSource<R> {
 }
 
 impl<R: Read> Source for ReaderSource<R> {
-    fn read(&mut self, buf: &mut [u8]) -> Taken {
+    /// Takes what one read of the reader gives. Only a fault counts one.
+    fn read(&mut self, buf: &mut [u8]) -> Taken
+        requires { 0 < length buf.old }
+
+        // What each source ensures.
+        ensures piece { IsPiece buf.old buf.new result }
+        ensures left { Consumes (⟦<ReaderSource<R> as Ends>⟧.left self.old) (⟦<ReaderSource<R> as Ends>⟧.left self.new) (taken_bytes buf.new result) }
+        ensures end { EndsAtEnd (⟦<ReaderSource<R> as Ends>⟧.left self.new) result }
+        ensures read_faults { RoseBy (read_fault_count result) (⟦<ReaderSource<R> as Ends>⟧.read_faults self.old) (⟦<ReaderSource<R> as Ends>⟧.read_faults self.new) }
+        ensures ends { CountsEnd result (⟦<ReaderSource<R> as Ends>⟧.ends self.old) (⟦<ReaderSource<R> as Ends>⟧.ends self.new) }
+
+        // That only a fault counts one.
+        ensures count { ⟦<ReaderSource<R> as Ends>⟧.read_faults self.new ≡ counted (read_fault_count result) (⟦<ReaderSource<R> as Ends>⟧.read_faults self.old) }
+    {
         let taken = read_front(&mut self.reader, buf);
         match taken {
             Taken::Got(_) => {}

@@ -1,6 +1,7 @@
 ghost use Rattle.std.specs.Prelude.{◌≡◌, ◌<◌, ◌≤◌, length, take};
 ghost use Rattle.std.specs.Io.KnownBytes.{Appends};
-ghost use Rattle.ports.specs.Counts.{counted};
+ghost use Rattle.ports.specs.Counts.{counted, RoseBy};
+ghost use Rattle.ports.specs.Stream.{appended_bytes, LeavesOut, write_fault_count};
 
 use crate::count::count_up;
 use crate::stream::{Ends, Sink, Written};
@@ -54,7 +55,7 @@ fn write_some<W: Write>(writer: &mut W, bytes: &[u8]) -> usize
 }
 
 // Writes until all bytes are written or the writer fails, and says how many were.
-fn write_front<W: Write>(writer: &mut W, bytes: &[u8]) -> usize
+pub(crate) fn write_front<W: Write>(writer: &mut W, bytes: &[u8]) -> usize
     ensures within { result ≤ length bytes.now }
     ensures written { Appends (W.contents writer.old) (W.contents writer.new) (take result bytes.now) }
 {
@@ -88,7 +89,16 @@ impl<W: Write> Ends for WriterSink<W> {
 }
 
 impl<W: Write> Sink for WriterSink<W> {
-    fn write(&mut self, bytes: &[u8]) -> Written {
+    /// Writes until the writer has taken all, or fails. Only a fault counts one.
+    fn write(&mut self, bytes: &[u8]) -> Written
+        // What each sink ensures.
+        ensures part { LeavesOut bytes.now result }
+        ensures written { Appends (⟦<WriterSink<W> as Ends>⟧.written self.old) (⟦<WriterSink<W> as Ends>⟧.written self.new) (appended_bytes bytes.now result) }
+        ensures write_faults { RoseBy (write_fault_count result) (⟦<WriterSink<W> as Ends>⟧.write_faults self.old) (⟦<WriterSink<W> as Ends>⟧.write_faults self.new) }
+
+        // That only a fault counts one.
+        ensures count { ⟦<WriterSink<W> as Ends>⟧.write_faults self.new ≡ counted (write_fault_count result) (⟦<WriterSink<W> as Ends>⟧.write_faults self.old) }
+    {
         let n = write_front(&mut self.writer, bytes);
         if n == bytes.len() {
             return Written::Whole;

@@ -1,0 +1,55 @@
+-- What a listener's calls do, by their answers.
+use Rattle.std.specs.Prelude.{◌≡◌, ℕ, Bool, true, false, List, [], ◌∷◌}
+use Rattle.ports.specs.declared.listener.Accepted.{Accepted}
+use Rattle.ports.specs.declared.listener.Accepted.TheVariants as Answers
+use Rattle.ports.specs.Memory.{fails_next}
+
+-- the faults that the answer of `listen` tells of
+abbrev pub refusals : Bool → ℕ
+refusals true = 0
+refusals false = 1
+
+-- it listens where `listen` answered true, and else where it listened before
+abbrev pub OnListening : Bool → Bool → Bool → Type 0
+OnListening true before after = after ≡ true
+OnListening false before after = after ≡ before
+
+module _ {P : Type 0} where
+  -- the faults that an accept tells of
+  abbrev pub accept_faults : Accepted P → ℕ
+  accept_faults (Answers.Peer p) = 0
+  accept_faults Answers.Done = 0
+  accept_faults Answers.Failed = 1
+
+  -- the peers that an accept handed out
+  abbrev pub peers_in : Accepted P → ℕ
+  peers_in (Answers.Peer p) = 1
+  peers_in Answers.Done = 0
+  peers_in Answers.Failed = 0
+
+  -- whether Done was answered, now or before
+  abbrev pub done_after : Accepted P → Bool → Bool
+  done_after (Answers.Peer p) before = before
+  done_after Answers.Done before = true
+  done_after Answers.Failed before = before
+
+-- A listener in memory: its address, whether it listens, the peers that are still to come, which of its next accepts fail, and its counts.
+pub record Waiting (P : Type 0) : Type 0 where
+  pub address : List ℕ
+  pub listens : Bool
+  pub peers : List P
+  pub plan : List Bool
+  pub handed : ℕ
+  pub done : Bool
+  pub faults : ℕ
+
+module _ {P : Type 0} where
+  -- the first peer that is still to come
+  abbrev pub next_peer : List P → Accepted P
+  next_peer [] = Answers.Done
+  next_peer (p ∷ peers) = Answers.Peer p
+
+  -- what an accept answers, by whether it fails and the peers that are still to come
+  abbrev pub accept_answer : Bool → List P → Accepted P
+  accept_answer true peers = Answers.Failed
+  accept_answer false peers = next_peer peers

@@ -1,0 +1,212 @@
+ghost use Rattle.std.specs.Prelude.{◌≡◌, ◌<◌, true, false, length};
+ghost use Rattle.ports.specs.Counts.{RoseBy, counted};
+ghost use Rattle.ports.specs.Listener.{refusals, accept_faults, peers_in, done_after, OnListening};
+ghost use Rattle.ports.specs.Stream.{IsPiece, CountsEnd, LeavesOut, read_fault_count, write_fault_count};
+
+use crate::count::count_up;
+use crate::listener::{Accepted, Listener};
+use crate::reader::read_front;
+use crate::stream::{Ends, Sink, Source, Taken, Written};
+use crate::writer::write_front;
+use std::io::{ErrorKind, Read, Write};
+use std::net::{Net, OpenListener, OpenStream, TcpListener};
+use std::sync::Wait;
+
+/// A connection as a stream. What goes through it is not known.
+///
+/// It reads as `ReaderSource` does and writes as `WriterSink` does: what a signal interrupted is no fault and
+/// is tried again.
+#[derive(Drop)]
+pub struct TcpPeer<S> {
+    stream: S,
+    read_faults: u64,
+    write_faults: u64,
+    ends: u64,
+}
+
+impl<S: Read + Write> TcpPeer<S> {
+    /// A peer over this connection, with no fault counted.
+    pub fn new(stream: S) -> TcpPeer<S>
+        ensures read_faults { ⟦<TcpPeer<S> as Ends>⟧.read_faults result ≡ 0 }
+        ensures write_faults { ⟦<TcpPeer<S> as Ends>⟧.write_faults result ≡ 0 }
+        ensures ends { ⟦<TcpPeer<S> as Ends>⟧.ends result ≡ 0 }
+    {
+        TcpPeer {
+            stream,
+            read_faults: 0,
+            write_faults: 0,
+            ends: 0,
+        }
+    }
+}
+
+impl<S: Read + Write> Ends for TcpPeer<S> {
+    ghost use Rattle.std.specs.Prelude.{None, []};
+
+    ghost given = { λ p. None };
+
+    ghost left = { λ p. None };
+
+    ghost written = { λ p. None };
+
+    ghost read_faults = { λ p. p.read_faults };
+
+    ghost write_faults = { λ p. p.write_faults };
+
+    ghost ends = { λ p. p.ends };
+
+    ghost objects = { λ p. [] };
+}
+
+impl<S: Read + Write> Source for TcpPeer<S> {
+    /// Takes what one read of the connection gives. Only a fault counts one.
+    fn read(&mut self, buf: &mut [u8]) -> Taken
+        requires { 0 < length buf.old }
+
+        // What each source ensures.
+        ensures piece { IsPiece buf.old buf.new result }
+        ensures read_faults { RoseBy (read_fault_count result) (⟦<TcpPeer<S> as Ends>⟧.read_faults self.old) (⟦<TcpPeer<S> as Ends>⟧.read_faults self.new) }
+        ensures ends { CountsEnd result (⟦<TcpPeer<S> as Ends>⟧.ends self.old) (⟦<TcpPeer<S> as Ends>⟧.ends self.new) }
+        ensures write_faults { ⟦<TcpPeer<S> as Ends>⟧.write_faults self.new ≡ ⟦<TcpPeer<S> as Ends>⟧.write_faults self.old }
+
+        // That only a fault counts one.
+        ensures count { ⟦<TcpPeer<S> as Ends>⟧.read_faults self.new ≡ counted (read_fault_count result) (⟦<TcpPeer<S> as Ends>⟧.read_faults self.old) }
+    {
+        let taken = read_front(&mut self.stream, buf);
+        match taken {
+            Taken::Got(_) => {}
+            Taken::End => self.ends = count_up(self.ends),
+            Taken::Failed => self.read_faults = count_up(self.read_faults),
+        }
+        taken
+    }
+}
+
+impl<S: Read + Write> Sink for TcpPeer<S> {
+    /// Writes until the connection has taken all, or fails. Only a fault counts one.
+    fn write(&mut self, bytes: &[u8]) -> Written
+        // What each sink ensures.
+        ensures part { LeavesOut bytes.now result }
+        ensures write_faults { RoseBy (write_fault_count result) (⟦<TcpPeer<S> as Ends>⟧.write_faults self.old) (⟦<TcpPeer<S> as Ends>⟧.write_faults self.new) }
+        ensures read_faults { ⟦<TcpPeer<S> as Ends>⟧.read_faults self.new ≡ ⟦<TcpPeer<S> as Ends>⟧.read_faults self.old }
+        ensures ends { ⟦<TcpPeer<S> as Ends>⟧.ends self.new ≡ ⟦<TcpPeer<S> as Ends>⟧.ends self.old }
+
+        // That only a fault counts one.
+        ensures count { ⟦<TcpPeer<S> as Ends>⟧.write_faults self.new ≡ counted (write_fault_count result) (⟦<TcpPeer<S> as Ends>⟧.write_faults self.old) }
+    {
+        let n = write_front(&mut self.stream, bytes);
+        if n == bytes.len() {
+            return Written::Whole;
+        }
+        self.write_faults = count_up(self.write_faults);
+        Written::Failed(n)
+    }
+}
+
+/// A listener over TCP. It never answers that it has no more peers.
+///
+/// A wait that a signal interrupted, and a connection that was gone before it was handed out, are no
+/// faults: it waits on. What is written to a peer leaves at once.
+#[derive(Drop)]
+pub struct TcpPorts<N: Net> {
+    net: N,
+    listener: Option<N::Listener>,
+    handed: u64,
+    faults: u64,
+}
+
+impl<N: Net> TcpPorts<N> {
+    /// A listener on this network, which doesn't listen yet.
+    pub fn new(net: N) -> TcpPorts<N>
+        ensures listens { ⟦<TcpPorts<N> as Listener>⟧.listens result ≡ false }
+        ensures faults { ⟦<TcpPorts<N> as Listener>⟧.faults result ≡ 0 }
+        ensures handed { ⟦<TcpPorts<N> as Listener>⟧.handed result ≡ 0 }
+    {
+        TcpPorts {
+            net,
+            listener: None,
+            handed: 0,
+            faults: 0,
+        }
+    }
+}
+
+// The next connection, whose packets aren't kept back. None where the listener failed.
+fn next_stream<L: OpenListener>(listener: &L) -> Option<L::Stream> {
+    for _ in 0..u64::MAX {
+        match listener.accept() {
+            Ok((stream, _)) => return Some(stream),
+            Err(error) => match error.kind() {
+                ErrorKind::Interrupted | ErrorKind::ConnectionAborted => {}
+                _ => return None,
+            },
+        }
+    }
+    None
+}
+
+impl<N: Net> Listener for TcpPorts<N> {
+    ghost use Rattle.std.specs.Option.{is_some};
+
+    type Peer = TcpPeer<N::Stream>;
+
+    ghost faults = { λ l. l.faults };
+
+    ghost listens = { λ l. is_some l.listener };
+
+    ghost handed = { λ l. l.handed };
+
+    ghost is_done = { λ l. false };
+
+    /// Listens at an address and port, of numbers or of a host's name. Only a refusal counts a fault.
+    fn listen(&mut self, address: &str) -> bool
+        // What each listener ensures.
+        ensures faults { RoseBy (refusals result) (⟦<TcpPorts<N> as Listener>⟧.faults self.old) (⟦<TcpPorts<N> as Listener>⟧.faults self.new) }
+        ensures listens { OnListening result (⟦<TcpPorts<N> as Listener>⟧.listens self.old) (⟦<TcpPorts<N> as Listener>⟧.listens self.new) }
+        ensures handed { ⟦<TcpPorts<N> as Listener>⟧.handed self.new ≡ ⟦<TcpPorts<N> as Listener>⟧.handed self.old }
+
+        // That only a refusal counts a fault.
+        ensures count { ⟦<TcpPorts<N> as Listener>⟧.faults self.new ≡ counted (refusals result) (⟦<TcpPorts<N> as Listener>⟧.faults self.old) }
+    {
+        match TcpListener::bind(&self.net, address) {
+            Ok(listener) => {
+                self.listener = Some(listener);
+                true
+            }
+            Err(_) => {
+                self.faults = count_up(self.faults);
+                false
+            }
+        }
+    }
+
+    /// Waits for the next connection. Only a fault counts one.
+    fn accept<R: Wait>(&mut self, _rt: &R) -> Accepted<TcpPeer<N::Stream>>
+        requires { ⟦<TcpPorts<N> as Listener>⟧.listens self.old ≡ true }
+
+        // What each listener ensures.
+        ensures faults { RoseBy (accept_faults result) (⟦<TcpPorts<N> as Listener>⟧.faults self.old) (⟦<TcpPorts<N> as Listener>⟧.faults self.new) }
+        ensures listens { ⟦<TcpPorts<N> as Listener>⟧.listens self.new ≡ true }
+        ensures handed { ⟦<TcpPorts<N> as Listener>⟧.handed self.new ≡ counted (peers_in result) (⟦<TcpPorts<N> as Listener>⟧.handed self.old) }
+
+        // That only a fault counts one, and that there is always a next one.
+        ensures count { ⟦<TcpPorts<N> as Listener>⟧.faults self.new ≡ counted (accept_faults result) (⟦<TcpPorts<N> as Listener>⟧.faults self.old) }
+        ensures never_done { done_after result false ≡ false }
+    {
+        let Some(listener) = &self.listener else {
+            unreachable!()
+        };
+        match next_stream(listener) {
+            Some(stream) => {
+                // A peer whose packets are kept back is slow, and a peer all the same.
+                let _ = stream.set_nodelay(true);
+                self.handed = count_up(self.handed);
+                Accepted::Peer(TcpPeer::new(stream))
+            }
+            None => {
+                self.faults = count_up(self.faults);
+                Accepted::Failed
+            }
+        }
+    }
+}
