@@ -1,4 +1,4 @@
-use Rattle.std.specs.Prelude.{◌≡◌, ℕ, ◌≤◌, Bool, true, false, if◌then◌else◌, List, [], ◌∷◌, length, Option, Some, None}
+use Rattle.std.specs.Prelude.{◌≡◌, ℕ, ◌≤◌, ◌==◌, ◌&&◌, ◌||◌, Bool, true, false, if◌then◌else◌, List, [], ◌∷◌, length, Option, Some, None}
 use Rattle.blob_model.specs.Limits.{Bounds}
 use Rattle.blob_model.specs.Store.{Store, Blob, empty_store, blob_at, assigned}
 use Rattle.blob_model.specs.Answer.{answer}
@@ -89,3 +89,11 @@ event_of caller (Calls.Status blob) = []
 -- what a call adds to the history: its event where it isn't refused
 abbrev pub entered : Store → ℕ → Call → List Event
 entered s caller call = if is_refused (answer s caller call).1 then [] else event_of caller call
+
+-- whether these events finish that version
+abbrev pub finishes : ℕ → ℕ → List Event → Bool
+finishes blob version [] = false
+finishes blob version (Events.Create caller ∷ es) = finishes blob version es
+finishes blob version (Events.Assign caller other place bytes ∷ es) = finishes blob version es
+finishes blob version (Events.Finish caller other v ∷ es) = ((other == blob) && (v == version)) || finishes blob version es
+finishes blob version (Events.Branch caller other v ∷ es) = finishes blob version es

@@ -9,7 +9,7 @@ use Rattle.blob_model.specs.Limits.{Bounds}
 use Rattle.blob_model.specs.Content.{Update, offset_of}
 use Rattle.blob_model.specs.Store.{Store, Blob, true_prefix, assigned, published, size_now, size_with, is_finished, finish, branch_of, blob_at, and_blob, and_update, with_blob}
 use Rattle.blob_model.specs.Answer.{Test, Answered, answer, refuse, in_blob, first_refusal, unless_refused, too_many_blobs, offset_past_size, blob_too_big, too_many_versions, too_many_open, already}
-use Rattle.blob_model.specs.History.{caller_of, call_of, store_from, store_of, is_refused, IsAccepted, IsNumbered, IsLegalFrom, IsLegal}
+use Rattle.blob_model.specs.History.{caller_of, call_of, store_from, store_of, is_refused, IsAccepted, IsNumbered, IsLegalFrom, IsLegal, finishes}
 use Rattle.blob_model.specs.Laws.{OldVersionsStay}
 use Rattle.blob_model.specs.declared.call.Place.{Place}
 use Rattle.blob_model.specs.declared.call.Place.TheVariants.{WriteAt, Append}
@@ -21,7 +21,7 @@ use Rattle.blob_model.specs.declared.call.Outcome.TheVariants as Outcomes
 use Rattle.blob_model.specs.declared.call.Refusal.{Refusal}
 use Rattle.blob_model.specs.declared.call.Refusal.TheVariants as Refusals
 use Rattle.request_form.specs.Session.{Fixed, Session, Held, IsNobody, sees, holds, held_at, without_ticket, drops}
-use Rattle.request_form.specs.Answers.{Updated, Started, CreateAnswer, UpdateAnswer, ReportAnswer, FinishAnswer, BranchAnswer, ReadAnswer, LookAnswer, Unless, update_fault, read_fault, finishes, Answers}
+use Rattle.request_form.specs.Answers.{Updated, Started, CreateAnswer, UpdateAnswer, ReportAnswer, FinishAnswer, BranchAnswer, ReadAnswer, LookAnswer, Unless, update_fault, read_fault, Answers}
 use Rattle.request_form.specs.Transcript.{ItemReply, Run}
 use Rattle.request_form.specs.declared.form.Request.{Request}
 use Rattle.request_form.specs.declared.form.Request.TheVariants as Requests
@@ -318,7 +318,7 @@ module _ (stay : OldVersionsStay) where
       IsNumbered (blob_at (store_of limits (history ++ more)) blob) version
   numbered_stays limits history more blob version legal h =
       let was = some_numbered (blob_at (store_of limits history) blob) version h in
-      let there = stay limits history more legal blob was.0 was.1 in
+      let there = stay limits history more blob was.0 was.1 in
       let P : Option Blob → Type 0 = λ o. IsNumbered o version in
       let before : IsNumbered (Some was.0) version = subst P was.1 h in
       let now : IsNumbered (Some there.0) version = (before.0, omega (arith, before.1, ap (λ (us : List Update). length us) there.2.updates, length-append was.0.updates there.2.later)) in

@@ -8,13 +8,13 @@ use Rattle.blob_model.specs.declared.call.Event.TheVariants as Events
 use Rattle.node_store.specs.Rows.{UpdateRow}
 use Rattle.publisher.specs.Windows.{Numbered}
 use Rattle.border_hints.specs.Numbered.{NumberedUpdate}
-use Rattle.version_manager.specs.Desks.{DeskState, with_event, LiesIn}
+use Rattle.version_manager.specs.Desks.{DeskState, with_event}
 use Rattle.version_manager.specs.Laws.{TicketsStay, UnfinishedStay}
 use Rattle.request_form.specs.Session.{Held}
 use Rattle.client_session.specs.Tickets.{OpenUpdate, all_held, with_row}
 use Rattle.client_session.specs.Kept.{OwnState, with_tickets, IsWoven, IsKept}
 use Rattle.client_session.proofs.Rows.{all_held-with_row, all_held-remove, at-with_row, same_at}
-use Rattle.client_session.proofs.Standing.{kept_row_set, kept_finished}
+use Rattle.client_session.proofs.Standing.{housed_next, kept_row_set, kept_finished}
 
 -- the updates with the row of the one at that place kept
 pub record IsWovenAt (o : OwnState) (os : List OpenUpdate) (i : ℕ) (u : OpenUpdate) (row : UpdateRow) : Type 0 where
@@ -41,9 +41,8 @@ woven_at o os i u row at woven is kept =
 
 -- and then it is finished
 pub finished_kept : TicketsStay → UnfinishedStay → (o : OwnState) (os : List OpenUpdate) (i : ℕ) (u : OpenUpdate) (row : UpdateRow) → IsWovenAt o os i u row
-    → (d : DeskState) (t : NumberedUpdate) → t ≡ u.ticket → (ws : List Numbered) → d ≡ with_event o.desk (Events.Finish 1 t.blob t.version) ws → IsLegal d.limits d.history
-    → LiesIn o.nodes o.houses d → IsKept (with_tickets o d (remove os i))
-finished_kept tickets unfinished o os i u row w d t same ws is legal lies =
+    → (d : DeskState) (t : NumberedUpdate) → t ≡ u.ticket → (ws : List Numbered) → d ≡ with_event o.desk (Events.Finish 1 t.blob t.version) ws → IsLegal d.limits d.history → IsKept (with_tickets o d (remove os i))
+finished_kept tickets unfinished o os i u row w d t same ws is legal =
     kept_finished tickets unfinished (with_tickets o o.desk os) d (Events.Finish 1 t.blob t.version)
-    record { windows = ws; is = is; caller = refl; legal = legal; lies = lies } i (with_row u row) w.at
+    record { windows = ws; is = is; caller = refl; legal = legal; lies = housed_next (with_tickets o o.desk os) d _ ws is w.kept.lies } i (with_row u row) w.at
     (ap (λ (x : NumberedUpdate). Calls.Finish x.blob x.version) same) w.kept

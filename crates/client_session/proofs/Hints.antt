@@ -1,33 +1,28 @@
--- The rows of a ticket's snapshot are those of the desk.
-use Rattle.std.proofs.Common.{sym, subst, ℕ, ◌-◌, List, [], ◌∷◌, length, Option, Some, None}
-use Rattle.std.specs.Prelude.{All}
-use Rattle.std.proofs.lemmas.Bool.{cases_lt}
-use Rattle.std.proofs.lemmas.List.{get_or_past}
-use Rattle.std.proofs.lemmas.List.Elements.{All-nil, All-cons, All-head, All-tail}
+-- The nodes and pages of what the desk hands out lie in the store's houses.
+use Rattle.std.proofs.Common.{ℕ, List, sym, subst}
 use Rattle.boxcar.specs.Table.{Shelves}
 use Rattle.page_store.specs.House.{House}
-use Rattle.node_store.specs.House.{IsIn}
-use Rattle.node_store.specs.Rows.{UpdateRow}
+use Rattle.page_store.specs.Stored.{Cut, LieAmong}
+use Rattle.node_store.specs.Rows.{UpdateRow, IsRowIn}
+use Rattle.snapshot.specs.Versions.{Version, IsVersionIn}
 use Rattle.border_hints.specs.Borders.{NodesLieIn}
-use Rattle.publisher.specs.Windows.{Numbered, leading, version_of}
-use Rattle.version_manager.specs.Desks.{DeskState, no_window, window_in, IsRowIfAnyIn, LiesIn}
-use Rattle.std.proofs.Common.{inl, inr}
+use Rattle.border_hints.specs.Numbered.{NumberedUpdate}
+use Rattle.version_manager.specs.Desks.{DeskState, HasHints}
+use Rattle.client_session.specs.Kept.{IsHousedIn}
 
-abbrev NodesIn : List Shelves → UpdateRow → Type 0
-NodesIn nodes row = All (IsIn nodes) row.nodes
+nodes_of : (nodes : List Shelves) (houses : List House) (s : Version) → IsVersionIn nodes houses s → NodesLieIn nodes s
+nodes_of nodes houses s h = λ k row lt. (h k row lt).nodes_here
 
-leading_here : (nodes : List Shelves) (houses : List House) (rows : List (Option UpdateRow)) → All (IsRowIfAnyIn nodes houses) rows → All (NodesIn nodes) (leading rows)
-leading_here nodes houses [] all = All-nil (NodesIn nodes)
-leading_here nodes houses (None ∷ rows) all = All-nil (NodesIn nodes)
-leading_here nodes houses (Some row ∷ rows) all =
-    All-cons (NodesIn nodes) row (leading rows) (All-head (IsRowIfAnyIn nodes houses) (Some row) rows all).nodes_here
-    (leading_here nodes houses rows (All-tail (IsRowIfAnyIn nodes houses) (Some row) rows all))
+module _ (nodes : List Shelves) (houses : List House) (d : DeskState) where
+  -- the nodes of the published version of a ticket
+  pub hints_here : (blob : ℕ) (t : NumberedUpdate) → IsHousedIn nodes houses d → HasHints d blob t → NodesLieIn nodes t.snapshot
+  hints_here blob t h hints = nodes_of nodes d.houses t.snapshot (subst (λ (n : List Shelves). IsVersionIn n d.houses t.snapshot) h.nodes_are hints.here)
 
--- the nodes of the published version of each blob
-pub hints_here : (nodes : List Shelves) (houses : List House) (d : DeskState) (blob : ℕ) → LiesIn nodes houses d → NodesLieIn nodes (version_of (window_in d blob))
-hints_here nodes houses d blob lies =
-    elim (cases_lt (blob - 1) (length d.windows)) [
-      | inl within ↦ leading_here nodes houses (window_in d blob).rows (lies (blob - 1) no_window within)
-      | inr past ↦
-          subst (λ (w : Numbered). NodesLieIn nodes (version_of w)) (sym (get_or_past d.windows (blob - 1) no_window past)) (All-nil (NodesIn nodes))
-    ]
+  pub row_there : (row : UpdateRow) → IsHousedIn nodes houses d → IsRowIn nodes houses row → IsRowIn d.nodes d.houses row
+  row_there row h is = subst (λ (n : List Shelves). IsRowIn n d.houses row) (sym h.nodes_are) (subst (λ (x : List House). IsRowIn nodes x row) (sym h.houses_are) is)
+
+  pub pages_there : (cut : Cut) → IsHousedIn nodes houses d → LieAmong houses cut.pages → LieAmong d.houses cut.pages
+  pages_there cut h is = subst (λ (x : List House). LieAmong x cut.pages) (sym h.houses_are) is
+
+  pub version_here : (s : Version) → IsHousedIn nodes houses d → IsVersionIn d.nodes d.houses s → IsVersionIn nodes houses s
+  version_here s h is = subst (λ (n : List Shelves). IsVersionIn n houses s) h.nodes_are (subst (λ (x : List House). IsVersionIn d.nodes x s) h.houses_are is)

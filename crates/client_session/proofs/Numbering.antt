@@ -9,15 +9,13 @@ use Rattle.blob_model.specs.declared.call.Outcome.TheVariants as Outcomes
 use Rattle.page_store.specs.Stored.{Cut, LieAmong, joined}
 use Rattle.node_store.specs.Rows.{UpdateRow}
 use Rattle.publisher.specs.Windows.{Numbered, with_numbered}
-use Rattle.snapshot.specs.Versions.{Version}
-use Rattle.border_hints.specs.Borders.{NodesLieIn}
 use Rattle.border_hints.specs.Numbered.{NumberedUpdate, own_touch}
-use Rattle.version_manager.specs.Desks.{DeskState, updates_in, outcome_now, window_in, windows_with, with_event, IsNumbering, IsTicketOf, IsUnfinished, LiesIn}
+use Rattle.version_manager.specs.Desks.{DeskState, updates_in, outcome_now, window_in, windows_with, with_event, IsNumbering, IsTicketOf, IsUnfinished, HasHints}
 use Rattle.version_manager.specs.Laws.{TicketsStay, UnfinishedStay}
 use Rattle.client_session.specs.Tickets.{OpenUpdate}
 use Rattle.client_session.specs.Kept.{OwnState, with_desk, with_held, IsHere, IsWoven, IsKept}
 use Rattle.client_session.proofs.Alone.{IsNumbered}
-use Rattle.client_session.proofs.Standing.{IsNext, kept_next, kept_held, kept_beside, too_low}
+use Rattle.client_session.proofs.Standing.{housed_next, IsNext, kept_next, kept_held, kept_beside, too_low}
 use Rattle.client_session.proofs.Hints.{hints_here}
 
 -- the desk has numbered the update, and nothing else has changed
@@ -32,19 +30,19 @@ pub record IsAssigned (o : OwnState) (d : DeskState) (blob : ℕ) (place : Place
 -- by the clauses of the desk's call
 pub assigned_of : (o : OwnState) (d : DeskState) (blob : ℕ) (place : Place) (cut : Cut) (t : NumberedUpdate)
     → outcome_now o.desk 1 (Calls.Assign blob place (joined cut.pages)) ≡ Outcomes.Assigned t.version t.at t.size
-    → IsNumbering o.desk 1 blob t → t.pages ≡ cut → IsTicketOf d t
+    → IsNumbering o.desk 1 blob t → HasHints o.desk blob t → t.pages ≡ cut → IsTicketOf d t
     → d ≡ with_event o.desk (Events.Assign 1 blob place (joined cut.pages)) (windows_with o.desk blob (with_numbered (window_in o.desk blob) (own_touch t)))
-    → IsUnfinished d blob t.version → LiesIn o.nodes o.houses d → IsLegal d.limits d.history → LieAmong o.houses cut.pages → IsKept o
+    → IsUnfinished d blob t.version → IsLegal d.limits d.history → LieAmong o.houses cut.pages → IsKept o
     → IsAssigned o d blob place (joined cut.pages) t
-assigned_of o d blob place cut t assigned numbering pages ticket new unfinished lies legal here kept =
+assigned_of o d blob place cut t assigned numbering hints pages ticket new unfinished legal here kept =
     let ws : List Numbered = windows_with o.desk blob (with_numbered (window_in o.desk blob) (own_touch t)) in
     record {
-      next = record { windows = ws; is = new; caller = refl; legal = legal; lies = lies };
+      next = record { windows = ws; is = new; caller = refl; legal = legal; lies = housed_next o d _ ws new kept.lies };
       numbered = record { windows = ws; is = new; assigned = assigned; blob_is = numbering.blob };
       ticket = ticket;
       unfinished = subst (λ (b : ℕ). IsUnfinished d b t.version) (sym numbering.blob) unfinished;
       here = record {
-        snapshot = subst (λ (s : Version). NodesLieIn o.nodes s) (sym numbering.snapshot) (hints_here o.nodes o.houses o.desk blob kept.lies);
+        snapshot = hints_here o.nodes o.houses o.desk blob t kept.lies hints;
         pages = subst (λ (x : Cut). LieAmong o.houses x.pages) (sym pages) here;
       };
       newest = subst (λ (b : ℕ). t.version ≡ length (updates_in o.desk b) + 1) (sym numbering.blob) numbering.version;
@@ -74,9 +72,9 @@ not_held o d blob place bytes t a kept u ticket e =
     too_low u.ticket.version t.version (length (updates_in o.desk u.ticket.blob)) (length (updates_in o.desk t.blob)) ticket.numbered n (sym version) a.newest
 
 pub kept_updated : TicketsStay → UnfinishedStay → (o : OwnState) (d d' : DeskState) (blob : ℕ) (place : Place) (bytes : List ℕ) (t : NumberedUpdate) → IsAssigned o d blob place bytes t
-    → (ws : List Numbered) → d' ≡ with_event d (Events.Finish 1 t.blob t.version) ws → IsLegal d'.limits d'.history → LiesIn o.nodes o.houses d' → IsKept o → IsKept (with_desk o d')
-kept_updated tickets unfinished o d d' blob place bytes t a ws is legal lies kept =
+    → (ws : List Numbered) → d' ≡ with_event d (Events.Finish 1 t.blob t.version) ws → IsLegal d'.limits d'.history → IsKept o → IsKept (with_desk o d')
+kept_updated tickets unfinished o d d' blob place bytes t a ws is legal kept =
     let first : IsKept (with_desk o d) = kept_next tickets unfinished o d (Events.Assign 1 blob place bytes) a.next (λ b v e. cc) kept in
     kept_beside tickets unfinished (with_desk o d) d' (Events.Finish 1 t.blob t.version)
-    record { windows = ws; is = is; caller = refl; legal = legal; lies = lies }
+    record { windows = ws; is = is; caller = refl; legal = legal; lies = housed_next (with_desk o d) d' _ ws is a.next.lies }
     (λ k x lt. not_held o d blob place bytes t a kept (slice_index_or o.tickets k x) (kept.open_ k x lt).ticket) first

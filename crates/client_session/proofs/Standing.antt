@@ -14,31 +14,34 @@ use Rattle.blob_model.specs.declared.call.Event.{Event}
 use Rattle.publisher.specs.Windows.{Numbered}
 use Rattle.node_store.specs.Rows.{UpdateRow}
 use Rattle.border_hints.specs.Numbered.{NumberedUpdate}
-use Rattle.version_manager.specs.Desks.{DeskState, updates_in, with_event, IsTicketOf, IsUnfinished, LiesIn}
+use Rattle.version_manager.specs.Desks.{DeskState, updates_in, with_event, IsTicketOf, IsUnfinished}
 use Rattle.version_manager.specs.declared.fault.DeskFault.{DeskFault}
 use Rattle.version_manager.specs.Laws.{TicketsStay, UnfinishedStay}
 use Rattle.request_form.specs.Session.{Held, AllOwn}
 use Rattle.client_session.specs.Tickets.{OpenUpdate, held_of, all_held, with_row}
 use Rattle.client_session.proofs.Rows.{all_held-with_row, all_held-remove, at_place}
-use Rattle.client_session.specs.Kept.{OwnState, with_desk, with_held, with_tickets, IsOpen, IsHere, IsWoven, IsKept, Differ}
+use Rattle.client_session.specs.Kept.{OwnState, with_desk, with_held, with_tickets, IsOpen, IsHere, IsWoven, IsHousedIn, IsKept, Differ}
 
 AllOwn-push : (caller : ℕ) (h : List Event) (e : Event) → AllOwn caller h → caller_of e ≡ caller → AllOwn caller (h ++ e ∷ [])
 AllOwn-push caller [] e own is = (is, tt)
 AllOwn-push caller (x ∷ h) e own is = (own.0, AllOwn-push caller h e own.1 is)
 
--- the desk accepted one event more of the one caller, and all that is in it lies in the houses
+-- the desk accepted one event more of the one caller, and is of the houses
 pub record IsNext (o : OwnState) (d : DeskState) (event : Event) : Type 0 where
   pub windows : List Numbered
   pub is : d ≡ with_event o.desk event windows
   pub caller : caller_of event ≡ 1
   pub legal : IsLegal d.limits d.history
-  pub lies : LiesIn o.nodes o.houses d
+  pub lies : IsHousedIn o.nodes o.houses d
+
+pub housed_next : (o : OwnState) (d : DeskState) (event : Event) (ws : List Numbered) → d ≡ with_event o.desk event ws → IsHousedIn o.nodes o.houses o.desk → IsHousedIn o.nodes o.houses d
+housed_next o d event ws is h = record { nodes_are = ap (λ (x : DeskState). x.nodes) is ∙ h.nodes_are; houses_are = ap (λ (x : DeskState). x.houses) is ∙ h.houses_are }
 
 -- a held update stays open at an event that isn't its finish
 pub open_stays : TicketsStay → UnfinishedStay → (o : OwnState) (d : DeskState) (event : Event) → IsNext o d event → (u : OpenUpdate)
     → (call_of event ≡ Calls.Finish u.ticket.blob u.ticket.version → ⊥) → IsOpen o.desk o.nodes o.houses u → IsOpen d o.nodes o.houses u
 open_stays tickets unfinished o d event next u other is = record {
-  ticket = tickets o.desk d (event ∷ []) u.ticket next.legal (ap (λ (x : DeskState). x.limits) next.is) (ap (λ (x : DeskState). x.page_size) next.is)
+  ticket = tickets o.desk d (event ∷ []) u.ticket (ap (λ (x : DeskState). x.limits) next.is) (ap (λ (x : DeskState). x.page_size) next.is)
       (ap (λ (x : DeskState). x.history) next.is) is.ticket;
   unfinished = unfinished o.desk d event u.ticket.blob u.ticket.version (ap (λ (x : DeskState). x.limits) next.is) (ap (λ (x : DeskState). x.history) next.is) other is.unfinished;
   here = is.here;
@@ -77,11 +80,11 @@ kept_same o d is kept = subst (λ (x : DeskState). IsKept (with_desk o x)) (sym 
 
 -- after a call that may be refused, and that finishes nothing
 pub kept_after : {X : Type 0} → TicketsStay → UnfinishedStay → (o : OwnState) (d : DeskState) (event : Event) (r : Result X DeskFault) (ws : X → List Numbered)
-    → IfOk r (λ x. d ≡ with_event o.desk event (ws x)) → IfErr r (λ _. d ≡ o.desk) → caller_of event ≡ 1 → IsLegal d.limits d.history → LiesIn o.nodes o.houses d
+    → IfOk r (λ x. d ≡ with_event o.desk event (ws x)) → IfErr r (λ _. d ≡ o.desk) → caller_of event ≡ 1 → IsLegal d.limits d.history
     → ((blob version : ℕ) → call_of event ≡ Calls.Finish blob version → ⊥) → IsKept o → IsKept (with_desk o d)
-kept_after tickets unfinished o d event (Ok x) ws new same caller legal lies other kept =
-    kept_next tickets unfinished o d event record { windows = ws x; is = new; caller = caller; legal = legal; lies = lies } other kept
-kept_after tickets unfinished o d event (Err fault) ws new same caller legal lies other kept = kept_same o d same kept
+kept_after tickets unfinished o d event (Ok x) ws new same caller legal other kept =
+    kept_next tickets unfinished o d event record { windows = ws x; is = new; caller = caller; legal = legal; lies = housed_next o d event (ws x) new kept.lies } other kept
+kept_after tickets unfinished o d event (Err fault) ws new same caller legal other kept = kept_same o d same kept
 
 -- ---- an update more is held
 -- an update that was numbered just now, and its row, where it is woven

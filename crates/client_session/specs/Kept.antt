@@ -6,7 +6,7 @@ use Rattle.page_store.specs.Stored.{LieAmong}
 use Rattle.node_store.specs.Rows.{UpdateRow, IsRowIn}
 use Rattle.border_hints.specs.Borders.{NodesLieIn}
 use Rattle.border_hints.specs.Numbered.{NumberedUpdate}
-use Rattle.version_manager.specs.Desks.{DeskState, IsTicketOf, IsUnfinished, IsRowFor, LiesIn}
+use Rattle.version_manager.specs.Desks.{DeskState, IsTicketOf, IsUnfinished, IsRowFor}
 use Rattle.request_form.specs.Session.{Session, Held, AllOwn}
 use Rattle.client_session.specs.Tickets.{OpenUpdate, all_held}
 
@@ -69,14 +69,19 @@ pub record IsOpen (d : DeskState) (nodes : List Shelves) (houses : List House) (
   pub here : IsHere nodes houses o.ticket
   pub row : IfSome o.row (IsWoven nodes houses o.ticket)
 
+-- the desk is one of these houses
+pub record IsHousedIn (nodes : List Shelves) (houses : List House) (d : DeskState) : Type 0 where
+  pub nodes_are : d.nodes ≡ nodes
+  pub houses_are : d.houses ≡ houses
+
 -- not the same version of the same blob
 abbrev pub Differ : Held → Held → Type 0
 Differ a b = a.blob ≡ b.blob → a.version ≢ b.version
 
--- The desk's versions and the held updates lie in these houses. All events are the one caller's, and the updates are
+-- The desk is of these houses, and the held updates lie in them. All events are the one caller's, and the updates are
 -- unfinished, each another one. No more numbers were drawn than there are events.
 pub record IsKept (o : OwnState) : Type 0 where
-  pub lies : LiesIn o.nodes o.houses o.desk
+  pub lies : IsHousedIn o.nodes o.houses o.desk
   pub own : AllOwn 1 o.desk.history
   pub drawn : o.next ≤ length o.desk.history + 1
   pub open_ : All (IsOpen o.desk o.nodes o.houses) o.tickets

@@ -96,20 +96,21 @@ fn hold(tickets: &mut Tickets, next: &mut u64, ticket: Ticket, row: Option<Arc<R
 pub(crate) struct OwnStore {
     alloc: Global,
     desk: Desk,
-    houses: Houses,
-    nodes: NodeHouse,
+    houses: Arc<Houses>,
+    nodes: Arc<NodeHouse>,
     tickets: Tickets,
     next: u64,
 }
 
 impl Model for OwnStore {
+    ghost use Rattle.std.specs.Arc.{arc_value};
     ghost use Rattle.client_session.specs.Kept.{OwnState, IsKept};
 
     ghost Value = { OwnState };
 
-    ghost view = { λ s. record { desk = s.desk; houses = s.houses; nodes = s.nodes; tickets = s.tickets; next = s.next } };
+    ghost view = { λ s. record { desk = s.desk; houses = arc_value s.houses; nodes = arc_value s.nodes; tickets = s.tickets; next = s.next } };
 
-    ghost invariant = { λ s. IsKept (record { desk = s.desk; houses = s.houses; nodes = s.nodes; tickets = s.tickets; next = s.next }) };
+    ghost invariant = { λ s. IsKept (record { desk = s.desk; houses = arc_value s.houses; nodes = arc_value s.nodes; tickets = s.tickets; next = s.next }) };
 }
 
 impl OwnStore {
@@ -128,6 +129,12 @@ impl OwnStore {
             return Err(NoMemory);
         };
         let Ok(nodes) = NodeHouse::new(alloc) else {
+            return Err(NoMemory);
+        };
+        let Ok(houses) = Arc::new(alloc, houses) else {
+            return Err(NoMemory);
+        };
+        let Ok(nodes) = Arc::new(alloc, nodes) else {
             return Err(NoMemory);
         };
         let Ok(desk) = Desk::new(alloc, limits, p, &houses, &nodes) else {

@@ -1,4 +1,5 @@
 use Rattle.std.specs.Prelude.{◌≡◌, ℕ, ◌+◌, ◌*◌, ◌<◌, ◌==◌, ◌&&◌, ◌||◌, nat_lt, Bool, false, if◌then◌else◌, List, [], ◌∷◌, ◌++◌, length, Option, Some, None}
+use Rattle.blob_model.specs.History.{finishes}
 use Rattle.blob_model.specs.declared.call.Place.{Place}
 use Rattle.blob_model.specs.declared.call.Place.TheVariants.{WriteAt, Append}
 use Rattle.blob_model.specs.declared.call.Call.{Call}
@@ -59,14 +60,6 @@ pub record Created (gap : Gap) (s : Session) (reply : Reply) (s' : Session) : Ty
   pub done : outcome_at s others Calls.Create ≡ Outcomes.Blob blob
   pub said : reply ≡ Replies.Created blob
   pub seen : s' ≡ sees s (others ++ Events.Create s.caller ∷ [])
-
--- whether these events finish that version
-abbrev pub finishes : ℕ → ℕ → List Event → Bool
-finishes blob version [] = false
-finishes blob version (Events.Create caller ∷ es) = finishes blob version es
-finishes blob version (Events.Assign caller other place bytes ∷ es) = finishes blob version es
-finishes blob version (Events.Finish caller other v ∷ es) = ((other == blob) && (v == version)) || finishes blob version es
-finishes blob version (Events.Branch caller other v ∷ es) = finishes blob version es
 
 -- An update that was numbered, and that is finished after what others do meanwhile, unless they have finished it. What is
 -- said of it once it is finished tells its version, its offset and the blob's size.

@@ -96,7 +96,9 @@ fn assign(desk: &mut Desk, blob: u64, place: Place, pages: &Arc<Pages>) -> Resul
     requires few { length (joined (arc_value pages.now).pages) ≤ 8 }
     requires cut { (arc_value pages.now).page_size ≡ 4 }
     requires page_size { desk.old.page_size ≡ 4 }
+    requires here { LieAmong desk.old.houses (arc_value pages.now).pages }
     ensures page_size { desk.new.page_size ≡ 4 }
+    ensures houses { desk.new.houses ≡ desk.old.houses }
 {
     match desk.assign(CALLER, blob, place, pages) {
         Ok(ticket) => Ok(Outcome::Assigned {
@@ -128,8 +130,10 @@ fn outcome_of<R: Threads + Wait + Sync>(
     requires doors { length doors.old ≡ 1 }
     requires houses { length houses.now ≡ 1 }
     requires page_size { desk.old.page_size ≡ 4 }
+    requires housed { desk.old.houses ≡ houses.now }
     ensures doors { length doors.new ≡ 1 }
     ensures page_size { desk.new.page_size ≡ 4 }
+    ensures housed { desk.new.houses ≡ houses.now }
 {
     match step {
         Step::Create => made(desk.create(CALLER)),
@@ -275,8 +279,8 @@ fn lines_of<R: Threads + Wait + Sync>(
     steps: &[Step],
 ) -> Result<Vec<u8>, Fail> {
     let dialect = ScriptDialect::new(alloc)?;
-    let houses = Houses::new(alloc, 1)?;
-    let nodes = NodeHouse::new(alloc)?;
+    let houses = Arc::new(alloc, Houses::new(alloc, 1)?)?;
+    let nodes = Arc::new(alloc, NodeHouse::new(alloc)?)?;
     let mut doors = Doors::new(alloc, &mut PlainMaker::new(), 1)?;
     let p = PageSize::new(4).ok_or("four bytes")?;
     let mut desk = Desk::new(alloc, limits, p, &houses, &nodes)?;
@@ -300,8 +304,8 @@ fn a_desk_answers_each_step_by_its_line(rt: HostRuntime) -> Result<(), Fail> {
 #[test]
 fn a_blob_has_sixty_four_waiting_updates(rt: HostRuntime) -> Result<(), Fail> {
     let alloc = rt.alloc();
-    let houses = Houses::new(alloc, 1)?;
-    let nodes = NodeHouse::new(alloc)?;
+    let houses = Arc::new(alloc, Houses::new(alloc, 1)?)?;
+    let nodes = Arc::new(alloc, NodeHouse::new(alloc)?)?;
     let mut doors = Doors::new(alloc, &mut PlainMaker::new(), 1)?;
     let p = PageSize::new(4).ok_or("four bytes")?;
     let mut desk = Desk::new(alloc, Limits::greatest(), p, &houses, &nodes)?;

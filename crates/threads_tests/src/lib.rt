@@ -8,4 +8,6 @@ mod placement;
 #[cfg(test)]
 mod reader;
 #[cfg(test)]
+mod shared_desk;
+#[cfg(test)]
 mod turn;

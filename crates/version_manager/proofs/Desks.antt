@@ -1,8 +1,8 @@
 -- What a desk keeps as its history goes on.
-use Rattle.std.proofs.Common.{◌≡◌, ℕ, ◌+◌, ◌-◌, ◌<◌, ◌≤◌, ◌==◌, Bool, true, false, List, [], ◌∷◌, ◌++◌, length, map, set, get_or, suc, refl, sym, ◌∙◌, ap, subst, arith, length-append}
+use Rattle.std.proofs.Common.{◌≡◌, ℕ, ◌+◌, ◌-◌, ◌^◌, ◌<◌, ◌≤◌, ◌==◌, Bool, true, false, List, [], ◌∷◌, ◌++◌, length, map, set, get_or, suc, refl, sym, ◌∙◌, ap, subst, arith, length-append}
 use Rattle.std.specs.Prelude.{Some, None, slice_get}
 use Rattle.std.proofs.Math.ListN.{length-set}
-use Rattle.std.proofs.lemmas.List.{get_or_default, map-append}
+use Rattle.std.proofs.lemmas.List.{get_or_default, map-append, length-map}
 use Rattle.std.proofs.lemmas.Option.{slice_get-get_or, slice_get_past}
 use Rattle.std.proofs.lemmas.Bool.Decides.{nat_tests}
 use Rattle.blob_model.specs.Limits.{Bounds}
@@ -26,6 +26,10 @@ kept_of limits p id b w e f k = record { blob = e; page_size = f; stands = k.sta
 -- ---- the history
 pub pushed_event : (old new : List Entry) (entry : Entry) → new ≡ old ++ entry ∷ [] → map event_of new ≡ map event_of old ++ event_of entry ∷ []
 pushed_event old new entry e = ap (map event_of) e ∙ map-append event_of old (entry ∷ [])
+
+-- one entry more than a history that has room for it
+pub short_yet : (old new : List Entry) (entry : Entry) → new ≡ old ++ entry ∷ [] → length old < 274877906943 → length (map event_of new) < 2 ^ 38
+short_yet old new entry e room = omega (arith, length-map new event_of, ap length e, length-append old (entry ∷ []))
 
 -- ---- the windows
 pub by_test : (P : Type 0) (t : Bool) → (t ≡ true → P) → (t ≡ false → P) → P

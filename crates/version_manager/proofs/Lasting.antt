@@ -8,7 +8,7 @@ use Rattle.blob_model.specs.Limits.{Bounds}
 use Rattle.blob_model.specs.Content.{Update}
 use Rattle.blob_model.specs.Store.{Store, Blob, blob_at, empty_store, with_blob, and_blob, and_update, is_finished, finish}
 use Rattle.blob_model.specs.Answer.{Answered, answer, refuse}
-use Rattle.blob_model.specs.History.{caller_of, call_of, store_of, IsLegal}
+use Rattle.blob_model.specs.History.{caller_of, call_of, store_of}
 use Rattle.blob_model.specs.Laws.{OldVersionsStay}
 use Rattle.blob_model.specs.declared.call.Call.TheVariants as Calls
 use Rattle.blob_model.specs.declared.call.Event.{Event}
@@ -31,22 +31,20 @@ same_update us later (suc k) le = get_or_append_left us later no_update k (omega
 Longer : List Update → List Update → Type 0
 Longer old new = (later : List Update) × (new ≡ old ++ later)
 
-longer : OldVersionsStay → (limits : Bounds) (h more : List Event) → IsLegal limits (h ++ more) → (blob : ℕ) (o : Option Blob) → blob_at (store_of limits h) blob ≡ o
+longer : OldVersionsStay → (limits : Bounds) (h more : List Event) (blob : ℕ) (o : Option Blob) → blob_at (store_of limits h) blob ≡ o
     → Longer (updates_or_none o) (updates_or_none (blob_at (store_of limits (h ++ more)) blob))
 unfolding Longer
-longer stay limits h more legal blob None is = (_, refl)
-longer stay limits h more legal blob (Some b) is =
-    let (new, at, stays) = stay limits h more legal blob b is in
+longer stay limits h more blob None is = (_, refl)
+longer stay limits h more blob (Some b) is =
+    let (new, at, stays) = stay limits h more blob b is in
     (stays.later, ap updates_or_none at ∙ stays.updates)
 
 pub tickets : OldVersionsStay → TicketsStay
 unfolding Longer
-tickets stay d d' more t legal limits page history ticket =
+tickets stay d d' more t limits page history ticket =
     let us = updates_in d t.blob in
     let v = t.version in
-    let L : Bounds → List Event → Type 0 = λ b l. IsLegal b l in
-    let legal' : IsLegal d.limits (d.history ++ more) = subst (λ (l : List Event). L d.limits l) history (subst (λ (b : Bounds). L b d'.history) limits legal) in
-    let (later, more_is) = longer stay d.limits d.history more legal' t.blob (blob_at (store_of d.limits d.history) t.blob) refl in
+    let (later, more_is) = longer stay d.limits d.history more t.blob (blob_at (store_of d.limits d.history) t.blob) refl in
     let O : Bounds → List Event → List Update = λ b l. updates_or_none (blob_at (store_of b l) t.blob) in
     let is : updates_in d' t.blob ≡ us ++ later = ap (λ (b : Bounds). O b d'.history) limits ∙ ap (λ (l : List Event). O d.limits l) history ∙ more_is in
     let same : update_at (updates_in d' t.blob) v ≡ update_at us v = ap (λ (l : List Update). update_at l v) is ∙ same_update us later v ticket.numbered in

@@ -9,5 +9,9 @@ pub mod Numbering
 pub mod Finishing
 pub mod Looking
 pub mod Houses
+pub mod Hints
 pub mod Results
 pub mod Lasting
+pub mod Turns
+pub mod Gaps
+pub mod GapFinishes

@@ -1,35 +1,39 @@
 -- What a clause sees of a desk, and what its calls do.
-use Rattle.std.specs.Prelude.{◌≡◌, ℕ, ◌+◌, ◌-◌, ◌≤◌, Bool, false, List, [], ◌∷◌, ◌++◌, length, take, slice_index_or, slice_set, Option, Some, None, IfSome, All}
+use Rattle.std.specs.Prelude.{◌≡◌, ℕ, ◌+◌, ◌-◌, ◌≤◌, Bool, false, List, [], ◌∷◌, ◌++◌, length, take, drop, slice_index_or, slice_set, Option, Some, None, IfSome, All}
 use Rattle.boxcar.specs.Table.{Shelves}
 use Rattle.blob_model.specs.Content.{Update}
 use Rattle.blob_model.specs.Limits.{Bounds}
-use Rattle.blob_model.specs.Store.{Store, Blob, blob_at, is_finished}
+use Rattle.blob_model.specs.Store.{Store, Blob, blob_at, published, is_finished}
 use Rattle.blob_model.specs.Answer.{answer}
 use Rattle.blob_model.specs.History.{store_of}
 use Rattle.blob_model.specs.declared.call.Call.{Call}
 use Rattle.blob_model.specs.declared.call.Event.{Event}
 use Rattle.blob_model.specs.declared.call.Outcome.{Outcome}
 use Rattle.blob_model.specs.declared.call.Refusal.{Refusal}
+use Rattle.range_log.specs.Extents.{touches}
 use Rattle.range_log.specs.Updates.{update_at, extents}
 use Rattle.page_store.specs.House.{House}
 use Rattle.page_store.specs.Stored.{joined}
 use Rattle.node_store.specs.Rows.{UpdateRow, IsRowIn}
-use Rattle.snapshot.specs.Versions.{IsRowOf}
+use Rattle.snapshot.specs.Versions.{IsRowOf, IsVersionIn}
+use Rattle.snapshot.specs.Laws.{TellUpdates}
 use Rattle.border_hints.specs.Numbered.{NumberedUpdate, StandsFor}
-use Rattle.publisher.specs.Windows.{Numbered, version_of, waiting_of}
+use Rattle.publisher.specs.Windows.{Numbered, version_of, waiting_of, opens_from}
 use Rattle.version_manager.specs.declared.fault.DeskFault.{DeskFault}
 use Rattle.version_manager.specs.declared.fault.DeskFault.TheVariants.{Refused, NoMemory}
 
--- how much it takes, its page size, the history of all that it accepted, and the numbered updates of each blob, blob 1 first
+-- how much it takes, its page size, the houses of its pages and of its nodes, the history of all that it accepted, and the numbered updates of each blob, blob 1 first
 pub record DeskState : Type 0 where
   pub limits : Bounds
   pub page_size : ℕ
+  pub houses : List House
+  pub nodes : List Shelves
   pub history : List Event
   pub windows : List Numbered
 
 -- a desk that accepted nothing
-abbrev pub empty_desk : Bounds → ℕ → DeskState
-empty_desk limits page_size = record { limits = limits; page_size = page_size; history = []; windows = [] }
+abbrev pub empty_desk : Bounds → ℕ → List House → List Shelves → DeskState
+empty_desk limits page_size houses nodes = record { limits = limits; page_size = page_size; houses = houses; nodes = nodes; history = []; windows = [] }
 
 -- ---- what it keeps
 -- the store that the history leaves
@@ -48,6 +52,14 @@ updates_or_none (Some b) = b.updates
 -- the updates of a blob, of which one that isn't there has none
 abbrev pub updates_in : DeskState → ℕ → List Update
 updates_in d blob = updates_or_none (blob_at (store_now d) blob)
+
+abbrev pub published_or_none : Option Blob → ℕ
+published_or_none None = 0
+published_or_none (Some b) = published b
+
+-- the published version of a blob, of which one that isn't there has none
+abbrev pub published_in : DeskState → ℕ → ℕ
+published_in d blob = published_or_none (blob_at (store_now d) blob)
 
 abbrev pub finished_or_not : Option Blob → ℕ → Bool
 finished_or_not None version = false
@@ -116,6 +128,14 @@ IsRowFor d t row = IsRowOf d.page_size (updates_in d t.blob) t.version row
 abbrev pub IsRowIfAnyIn : List Shelves → List House → Option UpdateRow → Type 0
 IsRowIfAnyIn nodes houses row = IfSome row (IsRowIn nodes houses)
 
--- the nodes of the desk's rows lie in this house, and their pages in these houses
-abbrev pub LiesIn : List Shelves → List House → DeskState → Type 0
-LiesIn nodes houses d = All (λ (w : Numbered). All (IsRowIfAnyIn nodes houses) w.rows) d.windows
+-- the nodes of the windows' rows lie in this house, and their pages in these houses
+abbrev pub LieIn : List Shelves → List House → List Numbered → Type 0
+LieIn nodes houses windows = All (λ (w : Numbered). All (IsRowIfAnyIn nodes houses) w.rows) windows
+
+-- ---- hints
+-- The ticket tells, of the updates of the blob: the published ones by their rows, which lie in the desk's houses, and what the others above them touch.
+pub record HasHints (d : DeskState) (on : ℕ) (t : NumberedUpdate) : Type 0 where
+  pub rows : length t.snapshot.rows ≡ published_in d on
+  pub tells : TellUpdates d.page_size (updates_in d on) t.snapshot.rows
+  pub waiting : t.waiting ≡ opens_from (published_in d on + 1) (drop (published_in d on) (touches d.page_size (extents (updates_in d on))))
+  pub here : IsVersionIn d.nodes d.houses t.snapshot

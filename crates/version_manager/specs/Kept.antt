@@ -1,5 +1,5 @@
 -- How a desk keeps its blobs.
-use Rattle.std.specs.Prelude.{◌≡◌, ℕ, suc, ◌≤◌, List, [], ◌∷◌, length, Some, slice_get}
+use Rattle.std.specs.Prelude.{◌≡◌, ℕ, suc, ◌^◌, ◌<◌, ◌≤◌, List, [], ◌∷◌, length, Some, slice_get}
 use Rattle.blob_model.specs.Limits.{Bounds}
 use Rattle.blob_model.specs.Store.{Blob, empty_store, assigned, waiting, size_now}
 use Rattle.blob_model.specs.Answer.{Test, offset_past_size, blob_too_big, too_many_versions, too_many_open}
@@ -7,7 +7,10 @@ use Rattle.blob_model.specs.History.{store_of, IsLegal}
 use Rattle.blob_model.specs.declared.call.Place.{Place}
 use Rattle.blob_model.specs.declared.call.Event.{Event}
 use Rattle.tree_geom.specs.Geometry.{IsPageSize}
+use Rattle.boxcar.specs.Table.{Shelves}
+use Rattle.page_store.specs.House.{House}
 use Rattle.publisher.specs.Windows.{Numbered, finished_of, StandsFor}
+use Rattle.version_manager.specs.Desks.{LieIn}
 
 -- the window keeps the blob of that id: it stands for its updates, and tells which of them are finished; the blob is within the limits
 pub record IsBlobKept (limits : Bounds) (p id : ℕ) (b : Blob) (w : Numbered) : Type 0 where
@@ -36,3 +39,9 @@ pub record KeepsDesk (limits : Bounds) (p : ℕ) (history : List Event) (windows
   pub count : length (store_of limits history).blobs ≡ length windows
   pub each : (i : ℕ) (b : Blob) (w : Numbered) → slice_get (store_of limits history).blobs i ≡ Some b → slice_get windows i ≡ Some w
       → IsBlobKept limits p (suc i) b w
+
+-- The desk keeps its blobs, its rows lie in its houses, and its history is short.
+pub record IsDesk (limits : Bounds) (p : ℕ) (houses : List House) (nodes : List Shelves) (history : List Event) (windows : List Numbered) : Type 0 where
+  pub kept : KeepsDesk limits p history windows
+  pub lies : LieIn nodes houses windows
+  pub short : length history < 2 ^ 38

@@ -3,3 +3,5 @@ pub mod Desks
 pub mod Entries
 pub mod Kept
 pub mod Laws
+pub mod Log
+pub mod Stays

@@ -102,6 +102,7 @@ pub(crate) fn ticket_over(
     ensures caller { IfOk result (λ t. t.caller ≡ caller) }
     ensures blob { IfOk result (λ t. t.blob ≡ window.now.blob) }
     ensures len { IfOk result (λ t. t.len ≡ length (joined (arc_value pages.now).pages)) }
+    ensures published { IfOk result (λ t. IsVersion t.snapshot) }
     ensures snapshot { IfOk result (λ t. t.snapshot ≡ version_of window.now) }
     ensures waiting { IfOk result (λ t. t.waiting ≡ waiting_of window.now) }
     ensures pages { IfOk result (λ t. t.pages ≡ arc_value pages.now) }

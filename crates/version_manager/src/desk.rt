@@ -1,9 +1,7 @@
 // The blobs of a store and its history.
 ghost use Rattle.std.specs.Prelude.{◌≡◌, ℕ, ◌-◌, ◌^◌, ◌<◌, ◌≤◌, true, false, List, [], ◌∷◌, ◌++◌, length, map, MatchOption, IfOk, IfErr, OnOk, OnErr, vec_len};
 ghost use Rattle.std.specs.Arc.{arc_value};
-ghost use Rattle.boxcar.specs.Table.{Shelves};
-ghost use Rattle.page_store.specs.House.{House};
-ghost use Rattle.page_store.specs.Stored.{joined};
+ghost use Rattle.page_store.specs.Stored.{joined, LieAmong};
 ghost use Rattle.node_store.specs.Rows.{IsRowIn};
 ghost use Rattle.border_hints.specs.Numbered.{own_touch};
 ghost use Rattle.publisher.specs.Windows.{version_of, window_on, with_numbered, with_finished};
@@ -13,7 +11,7 @@ ghost use Rattle.blob_model.specs.History.{IsLegal};
 ghost use Rattle.blob_model.specs.declared.call.Call.TheVariants as Calls;
 ghost use Rattle.blob_model.specs.declared.call.Event.TheVariants as Events;
 ghost use Rattle.blob_model.specs.declared.call.Outcome.TheVariants as Outcomes;
-ghost use Rattle.version_manager.specs.Desks.{empty_desk, outcome_now, updates_in, window_in, with_event, windows_with, windows_and, is_finished_in, OnRefused, IsUnfinished, IsNumbering, IsTicketOf, IsRowFor, LiesIn};
+ghost use Rattle.version_manager.specs.Desks.{empty_desk, outcome_now, updates_in, window_in, with_event, windows_with, windows_and, is_finished_in, OnRefused, IsUnfinished, IsNumbering, IsTicketOf, IsRowFor, HasHints};
 
 use crate::blob::{branch_in, first_in, ticket_over};
 use crate::entry::{Change, Entry};
@@ -30,31 +28,37 @@ use std::marker::Model;
 use std::sync::Arc;
 use tree_geom::PageSize;
 
+// The most entries of a history.
+const MAX_ENTRIES: u64 = (1 << 38) - 1;
+
 /// The blobs of a store, and the history of all changes that it accepted, in order, each with its caller.
 ///
 /// The history is legal, and the blobs are what it leaves. A call that is refused, and one that finds no memory, leaves the
-/// desk as before. The pages and nodes of the desk's versions lie in the houses that it was made for, to which it keeps
-/// no reference.
+/// desk as before. The pages and nodes of the desk's versions lie in the houses that it was made for. It has fewer than 2^38
+/// entries.
 #[derive(Drop)]
 pub struct Desk {
     alloc: Global,
     limits: Limits,
     page_size: PageSize,
+    houses: Arc<Houses>,
+    nodes: Arc<NodeHouse>,
     history: Vec<Entry>,
     windows: Vec<Window>,
 }
 
 impl Model for Desk {
     ghost use Rattle.std.specs.Prelude.{map};
+    ghost use Rattle.std.specs.Arc.{arc_value};
     ghost use Rattle.version_manager.specs.Desks.{DeskState};
     ghost use Rattle.version_manager.specs.Entries.{event_of};
-    ghost use Rattle.version_manager.specs.Kept.{KeepsDesk};
+    ghost use Rattle.version_manager.specs.Kept.{IsDesk};
 
     ghost Value = { DeskState };
 
-    ghost view = { λ d. record { limits = d.limits; page_size = d.page_size; history = map event_of d.history.items; windows = d.windows.items } };
+    ghost view = { λ d. record { limits = d.limits; page_size = d.page_size; houses = arc_value d.houses; nodes = arc_value d.nodes; history = map event_of d.history.items; windows = d.windows.items } };
 
-    ghost invariant = { λ d. KeepsDesk d.limits d.page_size (map event_of d.history.items) d.windows.items };
+    ghost invariant = { λ d. IsDesk d.limits d.page_size (arc_value d.houses) (arc_value d.nodes) (map event_of d.history.items) d.windows.items };
 }
 
 impl Desk {
@@ -63,17 +67,18 @@ impl Desk {
         alloc: Global,
         limits: Limits,
         p: PageSize,
-        houses: &Houses,
-        nodes: &NodeHouse,
+        houses: &Arc<Houses>,
+        nodes: &Arc<NodeHouse>,
     ) -> Result<Desk, NoMemory>
-        ensures empty { IfOk result (λ desk. desk ≡ empty_desk limits p) }
-        ensures here { IfOk result (λ desk. LiesIn nodes.now houses.now desk) }
+        ensures { IfOk result (λ desk. desk ≡ empty_desk limits p (arc_value houses.now) (arc_value nodes.now)) }
     {
         let _bytes = p.bytes();
         Ok(Desk {
             alloc,
             limits,
             page_size: p,
+            houses: Arc::try_clone(houses)?,
+            nodes: Arc::try_clone(nodes)?,
             history: Vec::new(alloc),
             windows: Vec::new(alloc),
         })
@@ -83,9 +88,17 @@ impl Desk {
     pub fn limits(&self) -> Limits
         ensures limits { result ≡ self.now.limits }
         ensures legal { IsLegal self.now.limits self.now.history }
-        ensures short { length self.now.history < 2 ^ 63 }
+        ensures short { length self.now.history < 2 ^ 38 }
     {
         self.limits
+    }
+
+    /// How many entries the history has.
+    pub(crate) fn entries(&self) -> u64
+        ensures count { result ≡ length self.now.history }
+        ensures short { result < 2 ^ 38 }
+    {
+        self.history.len() as u64
     }
 
     /// The page size of all blobs.
@@ -103,13 +116,15 @@ impl Desk {
             (windows_and self.old (window_on record { blob = blob; page_size = self.old.page_size; rows = [] }))) }
         ensures refused { IfErr result (λ fault. OnRefused fault (λ refusal. outcome_now self.old caller Calls.Create ≡ Outcomes.Refused refusal)) }
         ensures same { IfErr result (λ _. self.new ≡ self.old) }
-        ensures here { (nodes : List Shelves) (houses : List House) → LiesIn nodes houses self.old → LiesIn nodes houses self.new }
     {
         let count = self.windows.len() as u64;
         let limits = self.limits;
         let limit = limits.max_blobs;
         if count == limit {
             return Err(DeskFault::Refused(Refusal::TooManyBlobs { limit }));
+        }
+        if self.history.len() as u64 >= MAX_ENTRIES {
+            return Err(DeskFault::NoMemory);
         }
         let blob = count + 1;
         let Ok(window) = first_in(self.alloc, blob, self.page_size) else {
@@ -136,8 +151,10 @@ impl Desk {
         requires some { 1 ≤ length (joined (arc_value pages.now).pages) }
         requires few { length (joined (arc_value pages.now).pages) ≤ 1048576 }
         requires page_size { (arc_value pages.now).page_size ≡ self.old.page_size }
+        requires here { LieAmong self.old.houses (arc_value pages.now).pages }
         ensures assigned { IfOk result (λ t. outcome_now self.old caller (Calls.Assign blob place (joined (arc_value pages.now).pages)) ≡ Outcomes.Assigned t.version t.at t.size) }
         ensures numbering { IfOk result (λ t. IsNumbering self.old caller blob t) }
+        ensures hints { IfOk result (λ t. HasHints self.old blob t) }
         ensures pages { IfOk result (λ t. t.pages ≡ arc_value pages.now) }
         ensures ticket { IfOk result (λ t. IsTicketOf self.new t) }
         ensures new { IfOk result (λ t. self.new ≡ with_event self.old (Events.Assign caller blob place (joined (arc_value pages.now).pages))
@@ -146,7 +163,6 @@ impl Desk {
         ensures refused { IfErr result (λ fault. OnRefused fault (λ refusal.
             outcome_now self.old caller (Calls.Assign blob place (joined (arc_value pages.now).pages)) ≡ Outcomes.Refused refusal)) }
         ensures same { IfErr result (λ _. self.new ≡ self.old) }
-        ensures here { (nodes : List Shelves) (houses : List House) → LiesIn nodes houses self.old → LiesIn nodes houses self.new }
     {
         let Some(place_in) = place_of(&self.windows, blob) else {
             return Err(DeskFault::Refused(Refusal::NoBlob { blob }));
@@ -157,6 +173,9 @@ impl Desk {
             Ok(ticket) => ticket,
             Err(fault) => return Err(fault),
         };
+        if self.history.len() as u64 >= MAX_ENTRIES {
+            return Err(DeskFault::NoMemory);
+        }
         let Ok(pages) = Arc::try_clone(pages) else {
             return Err(DeskFault::NoMemory);
         };
@@ -181,6 +200,7 @@ impl Desk {
     ) -> Result<u64, (DeskFault, Arc<Row>)>
         requires ticket { IsTicketOf self.old ticket.now }
         requires row { IsRowFor self.old ticket.now (arc_value row) }
+        requires here { IsRowIn self.old.nodes self.old.houses (arc_value row) }
         ensures published { IfOk result (λ published. outcome_now self.old caller (Calls.Finish ticket.now.blob ticket.now.version) ≡ Outcomes.Published published) }
         ensures new { IfOk result (λ _. self.new ≡ with_event self.old (Events.Finish caller ticket.now.blob ticket.now.version)
             (windows_with self.old ticket.now.blob (with_finished (window_in self.old ticket.now.blob) ticket.now.version (arc_value row)))) }
@@ -190,7 +210,6 @@ impl Desk {
         ensures refused { IfErr result (λ e. OnRefused e.0 (λ refusal.
             outcome_now self.old caller (Calls.Finish ticket.now.blob ticket.now.version) ≡ Outcomes.Refused refusal)) }
         ensures same { IfErr result (λ e. (e.1 ≡ row) × (self.new ≡ self.old)) }
-        ensures here { (nodes : List Shelves) (houses : List House) → LiesIn nodes houses self.old → IsRowIn nodes houses (arc_value row) → LiesIn nodes houses self.new }
     {
         let blob = ticket.blob();
         let version = ticket.version();
@@ -199,6 +218,9 @@ impl Desk {
         let _assigned = window.assigned();
         if window.is_finished(version) {
             return Err((DeskFault::Refused(Refusal::Already { version }), row));
+        }
+        if self.history.len() as u64 >= MAX_ENTRIES {
+            return Err((DeskFault::NoMemory, row));
         }
         if self.history.reserve(1).is_err() {
             return Err((DeskFault::NoMemory, row));
@@ -223,7 +245,6 @@ impl Desk {
             (windows_and self.old (window_on (under_blob (older_version (version_of (window_in self.old blob)) version) id)))) }
         ensures refused { IfErr result (λ fault. OnRefused fault (λ refusal. outcome_now self.old caller (Calls.Branch blob version) ≡ Outcomes.Refused refusal)) }
         ensures same { IfErr result (λ _. self.new ≡ self.old) }
-        ensures here { (nodes : List Shelves) (houses : List House) → LiesIn nodes houses self.old → LiesIn nodes houses self.new }
     {
         let Some(place) = place_of(&self.windows, blob) else {
             return Err(DeskFault::Refused(Refusal::NoBlob { blob }));
@@ -238,6 +259,9 @@ impl Desk {
         let limit = limits.max_blobs;
         if count == limit {
             return Err(DeskFault::Refused(Refusal::TooManyBlobs { limit }));
+        }
+        if self.history.len() as u64 >= MAX_ENTRIES {
+            return Err(DeskFault::NoMemory);
         }
         let id = count + 1;
         let Ok(window) = branch_in(self.alloc, parent, id, version) else {
@@ -261,7 +285,7 @@ impl Desk {
         ensures page_size { IfOk result (λ s. s.page_size ≡ self.now.page_size) }
         ensures tells { IfOk result (λ s. TellUpdates self.now.page_size (updates_in self.now blob) s.rows) }
         ensures refused { (caller : ℕ) → IfErr result (λ fault. OnRefused fault (λ refusal. outcome_now self.now caller (Calls.Size blob version) ≡ Outcomes.Refused refusal)) }
-        ensures here { (nodes : List Shelves) (houses : List House) → LiesIn nodes houses self.now → IfOk result (λ s. IsVersionIn nodes houses s) }
+        ensures here { IfOk result (λ s. IsVersionIn self.now.nodes self.now.houses s) }
     {
         match place_of(&self.windows, blob) {
             Some(place) => snapshot_in(&self.windows[place], version),

@@ -1,5 +1,5 @@
-//! What stays true of a desk as it goes on. The law is the contract of a function that does nothing.
-ghost use Rattle.version_manager.specs.Laws.{TicketsStay, UnfinishedStay};
+//! What stays true of a desk as it goes on. A law is the contract of a function that does nothing.
+ghost use Rattle.version_manager.specs.Laws.{TicketsStay, UnfinishedStay, FinishedByGap};
 
 /// A ticket of a desk stays one of it, whatever is accepted after its numbering.
 pub fn tickets_stay()
@@ -11,4 +11,9 @@ pub fn tickets_stay()
 /// An unfinished version stays unfinished, whatever is accepted but its own finish.
 pub fn unfinished_stay()
     ensures { UnfinishedStay }
+{}
+
+/// A numbered version that is unfinished in what a pass has seen is finished after a gap exactly where the gap finishes it.
+pub fn finished_by_gap()
+    ensures { FinishedByGap }
 {}

@@ -1,10 +1,9 @@
 use Rattle.std.proofs.Common.{◌≡◌, ℕ, ◌+◌, ◌-◌, ◌<◌, List, [], ◌∷◌, ◌++◌, length, map, set, refl, sym, ◌∙◌, ap, subst, arith}
-use Rattle.std.specs.Prelude.{All}
 use Rattle.std.specs.Arc.{arc_value}
 use Rattle.std.proofs.lemmas.List.Elements.{All-set}
 use Rattle.tree_geom.specs.declared.touch.Touch.{Touch}
 use Rattle.page_store.specs.Stored.{Cut, joined}
-use Rattle.snapshot.specs.Versions.{Version}
+use Rattle.snapshot.specs.Versions.{Version, IsVersion}
 use Rattle.blob_model.specs.Content.{Update, offset_of}
 use Rattle.blob_model.specs.Store.{Blob, blob_at, size_now, size_with}
 use Rattle.blob_model.specs.Answer.{answer}
@@ -15,40 +14,43 @@ use Rattle.blob_model.specs.declared.call.Event.TheVariants as Events
 use Rattle.blob_model.specs.declared.call.Outcome.TheVariants as Outcomes
 use Rattle.border_hints.specs.Numbered.{own_touch}
 use Rattle.publisher.specs.Windows.{Numbered, published_of, version_of, waiting_of, with_numbered}
-use Rattle.version_manager.specs.Desks.{DeskState, LiesIn, OnRefused, updates_or_none, IsNumbering}
+use Rattle.version_manager.specs.Desks.{DeskState, OnRefused, updates_or_none, IsNumbering, HasHints}
 use Rattle.version_manager.specs.Entries.{event_of}
 use Rattle.version_manager.specs.Kept.{KeepsDesk}
-use Rattle.version_manager.proofs.Desks.{at_place}
+use Rattle.version_manager.proofs.Desks.{at_place, short_yet}
 use Rattle.version_manager.proofs.Numbering.{numbered_event, is_ticket, is_unfinished, assign_fault, assign_outcome, assign_keeps, assign_there, even_of}
+use Rattle.version_manager.specs.declared.entry.Change.TheVariants as Changes
+use Rattle.version_manager.specs.declared.entry.Entry.{Entry}
+use Rattle.version_manager.proofs.Hints.{has_hints}
 use Rattle.version_manager.proofs.Houses.{AreRowsIn, numbered_in, window_lies}
 use Rattle.version_manager.proofs.desk.Desk.assign.Goals as goal
 
 pub ticket_over-requires-clause-kept : goal.ticket_over-requires-clause-kept
 ticket_over-requires-clause-kept c =
     let d = c.self.inside in
-    let x = at_place d.limits d.page_size (map event_of d.history.items) d.windows.items c.self.invariant c.args.blob c.in-Some.place_in _ c.index-window.result.now d.windows.ok.0 c.in-Some.ensures c.index-window.ensures in
+    let x = at_place d.limits d.page_size (map event_of d.history.items) d.windows.items c.self.invariant.kept c.args.blob c.in-Some.place_in _ c.index-window.result.now d.windows.ok.0 c.in-Some.ensures c.index-window.ensures in
     (x.found.b, x.keeps)
 
 pub ticket_over-requires-clause-page_size : goal.ticket_over-requires-clause-page_size
 ticket_over-requires-clause-page_size c =
     let d = c.self.inside in
-    let x = at_place d.limits d.page_size (map event_of d.history.items) d.windows.items c.self.invariant c.args.blob c.in-Some.place_in _ c.index-window.result.now d.windows.ok.0 c.in-Some.ensures c.index-window.ensures in
+    let x = at_place d.limits d.page_size (map event_of d.history.items) d.windows.items c.self.invariant.kept c.args.blob c.in-Some.place_in _ c.index-window.result.now d.windows.ok.0 c.in-Some.ensures c.index-window.ensures in
     c.requires.page_size ∙ sym (ap (λ (s : DeskState). s.page_size) c.self.view_is) ∙ sym x.page
 
 pub returns-in-Err-clause-refused : goal.returns-in-Err-clause-refused
 returns-in-Err-clause-refused c =
     let d = c.self.inside in
     let bytes = joined (arc_value c.args.pages.now).pages in
-    let x = at_place d.limits d.page_size (map event_of d.history.items) d.windows.items c.self.invariant c.args.blob c.in-Some.place_in _ c.index-window.result.now d.windows.ok.0 c.in-Some.ensures c.index-window.ensures in
+    let x = at_place d.limits d.page_size (map event_of d.history.items) d.windows.items c.self.invariant.kept c.args.blob c.in-Some.place_in _ c.index-window.result.now d.windows.ok.0 c.in-Some.ensures c.index-window.ensures in
     let P : DeskState → Type 0 = λ s. OnRefused c.in-Err.fault (λ refusal. (answer (store_of s.limits s.history) c.args.caller (Calls.Assign c.args.blob c.args.place bytes)).1 ≡ Outcomes.Refused refusal) in
-    subst P c.self.view_is (assign_fault d.limits d.page_size (map event_of d.history.items) d.windows.items c.self.invariant c.args.caller c.args.blob c.args.place bytes x.found c.in-Err.fault (c.in-Err.ensures.refused x.found.b x.keeps))
+    subst P c.self.view_is (assign_fault d.limits d.page_size (map event_of d.history.items) d.windows.items c.self.invariant.kept c.args.caller c.args.blob c.args.place bytes x.found c.in-Err.fault (c.in-Err.ensures.refused x.found.b x.keeps))
 
 pub number-requires-clause-few : goal.number-requires-clause-few
 number-requires-clause-few c =
     let d = c.self.inside in
     let h = map event_of d.history.items in
-    let x = at_place d.limits d.page_size h d.windows.items c.self.invariant c.args.blob c.in-Some.place_in _ c.index-window.result.now d.windows.ok.0 c.in-Some.ensures c.index-window.ensures in
-    let y = at_place d.limits d.page_size h d.windows.items c.self.invariant c.args.blob c.in-Some.place_in _ c.index_mut.result.now d.windows.ok.0 c.in-Some.ensures c.index_mut.ensures.value in
+    let x = at_place d.limits d.page_size h d.windows.items c.self.invariant.kept c.args.blob c.in-Some.place_in _ c.index-window.result.now d.windows.ok.0 c.in-Some.ensures c.index-window.ensures in
+    let y = at_place d.limits d.page_size h d.windows.items c.self.invariant.kept c.args.blob c.in-Some.place_in _ c.index_mut.result.now d.windows.ok.0 c.in-Some.ensures c.index_mut.ensures.value in
     let F : Numbered → Type 0 = λ w. length w.log < published_of w + 64 in
     subst F (x.window ∙ sym y.window) c.in-Ok.ensures.few
 
@@ -56,8 +58,8 @@ pub number-requires-clause-room : goal.number-requires-clause-room
 number-requires-clause-room c =
     let d = c.self.inside in
     let h = map event_of d.history.items in
-    let x = at_place d.limits d.page_size h d.windows.items c.self.invariant c.args.blob c.in-Some.place_in _ c.index-window.result.now d.windows.ok.0 c.in-Some.ensures c.index-window.ensures in
-    let y = at_place d.limits d.page_size h d.windows.items c.self.invariant c.args.blob c.in-Some.place_in _ c.index_mut.result.now d.windows.ok.0 c.in-Some.ensures c.index_mut.ensures.value in
+    let x = at_place d.limits d.page_size h d.windows.items c.self.invariant.kept c.args.blob c.in-Some.place_in _ c.index-window.result.now d.windows.ok.0 c.in-Some.ensures c.index-window.ensures in
+    let y = at_place d.limits d.page_size h d.windows.items c.self.invariant.kept c.args.blob c.in-Some.place_in _ c.index_mut.result.now d.windows.ok.0 c.in-Some.ensures c.index_mut.ensures.value in
     let F : Numbered → Type 0 = λ w. length w.log < 1048576 in
     subst F (x.window ∙ sym y.window) c.in-Ok.ensures.room
 
@@ -68,17 +70,28 @@ invariant_of-self-2 c =
     let blob = c.args.blob in
     let bytes = joined (arc_value c.args.pages.now).pages in
     let u : Update = record { caller = c.args.caller; place = c.args.place; bytes = bytes } in
-    let x = at_place d.limits d.page_size h d.windows.items c.self.invariant blob c.in-Some.place_in _ c.index-window.result.now d.windows.ok.0 c.in-Some.ensures c.index-window.ensures in
-    let y = at_place d.limits d.page_size h d.windows.items c.self.invariant blob c.in-Some.place_in _ c.index_mut.result.now d.windows.ok.0 c.in-Some.ensures c.index_mut.ensures.value in
+    let x = at_place d.limits d.page_size h d.windows.items c.self.invariant.kept blob c.in-Some.place_in _ c.index-window.result.now d.windows.ok.0 c.in-Some.ensures c.index-window.ensures in
+    let y = at_place d.limits d.page_size h d.windows.items c.self.invariant.kept blob c.in-Some.place_in _ c.index_mut.result.now d.windows.ok.0 c.in-Some.ensures c.index_mut.ensures.value in
     let W : Numbered = with_numbered c.index-window.result.now (own_touch c.in-Ok.ticket) in
     let is : c.number.new.self ≡ W = c.number.ensures.new ∙ ap (λ (t : Touch). with_numbered c.index_mut.result.now t) c.touch.ensures ∙ ap (λ (w : Numbered). with_numbered w (own_touch c.in-Ok.ticket)) (y.window ∙ sym x.window) in
-    let keeps = assign_keeps d.limits d.page_size h d.windows.items c.self.invariant c.args.caller blob c.args.place bytes x.found (c.in-Ok.ensures.accepted x.found.b x.keeps) c.requires.some x.some W (c.in-Ok.ensures.kept x.found.b u x.keeps refl refl) x.id x.page in
+    let keeps = assign_keeps d.limits d.page_size h d.windows.items c.self.invariant.kept c.args.caller blob c.args.place bytes x.found (c.in-Ok.ensures.accepted x.found.b x.keeps) c.requires.some x.some W (c.in-Ok.ensures.kept x.found.b u x.keeps refl refl) x.id x.page in
     let e : Event = Events.Assign c.args.caller blob c.args.place bytes in
     let history : map event_of c.push_reserved.new.self.items ≡ h ++ e ∷ [] = numbered_event d.history.items c.reserve.new.self.items c.push_reserved.new.self.items c.args.caller blob c.args.place c.in-Ok-try_clone.pages _ c.reserve.ensures.items c.push_reserved.ensures.items c.in-Ok-try_clone.ensures in
     let P : List Event → Type 0 = λ l. KeepsDesk d.limits d.page_size l (set d.windows.items (blob - 1) W) in
     let Q : ℕ → Type 0 = λ i. KeepsDesk d.limits d.page_size (map event_of c.push_reserved.new.self.items) (set d.windows.items i W) in
     let R : Numbered → Type 0 = λ w. KeepsDesk d.limits d.page_size (map event_of c.push_reserved.new.self.items) (set d.windows.items c.in-Some.place_in w) in
-    subst R (sym is) (subst Q (sym x.at) (subst P (sym history) keeps))
+    let entry : Entry = record { caller = c.args.caller; change = Changes.Assign blob c.args.place c.in-Ok-try_clone.pages } in
+    let nodes = arc_value d.nodes in
+    let houses = arc_value d.houses in
+    let L : Numbered → Type 0 = λ w. AreRowsIn nodes houses w in
+    let within : c.in-Some.place_in < length d.windows.items = omega (arith, d.windows.ok.0, c.in-Some.ensures.0, c.in-Some.ensures.1, c.in-Some.ensures.2) in
+    let was : L c.index_mut.result.now = window_lies nodes houses d.windows.items c.in-Some.place_in c.index_mut.result.now _ c.self.invariant.lies within c.index_mut.ensures.value in
+    let now : L c.number.new.self = subst L (sym c.number.ensures.new) (numbered_in nodes houses c.index_mut.result.now c.touch.result was) in
+    record {
+      kept = subst R (sym is) (subst Q (sym x.at) (subst P (sym history) keeps));
+      lies = All-set (AreRowsIn nodes houses) d.windows.items c.in-Some.place_in c.number.new.self now c.self.invariant.lies;
+      short = short_yet d.history.items c.push_reserved.new.self.items entry (c.push_reserved.ensures.items ∙ ap (λ (l : List Entry). l ++ entry ∷ []) c.reserve.ensures.items) (omega (arith, c.len.ensures, d.history.ok.0, c.if-len-ge-MAX_ENTRIES.false));
+    }
 
 pub returns-clause-assigned : goal.returns-clause-assigned
 returns-clause-assigned c =
@@ -87,12 +100,12 @@ returns-clause-assigned c =
     let blob = c.args.blob in
     let t = c.in-Ok.ticket in
     let bytes = joined (arc_value c.args.pages.now).pages in
-    let x = at_place d.limits d.page_size h d.windows.items c.self.invariant blob c.in-Some.place_in _ c.index-window.result.now d.windows.ok.0 c.in-Some.ensures c.index-window.ensures in
+    let x = at_place d.limits d.page_size h d.windows.items c.self.invariant.kept blob c.in-Some.place_in _ c.index-window.result.now d.windows.ok.0 c.in-Some.ensures c.index-window.ensures in
     let b : Blob = x.found.b in
     let free = c.in-Ok.ensures.accepted b x.keeps in
     let P : DeskState → Type 0 = λ s. (answer (store_of s.limits s.history) c.args.caller (Calls.Assign blob c.args.place bytes)).1 ≡ Outcomes.Assigned t.version t.at t.size in
     subst P c.self.view_is (
-    assign_outcome d.limits d.page_size h d.windows.items c.self.invariant c.args.caller blob c.args.place bytes x.found free
+    assign_outcome d.limits d.page_size h d.windows.items c.self.invariant.kept c.args.caller blob c.args.place bytes x.found free
     ∙ ap (λ (n : ℕ). Outcomes.Assigned n (offset_of c.args.place (size_now b)) (size_with b c.args.place bytes)) (sym (c.in-Ok.ensures.version b x.keeps))
     ∙ ap (λ (n : ℕ). Outcomes.Assigned t.version n (size_with b c.args.place bytes)) (sym (c.in-Ok.ensures.at b x.keeps))
     ∙ ap (λ (n : ℕ). Outcomes.Assigned t.version t.at n) (sym (c.in-Ok.ensures.size b x.keeps))
@@ -104,7 +117,7 @@ returns-clause-numbering c =
     let h = map event_of d.history.items in
     let blob = c.args.blob in
     let t = c.in-Ok.ticket in
-    let x = at_place d.limits d.page_size h d.windows.items c.self.invariant blob c.in-Some.place_in _ c.index-window.result.now d.windows.ok.0 c.in-Some.ensures c.index-window.ensures in
+    let x = at_place d.limits d.page_size h d.windows.items c.self.invariant.kept blob c.in-Some.place_in _ c.index-window.result.now d.windows.ok.0 c.in-Some.ensures c.index-window.ensures in
     let P : DeskState → Type 0 = λ s. IsNumbering s c.args.caller blob t in
     subst P c.self.view_is record {
       caller = c.in-Ok.ensures.caller;
@@ -123,11 +136,11 @@ returns-clause-ticket c =
     let t = c.in-Ok.ticket in
     let bytes = joined (arc_value c.args.pages.now).pages in
     let u : Update = record { caller = c.args.caller; place = c.args.place; bytes = bytes } in
-    let x = at_place d.limits d.page_size h d.windows.items c.self.invariant blob c.in-Some.place_in _ c.index-window.result.now d.windows.ok.0 c.in-Some.ensures c.index-window.ensures in
+    let x = at_place d.limits d.page_size h d.windows.items c.self.invariant.kept blob c.in-Some.place_in _ c.index-window.result.now d.windows.ok.0 c.in-Some.ensures c.index-window.ensures in
     let b : Blob = x.found.b in
     let e : Event = Events.Assign c.args.caller blob c.args.place bytes in
     let history : map event_of c.push_reserved.new.self.items ≡ h ++ e ∷ [] = numbered_event d.history.items c.reserve.new.self.items c.push_reserved.new.self.items c.args.caller blob c.args.place c.in-Ok-try_clone.pages _ c.reserve.ensures.items c.push_reserved.ensures.items c.in-Ok-try_clone.ensures in
-    let there = assign_there d.limits d.page_size h d.windows.items c.self.invariant c.args.caller blob c.args.place bytes x.found (c.in-Ok.ensures.accepted b x.keeps) in
+    let there = assign_there d.limits d.page_size h d.windows.items c.self.invariant.kept c.args.caller blob c.args.place bytes x.found (c.in-Ok.ensures.accepted b x.keeps) in
     let on : t.blob ≡ blob = c.in-Ok.ensures.blob ∙ x.id in
     let O : List Event → ℕ → List Update = λ l i. updates_or_none (blob_at (store_of d.limits l) i) in
     let updates : O (map event_of c.push_reserved.new.self.items) t.blob ≡ b.updates ++ u ∷ [] =
@@ -142,21 +155,24 @@ returns-clause-unfinished c =
     let blob = c.args.blob in
     let bytes = joined (arc_value c.args.pages.now).pages in
     let u : Update = record { caller = c.args.caller; place = c.args.place; bytes = bytes } in
-    let x = at_place d.limits d.page_size h d.windows.items c.self.invariant blob c.in-Some.place_in _ c.index-window.result.now d.windows.ok.0 c.in-Some.ensures c.index-window.ensures in
+    let x = at_place d.limits d.page_size h d.windows.items c.self.invariant.kept blob c.in-Some.place_in _ c.index-window.result.now d.windows.ok.0 c.in-Some.ensures c.index-window.ensures in
     let b : Blob = x.found.b in
     let e : Event = Events.Assign c.args.caller blob c.args.place bytes in
     let history : map event_of c.push_reserved.new.self.items ≡ h ++ e ∷ [] = numbered_event d.history.items c.reserve.new.self.items c.push_reserved.new.self.items c.args.caller blob c.args.place c.in-Ok-try_clone.pages _ c.reserve.ensures.items c.push_reserved.ensures.items c.in-Ok-try_clone.ensures in
-    let there = assign_there d.limits d.page_size h d.windows.items c.self.invariant c.args.caller blob c.args.place bytes x.found (c.in-Ok.ensures.accepted b x.keeps) in
+    let there = assign_there d.limits d.page_size h d.windows.items c.self.invariant.kept c.args.caller blob c.args.place bytes x.found (c.in-Ok.ensures.accepted b x.keeps) in
     let even = even_of d.limits b c.index-window.result.now x.keeps (sym c.assigned-assigned.ensures.rows ∙ c.assigned-assigned.ensures.log) in
     is_unfinished _ blob c.in-Ok.ticket.version b u (ap (λ (l : List Event). blob_at (store_of d.limits l) blob) history ∙ there) (c.in-Ok.ensures.version b x.keeps) even
 
-pub returns-clause-here : goal.returns-clause-here
-returns-clause-here c = λ nodes houses lies.
+pub returns-clause-hints : goal.returns-clause-hints
+returns-clause-hints c =
     let d = c.self.inside in
-    let R : DeskState → Type 0 = λ s. LiesIn nodes houses s in
-    let old : All (AreRowsIn nodes houses) d.windows.items = subst R (sym c.self.view_is) lies in
-    let W : Numbered → Type 0 = λ w. AreRowsIn nodes houses w in
+    let h = map event_of d.history.items in
+    let blob = c.args.blob in
+    let t = c.in-Ok.ticket in
+    let x = at_place d.limits d.page_size h d.windows.items c.self.invariant.kept blob c.in-Some.place_in _ c.index-window.result.now d.windows.ok.0 c.in-Some.ensures c.index-window.ensures in
+    let w = c.index-window.result.now in
+    let L : Numbered → Type 0 = λ v. AreRowsIn (arc_value d.nodes) (arc_value d.houses) v in
     let within : c.in-Some.place_in < length d.windows.items = omega (arith, d.windows.ok.0, c.in-Some.ensures.0, c.in-Some.ensures.1, c.in-Some.ensures.2) in
-    let was : W c.index_mut.result.now = window_lies nodes houses d.windows.items c.in-Some.place_in c.index_mut.result.now _ old within c.index_mut.ensures.value in
-    let now : W c.number.new.self = subst W (sym c.number.ensures.new) (numbered_in nodes houses c.index_mut.result.now c.touch.result was) in
-    All-set (AreRowsIn nodes houses) d.windows.items c.in-Some.place_in c.number.new.self now old
+    let lies : L w = window_lies (arc_value d.nodes) (arc_value d.houses) d.windows.items c.in-Some.place_in w _ c.self.invariant.lies within c.index-window.ensures in
+    let P : DeskState → Type 0 = λ s. HasHints s blob t in
+    subst P c.self.view_is (has_hints _ blob t x.found.b w d.limits x.found.at x.page x.keeps (sym c.assigned-assigned.ensures.rows ∙ c.assigned-assigned.ensures.log) (subst (λ (v : Version). IsVersion v) c.in-Ok.ensures.snapshot c.in-Ok.ensures.published) c.in-Ok.ensures.snapshot c.in-Ok.ensures.waiting lies)

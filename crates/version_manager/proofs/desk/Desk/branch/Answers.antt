@@ -1,5 +1,6 @@
 use Rattle.std.proofs.Common.{◌≡◌, ℕ, ◌+◌, ◌-◌, ◌<◌, ◌≤◌, List, [], ◌∷◌, ◌++◌, length, map, get_or, sym, ◌∙◌, ap, subst, arith}
 use Rattle.std.specs.Prelude.{All}
+use Rattle.std.specs.Arc.{arc_value}
 use Rattle.std.proofs.lemmas.List.Elements.{All-push}
 use Rattle.blob_model.specs.Limits.{Bounds}
 use Rattle.blob_model.specs.Answer.{answer}
@@ -11,10 +12,10 @@ use Rattle.blob_model.specs.declared.call.Refusal.TheVariants as Refusals
 use Rattle.publisher.specs.Windows.{Numbered, published_of}
 use Rattle.version_manager.specs.declared.entry.Entry.{Entry}
 use Rattle.version_manager.specs.declared.entry.Change.TheVariants as Changes
-use Rattle.version_manager.specs.Desks.{DeskState, LiesIn, no_window}
+use Rattle.version_manager.specs.Desks.{DeskState, no_window}
 use Rattle.version_manager.specs.Entries.{event_of}
 use Rattle.version_manager.specs.Kept.{KeepsDesk}
-use Rattle.version_manager.proofs.Desks.{at_place, pushed_event}
+use Rattle.version_manager.proofs.Desks.{at_place, pushed_event, short_yet}
 use Rattle.version_manager.proofs.NewBlobs.{branch_ahead, branch_full, branch_outcome, branch_keeps}
 use Rattle.version_manager.proofs.Houses.{AreRowsIn, branch_in_houses, window_lies}
 use Rattle.version_manager.proofs.desk.Desk.branch.Goals as goal
@@ -26,11 +27,11 @@ returns-then-version-published-clause-refused c =
     let ws = d.windows.items in
     let blob = c.args.blob in
     let version = c.args.version in
-    let x = at_place d.limits d.page_size h ws c.self.invariant blob c.in-Some.place _ c.index-parent.result.now d.windows.ok.0 c.in-Some.ensures c.index-parent.ensures in
+    let x = at_place d.limits d.page_size h ws c.self.invariant.kept blob c.in-Some.place _ c.index-parent.result.now d.windows.ok.0 c.in-Some.ensures c.index-parent.ensures in
     let is : c.published-published.result ≡ published_of (get_or ws (blob - 1) no_window) = c.published-published.ensures ∙ ap published_of x.window in
     let lt : published_of (get_or ws (blob - 1) no_window) < version = omega (arith, is, c.if-version-published.true) in
     let P : DeskState → Type 0 = λ s. (answer (store_of s.limits s.history) c.args.caller (Calls.Branch blob version)).1 ≡ Outcomes.Refused (Refusals.NotPublished version c.published-published.result) in
-    subst P c.self.view_is (branch_ahead d.limits d.page_size h ws c.self.invariant c.args.caller blob version x.found lt ∙ ap (λ (n : ℕ). Outcomes.Refused (Refusals.NotPublished version n)) (sym is))
+    subst P c.self.view_is (branch_ahead d.limits d.page_size h ws c.self.invariant.kept c.args.caller blob version x.found lt ∙ ap (λ (n : ℕ). Outcomes.Refused (Refusals.NotPublished version n)) (sym is))
 
 pub returns-then-count-limit-clause-refused : goal.returns-then-count-limit-clause-refused
 returns-then-count-limit-clause-refused c =
@@ -39,13 +40,13 @@ returns-then-count-limit-clause-refused c =
     let ws = d.windows.items in
     let blob = c.args.blob in
     let version = c.args.version in
-    let x = at_place d.limits d.page_size h ws c.self.invariant blob c.in-Some.place _ c.index-parent.result.now d.windows.ok.0 c.in-Some.ensures c.index-parent.ensures in
+    let x = at_place d.limits d.page_size h ws c.self.invariant.kept blob c.in-Some.place _ c.index-parent.result.now d.windows.ok.0 c.in-Some.ensures c.index-parent.ensures in
     let is : c.published-published.result ≡ published_of (get_or ws (blob - 1) no_window) = c.published-published.ensures ∙ ap published_of x.window in
     let le : version ≤ published_of (get_or ws (blob - 1) no_window) = omega (arith, is, c.if-version-published.false) in
     let most : c.limits.inside.max_blobs ≡ d.limits.max_blobs = ap (λ (l : Bounds). l.max_blobs) c.limits.view_is in
     let full : length ws ≡ d.limits.max_blobs = omega (arith, most, c.len-count.ensures, c.if-count-limit.true, d.windows.ok.0) in
     let P : DeskState → Type 0 = λ s. (answer (store_of s.limits s.history) c.args.caller (Calls.Branch blob version)).1 ≡ Outcomes.Refused (Refusals.TooManyBlobs c.limits.inside.max_blobs) in
-    subst P c.self.view_is (branch_full d.limits d.page_size h ws c.self.invariant c.args.caller blob version x.found le full ∙ ap (λ (n : ℕ). Outcomes.Refused (Refusals.TooManyBlobs n)) (sym most))
+    subst P c.self.view_is (branch_full d.limits d.page_size h ws c.self.invariant.kept c.args.caller blob version x.found le full ∙ ap (λ (n : ℕ). Outcomes.Refused (Refusals.TooManyBlobs n)) (sym most))
 
 pub invariant_of-self-2 : goal.invariant_of-self-2
 invariant_of-self-2 c =
@@ -54,7 +55,7 @@ invariant_of-self-2 c =
     let ws = d.windows.items in
     let blob = c.args.blob in
     let version = c.args.version in
-    let x = at_place d.limits d.page_size h ws c.self.invariant blob c.in-Some.place _ c.index-parent.result.now d.windows.ok.0 c.in-Some.ensures c.index-parent.ensures in
+    let x = at_place d.limits d.page_size h ws c.self.invariant.kept blob c.in-Some.place _ c.index-parent.result.now d.windows.ok.0 c.in-Some.ensures c.index-parent.ensures in
     let is : c.published-published.result ≡ published_of (get_or ws (blob - 1) no_window) = c.published-published.ensures ∙ ap published_of x.window in
     let w = c.in-Ok.window in
     let le : version ≤ published_of (get_or ws (blob - 1) no_window) = omega (arith, is, c.if-version-published.false) in
@@ -63,12 +64,23 @@ invariant_of-self-2 c =
     let apart : length ws ≡ d.limits.max_blobs → ⊥ = λ e. c.if-count-limit.false (long ∙ e ∙ sym most) in
     let id : w.blob ≡ length ws + 1 = ap (λ (v : Numbered). v.blob) c.in-Ok.ensures.new ∙ ap (λ (n : ℕ). n + 1) long in
     let page : w.page_size ≡ d.page_size = ap (λ (v : Numbered). v.page_size) c.in-Ok.ensures.new ∙ x.page in
-    let keeps = branch_keeps d.limits d.page_size h ws c.self.invariant c.args.caller blob version x.found le apart w (c.in-Ok.ensures.kept d.limits x.found.b x.keeps) id page in
+    let keeps = branch_keeps d.limits d.page_size h ws c.self.invariant.kept c.args.caller blob version x.found le apart w (c.in-Ok.ensures.kept d.limits x.found.b x.keeps) id page in
     let entry : Entry = record { caller = c.args.caller; change = Changes.Branch blob version } in
     let history = pushed_event d.history.items c.add.new.history.items entry c.in-Ok-add.ensures.history in
     let P : List Event → Type 0 = λ l. KeepsDesk d.limits d.page_size l (ws ++ w ∷ []) in
     let Q : List Numbered → Type 0 = λ l. KeepsDesk d.limits d.page_size (map event_of c.add.new.history.items) l in
-    subst Q (sym c.in-Ok-add.ensures.windows) (subst P (sym history) keeps)
+    let nodes = arc_value d.nodes in
+    let houses = arc_value d.houses in
+    let W : Numbered → Type 0 = λ v. AreRowsIn nodes houses v in
+    let A : List Numbered → Type 0 = λ l. All (AreRowsIn nodes houses) l in
+    let within : c.in-Some.place < length d.windows.items = omega (arith, d.windows.ok.0, c.in-Some.ensures.0, c.in-Some.ensures.1, c.in-Some.ensures.2) in
+    let was : W c.index-parent.result.now = window_lies nodes houses d.windows.items c.in-Some.place c.index-parent.result.now _ c.self.invariant.lies within c.index-parent.ensures in
+    let new : W w = subst W (sym c.in-Ok.ensures.new) (branch_in_houses nodes houses c.index-parent.result.now version (c.len-count.result + 1) was) in
+    record {
+      kept = subst Q (sym c.in-Ok-add.ensures.windows) (subst P (sym history) keeps);
+      lies = subst A (sym c.in-Ok-add.ensures.windows) (All-push (AreRowsIn nodes houses) d.windows.items w c.self.invariant.lies new);
+      short = short_yet d.history.items _ _ c.in-Ok-add.ensures.history (omega (arith, c.len.ensures, d.history.ok.0, c.if-len-ge-MAX_ENTRIES.false));
+    }
 
 pub returns-clause-blob : goal.returns-clause-blob
 returns-clause-blob c =
@@ -77,23 +89,11 @@ returns-clause-blob c =
     let ws = d.windows.items in
     let blob = c.args.blob in
     let version = c.args.version in
-    let x = at_place d.limits d.page_size h ws c.self.invariant blob c.in-Some.place _ c.index-parent.result.now d.windows.ok.0 c.in-Some.ensures c.index-parent.ensures in
+    let x = at_place d.limits d.page_size h ws c.self.invariant.kept blob c.in-Some.place _ c.index-parent.result.now d.windows.ok.0 c.in-Some.ensures c.index-parent.ensures in
     let is : c.published-published.result ≡ published_of (get_or ws (blob - 1) no_window) = c.published-published.ensures ∙ ap published_of x.window in
     let le : version ≤ published_of (get_or ws (blob - 1) no_window) = omega (arith, is, c.if-version-published.false) in
     let most : c.limits.inside.max_blobs ≡ d.limits.max_blobs = ap (λ (l : Bounds). l.max_blobs) c.limits.view_is in
     let long : c.len-count.result ≡ length ws = omega (arith, c.len-count.ensures, d.windows.ok.0) in
     let apart : length ws ≡ d.limits.max_blobs → ⊥ = λ e. c.if-count-limit.false (long ∙ e ∙ sym most) in
     let P : DeskState → Type 0 = λ s. (answer (store_of s.limits s.history) c.args.caller (Calls.Branch blob version)).1 ≡ Outcomes.Blob (c.len-count.result + 1) in
-    subst P c.self.view_is (branch_outcome d.limits d.page_size h ws c.self.invariant c.args.caller blob version x.found le apart ∙ ap (λ (n : ℕ). Outcomes.Blob (n + 1)) (sym long))
-
-pub returns-clause-here : goal.returns-clause-here
-returns-clause-here c = λ nodes houses lies.
-    let d = c.self.inside in
-    let R : DeskState → Type 0 = λ s. LiesIn nodes houses s in
-    let W : Numbered → Type 0 = λ w. AreRowsIn nodes houses w in
-    let A : List Numbered → Type 0 = λ l. All (AreRowsIn nodes houses) l in
-    let old : All (AreRowsIn nodes houses) d.windows.items = subst R (sym c.self.view_is) lies in
-    let within : c.in-Some.place < length d.windows.items = omega (arith, d.windows.ok.0, c.in-Some.ensures.0, c.in-Some.ensures.1, c.in-Some.ensures.2) in
-    let was : W c.index-parent.result.now = window_lies nodes houses d.windows.items c.in-Some.place c.index-parent.result.now _ old within c.index-parent.ensures in
-    let new : W c.in-Ok.window = subst W (sym c.in-Ok.ensures.new) (branch_in_houses nodes houses c.index-parent.result.now c.args.version (c.len-count.result + 1) was) in
-    subst A (sym c.in-Ok-add.ensures.windows) (All-push (AreRowsIn nodes houses) d.windows.items c.in-Ok.window old new)
+    subst P c.self.view_is (branch_outcome d.limits d.page_size h ws c.self.invariant.kept c.args.caller blob version x.found le apart ∙ ap (λ (n : ℕ). Outcomes.Blob (n + 1)) (sym long))

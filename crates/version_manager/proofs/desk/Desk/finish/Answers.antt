@@ -1,5 +1,4 @@
 use Rattle.std.proofs.Common.{◌≡◌, ℕ, ◌-◌, ◌≤◌, true, false, List, [], ◌∷◌, ◌++◌, length, map, set, refl, sym, ◌∙◌, ap, subst, arith}
-use Rattle.std.specs.Prelude.{All}
 use Rattle.std.specs.Arc.{arc_value}
 use Rattle.std.proofs.lemmas.List.Elements.{All-set}
 use Rattle.blob_model.specs.Store.{Blob, blob_at, published, is_finished, finish}
@@ -9,14 +8,15 @@ use Rattle.blob_model.specs.declared.call.Call.TheVariants as Calls
 use Rattle.blob_model.specs.declared.call.Event.{Event}
 use Rattle.blob_model.specs.declared.call.Outcome.TheVariants as Outcomes
 use Rattle.blob_model.specs.declared.call.Refusal.TheVariants as Refusals
+use Rattle.node_store.specs.Rows.{IsRowIn}
 use Rattle.publisher.specs.Windows.{Numbered, with_finished}
 use Rattle.version_manager.specs.declared.entry.Entry.{Entry}
 use Rattle.version_manager.specs.declared.entry.Change.TheVariants as Changes
-use Rattle.version_manager.specs.Desks.{DeskState, LiesIn, finished_or_not, IsTicketOf, IsRowFor}
+use Rattle.version_manager.specs.Desks.{DeskState, finished_or_not, IsTicketOf, IsRowFor}
 use Rattle.version_manager.specs.Entries.{event_of}
 use Rattle.version_manager.specs.Kept.{KeepsDesk}
 use Rattle.version_manager.proofs.Blobs.{finish_kept, published_is, assigned_is, finished_is}
-use Rattle.version_manager.proofs.Desks.{pushed_event}
+use Rattle.version_manager.proofs.Desks.{pushed_event, short_yet}
 use Rattle.version_manager.proofs.Numbering.{even_of}
 use Rattle.version_manager.proofs.Finishing.{ticket_place, finishable, finished_true, finish_already, finish_outcome, finish_keeps, finish_there}
 use Rattle.version_manager.proofs.Houses.{AreRowsIn, finished_in, window_lies}
@@ -27,7 +27,7 @@ is_finished-requires c =
     let d = c.self.inside in
     let h = map event_of d.history.items in
     let ws = d.windows.items in
-    let this : DeskState = record { limits = d.limits; page_size = d.page_size; history = h; windows = ws } in
+    let this : DeskState = record { limits = d.limits; page_size = d.page_size; houses = arc_value d.houses; nodes = arc_value d.nodes; history = h; windows = ws } in
     let t = c.args.ticket.now in
     let row = arc_value c.args.row in
     let blob = c.blob-blob.result in
@@ -38,7 +38,7 @@ is_finished-requires c =
     let first : 1 ≤ v = omega (arith, is, c.version-version.ensures.stands.version) in
     let T : DeskState → Type 0 = λ s. IsTicketOf s t in
     let R : DeskState → Type 0 = λ s. IsRowFor s t row in
-    let f = finishable d.limits d.page_size h ws c.self.invariant blob t v (blob - 1) w row on is refl first (subst T (sym c.self.view_is) c.requires.ticket) (subst R (sym c.self.view_is) c.requires.row) c.index-window.ensures in
+    let f = finishable d.limits d.page_size h ws c.self.invariant.kept blob (arc_value d.houses) (arc_value d.nodes) t v (blob - 1) w row on is refl first (subst T (sym c.self.view_is) c.requires.ticket) (subst R (sym c.self.view_is) c.requires.row) c.index-window.ensures in
     let k = assigned_is d.limits w f.at.found.b f.at.keeps in
     (first, omega (arith, f.within, k))
 
@@ -47,7 +47,7 @@ finish-requires-clause-numbered c =
     let d = c.self.inside in
     let h = map event_of d.history.items in
     let ws = d.windows.items in
-    let this : DeskState = record { limits = d.limits; page_size = d.page_size; history = h; windows = ws } in
+    let this : DeskState = record { limits = d.limits; page_size = d.page_size; houses = arc_value d.houses; nodes = arc_value d.nodes; history = h; windows = ws } in
     let t = c.args.ticket.now in
     let row = arc_value c.args.row in
     let blob = c.blob-blob.result in
@@ -58,7 +58,7 @@ finish-requires-clause-numbered c =
     let first : 1 ≤ v = omega (arith, is, c.version-version.ensures.stands.version) in
     let T : DeskState → Type 0 = λ s. IsTicketOf s t in
     let R : DeskState → Type 0 = λ s. IsRowFor s t row in
-    let f = finishable d.limits d.page_size h ws c.self.invariant blob t v (blob - 1) w row on is refl first (subst T (sym c.self.view_is) c.requires.ticket) (subst R (sym c.self.view_is) c.requires.row) c.index_mut.ensures.value in
+    let f = finishable d.limits d.page_size h ws c.self.invariant.kept blob (arc_value d.houses) (arc_value d.nodes) t v (blob - 1) w row on is refl first (subst T (sym c.self.view_is) c.requires.ticket) (subst R (sym c.self.view_is) c.requires.row) c.index_mut.ensures.value in
     let k = assigned_is d.limits w f.at.found.b f.at.keeps in
     (first, omega (arith, f.within, k))
 
@@ -67,7 +67,7 @@ finish-requires-clause-own c =
     let d = c.self.inside in
     let h = map event_of d.history.items in
     let ws = d.windows.items in
-    let this : DeskState = record { limits = d.limits; page_size = d.page_size; history = h; windows = ws } in
+    let this : DeskState = record { limits = d.limits; page_size = d.page_size; houses = arc_value d.houses; nodes = arc_value d.nodes; history = h; windows = ws } in
     let t = c.args.ticket.now in
     let row = arc_value c.args.row in
     let blob = c.blob-blob.result in
@@ -78,7 +78,7 @@ finish-requires-clause-own c =
     let first : 1 ≤ v = omega (arith, is, c.version-version.ensures.stands.version) in
     let T : DeskState → Type 0 = λ s. IsTicketOf s t in
     let R : DeskState → Type 0 = λ s. IsRowFor s t row in
-    let f = finishable d.limits d.page_size h ws c.self.invariant blob t v (blob - 1) w row on is refl first (subst T (sym c.self.view_is) c.requires.ticket) (subst R (sym c.self.view_is) c.requires.row) c.index_mut.ensures.value in
+    let f = finishable d.limits d.page_size h ws c.self.invariant.kept blob (arc_value d.houses) (arc_value d.nodes) t v (blob - 1) w row on is refl first (subst T (sym c.self.view_is) c.requires.ticket) (subst R (sym c.self.view_is) c.requires.row) c.index_mut.ensures.value in
     (f.at.found.b.updates, f.at.keeps.stands, f.own)
 
 pub invariant_of-self-in-Ok : goal.invariant_of-self-in-Ok
@@ -86,7 +86,7 @@ invariant_of-self-in-Ok c =
     let d = c.self.inside in
     let h = map event_of d.history.items in
     let ws = d.windows.items in
-    let this : DeskState = record { limits = d.limits; page_size = d.page_size; history = h; windows = ws } in
+    let this : DeskState = record { limits = d.limits; page_size = d.page_size; houses = arc_value d.houses; nodes = arc_value d.nodes; history = h; windows = ws } in
     let t = c.args.ticket.now in
     let row = arc_value c.args.row in
     let blob = c.blob-blob.result in
@@ -97,28 +97,39 @@ invariant_of-self-in-Ok c =
     let first : 1 ≤ v = omega (arith, is, c.version-version.ensures.stands.version) in
     let T : DeskState → Type 0 = λ s. IsTicketOf s t in
     let R : DeskState → Type 0 = λ s. IsRowFor s t row in
-    let f = finishable d.limits d.page_size h ws c.self.invariant blob t v (blob - 1) w row on is refl first (subst T (sym c.self.view_is) c.requires.ticket) (subst R (sym c.self.view_is) c.requires.row) c.index_mut.ensures.value in
+    let f = finishable d.limits d.page_size h ws c.self.invariant.kept blob (arc_value d.houses) (arc_value d.nodes) t v (blob - 1) w row on is refl first (subst T (sym c.self.view_is) c.requires.ticket) (subst R (sym c.self.view_is) c.requires.row) c.index_mut.ensures.value in
     let b : Blob = f.at.found.b in
     let seen = c.index-window.result.now in
-    let g = finishable d.limits d.page_size h ws c.self.invariant blob t v (blob - 1) seen row on is refl first (subst T (sym c.self.view_is) c.requires.ticket) (subst R (sym c.self.view_is) c.requires.row) c.index-window.ensures in
+    let g = finishable d.limits d.page_size h ws c.self.invariant.kept blob (arc_value d.houses) (arc_value d.nodes) t v (blob - 1) seen row on is refl first (subst T (sym c.self.view_is) c.requires.ticket) (subst R (sym c.self.view_is) c.requires.row) c.index-window.ensures in
     let E : Numbered → Type 0 = λ x. length x.rows ≡ length x.log in
     let even : length w.rows ≡ length w.log = subst E (g.at.window ∙ sym f.at.window) (sym c.assigned-assigned.ensures.rows ∙ c.assigned-assigned.ensures.log) in
     let waits : is_finished b v ≡ false = sym (finished_is d.limits w b f.at.keeps v first) ∙ c.in-Ok.ensures.unfinished in
     let W : Numbered = with_finished w v row in
     let k = finish_kept d.limits w b f.at.keeps even v row first f.within f.own in
-    let keeps = finish_keeps d.limits d.page_size h ws c.self.invariant blob c.args.caller v f.at.found waits first f.within f.at.some W k f.at.id f.at.page in
+    let keeps = finish_keeps d.limits d.page_size h ws c.self.invariant.kept blob c.args.caller v f.at.found waits first f.within f.at.some W k f.at.id f.at.page in
     let entry : Entry = record { caller = c.args.caller; change = Changes.Finish blob v } in
     let history = pushed_event d.history.items c.push_reserved.new.self.items entry (c.push_reserved.ensures.items ∙ ap (λ (l : List Entry). l ++ entry ∷ []) c.reserve.ensures.items) in
     let P : List Event → Type 0 = λ l. KeepsDesk d.limits d.page_size l (set ws (blob - 1) W) in
     let R : Numbered → Type 0 = λ x. KeepsDesk d.limits d.page_size (map event_of c.push_reserved.new.self.items) (set ws (blob - 1) x) in
-    subst R (sym c.in-Ok.ensures.finished) (subst P (sym history) keeps)
+    let nodes = arc_value d.nodes in
+    let houses = arc_value d.houses in
+    let L : Numbered → Type 0 = λ x. AreRowsIn nodes houses x in
+    let r = ticket_place d.limits d.page_size h ws c.self.invariant.kept blob houses nodes t v on is first (subst T (sym c.self.view_is) c.requires.ticket) in
+    let was : L w = window_lies nodes houses ws (blob - 1) w _ c.self.invariant.lies (omega (arith, r.0, r.1)) c.index_mut.ensures.value in
+    let fits : IsRowIn nodes houses row = subst (λ (s : DeskState). IsRowIn s.nodes s.houses row) (sym c.self.view_is) c.requires.here in
+    let now : L c.finish.new.self = subst L (sym c.in-Ok.ensures.finished) (finished_in nodes houses w v row fits was) in
+    record {
+      kept = subst R (sym c.in-Ok.ensures.finished) (subst P (sym history) keeps);
+      lies = All-set (AreRowsIn nodes houses) ws (blob - 1) c.finish.new.self now c.self.invariant.lies;
+      short = short_yet d.history.items c.push_reserved.new.self.items entry (c.push_reserved.ensures.items ∙ ap (λ (l : List Entry). l ++ entry ∷ []) c.reserve.ensures.items) (omega (arith, c.len.ensures, d.history.ok.0, c.if-len-ge-MAX_ENTRIES.false));
+    }
 
 pub returns-in-Ok-clause-published : goal.returns-in-Ok-clause-published
 returns-in-Ok-clause-published c =
     let d = c.self.inside in
     let h = map event_of d.history.items in
     let ws = d.windows.items in
-    let this : DeskState = record { limits = d.limits; page_size = d.page_size; history = h; windows = ws } in
+    let this : DeskState = record { limits = d.limits; page_size = d.page_size; houses = arc_value d.houses; nodes = arc_value d.nodes; history = h; windows = ws } in
     let t = c.args.ticket.now in
     let row = arc_value c.args.row in
     let blob = c.blob-blob.result in
@@ -129,10 +140,10 @@ returns-in-Ok-clause-published c =
     let first : 1 ≤ v = omega (arith, is, c.version-version.ensures.stands.version) in
     let T : DeskState → Type 0 = λ s. IsTicketOf s t in
     let R : DeskState → Type 0 = λ s. IsRowFor s t row in
-    let f = finishable d.limits d.page_size h ws c.self.invariant blob t v (blob - 1) w row on is refl first (subst T (sym c.self.view_is) c.requires.ticket) (subst R (sym c.self.view_is) c.requires.row) c.index_mut.ensures.value in
+    let f = finishable d.limits d.page_size h ws c.self.invariant.kept blob (arc_value d.houses) (arc_value d.nodes) t v (blob - 1) w row on is refl first (subst T (sym c.self.view_is) c.requires.ticket) (subst R (sym c.self.view_is) c.requires.row) c.index_mut.ensures.value in
     let b : Blob = f.at.found.b in
     let seen = c.index-window.result.now in
-    let g = finishable d.limits d.page_size h ws c.self.invariant blob t v (blob - 1) seen row on is refl first (subst T (sym c.self.view_is) c.requires.ticket) (subst R (sym c.self.view_is) c.requires.row) c.index-window.ensures in
+    let g = finishable d.limits d.page_size h ws c.self.invariant.kept blob (arc_value d.houses) (arc_value d.nodes) t v (blob - 1) seen row on is refl first (subst T (sym c.self.view_is) c.requires.ticket) (subst R (sym c.self.view_is) c.requires.row) c.index-window.ensures in
     let E : Numbered → Type 0 = λ x. length x.rows ≡ length x.log in
     let even : length w.rows ≡ length w.log = subst E (g.at.window ∙ sym f.at.window) (sym c.assigned-assigned.ensures.rows ∙ c.assigned-assigned.ensures.log) in
     let waits : is_finished b v ≡ false = sym (finished_is d.limits w b f.at.keeps v first) ∙ c.in-Ok.ensures.unfinished in
@@ -140,7 +151,7 @@ returns-in-Ok-clause-published c =
     let now : published (finish b v) ≡ c.in-Ok.published = sym (published_is d.limits (with_finished w v row) (finish b v) k) ∙ sym c.in-Ok.ensures.published in
     let O : DeskState → ℕ → ℕ → Type 0 = λ s i n. (answer (store_of s.limits s.history) c.args.caller (Calls.Finish i n)).1 ≡ Outcomes.Published c.in-Ok.published in
     let here : O this blob v =
-    finish_outcome d.limits d.page_size h ws c.self.invariant blob c.args.caller v f.at.found waits ∙ ap (λ (n : ℕ). Outcomes.Published n) now in
+    finish_outcome d.limits d.page_size h ws c.self.invariant.kept blob c.args.caller v f.at.found waits ∙ ap (λ (n : ℕ). Outcomes.Published n) now in
     subst (λ (s : DeskState). O s t.blob t.version) c.self.view_is (subst (λ (n : ℕ). O this t.blob n) is (subst (λ (i : ℕ). O this i v) on here))
 
 pub returns-in-Ok-clause-unfinished : goal.returns-in-Ok-clause-unfinished
@@ -148,7 +159,7 @@ returns-in-Ok-clause-unfinished c =
     let d = c.self.inside in
     let h = map event_of d.history.items in
     let ws = d.windows.items in
-    let this : DeskState = record { limits = d.limits; page_size = d.page_size; history = h; windows = ws } in
+    let this : DeskState = record { limits = d.limits; page_size = d.page_size; houses = arc_value d.houses; nodes = arc_value d.nodes; history = h; windows = ws } in
     let t = c.args.ticket.now in
     let row = arc_value c.args.row in
     let blob = c.blob-blob.result in
@@ -159,7 +170,7 @@ returns-in-Ok-clause-unfinished c =
     let first : 1 ≤ v = omega (arith, is, c.version-version.ensures.stands.version) in
     let T : DeskState → Type 0 = λ s. IsTicketOf s t in
     let R : DeskState → Type 0 = λ s. IsRowFor s t row in
-    let f = finishable d.limits d.page_size h ws c.self.invariant blob t v (blob - 1) w row on is refl first (subst T (sym c.self.view_is) c.requires.ticket) (subst R (sym c.self.view_is) c.requires.row) c.index_mut.ensures.value in
+    let f = finishable d.limits d.page_size h ws c.self.invariant.kept blob (arc_value d.houses) (arc_value d.nodes) t v (blob - 1) w row on is refl first (subst T (sym c.self.view_is) c.requires.ticket) (subst R (sym c.self.view_is) c.requires.row) c.index_mut.ensures.value in
     let b : Blob = f.at.found.b in
     let waits : is_finished b v ≡ false = sym (finished_is d.limits w b f.at.keeps v first) ∙ c.in-Ok.ensures.unfinished in
     let O : DeskState → ℕ → ℕ → Type 0 = λ s i n. finished_or_not (blob_at (store_of s.limits s.history) i) n ≡ false in
@@ -171,7 +182,7 @@ returns-in-Ok-clause-finished c =
     let d = c.self.inside in
     let h = map event_of d.history.items in
     let ws = d.windows.items in
-    let this : DeskState = record { limits = d.limits; page_size = d.page_size; history = h; windows = ws } in
+    let this : DeskState = record { limits = d.limits; page_size = d.page_size; houses = arc_value d.houses; nodes = arc_value d.nodes; history = h; windows = ws } in
     let t = c.args.ticket.now in
     let row = arc_value c.args.row in
     let blob = c.blob-blob.result in
@@ -182,15 +193,15 @@ returns-in-Ok-clause-finished c =
     let first : 1 ≤ v = omega (arith, is, c.version-version.ensures.stands.version) in
     let T : DeskState → Type 0 = λ s. IsTicketOf s t in
     let R : DeskState → Type 0 = λ s. IsRowFor s t row in
-    let f = finishable d.limits d.page_size h ws c.self.invariant blob t v (blob - 1) w row on is refl first (subst T (sym c.self.view_is) c.requires.ticket) (subst R (sym c.self.view_is) c.requires.row) c.index_mut.ensures.value in
+    let f = finishable d.limits d.page_size h ws c.self.invariant.kept blob (arc_value d.houses) (arc_value d.nodes) t v (blob - 1) w row on is refl first (subst T (sym c.self.view_is) c.requires.ticket) (subst R (sym c.self.view_is) c.requires.row) c.index_mut.ensures.value in
     let b : Blob = f.at.found.b in
     let seen = c.index-window.result.now in
-    let g = finishable d.limits d.page_size h ws c.self.invariant blob t v (blob - 1) seen row on is refl first (subst T (sym c.self.view_is) c.requires.ticket) (subst R (sym c.self.view_is) c.requires.row) c.index-window.ensures in
+    let g = finishable d.limits d.page_size h ws c.self.invariant.kept blob (arc_value d.houses) (arc_value d.nodes) t v (blob - 1) seen row on is refl first (subst T (sym c.self.view_is) c.requires.ticket) (subst R (sym c.self.view_is) c.requires.row) c.index-window.ensures in
     let E : Numbered → Type 0 = λ x. length x.rows ≡ length x.log in
     let even : length w.rows ≡ length w.log = subst E (g.at.window ∙ sym f.at.window) (sym c.assigned-assigned.ensures.rows ∙ c.assigned-assigned.ensures.log) in
     let marks = even_of d.limits b w f.at.keeps even in
     let waits : is_finished b v ≡ false = sym (finished_is d.limits w b f.at.keeps v first) ∙ c.in-Ok.ensures.unfinished in
-    let there = finish_there d.limits d.page_size h ws c.self.invariant blob c.args.caller v f.at.found waits in
+    let there = finish_there d.limits d.page_size h ws c.self.invariant.kept blob c.args.caller v f.at.found waits in
     let entry : Entry = record { caller = c.args.caller; change = Changes.Finish blob v } in
     let history = pushed_event d.history.items c.push_reserved.new.self.items entry (c.push_reserved.ensures.items ∙ ap (λ (l : List Entry). l ++ entry ∷ []) c.reserve.ensures.items) in
     let O : ℕ → ℕ → Type 0 = λ i n. finished_or_not (blob_at (store_of d.limits (map event_of c.push_reserved.new.self.items)) i) n ≡ true in
@@ -202,7 +213,7 @@ returns-then-is_finished-clause-already c =
     let d = c.self.inside in
     let h = map event_of d.history.items in
     let ws = d.windows.items in
-    let this : DeskState = record { limits = d.limits; page_size = d.page_size; history = h; windows = ws } in
+    let this : DeskState = record { limits = d.limits; page_size = d.page_size; houses = arc_value d.houses; nodes = arc_value d.nodes; history = h; windows = ws } in
     let t = c.args.ticket.now in
     let row = arc_value c.args.row in
     let blob = c.blob-blob.result in
@@ -213,7 +224,7 @@ returns-then-is_finished-clause-already c =
     let first : 1 ≤ v = omega (arith, is, c.version-version.ensures.stands.version) in
     let T : DeskState → Type 0 = λ s. IsTicketOf s t in
     let R : DeskState → Type 0 = λ s. IsRowFor s t row in
-    let f = finishable d.limits d.page_size h ws c.self.invariant blob t v (blob - 1) w row on is refl first (subst T (sym c.self.view_is) c.requires.ticket) (subst R (sym c.self.view_is) c.requires.row) c.index-window.ensures in
+    let f = finishable d.limits d.page_size h ws c.self.invariant.kept blob (arc_value d.houses) (arc_value d.nodes) t v (blob - 1) w row on is refl first (subst T (sym c.self.view_is) c.requires.ticket) (subst R (sym c.self.view_is) c.requires.row) c.index-window.ensures in
     let b : Blob = f.at.found.b in
     let done : is_finished b v ≡ true = sym (finished_is d.limits w b f.at.keeps v first) ∙ sym c.is_finished.ensures ∙ c.if-is_finished.true in
     let O : DeskState → ℕ → ℕ → Type 0 = λ s i n. finished_or_not (blob_at (store_of s.limits s.history) i) n ≡ true in
@@ -225,7 +236,7 @@ returns-then-is_finished-clause-refused c =
     let d = c.self.inside in
     let h = map event_of d.history.items in
     let ws = d.windows.items in
-    let this : DeskState = record { limits = d.limits; page_size = d.page_size; history = h; windows = ws } in
+    let this : DeskState = record { limits = d.limits; page_size = d.page_size; houses = arc_value d.houses; nodes = arc_value d.nodes; history = h; windows = ws } in
     let t = c.args.ticket.now in
     let row = arc_value c.args.row in
     let blob = c.blob-blob.result in
@@ -236,36 +247,9 @@ returns-then-is_finished-clause-refused c =
     let first : 1 ≤ v = omega (arith, is, c.version-version.ensures.stands.version) in
     let T : DeskState → Type 0 = λ s. IsTicketOf s t in
     let R : DeskState → Type 0 = λ s. IsRowFor s t row in
-    let f = finishable d.limits d.page_size h ws c.self.invariant blob t v (blob - 1) w row on is refl first (subst T (sym c.self.view_is) c.requires.ticket) (subst R (sym c.self.view_is) c.requires.row) c.index-window.ensures in
+    let f = finishable d.limits d.page_size h ws c.self.invariant.kept blob (arc_value d.houses) (arc_value d.nodes) t v (blob - 1) w row on is refl first (subst T (sym c.self.view_is) c.requires.ticket) (subst R (sym c.self.view_is) c.requires.row) c.index-window.ensures in
     let b : Blob = f.at.found.b in
     let done : is_finished b v ≡ true = sym (finished_is d.limits w b f.at.keeps v first) ∙ sym c.is_finished.ensures ∙ c.if-is_finished.true in
     let O : DeskState → ℕ → ℕ → Type 0 = λ s i n. (answer (store_of s.limits s.history) c.args.caller (Calls.Finish i n)).1 ≡ Outcomes.Refused (Refusals.Already v) in
-    let here : O this blob v = finish_already d.limits d.page_size h ws c.self.invariant blob c.args.caller v f.at.found done in
+    let here : O this blob v = finish_already d.limits d.page_size h ws c.self.invariant.kept blob c.args.caller v f.at.found done in
     subst (λ (s : DeskState). O s t.blob t.version) c.self.view_is (subst (λ (n : ℕ). O this t.blob n) is (subst (λ (i : ℕ). O this i v) on here))
-
-pub returns-in-Ok-clause-here : goal.returns-in-Ok-clause-here
-returns-in-Ok-clause-here c = λ nodes houses lies fits.
-    let d = c.self.inside in
-    let L : DeskState → Type 0 = λ s. LiesIn nodes houses s in
-    let old : All (AreRowsIn nodes houses) d.windows.items = subst L (sym c.self.view_is) lies in
-    let W : Numbered → Type 0 = λ w. AreRowsIn nodes houses w in
-    let t = c.args.ticket.now in
-    let T : DeskState → Type 0 = λ s. IsTicketOf s t in
-    let first : 1 ≤ c.version-version.result = omega (arith, c.version-version.ensures.version, c.version-version.ensures.stands.version) in
-    let r = ticket_place d.limits d.page_size (map event_of d.history.items) d.windows.items c.self.invariant c.blob-blob.result t c.version-version.result c.blob-blob.ensures c.version-version.ensures.version first (subst T (sym c.self.view_is) c.requires.ticket) in
-    let was : W c.index_mut.result.now = window_lies nodes houses d.windows.items (c.blob-blob.result - 1) c.index_mut.result.now _ old (omega (arith, r.0, r.1)) c.index_mut.ensures.value in
-    let now : W c.finish.new.self = subst W (sym c.in-Ok.ensures.finished) (finished_in nodes houses c.index_mut.result.now c.version-version.result (arc_value c.args.row) fits was) in
-    All-set (AreRowsIn nodes houses) d.windows.items (c.blob-blob.result - 1) c.finish.new.self now old
-
-pub returns-in-Err-clause-here : goal.returns-in-Err-clause-here
-returns-in-Err-clause-here c = λ nodes houses lies fits.
-    let d = c.self.inside in
-    let L : DeskState → Type 0 = λ s. LiesIn nodes houses s in
-    let old : All (AreRowsIn nodes houses) d.windows.items = subst L (sym c.self.view_is) lies in
-    let W : Numbered → Type 0 = λ w. AreRowsIn nodes houses w in
-    let t = c.args.ticket.now in
-    let T : DeskState → Type 0 = λ s. IsTicketOf s t in
-    let first : 1 ≤ c.version-version.result = omega (arith, c.version-version.ensures.version, c.version-version.ensures.stands.version) in
-    let r = ticket_place d.limits d.page_size (map event_of d.history.items) d.windows.items c.self.invariant c.blob-blob.result t c.version-version.result c.blob-blob.ensures c.version-version.ensures.version first (subst T (sym c.self.view_is) c.requires.ticket) in
-    let was : W c.index_mut.result.now = window_lies nodes houses d.windows.items (c.blob-blob.result - 1) c.index_mut.result.now _ old (omega (arith, r.0, r.1)) c.index_mut.ensures.value in
-    All-set (AreRowsIn nodes houses) d.windows.items (c.blob-blob.result - 1) c.finish.new.self (subst W (sym c.in-Err.ensures.same.1) was) old

@@ -15,9 +15,9 @@ returns-in-Some c = λ caller.
     let d = c.self.inside in
     let h = map event_of d.history.items in
     let s = store_of d.limits h in
-    let x = at_place d.limits d.page_size h d.windows.items c.self.invariant c.args.blob c.in-Some.place _ c.index.result.now d.windows.ok.0 c.in-Some.ensures c.index.ensures in
+    let x = at_place d.limits d.page_size h d.windows.items c.self.invariant.kept c.args.blob c.in-Some.place _ c.index.result.now d.windows.ok.0 c.in-Some.ensures c.index.ensures in
     let P : DeskState → Type 0 = λ v. c.recent_in.result ≡ (answer (store_of v.limits v.history) caller (Calls.Recent c.args.blob)).1 in
-    subst P c.self.view_is (c.recent_in.ensures d.limits x.found.b x.keeps ∙ sym (look_at d.limits d.page_size h d.windows.items c.self.invariant c.args.blob (recent_of s) x.found))
+    subst P c.self.view_is (c.recent_in.ensures d.limits x.found.b x.keeps ∙ sym (look_at d.limits d.page_size h d.windows.items c.self.invariant.kept c.args.blob (recent_of s) x.found))
 
 pub returns-in-None : goal.returns-in-None
 returns-in-None c = λ caller.
@@ -25,4 +25,4 @@ returns-in-None c = λ caller.
     let h = map event_of d.history.items in
     let s = store_of d.limits h in
     let P : DeskState → Type 0 = λ v. Outcomes.Refused (Refusals.NoBlob c.args.blob) ≡ (answer (store_of v.limits v.history) caller (Calls.Recent c.args.blob)).1 in
-    subst P c.self.view_is (sym (look_none d.limits d.page_size h d.windows.items c.self.invariant c.args.blob (recent_of s) (λ some. omega (arith, d.windows.ok.0, c.in-None.ensures some))))
+    subst P c.self.view_is (sym (look_none d.limits d.page_size h d.windows.items c.self.invariant.kept c.args.blob (recent_of s) (λ some. omega (arith, d.windows.ok.0, c.in-None.ensures some))))

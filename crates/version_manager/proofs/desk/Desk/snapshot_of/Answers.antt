@@ -1,5 +1,6 @@
 use Rattle.std.proofs.Common.{◌≡◌, ℕ, ◌<◌, List, map, length, sym, ◌∙◌, ap, subst, arith}
-use Rattle.std.specs.Prelude.{All, IfOk, IfErr}
+use Rattle.std.specs.Prelude.{IfOk, IfErr}
+use Rattle.std.specs.Arc.{arc_value}
 use Rattle.blob_model.specs.Answer.{answer}
 use Rattle.blob_model.specs.Content.{Update}
 use Rattle.blob_model.specs.History.{store_of}
@@ -9,7 +10,7 @@ use Rattle.blob_model.specs.declared.call.Refusal.TheVariants as Refusals
 use Rattle.snapshot.specs.Laws.{TellUpdates}
 use Rattle.snapshot.specs.Versions.{Version, IsVersionIn, size_now}
 use Rattle.version_manager.specs.declared.fault.DeskFault.{DeskFault}
-use Rattle.version_manager.specs.Desks.{DeskState, LiesIn, OnRefused, updates_in, updates_or_none}
+use Rattle.version_manager.specs.Desks.{DeskState, OnRefused, updates_in, updates_or_none}
 use Rattle.version_manager.specs.Entries.{event_of}
 use Rattle.version_manager.proofs.Desks.{at_place}
 use Rattle.version_manager.proofs.Houses.{AreRowsIn, older_in, window_lies}
@@ -21,23 +22,23 @@ pub returns-in-Some-clause-size : goal.returns-in-Some-clause-size
 returns-in-Some-clause-size c = λ caller.
     let d = c.self.inside in
     let h = map event_of d.history.items in
-    let x = at_place d.limits d.page_size h d.windows.items c.self.invariant c.args.blob c.in-Some.place _ c.index.result.now d.windows.ok.0 c.in-Some.ensures c.index.ensures in
+    let x = at_place d.limits d.page_size h d.windows.items c.self.invariant.kept c.args.blob c.in-Some.place _ c.index.result.now d.windows.ok.0 c.in-Some.ensures c.index.ensures in
     let s = store_of d.limits h in
     let P : DeskState → Type 0 = λ v. IfOk c.snapshot_in.result (λ (a : Version). (answer (store_of v.limits v.history) caller (Calls.Size c.args.blob c.args.version)).1 ≡ Outcomes.Size (size_now a)) in
-    subst P c.self.view_is (if_ok c.snapshot_in.result _ _ (λ a e. look_at d.limits d.page_size h d.windows.items c.self.invariant c.args.blob (size_in s c.args.version) x.found ∙ e) (c.snapshot_in.ensures.size d.limits s x.found.b x.keeps))
+    subst P c.self.view_is (if_ok c.snapshot_in.result _ _ (λ a e. look_at d.limits d.page_size h d.windows.items c.self.invariant.kept c.args.blob (size_in s c.args.version) x.found ∙ e) (c.snapshot_in.ensures.size d.limits s x.found.b x.keeps))
 
 pub returns-in-Some-clause-page_size : goal.returns-in-Some-clause-page_size
 returns-in-Some-clause-page_size c =
     let d = c.self.inside in
     let h = map event_of d.history.items in
-    let x = at_place d.limits d.page_size h d.windows.items c.self.invariant c.args.blob c.in-Some.place _ c.index.result.now d.windows.ok.0 c.in-Some.ensures c.index.ensures in
+    let x = at_place d.limits d.page_size h d.windows.items c.self.invariant.kept c.args.blob c.in-Some.place _ c.index.result.now d.windows.ok.0 c.in-Some.ensures c.index.ensures in
     if_ok c.snapshot_in.result _ _ (λ (a : Version) e. ap (λ (v : Version). v.page_size) e ∙ x.page ∙ ap (λ (v : DeskState). v.page_size) c.self.view_is) c.snapshot_in.ensures.this
 
 pub returns-in-Some-clause-tells : goal.returns-in-Some-clause-tells
 returns-in-Some-clause-tells c =
     let d = c.self.inside in
     let h = map event_of d.history.items in
-    let x = at_place d.limits d.page_size h d.windows.items c.self.invariant c.args.blob c.in-Some.place _ c.index.result.now d.windows.ok.0 c.in-Some.ensures c.index.ensures in
+    let x = at_place d.limits d.page_size h d.windows.items c.self.invariant.kept c.args.blob c.in-Some.place _ c.index.result.now d.windows.ok.0 c.in-Some.ensures c.index.ensures in
     let w = c.index.result.now in
     let b = x.found.b in
     let P : DeskState → Type 0 = λ v. IfOk c.snapshot_in.result (λ (a : Version). TellUpdates v.page_size (updates_in v c.args.blob) a.rows) in
@@ -49,23 +50,24 @@ pub returns-in-Some-clause-refused : goal.returns-in-Some-clause-refused
 returns-in-Some-clause-refused c = λ caller.
     let d = c.self.inside in
     let h = map event_of d.history.items in
-    let x = at_place d.limits d.page_size h d.windows.items c.self.invariant c.args.blob c.in-Some.place _ c.index.result.now d.windows.ok.0 c.in-Some.ensures c.index.ensures in
+    let x = at_place d.limits d.page_size h d.windows.items c.self.invariant.kept c.args.blob c.in-Some.place _ c.index.result.now d.windows.ok.0 c.in-Some.ensures c.index.ensures in
     let s = store_of d.limits h in
     let P : DeskState → Type 0 = λ v. IfErr c.snapshot_in.result (λ (fault : DeskFault). OnRefused fault (λ refusal. (answer (store_of v.limits v.history) caller (Calls.Size c.args.blob c.args.version)).1 ≡ Outcomes.Refused refusal)) in
     subst P c.self.view_is (
-    if_err c.snapshot_in.result _ _ (λ fault e. on_refused fault _ _ (λ r f. look_at d.limits d.page_size h d.windows.items c.self.invariant c.args.blob (size_in s c.args.version) x.found ∙ f) e)
+    if_err c.snapshot_in.result _ _ (λ fault e. on_refused fault _ _ (λ r f. look_at d.limits d.page_size h d.windows.items c.self.invariant.kept c.args.blob (size_in s c.args.version) x.found ∙ f) e)
     (c.snapshot_in.ensures.refused d.limits s x.found.b x.keeps)
     )
 
 pub returns-in-Some-clause-here : goal.returns-in-Some-clause-here
-returns-in-Some-clause-here c = λ nodes houses lies.
+returns-in-Some-clause-here c =
     let d = c.self.inside in
-    let R : DeskState → Type 0 = λ s. LiesIn nodes houses s in
-    let old : All (AreRowsIn nodes houses) d.windows.items = subst R (sym c.self.view_is) lies in
+    let nodes = arc_value d.nodes in
+    let houses = arc_value d.houses in
     let within : c.in-Some.place < length d.windows.items = omega (arith, d.windows.ok.0, c.in-Some.ensures.0, c.in-Some.ensures.1, c.in-Some.ensures.2) in
-    let was : AreRowsIn nodes houses c.index.result.now = window_lies nodes houses d.windows.items c.in-Some.place c.index.result.now _ old within c.index.ensures in
+    let was : AreRowsIn nodes houses c.index.result.now = window_lies nodes houses d.windows.items c.in-Some.place c.index.result.now _ c.self.invariant.lies within c.index.ensures in
     let V : Version → Type 0 = λ s. IsVersionIn nodes houses s in
-    if_ok c.snapshot_in.result _ _ (λ (a : Version) e. subst V (sym e) (older_in nodes houses c.index.result.now c.args.version was)) c.snapshot_in.ensures.this
+    let P : DeskState → Type 0 = λ s. IfOk c.snapshot_in.result (λ (a : Version). IsVersionIn s.nodes s.houses a) in
+    subst P c.self.view_is (if_ok c.snapshot_in.result _ _ (λ (a : Version) e. subst V (sym e) (older_in nodes houses c.index.result.now c.args.version was)) c.snapshot_in.ensures.this)
 
 pub returns-in-None-clause-refused : goal.returns-in-None-clause-refused
 returns-in-None-clause-refused c = λ caller.
@@ -73,4 +75,4 @@ returns-in-None-clause-refused c = λ caller.
     let h = map event_of d.history.items in
     let s = store_of d.limits h in
     let P : DeskState → Type 0 = λ v. (answer (store_of v.limits v.history) caller (Calls.Size c.args.blob c.args.version)).1 ≡ Outcomes.Refused (Refusals.NoBlob c.args.blob) in
-    subst P c.self.view_is (look_none d.limits d.page_size h d.windows.items c.self.invariant c.args.blob (size_in s c.args.version) (λ some. omega (arith, d.windows.ok.0, c.in-None.ensures some)))
+    subst P c.self.view_is (look_none d.limits d.page_size h d.windows.items c.self.invariant.kept c.args.blob (size_in s c.args.version) (λ some. omega (arith, d.windows.ok.0, c.in-None.ensures some)))

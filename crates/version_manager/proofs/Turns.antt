@@ -1,0 +1,162 @@
+-- What a call on the desk tells of the list of entries.
+use Rattle.std.proofs.Common.{◌≡◌, ℕ, ◌<◌, ◌^◌, true, false, List, [], ◌∷◌, ◌++◌, length, refl, sym, ap, ◌∙◌, subst, arith}
+use Rattle.std.specs.Prelude.{Result, Ok, Err, IfOk, IfErr}
+use Rattle.std.proofs.lemmas.List.{map-append, length-map}
+use Rattle.blob_model.specs.History.{IsLegal}
+use Rattle.blob_model.specs.declared.call.Call.{Call}
+use Rattle.blob_model.specs.declared.call.Call.TheVariants as Calls
+use Rattle.blob_model.specs.declared.call.Event.{Event}
+use Rattle.blob_model.specs.declared.call.Outcome.{Outcome}
+use Rattle.blob_model.specs.declared.call.Outcome.TheVariants as Outcomes
+use Rattle.page_store.specs.Stored.{Cut, joined}
+use Rattle.node_store.specs.Rows.{UpdateRow}
+use Rattle.snapshot.specs.Versions.{Version, IsRowOf, IsVersionIn, size_now}
+use Rattle.snapshot.specs.Laws.{TellUpdates}
+use Rattle.border_hints.specs.Numbered.{NumberedUpdate}
+use Rattle.publisher.specs.Windows.{Numbered}
+use Rattle.version_manager.specs.declared.fault.DeskFault.{DeskFault}
+use Rattle.version_manager.specs.declared.journal.DeskFixed.{DeskFixed}
+use Rattle.version_manager.specs.Desks.{DeskState, OnRefused, IsTicketOf, IsRowFor, IsNumbering, IsUnfinished, HasHints, with_event, outcome_now, updates_in, is_finished_in}
+use Rattle.version_manager.specs.Log.{IsLog, Looked, Changed, IsNewTicket, IsSnapshotOf, Opened, Finishes, desk_at, events, tagged, tag, fixed_of}
+
+pub events_tagged : (h : List Event) → events (tagged h) ≡ h
+events_tagged [] = refl
+events_tagged (e ∷ es) = ap (λ (t : List Event). e ∷ t) (events_tagged es)
+
+pub tagged_more : (h : List Event) (e : Event) → tagged (h ++ e ∷ []) ≡ tagged h ++ tag e ∷ []
+tagged_more h e = map-append tag h (e ∷ [])
+
+-- ---- without windows
+-- the desk with another history and no windows
+abbrev with_history : DeskState → List Event → DeskState
+with_history d l = record { limits = d.limits; page_size = d.page_size; houses = d.houses; nodes = d.nodes; history = l; windows = [] }
+
+abbrev pub bare : DeskState → DeskState
+bare d = with_history d d.history
+
+pub at_now : (d : DeskState) → desk_at (fixed_of d) (tagged d.history) ≡ bare d
+at_now d = ap (λ (l : List Event). with_history d l) (events_tagged d.history)
+
+pub at_after : (d d' : DeskState) → fixed_of d' ≡ fixed_of d → desk_at (fixed_of d) (tagged d'.history) ≡ bare d'
+at_after d d' e = ap (λ (f : DeskFixed). desk_at f (tagged d'.history)) (sym e) ∙ at_now d'
+
+bare_ticket : (d : DeskState) (t : NumberedUpdate) → IsTicketOf d t → IsTicketOf (bare d) t
+bare_ticket d t x = record { page_size = x.page_size; numbered = x.numbered; caller = x.caller; stands = x.stands; bytes = x.bytes }
+
+whole_ticket : (d : DeskState) (t : NumberedUpdate) → IsTicketOf (bare d) t → IsTicketOf d t
+whole_ticket d t x = record { page_size = x.page_size; numbered = x.numbered; caller = x.caller; stands = x.stands; bytes = x.bytes }
+
+bare_hints : (d : DeskState) (on : ℕ) (t : NumberedUpdate) → HasHints d on t → HasHints (bare d) on t
+bare_hints d on t x = record { rows = x.rows; tells = x.tells; waiting = x.waiting; here = x.here }
+
+bare_unfinished : (d : DeskState) (on v : ℕ) → IsUnfinished d on v → IsUnfinished (bare d) on v
+bare_unfinished d on v x = record { some = x.some; numbered = x.numbered; unfinished = x.unfinished }
+
+-- ---- what a finish needs
+pub ticket_here : (d : DeskState) (t : NumberedUpdate) → IsTicketOf (desk_at (fixed_of d) (tagged d.history)) t → IsTicketOf d t
+ticket_here d t x = whole_ticket d t (subst (λ (s : DeskState). IsTicketOf s t) (at_now d) x)
+
+pub row_here : (d : DeskState) (t : NumberedUpdate) (row : UpdateRow) → IsRowFor (desk_at (fixed_of d) (tagged d.history)) t row → IsRowOf d.page_size (updates_in d t.blob) t.version row
+row_here d t row x = subst (λ (s : DeskState). IsRowOf s.page_size (updates_in s t.blob) t.version row) (at_now d) x
+
+-- ---- the history
+pub is_log : (d d' : DeskState) → fixed_of d' ≡ fixed_of d → IsLegal d'.limits d'.history → length d'.history < 2 ^ 38 → IsLog (fixed_of d) (tagged d'.history)
+is_log d d' e legal short =
+    let L : DeskState → Type 0 = λ s. IsLegal s.limits s.history in
+    record {
+      tags = ap tagged (sym (events_tagged d'.history));
+      legal = subst L (sym (at_after d d' e)) legal;
+      short = omega (arith, length-map d'.history tag, short);
+    }
+
+module _ {A E : Type 0} (d d' : DeskState) (event : Event) (r : Result A E) (ws : A → List Numbered) (new : IfOk r (λ a. d' ≡ with_event d event (ws a))) (same : IfErr r (λ _. d' ≡ d)) where
+  fixed_by : (s : Result A E) → IfOk s (λ a. d' ≡ with_event d event (ws a)) → IfErr s (λ _. d' ≡ d) → fixed_of d' ≡ fixed_of d
+  fixed_by (Ok a) n e = ap fixed_of n
+  fixed_by (Err x) n e = ap fixed_of e
+
+  pub fixed_stays : fixed_of d' ≡ fixed_of d
+  fixed_stays = fixed_by r new same
+
+  added_by : (s : Result A E) → IfOk s (λ a. d' ≡ with_event d event (ws a)) → IfOk s (λ _. tagged d'.history ≡ tagged d.history ++ tag event ∷ [])
+  added_by (Ok a) n = ap (λ (x : DeskState). tagged x.history) n ∙ tagged_more d.history event
+  added_by (Err x) n = tt
+
+  same_by : (s : Result A E) → IfErr s (λ _. d' ≡ d) → IfErr s (λ _. tagged d'.history ≡ tagged d.history)
+  same_by (Ok a) e = tt
+  same_by (Err x) e = ap (λ (y : DeskState). tagged y.history) e
+
+  pub changed : (call : Call) (caller : ℕ) (tells : A → Outcome) (fault : E → DeskFault) → IsLegal d.limits d.history → length d.history < 2 ^ 38 → IsLegal d'.limits d'.history → length d'.history < 2 ^ 38
+      → IfOk r (λ a. outcome_now d caller call ≡ tells a) → IfErr r (λ e. OnRefused (fault e) (λ x. outcome_now d caller call ≡ Outcomes.Refused x))
+      → Changed (fixed_of d) call event tells fault (tagged d.history) caller r (tagged d'.history)
+  changed call caller tells fault legal short legal' short' done refused =
+      let D : DeskState → Type 0 = λ s. IfOk r (λ a. outcome_now s caller call ≡ tells a) in
+      let R : DeskState → Type 0 = λ s. IfErr r (λ e. OnRefused (fault e) (λ x. outcome_now s caller call ≡ Outcomes.Refused x)) in
+      record {
+        log = is_log d d refl legal short;
+        log_after = is_log d d' fixed_stays legal' short';
+        done = subst D (sym (at_now d)) done;
+        added = added_by r new;
+        refused = subst R (sym (at_now d)) refused;
+        same = same_by r same;
+      }
+
+-- ---- a numbering
+pub new_ticket : (d d' : DeskState) (caller blob : ℕ) (pages : Cut) (r : Result NumberedUpdate DeskFault) → fixed_of d' ≡ fixed_of d → IfOk r (λ t. IsNumbering d caller blob t) → IfOk r (λ t. t.pages ≡ pages)
+    → IfOk r (λ t. HasHints d blob t) → IfOk r (λ t. IsTicketOf d' t) → IfOk r (λ t. IsUnfinished d' blob t.version)
+    → IfOk r (λ t. IsNewTicket (fixed_of d) blob caller pages (tagged d.history) (tagged d'.history) t)
+new_ticket d d' caller blob pages (Err x) e numbering same hints ticket open_ = tt
+new_ticket d d' caller blob pages (Ok t) e numbering same hints ticket open_ = record {
+  caller_is = numbering.caller;
+  blob_is = numbering.blob;
+  len = numbering.len ∙ ap (λ (q : Cut). length (joined q.pages)) same;
+  pages_are = same;
+  hints = subst (λ (s : DeskState). HasHints s blob t) (sym (at_now d)) (bare_hints d blob t hints);
+  ticket = subst (λ (s : DeskState). IsTicketOf s t) (sym (at_after d d' e)) (bare_ticket d' t ticket);
+  unfinished = subst (λ (s : DeskState). IsUnfinished s blob t.version) (sym (at_after d d' e)) (bare_unfinished d' blob t.version open_);
+}
+
+-- ---- a finish
+pub finishes : {R : Type 0} (d d' : DeskState) (t : NumberedUpdate) (row : R) (r : Result ℕ (DeskFault × R)) → fixed_of d' ≡ fixed_of d → IfOk r (λ _. is_finished_in d t.blob t.version ≡ false)
+    → IfOk r (λ _. is_finished_in d' t.blob t.version ≡ true) → IfErr r (λ e. OnRefused e.0 (λ _. is_finished_in d t.blob t.version ≡ true)) → IfErr r (λ e. e.1 ≡ row)
+    → Finishes (fixed_of d) t row (tagged d.history) (tagged d'.history) r
+finishes d d' t row r e waits done already back =
+    let W : DeskState → Type 0 = λ s. IfOk r (λ _. is_finished_in s t.blob t.version ≡ false) in
+    let D : DeskState → Type 0 = λ s. IfOk r (λ _. is_finished_in s t.blob t.version ≡ true) in
+    let O : DeskState → Type 0 = λ s. IfErr r (λ x. OnRefused x.0 (λ _. is_finished_in s t.blob t.version ≡ true)) in
+    record {
+      unfinished = subst W (sym (at_now d)) waits;
+      finished = subst D (sym (at_after d d' e)) done;
+      already = subst O (sym (at_now d)) already;
+      back = back;
+    }
+
+-- ---- looks
+pub looked : (d : DeskState) (call : Call) (caller : ℕ) (said : Outcome) → IsLegal d.limits d.history → length d.history < 2 ^ 38 → ((c : ℕ) → said ≡ outcome_now d c call)
+    → Looked (fixed_of d) call (tagged d.history) caller said (tagged d.history)
+looked d call caller said legal short is =
+    let P : DeskState → Type 0 = λ s. said ≡ outcome_now s caller call in
+    record { log = is_log d d refl legal short; same = refl; said_is = subst P (sym (at_now d)) (is caller) }
+
+snapshot_by : (d : DeskState) (blob version : ℕ) (r : Result Version DeskFault) → IfOk r (λ s. length s.rows ≡ version) → IfOk r (λ s. s.page_size ≡ d.page_size)
+    → IfOk r (λ s. TellUpdates d.page_size (updates_in d blob) s.rows) → IfOk r (λ s. IsVersionIn d.nodes d.houses s) → IfOk r (λ s. IsSnapshotOf (fixed_of d) (tagged d.history) blob version s)
+snapshot_by d blob version (Err x) rows page tells here = tt
+snapshot_by d blob version (Ok s) rows page tells here =
+    let T : DeskState → Type 0 = λ x. TellUpdates x.page_size (updates_in x blob) s.rows in
+    record { rows = rows; page_size = page; tells = subst T (sym (at_now d)) tells; here = here }
+
+pub opened : (d : DeskState) (blob version caller : ℕ) (r : Result Version DeskFault) → IsLegal d.limits d.history → length d.history < 2 ^ 38
+    → ((c : ℕ) → IfOk r (λ s. outcome_now d c (Calls.Size blob version) ≡ Outcomes.Size (size_now s)))
+    → ((c : ℕ) → IfErr r (λ fault. OnRefused fault (λ x. outcome_now d c (Calls.Size blob version) ≡ Outcomes.Refused x)))
+    → IfOk r (λ s. length s.rows ≡ version) → IfOk r (λ s. s.page_size ≡ d.page_size)
+    → IfOk r (λ s. TellUpdates d.page_size (updates_in d blob) s.rows) → IfOk r (λ s. IsVersionIn d.nodes d.houses s)
+    → Opened (fixed_of d) blob version (tagged d.history) caller r (tagged d.history)
+opened d blob version caller r legal short size refused rows page tells here =
+    let D : DeskState → Type 0 = λ x. IfOk r (λ s. outcome_now x caller (Calls.Size blob version) ≡ Outcomes.Size (size_now s)) in
+    let R : DeskState → Type 0 = λ x. IfErr r (λ fault. OnRefused fault (λ y. outcome_now x caller (Calls.Size blob version) ≡ Outcomes.Refused y)) in
+    record {
+      log = is_log d d refl legal short;
+      same = refl;
+      done = subst D (sym (at_now d)) (size caller);
+      refused = subst R (sym (at_now d)) (refused caller);
+      snapshot = snapshot_by d blob version r rows page tells here;
+    }

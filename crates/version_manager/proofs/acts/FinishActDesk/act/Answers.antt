@@ -1,0 +1,33 @@
+use Rattle.std.proofs.Common.{◌≡◌, ℕ}
+use Rattle.std.specs.Arc.{arc_value}
+use Rattle.blob_model.specs.declared.call.Call.TheVariants as Calls
+use Rattle.blob_model.specs.declared.call.Event.TheVariants as Events
+use Rattle.blob_model.specs.declared.call.Outcome.TheVariants as Outcomes
+use Rattle.publisher.specs.Windows.{with_finished}
+use Rattle.version_manager.specs.Desks.{windows_with, window_in}
+use Rattle.version_manager.proofs.Results.{if_err}
+use Rattle.version_manager.proofs.Turns.{changed, fixed_stays, finishes, ticket_here, row_here}
+use Rattle.version_manager.proofs.acts.FinishActDesk.act.Goals as goal
+
+pub finish-finished-requires-clause-ticket : goal.finish-finished-requires-clause-ticket
+finish-finished-requires-clause-ticket c = ticket_here c.args.state.now c.args.self.ticket.now c.requires.ticket
+
+pub finish-finished-requires-clause-row : goal.finish-finished-requires-clause-row
+finish-finished-requires-clause-row c = row_here c.args.state.now c.args.self.ticket.now _ c.requires.row_for
+
+pub returns-clause-gives : goal.returns-clause-gives
+returns-clause-gives c =
+    let d = c.args.state.now in
+    let d' = c.finish-finished.new.self in
+    let r = c.finish-finished.result in
+    let t = c.args.self.ticket.now in
+    let done = c.finish-finished.ensures in
+    let before = c.limits-before.ensures in
+    let after = c.limits-after.ensures in
+    let event = Events.Finish c.args.caller t.blob t.version in
+    let ws = λ (_ : ℕ). windows_with d t.blob (with_finished (window_in d t.blob) t.version (arc_value c.args.self.row)) in
+    let same = if_err r _ (λ _. d' ≡ d) (λ e h. h.1) done.same in (
+      changed d d' event r ws done.new same (Calls.Finish t.blob t.version) c.args.caller (λ (published : ℕ). Outcomes.Published published) (λ e. e.0)
+          before.legal before.short after.legal after.short done.published done.refused,
+      finishes d d' t c.args.self.row r (fixed_stays d d' event r ws done.new same) done.unfinished done.finished done.already (if_err r _ (λ e. e.1 ≡ c.args.self.row) (λ e h. h.0) done.same),
+    )

@@ -1,0 +1,106 @@
+-- A desk's history as a list of entries, each with its caller, and what the acts on a desk do to it.
+use Rattle.std.specs.Prelude.{◌≡◌, ℕ, ◌<◌, ◌≤◌, ◌^◌, ◌++◌, true, false, List, [], ◌∷◌, map, length, IfOk, IfErr, Result}
+use Rattle.page_store.specs.Stored.{Cut, joined, LieAmong}
+use Rattle.node_store.specs.Rows.{UpdateRow, IsRowIn}
+use Rattle.snapshot.specs.Versions.{Version, IsVersionIn, size_now}
+use Rattle.snapshot.specs.Laws.{TellUpdates}
+use Rattle.blob_model.specs.History.{caller_of, IsLegal}
+use Rattle.blob_model.specs.declared.call.Call.{Call}
+use Rattle.blob_model.specs.declared.call.Call.TheVariants as Calls
+use Rattle.blob_model.specs.declared.call.Event.{Event}
+use Rattle.blob_model.specs.declared.call.Outcome.{Outcome}
+use Rattle.blob_model.specs.declared.call.Outcome.TheVariants as Outcomes
+use Rattle.border_hints.specs.Numbered.{NumberedUpdate}
+use Rattle.version_manager.specs.declared.fault.DeskFault.{DeskFault}
+use Rattle.version_manager.specs.declared.journal.DeskFixed.{DeskFixed}
+use Rattle.version_manager.specs.Desks.{DeskState, OnRefused, IsTicketOf, IsRowFor, IsUnfinished, HasHints, outcome_now, updates_in, is_finished_in}
+
+-- an event with its caller
+abbrev pub tag : Event → ℕ × Event
+tag e = (caller_of e, e)
+
+abbrev pub tagged : List Event → List (ℕ × Event)
+tagged es = map tag es
+
+abbrev pub events : List (ℕ × Event) → List Event
+events log = map (λ (x : ℕ × Event). x.1) log
+
+-- what no act changes
+abbrev pub fixed_of : DeskState → DeskFixed
+fixed_of d = record { limits = d.limits; page_size = d.page_size; houses = d.houses; nodes = d.nodes }
+
+-- a desk with these fixed data and this history, as far as conditions on the history look
+abbrev pub desk_at : DeskFixed → List (ℕ × Event) → DeskState
+desk_at f log = record { limits = f.limits; page_size = f.page_size; houses = f.houses; nodes = f.nodes; history = events log; windows = [] }
+
+-- it is the history of a desk with these fixed data: each entry has its caller, the events are legal, and they are fewer than 2^38
+pub record IsLog (f : DeskFixed) (log : List (ℕ × Event)) : Type 0 where
+  pub tags : log ≡ tagged (events log)
+  pub legal : IsLegal f.limits (events log)
+  pub short : length log < 2 ^ 38
+
+-- what the store of that history answers
+abbrev pub outcome_in : DeskFixed → List (ℕ × Event) → ℕ → Call → Outcome
+outcome_in f log caller call = outcome_now (desk_at f log) caller call
+
+-- ---- what the acts give
+-- A look: it is answered from the store of the history, and changes nothing.
+pub record Looked (f : DeskFixed) (call : Call) (before : List (ℕ × Event)) (caller : ℕ) (said : Outcome) (after : List (ℕ × Event)) : Type 0 where
+  pub log : IsLog f before
+  pub same : after ≡ before
+  pub said_is : said ≡ outcome_in f before caller call
+
+-- A change: its outcome is that of the store of the history, and its event is entered exactly where it is done.
+pub record Changed {A E : Type 0} (f : DeskFixed) (call : Call) (event : Event) (tells : A → Outcome) (fault : E → DeskFault) (before : List (ℕ × Event)) (caller : ℕ) (said : Result A E)
+    (after : List (ℕ × Event)) : Type 0 where
+  pub log : IsLog f before
+  pub log_after : IsLog f after
+  pub done : IfOk said (λ a. outcome_in f before caller call ≡ tells a)
+  pub added : IfOk said (λ _. after ≡ before ++ tag event ∷ [])
+  pub refused : IfErr said (λ e. OnRefused (fault e) (λ refusal. outcome_in f before caller call ≡ Outcomes.Refused refusal))
+  pub same : IfErr said (λ _. after ≡ before)
+
+-- what a numbering needs
+pub record MayAssign (pages : Cut) (f : DeskFixed) : Type 0 where
+  pub some : 1 ≤ length (joined pages.pages)
+  pub few : length (joined pages.pages) ≤ 1048576
+  pub page_size : pages.page_size ≡ f.page_size
+  pub here : LieAmong f.houses pages.pages
+
+-- A ticket of a numbering. Its hints are of the history before it, and it is of the history after it, where its version waits for its finish.
+pub record IsNewTicket (f : DeskFixed) (blob caller : ℕ) (pages : Cut) (before after : List (ℕ × Event)) (t : NumberedUpdate) : Type 0 where
+  pub caller_is : t.caller ≡ caller
+  pub blob_is : t.blob ≡ blob
+  pub len : t.len ≡ length (joined pages.pages)
+  pub pages_are : t.pages ≡ pages
+  pub hints : HasHints (desk_at f before) blob t
+  pub ticket : IsTicketOf (desk_at f after) t
+  pub unfinished : IsUnfinished (desk_at f after) blob t.version
+
+-- what a finish needs
+pub record MayFinish (t : NumberedUpdate) (row : UpdateRow) (log : List (ℕ × Event)) (f : DeskFixed) : Type 0 where
+  pub ticket : IsTicketOf (desk_at f log) t
+  pub row_for : IsRowFor (desk_at f log) t row
+  pub here : IsRowIn f.nodes f.houses row
+
+-- a finish: the version wasn't finished where it is done, and was where it is refused; the row comes back where it isn't done
+pub record Finishes {R : Type 0} (f : DeskFixed) (t : NumberedUpdate) (row : R) (before after : List (ℕ × Event)) (said : Result ℕ (DeskFault × R)) : Type 0 where
+  pub unfinished : IfOk said (λ _. is_finished_in (desk_at f before) t.blob t.version ≡ false)
+  pub finished : IfOk said (λ _. is_finished_in (desk_at f after) t.blob t.version ≡ true)
+  pub already : IfErr said (λ e. OnRefused e.0 (λ _. is_finished_in (desk_at f before) t.blob t.version ≡ true))
+  pub back : IfErr said (λ e. e.1 ≡ row)
+
+-- The snapshot of a version: its rows tell the blob's updates, and lie in the desk's houses.
+pub record IsSnapshotOf (f : DeskFixed) (log : List (ℕ × Event)) (blob version : ℕ) (s : Version) : Type 0 where
+  pub rows : length s.rows ≡ version
+  pub page_size : s.page_size ≡ f.page_size
+  pub tells : TellUpdates f.page_size (updates_in (desk_at f log) blob) s.rows
+  pub here : IsVersionIn f.nodes f.houses s
+
+-- A look at the size of a version, with its snapshot
+pub record Opened (f : DeskFixed) (blob version : ℕ) (before : List (ℕ × Event)) (caller : ℕ) (said : Result Version DeskFault) (after : List (ℕ × Event)) : Type 0 where
+  pub log : IsLog f before
+  pub same : after ≡ before
+  pub done : IfOk said (λ s. outcome_in f before caller (Calls.Size blob version) ≡ Outcomes.Size (size_now s))
+  pub refused : IfErr said (λ fault. OnRefused fault (λ refusal. outcome_in f before caller (Calls.Size blob version) ≡ Outcomes.Refused refusal))
+  pub snapshot : IfOk said (λ s. IsSnapshotOf f before blob version s)

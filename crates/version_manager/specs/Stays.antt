@@ -1,0 +1,72 @@
+-- What a finish needs, each longer history keeps. No history need be legal for it: updates are only ever added.
+use Rattle.std.proofs.Common.{◌≡◌, ℕ, List, ◌++◌, ◌≤◌, zero, suc, length, take, refl, sym, ap, ◌∙◌, subst, arith, length-append}
+use Rattle.std.specs.Prelude.{Option, Some, None}
+use Rattle.std.proofs.lemmas.List.{map-append, take-append-le, get_or_append_left}
+use Rattle.range_log.specs.Updates.{update_at, extents, no_update}
+use Rattle.range_log.proofs.Growth.{rows_stay, extents_grow}
+use Rattle.snapshot.proofs.Growing.{IsRowOf-longer}
+use Rattle.border_hints.specs.Numbered.{NumberedUpdate, StandsFor}
+use Rattle.node_store.specs.Rows.{UpdateRow}
+use Rattle.blob_model.specs.Content.{Update}
+use Rattle.blob_model.specs.Store.{Store, Blob, blob_at, empty_store}
+use Rattle.blob_model.specs.History.{store_of}
+use Rattle.blob_model.specs.declared.call.Event.{Event}
+use Rattle.blob_model.proofs.Stays.{store_kept, store_from-append}
+use Rattle.snapshot.specs.Versions.{IsRowOf}
+use Rattle.version_manager.specs.declared.journal.DeskFixed.{DeskFixed}
+use Rattle.version_manager.specs.Desks.{IsTicketOf, updates_in, updates_or_none}
+use Rattle.version_manager.specs.Log.{MayFinish, desk_at, events}
+
+same_update : (us later : List Update) (v : ℕ) → v ≤ length us → update_at (us ++ later) v ≡ update_at us v
+same_update us later zero le = refl
+same_update us later (suc k) le = get_or_append_left us later no_update k (omega arith)
+
+Longer : List Update → List Update → Type 0
+Longer old new = (later : List Update) × (new ≡ old ++ later)
+
+longer : (f : DeskFixed) (h more : List Event) (blob : ℕ) (o : Option Blob) → blob_at (store_of f.limits h) blob ≡ o
+    → Longer (updates_or_none o) (updates_or_none (blob_at (store_of f.limits (h ++ more)) blob))
+unfolding Longer
+longer f h more blob None is = (_, refl)
+longer f h more blob (Some b) is =
+    let (new, at, stay) = store_kept (store_of f.limits h) more blob b is in
+    let there : blob_at (store_of f.limits (h ++ more)) blob ≡ Some new = ap (λ (s : Store). blob_at s blob) (store_from-append (empty_store f.limits) h more) ∙ at in
+    (stay.later, ap updates_or_none there ∙ stay.updates)
+
+-- the updates of a blob go on from what they were
+updates_longer : (f : DeskFixed) (xs ys : List (ℕ × Event)) (blob : ℕ) → Longer (updates_in (desk_at f xs) blob) (updates_in (desk_at f (xs ++ ys)) blob)
+unfolding Longer
+updates_longer f xs ys blob =
+    let (later, more_is) = longer f (events xs) (events ys) blob (blob_at (store_of f.limits (events xs)) blob) refl in
+    let O : List Event → List Update = λ l. updates_or_none (blob_at (store_of f.limits l) blob) in
+    (later, ap O (map-append (λ (x : ℕ × Event). x.1) xs ys) ∙ more_is)
+
+pub ticket_stays : (t : NumberedUpdate) (xs ys : List (ℕ × Event)) (f : DeskFixed) → IsTicketOf (desk_at f xs) t → IsTicketOf (desk_at f (xs ++ ys)) t
+unfolding Longer
+ticket_stays t xs ys f ticket =
+    let us = updates_in (desk_at f xs) t.blob in
+    let v = t.version in
+    let (later, is) = updates_longer f xs ys t.blob in
+    let same : update_at (updates_in (desk_at f (xs ++ ys)) t.blob) v ≡ update_at us v = ap (λ (l : List Update). update_at l v) is ∙ same_update us later v ticket.numbered in
+    let taken : take v (updates_in (desk_at f (xs ++ ys)) t.blob) ≡ take v us = ap (λ (l : List Update). take v l) is ∙ take-append-le v us later ticket.numbered in
+    let S : List Update → Type 0 = λ l. StandsFor t (extents l) in
+    record {
+      page_size = ticket.page_size;
+      numbered = omega (arith, ticket.numbered, ap length is, length-append us later);
+      caller = ap (λ (u : Update). u.caller) same ∙ ticket.caller;
+      stands = subst S (sym taken) ticket.stands;
+      bytes = ticket.bytes ∙ sym (ap (λ (u : Update). u.bytes) same);
+    }
+
+pub finish_stays : (t : NumberedUpdate) (row : UpdateRow) (xs ys : List (ℕ × Event)) (f : DeskFixed) → MayFinish t row xs f → MayFinish t row (xs ++ ys) f
+unfolding Longer
+finish_stays t row xs ys f h =
+    let us = updates_in (desk_at f xs) t.blob in
+    let v = t.version in
+    let (later, is) = updates_longer f xs ys t.blob in
+    let R : List Update → Type 0 = λ l. IsRowOf f.page_size l v row in
+    record {
+      ticket = ticket_stays t xs ys f h.ticket;
+      row_for = subst R (sym is) (IsRowOf-longer rows_stay extents_grow f.page_size v us later row h.ticket.numbered h.row_for);
+      here = h.here;
+    }
