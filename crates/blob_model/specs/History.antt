@@ -1,4 +1,4 @@
-use Rattle.std.specs.Prelude.{◌≡◌, ℕ, ◌≤◌, ◌==◌, ◌&&◌, ◌||◌, Bool, true, false, if◌then◌else◌, List, [], ◌∷◌, length, Option, Some, None}
+use Rattle.std.specs.Prelude.{◌≡◌, ◌≢◌, ℕ, ◌≤◌, ◌==◌, ◌&&◌, ◌||◌, Bool, true, false, if◌then◌else◌, List, [], ◌∷◌, length, filter, Option, Some, None}
 use Rattle.blob_model.specs.Limits.{Bounds}
 use Rattle.blob_model.specs.Store.{Store, Blob, empty_store, blob_at, assigned}
 use Rattle.blob_model.specs.Answer.{answer}
@@ -15,6 +15,15 @@ caller_of (Events.Create caller) = caller
 caller_of (Events.Assign caller blob place bytes) = caller
 caller_of (Events.Finish caller blob version) = caller
 caller_of (Events.Branch caller blob version) = caller
+
+-- the events of a caller, in order
+abbrev pub events_by : ℕ → List Event → List Event
+events_by caller es = filter (λ e. caller_of e == caller) es
+
+-- events of other callers
+abbrev pub AllOther : ℕ → List Event → Type 0
+AllOther caller [] = Unit {0}
+AllOther caller (e ∷ es) = (caller_of e ≢ caller) × AllOther caller es
 
 -- the call that it was
 abbrev pub call_of : Event → Call

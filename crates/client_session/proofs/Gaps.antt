@@ -8,7 +8,8 @@ use Rattle.request_form.specs.declared.form.Request.{Request}
 use Rattle.request_form.specs.declared.form.Request.TheVariants as Requests
 use Rattle.request_form.specs.declared.form.Reply.{Reply}
 use Rattle.request_form.specs.declared.form.Fault.{Fault}
-use Rattle.request_form.specs.Session.{Session, Held, AllOther, IsNobody, held_at}
+use Rattle.blob_model.specs.History.{AllOther}
+use Rattle.request_form.specs.Session.{Session, Held, IsNobody, held_at}
 use Rattle.request_form.specs.Answers.{Answers, Unless, Refused, OutOfMemory, Updated, Started, Kept, CreateAnswer, UpdateAnswer, ReportAnswer, FinishAnswer, BranchAnswer, ReadAnswer, LookAnswer, update_fault, read_fault}
 
 nobody_is_other : (caller : ℕ) (es : List Event) → IsNobody caller es → AllOther caller es

@@ -20,7 +20,8 @@ use Rattle.request_form.specs.declared.form.Heard.{Heard}
 use Rattle.request_form.specs.declared.form.Heard.TheVariants.{Asked, Wrong}
 use Rattle.request_form.specs.declared.form.Fault.{Fault}
 use Rattle.request_form.specs.declared.form.Fault.TheVariants as Faults
-use Rattle.request_form.specs.Session.{Session, Held, sees, holds, held_at, drops, AllOther, AllOwn, IsNobody}
+use Rattle.blob_model.specs.History.{AllOther}
+use Rattle.request_form.specs.Session.{Session, Held, sees, holds, held_at, drops, AllOwn, IsNobody}
 use Rattle.request_form.specs.Replies.{fault_of, reply_of, page_faults, fault_count}
 use Rattle.request_form.specs.Stream.{IsWellHeard, AllWellHeard}
 use Rattle.request_form.specs.Session.{outcome_at}

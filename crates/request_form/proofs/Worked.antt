@@ -13,7 +13,8 @@ use Rattle.request_form.specs.declared.form.Reply.TheVariants.{Created, Appended
 use Rattle.request_form.specs.declared.form.Heard.{Heard}
 use Rattle.request_form.specs.declared.form.Heard.TheVariants.{Asked, Wrong}
 use Rattle.request_form.specs.declared.form.Fault.TheVariants as Faults
-use Rattle.request_form.specs.Session.{Session, Held, AllOther, IsNobody, sees, holds, held_at, without_ticket}
+use Rattle.blob_model.specs.History.{AllOther}
+use Rattle.request_form.specs.Session.{Session, Held, IsNobody, sees, holds, held_at, without_ticket}
 use Rattle.request_form.specs.Answers.{Updated, Reported, FoundFinished, LookAnswer, update_fault}
 use Rattle.request_form.specs.Transcript.{Transcript, first_session}
 use Rattle.request_form.proofs.Told.{replies_told, told_is}

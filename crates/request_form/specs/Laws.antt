@@ -1,5 +1,6 @@
 use Rattle.std.specs.Prelude.{◌≡◌, List}
-use Rattle.request_form.specs.Session.{Session, AllOther, AllOwn, IsNobody}
+use Rattle.blob_model.specs.History.{AllOther}
+use Rattle.request_form.specs.Session.{Session, AllOwn, IsNobody}
 use Rattle.request_form.specs.Stream.{AllWellHeard}
 use Rattle.request_form.specs.Transcript.{Transcript, faults_of}
 use Rattle.request_form.specs.declared.form.Reply.{Reply}

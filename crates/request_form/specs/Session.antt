@@ -1,4 +1,4 @@
-use Rattle.std.specs.Prelude.{◌≡◌, ◌≢◌, ℕ, ◌+◌, ◌==◌, if◌then◌else◌, List, [], ◌∷◌, ◌++◌, Option, Some, None}
+use Rattle.std.specs.Prelude.{◌≡◌, ℕ, ◌+◌, ◌==◌, if◌then◌else◌, List, [], ◌∷◌, ◌++◌, Option, Some, None}
 use Rattle.blob_model.specs.Limits.{Bounds}
 use Rattle.blob_model.specs.Store.{Store}
 use Rattle.blob_model.specs.Answer.{answer}
@@ -25,11 +25,6 @@ pub record Session : Type 0 where
   pub seen : List Event
   pub tickets : List Held
   pub next : ℕ
-
--- events of other callers
-abbrev pub AllOther : ℕ → List Event → Type 0
-AllOther caller [] = Unit {0}
-AllOther caller (e ∷ es) = (caller_of e ≢ caller) × AllOther caller es
 
 -- no events: nobody else is there
 abbrev pub IsNobody : ℕ → List Event → Type 0

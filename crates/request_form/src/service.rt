@@ -7,7 +7,8 @@ pub trait Service {
     ghost use Rattle.std.specs.Prelude.{◌≡◌, ℕ, false};
     ghost use denote.Param.Send.{IsSync};
     ghost use Rattle.ports.specs.Counts.{RoseBy};
-    ghost use Rattle.request_form.specs.Session.{Session, AllOther};
+    ghost use Rattle.blob_model.specs.History.{AllOther};
+ghost use Rattle.request_form.specs.Session.{Session};
     ghost use Rattle.request_form.specs.Answers.{Answers};
     ghost use Rattle.request_form.specs.Replies.{fault_count};
     ghost use Rattle.request_form.specs.Transcript.{is_quit};

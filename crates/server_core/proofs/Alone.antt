@@ -4,7 +4,8 @@ use Rattle.std.proofs.lemmas.List.Concat.{flat_map-append}
 use Rattle.std.proofs.lemmas.List.Sums.{sum_by-append}
 use Rattle.std.specs.Prelude.{Option, flat_map}
 use Rattle.ports.specs.Counts.{RoseBy}
-use Rattle.request_form.specs.Session.{Fixed, Session, AllOther, AllOwn, IsNobody}
+use Rattle.blob_model.specs.History.{AllOther}
+use Rattle.request_form.specs.Session.{Fixed, Session, AllOwn, IsNobody}
 use Rattle.request_form.specs.Replies.{fault_count}
 use Rattle.request_form.specs.Transcript.{Run, Transcript, until_quit, first_session, faults_of}
 use Rattle.request_form.specs.Laws.{OwnIsAlone, AlwaysAnswered}

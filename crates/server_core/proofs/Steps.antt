@@ -6,7 +6,8 @@ use Rattle.std.proofs.KnownBytes.{Appends-nil, Appends-trans}
 use Rattle.std.specs.Prelude.{Option, flat_map}
 use Rattle.std.specs.Io.KnownBytes.{Appends}
 use Rattle.ports.specs.Counts.{RoseBy}
-use Rattle.request_form.specs.Session.{Session, AllOther}
+use Rattle.blob_model.specs.History.{AllOther}
+use Rattle.request_form.specs.Session.{Session}
 use Rattle.request_form.specs.Answers.{Gap}
 use Rattle.request_form.specs.Replies.{fault_count}
 use Rattle.request_form.specs.Transcript.{Run, ItemReply, until_quit, has_quit, is_last, faults_of}

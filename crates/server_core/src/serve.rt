@@ -12,7 +12,7 @@ ghost use Rattle.std.specs.Prelude.{◌≡◌, ℕ, ◌+◌, ◌<◌, ◌≤◌,
 ghost use Rattle.std.specs.Io.KnownBytes.{Appends, Consumes};
 ghost use Rattle.ports.specs.Counts.{RoseBy};
 ghost use Rattle.ports.specs.Stream.{taken_bytes, IsWithin, EndsAtEnd, CountsEnd, read_fault_count};
-ghost use Rattle.request_form.specs.Session.{AllOther};
+ghost use Rattle.blob_model.specs.History.{AllOther};
 ghost use Rattle.request_form.specs.Replies.{fault_count};
 ghost use Rattle.request_form.specs.Stream.{IsWellHeard};
 ghost use Rattle.request_form.specs.Transcript.{is_quit, is_last, ItemReply};

@@ -10,7 +10,7 @@ use Rattle.blob_model.specs.Content.{Update, content, content_from, offset_of}
 use Rattle.blob_model.specs.Limits.{Bounds, greatest}
 use Rattle.blob_model.specs.Store.{Store, Blob, blob_at, assigned, size_now, size_with, and_update, with_blob, empty_store}
 use Rattle.blob_model.specs.Answer.{answer, Answered, Test, unless_refused, refuse, offset_past_size, blob_too_big, too_many_versions, too_many_open}
-use Rattle.blob_model.specs.History.{store_of, store_from, caller_of, call_of, is_refused, IsLegal, IsLegalFrom}
+use Rattle.blob_model.specs.History.{store_of, store_from, caller_of, call_of, is_refused, IsLegal, IsLegalFrom, events_by}
 use Rattle.blob_model.specs.declared.call.Call.TheVariants as Calls
 use Rattle.blob_model.specs.declared.call.Event.{Event}
 use Rattle.blob_model.specs.declared.call.Event.TheVariants as Events
@@ -21,7 +21,7 @@ use Rattle.blob_model.specs.declared.call.Refusal.{Refusal}
 use Rattle.blob_model.specs.declared.call.Refusal.TheVariants as Refusals
 use Rattle.workload_law.specs.declared.plan.LoadPlan.{LoadPlan}
 use Rattle.workload_law.specs.Pieces.{record_of, cell_of}
-use Rattle.workload_law.specs.Load.{all_ops, IsSized, opening, operation, cell_offset, HasDone, HasBegun, events_by, IsLoad, IsUnderway}
+use Rattle.workload_law.specs.Load.{all_ops, IsSized, opening, operation, cell_offset, HasDone, HasBegun, IsLoad, IsUnderway}
 use Rattle.workload_law.specs.Laws.{IsRefusedWhenFull}
 use Rattle.workload_law.proofs.Appends.{Appends, put_end, appended, appended_length}
 use Rattle.workload_law.proofs.Writes.{WritesPart, writes_length}

@@ -5,14 +5,12 @@ use Rattle.std.proofs.lemmas.Bool.{eq-eqb, ne_eqb, eqb-true, and_parts, or_cases
 use Rattle.std.proofs.lemmas.List.Elements.{filter-append, Contains-append_cases, Contains-append_left, Contains-append_right, Contains-push_cases}
 use Rattle.blob_model.specs.Limits.{Bounds}
 use Rattle.blob_model.specs.Answer.{answer}
-use Rattle.blob_model.specs.History.{caller_of, store_of, IsLegal, finishes}
+use Rattle.blob_model.specs.History.{caller_of, store_of, IsLegal, finishes, events_by, AllOther}
 use Rattle.blob_model.specs.declared.call.Call.TheVariants as Calls
 use Rattle.blob_model.specs.declared.call.Event.{Event}
 use Rattle.blob_model.specs.declared.call.Event.TheVariants as Events
 use Rattle.blob_model.specs.declared.call.Outcome.TheVariants as Outcomes
 use Rattle.blob_model.specs.declared.call.Place.{Place}
-use Rattle.request_form.specs.Session.{AllOther}
-use Rattle.workload_law.specs.Load.{events_by}
 use Rattle.workload_law.specs.Numbered.{IsNumberedBy}
 use Rattle.workload_law.specs.Sessions.{FinishesItsOwn}
 use Rattle.workload_law.proofs.OneCaller.{one_caller, numbered_stays}

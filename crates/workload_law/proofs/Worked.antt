@@ -3,7 +3,7 @@ use Rattle.std.proofs.Common.{◌≡◌, ◌≢◌, ◌⊎◌, ℕ, ◌+◌, ◌
 use Rattle.std.proofs.lemmas.Bool.{ne_eqb}
 use Rattle.blob_model.specs.Limits.{greatest}
 use Rattle.blob_model.specs.Answer.{answer}
-use Rattle.blob_model.specs.History.{store_of, IsLegal}
+use Rattle.blob_model.specs.History.{store_of, IsLegal, events_by}
 use Rattle.blob_model.specs.declared.call.Call.TheVariants as Calls
 use Rattle.blob_model.specs.declared.call.Outcome.TheVariants as Outcomes
 use Rattle.blob_model.specs.declared.call.Place.TheVariants.{WriteAt, Append}
@@ -11,7 +11,7 @@ use Rattle.blob_model.specs.declared.call.Event.{Event}
 use Rattle.blob_model.specs.declared.call.Event.TheVariants as Events
 use Rattle.workload_law.specs.declared.plan.LoadPlan.{LoadPlan}
 use Rattle.workload_law.specs.Pieces.{record_of, cell_of, is_by, is_in_order, in_order_of}
-use Rattle.workload_law.specs.Load.{opening, HasDone, events_by, IsLoad}
+use Rattle.workload_law.specs.Load.{opening, HasDone, IsLoad}
 use Rattle.workload_law.specs.Summed.{cells_sum, summary_of}
 use Rattle.workload_law.specs.Numbered.{IsNumberedBy}
 

@@ -7,13 +7,13 @@ use Rattle.std.proofs.lemmas.List.Concat.{flat_map-append}
 use Rattle.std.proofs.lemmas.List.Elements.{filter-append}
 use Rattle.std.proofs.lemmas.List.FromFn.{map-range_with_len_more}
 use Rattle.blob_model.specs.Content.{Update}
-use Rattle.blob_model.specs.History.{caller_of}
+use Rattle.blob_model.specs.History.{caller_of, events_by}
 use Rattle.blob_model.specs.declared.call.Place.TheVariants.{WriteAt, Append}
 use Rattle.blob_model.specs.declared.call.Event.{Event}
 use Rattle.blob_model.specs.declared.call.Event.TheVariants as Events
 use Rattle.workload_law.specs.declared.plan.LoadPlan.{LoadPlan}
 use Rattle.workload_law.specs.Pieces.{record_of, cell_of}
-use Rattle.workload_law.specs.Load.{opening, operation, HasDone, HasBegun, events_by, IsLoad, IsUnderway, cell_offset}
+use Rattle.workload_law.specs.Load.{opening, operation, HasDone, HasBegun, IsLoad, IsUnderway, cell_offset}
 use Rattle.workload_law.proofs.Parts.{part}
 use Rattle.workload_law.proofs.Merged.{IsMerged, IsBegun}
 use Rattle.workload_law.proofs.Counted.{update_in, updates_in, finisher_in, finishers_in}

@@ -1,7 +1,6 @@
 -- What the callers of a load do to the store.
-use Rattle.std.specs.Prelude.{◌≡◌, ◌⊎◌, ℕ, zero, suc, ◌+◌, ◌-◌, ◌*◌, ◌==◌, ◌<◌, ◌≤◌, List, [], ◌∷◌, ◌++◌, replicate}
-use Rattle.std.specs.List.{filter}
-use Rattle.blob_model.specs.History.{caller_of}
+use Rattle.std.specs.Prelude.{◌≡◌, ◌⊎◌, ℕ, zero, suc, ◌+◌, ◌-◌, ◌*◌, ◌<◌, ◌≤◌, List, [], ◌∷◌, ◌++◌, replicate}
+use Rattle.blob_model.specs.History.{events_by}
 use Rattle.blob_model.specs.declared.call.Place.TheVariants.{WriteAt, Append}
 use Rattle.blob_model.specs.declared.call.Event.{Event}
 use Rattle.blob_model.specs.declared.call.Event.TheVariants as Events
@@ -46,10 +45,6 @@ abbrev pub HasDone : LoadPlan → ℕ → ℕ → List Event → Type 0
 HasDone plan worker zero events = events ≡ []
 HasDone plan worker (suc op) events =
     (before : List Event) × ((log_version : ℕ) × ((grid_version : ℕ) × (HasDone plan worker op before × (events ≡ before ++ operation plan worker op log_version grid_version))))
-
--- the events of a caller, in order
-abbrev pub events_by : ℕ → List Event → List Event
-events_by caller history = filter (λ e. caller_of e == caller) history
 
 -- The history of a load, whatever the order in which the workers came: caller 1's events stand before all others, worker w
 -- did its operations as caller w + 1, and no other caller has events.

@@ -3,14 +3,12 @@ use Rattle.std.specs.Prelude.{◌≡◌, ℕ, false, List, [], ◌∷◌, ◌++�
 use Rattle.std.specs.List.{Contains}
 use Rattle.blob_model.specs.Limits.{Bounds}
 use Rattle.blob_model.specs.Answer.{answer}
-use Rattle.blob_model.specs.History.{caller_of, store_of, IsLegal, finishes}
+use Rattle.blob_model.specs.History.{caller_of, store_of, IsLegal, finishes, events_by, AllOther}
 use Rattle.blob_model.specs.declared.call.Call.TheVariants as Calls
 use Rattle.blob_model.specs.declared.call.Event.{Event}
 use Rattle.blob_model.specs.declared.call.Event.TheVariants as Events
 use Rattle.blob_model.specs.declared.call.Outcome.TheVariants as Outcomes
 use Rattle.blob_model.specs.declared.call.Place.{Place}
-use Rattle.request_form.specs.Session.{AllOther}
-use Rattle.workload_law.specs.Load.{events_by}
 use Rattle.workload_law.specs.Numbered.{IsNumberedBy}
 
 -- a gap has none of the session's own events
