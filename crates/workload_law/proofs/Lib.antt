@@ -18,3 +18,5 @@ pub mod GoingOn
 pub mod OneCaller
 pub mod OwnEvents
 pub mod PrintedLines
+pub mod CallEnds
+pub mod Closing

@@ -49,7 +49,7 @@ legal_later : (s : Store) (xs ys : List Event) → IsLegalFrom s (xs ++ ys) → 
 legal_later s [] ys legal = legal
 legal_later s (x ∷ xs) ys legal = legal_later (answer s (caller_of x) (call_of x)).0 xs ys legal.1
 
-legal_front : (s : Store) (xs ys : List Event) → IsLegalFrom s (xs ++ ys) → IsLegalFrom s xs
+pub legal_front : (s : Store) (xs ys : List Event) → IsLegalFrom s (xs ++ ys) → IsLegalFrom s xs
 legal_front s [] ys legal = tt
 legal_front s (x ∷ xs) ys legal = (legal.0, legal_front (answer s (caller_of x) (call_of x)).0 xs ys legal.1)
 

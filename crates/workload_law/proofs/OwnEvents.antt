@@ -70,14 +70,32 @@ other_than caller (x ∷ xs) e all (suc k, lt, at) = other_than caller xs e all.
 same_finish : (caller blob version b v : ℕ) → Events.Finish caller blob version ≡ Events.Finish caller b v → (blob ≡ b) × (version ≡ v)
 same_finish caller blob version b v e = (cc, cc)
 
+-- what others do changes nothing of it
+pub gap_stays : (limits : Bounds) (caller : ℕ) (seen others : List Event) → AllOther caller others → FinishesItsOwn limits seen caller → FinishesItsOwn limits (seen ++ others) caller
+gap_stays limits caller seen others gap was b v there =
+    elim (Contains-append_cases seen others (Events.Finish caller b v) there) [
+      | inl old ↦ numbered_stays limits seen others caller b v (was b v old)
+      | inr new ↦ absurd (other_than caller others (Events.Finish caller b v) gap new refl)
+    ]
+
+-- nor does an event of the caller that is no finish
+pub event_stays : (limits : Bounds) (caller : ℕ) (seen others : List Event) (event : Event) → AllOther caller others → ((blob version : ℕ) → event ≢ Events.Finish caller blob version)
+    → FinishesItsOwn limits seen caller → FinishesItsOwn limits (seen ++ (others ++ event ∷ [])) caller
+event_stays limits caller seen others event gap other was b v there =
+    let mine : List Event = others ++ event ∷ [] in
+    elim (Contains-append_cases seen mine (Events.Finish caller b v) there) [
+      | inl old ↦ numbered_stays limits seen mine caller b v (was b v old)
+      | inr new ↦
+          elim (Contains-push_cases others event (Events.Finish caller b v) new) [
+            | inl between ↦ absurd (other_than caller others (Events.Finish caller b v) gap between refl)
+            | inr is ↦ absurd (other b v is)
+          ]
+    ]
+
 module _ (limits : Bounds) (caller blob version at size : ℕ) (place : Place) (bytes : List ℕ) (seen others later : List Event) (gap : AllOther caller others) (next : AllOther caller later)
     (answered : (answer (store_of limits (seen ++ others)) caller (Calls.Assign blob place bytes)).1 ≡ Outcomes.Assigned version at size) (was : FinishesItsOwn limits seen caller) where
   stay_gap : FinishesItsOwn limits (seen ++ others) caller
-  stay_gap b v there =
-      elim (Contains-append_cases seen others (Events.Finish caller b v) there) [
-        | inl old ↦ numbered_stays limits seen others caller b v (was b v old)
-        | inr new ↦ absurd (other_than caller others (Events.Finish caller b v) gap new refl)
-      ]
+  stay_gap = gap_stays limits caller seen others gap was
 
   regrouped : (more : List Event) → seen ++ (others ++ more) ≡ (seen ++ others) ++ more
   regrouped more = sym (append_assoc seen others more)

@@ -5,3 +5,5 @@ pub mod Numbered
 pub mod Sessions
 pub mod Laws
 pub mod Said
+pub mod Ends
+pub mod Closing

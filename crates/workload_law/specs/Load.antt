@@ -18,9 +18,13 @@ pub record IsSized (plan : LoadPlan) : Type 0 where
   pub some_ops : 1 ≤ plan.ops
   pub ops : plan.ops ≤ 4096
 
+-- the bytes with which the grid begins
+abbrev pub zeros_of : LoadPlan → List ℕ
+zeros_of plan = replicate (16 * all_ops plan) 0
+
 -- caller 1 makes the log and the grid, and fills the grid with zeros, which is finished under a version of it
 abbrev pub opened_with : LoadPlan → ℕ → List Event
-opened_with plan version = Events.Create 1 ∷ Events.Create 1 ∷ Events.Assign 1 2 Append (replicate (16 * all_ops plan) 0) ∷ Events.Finish 1 2 version ∷ []
+opened_with plan version = Events.Create 1 ∷ Events.Create 1 ∷ Events.Assign 1 2 Append (zeros_of plan) ∷ Events.Finish 1 2 version ∷ []
 
 -- under its first version
 abbrev pub opening : LoadPlan → List Event

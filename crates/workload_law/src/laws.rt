@@ -2,6 +2,8 @@
 
 ghost use Rattle.workload_law.specs.Laws.{SummariesHold, LoadsReadBack, RefusedWhenFull, OpeningsGoOn, LoadsAreUnderway, BeginningsAreUnderway, BlobsAreThere, StoppedHaveBegun};
 ghost use Rattle.workload_law.specs.Numbered.{VersionsHaveOneCaller, NumberedStays};
+ghost use Rattle.workload_law.specs.Ends.{CreatesEnd, UpdatesEnd, HindrancesStay};
+ghost use Rattle.workload_law.specs.Closing.{SeenAlone, NobodysAreNone, OpeningsAreFirst, OwnsStay, IdleOwnsAll, NothingElseHindersOpenings, NothingElseHinders, ReadsAreShort};
 ghost use Rattle.workload_law.specs.Sessions.{GapsHaveNoOwn, EventsAreOwn, NumberingsAreOwn, UpdatesAreOwn, NumbersItsOwn, FinishesStayOwn, ReportsStayOwn, NobodyElseFinishes};
 
 /// Every load comes to its plan's summary: nothing waits, each worker's records stand in the log once each and in order, each
@@ -46,4 +48,29 @@ pub fn sessions_own()
     ensures stay { FinishesStayOwn }
     ensures reports { ReportsStayOwn }
     ensures nobody { NobodyElseFinishes }
+{}
+
+/// A new blob of a session is made or was hindered; an update is done, or is to be tried again as too many updates of its blob
+/// wait, or was hindered.
+pub fn calls_end()
+    ensures creates { CreatesEnd }
+    ensures updates { UpdatesEnd }
+    ensures stay { HindrancesStay }
+{}
+
+/// What is known of a load's history once all passes came back: what the first caller saw alone, whose finishes are whose, and
+/// that nothing but the outside hinders a worker.
+pub fn loads_close()
+    ensures alone { SeenAlone }
+    ensures none { NobodysAreNone }
+    ensures first { OpeningsAreFirst }
+    ensures own { OwnsStay }
+    ensures idle { IdleOwnsAll }
+    ensures openings { NothingElseHindersOpenings }
+    ensures workers { NothingElseHinders }
+{}
+
+/// A read is no longer than was asked for.
+pub fn reads_are_short()
+    ensures { ReadsAreShort }
 {}
