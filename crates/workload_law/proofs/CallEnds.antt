@@ -1,5 +1,5 @@
 -- How a call ends, by the answer to it.
-use Rattle.std.proofs.Common.{◌≡◌, ◌≢◌, ℕ, Bool, true, false, if◌then◌else◌, List, [], ◌∷◌, ◌++◌, refl, sym, ap, subst, ◌∙◌, append_assoc, append-nil}
+use Rattle.std.proofs.Common.{◌≡◌, ◌≢◌, ◌⊎◌, inl, inr, ℕ, Bool, true, false, if◌then◌else◌, List, [], ◌∷◌, ◌++◌, refl, sym, ap, subst, ◌∙◌, append_assoc, append-nil}
 use Rattle.blob_model.specs.Limits.{Bounds}
 use Rattle.blob_model.specs.History.{finishes, events_by, AllOther}
 use Rattle.blob_model.specs.declared.call.Call.{Call}
@@ -10,9 +10,9 @@ use Rattle.blob_model.specs.declared.call.Outcome.TheVariants as Outcomes
 use Rattle.blob_model.specs.declared.call.Place.{Place}
 use Rattle.blob_model.specs.declared.call.Refusal.{Refusal}
 use Rattle.blob_model.specs.declared.call.Refusal.TheVariants as Refusals
-use Rattle.request_form.specs.Session.{Session, sees, outcome_at}
+use Rattle.request_form.specs.Session.{Fixed, Held, Session, sees, outcome_at}
 use Rattle.request_form.specs.Replies.{fault_of}
-use Rattle.request_form.specs.Answers.{Updated, CreateAnswer, UpdateAnswer, Kept}
+use Rattle.request_form.specs.Answers.{Updated, CreateAnswer, UpdateAnswer, ReportAnswer, LookAnswer, Kept}
 use Rattle.request_form.specs.declared.form.Reply.{Reply}
 use Rattle.request_form.specs.declared.form.Reply.TheVariants as Replies
 use Rattle.request_form.specs.declared.form.Fault.{Fault}
@@ -20,7 +20,7 @@ use Rattle.request_form.specs.declared.form.Fault.TheVariants as Faults
 use Rattle.workload_law.specs.Numbered.{IsNumberedBy}
 use Rattle.workload_law.specs.Sessions.{FinishesItsOwn}
 use Rattle.workload_law.specs.Ends.{IsOutside, RefusedAt, CreateHindered, UpdateHindered, Leaves, StopsAt, CreateEnds, UpdateEnds}
-use Rattle.workload_law.proofs.OwnEvents.{gap_has_none, numbering_is_own, update_is_own, gap_stays, finishes_stay, numbers_own, event_is_own, event_stays}
+use Rattle.workload_law.proofs.OwnEvents.{gap_has_none, numbering_is_own, update_is_own, gap_stays, finishes_stay, numbers_own, event_is_own, event_stays, reports_stay}
 
 -- the session afterwards, but for its tickets
 record Goes (s : Session) (more : List Event) (s' : Session) : Type 0 where
@@ -215,3 +215,41 @@ hindrances_stay limits caller blob place bytes first seen more fault (UpdateHind
     UpdateHindered.finished before later (rest ++ more) version at size
     (ap (λ (l : List Event). l ++ more) split ∙ (append_assoc before (this ∷ (later ++ rest)) more ∙ ap (λ (l : List Event). before ++ this ∷ l) (append_assoc later rest more)))
     numbered gap found
+
+-- ---- what calls leave
+pub leaves_add : (s mid s' : Session) (own more : List Event) → Leaves s own mid → Leaves mid more s' → Leaves s (own ++ more) s'
+leaves_add s mid s' own more first second =
+    let mine : events_by s.caller s'.seen ≡ events_by s.caller mid.seen ++ more =
+    subst (λ (c : ℕ). events_by c s'.seen ≡ events_by c mid.seen ++ more) first.caller second.mine in
+    let finishes : FinishesItsOwn s.fixed.limits mid.seen s.caller → FinishesItsOwn s.fixed.limits s'.seen s.caller =
+    subst (λ (f : Fixed). FinishesItsOwn f.limits mid.seen s.caller → FinishesItsOwn f.limits s'.seen s.caller) first.fixed
+    (subst (λ (c : ℕ). FinishesItsOwn mid.fixed.limits mid.seen c → FinishesItsOwn mid.fixed.limits s'.seen c) first.caller second.finishes) in
+    record {
+      more = first.more ++ second.more;
+      seen = second.seen ∙ (ap (λ (l : List Event). l ++ second.more) first.seen ∙ append_assoc s.seen first.more second.more);
+      mine = mine ∙ (ap (λ (l : List Event). l ++ more) first.mine ∙ append_assoc (events_by s.caller s.seen) own more);
+      caller = second.caller ∙ first.caller;
+      fixed = second.fixed ∙ first.fixed;
+      finishes = λ was. finishes (first.finishes was);
+    }
+
+pub looks_leave_none : (s : Session) (call : Call) (reply : Reply) (s' : Session) → LookAnswer AllOther s call reply s' → Leaves s [] s' × (s'.tickets ≡ s.tickets)
+looks_leave_none s call reply s' look = (left_gap s s' look.others look.is_gap look.seen, same_tickets s look.others s' look.seen)
+
+-- but for the tickets, others alone came
+left_others : (s : Session) (others : List Event) (s' : Session) → AllOther s.caller others → Goes s others s' → Leaves s [] s'
+left_others s others s' gap goes =
+    left s s' [] others goes (gap_has_none s.caller s.seen others gap ∙ sym (append-nil (events_by s.caller s.seen))) (gap_stays s.fixed.limits s.caller s.seen others gap)
+
+pub reports_leave : (s : Session) (ticket : Held) (reply : Reply) (s' : Session) → IsNumberedBy s.fixed.limits s.seen s.caller ticket.blob ticket.version → ReportAnswer AllOther s ticket reply s'
+    → Leaves s [] s' ⊎ Leaves s (Events.Finish s.caller ticket.blob ticket.version ∷ []) s'
+reports_leave s ticket reply s' numbered (ReportAnswer.reported r) =
+    let finish : Event = Events.Finish s.caller ticket.blob ticket.version in
+    inr (left s s' (finish ∷ []) (r.others ++ finish ∷ [])
+    (record { seen = ap (λ (x : Session). x.seen) r.seen; caller = ap (λ (x : Session). x.caller) r.seen; fixed = ap (λ (x : Session). x.fixed) r.seen })
+    (event_is_own s.caller s.seen r.others finish r.is_gap refl)
+    (reports_stay s.fixed.limits s.caller ticket.blob ticket.version s.seen r.others r.is_gap numbered))
+reports_leave s ticket reply s' numbered (ReportAnswer.finished r) =
+    inl (left_others s r.others s' r.is_gap
+    (record { seen = ap (λ (x : Session). x.seen) r.seen; caller = ap (λ (x : Session). x.caller) r.seen; fixed = ap (λ (x : Session). x.fixed) r.seen }))
+reports_leave s ticket reply s' numbered (ReportAnswer.out_of_memory m) = inl (left_gap s s' m.others m.is_gap m.seen)

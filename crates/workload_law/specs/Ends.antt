@@ -1,5 +1,5 @@
 -- How an update of a session ends, what it leaves, and what may hinder it.
-use Rattle.std.specs.Prelude.{◌≡◌, ◌≢◌, ℕ, true, List, [], ◌∷◌, ◌++◌}
+use Rattle.std.specs.Prelude.{◌≡◌, ◌≢◌, ◌⊎◌, ℕ, true, List, [], ◌∷◌, ◌++◌}
 use Rattle.blob_model.specs.Limits.{Bounds}
 use Rattle.blob_model.specs.Answer.{answer}
 use Rattle.blob_model.specs.History.{store_of, finishes, events_by, AllOther}
@@ -10,9 +10,9 @@ use Rattle.blob_model.specs.declared.call.Event.TheVariants as Events
 use Rattle.blob_model.specs.declared.call.Outcome.TheVariants as Outcomes
 use Rattle.blob_model.specs.declared.call.Place.{Place}
 use Rattle.blob_model.specs.declared.call.Refusal.{Refusal}
-use Rattle.request_form.specs.Session.{Session}
+use Rattle.request_form.specs.Session.{Session, Held}
 use Rattle.request_form.specs.Replies.{fault_of}
-use Rattle.request_form.specs.Answers.{Updated, CreateAnswer, UpdateAnswer}
+use Rattle.request_form.specs.Answers.{Updated, CreateAnswer, UpdateAnswer, ReportAnswer, LookAnswer}
 use Rattle.request_form.specs.declared.form.Reply.{Reply}
 use Rattle.request_form.specs.declared.form.Reply.TheVariants as Replies
 use Rattle.request_form.specs.declared.form.Fault.{Fault}
@@ -97,3 +97,17 @@ CreatesEnd = (s : Session) (reply : Reply) (s' : Session) → CreateAnswer AllOt
 abbrev pub HindrancesStay : Type 0
 HindrancesStay = (limits : Bounds) (caller blob : ℕ) (place : Place) (bytes : List ℕ) (first seen more : List Event) (fault : Fault)
     → UpdateHindered limits caller blob place bytes first seen fault → UpdateHindered limits caller blob place bytes first (seen ++ more) fault
+
+-- ---- what calls leave
+-- one call after another leaves what both left
+abbrev pub LeavesAdd : Type 0
+LeavesAdd = (s mid s' : Session) (own more : List Event) → Leaves s own mid → Leaves mid more s' → Leaves s (own ++ more) s'
+
+-- a look leaves nothing
+abbrev pub LooksLeaveNone : Type 0
+LooksLeaveNone = (s : Session) (call : Call) (reply : Reply) (s' : Session) → LookAnswer AllOther s call reply s' → Leaves s [] s' × (s'.tickets ≡ s.tickets)
+
+-- the report of an update that the session numbered leaves its finish, or nothing
+abbrev pub ReportsLeave : Type 0
+ReportsLeave = (s : Session) (ticket : Held) (reply : Reply) (s' : Session) → IsNumberedBy s.fixed.limits s.seen s.caller ticket.blob ticket.version → ReportAnswer AllOther s ticket reply s'
+    → Leaves s [] s' ⊎ Leaves s (Events.Finish s.caller ticket.blob ticket.version ∷ []) s'

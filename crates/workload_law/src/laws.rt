@@ -2,7 +2,7 @@
 
 ghost use Rattle.workload_law.specs.Laws.{SummariesHold, LoadsReadBack, RefusedWhenFull, OpeningsGoOn, LoadsAreUnderway, BeginningsAreUnderway, BlobsAreThere, StoppedHaveBegun};
 ghost use Rattle.workload_law.specs.Numbered.{VersionsHaveOneCaller, NumberedStays};
-ghost use Rattle.workload_law.specs.Ends.{CreatesEnd, UpdatesEnd, HindrancesStay};
+ghost use Rattle.workload_law.specs.Ends.{CreatesEnd, UpdatesEnd, HindrancesStay, LeavesAdd, LooksLeaveNone, ReportsLeave};
 ghost use Rattle.workload_law.specs.Closing.{SeenAlone, NobodysAreNone, OpeningsAreFirst, OwnsStay, IdleOwnsAll, NothingElseHindersOpenings, NothingElseHinders, ReadsAreShort};
 ghost use Rattle.workload_law.specs.Sessions.{GapsHaveNoOwn, EventsAreOwn, NumberingsAreOwn, UpdatesAreOwn, NumbersItsOwn, FinishesStayOwn, ReportsStayOwn, NobodyElseFinishes};
 
@@ -56,6 +56,13 @@ pub fn calls_end()
     ensures creates { CreatesEnd }
     ensures updates { UpdatesEnd }
     ensures stay { HindrancesStay }
+{}
+
+/// What a session's calls leave of its own events, one after another: a look nothing, a report a finish or nothing.
+pub fn calls_leave()
+    ensures add { LeavesAdd }
+    ensures looks { LooksLeaveNone }
+    ensures reports { ReportsLeave }
 {}
 
 /// What is known of a load's history once all passes came back: what the first caller saw alone, whose finishes are whose, and
