@@ -157,7 +157,7 @@ module _ (s : Session) (blob : ℕ) (place : Place) (bytes : List ℕ) (done : �
         fixed = ap (λ (x : Session). x.fixed) k.seen;
       } in
       UpdateEnds.hinders (Faults.NoMemoryTicket s.next) k.said (λ limit same. cc) (UpdateHindered.outside (IsOutside.held s.next refl))
-      (StopsAt.held (left_numbered s blob place bytes s' k.others k.later k.is_gap k.is_gap_later k.version k.at k.size k.numbered goes) k.version
+      (StopsAt.held (left_numbered s blob place bytes s' k.others k.later k.is_gap k.is_gap_later k.version k.at k.size k.numbered goes) s.next k.version
       (is_numbered s blob place bytes s' k.others k.later k.is_gap k.is_gap_later k.version k.at k.size k.numbered goes)
       (ap (λ (x : Session). x.tickets) k.seen))
 
@@ -253,3 +253,12 @@ reports_leave s ticket reply s' numbered (ReportAnswer.finished r) =
     inl (left_others s r.others s' r.is_gap
     (record { seen = ap (λ (x : Session). x.seen) r.seen; caller = ap (λ (x : Session). x.caller) r.seen; fixed = ap (λ (x : Session). x.fixed) r.seen }))
 reports_leave s ticket reply s' numbered (ReportAnswer.out_of_memory m) = inl (left_gap s s' m.others m.is_gap m.seen)
+
+pub stops_later : (s mid s' : Session) (blob : ℕ) (place : Place) (bytes : List ℕ) → Leaves s [] mid → mid.tickets ≡ s.tickets → StopsAt mid blob place bytes s' → StopsAt s blob place bytes s'
+stops_later s mid s' blob place bytes first same (StopsAt.unnumbered l t) = StopsAt.unnumbered (leaves_add s mid s' [] [] first l) (t ∙ same)
+stops_later s mid s' blob place bytes first same (StopsAt.numbered l t) =
+    StopsAt.numbered (leaves_add s mid s' [] (Events.Assign s.caller blob place bytes ∷ []) first (subst (λ (c : ℕ). Leaves mid (Events.Assign c blob place bytes ∷ []) s') first.caller l)) (t ∙ same)
+stops_later s mid s' blob place bytes first same (StopsAt.held l number version n t) =
+    StopsAt.held (leaves_add s mid s' [] (Events.Assign s.caller blob place bytes ∷ []) first (subst (λ (c : ℕ). Leaves mid (Events.Assign c blob place bytes ∷ []) s') first.caller l)) number version
+    (subst (λ (f : Fixed). IsNumberedBy f.limits s'.seen s.caller blob version) first.fixed (subst (λ (c : ℕ). IsNumberedBy mid.fixed.limits s'.seen c blob version) first.caller n))
+    (t ∙ ap (λ (l : List Held). l ++ record { number = number; blob = blob; version = version } ∷ []) same)

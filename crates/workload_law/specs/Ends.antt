@@ -66,8 +66,8 @@ pub record Leaves (s : Session) (own : List Event) (s' : Session) : Type 0 where
 pub data StopsAt (s : Session) (blob : ℕ) (place : Place) (bytes : List ℕ) (s' : Session) : Type 0 where
   unnumbered : Leaves s [] s' → s'.tickets ≡ s.tickets → StopsAt s blob place bytes s'
   numbered : Leaves s (Events.Assign s.caller blob place bytes ∷ []) s' → s'.tickets ≡ s.tickets → StopsAt s blob place bytes s'
-  held : Leaves s (Events.Assign s.caller blob place bytes ∷ []) s' → (version : ℕ) → IsNumberedBy s.fixed.limits s'.seen s.caller blob version
-      → s'.tickets ≡ s.tickets ++ record { number = s.next; blob = blob; version = version } ∷ [] → StopsAt s blob place bytes s'
+  held : Leaves s (Events.Assign s.caller blob place bytes ∷ []) s' → (number version : ℕ) → IsNumberedBy s.fixed.limits s'.seen s.caller blob version
+      → s'.tickets ≡ s.tickets ++ record { number = number; blob = blob; version = version } ∷ [] → StopsAt s blob place bytes s'
 
 -- How an update ends: it is done; or too many updates of the blob wait, and it may be tried again; or it was hindered.
 pub data UpdateEnds (s : Session) (blob : ℕ) (place : Place) (bytes : List ℕ) (done : ℕ → ℕ → ℕ → Reply) (reply : Reply) (s' : Session) : Type 0 where
@@ -102,6 +102,10 @@ HindrancesStay = (limits : Bounds) (caller blob : ℕ) (place : Place) (bytes : 
 -- one call after another leaves what both left
 abbrev pub LeavesAdd : Type 0
 LeavesAdd = (s mid s' : Session) (own more : List Event) → Leaves s own mid → Leaves mid more s' → Leaves s (own ++ more) s'
+
+-- where nothing of the session's own came before, what a hindered update left is left from there on
+abbrev pub StopsLater : Type 0
+StopsLater = (s mid s' : Session) (blob : ℕ) (place : Place) (bytes : List ℕ) → Leaves s [] mid → mid.tickets ≡ s.tickets → StopsAt mid blob place bytes s' → StopsAt s blob place bytes s'
 
 -- a look leaves nothing
 abbrev pub LooksLeaveNone : Type 0

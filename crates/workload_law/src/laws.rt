@@ -2,7 +2,7 @@
 
 ghost use Rattle.workload_law.specs.Laws.{SummariesHold, LoadsReadBack, RefusedWhenFull, OpeningsGoOn, LoadsAreUnderway, BeginningsAreUnderway, BlobsAreThere, StoppedHaveBegun};
 ghost use Rattle.workload_law.specs.Numbered.{VersionsHaveOneCaller, NumberedStays};
-ghost use Rattle.workload_law.specs.Ends.{CreatesEnd, UpdatesEnd, HindrancesStay, LeavesAdd, LooksLeaveNone, ReportsLeave};
+ghost use Rattle.workload_law.specs.Ends.{CreatesEnd, UpdatesEnd, HindrancesStay, LeavesAdd, StopsLater, LooksLeaveNone, ReportsLeave};
 ghost use Rattle.workload_law.specs.Closing.{SeenAlone, NobodysAreNone, OpeningsAreFirst, OwnsStay, IdleOwnsAll, NothingElseHindersOpenings, NothingElseHinders, ReadsAreShort};
 ghost use Rattle.workload_law.specs.Sessions.{GapsHaveNoOwn, EventsAreOwn, NumberingsAreOwn, UpdatesAreOwn, NumbersItsOwn, FinishesStayOwn, ReportsStayOwn, NobodyElseFinishes};
 
@@ -61,6 +61,7 @@ pub fn calls_end()
 /// What a session's calls leave of its own events, one after another: a look nothing, a report a finish or nothing.
 pub fn calls_leave()
     ensures add { LeavesAdd }
+    ensures stops { StopsLater }
     ensures looks { LooksLeaveNone }
     ensures reports { ReportsLeave }
 {}
