@@ -1,0 +1,22 @@
+mod Worked
+pub mod Sums
+pub mod Parts
+pub mod Blobs
+pub mod Counted
+pub mod Appends
+pub mod Writes
+pub mod Merged
+pub mod Workers
+pub mod Opened
+pub mod Grid
+pub mod Cells
+pub mod Records
+pub mod Summing
+pub mod Standing
+pub mod ReadBack
+pub mod GoingOn
+pub mod OneCaller
+pub mod OwnEvents
+pub mod PrintedLines
+pub mod CallEnds
+pub mod Closing

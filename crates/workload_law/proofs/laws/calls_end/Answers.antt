@@ -1,0 +1,11 @@
+use Rattle.workload_law.proofs.CallEnds.{updates_ended, creates_ended, hindrances_stay}
+use Rattle.workload_law.proofs.laws.calls_end.Goals as goal
+
+pub returns-clause-creates : goal.returns-clause-creates
+returns-clause-creates c = creates_ended
+
+pub returns-clause-updates : goal.returns-clause-updates
+returns-clause-updates c = updates_ended
+
+pub returns-clause-stay : goal.returns-clause-stay
+returns-clause-stay c = hindrances_stay

@@ -1,0 +1,117 @@
+-- How an update of a session ends, what it leaves, and what may hinder it.
+use Rattle.std.specs.Prelude.{◌≡◌, ◌≢◌, ◌⊎◌, ℕ, true, List, [], ◌∷◌, ◌++◌}
+use Rattle.blob_model.specs.Limits.{Bounds}
+use Rattle.blob_model.specs.Answer.{answer}
+use Rattle.blob_model.specs.History.{store_of, finishes, events_by, AllOther}
+use Rattle.blob_model.specs.declared.call.Call.{Call}
+use Rattle.blob_model.specs.declared.call.Call.TheVariants as Calls
+use Rattle.blob_model.specs.declared.call.Event.{Event}
+use Rattle.blob_model.specs.declared.call.Event.TheVariants as Events
+use Rattle.blob_model.specs.declared.call.Outcome.TheVariants as Outcomes
+use Rattle.blob_model.specs.declared.call.Place.{Place}
+use Rattle.blob_model.specs.declared.call.Refusal.{Refusal}
+use Rattle.request_form.specs.Session.{Session, Held}
+use Rattle.request_form.specs.Replies.{fault_of}
+use Rattle.request_form.specs.Answers.{Updated, CreateAnswer, UpdateAnswer, ReportAnswer, LookAnswer}
+use Rattle.request_form.specs.declared.form.Reply.{Reply}
+use Rattle.request_form.specs.declared.form.Reply.TheVariants as Replies
+use Rattle.request_form.specs.declared.form.Fault.{Fault}
+use Rattle.request_form.specs.declared.form.Fault.TheVariants as Faults
+use Rattle.workload_law.specs.Numbered.{IsNumberedBy}
+use Rattle.workload_law.specs.Sessions.{FinishesItsOwn}
+
+-- the fault is of the outside: no door took or gave a page, or there was no memory
+pub data IsOutside (fault : Fault) : Type 0 where
+  lost : (page : ℕ) → fault ≡ Faults.PageFault page → IsOutside fault
+  starved : fault ≡ Faults.NoMemory → IsOutside fault
+  held : (ticket : ℕ) → fault ≡ Faults.NoMemoryTicket ticket → IsOutside fault
+
+-- The store refused a caller's call on a front of the history: what the caller had seen before the call, and then others' events.
+-- By now the caller has seen more.
+pub record RefusedAt (limits : Bounds) (caller : ℕ) (call : Call) (first seen : List Event) (fault : Fault) : Type 0 where
+  pub others : List Event
+  pub rest : List Event
+  pub is_gap : AllOther caller others
+  pub split : seen ≡ (first ++ others) ++ rest
+  pub refusal : Refusal
+  pub refused : (answer (store_of limits (first ++ others)) caller call).1 ≡ Outcomes.Refused refusal
+  pub is : fault ≡ fault_of refusal
+
+-- Why a blob wasn't made: by the outside, or by the store.
+pub data CreateHindered (limits : Bounds) (caller : ℕ) (first seen : List Event) (fault : Fault) : Type 0 where
+  outside : IsOutside fault → CreateHindered limits caller first seen fault
+  refused : RefusedAt limits caller Calls.Create first seen fault → CreateHindered limits caller first seen fault
+
+-- Why an update wasn't done: by the outside; or by the store, for another cause than too many waiting updates; or another caller
+-- had finished it once it was numbered.
+pub data UpdateHindered (limits : Bounds) (caller blob : ℕ) (place : Place) (bytes : List ℕ) (first seen : List Event) (fault : Fault) : Type 0 where
+  outside : IsOutside fault → UpdateHindered limits caller blob place bytes first seen fault
+  refused : RefusedAt limits caller (Calls.Assign blob place bytes) first seen fault → ((limit : ℕ) → fault ≢ Faults.TooManyOpen limit)
+      → UpdateHindered limits caller blob place bytes first seen fault
+  finished : (before later rest : List Event) (version at size : ℕ) → seen ≡ before ++ Events.Assign caller blob place bytes ∷ (later ++ rest)
+      → (answer (store_of limits before) caller (Calls.Assign blob place bytes)).1 ≡ Outcomes.Assigned version at size
+      → AllOther caller later → finishes blob version later ≡ true
+      → UpdateHindered limits caller blob place bytes first seen fault
+
+-- A session has seen more. Its own events are those that it had, and then these. It finishes only what it numbered, if it did so before.
+pub record Leaves (s : Session) (own : List Event) (s' : Session) : Type 0 where
+  pub more : List Event
+  pub seen : s'.seen ≡ s.seen ++ more
+  pub mine : events_by s.caller s'.seen ≡ events_by s.caller s.seen ++ own
+  pub caller : s'.caller ≡ s.caller
+  pub fixed : s'.fixed ≡ s.fixed
+  pub finishes : FinishesItsOwn s.fixed.limits s.seen s.caller → FinishesItsOwn s.fixed.limits s'.seen s.caller
+
+-- An update that was hindered: it wasn't numbered; or it was, and another caller finished it; or the session holds it under a ticket.
+pub data StopsAt (s : Session) (blob : ℕ) (place : Place) (bytes : List ℕ) (s' : Session) : Type 0 where
+  unnumbered : Leaves s [] s' → s'.tickets ≡ s.tickets → StopsAt s blob place bytes s'
+  numbered : Leaves s (Events.Assign s.caller blob place bytes ∷ []) s' → s'.tickets ≡ s.tickets → StopsAt s blob place bytes s'
+  held : Leaves s (Events.Assign s.caller blob place bytes ∷ []) s' → (number version : ℕ) → IsNumberedBy s.fixed.limits s'.seen s.caller blob version
+      → s'.tickets ≡ s.tickets ++ record { number = number; blob = blob; version = version } ∷ [] → StopsAt s blob place bytes s'
+
+-- How an update ends: it is done; or too many updates of the blob wait, and it may be tried again; or it was hindered.
+pub data UpdateEnds (s : Session) (blob : ℕ) (place : Place) (bytes : List ℕ) (done : ℕ → ℕ → ℕ → Reply) (reply : Reply) (s' : Session) : Type 0 where
+  does : (version at size : ℕ) → reply ≡ done version at size
+      → Leaves s (Events.Assign s.caller blob place bytes ∷ Events.Finish s.caller blob version ∷ []) s' → s'.tickets ≡ s.tickets
+      → UpdateEnds s blob place bytes done reply s'
+  full : (limit : ℕ) → reply ≡ Replies.Refused (Faults.TooManyOpen limit) → Leaves s [] s' → s'.tickets ≡ s.tickets → UpdateEnds s blob place bytes done reply s'
+  hinders : (fault : Fault) → reply ≡ Replies.Refused fault → ((limit : ℕ) → fault ≢ Faults.TooManyOpen limit)
+      → UpdateHindered s.fixed.limits s.caller blob place bytes s.seen s'.seen fault → StopsAt s blob place bytes s'
+      → UpdateEnds s blob place bytes done reply s'
+
+-- The answer to an update that the session itself doesn't refuse is one of these.
+abbrev pub UpdatesEnd : Type 0
+UpdatesEnd = (s : Session) (blob : ℕ) (place : Place) (bytes : List ℕ) (done : ℕ → ℕ → ℕ → Reply) (reply : Reply) (s' : Session)
+    → UpdateAnswer AllOther s blob place bytes (Updated AllOther s blob place bytes done reply s') reply s' → UpdateEnds s blob place bytes done reply s'
+
+-- How the making of a blob ends: it is done, or was hindered.
+pub data CreateEnds (s : Session) (reply : Reply) (s' : Session) : Type 0 where
+  does : (blob : ℕ) → reply ≡ Replies.Created blob → Leaves s (Events.Create s.caller ∷ []) s' → s'.tickets ≡ s.tickets → CreateEnds s reply s'
+  hinders : (fault : Fault) → reply ≡ Replies.Refused fault → CreateHindered s.fixed.limits s.caller s.seen s'.seen fault → Leaves s [] s' → s'.tickets ≡ s.tickets
+      → CreateEnds s reply s'
+
+abbrev pub CreatesEnd : Type 0
+CreatesEnd = (s : Session) (reply : Reply) (s' : Session) → CreateAnswer AllOther s reply s' → CreateEnds s reply s'
+
+-- what hindered stands as more is seen
+abbrev pub HindrancesStay : Type 0
+HindrancesStay = (limits : Bounds) (caller blob : ℕ) (place : Place) (bytes : List ℕ) (first seen more : List Event) (fault : Fault)
+    → UpdateHindered limits caller blob place bytes first seen fault → UpdateHindered limits caller blob place bytes first (seen ++ more) fault
+
+-- ---- what calls leave
+-- one call after another leaves what both left
+abbrev pub LeavesAdd : Type 0
+LeavesAdd = (s mid s' : Session) (own more : List Event) → Leaves s own mid → Leaves mid more s' → Leaves s (own ++ more) s'
+
+-- where nothing of the session's own came before, what a hindered update left is left from there on
+abbrev pub StopsLater : Type 0
+StopsLater = (s mid s' : Session) (blob : ℕ) (place : Place) (bytes : List ℕ) → Leaves s [] mid → mid.tickets ≡ s.tickets → StopsAt mid blob place bytes s' → StopsAt s blob place bytes s'
+
+-- a look leaves nothing
+abbrev pub LooksLeaveNone : Type 0
+LooksLeaveNone = (s : Session) (call : Call) (reply : Reply) (s' : Session) → LookAnswer AllOther s call reply s' → Leaves s [] s' × (s'.tickets ≡ s.tickets)
+
+-- the report of an update that the session numbered leaves its finish, or nothing
+abbrev pub ReportsLeave : Type 0
+ReportsLeave = (s : Session) (ticket : Held) (reply : Reply) (s' : Session) → IsNumberedBy s.fixed.limits s.seen s.caller ticket.blob ticket.version → ReportAnswer AllOther s ticket reply s'
+    → Leaves s [] s' ⊎ Leaves s (Events.Finish s.caller ticket.blob ticket.version ∷ []) s'
