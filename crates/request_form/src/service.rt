@@ -8,7 +8,7 @@ pub trait Service {
     ghost use denote.Param.Send.{IsSync};
     ghost use Rattle.ports.specs.Counts.{RoseBy};
     ghost use Rattle.blob_model.specs.History.{AllOther};
-ghost use Rattle.request_form.specs.Session.{Session};
+    ghost use Rattle.request_form.specs.Session.{Session};
     ghost use Rattle.request_form.specs.Answers.{Answers};
     ghost use Rattle.request_form.specs.Replies.{fault_count};
     ghost use Rattle.request_form.specs.Transcript.{is_quit};
@@ -19,10 +19,17 @@ ghost use Rattle.request_form.specs.Session.{Session};
     /// How often the outside has failed for it.
     ghost faults: { Self → ℕ };
 
+    /// What no answer changes, such as the store whose session it is.
+    ghost Kept: { Type 0 } = { Unit {0} };
+
+    /// That of a service.
+    ghost kept: { Self → Self.Kept };
+
     /// Answers one request; Quit is answered by whoever serves the stream. It may wait for other sessions.
     fn answer<R: Wait + Threads + Sync>(&mut self, rt: &R, request: Request) -> Reply
         requires asks { is_quit request ≡ false }
         requires sync { IsSync R.row }
         ensures answers { Answers AllOther (session self.old) request result (session self.new) }
-        ensures faults { RoseBy (fault_count result) (faults self.old) (faults self.new) };
+        ensures faults { RoseBy (fault_count result) (faults self.old) (faults self.new) }
+        ensures kept { kept self.new ≡ kept self.old };
 }
