@@ -19,10 +19,17 @@ pub trait Service {
     /// How often the outside has failed for it.
     ghost faults: { Self → ℕ };
 
+    /// What no answer changes, such as the store whose session it is.
+    ghost Kept: { Type 0 } = { Unit {0} };
+
+    /// That of a service.
+    ghost kept: { Self → Self.Kept };
+
     /// Answers one request; Quit is answered by whoever serves the stream. It may wait for other sessions.
     fn answer<R: Wait + Threads + Sync>(&mut self, rt: &R, request: Request) -> Reply
         requires asks { is_quit request ≡ false }
         requires sync { IsSync R.row }
         ensures answers { Answers AllOther (session self.old) request result (session self.new) }
-        ensures faults { RoseBy (fault_count result) (faults self.old) (faults self.new) };
+        ensures faults { RoseBy (fault_count result) (faults self.old) (faults self.new) }
+        ensures kept { kept self.new ≡ kept self.old };
 }

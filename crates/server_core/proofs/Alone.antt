@@ -1,5 +1,5 @@
 -- What was written where nobody else was there.
-use Rattle.std.proofs.Common.{◌≡◌, ℕ, ◌<◌, List, [], ◌∷◌, ◌++◌, length, length-append, sym, ◌∙◌, ap, subst, append_assoc, append-nil, arith}
+use Rattle.std.proofs.Common.{◌≡◌, ℕ, ◌<◌, List, [], ◌∷◌, ◌++◌, length, length-append, inl, inr, refl, sym, ◌∙◌, ap, subst, append_assoc, append-nil, arith}
 use Rattle.std.proofs.lemmas.List.Concat.{flat_map-append}
 use Rattle.std.proofs.lemmas.List.Sums.{sum_by-append}
 use Rattle.std.specs.Prelude.{Option, flat_map}
@@ -14,8 +14,8 @@ use Rattle.request_form.specs.declared.form.Reply.{Reply}
 use Rattle.request_form.specs.declared.form.Heard.{Heard}
 use Rattle.server_core.specs.declared.step.End.{End}
 use Rattle.server_core.specs.declared.step.End.TheVariants as Ends
-use Rattle.server_core.specs.Progress.{Point, Progress}
-use Rattle.server_core.specs.Served.{AnswersAll, AnswersFront, Ended}
+use Rattle.server_core.specs.Progress.{Point, Progress, AnswersFront}
+use Rattle.server_core.specs.Served.{AnswersAll, Ended, Reaches}
 use Rattle.server_core.specs.Laws.{SaysWithin, WroteAlone}
 use Rattle.server_core.proofs.Items.{until_quit-twice, until_quit-parts, well_until}
 use Rattle.server_core.proofs.Steps.{Run-append}
@@ -38,7 +38,7 @@ module _ (own_is_alone : OwnIsAlone) (always : AlwaysAnswered) (said : Reply →
       let transcript : Transcript AllOther (first_session fixed 1) heard replies new.session = subst (λ (xs : List Heard). Run AllOther (first_session fixed 1) xs replies new.session) is from_first in
       own_is_alone (first_session fixed 1) heard replies new.session own transcript
 
-  all_alone : (heard items : List Heard) (rest : List ℕ) → (p : Progress said old items rest new) → AnswersAll heard items rest → SaysWithin said fixed heard old.faults new.faults p.out
+  all_alone : (heard items : List Heard) (rest : List ℕ) → (p : Progress said [] old items rest new) → AnswersAll heard items rest → SaysWithin said fixed heard old.faults new.faults p.out
   all_alone heard items rest p all = record {
     alone = record {
       replies = p.replies;
@@ -50,7 +50,7 @@ module _ (own_is_alone : OwnIsAlone) (always : AlwaysAnswered) (said : Reply →
   }
 
   -- A front of the items, and then what others would have been answered. What is still to be written begins with the rest.
-  front_alone : (heard items : List Heard) (rest : List ℕ) → (p : Progress said old items rest new) → AnswersFront heard items → (later : List ℕ) × SaysWithin said fixed heard old.faults new.faults (p.out ++ (rest ++ later))
+  front_alone : (heard items : List Heard) (rest : List ℕ) → (p : Progress said [] old items rest new) → AnswersFront heard items → (later : List ℕ) × SaysWithin said fixed heard old.faults new.faults (p.out ++ (rest ++ later))
   front_alone heard items rest p front =
       let parts = until_quit-parts items front.0 (subst (λ (xs : List Heard). until_quit xs ≡ xs) front.1 (until_quit-twice heard)) in
       let run : Run IsNobody (first_session fixed 1) items p.replies new.session = subst (λ (xs : List Heard). Run IsNobody (first_session fixed 1) xs p.replies new.session) parts.0 (run_alone items items p.replies (sym parts.0) p.run) in
@@ -74,16 +74,27 @@ module _ (own_is_alone : OwnIsAlone) (always : AlwaysAnswered) (said : Reply →
   longer : (rest later : List ℕ) → 0 < length rest → 0 < length (rest ++ later)
   longer rest later some = rw (length-append rest later) (omega arith)
 
-  pub wrote_alone : (heard : Stream) (taken limit : ℕ) (items : List Heard) (rest : List ℕ) (left : Option (List ℕ)) (end : End) → (p : Progress said old items rest new) →
-      Ended heard taken limit items rest left end → WroteAlone said fixed heard old.faults new.faults p.out end
-  wrote_alone heard taken limit items rest left Ends.Quit p e = all_alone heard.items items rest p e.0
-  wrote_alone heard taken limit items rest left Ends.InputEnd p e = all_alone heard.items items rest p e.0
-  wrote_alone heard taken limit items rest left Ends.Cut p e = all_alone heard.whole items rest p e.0
-  wrote_alone heard taken limit items rest left Ends.ReadFault p e = all_alone heard.whole items rest p e.0
-  wrote_alone heard taken limit items rest left Ends.InputTooLong p e = all_alone heard.whole items rest p e.0
-  wrote_alone heard taken limit items rest left Ends.WriteFault p e =
-      let front = front_alone heard.items items rest p e.0 in
-      (rest ++ front.0, longer rest front.0 e.1, front.1)
-  wrote_alone heard taken limit items rest left Ends.NoMemory p e =
-      let front = front_alone heard.items items rest p e in
-      (rest ++ front.0, front.1)
+  -- more than a front is still to be written where some of the front is
+  part_alone : (heard items : List Heard) (rest : List ℕ) → (p : Progress said [] old items rest new) → 0 < length rest → AnswersFront heard items →
+      (more : List ℕ) × (0 < length more) × SaysWithin said fixed heard old.faults new.faults (p.out ++ more)
+  part_alone heard items rest p some front = let f = front_alone heard items rest p front in (rest ++ f.0, longer rest f.0 some, f.1)
+
+  begun_alone : (heard items : List Heard) (rest : List ℕ) → (p : Progress said [] old items rest new) → AnswersFront heard items →
+      (more : List ℕ) × SaysWithin said fixed heard old.faults new.faults (p.out ++ more)
+  begun_alone heard items rest p front = let f = front_alone heard items rest p front in (rest ++ f.0, f.1)
+
+  module _ (heard : Stream) (taken limit : ℕ) (items : List Heard) (rest : List ℕ) (left : Option (List ℕ)) (ends ends' : ℕ) (p : Progress said [] old items rest new) where
+    abbrev wrote : End → Type 0
+    wrote end = WroteAlone said fixed heard taken limit ends ends' old.faults new.faults p.out end
+
+    pub wrote_alone : (end : End) → Ended heard taken limit items rest left end → Reaches heard taken limit items ends ends' end → wrote end
+    wrote_alone Ends.Quit e (inl r) = (heard.whole, inr refl, r.1, all_alone heard.whole items rest p (r.0, e.0.1))
+    wrote_alone Ends.Quit e (inr r) = (heard.items, inl (refl, r), e.1, all_alone heard.items items rest p e.0)
+    wrote_alone Ends.InputEnd e r = all_alone heard.items items rest p e.0
+    wrote_alone Ends.Cut e r = all_alone heard.whole items rest p e.0
+    wrote_alone Ends.ReadFault e r = all_alone heard.whole items rest p e.0
+    wrote_alone Ends.InputTooLong e r = all_alone heard.whole items rest p e.0
+    wrote_alone Ends.WriteFault e (inl r) = (heard.whole, inr refl, part_alone heard.whole items rest p e.1 r)
+    wrote_alone Ends.WriteFault e (inr r) = (heard.items, inl (refl, r), part_alone heard.items items rest p e.1 e.0)
+    wrote_alone Ends.NoMemory e (inl r) = (heard.whole, inr refl, begun_alone heard.whole items rest p r)
+    wrote_alone Ends.NoMemory e (inr r) = (heard.items, inl (refl, r), begun_alone heard.items items rest p e)

@@ -12,10 +12,10 @@ use Rattle.server_core.specs.declared.step.End.{End}
 use Rattle.server_core.specs.declared.step.End.TheVariants as Ends
 use Rattle.server_core.specs.declared.step.Step.{Step}
 use Rattle.server_core.specs.declared.step.Step.TheVariants as Steps
-use Rattle.server_core.specs.Progress.{Point, Progress, Goes, Quits, Stops, after_items, IsDrained}
-use Rattle.server_core.specs.Served.{AnswersAll, AnswersFront, Ended, Closing, Input, TakesOff, Finished}
+use Rattle.server_core.specs.Progress.{Point, Progress, AnswersFront, IsQuitBy, Goes, Quits, Stops, after_items, IsDrained}
+use Rattle.server_core.specs.Served.{AnswersAll, Ended, Closing, Input, TakesOff, Finished}
 use Rattle.server_core.proofs.Items.{until_quit-append, has_quit-append, until_quit-all, until_quit-one}
-use Rattle.server_core.proofs.Steps.{Progress-trans, Progress-none}
+use Rattle.server_core.proofs.Steps.{Progress-trans, Progress-none, written_at}
 
 pub TakesOff-none : (a : Input) → TakesOff [] a a
 TakesOff-none a = record { given = Appends-nil a.given; left = Consumes-nil a.left }
@@ -37,23 +37,28 @@ pub record Serving (said : Reply → List ℕ) (old : Point) (reads : List ℕ �
   pub taken : List ℕ
   pub takes : TakesOff taken before now
   pub counts : length taken ≡ count
-  pub goes : Goes said old (λ (more : List ℕ). reads (taken ++ more)) new after
+  pub goes : Goes said old (λ (more : List ℕ). reads (taken ++ more)) [] new after
   pub empty : (after []).whole ≡ []
   pub same_ends : now.ends ≡ before.ends
+
+-- the same where the bytes written are named otherwise
+pub Serving-at : (said : Reply → List ℕ) (old : Point) (reads : List ℕ → Stream) (before now : Input) (count : ℕ) (new : Point) (after : List ℕ → Stream) (written : Option (List ℕ)) → written ≡ new.written →
+    Serving said old reads before now count new after → Serving said old reads before now count (written_at new written) after
+Serving-at said old reads before now count new after written same s = subst (λ (w : Option (List ℕ)). Serving said old reads before now count (written_at new w) after) (sym same) s
 
 module _ (said : Reply → List ℕ) where
   -- no memory for what is left over
   pub Finished-none : (old : Point) (heard : Stream) → Finished said old heard old Ends.NoMemory
-  Finished-none old heard = record { items = []; rest = []; progress = Progress-none said old; tells = (until_quit heard.items, refl) }
+  Finished-none old heard = record { items = []; rest = []; progress = Progress-none said [] old; tells = (until_quit heard.items, refl) }
 
   pub Finished-cut : (old : Point) (heard : Stream) → heard.cut ≡ true → Finished said old heard old Ends.Cut
-  Finished-cut old heard cut = record { items = []; rest = []; progress = Progress-none said old; tells = (refl, refl, cut) }
+  Finished-cut old heard cut = record { items = []; rest = []; progress = Progress-none said [] old; tells = (refl, refl, cut) }
 
   -- nothing is left over
   pub Finished-clean : (old : Point) (heard : Stream) → heard.items ≡ heard.whole → heard.whole ≡ [] → heard.cut ≡ false → Finished said old heard old Ends.InputEnd
   Finished-clean old heard same none cut =
       let empty : heard.items ≡ [] = same ∙ none in
-      record { items = []; rest = []; progress = Progress-none said old; tells = ((ap until_quit (sym empty), refl), ap has_quit empty, cut) }
+      record { items = []; rest = []; progress = Progress-none said [] old; tells = ((ap until_quit (sym empty), refl), ap has_quit empty, cut) }
 
   module _ (old new : Point) (heard : Stream) (item : Heard) (is : heard.items ≡ heard.whole ++ item ∷ []) (none : heard.whole ≡ []) where
     one_item : heard.items ≡ item ∷ []
@@ -63,20 +68,20 @@ module _ (said : Reply → List ℕ) where
     until_item = ap until_quit one_item ∙ until_quit-one item
 
     -- the last item was answered, and was no Quit
-    pub Finished-last : Progress said old (item ∷ []) [] new → is_last item ≡ false → heard.cut ≡ false → Finished said old heard new Ends.InputEnd
+    pub Finished-last : Progress said [] old (item ∷ []) [] new → is_last item ≡ false → heard.cut ≡ false → Finished said old heard new Ends.InputEnd
     Finished-last progress e cut = record { items = item ∷ []; rest = []; progress = progress; tells = ((sym until_item, refl), ap has_quit one_item ∙ (rw e refl), cut) }
 
-    pub Finished-quit : Progress said old (item ∷ []) [] new → is_last item ≡ true → heard.cut ≡ false → Finished said old heard new Ends.Quit
+    pub Finished-quit : Progress said [] old (item ∷ []) [] new → is_last item ≡ true → heard.cut ≡ false → Finished said old heard new Ends.Quit
     Finished-quit progress e cut = record { items = item ∷ []; rest = []; progress = progress; tells = ((sym until_item, refl), ap has_quit one_item ∙ (rw e refl), cut) }
 
-    pub Finished-fault : (rest : List ℕ) → 0 < length rest → Progress said old (item ∷ []) rest new → heard.cut ≡ false → Finished said old heard new Ends.WriteFault
+    pub Finished-fault : (rest : List ℕ) → 0 < length rest → Progress said [] old (item ∷ []) rest new → heard.cut ≡ false → Finished said old heard new Ends.WriteFault
     Finished-fault rest some progress cut = record { items = item ∷ []; rest = rest; progress = progress; tells = (([], until_item), some, cut) }
 
-    pub Finished-no_memory : (rest : List ℕ) → Progress said old (item ∷ []) rest new → Finished said old heard new Ends.NoMemory
+    pub Finished-no_memory : (rest : List ℕ) → Progress said [] old (item ∷ []) rest new → Finished said old heard new Ends.NoMemory
     Finished-no_memory rest progress = record { items = item ∷ []; rest = rest; progress = progress; tells = ([], until_item) }
 
-  pub Goes-feed : (old : Point) (reads : List ℕ → Stream) (taken : List ℕ) (mid : Point) (now : List ℕ → Stream) (piece : List ℕ) →
-      Goes said old (λ (more : List ℕ). reads (taken ++ more)) mid now → Goes said old (λ (more : List ℕ). reads ((taken ++ piece) ++ more)) mid (λ (more : List ℕ). now (piece ++ more))
+  abbrev pub Goes-feed : (old : Point) (reads : List ℕ → Stream) (taken : List ℕ) (mid : Point) (now : List ℕ → Stream) (piece : List ℕ) →
+      Goes said old (λ (more : List ℕ). reads (taken ++ more)) [] mid now → Goes said old (λ (more : List ℕ). reads ((taken ++ piece) ++ more)) [] mid (λ (more : List ℕ). now (piece ++ more))
   Goes-feed old reads taken mid now piece goes = record {
     items = goes.items;
     progress = goes.progress;
@@ -84,53 +89,67 @@ module _ (said : Reply → List ℕ) where
     reads = λ more. ap reads (append_assoc taken piece more) ∙ goes.reads (piece ++ more);
   }
 
-  module _ (old : Point) (before : List ℕ → Stream) (mid : Point) (now : List ℕ → Stream) (goes : Goes said old before mid now) where
-    after_both : (items : List Heard) (stream : Stream) → after_items goes.items (after_items items stream) ≡ after_items (goes.items ++ items) stream
+  module _ (old : Point) (before : List ℕ → Stream) (mid : Point) (now : List ℕ → Stream) (goes : Goes said old before [] mid now) where
+    pub after_both : (items : List Heard) (stream : Stream) → after_items goes.items (after_items items stream) ≡ after_items (goes.items ++ items) stream
     after_both items stream = simp append_assoc
 
-    before_items : (more : List ℕ) → (before more).items ≡ goes.items ++ (now more).items
+    pub before_items : (more : List ℕ) → (before more).items ≡ goes.items ++ (now more).items
     before_items more = ap (λ (x : Stream). x.items) (goes.reads more)
 
-    until_both : (more : List ℕ) → until_quit (before more).items ≡ goes.items ++ until_quit (now more).items
+    pub until_both : (more : List ℕ) → until_quit (before more).items ≡ goes.items ++ until_quit (now more).items
     until_both more = ap until_quit (before_items more) ∙ until_quit-append goes.items (now more).items goes.goes
 
-    quit_both : (more : List ℕ) → has_quit (before more).items ≡ has_quit (now more).items
+    pub quit_both : (more : List ℕ) → has_quit (before more).items ≡ has_quit (now more).items
     quit_both more = ap has_quit (before_items more) ∙ has_quit-append goes.items (now more).items goes.goes
 
     cut_both : (more : List ℕ) → (before more).cut ≡ (now more).cut
     cut_both more = ap (λ (x : Stream). x.cut) (goes.reads more)
 
-    front_both : (more : List ℕ) (items : List Heard) → AnswersFront (now more).items items → AnswersFront (before more).items (goes.items ++ items)
-    front_both more items front = (front.0, until_both more ∙ (ap (λ (x : List Heard). goes.items ++ x) front.1 ∙ sym (append_assoc goes.items items front.0)))
+    pub whole_all : (more : List ℕ) → (before more).whole ≡ goes.items ++ (now more).whole
+    whole_all more = ap (λ (x : Stream). x.whole) (goes.reads more)
+
+    pub front_by : (xs ys items : List Heard) → xs ≡ goes.items ++ ys → AnswersFront ys items → AnswersFront xs (goes.items ++ items)
+    front_by xs ys items is front =
+        (front.0, ap until_quit is ∙ (until_quit-append goes.items ys goes.goes ∙ (ap (λ (x : List Heard). goes.items ++ x) front.1 ∙ sym (append_assoc goes.items items front.0))))
+
+    pub front_both : (more : List ℕ) (items : List Heard) → AnswersFront (now more).items items → AnswersFront (before more).items (goes.items ++ items)
+    front_both more items front = front_by (before more).items (now more).items items (before_items more) front
+
+    pub quit_by : (xs ys items : List Heard) → xs ≡ goes.items ++ ys → IsQuitBy items ys → IsQuitBy (goes.items ++ items) xs
+    quit_by xs ys items is quit = (
+      ap until_quit is ∙ (until_quit-append goes.items ys goes.goes ∙ ap (λ (x : List Heard). goes.items ++ x) quit.0),
+      ap has_quit is ∙ (has_quit-append goes.items ys goes.goes ∙ quit.1),
+    )
 
     all_both : (more : List ℕ) (items : List Heard) (rest : List ℕ) → AnswersAll (now more).items items rest → AnswersAll (before more).items (goes.items ++ items) rest
     all_both more items rest all = (ap (λ (x : List Heard). goes.items ++ x) all.0 ∙ sym (until_both more), all.1)
 
-    pub Goes-trans : (new : Point) (after : List ℕ → Stream) → Goes said mid now new after → Goes said old before new after
+    abbrev pub Goes-trans : (new : Point) (after : List ℕ → Stream) → Goes said mid now [] new after → Goes said old before [] new after
     Goes-trans new after more = record {
       items = goes.items ++ more.items;
-      progress = Progress-trans said old mid new goes.items more.items [] goes.progress more.progress;
+      progress = Progress-trans said [] old mid new goes.items more.items [] [] goes.progress more.progress;
       goes = has_quit-append goes.items more.items goes.goes ∙ more.goes;
       reads = λ bytes. goes.reads bytes ∙ (ap (after_items goes.items) (more.reads bytes) ∙ after_both more.items (after bytes));
     }
 
-    pub Goes-quits : (new : Point) → Quits said mid now new → Quits said old before new
+    abbrev pub Goes-quits : (new : Point) → Quits said mid now [] new → Quits said old before [] new
     Goes-quits new quits = record {
       items = goes.items ++ quits.items;
-      progress = Progress-trans said old mid new goes.items quits.items [] goes.progress quits.progress;
-      reads = λ more. until_both more ∙ ap (λ (x : List Heard). goes.items ++ x) (quits.reads more);
-      quit = λ more. quit_both more ∙ quits.quit more;
+      progress = Progress-trans said [] old mid new goes.items quits.items [] [] goes.progress quits.progress;
+      reads = λ more. quit_by (before more).items (now more).items quits.items (before_items more) (quits.reads more);
+      whole = λ more. quit_by (before more).whole (now more).whole quits.items (whole_all more) (quits.whole more);
     }
 
-    pub Goes-stops : (rest : List ℕ) (new : Point) → Stops said mid now rest new → Stops said old before rest new
+    abbrev pub Goes-stops : (rest : List ℕ) (new : Point) → Stops said mid now rest new → Stops said old before rest new
     Goes-stops rest new stops = record {
       items = goes.items ++ stops.items;
-      progress = Progress-trans said old mid new goes.items stops.items rest goes.progress stops.progress;
+      progress = Progress-trans said [] old mid new goes.items stops.items [] rest goes.progress stops.progress;
       reads = λ more. front_both more stops.items (stops.reads more);
+      whole = λ more. front_by (before more).whole (now more).whole stops.items (whole_all more) (stops.whole more);
     }
 
     -- where no whole item is left, the whole items were answered, and none was a Quit
-    whole_both : (more : List ℕ) → (now more).whole ≡ [] → (before more).whole ≡ goes.items
+    pub whole_both : (more : List ℕ) → (now more).whole ≡ [] → (before more).whole ≡ goes.items
     whole_both more none = ap (λ (x : Stream). x.whole) (goes.reads more) ∙ (ap (λ (x : List Heard). goes.items ++ x) none ∙ append-nil goes.items)
 
     pub all_whole : (more : List ℕ) → (now more).whole ≡ [] → AnswersAll (before more).whole goes.items []
@@ -162,26 +181,29 @@ module _ (said : Reply → List ℕ) where
     close_both new ends ends' Ends.ReadFault rose f = absurd f.tells
     close_both new ends ends' Ends.InputTooLong rose f = absurd f.tells
 
+  stops_fed : (old : Point) (reads : List ℕ → Stream) (piece : List ℕ) (fed : List ℕ → Stream) (rest : List ℕ) (new : Point) →
+      IsFed reads piece fed → Stops said old fed rest new → Stops said old (λ (more : List ℕ). reads (piece ++ more)) rest new
+  stops_fed old reads piece fed rest new feeds s = record {
+    items = s.items;
+    progress = s.progress;
+    reads = λ more. subst (λ (x : Stream). AnswersFront x.items s.items) (feeds more) (s.reads more);
+    whole = λ more. subst (λ (x : Stream). AnswersFront x.whole s.items) (feeds more) (s.whole more);
+  }
+
   -- a stream that was fed a piece reads on as the old one does from the piece on
-  pub IsDrained-fed : (old : Point) (reads : List ℕ → Stream) (piece : List ℕ) (fed : List ℕ → Stream) (new : Point) (after : List ℕ → Stream) (step : Step) →
-      IsFed reads piece fed → IsDrained said old fed new after step → IsDrained said old (λ (more : List ℕ). reads (piece ++ more)) new after step
-  IsDrained-fed old reads piece fed new after Steps.Goes feeds d =
+  pub IsDrained-fed : (old : Point) (reads : List ℕ → Stream) (piece : List ℕ) (fed : List ℕ → Stream) (held : List ℕ) (new : Point) (after : List ℕ → Stream) (step : Step) →
+      IsFed reads piece fed → IsDrained said old fed held new after step → IsDrained said old (λ (more : List ℕ). reads (piece ++ more)) held new after step
+  IsDrained-fed old reads piece fed held new after Steps.Goes feeds d =
       (record { items = d.0.items; progress = d.0.progress; goes = d.0.goes; reads = λ more. sym (feeds more) ∙ d.0.reads more }, d.1)
-  IsDrained-fed old reads piece fed new after Steps.Quits feeds d = record {
+  IsDrained-fed old reads piece fed held new after Steps.Quits feeds d = record {
     items = d.items;
     progress = d.progress;
-    reads = λ more. ap (λ (x : Stream). until_quit x.items) (sym (feeds more)) ∙ d.reads more;
-    quit = λ more. ap (λ (x : Stream). has_quit x.items) (sym (feeds more)) ∙ d.quit more;
+    reads = λ more. subst (λ (x : Stream). IsQuitBy d.items x.items) (feeds more) (d.reads more);
+    whole = λ more. subst (λ (x : Stream). IsQuitBy d.items x.whole) (feeds more) (d.whole more);
   }
-  IsDrained-fed old reads piece fed new after Steps.WriteFault feeds d = (
-    d.0,
-    d.1,
-    record { items = d.2.items; progress = d.2.progress; reads = λ more. ((d.2.reads more).0, ap (λ (x : Stream). until_quit x.items) (sym (feeds more)) ∙ (d.2.reads more).1) },
-  )
-  IsDrained-fed old reads piece fed new after Steps.NoMemory feeds d = (
-    d.0,
-    record { items = d.1.items; progress = d.1.progress; reads = λ more. ((d.1.reads more).0, ap (λ (x : Stream). until_quit x.items) (sym (feeds more)) ∙ (d.1.reads more).1) },
-  )
+  IsDrained-fed old reads piece fed held new after Steps.WriteFault feeds d = (d.0, d.1, stops_fed old reads piece fed d.0 new feeds d.2)
+  IsDrained-fed old reads piece fed held new after Steps.NoMemory feeds d = (d.0, stops_fed old reads piece fed (held ++ d.0) new feeds d.1)
 
   pub Stops-none : (old : Point) (before : List ℕ → Stream) → Stops said old before [] old
-  Stops-none old before = record { items = []; progress = Progress-none said old; reads = λ more. (until_quit (before more).items, refl) }
+  Stops-none old before =
+      record { items = []; progress = Progress-none said [] old; reads = λ more. (until_quit (before more).items, refl); whole = λ more. (until_quit (before more).whole, refl) }

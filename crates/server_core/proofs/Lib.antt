@@ -1,5 +1,7 @@
+pub mod Writing
 pub mod Items
 pub mod Steps
+pub mod Settled
 pub mod Endings
 pub mod Served
 pub mod Exact

@@ -1,5 +1,5 @@
 -- When each end comes, and what was written where nobody else was there.
-use Rattle.std.specs.Prelude.{◌≡◌, ℕ, ◌≢◌, ◌<◌, true, false, List, ◌++◌, length}
+use Rattle.std.specs.Prelude.{◌≡◌, ◌⊎◌, ℕ, ◌≢◌, ◌<◌, true, false, List, ◌++◌, length}
 use Rattle.ports.specs.Counts.{RoseBy}
 use Rattle.request_form.specs.Session.{Fixed, AllOwn}
 use Rattle.request_form.specs.Transcript.{has_quit, first_session, SaysAlone, faults_of}
@@ -9,7 +9,7 @@ use Rattle.request_form.specs.declared.form.Heard.{Heard}
 use Rattle.server_core.specs.declared.step.End.{End}
 use Rattle.server_core.specs.declared.step.End.TheVariants as Ends
 use Rattle.server_core.specs.Progress.{Point}
-use Rattle.server_core.specs.Served.{AnswersAll, Input, Served}
+use Rattle.server_core.specs.Served.{AnswersAll, CameToEnd, Input, Served}
 
 -- that end, unless no memory was found
 abbrev pub IsEnd : End → End → Type 0
@@ -33,15 +33,22 @@ pub record SaysWithin (said : Reply → List ℕ) (fixed : Fixed) (heard : List 
   pub alone : SaysAlone said fixed heard text
   pub faults : AllWellHeard heard → RoseBy (faults_of alone.replies) before after
 
--- What was written where nobody else was there, by the end: what is said of all items, of the whole ones, or a front of that.
-abbrev pub WroteAlone : (Reply → List ℕ) → Fixed → Stream → ℕ → ℕ → List ℕ → End → Type 0
-WroteAlone said fixed heard before after text Ends.Quit = SaysWithin said fixed heard.items before after text
-WroteAlone said fixed heard before after text Ends.InputEnd = SaysWithin said fixed heard.items before after text
-WroteAlone said fixed heard before after text Ends.Cut = SaysWithin said fixed heard.whole before after text
-WroteAlone said fixed heard before after text Ends.ReadFault = SaysWithin said fixed heard.whole before after text
-WroteAlone said fixed heard before after text Ends.InputTooLong = SaysWithin said fixed heard.whole before after text
-WroteAlone said fixed heard before after text Ends.WriteFault = (more : List ℕ) × (0 < length more) × SaysWithin said fixed heard.items before after (text ++ more)
-WroteAlone said fixed heard before after text Ends.NoMemory = (more : List ℕ) × SaysWithin said fixed heard.items before after (text ++ more)
+-- The items that a stream had to answer by then: all, where it came to its end before the limit, or the whole ones.
+abbrev pub IsDue : Stream → ℕ → ℕ → ℕ → ℕ → List Heard → Type 0
+IsDue heard taken limit ends ends' due = ((due ≡ heard.items) × CameToEnd taken limit ends ends') ⊎ (due ≡ heard.whole)
+
+-- What was written where nobody else was there, by the end: what is said of the items that were due, or a front of that.
+abbrev pub WroteAlone : (Reply → List ℕ) → Fixed → Stream → ℕ → ℕ → ℕ → ℕ → ℕ → ℕ → List ℕ → End → Type 0
+WroteAlone said fixed heard taken limit ends ends' before after text Ends.Quit =
+    (due : List Heard) × IsDue heard taken limit ends ends' due × (has_quit due ≡ true) × SaysWithin said fixed due before after text
+WroteAlone said fixed heard taken limit ends ends' before after text Ends.InputEnd = SaysWithin said fixed heard.items before after text
+WroteAlone said fixed heard taken limit ends ends' before after text Ends.Cut = SaysWithin said fixed heard.whole before after text
+WroteAlone said fixed heard taken limit ends ends' before after text Ends.ReadFault = SaysWithin said fixed heard.whole before after text
+WroteAlone said fixed heard taken limit ends ends' before after text Ends.InputTooLong = SaysWithin said fixed heard.whole before after text
+WroteAlone said fixed heard taken limit ends ends' before after text Ends.WriteFault =
+    (due : List Heard) × IsDue heard taken limit ends ends' due × ((more : List ℕ) × (0 < length more) × SaysWithin said fixed due before after (text ++ more))
+WroteAlone said fixed heard taken limit ends ends' before after text Ends.NoMemory =
+    (due : List Heard) × IsDue heard taken limit ends ends' due × ((more : List ℕ) × SaysWithin said fixed due before after (text ++ more))
 
 -- Where the session was the first caller's first one, and has seen no event but its own in the end, what was written is said of a transcript alone.
 -- The replies of that transcript tell of no more faults than the service's count rose by.
@@ -49,4 +56,4 @@ abbrev pub ServedAlone : Type 0
 ServedAlone = (said : Reply → List ℕ) (fixed : Fixed) (old : Point) (reads : List ℕ → Stream) (before after : Input) (limit : ℕ) (new : Point) (end : End)
     → old.session ≡ first_session fixed 1 → AllOwn 1 new.session.seen
     → (served : Served said old reads before after limit new end)
-    → WroteAlone said fixed (reads served.taken) old.faults new.faults served.progress.out end
+    → WroteAlone said fixed (reads served.taken) (length served.taken) limit before.ends after.ends old.faults new.faults served.progress.out end

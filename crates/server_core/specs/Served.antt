@@ -1,5 +1,5 @@
 -- How a stream ends, and what was answered then.
-use Rattle.std.specs.Prelude.{◌≡◌, ◌⊎◌, ℕ, ◌<◌, ◌≤◌, true, false, List, [], ◌++◌, length, Option, ⊤}
+use Rattle.std.specs.Prelude.{◌≡◌, ◌⊎◌, ℕ, ◌<◌, ◌≤◌, true, false, List, [], ◌++◌, length, Option, ⊤, flat_map}
 use Rattle.std.specs.Io.KnownBytes.{Appends, Consumes, IsAtEnd}
 use Rattle.ports.specs.Counts.{RoseBy}
 use Rattle.request_form.specs.Transcript.{until_quit, has_quit}
@@ -8,15 +8,15 @@ use Rattle.request_form.specs.declared.form.Reply.{Reply}
 use Rattle.request_form.specs.declared.form.Heard.{Heard}
 use Rattle.server_core.specs.declared.step.End.{End}
 use Rattle.server_core.specs.declared.step.End.TheVariants as Ends
-use Rattle.server_core.specs.Progress.{Point, Progress}
+use Rattle.server_core.specs.Progress.{Point, Progress, AnswersFront}
+
+-- the most bytes of a piece
+abbrev pub greatest_piece : ℕ
+greatest_piece = 65536
 
 -- these are the items up to a Quit, and all their replies were written
 abbrev pub AnswersAll : List Heard → List Heard → List ℕ → Type 0
 AnswersAll heard items rest = (items ≡ until_quit heard) × (rest ≡ [])
-
--- these are the first of the items up to a Quit
-abbrev pub AnswersFront : List Heard → List Heard → Type 0
-AnswersFront heard items = (later : List Heard) × (until_quit heard ≡ items ++ later)
 
 -- What an end says of what the bytes taken say, of their number, of the items that were answered, of what of their replies
 -- wasn't written, and of what the stream has left. Whole items are those that don't wait for the end of the stream.
@@ -41,6 +41,20 @@ Closing heard ends ends' Ends.ReadFault = ends' ≡ ends
 Closing heard ends ends' Ends.WriteFault = heard.cut ≡ true → ends' ≡ ends
 Closing heard ends ends' Ends.InputTooLong = ends' ≡ ends
 Closing heard ends ends' Ends.NoMemory = ⊤
+
+-- the stream answered that nothing is left, before the limit
+abbrev pub CameToEnd : ℕ → ℕ → ℕ → ℕ → Type 0
+CameToEnd taken limit ends ends' = (taken < limit) × RoseBy 1 ends ends'
+
+-- An item that isn't whole is answered only at the stream's end: before it a Quit is a whole item, and so are the items before a fault or want of memory.
+abbrev pub Reaches : Stream → ℕ → ℕ → List Heard → ℕ → ℕ → End → Type 0
+Reaches heard taken limit items ends ends' Ends.Quit = ((items ≡ until_quit heard.whole) × (has_quit heard.whole ≡ true)) ⊎ CameToEnd taken limit ends ends'
+Reaches heard taken limit items ends ends' Ends.InputEnd = ⊤
+Reaches heard taken limit items ends ends' Ends.Cut = ⊤
+Reaches heard taken limit items ends ends' Ends.ReadFault = ⊤
+Reaches heard taken limit items ends ends' Ends.WriteFault = AnswersFront heard.whole items ⊎ CameToEnd taken limit ends ends'
+Reaches heard taken limit items ends ends' Ends.InputTooLong = ⊤
+Reaches heard taken limit items ends ends' Ends.NoMemory = AnswersFront heard.whole items ⊎ CameToEnd taken limit ends ends'
 
 -- the items that were answered are the first ones however the stream goes on, unless it came to its end
 abbrev pub StaysFirst : (List ℕ → Stream) → List ℕ → List Heard → Option (List ℕ) → Type 0
@@ -67,6 +81,23 @@ pub record TakesOff (bytes : List ℕ) (old new : Input) : Type 0 where
   pub given : Appends old.given new.given bytes
   pub left : Consumes old.left new.left bytes
 
+-- A stream is read in pieces of at most 65,536 bytes, and each is answered before the next one is read: all the bytes taken but those of the last piece
+-- hold no whole Quit, their whole items were answered first, and the replies to them were written.
+pub record InPieces (said : Reply → List ℕ) (reads : List ℕ → Stream) (taken : List ℕ) (items : List Heard) (replies : List Reply) (out : List ℕ) : Type 0 where
+  pub earlier : List ℕ
+  pub piece : List ℕ
+  pub joins : taken ≡ earlier ++ piece
+  pub short : length piece ≤ greatest_piece
+  pub no_quit : has_quit (reads earlier).whole ≡ false
+  pub later : List Heard
+  pub answered : items ≡ (reads earlier).whole ++ later
+  pub first : List Reply
+  pub others : List Reply
+  pub replied : replies ≡ first ++ others
+  pub one_each : length first ≡ length (reads earlier).whole
+  pub text : List ℕ
+  pub wrote : out ≡ flat_map said first ++ text
+
 -- What a stream was answered: the bytes that were taken, at most as many as the limit, the items in them that were answered, what of their replies
 -- wasn't written, and what the end says of them.
 pub record Served (said : Reply → List ℕ) (old : Point) (reads : List ℕ → Stream) (before after : Input) (limit : ℕ) (new : Point) (end : End) : Type 0 where
@@ -75,9 +106,11 @@ pub record Served (said : Reply → List ℕ) (old : Point) (reads : List ℕ �
   pub within : length taken ≤ limit
   pub items : List Heard
   pub rest : List ℕ
-  pub progress : Progress said old items rest new
+  pub progress : Progress said [] old items rest new
+  pub pieces : InPieces said reads taken items progress.replies progress.out
   pub ended : Ended (reads taken) (length taken) limit items rest after.left end
   pub closing : Closing (reads taken) before.ends after.ends end
+  pub reaches : Reaches (reads taken) (length taken) limit items before.ends after.ends end
   pub stays : Stays reads taken items after.left end
 
 -- what the end of a stream says of the item that it leaves over, where each whole one was answered
@@ -94,7 +127,7 @@ FinishedAs heard items rest Ends.InputTooLong = ⊥
 pub record Finished (said : Reply → List ℕ) (old : Point) (heard : Stream) (new : Point) (end : End) : Type 0 where
   pub items : List Heard
   pub rest : List ℕ
-  pub progress : Progress said old items rest new
+  pub progress : Progress said [] old items rest new
   pub tells : FinishedAs heard items rest end
 
 -- the faults of reads that an end tells of

@@ -3,6 +3,7 @@
 
 ghost use Rattle.std.specs.Prelude.{◌≡◌};
 
+mod gather;
 pub mod laws;
 mod serve;
 mod step;

@@ -1,5 +1,6 @@
+use crate::gather::Gathered;
 use crate::step::{End, Step};
-use ports::stream::{Sink, Source, Taken, Written};
+use ports::stream::{Sink, Source, Taken};
 use request_form::{Dialect, Ending, Heard, NoMemory, Reply, Request, Service};
 use std::alloc::Global;
 use std::sync::Wait;
@@ -34,6 +35,7 @@ fn reply_to<R: Wait + Threads + Sync, V: Service>(
     requires { IsWellHeard heard }
     ensures answer { ItemReply AllOther (V.session service.old) heard result.0 (V.session service.new) }
     ensures faults { RoseBy (fault_count result.0) (V.faults service.old) (V.faults service.new) }
+    ensures kept { V.kept service.new ≡ V.kept service.old }
     ensures last { result.1 ≡ is_last heard }
 {
     match heard {
@@ -47,9 +49,9 @@ fn reply_to<R: Wait + Threads + Sync, V: Service>(
     }
 }
 
-// Writes one reply.
-fn put<T: Dialect, I: Sink>(dialect: &T, io: &mut I, reply: &Reply) -> Step
-    ensures put { IsPut (T.said reply.now) (I.written io.old) (I.written io.new) result }
+// Says one reply, and writes it or holds it back.
+fn put<T: Dialect, I: Sink>(dialect: &T, gathered: &mut Gathered, io: &mut I, reply: &Reply) -> Step
+    ensures put { IsPut gathered.old.bytes.items (T.said reply.now) (I.written io.old) gathered.new.bytes.items (I.written io.new) result }
     ensures given { I.given io.new ≡ I.given io.old }
     ensures left { I.left io.new ≡ I.left io.old }
     ensures read_faults { I.read_faults io.new ≡ I.read_faults io.old }
@@ -59,25 +61,23 @@ fn put<T: Dialect, I: Sink>(dialect: &T, io: &mut I, reply: &Reply) -> Step
 {
     match dialect.say(reply) {
         Err(NoMemory) => Step::NoMemory,
-        Ok(bytes) => match io.write(bytes.as_slice()) {
-            Written::Failed(_) => Step::WriteFault,
-            Written::Whole => Step::Goes,
-        },
+        Ok(bytes) => gathered.put(io, bytes.as_slice()),
     }
 }
 
-// Answers one item and writes the reply.
+// Answers one item. The reply is written, or held back.
 fn answer_one<R: Wait + Threads + Sync, V: Service, T: Dialect, I: Source + Sink>(
     rt: &R,
     service: &mut V,
     dialect: &T,
+    gathered: &mut Gathered,
     io: &mut I,
     heard: Heard,
 ) -> Step
     requires { IsWellHeard heard }
-    ensures answered { IsAnswered T.said
+    ensures answered { IsAnswered T.said gathered.old.bytes.items
         (record { session = V.session service.old; faults = V.faults service.old; written = I.written io.old })
-        heard
+        heard gathered.new.bytes.items
         (record { session = V.session service.new; faults = V.faults service.new; written = I.written io.new })
         result }
     ensures given { I.given io.new ≡ I.given io.old }
@@ -85,10 +85,11 @@ fn answer_one<R: Wait + Threads + Sync, V: Service, T: Dialect, I: Source + Sink
     ensures read_faults { I.read_faults io.new ≡ I.read_faults io.old }
     ensures ends { I.ends io.new ≡ I.ends io.old }
     ensures objects { I.objects io.new ≡ I.objects io.old }
+    ensures kept { V.kept service.new ≡ V.kept service.old }
     ensures write_faults { RoseBy (step_write_faults result) (I.write_faults io.old) (I.write_faults io.new) }
 {
     let (reply, last) = reply_to(rt, service, heard);
-    match put(dialect, io, &reply) {
+    match put(dialect, gathered, io, &reply) {
         Step::Goes => {
             if last {
                 return Step::Quits;
@@ -101,16 +102,18 @@ fn answer_one<R: Wait + Threads + Sync, V: Service, T: Dialect, I: Source + Sink
     }
 }
 
-// Answers each whole item that there is.
+// Answers each whole item that there is. Some replies may be held back in the end.
 fn drain<R: Wait + Threads + Sync, V: Service, T: Dialect, I: Source + Sink>(
     rt: &R,
     service: &mut V,
     dialect: &mut T,
+    gathered: &mut Gathered,
     io: &mut I,
 ) -> Step
+    requires { gathered.old.bytes.items ≡ [] }
     ensures drained { IsDrained T.said
         (record { session = V.session service.old; faults = V.faults service.old; written = I.written io.old })
-        (T.reads dialect.old)
+        (T.reads dialect.old) gathered.new.bytes.items
         (record { session = V.session service.new; faults = V.faults service.new; written = I.written io.new })
         (T.reads dialect.new)
         result }
@@ -119,13 +122,14 @@ fn drain<R: Wait + Threads + Sync, V: Service, T: Dialect, I: Source + Sink>(
     ensures read_faults { I.read_faults io.new ≡ I.read_faults io.old }
     ensures ends { I.ends io.new ≡ I.ends io.old }
     ensures objects { I.objects io.new ≡ I.objects io.old }
+    ensures kept { V.kept service.new ≡ V.kept service.old }
     ensures write_faults { RoseBy (step_write_faults result) (I.write_faults io.old) (I.write_faults io.new) }
 {
     'items: loop {
         match dialect.next() {
             Err(NoMemory) => return Step::NoMemory,
             Ok(None) => return Step::Goes,
-            Ok(Some(heard)) => match answer_one(rt, service, dialect, io, heard) {
+            Ok(Some(heard)) => match answer_one(rt, service, dialect, gathered, io, heard) {
                 Step::Goes => {}
                 Step::Quits => return Step::Quits,
                 Step::WriteFault => return Step::WriteFault,
@@ -181,14 +185,44 @@ fn first_of(buf: &Vec<u8>, n: usize) -> &[u8]
     &buf.as_slice()[..n]
 }
 
+// Answers one item, and writes the reply.
+fn answer_last<R: Wait + Threads + Sync, V: Service, T: Dialect, I: Source + Sink>(
+    rt: &R,
+    service: &mut V,
+    dialect: &T,
+    gathered: &mut Gathered,
+    io: &mut I,
+    heard: Heard,
+) -> Step
+    requires heard { IsWellHeard heard }
+    requires settled { gathered.old.bytes.items ≡ [] }
+    ensures answered { IsAnswered T.said []
+        (record { session = V.session service.old; faults = V.faults service.old; written = I.written io.old })
+        heard []
+        (record { session = V.session service.new; faults = V.faults service.new; written = I.written io.new })
+        result }
+    ensures given { I.given io.new ≡ I.given io.old }
+    ensures left { I.left io.new ≡ I.left io.old }
+    ensures read_faults { I.read_faults io.new ≡ I.read_faults io.old }
+    ensures ends { I.ends io.new ≡ I.ends io.old }
+    ensures objects { I.objects io.new ≡ I.objects io.old }
+    ensures kept { V.kept service.new ≡ V.kept service.old }
+    ensures write_faults { RoseBy (step_write_faults result) (I.write_faults io.old) (I.write_faults io.new) }
+{
+    let step = answer_one(rt, service, dialect, gathered, io, heard);
+    gathered.settle(io, step)
+}
+
 // Answers what the end of the stream leaves.
 fn finish<R: Wait + Threads + Sync, V: Service, T: Dialect, I: Source + Sink>(
     rt: &R,
     service: &mut V,
     dialect: &mut T,
+    gathered: &mut Gathered,
     io: &mut I,
 ) -> End
-    requires { (T.reads dialect.old []).whole ≡ [] }
+    requires fed { (T.reads dialect.old []).whole ≡ [] }
+    requires settled { gathered.old.bytes.items ≡ [] }
     ensures finished { Finished T.said
         (record { session = V.session service.old; faults = V.faults service.old; written = I.written io.old })
         (T.reads dialect.old [])
@@ -199,13 +233,14 @@ fn finish<R: Wait + Threads + Sync, V: Service, T: Dialect, I: Source + Sink>(
     ensures read_faults { I.read_faults io.new ≡ I.read_faults io.old }
     ensures ends { I.ends io.new ≡ I.ends io.old }
     ensures objects { I.objects io.new ≡ I.objects io.old }
+    ensures kept { V.kept service.new ≡ V.kept service.old }
     ensures write_faults { RoseBy (end_write_faults result) (I.write_faults io.old) (I.write_faults io.new) }
 {
     match dialect.end() {
         Err(NoMemory) => End::NoMemory,
         Ok(Ending::Clean) => End::InputEnd,
         Ok(Ending::Cut) => End::Cut,
-        Ok(Ending::Last(heard)) => match answer_one(rt, service, dialect, io, heard) {
+        Ok(Ending::Last(heard)) => match answer_last(rt, service, dialect, gathered, io, heard) {
             Step::Goes => End::InputEnd,
             Step::Quits => End::Quit,
             Step::WriteFault => End::WriteFault,
@@ -234,36 +269,45 @@ fn buffer(alloc: Global, n: usize) -> Result<Vec<u8>, NoMemory>
     }
 }
 
-// Answers what one more piece makes whole.
+// Answers what one more piece makes whole, and writes the replies.
 fn answer_piece<R: Wait + Threads + Sync, V: Service, T: Dialect, I: Source + Sink>(
     rt: &R,
     service: &mut V,
     dialect: &mut T,
+    gathered: &mut Gathered,
     io: &mut I,
     piece: &[u8],
 ) -> Step
+    requires { gathered.old.bytes.items ≡ [] }
     ensures drained { IsDrained T.said
         (record { session = V.session service.old; faults = V.faults service.old; written = I.written io.old })
-        (λ more. T.reads dialect.old (piece.now ++ more))
+        (λ more. T.reads dialect.old (piece.now ++ more)) []
         (record { session = V.session service.new; faults = V.faults service.new; written = I.written io.new })
         (T.reads dialect.new)
         result }
+    ensures settled { step_write_faults result ≡ 0 → gathered.new.bytes.items ≡ [] }
     ensures given { I.given io.new ≡ I.given io.old }
     ensures left { I.left io.new ≡ I.left io.old }
     ensures read_faults { I.read_faults io.new ≡ I.read_faults io.old }
     ensures ends { I.ends io.new ≡ I.ends io.old }
     ensures objects { I.objects io.new ≡ I.objects io.old }
+    ensures kept { V.kept service.new ≡ V.kept service.old }
     ensures write_faults { RoseBy (step_write_faults result) (I.write_faults io.old) (I.write_faults io.new) }
 {
     match dialect.feed(piece) {
         Err(NoMemory) => Step::NoMemory,
-        Ok(()) => drain(rt, service, dialect, io),
+        Ok(()) => {
+            let step = drain(rt, service, dialect, gathered, io);
+            gathered.settle(io, step)
+        }
     }
 }
 
 /// Answers the requests of one stream until it ends, takes at most `limit` bytes, and says how it ended.
 ///
-/// Each reply is written as soon as its request is whole. After want of memory the dialect isn't used again.
+/// It reads pieces of at most 65,536 bytes. Replies are gathered: they are written whenever as many bytes come together, and
+/// at the latest before the next read and before it answers, and a longer one is written by itself. After want of memory the
+/// dialect isn't used again.
 pub fn serve_stream<R: Wait + Threads + Sync, V: Service, T: Dialect, I: Source + Sink>(
     rt: &R,
     alloc: Global,
@@ -286,20 +330,27 @@ pub fn serve_stream<R: Wait + Threads + Sync, V: Service, T: Dialect, I: Source 
     ensures write_faults { RoseBy (end_write_faults result) (I.write_faults io.old) (I.write_faults io.new) }
     ensures ends { RoseBy (end_ends result) (I.ends io.old) (I.ends io.new) }
     ensures objects { I.objects io.new ≡ I.objects io.old }
+    ensures kept { V.kept service.new ≡ V.kept service.old }
 {
     let mut buf = match buffer(alloc, PIECE) {
         Ok(buf) => buf,
         Err(NoMemory) => return End::NoMemory,
     };
+    let mut gathered = match Gathered::new(alloc) {
+        Ok(gathered) => gathered,
+        Err(NoMemory) => return End::NoMemory,
+    };
     let mut count = 0u64;
     'pieces: while count < limit {
         let room = room_of(limit - count);
+        prove!(gathered.is_empty());
         match take_piece(io, &mut buf, room) {
             Taken::Failed => return End::ReadFault,
-            Taken::End => return finish(rt, service, dialect, io),
+            Taken::End => return finish(rt, service, dialect, &mut gathered, io),
             Taken::Got(n) => {
                 count += n as u64;
-                match answer_piece(rt, service, dialect, io, first_of(&buf, n)) {
+                let piece = first_of(&buf, n);
+                match answer_piece(rt, service, dialect, &mut gathered, io, piece) {
                     Step::Goes => {}
                     Step::Quits => return End::Quit,
                     Step::WriteFault => return End::WriteFault,

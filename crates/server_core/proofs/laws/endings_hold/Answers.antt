@@ -9,4 +9,4 @@ returns-clause-exact c = λ said old reads before after limit new end served.
 
 pub returns-clause-alone : goal.returns-clause-alone
 returns-clause-alone c = λ said fixed old reads before after limit new end first own served.
-    wrote_alone c.transcripts_hold.ensures.alone c.transcripts_hold.ensures.always said fixed old new first own (reads served.taken) (length served.taken) limit served.items served.rest after.left end served.progress served.ended
+    wrote_alone c.transcripts_hold.ensures.alone c.transcripts_hold.ensures.always said fixed old new first own (reads served.taken) (length served.taken) limit served.items served.rest after.left before.ends after.ends served.progress end served.ended served.reaches

@@ -1,55 +1,56 @@
-use Rattle.std.proofs.Common.{rules, ◌≡◌, ℕ, ◌+◌, List, [], length, take, refl, sym, ◌∙◌, ap, subst, arith}
+use Rattle.std.proofs.Common.{rules, ◌≡◌, ℕ, ◌+◌, true, List, [], length, take, refl, sym, ◌∙◌, ap, subst, arith}
 use Rattle.std.proofs.lemmas.List.{length-take-le}
-use Rattle.std.specs.Prelude.{Option}
 use Rattle.std.specs.Io.KnownBytes.{IsAtEnd}
 use Rattle.ports.specs.Counts.{RoseBy}
 use Rattle.server_core.specs.Progress.{Point}
 use Rattle.server_core.specs.Served.{Input, TakesOff}
-use Rattle.server_core.proofs.Endings.{Serving, TakesOff-none, TakesOff-same}
+use Rattle.server_core.proofs.Endings.{Serving, Serving-at, TakesOff-none, TakesOff-same}
 use Rattle.server_core.proofs.Served.{Serving-none, Served-none, Serving-fails, Serving-too_long, Serving-finished, Serving-more, Serving-quits, Serving-write_fault, Serving-no_memory}
 use Rattle.server_core.proofs.serve.serve_stream.Goals as goal
 
 pub returns-in-Err-clause-served : goal.returns-in-Err-clause-served
-returns-in-Err-clause-served g c = Served-none g.T.Dialect.said _ (g.T.Dialect.reads c.args.dialect.now) _ c.args.limit
+returns-in-Err-clause-served g c = Served-none g.T.Dialect.said _ (g.T.Dialect.reads c.args.dialect.now) _ c.args.limit c.requires.fresh
+
+pub returns-in-Err-new-clause-served : goal.returns-in-Err-new-clause-served
+returns-in-Err-new-clause-served g c = Served-none g.T.Dialect.said _ (g.T.Dialect.reads c.args.dialect.now) _ c.args.limit c.requires.fresh
 
 pub pieces-init : goal.pieces-init
 pieces-init g c = record {
   serving = Serving-none g.T.Dialect.said _ (g.T.Dialect.reads c.args.dialect.now) _ c.requires.fresh;
   within = omega arith;
   room = search rules;
+  gathered = search rules;
   read_faults = omega arith;
   write_faults = omega arith;
   objects = refl;
+  kept = refl;
 }
 
 pub returns-in-Failed-clause-served : goal.returns-in-Failed-clause-served
 returns-in-Failed-clause-served g c =
-    let point : Option (List ℕ) → Point = λ w. record { session = g.V.Service.session c.pieces.service; faults = g.V.Service.faults c.pieces.service; written = w } in
-    Serving-fails g.T.Dialect.said _ (g.T.Dialect.reads c.args.dialect.now) _ _ c.pieces.count c.args.limit _ (g.T.Dialect.reads c.pieces.dialect) c.pieces.invariant.serving
-    _ (record { given = c.in-Failed.ensures.given; left = c.in-Failed.ensures.left }) _ (ap point c.in-Failed.ensures.written) c.in-Failed.ensures.ends c.pieces-test.true
+    Serving-fails g.T.Dialect.said _ (g.T.Dialect.reads c.args.dialect.now) _ _ c.pieces.count c.args.limit _ (g.T.Dialect.reads c.pieces.dialect) (Serving-at g.T.Dialect.said _ (g.T.Dialect.reads c.args.dialect.now) _ _ c.pieces.count _ (g.T.Dialect.reads c.pieces.dialect) (g.I.Ends.written c.take_piece.new.io) c.in-Failed.ensures.written c.pieces.invariant.serving)
+    _ (record { given = c.in-Failed.ensures.given; left = c.in-Failed.ensures.left }) c.in-Failed.ensures.ends c.pieces-test.true
 
 pub returns-in-End-clause-served : goal.returns-in-End-clause-served
 returns-in-End-clause-served g c =
-    let point : Option (List ℕ) → Point = λ w. record { session = g.V.Service.session c.pieces.service; faults = g.V.Service.faults c.pieces.service; written = w } in
     let taken : TakesOff [] (record { given = g.I.Ends.given c.pieces.io; left = g.I.Ends.left c.pieces.io; ends = g.I.Ends.ends c.pieces.io }) (record { given = g.I.Ends.given c.take_piece.new.io; left = g.I.Ends.left c.take_piece.new.io; ends = g.I.Ends.ends c.take_piece.new.io }) =
     record { given = c.in-End.ensures.given; left = c.in-End.ensures.left } in
     let start : RoseBy 1 (g.I.Ends.ends c.args.io.now) (g.I.Ends.ends c.take_piece.new.io) = subst (λ (n : ℕ). RoseBy 1 n (g.I.Ends.ends c.take_piece.new.io)) c.pieces.invariant.serving.same_ends c.in-End.ensures.ends in
-    Serving-finished g.T.Dialect.said _ (g.T.Dialect.reads c.args.dialect.now) _ _ c.pieces.count c.args.limit _ (g.T.Dialect.reads c.pieces.dialect) c.pieces.invariant.serving
+    Serving-finished g.T.Dialect.said _ (g.T.Dialect.reads c.args.dialect.now) _ _ c.pieces.count c.args.limit _ (g.T.Dialect.reads c.pieces.dialect) (Serving-at g.T.Dialect.said _ (g.T.Dialect.reads c.args.dialect.now) _ _ c.pieces.count _ (g.T.Dialect.reads c.pieces.dialect) (g.I.Ends.written c.take_piece.new.io) c.in-End.ensures.written c.pieces.invariant.serving)
     (record { given = g.I.Ends.given c.finish.new.io; left = g.I.Ends.left c.finish.new.io; ends = g.I.Ends.ends c.finish.new.io })
     (TakesOff-same [] _ _ _ taken c.finish.ensures.given c.finish.ensures.left)
-    (point (g.I.Ends.written c.take_piece.new.io)) (ap point c.in-End.ensures.written) _ _
+    _ _
     (subst (λ (n : ℕ). RoseBy 1 (g.I.Ends.ends c.args.io.now) n) (sym c.finish.ensures.ends) start)
     (subst IsAtEnd (sym c.finish.ensures.left) c.in-End.ensures.at_end)
     c.pieces-test.true c.finish.ensures.finished
 
 pub pieces-preserved : goal.pieces-preserved
 pieces-preserved g c =
-    let point : Option (List ℕ) → Point = λ w. record { session = g.V.Service.session c.pieces.service; faults = g.V.Service.faults c.pieces.service; written = w } in
     let before : Input = record { given = g.I.Ends.given c.pieces.io; left = g.I.Ends.left c.pieces.io; ends = g.I.Ends.ends c.pieces.io } in
     let took : Input = record { given = g.I.Ends.given c.take_piece.new.io; left = g.I.Ends.left c.take_piece.new.io; ends = g.I.Ends.ends c.take_piece.new.io } in
     let last : Input = record { given = g.I.Ends.given c.answer_piece.new.io; left = g.I.Ends.left c.answer_piece.new.io; ends = g.I.Ends.ends c.answer_piece.new.io } in
-    let bytes : List ℕ = c.first_of.result.now in
-    let is : bytes ≡ take c.in-Got.n c.take_piece.new.buf.items = c.first_of.ensures in
+    let bytes : List ℕ = c.first_of-piece.result.now in
+    let is : bytes ≡ take c.in-Got.n c.take_piece.new.buf.items = c.first_of-piece.ensures in
     let size : length bytes ≡ c.in-Got.n = ap length is ∙ length-take-le c.in-Got.n c.take_piece.new.buf.items (omega (arith, c.in-Got.ensures.within.1, c.take_piece.ensures.room, c.pieces.invariant.room, c.room_of-room.ensures.fits)) in
     let front : TakesOff (take c.in-Got.n c.take_piece.new.buf.items) before took = record { given = c.in-Got.ensures.given; left = c.in-Got.ensures.left } in
     let takes : TakesOff bytes before last = TakesOff-same bytes before took last (subst (λ (xs : List ℕ). TakesOff xs before took) (sym is) front) c.in-Goes.ensures.given c.in-Goes.ensures.left in
@@ -57,63 +58,65 @@ pieces-preserved g c =
     let old : Point = record { session = g.V.Service.session c.args.service.now; faults = g.V.Service.faults c.args.service.now; written = g.I.Ends.written c.args.io.now } in
     let new : Point = record { session = g.V.Service.session c.answer_piece.new.service; faults = g.V.Service.faults c.answer_piece.new.service; written = g.I.Ends.written c.answer_piece.new.io } in
     let first : Input = record { given = g.I.Ends.given c.args.io.now; left = g.I.Ends.left c.args.io.now; ends = g.I.Ends.ends c.args.io.now } in
-    let more = Serving-more g.T.Dialect.said _ (g.T.Dialect.reads c.args.dialect.now) _ _ c.pieces.count c.args.limit _ (g.T.Dialect.reads c.pieces.dialect) c.pieces.invariant.serving
-    bytes last takes (point (g.I.Ends.written c.take_piece.new.io)) (ap point c.in-Got.ensures.written) _ (g.T.Dialect.reads c.answer_piece.new.dialect) same_ends c.in-Goes.ensures.drained.0 c.in-Goes.ensures.drained.1 in
+    let more = Serving-more g.T.Dialect.said _ (g.T.Dialect.reads c.args.dialect.now) _ _ c.pieces.count c.args.limit _ (g.T.Dialect.reads c.pieces.dialect) (Serving-at g.T.Dialect.said _ (g.T.Dialect.reads c.args.dialect.now) _ _ c.pieces.count _ (g.T.Dialect.reads c.pieces.dialect) (g.I.Ends.written c.take_piece.new.io) c.in-Got.ensures.written c.pieces.invariant.serving)
+    bytes last takes _ (g.T.Dialect.reads c.answer_piece.new.dialect) same_ends c.in-Goes.ensures.drained.0 c.in-Goes.ensures.drained.1 in
     record {
       serving = subst (λ (n : ℕ). Serving g.T.Dialect.said old (g.T.Dialect.reads c.args.dialect.now) first last (c.pieces.count + n) new (g.T.Dialect.reads c.answer_piece.new.dialect)) size more;
       within = omega (arith, c.in-Got.ensures.within.1, c.room_of-room.ensures.within, c.pieces.invariant.within, c.pieces-test.true);
       room = c.take_piece.ensures.room ∙ c.pieces.invariant.room;
+      gathered = search rules;
       read_faults = omega (arith, c.in-Goes.ensures.read_faults, c.in-Got.ensures.read_faults.later, c.pieces.invariant.read_faults);
       write_faults = omega (arith, c.in-Goes.ensures.write_faults.later, c.in-Got.ensures.write_faults, c.pieces.invariant.write_faults);
       objects = c.in-Goes.ensures.objects ∙ (c.in-Got.ensures.objects ∙ c.pieces.invariant.objects);
+      kept = c.in-Goes.ensures.kept ∙ c.pieces.invariant.kept;
     }
 
 pub returns-in-Quits-clause-served : goal.returns-in-Quits-clause-served
 returns-in-Quits-clause-served g c =
-    let point : Option (List ℕ) → Point = λ w. record { session = g.V.Service.session c.pieces.service; faults = g.V.Service.faults c.pieces.service; written = w } in
     let before : Input = record { given = g.I.Ends.given c.pieces.io; left = g.I.Ends.left c.pieces.io; ends = g.I.Ends.ends c.pieces.io } in
     let took : Input = record { given = g.I.Ends.given c.take_piece.new.io; left = g.I.Ends.left c.take_piece.new.io; ends = g.I.Ends.ends c.take_piece.new.io } in
     let last : Input = record { given = g.I.Ends.given c.answer_piece.new.io; left = g.I.Ends.left c.answer_piece.new.io; ends = g.I.Ends.ends c.answer_piece.new.io } in
-    let bytes : List ℕ = c.first_of.result.now in
-    let is : bytes ≡ take c.in-Got.n c.take_piece.new.buf.items = c.first_of.ensures in
+    let bytes : List ℕ = c.first_of-piece.result.now in
+    let is : bytes ≡ take c.in-Got.n c.take_piece.new.buf.items = c.first_of-piece.ensures in
     let size : length bytes ≡ c.in-Got.n = ap length is ∙ length-take-le c.in-Got.n c.take_piece.new.buf.items (omega (arith, c.in-Got.ensures.within.1, c.take_piece.ensures.room, c.pieces.invariant.room, c.room_of-room.ensures.fits)) in
     let front : TakesOff (take c.in-Got.n c.take_piece.new.buf.items) before took = record { given = c.in-Got.ensures.given; left = c.in-Got.ensures.left } in
     let takes : TakesOff bytes before last = TakesOff-same bytes before took last (subst (λ (xs : List ℕ). TakesOff xs before took) (sym is) front) c.in-Quits.ensures.given c.in-Quits.ensures.left in
     let same_ends : last.ends ≡ before.ends = c.in-Quits.ensures.ends ∙ c.in-Got.ensures.ends in
-    Serving-quits g.T.Dialect.said _ (g.T.Dialect.reads c.args.dialect.now) _ _ c.pieces.count c.args.limit _ (g.T.Dialect.reads c.pieces.dialect) c.pieces.invariant.serving
-    bytes last takes (point (g.I.Ends.written c.take_piece.new.io)) (ap point c.in-Got.ensures.written) _ same_ends (omega (arith, size, c.in-Got.ensures.within.1, c.room_of-room.ensures.within, c.pieces.invariant.within, c.pieces-test.true)) c.in-Quits.ensures.drained
+    Serving-quits g.T.Dialect.said _ (g.T.Dialect.reads c.args.dialect.now) _ _ c.pieces.count c.args.limit _ (g.T.Dialect.reads c.pieces.dialect) (Serving-at g.T.Dialect.said _ (g.T.Dialect.reads c.args.dialect.now) _ _ c.pieces.count _ (g.T.Dialect.reads c.pieces.dialect) (g.I.Ends.written c.take_piece.new.io) c.in-Got.ensures.written c.pieces.invariant.serving)
+    bytes last takes _ same_ends (omega (arith, size, c.in-Got.ensures.within.1, c.room_of-room.ensures.within, c.pieces.invariant.within, c.pieces-test.true)) (omega (arith, size, c.in-Got.ensures.within.1, c.room_of-room.ensures.fits)) c.in-Quits.ensures.drained
 
 pub returns-in-WriteFault-clause-served : goal.returns-in-WriteFault-clause-served
 returns-in-WriteFault-clause-served g c =
-    let point : Option (List ℕ) → Point = λ w. record { session = g.V.Service.session c.pieces.service; faults = g.V.Service.faults c.pieces.service; written = w } in
     let before : Input = record { given = g.I.Ends.given c.pieces.io; left = g.I.Ends.left c.pieces.io; ends = g.I.Ends.ends c.pieces.io } in
     let took : Input = record { given = g.I.Ends.given c.take_piece.new.io; left = g.I.Ends.left c.take_piece.new.io; ends = g.I.Ends.ends c.take_piece.new.io } in
     let last : Input = record { given = g.I.Ends.given c.answer_piece.new.io; left = g.I.Ends.left c.answer_piece.new.io; ends = g.I.Ends.ends c.answer_piece.new.io } in
-    let bytes : List ℕ = c.first_of.result.now in
-    let is : bytes ≡ take c.in-Got.n c.take_piece.new.buf.items = c.first_of.ensures in
+    let bytes : List ℕ = c.first_of-piece.result.now in
+    let is : bytes ≡ take c.in-Got.n c.take_piece.new.buf.items = c.first_of-piece.ensures in
     let size : length bytes ≡ c.in-Got.n = ap length is ∙ length-take-le c.in-Got.n c.take_piece.new.buf.items (omega (arith, c.in-Got.ensures.within.1, c.take_piece.ensures.room, c.pieces.invariant.room, c.room_of-room.ensures.fits)) in
     let front : TakesOff (take c.in-Got.n c.take_piece.new.buf.items) before took = record { given = c.in-Got.ensures.given; left = c.in-Got.ensures.left } in
     let takes : TakesOff bytes before last = TakesOff-same bytes before took last (subst (λ (xs : List ℕ). TakesOff xs before took) (sym is) front) c.in-WriteFault.ensures.given c.in-WriteFault.ensures.left in
     let same_ends : last.ends ≡ before.ends = c.in-WriteFault.ensures.ends ∙ c.in-Got.ensures.ends in
-    Serving-write_fault g.T.Dialect.said _ (g.T.Dialect.reads c.args.dialect.now) _ _ c.pieces.count c.args.limit _ (g.T.Dialect.reads c.pieces.dialect) c.pieces.invariant.serving
-    bytes last takes (point (g.I.Ends.written c.take_piece.new.io)) (ap point c.in-Got.ensures.written) _ c.in-WriteFault.ensures.drained.0 same_ends (omega (arith, size, c.in-Got.ensures.within.1, c.room_of-room.ensures.within, c.pieces.invariant.within, c.pieces-test.true)) c.in-WriteFault.ensures.drained.1 c.in-WriteFault.ensures.drained.2
+    Serving-write_fault g.T.Dialect.said _ (g.T.Dialect.reads c.args.dialect.now) _ _ c.pieces.count c.args.limit _ (g.T.Dialect.reads c.pieces.dialect) (Serving-at g.T.Dialect.said _ (g.T.Dialect.reads c.args.dialect.now) _ _ c.pieces.count _ (g.T.Dialect.reads c.pieces.dialect) (g.I.Ends.written c.take_piece.new.io) c.in-Got.ensures.written c.pieces.invariant.serving)
+    bytes last takes _ c.in-WriteFault.ensures.drained.0 same_ends (omega (arith, size, c.in-Got.ensures.within.1, c.room_of-room.ensures.within, c.pieces.invariant.within, c.pieces-test.true)) (omega (arith, size, c.in-Got.ensures.within.1, c.room_of-room.ensures.fits)) c.in-WriteFault.ensures.drained.1 c.in-WriteFault.ensures.drained.2
 
 pub returns-in-NoMemory-clause-served : goal.returns-in-NoMemory-clause-served
 returns-in-NoMemory-clause-served g c =
-    let point : Option (List ℕ) → Point = λ w. record { session = g.V.Service.session c.pieces.service; faults = g.V.Service.faults c.pieces.service; written = w } in
     let before : Input = record { given = g.I.Ends.given c.pieces.io; left = g.I.Ends.left c.pieces.io; ends = g.I.Ends.ends c.pieces.io } in
     let took : Input = record { given = g.I.Ends.given c.take_piece.new.io; left = g.I.Ends.left c.take_piece.new.io; ends = g.I.Ends.ends c.take_piece.new.io } in
     let last : Input = record { given = g.I.Ends.given c.answer_piece.new.io; left = g.I.Ends.left c.answer_piece.new.io; ends = g.I.Ends.ends c.answer_piece.new.io } in
-    let bytes : List ℕ = c.first_of.result.now in
-    let is : bytes ≡ take c.in-Got.n c.take_piece.new.buf.items = c.first_of.ensures in
+    let bytes : List ℕ = c.first_of-piece.result.now in
+    let is : bytes ≡ take c.in-Got.n c.take_piece.new.buf.items = c.first_of-piece.ensures in
     let size : length bytes ≡ c.in-Got.n = ap length is ∙ length-take-le c.in-Got.n c.take_piece.new.buf.items (omega (arith, c.in-Got.ensures.within.1, c.take_piece.ensures.room, c.pieces.invariant.room, c.room_of-room.ensures.fits)) in
     let front : TakesOff (take c.in-Got.n c.take_piece.new.buf.items) before took = record { given = c.in-Got.ensures.given; left = c.in-Got.ensures.left } in
     let takes : TakesOff bytes before last = TakesOff-same bytes before took last (subst (λ (xs : List ℕ). TakesOff xs before took) (sym is) front) c.in-NoMemory.ensures.given c.in-NoMemory.ensures.left in
     let same_ends : last.ends ≡ before.ends = c.in-NoMemory.ensures.ends ∙ c.in-Got.ensures.ends in
-    Serving-no_memory g.T.Dialect.said _ (g.T.Dialect.reads c.args.dialect.now) _ _ c.pieces.count c.args.limit _ (g.T.Dialect.reads c.pieces.dialect) c.pieces.invariant.serving
-    bytes last takes (point (g.I.Ends.written c.take_piece.new.io)) (ap point c.in-Got.ensures.written) _ c.in-NoMemory.ensures.drained.0 (omega (arith, size, c.in-Got.ensures.within.1, c.room_of-room.ensures.within, c.pieces.invariant.within, c.pieces-test.true)) c.in-NoMemory.ensures.drained.1
+    Serving-no_memory g.T.Dialect.said _ (g.T.Dialect.reads c.args.dialect.now) _ _ c.pieces.count c.args.limit _ (g.T.Dialect.reads c.pieces.dialect) (Serving-at g.T.Dialect.said _ (g.T.Dialect.reads c.args.dialect.now) _ _ c.pieces.count _ (g.T.Dialect.reads c.pieces.dialect) (g.I.Ends.written c.take_piece.new.io) c.in-Got.ensures.written c.pieces.invariant.serving)
+    bytes last takes _ c.in-NoMemory.ensures.drained.0 (omega (arith, size, c.in-Got.ensures.within.1, c.room_of-room.ensures.within, c.pieces.invariant.within, c.pieces-test.true)) (omega (arith, size, c.in-Got.ensures.within.1, c.room_of-room.ensures.fits)) c.in-NoMemory.ensures.drained.1
 
 pub returns-clause-served : goal.returns-clause-served
 returns-clause-served g c =
     Serving-too_long g.T.Dialect.said _ (g.T.Dialect.reads c.args.dialect.now) _ _ c.pieces.count c.args.limit _ (g.T.Dialect.reads c.pieces.dialect) c.pieces.invariant.serving
-    _ (TakesOff-none _) _ refl refl (omega (arith, c.pieces-test.false, c.pieces.invariant.within))
+    _ (TakesOff-none _) refl (omega (arith, c.pieces-test.false, c.pieces.invariant.within))
+
+pub prove-unreachable-requires : goal.prove-unreachable-requires
+prove-unreachable-requires g c = let yes : c.is_empty.result ≡ true = c.is_empty.ensures c.pieces.invariant.gathered in cc

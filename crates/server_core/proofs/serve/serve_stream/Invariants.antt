@@ -1,4 +1,4 @@
-use Rattle.std.proofs.Common.{◌≡◌, ◌-◌, ◌≤◌, length}
+use Rattle.std.proofs.Common.{◌≡◌, ◌-◌, ◌≤◌, [], length}
 use Rattle.server_core.proofs.Endings.{Serving}
 use Rattle.server_core.proofs.serve.serve_stream.Given as goal
 
@@ -14,9 +14,11 @@ invariant-pieces g l = record {
       (g.T.Dialect.reads l.dialect);
   within : l.count ≤ l.limit;
   room : length l.buf.items ≡ 65536;
+  gathered : l.gathered.bytes.items ≡ [];
   read_faults : g.I.Ends.read_faults l.fn.io ≤ g.I.Ends.read_faults l.io;
   write_faults : g.I.Ends.write_faults l.fn.io ≤ g.I.Ends.write_faults l.io;
   objects : g.I.Ends.objects l.io ≡ g.I.Ends.objects l.fn.io;
+  kept : g.V.Service.kept l.service ≡ g.V.Service.kept l.fn.service;
 }
 
 abbrev pub decreases-pieces : goal.decreases-pieces

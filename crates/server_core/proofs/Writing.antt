@@ -1,0 +1,50 @@
+-- How bytes that are held are written.
+use Rattle.std.proofs.Common.{◌≡◌, ◌⊎◌, ℕ, ◌<◌, List, [], ◌++◌, length, take, drop, length-append, length-drop, inl, inr, refl, sym, ◌∙◌, ap, subst, append_assoc, take-append-drop, arith}
+use Rattle.std.specs.Prelude.{Option}
+use Rattle.std.specs.Io.KnownBytes.{Appends}
+use Rattle.std.proofs.KnownBytes.{Appends-nil, Appends-trans}
+use Rattle.ports.specs.Stream.{appended_bytes, LeavesOut}
+use Rattle.ports.specs.declared.stream.Written.{Written}
+use Rattle.ports.specs.declared.stream.Written.TheVariants.{Whole, Failed}
+use Rattle.server_core.specs.declared.step.Step.{Step}
+use Rattle.server_core.specs.declared.step.Step.TheVariants as Steps
+use Rattle.server_core.specs.Progress.{Writes, IsPut, IsSettled}
+
+-- a write that failed left some bytes out
+pub Writes-part : (held text : List ℕ) (n : ℕ) (a b : Option (List ℕ)) → n < length held → Appends a b (take n held) → (rest : List ℕ) × (0 < length rest) × Writes held text a b rest
+Writes-part held text n a b h adds = (
+  drop n held ++ text,
+  omega (arith, length-append (drop n held) text, length-drop n held, h),
+  record { out = take n held; joins = ap (λ (x : List ℕ). x ++ text) (sym (take-append-drop n held)) ∙ append_assoc (take n held) (drop n held) text; adds = adds },
+)
+
+pub Writes-first : (text : List ℕ) (n : ℕ) (a b : Option (List ℕ)) → n < length text → Appends a b (take n text) → (rest : List ℕ) × (0 < length rest) × Writes [] text a b rest
+Writes-first text n a b h adds = (drop n text, omega (arith, length-drop n text, h), record { out = take n text; joins = sym (take-append-drop n text); adds = adds })
+
+after_held : (held text : List ℕ) (a b c : Option (List ℕ)) (rest : List ℕ) → Appends a b held → Writes [] text b c rest → Writes held text a c rest
+after_held held text a b c rest adds w = record {
+  out = held ++ w.out;
+  joins = ap (λ (x : List ℕ). held ++ x) w.joins ∙ sym (append_assoc held w.out rest);
+  adds = Appends-trans a b c held w.out adds w.adds;
+}
+
+-- a text was put after all that was held was written
+pub put_after : (held text : List ℕ) (a b c : Option (List ℕ)) (held' : List ℕ) (step : Step) → Appends a b held → IsPut [] text b held' c step → IsPut held text a held' c step
+put_after held text a b c held' Steps.Goes adds w = after_held held text a b c held' adds w
+put_after held text a b c held' Steps.Quits adds none = none
+put_after held text a b c held' Steps.WriteFault adds w = (w.0, w.1, after_held held text a b c w.0 adds w.2)
+put_after held text a b c held' Steps.NoMemory adds w = (w.0, after_held held text a b c (held' ++ w.0) adds w.1)
+
+-- what was held was written, as far as it was
+pub flushed : (held : List ℕ) (a b : Option (List ℕ)) (w : Written) → LeavesOut held w → Appends a b (appended_bytes held w) → (rest : List ℕ) × Writes held [] a b rest
+flushed held a b Whole h adds = ([], record { out = held; joins = refl; adds = adds })
+flushed held a b (Failed n) h adds = let part = Writes-part held [] n a b h adds in (part.0, part.2)
+
+-- a write failed after a step that would have gone on, or quit
+pub settled_fault : (held : List ℕ) (a b : Option (List ℕ)) (step : Step) → (step ≡ Steps.Goes) ⊎ (step ≡ Steps.Quits) → (rest : List ℕ) × (0 < length rest) × Writes held [] a b rest → IsSettled held a b step Steps.WriteFault
+settled_fault held a b step (inl e) part = subst (λ (s : Step). IsSettled held a b s Steps.WriteFault) (sym e) (inr (refl, part))
+settled_fault held a b step (inr e) part = subst (λ (s : Step). IsSettled held a b s Steps.WriteFault) (sym e) (inr (refl, part))
+
+-- a text that wasn't said is left unsaid
+pub put_none : (held text : List ℕ) (a : Option (List ℕ)) → IsPut held text a held a Steps.NoMemory
+put_none held text a = (text, record { out = []; joins = refl; adds = Appends-nil a })

@@ -1,0 +1,138 @@
+// Replies that are gathered before they are written.
+ghost use Rattle.std.specs.Prelude.{◌≡◌, ◌<◌, ◌+◌, ℕ, List, [], length, true, IfOk, Option};
+ghost use Rattle.std.specs.Io.KnownBytes.{Appends};
+ghost use Rattle.ports.specs.Counts.{RoseBy};
+ghost use Rattle.ports.specs.Stream.{appended_bytes, LeavesOut, write_fault_count};
+ghost use Rattle.server_core.specs.Progress.{IsPut, IsSettled, step_write_faults};
+
+use crate::step::Step;
+use ports::stream::{Sink, Written};
+use request_form::NoMemory;
+use std::alloc::Global;
+
+// From so many bytes on replies aren't gathered, but written.
+const MOST: usize = 65536;
+
+/// Replies that were said and aren't written yet, fewer than 65,536 bytes.
+///
+/// Its memory is taken when it is made.
+#[derive(Drop)]
+pub(crate) struct Gathered {
+    bytes: Vec<u8>,
+    ghost few: { length bytes.items < 65536 },
+}
+
+impl Gathered {
+    /// No replies yet.
+    pub(crate) fn new(alloc: Global) -> Result<Gathered, NoMemory>
+        ensures { IfOk result (λ gathered. gathered.bytes.items ≡ []) }
+    {
+        match Vec::with_capacity(alloc, MOST) {
+            Ok(bytes) => Ok(Gathered { bytes }),
+            Err(_) => Err(NoMemory),
+        }
+    }
+
+    /// Whether no reply waits.
+    pub(crate) fn is_empty(&self) -> bool
+        ensures { self.now.bytes.items ≡ [] → result ≡ true }
+    {
+        self.bytes.is_empty()
+    }
+
+    // Adds a text that fits.
+    fn hold(&mut self, text: &[u8]) -> Step
+        requires { length self.old.bytes.items + length text.now < 65536 }
+        ensures put { (written : Option (List ℕ)) → IsPut self.old.bytes.items text.now written self.new.bytes.items written result }
+        ensures unwritten { step_write_faults result ≡ 0 }
+    {
+        match self.bytes.extend_from_slice(text) {
+            Ok(()) => Step::Goes,
+            Err(_) => Step::NoMemory,
+        }
+    }
+
+    // Writes what is held.
+    fn flush<I: Sink>(&mut self, io: &mut I) -> Written
+        ensures none { self.new.bytes.items ≡ [] }
+        ensures part { LeavesOut self.old.bytes.items result }
+        ensures written { Appends (I.written io.old) (I.written io.new) (appended_bytes self.old.bytes.items result) }
+        ensures write_faults { RoseBy (write_fault_count result) (I.write_faults io.old) (I.write_faults io.new) }
+        ensures given { I.given io.new ≡ I.given io.old }
+        ensures left { I.left io.new ≡ I.left io.old }
+        ensures read_faults { I.read_faults io.new ≡ I.read_faults io.old }
+        ensures ends { I.ends io.new ≡ I.ends io.old }
+        ensures objects { I.objects io.new ≡ I.objects io.old }
+    {
+        if self.bytes.is_empty() {
+            return Written::Whole;
+        }
+        let written = io.write(self.bytes.as_slice());
+        self.bytes.clear();
+        written
+    }
+
+    // Adds a text where nothing is held, or writes it by itself where it is too long to be held.
+    fn put_first<I: Sink>(&mut self, io: &mut I, text: &[u8]) -> Step
+        requires { self.old.bytes.items ≡ [] }
+        ensures put { IsPut [] text.now (I.written io.old) self.new.bytes.items (I.written io.new) result }
+        ensures write_faults { RoseBy (step_write_faults result) (I.write_faults io.old) (I.write_faults io.new) }
+        ensures given { I.given io.new ≡ I.given io.old }
+        ensures left { I.left io.new ≡ I.left io.old }
+        ensures read_faults { I.read_faults io.new ≡ I.read_faults io.old }
+        ensures ends { I.ends io.new ≡ I.ends io.old }
+        ensures objects { I.objects io.new ≡ I.objects io.old }
+    {
+        if text.len() < MOST {
+            return self.hold(text);
+        }
+        match io.write(text) {
+            Written::Failed(_) => Step::WriteFault,
+            Written::Whole => Step::Goes,
+        }
+    }
+
+    /// Adds a text. Where it doesn't fit, what is held is written first, and a text that is too long to be held is written
+    /// by itself.
+    pub(crate) fn put<I: Sink>(&mut self, io: &mut I, text: &[u8]) -> Step
+        ensures put { IsPut self.old.bytes.items text.now (I.written io.old) self.new.bytes.items (I.written io.new) result }
+        ensures write_faults { RoseBy (step_write_faults result) (I.write_faults io.old) (I.write_faults io.new) }
+        ensures given { I.given io.new ≡ I.given io.old }
+        ensures left { I.left io.new ≡ I.left io.old }
+        ensures read_faults { I.read_faults io.new ≡ I.read_faults io.old }
+        ensures ends { I.ends io.new ≡ I.ends io.old }
+        ensures objects { I.objects io.new ≡ I.objects io.old }
+    {
+        if text.len() < MOST - self.bytes.len() {
+            return self.hold(text);
+        }
+        match self.flush(io) {
+            Written::Failed(_) => Step::WriteFault,
+            Written::Whole => self.put_first(io, text),
+        }
+    }
+
+    /// Writes what is held after a step, which tells then also of this write. After want of memory a fault is let be.
+    pub(crate) fn settle<I: Sink>(&mut self, io: &mut I, step: Step) -> Step
+        ensures settled { IsSettled self.old.bytes.items (I.written io.old) (I.written io.new) step result }
+        ensures none { step_write_faults result ≡ 0 → self.new.bytes.items ≡ [] }
+        ensures write_faults { (before : ℕ) → RoseBy (step_write_faults step) before (I.write_faults io.old) → RoseBy (step_write_faults result) before (I.write_faults io.new) }
+        ensures given { I.given io.new ≡ I.given io.old }
+        ensures left { I.left io.new ≡ I.left io.old }
+        ensures read_faults { I.read_faults io.new ≡ I.read_faults io.old }
+        ensures ends { I.ends io.new ≡ I.ends io.old }
+        ensures objects { I.objects io.new ≡ I.objects io.old }
+    {
+        match step {
+            Step::WriteFault => Step::WriteFault,
+            Step::NoMemory => {
+                let _ = self.flush(io);
+                Step::NoMemory
+            }
+            Step::Goes | Step::Quits => match self.flush(io) {
+                Written::Failed(_) => Step::WriteFault,
+                Written::Whole => step,
+            },
+        }
+    }
+}

@@ -1,0 +1,108 @@
+//! When replies are written.
+
+use crate::long::{LENGTH, LongReplies};
+use crate::noted::{Act, Noted};
+use crate::unasked::Unasked;
+use request_form::Dialect;
+use script_text::ScriptDialect;
+use server_core::{End, serve_stream};
+use std::alloc::Global;
+use std::sync::Wait;
+use std::test::Fail;
+use std::thread::Threads;
+
+// A line that is no request, and the length of its reply.
+const WRONG: &[u8] = b"x\n";
+
+const REPLY: usize = 16;
+
+// More bytes than any script here has.
+const LIMIT: u64 = 1 << 30;
+
+// A script of so many wrong lines.
+fn wrong_lines(alloc: Global, count: usize) -> Result<Vec<u8>, Fail> {
+    let mut script = Vec::new(alloc);
+    for _ in 0..count {
+        script.extend_from_slice(WRONG)?;
+    }
+    Ok(script)
+}
+
+// What is done with a stream of these bytes while it is served.
+fn acts_of<R: Wait + Threads + Sync, T: Dialect>(
+    rt: &R,
+    alloc: Global,
+    dialect: &mut T,
+    script: Vec<u8>,
+    piece: usize,
+    end: End,
+) -> Result<Noted, Fail>
+    requires { (T.reads dialect.old []).whole ≡ [] }
+{
+    let mut io = Noted::new(alloc, script, piece)?;
+    if serve_stream(rt, alloc, &mut Unasked, dialect, &mut io, LIMIT) != end {
+        return Err("another end".into());
+    }
+    Ok(io)
+}
+
+#[test]
+fn each_reply_comes_before_the_next_line_is_read(rt: HostRuntime) -> Result<(), Fail> {
+    let alloc = rt.alloc();
+    let mut script = wrong_lines(alloc, 3)?;
+    script.extend_from_slice(b"quit\n")?;
+    let mut dialect = ScriptDialect::new(alloc)?;
+    let io = acts_of(&rt, alloc, &mut dialect, script, WRONG.len(), End::Quit)?;
+    let wrote = Act::Wrote(REPLY);
+    let expected = [
+        Act::Read,
+        wrote,
+        Act::Read,
+        wrote,
+        Act::Read,
+        wrote,
+        Act::Read,
+        Act::Read,
+        Act::Read,
+        Act::Wrote(4),
+    ];
+    assert_eq!(rt; io.acts(), expected.as_slice());
+    Ok(())
+}
+
+#[test]
+fn replies_to_many_lines_are_written_in_few_writes(rt: HostRuntime) -> Result<(), Fail> {
+    let alloc = rt.alloc();
+    let script = wrong_lines(alloc, 100_000)?;
+    let mut dialect = ScriptDialect::new(alloc)?;
+    let io = acts_of(&rt, alloc, &mut dialect, script, usize::MAX, End::InputEnd)?;
+    let mut reads = 0u32;
+    let mut writes = 0u32;
+    let mut bytes = 0usize;
+    for act in io.acts() {
+        match act {
+            Act::Read => reads = reads.saturating_add(1),
+            Act::Wrote(n) => {
+                assert!(rt; *n <= 65_536);
+                writes = writes.saturating_add(1);
+                bytes = bytes.saturating_add(*n);
+            }
+        }
+    }
+    assert_eq!(rt; bytes, 100_000 * REPLY);
+    // Three whole pieces of 32,768 lines, the rest of 1,696 lines, and the end. Fewer than 65,536 bytes are held.
+    assert_eq!(rt; reads, 5);
+    assert_eq!(rt; writes, 3 * 9 + 1);
+    Ok(())
+}
+
+#[test]
+fn a_long_reply_is_written_by_itself(rt: HostRuntime) -> Result<(), Fail> {
+    let alloc = rt.alloc();
+    let script = wrong_lines(alloc, 2)?;
+    let mut dialect = LongReplies::new(alloc)?;
+    let io = acts_of(&rt, alloc, &mut dialect, script, usize::MAX, End::InputEnd)?;
+    let expected = [Act::Read, Act::Wrote(LENGTH), Act::Wrote(LENGTH), Act::Read];
+    assert_eq!(rt; io.acts(), expected.as_slice());
+    Ok(())
+}
