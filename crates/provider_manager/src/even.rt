@@ -15,7 +15,7 @@ pub(crate) struct EvenBook {
 }
 
 impl EvenBook {
-    ghost use Rattle.provider_manager.specs.Book.{AreCounts};
+    ghost use Rattle.provider_manager.specs.Book.{AreCounts, IsOf, IsMadeFit, IsPlacedBy};
     ghost use Rattle.provider_manager.specs.Placed.{IsSpread, IsPlacedEvenly};
 
     pub(crate) fn of_book(book: LoadBook) -> EvenBook
@@ -30,6 +30,7 @@ impl EvenBook {
         requires pages { length pages.old < 2 ^ 32 }
         ensures spread { All (IsSpread providers replicas) (map chosen pages.new) }
         ensures evenly { IsPlacedEvenly providers replicas (map chosen pages.new) }
+        ensures placed { IsPlacedBy providers replicas (map chosen pages.new) self.old.book self.new.book }
     {
         self.make_fit(providers, replicas, pages.len() as u32);
         self.book.place_each(pages);
@@ -41,6 +42,7 @@ impl EvenBook {
         ensures providers { length self.new.book.loads ≡ providers }
         ensures replicas { self.new.book.replicas ≡ replicas }
         ensures fits { sum self.new.book.loads + pages * replicas ≤ 2 ^ 62 }
+        ensures made { IsMadeFit providers replicas pages self.old.book self.new.book }
     {
         if self.book.providers() != providers || self.book.replicas() != replicas {
             self.book.restart(providers, replicas);
