@@ -91,3 +91,17 @@ replicated_next before mid now placements pages page chosen i count so_far kept 
           let below : k < length pages = let n = length-append pages (page ∷ []) in omega (arith, n) in
           replicated_still before mid now placements pages kept h k next (get_earlier pages page next k below is)
     ]
+
+-- what holds of each item and its place, with one item more
+pub each_push : {X : Type 0} (P : ℕ → X → Type 0) (xs : List X) (x : X) (n : ℕ) → n ≡ length xs → ((i : ℕ) (y : X) → slice_get xs i ≡ Some y → P i y) → P n x → (i : ℕ) (y : X) → slice_get (xs ++ x ∷ []) i ≡ Some y → P i y
+each_push P xs x n count there new = λ i y is.
+    let within : i < length (xs ++ x ∷ []) = slice_get_within (xs ++ x ∷ []) i y is in
+    elim (cases_eq i n) [
+      | inl same ↦
+          let last : x ≡ y = get_last xs x y i (same ∙ count) is in
+          rw (← last, same) new
+      | inr differs ↦
+          let apart : i ≡ n → ⊥ = differs in
+          let below : i < length xs = let m = length-append xs (x ∷ []) in omega (arith, m) in
+          there i y (get_earlier xs x y i below is)
+    ]

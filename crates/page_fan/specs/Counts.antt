@@ -1,6 +1,7 @@
 -- The counts of faults of several doors: the door to provider 1 comes first.
-use Rattle.std.specs.Prelude.{◌≡◌, ℕ, ◌-◌, ◌≤◌, List, length, slice_index}
+use Rattle.std.specs.Prelude.{◌≡◌, ◌≢◌, ℕ, ◌+◌, ◌-◌, ◌<◌, ◌≤◌, List, All, length, slice_index, take}
 use Rattle.page_store.specs.Count.{HasRisen}
+use Rattle.page_store.specs.Page.{Place}
 
 -- there are as many doors as before, and no count fell
 pub record NoneFell (before now : List ℕ) : Type 0 where
@@ -10,3 +11,14 @@ pub record NoneFell (before now : List ℕ) : Type 0 where
 -- the count of the door to this provider rose
 abbrev pub RoseAt : List ℕ → List ℕ → ℕ → Type 0
 RoseAt before now provider = HasRisen (slice_index before (provider - 1)) (slice_index now (provider - 1))
+
+-- the count of each door stayed but of those to the providers of these places
+abbrev pub OthersStay : List Place → List ℕ → List ℕ → Type 0
+OthersStay places before now = (n : ℕ) → All (λ (place : Place). place.provider ≢ n + 1) places → slice_index before n ≡ slice_index now n
+
+-- the bytes came from one of these places: the doors to those before it failed, and those behind it weren't tried
+pub record CameFrom (places : List Place) (before now : List ℕ) : Type 0 where
+  pub tried : ℕ
+  pub within : tried < length places
+  pub failed : All (λ (place : Place). RoseAt before now place.provider) (take tried places)
+  pub others : OthersStay (take (tried + 1) places) before now

@@ -3,3 +3,4 @@ pub mod Replicas
 pub mod Fault
 pub mod Lending
 pub mod Unstored
+pub mod Made

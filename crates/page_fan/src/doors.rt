@@ -1,10 +1,10 @@
 // A session's doors.
-ghost use Rattle.std.specs.Prelude.{◌≡◌, ◌+◌, ◌-◌, ◌^◌, ◌≤◌, ◌↔◌, length, IfOk, OnOk, All, map, min, sum_by, Some, slice_get, slice_range};
+ghost use Rattle.std.specs.Prelude.{◌≡◌, ℕ, ◌+◌, ◌-◌, ◌^◌, ◌≤◌, ◌↔◌, [], ◌∷◌, length, IfOk, All, map, min, sum_by, Some, slice_get, slice_range};
 ghost use Rattle.std.specs.Borrow.{sem};
 ghost use Rattle.page_store.specs.House.{IsProvider};
 ghost use Rattle.page_store.specs.Page.{IsAmong};
 ghost use Rattle.page_store.specs.Answers.{IfStored, OnPutFailed, OnGot, OnGetFailed};
-ghost use Rattle.page_fan.specs.Counts.{NoneFell, RoseAt};
+ghost use Rattle.page_fan.specs.Counts.{NoneFell, RoseAt, OthersStay};
 
 use page_store::{Door, DoorMaker, GetAnswer, Houses, MAX_PAGE, NoMemory, PageRef, PutAnswer};
 use std::alloc::Global;
@@ -30,6 +30,7 @@ impl<D> Model for Doors<D> {
 
 impl<D: Door> Doors<D> {
     ghost use Rattle.page_fan.specs.Lending.{LendsDoor};
+    ghost use Rattle.page_fan.specs.Made.{AreMade};
 
     /// A door to each of the providers. Where memory is refused, the doors that were made go back to the maker.
     pub fn new<M: DoorMaker<Door = D>>(
@@ -39,10 +40,11 @@ impl<D: Door> Doors<D> {
     ) -> Result<Doors<D>, NoMemory>
         ensures count { IfOk result (λ doors. length doors ≡ providers) }
         ensures fresh { IfOk result (λ doors. All (λ door. D.faults door ≡ 0) doors) }
+        ensures each { IfOk result (λ doors. AreMade (M.makes maker.old) doors) }
         ensures true_doors { M.is_true maker.old → IfOk result (λ doors. All D.is_true doors) }
-        ensures count_stays { OnOk result (M.faults maker.new ≡ M.faults maker.old) }
-        ensures never_falls { min (M.faults maker.old) (2 ^ 64 - 1) ≤ M.faults maker.new }
+        ensures count_stays { M.faults maker.new ≡ M.faults maker.old }
         ensures truth_stays { M.is_true maker.old ↔ M.is_true maker.new }
+        ensures plan_stays { (n : ℕ) (door : _) → M.makes maker.old n door ↔ M.makes maker.new n door }
     {
         let mut doors = Vec::with_capacity(alloc, providers as usize)?;
         for before in 0..providers {
@@ -62,6 +64,7 @@ impl<D: Door> Doors<D> {
         ensures adds { M.faults maker.old ≤ 2 ^ 64 - 1 → M.faults maker.new ≡ min (M.faults maker.old + sum_by D.faults self) (2 ^ 64 - 1) }
         ensures rises { min (M.faults maker.old + sum_by D.faults self) (2 ^ 64 - 1) ≤ M.faults maker.new }
         ensures truth_stays { M.is_true maker.old ↔ M.is_true maker.new }
+        ensures plan_stays { (n : ℕ) (door : _) → M.makes maker.old n door ↔ M.makes maker.new n door }
     {
         let Doors { mut doors } = self;
         while let Some(door) = doors.pop() {
@@ -118,6 +121,7 @@ impl<D: Door> Doors<D> {
         requires room { from + length out.old ≤ length page.now.bytes }
         ensures got { All D.is_true self.old → OnGot result (out.new ≡ slice_range page.now.bytes from (from + length out.old)) }
         ensures failed { OnGetFailed result (RoseAt (map D.faults self.old) (map D.faults self.new) page.now.place.provider) }
+        ensures others { OthersStay (page.now.place ∷ []) (map D.faults self.old) (map D.faults self.new) }
         ensures none_fell { NoneFell (map D.faults self.old) (map D.faults self.new) }
         ensures count { length self.new ≡ length self.old }
         ensures truth_stays { All D.is_true self.old → All D.is_true self.new }

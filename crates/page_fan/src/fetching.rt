@@ -3,14 +3,15 @@ ghost use Rattle.std.specs.Prelude.{◌≡◌, ◌+◌, ◌≤◌, length, IsTru
 ghost use Rattle.page_store.specs.Count.{HasRisen};
 ghost use Rattle.page_store.specs.House.{IsProvider};
 ghost use Rattle.page_store.specs.Page.{IsAmong};
-ghost use Rattle.page_fan.specs.Counts.{NoneFell, RoseAt};
+ghost use Rattle.page_fan.specs.Counts.{NoneFell, RoseAt, OthersStay, CameFrom};
 
 use crate::doors::Doors;
 use page_store::{Door, GetAnswer, Houses, StoredPage};
 
 /// Fills `out` with the page's bytes from byte `from` on, and answers whether it did.
 ///
-/// It tries the replicas in order, and answers false where every replica's door failed; `out` then holds any bytes.
+/// It tries the replicas in order up to the first whose door gives it, and answers false where every replica's door failed;
+/// `out` then holds any bytes.
 /// It waits for nobody and takes no memory.
 pub fn fetch<D: Door>(
     doors: &mut Doors<D>,
@@ -23,8 +24,10 @@ pub fn fetch<D: Door>(
     requires served { All (λ place. IsProvider (length doors.old) place.provider) page.now.places }
     requires room { from + length out.old ≤ length page.now.bytes }
     ensures got { IsTrue result → All D.is_true doors.old → out.new ≡ slice_range page.now.bytes from (from + length out.old) }
+    ensures in_order { IsTrue result → CameFrom page.now.places (map D.faults doors.old) (map D.faults doors.new) }
     ensures failed { IsFalse result → All (λ place. RoseAt (map D.faults doors.old) (map D.faults doors.new) place.provider) page.now.places }
     ensures counted { IsFalse result → HasRisen (sum_by D.faults doors.old) (sum_by D.faults doors.new) }
+    ensures others { IsFalse result → OthersStay page.now.places (map D.faults doors.old) (map D.faults doors.new) }
     ensures none_fell { NoneFell (map D.faults doors.old) (map D.faults doors.new) }
     ensures sum_never_falls { sum_by D.faults doors.old ≤ sum_by D.faults doors.new }
     ensures count { length doors.new ≡ length doors.old }

@@ -1,9 +1,10 @@
-use Rattle.std.proofs.Common.{ℕ, map, ◌∙◌, arith, get_or}
-use Rattle.std.proofs.lemmas.Option.{get_or_from_slice_get}
+use Rattle.std.proofs.Common.{◌≡◌, ℕ, ◌<◌, length, length-take-le, map, sym, ◌∙◌, arith, get_or}
+use Rattle.std.proofs.lemmas.List.{get_or-take}
+use Rattle.std.proofs.lemmas.Option.{get_or_from_slice_get, slice_get_within}
 use borrow.Author.Count.{below_more}
 use Rattle.page_store.specs.Page.{Place}
 use Rattle.page_fan.specs.Counts.{RoseAt}
-use Rattle.page_fan.proofs.Rises.{none_fell_since, still_risen, risen_since, sum_never_falls, sum_rises_at}
+use Rattle.page_fan.proofs.Rises.{none_fell_since, others_next, still_risen, risen_since, sum_never_falls, sum_rises_at}
 use Rattle.page_fan.proofs.fetching.fetch.Goals as goal
 
 pub returns-in-Got-clause-sum_never_falls : goal.returns-in-Got-clause-sum_never_falls
@@ -20,12 +21,15 @@ loop-i-preserved g c =
     let places = c.args.page.now.places in
     let i = c.loop-i.invariant in
     let p = c.get.ensures in
+    let within : c.loop-i.i < length places = slice_get_within places c.loop-i.i c.replica.result.now.place c.replica.ensures.place in
+    let is : c.replica.result.now.place ≡ get_or places c.loop-i.i c.replica.result.now.place = sym (get_or_from_slice_get places c.loop-i.i c.replica.result.now.place c.replica.result.now.place c.replica.ensures.place) in
     record {
       rose = λ k d l. below_more (λ (n : ℕ). RoseAt before now (get_or places n d).provider) c.loop-i.i
           (λ n h. still_risen before mid now p.none_fell (get_or places n d).provider (i.rose n d h))
           (rw (get_or_from_slice_get places c.loop-i.i c.replica.result.now.place d c.replica.ensures.place) (risen_since before mid now i.kept c.replica.result.now.place.provider c.in-Failed.ensures.failed))
           k l;
       kept = none_fell_since before mid now i.kept p.none_fell;
+      others = others_next places c.loop-i.i c.replica.result.now.place before mid now within i.others (rw (← is) p.others);
       truth = λ t. p.truth_stays (i.truth t);
       count = p.count ∙ i.count;
     }
@@ -38,3 +42,24 @@ returns-clause-counted g c = λ t.
     let places = c.args.page.now.places in
     let d : Place = record { provider = 0; shelf = 0; mark = 0 } in
     sum_rises_at g.D.Door.faults c.args.doors.now c.loop-i.doors (get_or places 0 d).provider c.loop-i.invariant.kept (c.requires.served 0 d (omega arith)) (c.loop-i.invariant.rose 0 d (omega arith))
+
+pub returns-in-Got-clause-in_order : goal.returns-in-Got-clause-in_order
+returns-in-Got-clause-in_order g c = λ t.
+    let counts = map g.D.Door.faults in
+    let before = counts c.args.doors.now in
+    let mid = counts c.loop-i.doors in
+    let now = counts c.get.new.self in
+    let places = c.args.page.now.places in
+    let at = c.loop-i.i in
+    let place = c.replica.result.now.place in
+    let i = c.loop-i.invariant in
+    let within : at < length places = slice_get_within places at place c.replica.ensures.place in
+    let is : place ≡ get_or places at place = sym (get_or_from_slice_get places at place place c.replica.ensures.place) in
+    record {
+      tried = at;
+      within = within;
+      failed = λ k d l.
+          let below : k < at = omega (arith, l, length-take-le at places (omega (arith, within))) in
+          rw (get_or-take at places k d below) (still_risen before mid now c.get.ensures.none_fell (get_or places k d).provider (i.rose k d below));
+      others = others_next places at place before mid now within i.others (rw (← is) c.get.ensures.others);
+    }

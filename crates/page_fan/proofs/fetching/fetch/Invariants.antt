@@ -1,7 +1,7 @@
-use Rattle.std.proofs.Common.{◌≡◌, ℕ, ◌<◌, length, map}
+use Rattle.std.proofs.Common.{◌≡◌, ℕ, ◌<◌, length, map, take}
 use Rattle.std.specs.Prelude.{All, slice_index_or}
 use Rattle.page_store.specs.Page.{Place}
-use Rattle.page_fan.specs.Counts.{NoneFell, RoseAt}
+use Rattle.page_fan.specs.Counts.{NoneFell, RoseAt, OthersStay}
 use Rattle.page_fan.proofs.fetching.fetch.Given as goal
 
 abbrev pub invariant-loop-i : goal.invariant-loop-i
@@ -11,6 +11,7 @@ invariant-loop-i g l =
     record {
       rose : (k : ℕ) (d : Place) → k < l.i → RoseAt (counts l.fn.doors) (counts l.doors) (slice_index_or l.page.places k d).provider;
       kept : NoneFell (counts l.fn.doors) (counts l.doors);
+      others : OthersStay (take l.i l.page.places) (counts l.fn.doors) (counts l.doors);
       truth : All is_true l.fn.doors → All is_true l.doors;
       count : length l.doors ≡ length l.fn.doors;
     }

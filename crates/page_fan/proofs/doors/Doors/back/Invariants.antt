@@ -1,4 +1,4 @@
-use Rattle.std.proofs.Common.{◌≡◌, ◌+◌, ◌-◌, ◌^◌, ◌≤◌, vec_len}
+use Rattle.std.proofs.Common.{◌≡◌, ◌+◌, ◌-◌, ◌^◌, ◌≤◌, ℕ, vec_len}
 use Rattle.std.specs.Prelude.{min, sum_by, ◌↔◌}
 use Rattle.page_fan.proofs.doors.Doors.back.Given as goal
 
@@ -11,6 +11,7 @@ invariant-loop-door g l =
       adds : faults l.fn.maker ≤ 2 ^ 64 - 1 → min (faults l.maker + sum_by each l.doors.items) (2 ^ 64 - 1) ≡ min (faults l.fn.maker + sum_by each l.initial.doors.items) (2 ^ 64 - 1);
       bounded : faults l.fn.maker ≤ 2 ^ 64 - 1 → faults l.maker ≤ 2 ^ 64 - 1;
       rises : min (faults l.fn.maker + sum_by each l.initial.doors.items) (2 ^ 64 - 1) ≤ faults l.maker + sum_by each l.doors.items;
+      plan_stays : (n : ℕ) (door : _) → g.M.DoorMaker.makes l.fn.maker n door ↔ g.M.DoorMaker.makes l.maker n door;
       truth_stays : is_true l.fn.maker ↔ is_true l.maker;
     }
 

@@ -1,5 +1,6 @@
-use Rattle.std.proofs.Common.{◌≡◌, ◌≤◌, vec_len}
+use Rattle.std.proofs.Common.{◌≡◌, ℕ, ◌≤◌, vec_len}
 use Rattle.std.specs.Prelude.{All, vec_capacity, ◌↔◌}
+use Rattle.page_fan.specs.Made.{AreMade}
 use Rattle.page_fan.proofs.doors.Doors.new.Given as goal
 
 abbrev pub invariant-loop-before : goal.invariant-loop-before
@@ -12,5 +13,7 @@ invariant-loop-before g l =
       true_doors : is_true l.fn.maker → All g.D.Door.is_true l.doors.items;
       fresh : All (λ x. g.D.Door.faults x ≡ 0) l.doors.items;
       count_stays : faults l.maker ≡ faults l.fn.maker;
+      each : AreMade (g.M.DoorMaker.makes l.fn.maker) l.doors.items;
+      plan_stays : (n : ℕ) (door : _) → g.M.DoorMaker.makes l.fn.maker n door ↔ g.M.DoorMaker.makes l.maker n door;
       truth_stays : is_true l.fn.maker ↔ is_true l.maker;
     }
