@@ -9,10 +9,11 @@ use Rattle.tree_geom.specs.declared.node.Node.{Node}
 use Rattle.tree_geom.specs.declared.node.Node.TheVariants.{Leaf}
 use Rattle.tree_geom.specs.declared.node.NodeKey.{NodeKey}
 use Rattle.tree_geom.specs.Geometry.{height_of, doublings, span_of}
+use Rattle.tree_geom.specs.Nodes.{no_piece}
 use Rattle.range_log.specs.Log.{newest_of}
 use Rattle.range_log.specs.Extents.{touches}
 use Rattle.range_log.specs.Updates.{extents}
-use Rattle.range_log.specs.Rows.{row_keys_of, levels_of, level_of, no_piece}
+use Rattle.range_log.specs.Rows.{row_keys_of, levels_of, level_of}
 use Rattle.range_log.specs.Log.{HasNode}
 use Rattle.std.specs.List.{Contains}
 use Rattle.blob_core.specs.World.{World, empty_world, node_at, origin, IsKnown, log_of}

@@ -13,9 +13,8 @@ use Rattle.blob_model.specs.Store.{Blob, published}
 use Rattle.tree_geom.specs.declared.range.Range.{Range}
 use Rattle.tree_geom.specs.declared.touch.Touch.{Touch}
 use Rattle.tree_geom.specs.declared.node.Node.{Node}
-use Rattle.tree_geom.specs.declared.node.Node.TheVariants.{Leaf}
 use Rattle.tree_geom.specs.declared.node.Piece.{Piece}
-use Rattle.tree_geom.specs.Nodes.{left_link, right_link}
+use Rattle.tree_geom.specs.Nodes.{left_link, right_link, back_link, is_leaf, start_of, first_of, second_of}
 use Rattle.tree_geom.specs.Geometry.{tree_range, page_range, left_half, right_half, height_of, span_of, doublings}
 use Rattle.range_log.specs.Log.{newest_of, size_at, IsNewest, HasNode}
 use Rattle.range_log.specs.Extents.{Extent, extent_at, size_after, InBounds}
@@ -52,11 +51,12 @@ put_none start own =
 abbrev pub older_walk : ℕ → ℕ → World → ℕ → ℕ → ℕ → Walked
 older_walk most p w blob back i = let older : Walked = elim (back == 0) [ true ↦ nothing | false ↦ leaf_walk most p w blob back i ] in older
 
-pub leaf_walk_on : (most p : ℕ) (w : World) (blob j i start count : ℕ) (first second : Piece) (back : ℕ) (kept : Kept) → node_in w blob j (page_range p i) ≡ Some (Leaf start count first second back)
+pub leaf_walk_on : (most p : ℕ) (w : World) (blob j i : ℕ) (n : Node) (kept : Kept) → is_leaf n ≡ true → node_in w blob j (page_range p i) ≡ Some n
     → kept_at w.updates (origin w blob j) j ≡ Some kept
-    → leaf_walk (suc most) p w blob j i ≡ over (older_walk most p w blob back i) start (bytes_of_piece w kept.pages first ++ bytes_of_piece w kept.pages second)
+    → leaf_walk (suc most) p w blob j i
+    ≡ over (older_walk most p w blob (back_link n) i) (start_of n) (bytes_of_piece w kept.pages (first_of n) ++ bytes_of_piece w kept.pages (second_of n))
 unfolding leaf_walk
-leaf_walk_on most p w blob j i start count first second back kept e f = rw (e, f, leaf_walk) refl
+leaf_walk_on most p w blob j i n kept leaf e f = rw (e, f, leaf, leaf_walk) refl
 
 pub older_none : (most p : ℕ) (w : World) (blob back i : ℕ) → (back == 0) ≡ true → older_walk most p w blob back i ≡ nothing
 older_none most p w blob back i e = rw (e, older_walk) refl
@@ -146,7 +146,7 @@ leaf_walk_is c p w blob b pos s bs (suc most) j i v fuel upto has newest =
     let own : List ℕ = bytes_of_piece w u.kept.pages first ++ bytes_of_piece w u.kept.pages second in
     let own_bytes_are : own ≡ own_bytes p us j i = own_is c p w blob b j i pos s ok u has in
     let on : leaf_walk (suc most) p w blob j i ≡ over (older_walk most p w blob back i) start own =
-    leaf_walk_on most p w blob j i start (piece_count p (leaf_from p x i) (leaf_len p x i)) first second back u.kept node u.there in
+    leaf_walk_on most p w blob j i (leaf_of p xs j i) u.kept refl node u.there in
     let fill = c.fill p j i us pos bs.replay has in
     let e : x ≡ extent_of us j = extent_at_is us j has.version.0 in_list in
     let step = c.backs p v i xs in

@@ -14,7 +14,7 @@ use Rattle.tree_geom.specs.declared.node.Piece.{Piece}
 use Rattle.tree_geom.specs.Geometry.{tree_range, page_range, height_of}
 use Rattle.range_log.specs.Extents.{size_after}
 use Rattle.range_log.specs.Updates.{extents}
-use Rattle.tree_geom.specs.Nodes.{left_link, right_link}
+use Rattle.tree_geom.specs.Nodes.{left_link, right_link, back_link, is_leaf, start_of, first_of, second_of}
 use Rattle.blob_core.specs.World.{World, Kept, node_in, kept_at, origin}
 use Rattle.blob_core.specs.Walk.{Walked, nothing, bytes_of_piece, leaf_walk, tree_walk_from, read_walk, walked_in}
 use Rattle.blob_core.proofs.Lists.{one_value}
@@ -45,11 +45,11 @@ unfolding leaf_walk
 leaf_unkept zero p w blob j i n e f = refl
 leaf_unkept (suc most) p w blob j i n e f = ap Bytes (let g : leaf_walk (suc most) p w blob j i ≡ nothing = rw (e, f, leaf_walk) refl in g)
 
-pub leaf_inner : (most p : ℕ) (w : World) (blob j i left right : ℕ) (kept : Kept) → node_in w blob j (page_range p i) ≡ Some (Inner left right) → kept_at w.updates (origin w blob j) j ≡ Some kept
+pub leaf_inner : (most p : ℕ) (w : World) (blob j i : ℕ) (n : Node) (kept : Kept) → is_leaf n ≡ false → node_in w blob j (page_range p i) ≡ Some n → kept_at w.updates (origin w blob j) j ≡ Some kept
     → (leaf_walk most p w blob j i).bytes ≡ []
 unfolding leaf_walk
-leaf_inner zero p w blob j i left right kept e f = refl
-leaf_inner (suc most) p w blob j i left right kept e f = ap Bytes (let g : leaf_walk (suc most) p w blob j i ≡ nothing = rw (e, f, leaf_walk) refl in g)
+leaf_inner zero p w blob j i n kept inner e f = refl
+leaf_inner (suc most) p w blob j i n kept inner e f = ap Bytes (let g : leaf_walk (suc most) p w blob j i ≡ nothing = rw (e, f, inner, leaf_walk) refl in g)
 
 -- the bytes of the leaf that a back leads to, or none
 older_by : (most p : ℕ) (w : World) (blob back i : ℕ) (bytes : List ℕ) (t : Bool) → (back == 0) ≡ t → (t ≡ true → bytes ≡ []) → (t ≡ false → bytes ≡ (leaf_walk most p w blob back i).bytes)
@@ -57,20 +57,21 @@ older_by : (most p : ℕ) (w : World) (blob back i : ℕ) (bytes : List ℕ) (t 
 older_by most p w blob back i bytes true t none on = none refl ∙ ap Bytes (sym (older_none most p w blob back i t))
 older_by most p w blob back i bytes false t none on = on refl ∙ ap Bytes (sym (older_on most p w blob back i t))
 
-pub leaf_on : (most p : ℕ) (w : World) (blob j i start count : ℕ) (first second : Piece) (back : ℕ) (kept : Kept) (older own : List ℕ) → 1 ≤ most
-    → node_in w blob j (page_range p i) ≡ Some (Leaf start count first second back) → kept_at w.updates (origin w blob j) j ≡ Some kept
-    → (back ≡ 0 → older ≡ []) → (1 ≤ back → older ≡ (leaf_walk (most - 1) p w blob back i).bytes)
-    → own ≡ bytes_of_piece w kept.pages first ++ bytes_of_piece w kept.pages second
-    → put older start own ≡ (leaf_walk most p w blob j i).bytes
-leaf_on zero p w blob j i start count first second back kept older own some node there none on pieces = absurd (omega arith)
-leaf_on (suc most) p w blob j i start count first second back kept older own some node there none on pieces =
+pub leaf_on : (most p : ℕ) (w : World) (blob j i : ℕ) (n : Node) (kept : Kept) (older own : List ℕ) → 1 ≤ most → is_leaf n ≡ true
+    → node_in w blob j (page_range p i) ≡ Some n → kept_at w.updates (origin w blob j) j ≡ Some kept
+    → (back_link n ≡ 0 → older ≡ []) → (1 ≤ back_link n → older ≡ (leaf_walk (most - 1) p w blob (back_link n) i).bytes)
+    → own ≡ bytes_of_piece w kept.pages (first_of n) ++ bytes_of_piece w kept.pages (second_of n)
+    → put older (start_of n) own ≡ (leaf_walk most p w blob j i).bytes
+leaf_on zero p w blob j i n kept older own some leaf node there none on pieces = absurd (omega arith)
+leaf_on (suc most) p w blob j i n kept older own some leaf node there none on pieces =
     let one : suc most - 1 ≡ most = omega arith in
+    let back : ℕ = back_link n in
     let is : older ≡ (older_walk most p w blob back i).bytes =
     older_by most p w blob back i older (back == 0) refl (λ t. none (grind (arith, nat_tests)))
     (λ t. on (grind (arith, nat_tests)) ∙ ap (λ (m : ℕ). (leaf_walk m p w blob back i).bytes) one) in
-    ap (λ (l : List ℕ). put l start own) is
-    ∙ ap (λ (l : List ℕ). put (older_walk most p w blob back i).bytes start l) pieces
-    ∙ ap Bytes (sym (leaf_walk_on most p w blob j i start count first second back kept node there))
+    ap (λ (l : List ℕ). put l (start_of n) own) is
+    ∙ ap (λ (l : List ℕ). put (older_walk most p w blob back i).bytes (start_of n) l) pieces
+    ∙ ap Bytes (sym (leaf_walk_on most p w blob j i n kept leaf node there))
 
 -- ---- a tree
 pub tree_apart : (h p : ℕ) (w : World) (blob j q first last : ℕ) (before : List ℕ) → (last < q * 2 ^ h) ⊎ ((q + 1) * 2 ^ h ≤ first)

@@ -8,10 +8,9 @@ use Rattle.blob_model.specs.declared.call.Outcome.{Outcome}
 use Rattle.blob_model.specs.declared.call.Outcome.TheVariants as Outcomes
 use Rattle.tree_geom.specs.declared.range.Range.{Range}
 use Rattle.tree_geom.specs.declared.node.Node.{Node}
-use Rattle.tree_geom.specs.declared.node.Node.TheVariants.{Inner, Leaf}
 use Rattle.tree_geom.specs.declared.node.Piece.{Piece}
 use Rattle.tree_geom.specs.Geometry.{tree_range, page_range, left_half, right_half, height_of}
-use Rattle.tree_geom.specs.Nodes.{left_link, right_link, back_link}
+use Rattle.tree_geom.specs.Nodes.{left_link, right_link, back_link, is_leaf, start_of, first_of, second_of}
 use Rattle.range_log.specs.Extents.{size_after}
 use Rattle.range_log.specs.Updates.{extents}
 use Rattle.blob_core.specs.World.{World, node_in, kept_at, origin, nth_page}
@@ -77,12 +76,12 @@ leaf_walk (suc most) p w blob j i =
           elim (kept_at w.updates (origin w blob j) j) [
             | None ↦ nothing
             | Some kept ↦
-                elim n [
-                  | Inner l r ↦ nothing
-                  | Leaf start count first second back ↦
+                elim (is_leaf n) [
+                  | false ↦ nothing
+                  | true ↦
                       over
-                      (let older : Walked = elim (back == 0) [ true ↦ nothing | false ↦ leaf_walk most p w blob back i ] in older)
-                      start (bytes_of_piece w kept.pages first ++ bytes_of_piece w kept.pages second)
+                      (let older : Walked = elim (back_link n == 0) [ true ↦ nothing | false ↦ leaf_walk most p w blob (back_link n) i ] in older)
+                      (start_of n) (bytes_of_piece w kept.pages (first_of n) ++ bytes_of_piece w kept.pages (second_of n))
                 ]
           ]
     ]

@@ -6,7 +6,7 @@ ghost use Rattle.blob_model.specs.Store.{assigned, finish, is_finished};
 ghost use Rattle.range_log.specs.Log.{HasNode, size_at as size_in};
 ghost use Rattle.range_log.specs.Extents.{Extent, extent_at};
 ghost use Rattle.range_log.specs.Updates.{Replayable, extents};
-ghost use Rattle.range_log.specs.Rows.{leaf_at, node_of, covers, leaf_start, leaf_len, first_piece, second_piece, piece_count};
+ghost use Rattle.range_log.specs.Rows.{leaf_at, node_of, leaf_start, leaf_len, first_piece, second_piece, piece_count};
 ghost use Rattle.blob_core.specs.World.{log_of};
 ghost use Rattle.blob_core.specs.Steps.{IsAllowed};
 ghost use Rattle.blob_core.specs.Standing.{IsReached};
@@ -20,7 +20,7 @@ use crate::state::{ActFault, State, StoredBlob};
 use crate::updates::{offset_in, size_at, touches_of};
 use range_log::{NoMemory, laws, newest, row_keys};
 use std::alloc::Global;
-use tree_geom::{Node, NodeKey, PageSize, Piece, Range, Touch, halves, span};
+use tree_geom::{Node, NodeKey, PageSize, Piece, Range, Touch, covers_page, halves, span};
 
 /// The pieces of `len` bytes of an update's buffer from byte `from` on, and how many they are.
 ///
@@ -82,17 +82,6 @@ fn leaf(p: PageSize, at: u64, len: u64, page: u64, back: u64) -> Result<Node, No
         second,
         back,
     })
-}
-
-/// Whether an update of `len` bytes at `at` covers the valid bytes of a page, in a blob of `size` bytes.
-fn covers_page(p: PageSize, at: u64, len: u64, size: u64, page: u64) -> bool
-    requires end { at + len ≤ 2 ^ 40 }
-    requires page { page * p ≤ 2 ^ 40 }
-    ensures { result ≡ covers p (record { at = at; len = len }) size page }
-{
-    let begin = page * p.bytes();
-    let end = begin + p.bytes();
-    at.max(begin) == begin && (at + len).min(end) == size.min(end)
 }
 
 /// Where a version's update falls, and how many bytes it has.

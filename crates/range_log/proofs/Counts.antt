@@ -84,6 +84,30 @@ backs_step p v i us =
           ∙ sym (backs-of p b i us)),
     )
 
+-- version 0 has none
+pub backs_zero : (p : ℕ) (us : List Extent) (i : ℕ) → backs_of p us 0 i ≡ 0
+unfolding backs_of backs_from
+backs_zero p us i = refl
+
+-- any version from the newest one of the page on has as many as that one
+pub backs_above : (p : ℕ) (us : List Extent) (v i : ℕ) → newest_of p (touches p us) (suc v) (page_range p i) ≡ newest_of p (touches p us) v (page_range p i) → backs_of p us (suc v) i ≡ backs_of p us v i
+backs_above p us v i same =
+    let j : ℕ = newest_of p (touches p us) v (page_range p i) in
+    let is : IsNewest p (touches p us) v (page_range p i) j = newest_is p (touches p us) v (page_range p i) in
+    backs-of p (suc v) i us
+    ∙ ap (λ n. backs_from (suc v) p us n i) same
+    ∙ fuel (suc v) v p us j i (omega (arith, is.upto)) is.upto
+    ∙ sym (backs-of p v i us)
+
+pub backs_newest : (p : ℕ) (us : List Extent) (v i : ℕ) → backs_of p us (newest_of p (touches p us) v (page_range p i)) i ≡ backs_of p us v i
+backs_newest p us v i =
+    let j : ℕ = newest_of p (touches p us) v (page_range p i) in
+    let is : IsNewest p (touches p us) v (page_range p i) j = newest_is p (touches p us) v (page_range p i) in
+    backs-of p j i us
+    ∙ ap (λ n. backs_from j p us n i) (newest_itself p (touches p us) v (page_range p i))
+    ∙ fuel j v p us j i (omega arith) is.upto
+    ∙ sym (backs-of p v i us)
+
 -- ---- ranges
 in_level : ℕ → ℕ → ℕ → ℕ
 in_level a b h = b / 2 ^ h + 1 - a / 2 ^ h

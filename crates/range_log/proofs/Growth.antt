@@ -9,12 +9,12 @@ use Rattle.blob_model.specs.Content.{Update, content_from, offset_of, size_of}
 use Rattle.tree_geom.specs.declared.range.Range.{Range}
 use Rattle.tree_geom.specs.declared.touch.Touch.{Touch}
 use Rattle.tree_geom.specs.declared.node.Node.TheVariants.{Inner}
-use Rattle.tree_geom.specs.Geometry.{Meets, no_touch, page_range, left_half, right_half, height_of, span_of, touched_by}
+use Rattle.tree_geom.specs.Geometry.{Meets, no_touch, page_range, left_half, right_half, height_of, span_of, covers, touched_by}
 use Rattle.tree_geom.proofs.Touches.{meets_cases}
 use Rattle.range_log.specs.Log.{touch_at, newest_of, IsNewest, HasNode}
 use Rattle.range_log.specs.Extents.{Extent, no_extent, extent_at, size_after, touches}
 use Rattle.range_log.specs.Updates.{update_at, no_update, extents}
-use Rattle.range_log.specs.Rows.{row_keys_of, levels_of, back_of, covers, node_of, leaf_at, leaf_of, inner_of}
+use Rattle.range_log.specs.Rows.{row_keys_of, levels_of, back_of, node_of, leaf_at, leaf_of, inner_of}
 use Rattle.range_log.specs.Visits.{backs_from, backs_of, pages_met, visits}
 use Rattle.range_log.specs.Laws.{NewestAbove, LogsGrow, RowsStay, ExtentsGrow, SizesStay, PlacesStay}
 use Rattle.range_log.proofs.Bytes.{extent_is, length-extents}
@@ -77,7 +77,7 @@ keys_at p t = levels_of p t (suc (height_of p t.size))
 
 -- the back of a leaf, of where its update falls, of the size after it, and of the newest version before it
 back_at : ℕ → Extent → ℕ → ℕ → ℕ → ℕ
-back_at p x size i newest = if covers p x size i then 0 else newest
+back_at p x size i newest = if covers p x.at x.len size i then 0 else newest
 
 -- where an update falls after that size
 abbrev placed_at : Update → ℕ → Extent

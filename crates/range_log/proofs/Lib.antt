@@ -9,5 +9,6 @@ pub mod Bytes
 pub mod Windows
 pub mod Leaves
 pub mod Counts
+pub mod Depths
 pub mod Growth
 pub mod Opens

@@ -8,7 +8,9 @@ use Rattle.tree_geom.specs.declared.node.Piece.{Piece}
 use Rattle.tree_geom.specs.Geometry.{height_of, doublings}
 use Rattle.range_log.specs.Log.{newest_of}
 use Rattle.range_log.specs.Extents.{Extent, touches, size_after}
-use Rattle.range_log.specs.Rows.{no_piece, row_of, row_keys_of, levels_of, level_of, back_of, leaf_of}
+use Rattle.tree_geom.specs.Nodes.{no_piece}
+use Rattle.range_log.specs.Rows.{row_of, row_keys_of, levels_of, level_of, back_of, leaf_of}
+use Rattle.range_log.specs.Depths.{depth_of}
 use Rattle.range_log.specs.Visits.{backs_of, backs_from, visits, pages_met}
 
 -- n bytes at a place
@@ -69,3 +71,14 @@ steps-are : steps 4 (w 0 6 ∷ w 6 2 ∷ []) 2 4 4 ∷ steps 4 grown 2 0 32 ∷ 
     ∷ (256 ∷ 8 ∷ 0 ∷ 528 ∷ []) ∷ []
 unfolding newest_of touches row_keys_of levels_of level_of back_of backs_of backs_from height_of doublings
 steps-are = refl
+
+-- how deep the leaves of page 0 lie, version by version
+abbrev depths : List Extent → List ℕ
+depths us = map (λ v. depth_of 4 (touches 4 us) v 0) (range_with_len 1 (length us))
+
+-- 4 bytes, and then one at 0 and one at 1; 1 byte, and then 3 that fill the page without covering it; 6 bytes, and then 2 at
+-- 3; 4 bytes written three times, whole the second time
+depths-are : depths (w 0 4 ∷ w 0 1 ∷ w 1 1 ∷ []) ∷ depths (w 0 1 ∷ w 1 3 ∷ []) ∷ depths joined ∷ depths (w 0 4 ∷ w 1 1 ∷ w 0 4 ∷ w 3 1 ∷ []) ∷ []
+    ≡ (0 ∷ 1 ∷ 2 ∷ []) ∷ (0 ∷ 1 ∷ []) ∷ (0 ∷ 1 ∷ []) ∷ (0 ∷ 1 ∷ 0 ∷ 1 ∷ []) ∷ []
+unfolding touches depth_of
+depths-are = refl

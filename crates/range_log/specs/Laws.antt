@@ -4,12 +4,13 @@ use Rattle.blob_model.specs.Content.{Update, put, content, size_of}
 use Rattle.tree_geom.specs.declared.range.Range.{Range}
 use Rattle.tree_geom.specs.declared.touch.Touch.{Touch}
 use Rattle.tree_geom.specs.Geometry.{tree_range, span_of, page_range, left_half, right_half, Meets}
-use Rattle.tree_geom.specs.Nodes.{left_link, right_link, back_link}
+use Rattle.tree_geom.specs.Nodes.{left_link, right_link, back_link, no_piece}
 use Rattle.range_log.specs.Log.{size_at, HasNode, newest_of, IsNewest, touch_at}
 use Rattle.range_log.specs.Extents.{Extent, InBounds, extent_at, size_after, touch_of, touches}
 use Rattle.range_log.specs.Updates.{update_at, extents, extent_of, Replayable, page_bytes, own_bytes, piece_bytes}
-use Rattle.range_log.specs.Rows.{back_of, covered, row_keys_of, levels_of, leaf_start, leaf_from, leaf_len, first_piece, second_piece, piece_count, no_piece, node_of}
+use Rattle.range_log.specs.Rows.{back_of, covered, row_keys_of, levels_of, leaf_start, leaf_from, leaf_len, first_piece, second_piece, piece_count, node_of}
 use Rattle.range_log.specs.Visits.{backs_of, visits}
+use Rattle.range_log.specs.Depths.{depth_of}
 
 -- ---- logs
 -- the log of some updates has what each of them touches
@@ -197,6 +198,28 @@ BacksStep = (p v i : ℕ) (us : List Extent)
     → (back_of p us (newest_of p (touches p us) v (page_range p i)) i ≡ 0 → backs_of p us v i ≡ 0)
     × (1 ≤ back_of p us (newest_of p (touches p us) v (page_range p i)) i
     → backs_of p us v i ≡ 1 + backs_of p us (back_of p us (newest_of p (touches p us) v (page_range p i)) i) i)
+
+-- ---- depths
+-- The depth of the leaf of page i in the row of version k, which touches the page: 0 where the update covers all valid bytes
+-- of the page, else one more than that of the newest older leaf of the page.
+abbrev pub DepthsStep : Type 0
+DepthsStep = (p k i : ℕ) (us : List Extent) → 1 ≤ p → InBounds us → 1 ≤ k → k ≤ length us → Meets p (touch_at (touches p us) k) (page_range p i)
+    → (covered p us k i ≡ true → depth_of p (touches p us) k i ≡ 0)
+    × (covered p us k i ≡ false
+    → depth_of p (touches p us) k i ≡ 1 + depth_of p (touches p us) (newest_of p (touches p us) (k - 1) (page_range p i)) i)
+
+-- at every version the depth is that of the newest leaf of the page
+abbrev pub DepthOfNewest : Type 0
+DepthOfNewest = (p k i : ℕ) (log : List Touch) → depth_of p log (newest_of p log k (page_range p i)) i ≡ depth_of p log k i
+
+-- a page has as many backs at a version as the depth of its newest leaf says
+abbrev pub DepthCountsBacks : Type 0
+DepthCountsBacks = (p v i : ℕ) (us : List Extent) → 1 ≤ p → InBounds us → v ≤ length us
+    → backs_of p us v i ≡ depth_of p (touches p us) (newest_of p (touches p us) v (page_range p i)) i
+
+-- a longer log says the same of the versions of the shorter one
+abbrev pub DepthsStay : Type 0
+DepthsStay = (p k i : ℕ) (log more : List Touch) → k ≤ length log → depth_of p (log ++ more) k i ≡ depth_of p log k i
 
 -- ---- later updates
 -- a longer log says the same of the versions of the shorter one

@@ -3,5 +3,6 @@ pub mod Extents
 pub mod Updates
 pub mod Rows
 pub mod Visits
+pub mod Depths
 pub mod Laws
 pub mod Open

@@ -1,11 +1,12 @@
-use Rattle.std.specs.Prelude.{ℕ, ◌+◌, ◌-◌, ◌*◌, ◌/◌, ◌%◌, ◌^◌, ◌==◌, ◌&&◌, nat_lt, zero, suc, Bool, List, [], ◌++◌, map, min, max, if◌then◌else◌}
+use Rattle.std.specs.Prelude.{ℕ, ◌+◌, ◌-◌, ◌*◌, ◌/◌, ◌%◌, ◌^◌, ◌==◌, nat_lt, zero, suc, Bool, List, [], ◌++◌, map, min, if◌then◌else◌}
 use Rattle.std.specs.List.{range_with_len}
 use Rattle.tree_geom.specs.declared.range.Range.{Range}
 use Rattle.tree_geom.specs.declared.touch.Touch.{Touch}
 use Rattle.tree_geom.specs.declared.node.Node.{Node}
 use Rattle.tree_geom.specs.declared.node.Node.TheVariants.{Inner, Leaf}
 use Rattle.tree_geom.specs.declared.node.Piece.{Piece}
-use Rattle.tree_geom.specs.Geometry.{tree_range, page_range, left_half, right_half, height_of}
+use Rattle.tree_geom.specs.Geometry.{tree_range, page_range, left_half, right_half, height_of, first_in, end_in, covers}
+use Rattle.tree_geom.specs.Nodes.{no_piece}
 use Rattle.range_log.specs.Log.{touch_at, size_at, newest_of}
 use Rattle.range_log.specs.Extents.{Extent, extent_at, size_after, touches}
 
@@ -26,11 +27,11 @@ row_keys_of p log k = levels_of p (touch_at log k) (suc (height_of p (size_at lo
 -- ---- the leaf of page i of an update that falls at x
 -- the first byte of the blob that the update writes in the page
 abbrev pub leaf_lo : ℕ → Extent → ℕ → ℕ
-leaf_lo p x i = max x.at (i * p)
+leaf_lo p x i = first_in p x.at i
 
 -- the byte after the last one that it writes there
 abbrev pub leaf_hi : ℕ → Extent → ℕ → ℕ
-leaf_hi p x i = min (x.at + x.len) ((i + 1) * p)
+leaf_hi p x i = end_in p x.at x.len i
 
 -- the byte of the page at which the update's own bytes begin
 abbrev pub leaf_start : ℕ → Extent → ℕ → ℕ
@@ -44,13 +45,9 @@ leaf_from p x i = leaf_lo p x i - x.at
 abbrev pub leaf_len : ℕ → Extent → ℕ → ℕ
 leaf_len p x i = leaf_hi p x i - leaf_lo p x i
 
--- they are all valid bytes of the page, in a blob of that size
-abbrev pub covers : ℕ → Extent → ℕ → ℕ → Bool
-covers p x size i = leaf_lo p x i == i * p && leaf_hi p x i == min size ((i + 1) * p)
-
 -- update k covers all valid bytes of page i at version k
 abbrev pub covered : ℕ → List Extent → ℕ → ℕ → Bool
-covered p us k i = covers p (extent_at us k) (size_after us k) i
+covered p us k i = covers p (extent_at us k).at (extent_at us k).len (size_after us k) i
 
 -- the newest older version that touches the page, or 0 where the update covers it
 unfoldable pub back_of : ℕ → List Extent → ℕ → ℕ → ℕ
@@ -60,9 +57,6 @@ back_of p us k i = if covered p us k i then 0 else newest_of p (touches p us) (k
 -- those in the stored page of byte b
 abbrev pub first_piece : ℕ → ℕ → ℕ → Piece
 first_piece p b n = record { page = b / p; from = b % p; len = min (p - b % p) n }
-
-abbrev pub no_piece : Piece
-no_piece = record { page = 0; from = 0; len = 0 }
 
 -- the rest, in the next stored page; all zeros where none is left
 abbrev pub second_piece : ℕ → ℕ → ℕ → Piece

@@ -1,6 +1,6 @@
 //! The laws of the rows of a blob's versions, over every list of updates in which each begins at the size before it at the
 //! latest. Each is the contract of a function that does nothing.
-ghost use Rattle.range_log.specs.Laws.{LinksNameNodes, LinksLead, BacksLead, NoHoles, LinksHaveNoHoles, BacksHaveNoHoles, PageBytesStay, ExtentsStand, LeavesFill, LeavesFit, PiecesJoin, PiecesFit, NewestIsGreatest, LinksAgree, NewestAbove, NewestOfNone, NewestHits, NewestMisses, NewestHasNode, NewestIsSome, NewestIsNone, TouchesAre, EachTouchIs, SizesAre, LogsAreGrown, RowKeysExact, RowKeysInOrder, LevelsAreFew, BacksStep, LogsGrow, RowsStay, ExtentsGrow, SizesStay, PlacesStay, ExtentsAre, EachExtentIs, ContentsGrow};
+ghost use Rattle.range_log.specs.Laws.{LinksNameNodes, LinksLead, BacksLead, NoHoles, LinksHaveNoHoles, BacksHaveNoHoles, PageBytesStay, ExtentsStand, LeavesFill, LeavesFit, PiecesJoin, PiecesFit, NewestIsGreatest, LinksAgree, NewestAbove, NewestOfNone, NewestHits, NewestMisses, NewestHasNode, NewestIsSome, NewestIsNone, TouchesAre, EachTouchIs, SizesAre, LogsAreGrown, RowKeysExact, RowKeysInOrder, LevelsAreFew, BacksStep, DepthsStep, DepthOfNewest, DepthCountsBacks, DepthsStay, LogsGrow, RowsStay, ExtentsGrow, SizesStay, PlacesStay, ExtentsAre, EachExtentIs, ContentsGrow};
 
 /// Each link or back of a row that isn't 0 names a version whose row has a node for the link's range.
 pub fn links_name_nodes()
@@ -74,6 +74,14 @@ pub fn row_keys_exact()
 /// A page has one back more than from the leaf that its newest leaf leads back to.
 pub fn backs_step()
     ensures { BacksStep }
+{}
+
+/// A page has as many backs at a version as the depth of its newest leaf says.
+pub fn depth_counts_backs()
+    ensures backs { DepthCountsBacks }
+    ensures step { DepthsStep }
+    ensures newest { DepthOfNewest }
+    ensures stay { DepthsStay }
 {}
 
 /// What later updates leave: the newest version of a range that they don't touch, and all that is said of older versions.

@@ -4,7 +4,8 @@ use Rattle.std.proofs.lemmas.Bool.{cases_lt}
 use Rattle.std.specs.Prelude.{nat_lt, if◌then◌else◌}
 use Rattle.std.proofs.lemmas.Bool.Decides.{nat_tests}
 use Rattle.tree_geom.specs.declared.node.Piece.{Piece}
-use Rattle.range_log.specs.Rows.{first_piece, second_piece, no_piece}
+use Rattle.tree_geom.specs.Nodes.{no_piece}
+use Rattle.range_log.specs.Rows.{first_piece, second_piece}
 use Rattle.range_reader.specs.Filling.{Overlaid, Taken}
 
 module _ (start a b from begin : ℕ) (bytes : List ℕ) (m0 m1 m2 : List Bool) where

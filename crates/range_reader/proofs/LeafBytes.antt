@@ -3,11 +3,11 @@ use Rattle.std.proofs.Common.{◌≡◌, ◌⊎◌, ℕ, zero, suc, ◌+◌, ◌
 use Rattle.std.proofs.lemmas.Bool.Decides.{nat_tests}
 use Rattle.std.proofs.lemmas.List.{get_or-take, get_or-drop, get_or_append_left, get_or-append_right, length-take-le}
 use Rattle.blob_model.specs.Content.{Update, put, size_of}
-use Rattle.tree_geom.specs.Geometry.{page_range}
+use Rattle.tree_geom.specs.Geometry.{page_range, covers}
 use Rattle.range_log.specs.Log.{HasNode, newest_of}
 use Rattle.range_log.specs.Extents.{Extent, extent_at, size_after, touches}
 use Rattle.range_log.specs.Updates.{update_at, extents, extent_of, Replayable, page_bytes}
-use Rattle.range_log.specs.Rows.{leaf_lo, leaf_start, leaf_from, leaf_len, covers, covered, back_of}
+use Rattle.range_log.specs.Rows.{leaf_lo, leaf_start, leaf_from, leaf_len, covered, back_of}
 use Rattle.range_log.specs.Laws.{LeavesFill, LeavesFit, PageBytesStay, ExtentsStand}
 use Rattle.range_reader.proofs.Parts.{part_read, length_part}
 use Rattle.range_log.proofs.Bytes.{extent_is}
@@ -49,7 +49,7 @@ pub record LeafIs (p k i : ℕ) (us : List Update) (y : Extent) : Type 0 where
       × (page_bytes p us k i ≡ put (page_bytes p us (back_of p (extents us) k i) i) (leaf_start p y i) (own_of p y i (update_at us k).bytes))
 
 -- where an update covers its page, its bytes there begin with the page
-starts_first : (p : ℕ) (x : Extent) (size i : ℕ) → covers p x size i ≡ true → leaf_start p x i ≡ 0
+starts_first : (p : ℕ) (x : Extent) (size i : ℕ) → covers p x.at x.len size i ≡ true → leaf_start p x i ≡ 0
 starts_first p x size i is = let e : leaf_lo p x i ≡ i * p = grind (arith, nat_tests) in omega (arith, e)
 
 back_is : (p k i : ℕ) (xs : List Extent) → covered p xs k i ≡ false → back_of p xs k i ≡ newest_of p (touches p xs) (k - 1) (page_range p i)
@@ -74,7 +74,7 @@ leaf_is fill fit stay stand p (suc m) i us pos ok has le =
       fits = f.2;
       some = f.0;
       inside = f.1;
-      whole = λ is. (starts_first p x (size_after xs (suc m)) i (let C : Extent → Type 0 = λ y. covers p y (size_after xs (suc m)) i ≡ true in subst C e is), both.0 is);
+      whole = λ is. (starts_first p x (size_after xs (suc m)) i (let C : Extent → Type 0 = λ y. covers p y.at y.len (size_after xs (suc m)) i ≡ true in subst C e is), both.0 is);
       over = λ un.
           let back : ℕ = back_of p xs (suc m) i in
           let before : suc m - 1 ≡ m = omega arith in

@@ -1,8 +1,8 @@
 -- What a read says of the doors' counts, and why it answers a page fault.
 use Rattle.std.specs.Prelude.{◌≡◌, ◌⊎◌, ℕ, ◌+◌, ◌-◌, ◌/◌, ◌≤◌, List, All, Some, slice_get}
 use Rattle.tree_geom.specs.declared.node.Node.{Node}
-use Rattle.tree_geom.specs.declared.node.Node.TheVariants.{Inner, Leaf}
 use Rattle.tree_geom.specs.Geometry.{page_range}
+use Rattle.tree_geom.specs.Nodes.{count_of, first_of, second_of}
 use Rattle.range_log.specs.Rows.{back_of, node_of}
 use Rattle.page_store.specs.Page.{Place}
 use Rattle.page_store.specs.Stored.{Stored}
@@ -22,8 +22,7 @@ pub data IsLedTo (s : Version) (i : ℕ) : ℕ → Type 0 where
 
 -- a piece of the leaf lies in stored page q
 abbrev pub HasPieceIn : Node → ℕ → Type 0
-HasPieceIn (Inner left right) q = ⊥
-HasPieceIn (Leaf start count first second back) q = (first.page ≡ q) ⊎ ((count ≡ 2) × (second.page ≡ q))
+HasPieceIn n q = ((1 ≤ count_of n) × ((first_of n).page ≡ q)) ⊎ ((count_of n ≡ 2) × ((second_of n).page ≡ q))
 
 -- blob page i needs stored page q of update j: a leaf of the page by which the walk goes has a piece in it
 pub record Needs (s : Version) (i j q : ℕ) : Type 0 where

@@ -21,7 +21,8 @@ use Rattle.range_log.specs.Laws.{RowsStay}
 use Rattle.node_store.specs.Rows.{UpdateRow}
 use Rattle.range_log.proofs.Grown.{touch-touches}
 use Rattle.range_log.proofs.Bytes.{content_next, length-extents, extent_is}
-use Rattle.snapshot.specs.Versions.{row_at, pairs_of, same_range, start_of, start_in, written, updates, IsRowOf}
+use Rattle.tree_geom.specs.Nodes.{start_of}
+use Rattle.snapshot.specs.Versions.{row_at, pairs_of, same_range, start_in, written, updates, IsRowOf}
 use Rattle.snapshot.specs.Laws.{AreRowsOf, TellUpdates}
 use Rattle.snapshot.proofs.Lists.{length-updates, update_told, map_range}
 use Rattle.snapshot.proofs.Growing.{touch_stays, row_stays}

@@ -6,9 +6,9 @@ use Rattle.blob_model.specs.Content.{Update, size_of}
 use Rattle.blob_model.specs.declared.call.Place.TheVariants.{WriteAt}
 use Rattle.tree_geom.specs.declared.range.Range.{Range}
 use Rattle.tree_geom.specs.declared.node.Node.{Node}
-use Rattle.tree_geom.specs.declared.node.Node.TheVariants.{Inner, Leaf}
 use Rattle.tree_geom.specs.declared.node.NodeKey.{NodeKey}
 use Rattle.tree_geom.specs.Geometry.{page_range, no_touch, span_of, IsPageSize}
+use Rattle.tree_geom.specs.Nodes.{start_of}
 use Rattle.range_log.specs.Log.{HasNode, touch_at}
 use Rattle.range_log.specs.Extents.{touches}
 use Rattle.range_log.specs.Updates.{update_at, extents, Replayable}
@@ -53,11 +53,6 @@ pairs_of row = map (λ (n : PlacedNode). (n.key.range, n.node)) row.nodes
 -- the bytes of the row's pages
 abbrev pub bytes_of : UpdateRow → List ℕ
 bytes_of row = joined row.pages.pages
-
--- the byte of the page at which a leaf's own bytes begin
-abbrev pub start_of : Node → ℕ
-start_of (Inner left right) = 0
-start_of (Leaf start count first second back) = start
 
 abbrev pub same_range : Range → Range → Bool
 same_range a b = a.offset == b.offset && a.size == b.size

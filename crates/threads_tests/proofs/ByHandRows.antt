@@ -1,5 +1,5 @@
 -- The rows of the tests, by the definitions.
-use Rattle.std.proofs.Common.{ℕ, zero, suc, List, [], ◌∷◌, ◌++◌, arith, refl, lit≤}
+use Rattle.std.proofs.Common.{ℕ, zero, suc, List, [], ◌∷◌, ◌++◌, arith, refl, lit≤, true, false}
 use Rattle.blob_model.specs.Content.{Update}
 use Rattle.tree_geom.specs.declared.range.Range.{Range}
 use Rattle.tree_geom.specs.declared.touch.Touch.{Touch}
@@ -21,7 +21,7 @@ unfolding extents touches newest_of row_keys_of levels_of level_of back_of heigh
 six_next = record { nodes = refl; touched = refl; in_bounds = six_bounds; fits = lit≤ tt }
 
 abbrev pub more_touch : Touch
-more_touch = record { first = 1; last = 1; size = 8 }
+more_touch = record { first = 1; last = 1; size = 8; open_first = true; open_last = true }
 
 abbrev pub more_pairs : List (Range × Node)
 more_pairs = (at_range 0 8, Inner 1 2) ∷ (at_range 4 4, one_piece 2 0 0 2 1) ∷ []
@@ -35,21 +35,27 @@ pub more_next : IsNext after_six more_touch (88 ∷ 89 ∷ []) more_pairs
 unfolding extents touches newest_of row_keys_of levels_of level_of back_of height_of doublings
 more_next = record { nodes = refl; touched = refl; in_bounds = more_bounds; fits = lit≤ tt }
 
+abbrev pub over_touch : Touch
+over_touch = record { first = 0; last = 1; size = 6; open_first = true; open_last = true }
+
 abbrev pub over_pairs : List (Range × Node)
 over_pairs = (at_range 0 8, Inner 2 2) ∷ (at_range 0 4, one_piece 3 0 0 1 1) ∷ (at_range 4 4, one_piece 0 0 1 1 1) ∷ []
 
-over_bounds : Replayable (after_six ++ told six_touch (255 ∷ 255 ∷ []) over_pairs ∷ [])
+over_bounds : Replayable (after_six ++ told over_touch (255 ∷ 255 ∷ []) over_pairs ∷ [])
 over_bounds zero lt = (lit≤ tt, lit≤ tt)
 over_bounds (suc zero) lt = (lit≤ tt, lit≤ tt)
 over_bounds (suc (suc k)) lt = absurd (omega arith)
 
-pub over_next : IsNext after_six six_touch (255 ∷ 255 ∷ []) over_pairs
+pub over_next : IsNext after_six over_touch (255 ∷ 255 ∷ []) over_pairs
 unfolding extents touches newest_of row_keys_of levels_of level_of back_of height_of doublings
 over_next = record { nodes = refl; touched = refl; in_bounds = over_bounds; fits = lit≤ tt }
 
 -- ---- four bytes, and then two of them written anew
 abbrev pub four_touch : Touch
-four_touch = record { first = 0; last = 0; size = 4 }
+four_touch = record { first = 0; last = 0; size = 4; open_first = false; open_last = false }
+
+abbrev pub part_touch : Touch
+part_touch = record { first = 0; last = 0; size = 4; open_first = true; open_last = true }
 
 abbrev pub leaf_pairs : ℕ → ℕ → ℕ → List (Range × Node)
 leaf_pairs start len back = (at_range 0 4, one_piece start 0 0 len back) ∷ []
@@ -69,23 +75,23 @@ unfolding extents touches newest_of row_keys_of levels_of level_of back_of heigh
 four_next = record { nodes = refl; touched = refl; in_bounds = four_bounds; fits = lit≤ tt }
 
 abbrev pub after_first : List Update
-after_first = after_four ++ told four_touch (255 ∷ []) (leaf_pairs 0 1 1) ∷ []
+after_first = after_four ++ told part_touch (255 ∷ []) (leaf_pairs 0 1 1) ∷ []
 
 first_bounds : Replayable after_first
 first_bounds zero lt = (lit≤ tt, lit≤ tt)
 first_bounds (suc zero) lt = (lit≤ tt, lit≤ tt)
 first_bounds (suc (suc k)) lt = absurd (omega arith)
 
-pub first_next : IsNext after_four four_touch (255 ∷ []) (leaf_pairs 0 1 1)
+pub first_next : IsNext after_four part_touch (255 ∷ []) (leaf_pairs 0 1 1)
 unfolding extents touches newest_of row_keys_of levels_of level_of back_of height_of doublings
 first_next = record { nodes = refl; touched = refl; in_bounds = first_bounds; fits = lit≤ tt }
 
-second_bounds : Replayable (after_first ++ told four_touch (254 ∷ []) (leaf_pairs 1 1 2) ∷ [])
+second_bounds : Replayable (after_first ++ told part_touch (254 ∷ []) (leaf_pairs 1 1 2) ∷ [])
 second_bounds zero lt = (lit≤ tt, lit≤ tt)
 second_bounds (suc zero) lt = (lit≤ tt, lit≤ tt)
 second_bounds (suc (suc zero)) lt = (lit≤ tt, lit≤ tt)
 second_bounds (suc (suc (suc k))) lt = absurd (omega arith)
 
-pub second_next : IsNext after_first four_touch (254 ∷ []) (leaf_pairs 1 1 2)
+pub second_next : IsNext after_first part_touch (254 ∷ []) (leaf_pairs 1 1 2)
 unfolding extents touches newest_of row_keys_of levels_of level_of back_of height_of doublings
 second_next = record { nodes = refl; touched = refl; in_bounds = second_bounds; fits = lit≤ tt }

@@ -1,5 +1,5 @@
 -- Rows that are built by hand, in pages of four bytes.
-use Rattle.std.specs.Prelude.{◌≡◌, ℕ, ◌+◌, ◌*◌, ◌^◌, ◌≤◌, List, [], ◌∷◌, ◌++◌, length, All}
+use Rattle.std.specs.Prelude.{◌≡◌, false, ℕ, ◌+◌, ◌*◌, ◌^◌, ◌≤◌, List, [], ◌∷◌, ◌++◌, length, All}
 use Rattle.boxcar.specs.Table.{Shelves}
 use Rattle.blob_model.specs.Content.{Update, size_of}
 use Rattle.blob_model.specs.declared.call.Place.TheVariants.{WriteAt}
@@ -8,10 +8,11 @@ use Rattle.tree_geom.specs.declared.touch.Touch.{Touch}
 use Rattle.tree_geom.specs.declared.node.Node.{Node}
 use Rattle.tree_geom.specs.declared.node.Node.TheVariants.{Inner, Leaf}
 use Rattle.tree_geom.specs.Geometry.{page_range}
+use Rattle.tree_geom.specs.Nodes.{no_piece}
 use Rattle.range_log.specs.Log.{touch_at}
 use Rattle.range_log.specs.Extents.{touches}
 use Rattle.range_log.specs.Updates.{extents, Replayable}
-use Rattle.range_log.specs.Rows.{row_of, no_piece}
+use Rattle.range_log.specs.Rows.{row_of}
 use Rattle.page_store.specs.Stored.{Cut}
 use Rattle.node_store.specs.House.{IsIn}
 use Rattle.node_store.specs.Order.{Before}
@@ -55,7 +56,7 @@ abcdef = 97 ∷ 98 ∷ 99 ∷ 100 ∷ 101 ∷ 102 ∷ []
 
 -- six bytes
 abbrev pub six_touch : Touch
-six_touch = record { first = 0; last = 1; size = 6 }
+six_touch = record { first = 0; last = 1; size = 6; open_first = false; open_last = false }
 
 abbrev pub six_pairs : List (Range × Node)
 six_pairs = (at_range 0 8, Inner 1 1) ∷ (at_range 0 4, one_piece 0 0 0 4 0) ∷ (at_range 4 4, one_piece 0 1 0 2 0) ∷ []

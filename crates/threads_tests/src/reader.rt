@@ -165,6 +165,8 @@ fn six<R: Threads + Wait + Sync>(
         first: 0,
         last: 1,
         size: 6,
+        open_first: false,
+        open_last: false,
     };
     let rest = Node::Leaf {
         start: 0,
@@ -205,6 +207,8 @@ fn two_more<R: Threads + Wait + Sync>(
         first: 1,
         last: 1,
         size: 8,
+        open_first: true,
+        open_last: true,
     };
     let by_hand = [
         (range_of(0, 8), Node::Inner { left: 1, right: 2 }),
@@ -233,6 +237,8 @@ fn two_over<R: Threads + Wait + Sync>(
         first: 0,
         last: 1,
         size: 6,
+        open_first: true,
+        open_last: true,
     };
     let by_hand = [
         (range_of(0, 8), Node::Inner { left: 2, right: 2 }),
@@ -262,16 +268,23 @@ fn three_writes<R: Threads + Wait + Sync>(
         first: 0,
         last: 0,
         size: 4,
+        open_first: false,
+        open_last: false,
     };
     let pages = pages_of(rt, alloc, doors, houses, b"abcd")?;
     let four = [(range_of(0, 4), leaf_of(0, 0, 4, 0))];
     let one = next_version(rt, alloc, &none, nodes, pages, touch, &four)?;
+    let part = Touch {
+        open_first: true,
+        open_last: true,
+        ..touch
+    };
     let pages = pages_of(rt, alloc, doors, houses, b"\xff")?;
     let first = [(range_of(0, 4), leaf_of(0, 0, 1, 1))];
-    let two = next_version(rt, alloc, &one, nodes, pages, touch, &first)?;
+    let two = next_version(rt, alloc, &one, nodes, pages, part, &first)?;
     let pages = pages_of(rt, alloc, doors, houses, b"\xfe")?;
     let second = [(range_of(0, 4), leaf_of(1, 0, 1, 2))];
-    next_version(rt, alloc, &two, nodes, pages, touch, &second)
+    next_version(rt, alloc, &two, nodes, pages, part, &second)
 }
 
 // Reads into `out`, and tells the node steps.

@@ -2,3 +2,4 @@ pub mod Spans
 pub mod Pages
 pub mod Touches
 mod Rows
+pub mod Covers

@@ -1,4 +1,4 @@
-use Rattle.std.specs.Prelude.{◌≡◌, ℕ, ◌+◌, ◌-◌, ◌*◌, ◌/◌, ◌^◌, ◌<◌, ◌≤◌, zero, suc, nat_lt, nat_le, ◌==◌, ◌&&◌, Bool, true, false, if◌then◌else◌}
+use Rattle.std.specs.Prelude.{◌≡◌, ℕ, ◌+◌, ◌-◌, ◌*◌, ◌/◌, ◌^◌, ◌<◌, ◌≤◌, zero, suc, min, max, nat_lt, nat_le, ◌==◌, ◌&&◌, ◌||◌, not, Bool, true, false, if◌then◌else◌}
 use Rattle.tree_geom.specs.declared.range.Range.{Range}
 use Rattle.tree_geom.specs.declared.touch.Touch.{Touch}
 
@@ -44,14 +44,38 @@ left_half r = record { offset = r.offset; size = r.size / 2 }
 abbrev pub right_half : Range → Range
 right_half r = record { offset = r.offset + r.size / 2; size = r.size / 2 }
 
+-- ---- the bytes of an update in a page
+-- the first byte of the blob that the bytes from at on have in page i
+abbrev pub first_in : ℕ → ℕ → ℕ → ℕ
+first_in p at i = max at (i * p)
+
+-- the byte after the last one that the len bytes from at on have in page i
+abbrev pub end_in : ℕ → ℕ → ℕ → ℕ → ℕ
+end_in p at len i = min (at + len) ((i + 1) * p)
+
+-- they are all valid bytes of the page, in a blob of that size
+abbrev pub covers : ℕ → ℕ → ℕ → ℕ → ℕ → Bool
+covers p at len size i = first_in p at i == i * p && end_in p at len i == min size ((i + 1) * p)
+
 -- ---- touched pages
--- the pages of the bytes at to at + len - 1, in a blob of that size
+-- the pages of the bytes at to at + len - 1, in a blob of that size, and whether they leave valid bytes of the first or of
+-- the last one to older leaves
 abbrev pub touched_by : ℕ → ℕ → ℕ → ℕ → Touch
-touched_by p at len size = record { first = at / p; last = (at + len - 1) / p; size = size }
+touched_by p at len size = record {
+  first = at / p;
+  last = (at + len - 1) / p;
+  size = size;
+  open_first = not (covers p at len size (at / p));
+  open_last = not (covers p at len size ((at + len - 1) / p));
+}
+
+-- whether the update leaves valid bytes of page i, which it touches, to older leaves
+abbrev pub leaves_open : Touch → ℕ → Bool
+leaves_open t i = (i == t.first && t.open_first) || (i == t.last && t.open_last)
 
 -- what stands in place of the touch of version 0, which has none
 abbrev pub no_touch : Touch
-no_touch = record { first = 0; last = 0; size = 0 }
+no_touch = record { first = 0; last = 0; size = 0; open_first = false; open_last = false }
 
 -- the range isn't empty, begins before the touched pages end, and ends after they begin
 abbrev pub Meets : ℕ → Touch → Range → Type 0

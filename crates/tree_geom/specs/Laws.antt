@@ -1,7 +1,7 @@
-use Rattle.std.specs.Prelude.{◌≡◌, ◌⊎◌, ℕ, ◌+◌, ◌*◌, ◌/◌, ◌^◌, ◌<◌, ◌≤◌, suc, true, false}
+use Rattle.std.specs.Prelude.{◌≡◌, ◌⊎◌, ℕ, ◌+◌, ◌-◌, ◌*◌, ◌/◌, ◌^◌, ◌<◌, ◌≤◌, suc, not, true, false}
 use Rattle.tree_geom.specs.declared.range.Range.{Range}
 use Rattle.tree_geom.specs.declared.touch.Touch.{Touch}
-use Rattle.tree_geom.specs.Geometry.{IsPageSize, IsHeight, height_of, span_of, tree_range, page_range, left_half, right_half, Meets, meets_of}
+use Rattle.tree_geom.specs.Geometry.{IsPageSize, IsHeight, height_of, span_of, tree_range, page_range, left_half, right_half, covers, touched_by, leaves_open, Meets, meets_of}
 
 -- ---- spans
 -- the height of a size is the least at which a tree holds it
@@ -66,3 +66,9 @@ MeetsIsFalse = (p : ℕ) (t : Touch) (r : Range) → ¬ Meets p t r → meets_of
 
 abbrev pub MeetsOrNot : Type 0
 MeetsOrNot = (p : ℕ) (t : Touch) (r : Range) → Meets p t r ⊎ (¬ Meets p t r)
+
+-- an update covers all valid bytes of each page that it touches, its first and its last page apart, and its touch tells of
+-- these two whether it does
+abbrev pub TouchesTellCover : Type 0
+TouchesTellCover = (p at len size i : ℕ) → 1 ≤ p → 1 ≤ len → at + len ≤ size → at / p ≤ i → i ≤ (at + len - 1) / p
+    → leaves_open (touched_by p at len size) i ≡ not (covers p at len size i)

@@ -1,6 +1,7 @@
-use Rattle.std.specs.Prelude.{ℕ}
+use Rattle.std.specs.Prelude.{ℕ, Bool, true, false}
 use Rattle.tree_geom.specs.declared.node.Node.{Node}
 use Rattle.tree_geom.specs.declared.node.Node.TheVariants.{Inner, Leaf}
+use Rattle.tree_geom.specs.declared.node.Piece.{Piece}
 
 -- the version that a node links to for the lower half of its range; a leaf has no such link
 abbrev pub left_link : Node → ℕ
@@ -16,3 +17,32 @@ right_link (Leaf start count first second back) = 0
 abbrev pub back_link : Node → ℕ
 back_link (Inner left right) = 0
 back_link (Leaf start count first second back) = back
+
+-- whether a node is a leaf
+abbrev pub is_leaf : Node → Bool
+is_leaf (Inner left right) = false
+is_leaf (Leaf start count first second back) = true
+
+-- the byte of the page at which a leaf's own bytes begin; an inner node has none
+abbrev pub start_of : Node → ℕ
+start_of (Inner left right) = 0
+start_of (Leaf start count first second back) = start
+
+-- how many pieces a leaf has; an inner node has none
+abbrev pub count_of : Node → ℕ
+count_of (Inner left right) = 0
+count_of (Leaf start count first second back) = count
+
+-- what stands in place of a piece that there is none of
+abbrev pub no_piece : Piece
+no_piece = record { page = 0; from = 0; len = 0 }
+
+-- a leaf's first piece
+abbrev pub first_of : Node → Piece
+first_of (Inner left right) = no_piece
+first_of (Leaf start count first second back) = first
+
+-- a leaf's second piece
+abbrev pub second_of : Node → Piece
+second_of (Inner left right) = no_piece
+second_of (Leaf start count first second back) = second

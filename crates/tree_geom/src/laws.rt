@@ -1,5 +1,5 @@
 //! The laws of pages and ranges that the crates above rest on. Each is the contract of a function that does nothing.
-ghost use Rattle.tree_geom.specs.Laws.{PagesHaveBytes, HeightsHold, SpanOfNone, SpanOfSome, SpansHold, WithinSpan, PageWithin, RangesHaveBytes, HeightsHalve, PagesAlign, LowHalvesAlign, HighHalvesAlign, RangesNest, MeetsIsTrue, MeetsIsFalse, MeetsOrNot};
+ghost use Rattle.tree_geom.specs.Laws.{PagesHaveBytes, HeightsHold, SpanOfNone, SpanOfSome, SpansHold, WithinSpan, PageWithin, RangesHaveBytes, HeightsHalve, PagesAlign, LowHalvesAlign, HighHalvesAlign, RangesNest, MeetsIsTrue, MeetsIsFalse, MeetsOrNot, TouchesTellCover};
 
 /// What the height and the span of a size are, and which ranges are within the span.
 pub fn spans_hold()
@@ -27,4 +27,10 @@ pub fn meets_is_decided()
     ensures met { MeetsIsTrue }
     ensures apart { MeetsIsFalse }
     ensures cases { MeetsOrNot }
+{}
+
+/// Of the pages that an update touches, only the first and the last can have valid bytes that it leaves to older leaves, and
+/// its touch tells of both whether they have.
+pub fn touches_tell_cover()
+    ensures { TouchesTellCover }
 {}

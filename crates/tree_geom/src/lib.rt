@@ -15,4 +15,4 @@ pub use node::{Node, NodeKey, Piece};
 pub use page::{PageSize, height, span};
 pub use range::{Range, halves};
 pub use steps::Steps;
-pub use touch::{Touch, meets, touched};
+pub use touch::{Touch, covers_page, meets, touched};

@@ -12,10 +12,10 @@ use Rattle.tree_geom.specs.declared.range.Range.{Range}
 use Rattle.tree_geom.specs.declared.touch.Touch.{Touch}
 use Rattle.tree_geom.specs.declared.node.Node.{Node}
 use Rattle.tree_geom.specs.declared.node.Node.TheVariants.{Inner}
-use Rattle.tree_geom.specs.Geometry.{tree_range, page_range, left_half, right_half, height_of, touched_by}
+use Rattle.tree_geom.specs.Geometry.{tree_range, page_range, left_half, right_half, height_of, covers, touched_by}
 use Rattle.range_log.specs.Log.{newest_of, touch_at, size_at}
 use Rattle.range_log.specs.Extents.{Extent, no_extent, extent_at, size_after, touches}
-use Rattle.range_log.specs.Rows.{level_of, levels_of, row_keys_of, row_of, node_of, back_of, covers, leaf_at}
+use Rattle.range_log.specs.Rows.{level_of, levels_of, row_keys_of, row_of, node_of, back_of, leaf_at}
 use Rattle.range_log.specs.Laws.{Before, EachTouchIs, SizesAre, RowKeysInOrder}
 use Rattle.border_hints.specs.Numbered.{NumberedUpdate, own_touch, log_upto, StandsFor, IsNumbered}
 use Rattle.tree_weaver.specs.Planned.{own_extent, own_node, own_nodes, InRowOrder}
@@ -24,7 +24,7 @@ use Rattle.tree_weaver.specs.Planned.{own_extent, own_node, own_nodes, InRowOrde
 -- a node, by where the update falls, the touches, the size after it and its version
 made_node : ℕ → Extent → List Touch → ℕ → ℕ → Range → Node
 made_node p x log n k r =
-    if r.size == p then leaf_at p x (r.offset / p) (if covers p x n (r.offset / p) then 0 else newest_of p log (k - 1) (page_range p (r.offset / p)))
+    if r.size == p then leaf_at p x (r.offset / p) (if covers p x.at x.len n (r.offset / p) then 0 else newest_of p log (k - 1) (page_range p (r.offset / p)))
     else Inner (newest_of p log k (left_half r)) (newest_of p log k (right_half r))
 
 made_of : (p : ℕ) (us : List Extent) (k : ℕ) (r : Range) → node_of p us k r ≡ made_node p (extent_at us k) (touches p us) (size_after us k) k r

@@ -1,16 +1,15 @@
 -- The ranges of a row's nodes, and the parts of its leaves.
 use Rattle.std.proofs.Common.{◌≡◌, ◌⊎◌, ℕ, zero, suc, ◌+◌, ◌-◌, ◌*◌, ◌/◌, ◌%◌, ◌^◌, ◌<◌, ◌≤◌, List, length, max, min, arith, inl, inr, refl, ap, sym, subst, ◌∙◌, true, false, Bool}
-use Rattle.std.specs.Prelude.{◌==◌, if◌then◌else◌}
-use Rattle.std.proofs.lemmas.Bool.{cases_lt, false≢true}
+use Rattle.std.specs.Prelude.{◌==◌, not, if◌then◌else◌}
+use Rattle.std.proofs.lemmas.Bool.{cases_lt, cases_order, false≢true}
 use Rattle.std.proofs.lemmas.Bool.Decides.{nat_tests}
 use Rattle.std.proofs.lemmas.Nat.{mul-le, pow_pos}
 use Rattle.std.proofs.Math.Nat.{pow-succ', pow-le-pow_right, div-mul-le_self, lt-div-mul-add, mul-div_cancel}
 use Rattle.tree_geom.specs.declared.range.Range.{Range}
 use Rattle.tree_geom.specs.declared.touch.Touch.{Touch}
-use Rattle.tree_geom.specs.Geometry.{tree_range, page_range, height_of, span_of, Meets}
-use Rattle.tree_geom.specs.Laws.{HeightsHold, SpanOfSome, RangesNest}
+use Rattle.tree_geom.specs.Geometry.{tree_range, page_range, height_of, span_of, covers, touched_by, leaves_open, Meets}
+use Rattle.tree_geom.specs.Laws.{HeightsHold, SpanOfSome, RangesNest, TouchesTellCover}
 use Rattle.range_log.specs.Log.{newest_of, touch_at}
-use Rattle.range_log.specs.Rows.{covers}
 use Rattle.page_store.specs.Stored.{Cut, joined}
 use Rattle.range_log.specs.Laws.{NewestHits, NewestMisses}
 use Rattle.border_hints.specs.Numbered.{NumberedUpdate, own_touch, log_upto, IsNumbered}
@@ -45,23 +44,20 @@ page_high n p i le =
     omega arith
 
 -- a page that the update touches and doesn't cover is its first or its last
-pub uncovered_edge : (at len p size i : ℕ) → 1 ≤ p → 1 ≤ len → at + len ≤ size → at / p ≤ i → i ≤ (at + len - 1) / p → covers p (record { at = at; len = len }) size i ≡ false
+pub uncovered_edge : TouchesTellCover → (at len p size i : ℕ) → 1 ≤ p → 1 ≤ len → at + len ≤ size → at / p ≤ i → i ≤ (at + len - 1) / p → covers p at len size i ≡ false
     → (i ≡ at / p) ⊎ (i ≡ (at + len - 1) / p)
-uncovered_edge at len p size i pos some fits low high un =
-    elim (cases_lt (at / p) i) [
-      | inr first ↦ inl (omega arith)
-      | inl after ↦ elim (cases_lt i ((at + len - 1) / p)) [
-        | inr last ↦ inr (omega arith)
-        | inl before ↦ absurd (
-            let a : at < at / p * p + p = lt-div-mul-add pos in
-            let b : (at / p + 1) * p ≤ i * p = mul-le (at / p + 1) p i p (omega arith) (omega arith) in
-            let d : (i + 1) * p ≤ (at + len - 1) / p * p = mul-le (i + 1) p ((at + len - 1) / p) p (omega arith) (omega arith) in
-            let e : (at + len - 1) / p * p ≤ at + len - 1 = div-mul-le_self (at + len - 1) p in
-            let lo : max at (i * p) ≡ i * p = omega arith in
-            let hi : min (at + len) ((i + 1) * p) ≡ min size ((i + 1) * p) = omega arith in
-            let whole : covers p (record { at = at; len = len }) size i ≡ true = grind (arith, nat_tests, lo, hi) in
-            let clash : false ≡ true = sym un ∙ whole in
-            false≢true clash)
+uncovered_edge tells at len p size i pos some fits low high un =
+    let t : Touch = touched_by p at len size in
+    let is : leaves_open t i ≡ true = tells p at len size i pos some fits low high ∙ ap not un in
+    elim (cases_order i t.first) [
+      | inl e ↦ inl e
+      | inr past ↦ elim (cases_order i t.last) [
+        | inl e ↦ inr e
+        | inr short ↦
+            let first : (i == t.first) ≡ false = grind (arith, nat_tests, past) in
+            let last : (i == t.last) ≡ false = grind (arith, nat_tests, short) in
+            let none : leaves_open t i ≡ false = rw (first, last) refl in
+            absurd (false≢true (sym none ∙ is))
       ]
     ]
 

@@ -4,10 +4,10 @@ use Rattle.std.specs.List.{AllPairs}
 use Rattle.tree_geom.specs.declared.range.Range.{Range}
 use Rattle.tree_geom.specs.declared.node.Node.{Node}
 use Rattle.tree_geom.specs.declared.node.Node.TheVariants.{Inner}
-use Rattle.tree_geom.specs.Geometry.{page_range, left_half, right_half}
+use Rattle.tree_geom.specs.Geometry.{page_range, left_half, right_half, covers}
 use Rattle.range_log.specs.Log.{newest_of}
 use Rattle.range_log.specs.Extents.{Extent}
-use Rattle.range_log.specs.Rows.{covers, leaf_at}
+use Rattle.range_log.specs.Rows.{leaf_at}
 use Rattle.range_log.specs.Laws.{Before}
 use Rattle.border_hints.specs.Numbered.{NumberedUpdate, own_touch, log_upto}
 use Rattle.border_hints.specs.Borders.{IsRowRange}
@@ -23,7 +23,7 @@ own_link t r = newest_of t.snapshot.page_size (log_upto t) t.version r
 -- the newest version below its own that touches page i, or 0 where it covers the page
 abbrev pub own_back : NumberedUpdate → ℕ → ℕ
 own_back t i =
-    if covers t.snapshot.page_size (own_extent t) t.size i then 0
+    if covers t.snapshot.page_size t.at t.len t.size i then 0
     else newest_of t.snapshot.page_size (log_upto t) (t.version - 1) (page_range t.snapshot.page_size i)
 
 -- its leaf of page i

@@ -1,12 +1,13 @@
 // The nodes of a numbered update.
 ghost use Rattle.std.specs.Prelude.{◌≡◌, ◌+◌, ◌-◌, ◌*◌, ◌/◌, ◌%◌, ◌^◌, ◌<◌, ◌≤◌, ◌↔◌, length, min, IsTrue};
-ghost use Rattle.tree_geom.specs.Geometry.{left_half, right_half};
-ghost use Rattle.range_log.specs.Rows.{covers, first_piece, second_piece, piece_count, leaf_start, leaf_from, leaf_len};
+ghost use Rattle.tree_geom.specs.Geometry.{left_half, right_half, covers};
+ghost use Rattle.range_log.specs.Rows.{first_piece, second_piece, piece_count, leaf_start, leaf_from, leaf_len};
 ghost use Rattle.border_hints.specs.Numbered.{log_upto, own_touch};
 ghost use Rattle.border_hints.specs.Borders.{AreBorders, IsRowRange, IsBorder};
 ghost use Rattle.tree_weaver.specs.Planned.{own_extent, own_link, own_back, own_leaf, own_inner, IsHalf};
 
 use border_hints::{Borders, Ticket};
+use tree_geom::laws::touches_tell_cover;
 use tree_geom::{Node, PageSize, Piece, Range, halves, meets};
 
 // The version that a node links to for a half of its range: the update's own, or else that over the border.
@@ -119,14 +120,11 @@ fn pieces(p: PageSize, from: u64, len: u64) -> (u32, Piece, Piece)
 #[tactic(auto, using(crate::proofs::Shapes::page_low, crate::proofs::Shapes::page_high))]
 fn covers_page(ticket: &Ticket, page: u64) -> bool
     requires last { page ≤ (own_touch ticket.now).last }
-    ensures { result ≡ covers ticket.now.snapshot.page_size (own_extent ticket.now) ticket.now.size page }
+    ensures { result ≡ covers ticket.now.snapshot.page_size ticket.now.at ticket.now.len ticket.now.size page }
 {
     let _version = ticket.version();
-    let size = ticket.hints().snapshot.page_size().bytes();
-    let begin = page * size;
-    let end = begin + size;
-    ticket.at().max(begin) == begin
-        && (ticket.at() + ticket.len()).min(end) == ticket.size().min(end)
+    let p = ticket.hints().snapshot.page_size();
+    tree_geom::covers_page(p, ticket.at(), ticket.len(), ticket.size(), page)
 }
 
 // The newest lower version with a leaf of the page, or 0 where the update covers it. The update touches the page.
@@ -140,6 +138,7 @@ fn back(ticket: &Ticket, borders: &Borders, page: u64) -> u64
     ensures { result ≡ own_back ticket.now page }
 {
     let _version = ticket.version();
+    touches_tell_cover();
     if covers_page(ticket, page) {
         return 0;
     }

@@ -13,6 +13,8 @@ const FIRST: OpenTouch = OpenTouch {
         first: 0,
         last: 0,
         size: 1,
+        open_first: false,
+        open_last: false,
     },
 };
 
@@ -22,6 +24,8 @@ const SECOND: OpenTouch = OpenTouch {
         first: 0,
         last: 7,
         size: 32,
+        open_first: true,
+        open_last: false,
     },
 };
 

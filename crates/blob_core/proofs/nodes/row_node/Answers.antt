@@ -4,10 +4,11 @@ use Rattle.blob_model.specs.Content.{Update}
 use Rattle.tree_geom.specs.declared.range.Range.{Range}
 use Rattle.tree_geom.specs.declared.touch.Touch.{Touch}
 use Rattle.tree_geom.specs.declared.node.Node.{Node}
+use Rattle.tree_geom.specs.Geometry.{covers}
 use Rattle.range_log.specs.Log.{newest_of, size_at}
 use Rattle.range_log.specs.Extents.{Extent, extent_at, size_after, touches}
 use Rattle.range_log.specs.Updates.{extents}
-use Rattle.range_log.specs.Rows.{leaf_len, leaf_start, covered, covers, back_of}
+use Rattle.range_log.specs.Rows.{leaf_len, leaf_start, covered, back_of}
 use Rattle.blob_core.proofs.Growing.{length_log, size_in_log}
 use Rattle.blob_core.proofs.Rowing.{LeafFacts, leaf_facts, log_is, even_size, back_is, leaf_is}
 use Rattle.blob_core.proofs.nodes.row_node.Goals as goal
@@ -98,9 +99,9 @@ returns c =
     c.size_at-size.ensures ∙ ap (λ (l : List Touch). size_at l c.args.version) c.requires.log ∙ size_in_log c.args.p us c.args.version upto in
     let covered_is : c.covers_page.result ≡ covered c.args.p (extents us) c.args.version (c.args.range.offset / c.args.p) =
     c.covers_page.ensures
-    ∙ ap (λ (y : Extent). covers c.args.p y c.size_at-size.result (c.args.range.offset / c.bytes-2.result)) x
-    ∙ ap (λ (n : ℕ). covers c.args.p (extent_at (extents us) c.args.version) n (c.args.range.offset / c.bytes-2.result)) whole
-    ∙ ap (λ (n : ℕ). covers c.args.p (extent_at (extents us) c.args.version) (size_after (extents us) c.args.version) n) i in
+    ∙ ap (λ (y : Extent). covers c.args.p y.at y.len c.size_at-size.result (c.args.range.offset / c.bytes-2.result)) x
+    ∙ ap (λ (n : ℕ). covers c.args.p (extent_at (extents us) c.args.version).at (extent_at (extents us) c.args.version).len n (c.args.range.offset / c.bytes-2.result)) whole
+    ∙ ap (λ (n : ℕ). covers c.args.p (extent_at (extents us) c.args.version).at (extent_at (extents us) c.args.version).len (size_after (extents us) c.args.version) n) i in
     let back : c.if-covers_page.back ≡ back_of c.args.p (extents us) c.args.version (c.args.range.offset / c.args.p) =
     elim c.if-covers_page.branch [
       | then-covers_page w ↦ back_is c.args.p (extents us) c.args.version (c.args.range.offset / c.args.p) c.covers_page.result c.if-covers_page.back covered_is (λ t. w.back-is) (λ t. cc)

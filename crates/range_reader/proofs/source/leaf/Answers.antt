@@ -11,7 +11,7 @@ returns-clause-start g c =
     let pos : 1 ≤ s.page_size = omega (arith, c.page_size.ensures, c.bytes-size.ensures.is, c.bytes-size.ensures.bounds) in
     (let size = c.bytes-size.ensures.is ∙ c.page_size.ensures in
     let made : ℕ → Range = λ n. record { offset = c.args.page * n; size = n } in
-    leaf_parts s.page_size c.args.j c.args.page (falls s) _ _ _ _ _ pos (c.in-Leaf.ensures.node ∙ ap (λ n. node_of s.page_size (falls s) c.args.j (made n)) size)).starts
+    leaf_parts s.page_size c.args.j c.args.page (falls s) _ pos (c.in-Leaf.ensures.node ∙ ap (λ n. node_of s.page_size (falls s) c.args.j (made n)) size)).starts
 
 pub returns-clause-first : goal.returns-clause-first
 returns-clause-first g c =
@@ -19,7 +19,7 @@ returns-clause-first g c =
     let pos : 1 ≤ s.page_size = omega (arith, c.page_size.ensures, c.bytes-size.ensures.is, c.bytes-size.ensures.bounds) in
     (let size = c.bytes-size.ensures.is ∙ c.page_size.ensures in
     let made : ℕ → Range = λ n. record { offset = c.args.page * n; size = n } in
-    leaf_parts s.page_size c.args.j c.args.page (falls s) _ _ _ _ _ pos (c.in-Leaf.ensures.node ∙ ap (λ n. node_of s.page_size (falls s) c.args.j (made n)) size)).one
+    leaf_parts s.page_size c.args.j c.args.page (falls s) _ pos (c.in-Leaf.ensures.node ∙ ap (λ n. node_of s.page_size (falls s) c.args.j (made n)) size)).one
 
 pub returns-clause-second : goal.returns-clause-second
 returns-clause-second g c =
@@ -27,7 +27,7 @@ returns-clause-second g c =
     let pos : 1 ≤ s.page_size = omega (arith, c.page_size.ensures, c.bytes-size.ensures.is, c.bytes-size.ensures.bounds) in
     (let size = c.bytes-size.ensures.is ∙ c.page_size.ensures in
     let made : ℕ → Range = λ n. record { offset = c.args.page * n; size = n } in
-    leaf_parts s.page_size c.args.j c.args.page (falls s) _ _ _ _ _ pos (c.in-Leaf.ensures.node ∙ ap (λ n. node_of s.page_size (falls s) c.args.j (made n)) size)).two
+    leaf_parts s.page_size c.args.j c.args.page (falls s) _ pos (c.in-Leaf.ensures.node ∙ ap (λ n. node_of s.page_size (falls s) c.args.j (made n)) size)).two
 
 pub returns-clause-back : goal.returns-clause-back
 returns-clause-back g c =
@@ -35,4 +35,4 @@ returns-clause-back g c =
     let pos : 1 ≤ s.page_size = omega (arith, c.page_size.ensures, c.bytes-size.ensures.is, c.bytes-size.ensures.bounds) in
     (let size = c.bytes-size.ensures.is ∙ c.page_size.ensures in
     let made : ℕ → Range = λ n. record { offset = c.args.page * n; size = n } in
-    leaf_parts s.page_size c.args.j c.args.page (falls s) _ _ _ _ _ pos (c.in-Leaf.ensures.node ∙ ap (λ n. node_of s.page_size (falls s) c.args.j (made n)) size)).leads
+    leaf_parts s.page_size c.args.j c.args.page (falls s) _ pos (c.in-Leaf.ensures.node ∙ ap (λ n. node_of s.page_size (falls s) c.args.j (made n)) size)).leads

@@ -1,7 +1,7 @@
 use Rattle.std.proofs.Common.{[], ◌∷◌, arith, ap, sym, ◌∙◌, subst}
 use Rattle.page_store.specs.Stored.{joined}
 use Rattle.snapshot.specs.Versions.{Version, updates_of, IsVersionIn}
-use Rattle.threads_tests.proofs.ByHandRows.{four_touch, abcd, leaf_pairs, after_four, after_first, four_next, first_next, second_next}
+use Rattle.threads_tests.proofs.ByHandRows.{four_touch, part_touch, abcd, leaf_pairs, after_four, after_first, four_next, first_next, second_next}
 use Rattle.threads_tests.proofs.HandMade.{next_same, told_same}
 use Rattle.threads_tests.proofs.reader.three_writes.Goals as goal
 
@@ -14,15 +14,15 @@ pub next_version-requires-2-clause-next : goal.next_version-requires-2-clause-ne
 next_version-requires-2-clause-next g c =
     let one = c.in_ok-one.ensures.told
     ∙ told_same (updates_of c.in_ok-none.none) [] four_touch (joined c.in_ok-pages.pages.pages) abcd ((c.range_of.result, c.leaf_of.result) ∷ []) (leaf_pairs 0 4 0) (ap (λ (v : Version). updates_of v) c.in_ok-none.ensures) c.in_ok-pages.ensures.bytes (rw (c.range_of.ensures, c.leaf_of.ensures)) in
-    next_same _ after_four four_touch _ (255 ∷ []) _ (leaf_pairs 0 1 1) one c.in_ok-pages-2.ensures.bytes (rw (c.range_of-2.ensures, c.leaf_of-2.ensures)) first_next
+    next_same _ after_four part_touch _ (255 ∷ []) _ (leaf_pairs 0 1 1) one c.in_ok-pages-2.ensures.bytes (rw (c.range_of-2.ensures, c.leaf_of-2.ensures)) first_next
 
 pub next_version-requires-3-clause-next : goal.next_version-requires-3-clause-next
 next_version-requires-3-clause-next g c =
     let one = c.in_ok-one.ensures.told
     ∙ told_same (updates_of c.in_ok-none.none) [] four_touch (joined c.in_ok-pages.pages.pages) abcd ((c.range_of.result, c.leaf_of.result) ∷ []) (leaf_pairs 0 4 0) (ap (λ (v : Version). updates_of v) c.in_ok-none.ensures) c.in_ok-pages.ensures.bytes (rw (c.range_of.ensures, c.leaf_of.ensures)) in
     let two = c.in_ok-two.ensures.told
-    ∙ told_same (updates_of c.in_ok-one.one) after_four four_touch (joined c.in_ok-pages-2.pages.pages) (255 ∷ []) ((c.range_of-2.result, c.leaf_of-2.result) ∷ []) (leaf_pairs 0 1 1) one c.in_ok-pages-2.ensures.bytes (rw (c.range_of-2.ensures, c.leaf_of-2.ensures)) in
-    next_same _ after_first four_touch _ (254 ∷ []) _ (leaf_pairs 1 1 2) two c.in_ok-pages-3.ensures.bytes (rw (c.range_of-3.ensures, c.leaf_of-3.ensures)) second_next
+    ∙ told_same (updates_of c.in_ok-one.one) after_four part_touch (joined c.in_ok-pages-2.pages.pages) (255 ∷ []) ((c.range_of-2.result, c.leaf_of-2.result) ∷ []) (leaf_pairs 0 1 1) one c.in_ok-pages-2.ensures.bytes (rw (c.range_of-2.ensures, c.leaf_of-2.ensures)) in
+    next_same _ after_first part_touch _ (254 ∷ []) _ (leaf_pairs 1 1 2) two c.in_ok-pages-3.ensures.bytes (rw (c.range_of-3.ensures, c.leaf_of-3.ensures)) second_next
 
 pub returns-clause-here : goal.returns-clause-here
 returns-clause-here g c =

@@ -1,8 +1,9 @@
-use Rattle.std.proofs.Common.{◌≡◌, ℕ, ◌-◌, ◌*◌, ◌≤◌, List, [], ◌++◌, arith, ap, sym, subst, ◌∙◌, Vec, Global}
+use Rattle.std.proofs.Common.{◌≡◌, ℕ, ◌-◌, ◌*◌, ◌≤◌, List, [], ◌++◌, arith, refl, ap, sym, subst, ◌∙◌, Vec, Global}
 use Rattle.std.specs.Prelude.{Option, Some, IfOk}
 use Rattle.blob_model.specs.Content.{put}
 use Rattle.tree_geom.specs.declared.range.Range.{Range}
 use Rattle.tree_geom.specs.declared.node.Node.{Node}
+use Rattle.tree_geom.specs.declared.node.Node.TheVariants.{Inner, Leaf}
 use Rattle.tree_geom.specs.Geometry.{page_range}
 use Rattle.blob_core.specs.World.{World, Kept, kept_at, node_in, origin, origin_of}
 use Rattle.blob_core.specs.Walk.{bytes_of_piece, leaf_walk}
@@ -52,7 +53,7 @@ returns-in_default-node t c =
     ap (λ (o : ℕ). kept_at w.updates o c.args.version) (sym own) ∙ ap (λ (l : List (UpdateKey × Kept)). kept_at l c.origin-numbered_in.result c.args.version) (sym updates) in
     let some : Node → Option Node = λ n. Some n in
     c.new-own.ensures.items
-    ∙ sym (leaf_inner c.args.most c.args.p w c.args.blob c.args.version c.args.page c.in_default-node.field-0 c.in_default-node.field-1 c.in-Some-find_kept.kept.now (at ∙ sym c.in-Some.ensures ∙ ap some c.in_default-node.is) (there ∙ c.in-Some-find_kept.ensures))
+    ∙ sym (leaf_inner c.args.most c.args.p w c.args.blob c.args.version c.args.page (Inner c.in_default-node.field-0 c.in_default-node.field-1) c.in-Some-find_kept.kept.now refl (at ∙ sym c.in-Some.ensures ∙ ap some c.in_default-node.is) (there ∙ c.in-Some-find_kept.ensures))
 
 pub returns : goal.returns
 returns t c =
@@ -85,7 +86,7 @@ returns t c =
       | then-back-eq0 x ↦ absurd (omega arith)
       | else-back-eq0+in_ok-older x ↦ ap (λ (v : Vec ℕ Global). v.items) x.older-is ∙ x.in_ok-older.ensures
     ] in
-    let is = leaf_on c.args.most c.args.p w c.args.blob c.args.version c.args.page c.in-Leaf.start c.in-Leaf.count c.in-Leaf.first c.in-Leaf.second c.in-Leaf.back kept older c.add_piece-2.new.bytes.items (omega arith)
+    let is = leaf_on c.args.most c.args.p w c.args.blob c.args.version c.args.page (Leaf c.in-Leaf.start c.in-Leaf.count c.in-Leaf.first c.in-Leaf.second c.in-Leaf.back) kept older c.add_piece-2.new.bytes.items (omega arith) refl
     (at ∙ sym c.in-Some.ensures ∙ ap some c.in-Leaf.is) (there ∙ c.in-Some-find_kept.ensures) none on own_is in
     let Q : List ℕ → Type 0 = λ x. IfOk c.put_over.result (λ bytes. bytes.items ≡ x) in
     subst Q

@@ -1,0 +1,144 @@
+-- The depth of a leaf, and how many backs lead from it.
+use Rattle.std.proofs.Common.{◌≡◌, ℕ, ◌+◌, ◌-◌, ◌*◌, ◌/◌, ◌<◌, ◌≤◌, zero, suc, List, ◌++◌, length, arith, inl, inr, refl, ap, sym, subst, ◌∙◌, true, false}
+use Rattle.std.specs.Prelude.{not, if◌then◌else◌}
+use Rattle.std.proofs.lemmas.Bool.{cases_lt}
+use Rattle.std.proofs.lemmas.List.{get_or_append_left}
+use Rattle.std.proofs.lemmas.Nat.{mul-le}
+use Rattle.tree_geom.specs.declared.range.Range.{Range}
+use Rattle.tree_geom.specs.declared.touch.Touch.{Touch}
+use Rattle.tree_geom.specs.Geometry.{Meets, page_range, tree_range, no_touch, leaves_open}
+use Rattle.tree_geom.proofs.Touches.{meets_cases, meets_true, meets_false}
+use Rattle.tree_geom.proofs.Covers.{touches_tell_cover}
+use Rattle.tree_geom.proofs.Spans.{page_aligned}
+use Rattle.range_log.specs.Log.{touch_at, newest_of, HasNode}
+use Rattle.range_log.specs.Extents.{Extent, InBounds, extent_at, size_after, touch_of, touches}
+use Rattle.range_log.specs.Rows.{back_of, covered}
+use Rattle.range_log.specs.Visits.{backs_of}
+use Rattle.range_log.specs.Depths.{depth_of, depth_after}
+use Rattle.range_log.specs.Laws.{DepthsStep, DepthOfNewest, DepthCountsBacks, DepthsStay}
+use Rattle.range_log.proofs.Counts.{backs_step, backs_zero, backs_newest, backs_above}
+use Rattle.range_log.proofs.Greatest.{bool_cases, newest_hit, newest_miss, newest_none}
+use Rattle.range_log.proofs.Grown.{grown_updates, length-touches, touch-touches}
+use Rattle.range_log.proofs.Links.{back_none, back_some, backs_have_no_holes, newest_has_node}
+
+-- ---- one update more
+depth_hit : (p : ℕ) (log : List Touch) (k i : ℕ) → Meets p (touch_at log (suc k)) (page_range p i)
+    → depth_of p log (suc k) i ≡ (if leaves_open (touch_at log (suc k)) i then suc (depth_of p log k i) else 0)
+unfolding depth_of
+depth_hit p log k i met = rw (meets_true p (touch_at log (suc k)) (page_range p i) met, depth_of) refl
+
+depth_miss : (p : ℕ) (log : List Touch) (k i : ℕ) → ¬ Meets p (touch_at log (suc k)) (page_range p i) → depth_of p log (suc k) i ≡ depth_of p log k i
+unfolding depth_of
+depth_miss p log k i apart = rw (meets_false p (touch_at log (suc k)) (page_range p i) apart, depth_of) refl
+
+depth_next : (p : ℕ) (log : List Touch) (k i : ℕ) → depth_of p log (suc k) i ≡ depth_after p (touch_at log (suc k)) i (depth_of p log k i)
+unfolding depth_of
+depth_next p log k i = refl
+
+depth_none : (p : ℕ) (log : List Touch) (i : ℕ) → depth_of p log 0 i ≡ 0
+unfolding depth_of
+depth_none p log i = refl
+
+pub depth_of_newest : DepthOfNewest
+depth_of_newest p zero i log = ap (λ n. depth_of p log n i) (newest_none p log (page_range p i))
+depth_of_newest p (suc k) i log =
+    elim (meets_cases p (touch_at log (suc k)) (page_range p i)) [
+      | inl hit ↦ ap (λ n. depth_of p log n i) (newest_hit p log k (page_range p i) hit)
+      | inr miss ↦
+          ap (λ n. depth_of p log n i) (newest_miss p log k (page_range p i) miss)
+          ∙ depth_of_newest p k i log
+          ∙ sym (depth_miss p log k i miss)
+    ]
+
+-- ---- whether the update covers the page
+same_side : (p a b : ℕ) → a * p < b * p + p → a ≤ b
+same_side p a b h =
+    elim (cases_lt b a) [
+      | inl past ↦ absurd (let e : (b + 1) * p ≤ a * p = mul-le (b + 1) p a p (omega arith) (omega arith) in omega arith)
+      | inr upto ↦ upto
+    ]
+
+tells_cover : (p k i : ℕ) (us : List Extent) → 1 ≤ p → InBounds us → k < length us → Meets p (touch_at (touches p us) (suc k)) (page_range p i)
+    → leaves_open (touch_at (touches p us) (suc k)) i ≡ not (covered p us (suc k) i)
+tells_cover p k i us pos bounds lt met =
+    let e : touch_at (touches p us) (suc k) ≡ touch_of p us (suc k) = touch-touches p us k lt in
+    let M : Touch → Type 0 = λ t. Meets p t (page_range p i) in
+    let here : Meets p (touch_of p us (suc k)) (page_range p i) = subst M e met in
+    ap (λ t. leaves_open t i) e
+    ∙ touches_tell_cover p (extent_at us (suc k)).at (extent_at us (suc k)).len (size_after us (suc k)) i pos (bounds k lt).1 (omega arith)
+    (same_side p ((extent_at us (suc k)).at / p) i here.0) (same_side p i (((extent_at us (suc k)).at + (extent_at us (suc k)).len - 1) / p) (omega (arith, here.1)))
+
+depth_covered : (p k i : ℕ) (us : List Extent) → 1 ≤ p → InBounds us → k < length us → Meets p (touch_at (touches p us) (suc k)) (page_range p i)
+    → covered p us (suc k) i ≡ true → depth_of p (touches p us) (suc k) i ≡ 0
+depth_covered p k i us pos bounds lt met whole =
+    let e : leaves_open (touch_at (touches p us) (suc k)) i ≡ false = tells_cover p k i us pos bounds lt met ∙ ap not whole in
+    depth_hit p (touches p us) k i met ∙ ap (λ b. if b then suc (depth_of p (touches p us) k i) else 0) e
+
+depth_open : (p k i : ℕ) (us : List Extent) → 1 ≤ p → InBounds us → k < length us → Meets p (touch_at (touches p us) (suc k)) (page_range p i)
+    → covered p us (suc k) i ≡ false → depth_of p (touches p us) (suc k) i ≡ suc (depth_of p (touches p us) k i)
+depth_open p k i us pos bounds lt met part =
+    let e : leaves_open (touch_at (touches p us) (suc k)) i ≡ true = tells_cover p k i us pos bounds lt met ∙ ap not part in
+    depth_hit p (touches p us) k i met ∙ ap (λ b. if b then suc (depth_of p (touches p us) k i) else 0) e
+
+pub depths_step : DepthsStep
+depths_step p zero i us pos bounds some le met = absurd (omega arith)
+depths_step p (suc k) i us pos bounds some le met = (
+  depth_covered p k i us pos bounds (omega arith) met,
+  λ part.
+      let log : List Touch = touches p us in
+      let e : suc k - 1 ≡ k = omega arith in
+      let down : depth_of p log (newest_of p log (suc k - 1) (page_range p i)) i ≡ depth_of p log k i =
+      ap (λ n. depth_of p log (newest_of p log n (page_range p i)) i) e ∙ depth_of_newest p k i log in
+      omega (arith, depth_open p k i us pos bounds (omega arith) met part, down),
+)
+
+-- ---- backs
+-- where the newest version of a page is the last one, its backs are as deep as the definition says
+backs_hit : (p k i : ℕ) (us : List Extent) → 1 ≤ p → InBounds us → k < length us → Meets p (touch_at (touches p us) (suc k)) (page_range p i)
+    → backs_of p us k i ≡ depth_of p (touches p us) k i → backs_of p us (suc k) i ≡ depth_of p (touches p us) (suc k) i
+backs_hit p k i us pos bounds lt met before =
+    let log : List Touch = touches p us in
+    let r : Range = page_range p i in
+    let newest : newest_of p log (suc k) r ≡ suc k = newest_hit p log k r met in
+    elim (bool_cases (covered p us (suc k) i)) [
+      | inl whole ↦
+          let none : back_of p us (newest_of p log (suc k) r) i ≡ 0 = ap (λ n. back_of p us n i) newest ∙ back_none p us (suc k) i whole in
+          (backs_step p (suc k) i us).0 none ∙ sym (depth_covered p k i us pos bounds lt met whole)
+      | inr part ↦
+          let in_log : suc k ≤ length log = omega (arith, length-touches p us) in
+          let H : ℕ → Type 0 = λ n. 1 ≤ n → HasNode p log n (tree_range p 0 i) in
+          let at : newest_of p log (suc k) (tree_range p 0 i) ≡ suc k = ap (newest_of p log (suc k)) (sym (page_aligned p i)) ∙ newest in
+          let has : HasNode p log (suc k) (tree_range p 0 i) = subst H at (newest_has_node p log (suc k) 0 i pos (grown_updates p us pos bounds) in_log (inl refl)) (omega arith) in
+          let P : Range → Type 0 = λ s. HasNode p log (suc k) s in
+          let here : HasNode p log (suc k) r = subst P (sym (page_aligned p i)) has in
+          let some : 1 ≤ back_of p us (suc k) i = (backs_have_no_holes p (suc k) i us pos bounds here part).0 in
+          let e : suc k - 1 ≡ k = omega arith in
+          let back : back_of p us (newest_of p log (suc k) r) i ≡ newest_of p log k r =
+          ap (λ n. back_of p us n i) newest ∙ back_some p us (suc k) i part ∙ ap (λ n. newest_of p log n r) e in
+          let some_here : 1 ≤ back_of p us (newest_of p log (suc k) r) i = omega (arith, ap (λ n. back_of p us n i) newest, some) in
+          let count : backs_of p us (suc k) i ≡ 1 + backs_of p us (back_of p us (newest_of p log (suc k) r) i) i = (backs_step p (suc k) i us).1 some_here in
+          let down : backs_of p us (back_of p us (newest_of p log (suc k) r) i) i ≡ backs_of p us k i = ap (λ n. backs_of p us n i) back ∙ backs_newest p us k i in
+          omega (arith, count, down, before, depth_open p k i us pos bounds lt met part)
+    ]
+
+backs_deep : (p v i : ℕ) (us : List Extent) → 1 ≤ p → InBounds us → v ≤ length us → backs_of p us v i ≡ depth_of p (touches p us) v i
+backs_deep p zero i us pos bounds le = backs_zero p us i ∙ sym (depth_none p (touches p us) i)
+backs_deep p (suc k) i us pos bounds le =
+    let before : backs_of p us k i ≡ depth_of p (touches p us) k i = backs_deep p k i us pos bounds (omega arith) in
+    elim (meets_cases p (touch_at (touches p us) (suc k)) (page_range p i)) [
+      | inl hit ↦ backs_hit p k i us pos bounds (omega arith) hit before
+      | inr miss ↦ backs_above p us k i (newest_miss p (touches p us) k (page_range p i) miss) ∙ before ∙ sym (depth_miss p (touches p us) k i miss)
+    ]
+
+pub depth_counts_backs : DepthCountsBacks
+depth_counts_backs p v i us pos bounds le = backs_deep p v i us pos bounds le ∙ sym (depth_of_newest p v i (touches p us))
+
+-- ---- later updates
+pub depths_stay : DepthsStay
+depths_stay p zero i log more le = depth_none p (log ++ more) i ∙ sym (depth_none p log i)
+depths_stay p (suc k) i log more le =
+    let t : touch_at (log ++ more) (suc k) ≡ touch_at log (suc k) = get_or_append_left log more no_touch k (omega arith) in
+    depth_next p (log ++ more) k i
+    ∙ ap (λ u. depth_after p u i (depth_of p (log ++ more) k i)) t
+    ∙ ap (depth_after p (touch_at log (suc k)) i) (depths_stay p k i log more (omega arith))
+    ∙ sym (depth_next p log k i)
