@@ -1,0 +1,8 @@
+//! Draft.
+#![tactic(auto)]
+
+ghost use Rattle.std.specs.Prelude.{◌≡◌};
+
+pub mod table;
+pub mod values;
+pub mod number;
