@@ -1,2 +1,7 @@
+mod Walks
+pub mod Parses
 pub mod NumberLemmas
 pub mod RangeLemmas
+pub mod ReadingLemmas
+pub mod ChoiceLemmas
+pub mod SpellingLemmas

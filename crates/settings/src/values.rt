@@ -159,6 +159,15 @@ impl Given {
         }
         self
     }
+
+    // With these texts in place of its own.
+    pub(crate) fn with_texts(mut self, listen: Option<Text>, settings: Option<Text>) -> Given
+        ensures { result ≡ record self { listen = listen; settings = settings } }
+    {
+        self.listen = listen;
+        self.settings = settings;
+        self
+    }
 }
 
 /// The settings of a program. Each is one of its option's range, and the replicas are at most the providers.
