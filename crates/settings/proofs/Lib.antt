@@ -1,3 +1,4 @@
+mod Rows
 mod Walks
 pub mod Parses
 pub mod NumberLemmas
@@ -5,3 +6,5 @@ pub mod RangeLemmas
 pub mod ReadingLemmas
 pub mod ChoiceLemmas
 pub mod SpellingLemmas
+pub mod Powers
+pub mod MergeLemmas

@@ -5,3 +5,5 @@ pub mod Words
 pub mod Spelling
 pub mod Parser
 pub mod Reading
+pub mod File
+pub mod Merged

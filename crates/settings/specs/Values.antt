@@ -24,8 +24,19 @@ pub record GivenValues : Type 0 where
 
 abbrev pub nothing : GivenValues
 nothing = record {
-  page = None; providers = None; replicas = None; max_size = None; max_versions = None; max_open = None; max_blobs = None;
-  workers = None; connections = None; seed = None; ops = None; listen = None; settings = None
+  page = None;
+  providers = None;
+  replicas = None;
+  max_size = None;
+  max_versions = None;
+  max_open = None;
+  max_blobs = None;
+  workers = None;
+  connections = None;
+  seed = None;
+  ops = None;
+  listen = None;
+  settings = None;
 }
 
 -- what is given, with this number at a key, or with none there

@@ -28,7 +28,11 @@ fn option<'a>(alloc: Global, name: &'a str, needed: bool) -> Arg<'a>
 }
 
 // A command of that name with these options, in their order.
-fn with_options<'a>(alloc: Global, name: &'a str, choices: &[Choice]) -> Result<clap::Command<'a>, AllocError>
+fn with_options<'a>(
+    alloc: Global,
+    name: &'a str,
+    choices: &[Choice],
+) -> Result<clap::Command<'a>, AllocError>
     ensures app { IfOk result (λ c. app_of c ≡ fold with_rule (new_app name.entry.now) (map parser.asked (named choices.now))) }
     ensures local { IfOk result (λ c. (fields_of c).has_globals ≡ false) }
 {
@@ -60,14 +64,22 @@ fn bare<'a>(alloc: Global) -> clap::Command<'a>
 }
 
 // The program with one command more.
-fn with_command<'a>(alloc: Global, program: clap::Command<'a>, command: Command) -> Result<clap::Command<'a>, AllocError>
+fn with_command<'a>(
+    alloc: Global,
+    program: clap::Command<'a>,
+    command: Command,
+) -> Result<clap::Command<'a>, AllocError>
     ensures { IfOk result (λ c. app_of c ≡ parser.with_command (app_of program.entry) command) }
 {
     program.subcommand(subcommand(alloc, command)?)
 }
 
 // The program with these commands more, in their order.
-fn with_commands<'a>(alloc: Global, program: clap::Command<'a>, commands: &[Command]) -> Result<clap::Command<'a>, AllocError>
+fn with_commands<'a>(
+    alloc: Global,
+    program: clap::Command<'a>,
+    commands: &[Command],
+) -> Result<clap::Command<'a>, AllocError>
     ensures { IfOk result (λ c. app_of c ≡ fold parser.with_command (app_of program.entry) commands.now) }
 {
     let mut program = program;

@@ -143,7 +143,10 @@ impl Command {
     pub fn named(word: &str) -> Option<Command>
         ensures { result ≡ command_named word.now }
     {
-        COMMANDS.iter().copied().find(|command| command.name() == word)
+        COMMANDS
+            .iter()
+            .copied()
+            .find(|command| command.name() == word)
     }
 }
 

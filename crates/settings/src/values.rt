@@ -92,17 +92,35 @@ impl Model for Given {
     ghost Value = { GivenValues };
 
     ghost view = { λ g. record {
-      page = g.page; providers = g.providers; replicas = g.replicas;
-      max_size = g.max_size; max_versions = g.max_versions; max_open = g.max_open; max_blobs = g.max_blobs;
-      workers = g.workers; connections = g.connections; seed = g.seed; ops = g.ops;
-      listen = g.listen; settings = g.settings
+      page = g.page;
+      providers = g.providers;
+      replicas = g.replicas;
+      max_size = g.max_size;
+      max_versions = g.max_versions;
+      max_open = g.max_open;
+      max_blobs = g.max_blobs;
+      workers = g.workers;
+      connections = g.connections;
+      seed = g.seed;
+      ops = g.ops;
+      listen = g.listen;
+      settings = g.settings;
     } };
 
     ghost invariant = { λ g. IsGiven (record {
-      page = g.page; providers = g.providers; replicas = g.replicas;
-      max_size = g.max_size; max_versions = g.max_versions; max_open = g.max_open; max_blobs = g.max_blobs;
-      workers = g.workers; connections = g.connections; seed = g.seed; ops = g.ops;
-      listen = g.listen; settings = g.settings
+      page = g.page;
+      providers = g.providers;
+      replicas = g.replicas;
+      max_size = g.max_size;
+      max_versions = g.max_versions;
+      max_open = g.max_open;
+      max_blobs = g.max_blobs;
+      workers = g.workers;
+      connections = g.connections;
+      seed = g.seed;
+      ops = g.ops;
+      listen = g.listen;
+      settings = g.settings;
     }) };
 }
 
@@ -201,14 +219,28 @@ impl Model for Settings {
     ghost Value = { SettingsValues };
 
     ghost view = { λ s. record {
-      page = s.page; providers = s.providers; replicas = s.replicas; limits = s.limits;
-      workers = s.workers; connections = s.connections; seed = s.seed; ops = s.ops;
-      listen = s.listen; settings = s.settings
+      page = s.page;
+      providers = s.providers;
+      replicas = s.replicas;
+      limits = s.limits;
+      workers = s.workers;
+      connections = s.connections;
+      seed = s.seed;
+      ops = s.ops;
+      listen = s.listen;
+      settings = s.settings;
     } };
 
     ghost invariant = { λ s. IsSettled (record {
-      page = s.page; providers = s.providers; replicas = s.replicas; limits = s.limits;
-      workers = s.workers; connections = s.connections; seed = s.seed; ops = s.ops;
-      listen = s.listen; settings = s.settings
+      page = s.page;
+      providers = s.providers;
+      replicas = s.replicas;
+      limits = s.limits;
+      workers = s.workers;
+      connections = s.connections;
+      seed = s.seed;
+      ops = s.ops;
+      listen = s.listen;
+      settings = s.settings;
     }) };
 }
