@@ -5,7 +5,7 @@ ghost use Rattle.blob_model.specs.History.{AllOther};
 ghost use Rattle.request_form.specs.Replies.{fault_count};
 ghost use Rattle.request_form.specs.Answers.{Answers};
 ghost use Rattle.request_form.specs.declared.form.Request.TheVariants as Requests;
-ghost use Rattle.client_session.specs.Sessions.{session_of};
+ghost use Rattle.client_session.specs.Sessions.{StoreState, session_of};
 ghost use Rattle.client_session.specs.Results.{create_reply, branch_reply, finish_reply, read_reply, started_reply, done_reply};
 
 use crate::done::{Done, Started};
@@ -118,6 +118,7 @@ fn read_uncounted<D: Door, G: Gate, R: Wait, L: Ledger>(
     requires some { 0 < blank.parts }
     ensures answers { Answers AllOther (session_of session.old) (Requests.Read blob version offset count) (read_reply result) (session_of session.new) }
     ensures faults { RoseBy (fault_count (read_reply result)) (sum_by D.faults session.old.doors) (sum_by D.faults session.new.doors) }
+    ensures store { session.new.store ≡ session.old.store }
 {
     let mut steps = Steps::<L>::open(blank);
     session.read(rt, blob, version, offset, count, &mut steps)
@@ -127,6 +128,10 @@ impl<'a, D: Door, G: Gate> Service for Session<'a, D, G> {
     ghost session = { λ s. session_of s };
 
     ghost faults = { λ s. sum_by D.faults s.doors };
+
+    ghost Kept = { StoreState };
+
+    ghost kept = { λ s. s.store };
 
     fn answer<R: Wait + Threads + Sync>(&mut self, rt: &R, request: Request) -> Reply {
         match request {

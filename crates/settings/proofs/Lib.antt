@@ -1,0 +1,10 @@
+mod Rows
+mod Walks
+pub mod Parses
+pub mod NumberLemmas
+pub mod RangeLemmas
+pub mod ReadingLemmas
+pub mod ChoiceLemmas
+pub mod SpellingLemmas
+pub mod Powers
+pub mod MergeLemmas

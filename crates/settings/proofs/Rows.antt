@@ -1,0 +1,58 @@
+-- Worked rows, computed from the definitions alone.
+use Rattle.std.proofs.Common.{◌≡◌, List, [], ◌∷◌, ℕ, Option, Some, None, codes, refl}
+use Rattle.settings.specs.declared.table.Command.TheVariants.{Run, Serve, Load}
+use Rattle.settings.specs.Values.{nothing}
+use Rattle.settings.specs.Words.{given_by_words}
+use Rattle.settings.specs.Merged.{merged}
+
+-- ---- words
+
+no_words : given_by_words [] ≡ None
+no_words = refl
+
+command_alone : given_by_words (codes "run" ∷ []) ≡ Some (Run, nothing)
+command_alone = refl
+
+needed_option_missing : given_by_words (codes "serve" ∷ codes "--workers" ∷ codes "2" ∷ []) ≡ None
+needed_option_missing = refl
+
+value_with_equals_sign : given_by_words (codes "serve" ∷ codes "--listen" ∷ codes "a=b" ∷ []) ≡ Some (Serve, record nothing { listen = Some (codes "a=b") })
+value_with_equals_sign = refl
+
+hyphen_behind_equals_sign : given_by_words (codes "run" ∷ codes "--settings=-" ∷ []) ≡ Some (Run, record nothing { settings = Some (codes "-") })
+hyphen_behind_equals_sign = refl
+
+given_twice : given_by_words (codes "load" ∷ codes "--ops" ∷ codes "1" ∷ codes "--ops=1" ∷ []) ≡ None
+given_twice = refl
+
+past_the_range : given_by_words (codes "load" ∷ codes "--ops" ∷ codes "4097" ∷ []) ≡ None
+past_the_range = refl
+
+leading_zero : given_by_words (codes "load" ∷ codes "--ops" ∷ codes "01" ∷ []) ≡ None
+leading_zero = refl
+
+empty_value : given_by_words (codes "run" ∷ codes "--settings=" ∷ []) ≡ None
+empty_value = refl
+
+value_that_is_an_option : given_by_words (codes "load" ∷ codes "--ops" ∷ codes "--seed" ∷ codes "1" ∷ []) ≡ None
+value_that_is_an_option = refl
+
+option_of_another_command : given_by_words (codes "load" ∷ codes "--max-open" ∷ codes "1" ∷ []) ≡ None
+option_of_another_command = refl
+
+-- ---- both
+
+words_and_file : merged (record nothing { replicas = Some 1; ops = Some 7 }) (record nothing { page = Some 4; ops = Some 8 })
+    ≡ record {
+      page = 4;
+      providers = 4;
+      replicas = 1;
+      limits = record { max_size = 1099511627776; max_versions = 1048576; max_open = 64; max_blobs = 65535 };
+      workers = 4;
+      connections = 4294967295;
+      seed = 1;
+      ops = 7;
+      listen = [];
+      settings = [];
+    }
+words_and_file = refl

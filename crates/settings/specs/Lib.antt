@@ -1,0 +1,9 @@
+pub mod Table
+pub mod Numbers
+pub mod Values
+pub mod Words
+pub mod Spelling
+pub mod Parser
+pub mod Reading
+pub mod File
+pub mod Merged
