@@ -1,12 +1,12 @@
 -- What a run wrote, from what the stream's loop says, and how it ended then.
-use Rattle.std.proofs.Common.{◌≡◌, ◌≢◌, ℕ, ◌+◌, ◌-◌, ◌^◌, ◌<◌, ◌≤◌, min, true, false, List, [], ◌++◌, length, sum_by, refl, sym, ◌∙◌, ap, subst, inl, inr, arith}
+use Rattle.std.proofs.Common.{◌≡◌, ◌≢◌, ℕ, ◌+◌, ◌-◌, ◌^◌, ◌<◌, ◌≤◌, min, true, false, List, [], length, sum_by, refl, sym, ◌∙◌, ap, subst, inl, inr, arith}
 use Rattle.std.proofs.lemmas.Bool.{false≢true}
 use Rattle.std.proofs.lemmas.List.Sums.{sum_by-cons}
 use Rattle.std.proofs.KnownBytes.{Appends-nil, Consumes-nil}
 use Rattle.std.specs.Prelude.{Option, ◌∷◌, ◌⊎◌}
 use Rattle.ports.specs.Counts.{RoseBy}
 use Rattle.request_form.specs.Session.{AllOwn}
-use Rattle.request_form.specs.Stream.{Stream, AllWellHeard}
+use Rattle.request_form.specs.Stream.{AllWellHeard}
 use Rattle.request_form.specs.Transcript.{has_quit, first_session, faults_of}
 use Rattle.request_form.specs.declared.form.Heard.{Heard}
 use Rattle.script_text.specs.Lines.{heard}

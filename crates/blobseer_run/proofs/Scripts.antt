@@ -1,10 +1,9 @@
 -- What no script says.
-use Rattle.std.proofs.Common.{◌≡◌, ◌≢◌, ℕ, ◌-◌, ◌<◌, ◌≤◌, zero, suc, get_or, take, drop, take-append-drop, take-suc, drop-cons, arith, ◌==◌, Bool, true, false, cond, if◌then◌else◌, List, [], ◌∷◌, ◌++◌, length, refl, sym, ◌∙◌, ap}
+use Rattle.std.proofs.Common.{◌≡◌, ℕ, ◌==◌, Bool, true, false, if◌then◌else◌, List, [], ◌∷◌, length, refl}
 use Rattle.std.specs.Prelude.{Option, Some, None, nat_lt}
-use Rattle.std.specs.List.{All, slice_split, onto_first}
+use Rattle.std.specs.List.{slice_split}
 use Rattle.std.specs.Option.{option_to_list}
 use Rattle.std.specs.Str.Lines.{strip_carriage_return}
-use Rattle.std.proofs.lemmas.List.Splits.{slice_split_none}
 use Rattle.request_form.specs.Stream.{Stream, IsWellHeard, AllWellHeard}
 use Rattle.request_form.specs.declared.form.Request.{Request}
 use Rattle.request_form.specs.declared.form.Heard.{Heard}

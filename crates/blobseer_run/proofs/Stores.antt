@@ -1,5 +1,5 @@
 -- What a run's session was served, from what its store says.
-use Rattle.std.proofs.Common.{◌≡◌, ℕ, ◌+◌, List, [], ◌∷◌, ◌++◌, All, sum_by, inl, refl, sym, ◌∙◌, ap, subst, arith}
+use Rattle.std.proofs.Common.{◌≡◌, ℕ, List, [], ◌∷◌, ◌++◌, All, sum_by, inl, refl, sym, ◌∙◌, ap, subst, arith}
 use Rattle.std.proofs.KnownBytes.{Appends-nil, Consumes-nil}
 use Rattle.std.specs.Prelude.{Option}
 use Rattle.std.specs.List.{AllByRecursion}
@@ -11,13 +11,15 @@ use Rattle.request_form.specs.Session.{Session, AllOwn}
 use Rattle.request_form.specs.Transcript.{until_quit, first_session}
 use Rattle.script_text.specs.Lines.{heard}
 use Rattle.script_text.specs.Said.{said}
+use Rattle.server_core.specs.declared.step.End.{End}
 use Rattle.server_core.specs.declared.step.End.TheVariants as Ends
 use Rattle.server_core.specs.Progress.{Point}
 use Rattle.server_core.specs.Served.{Input, Served}
 use Rattle.turn_lock.specs.History.{Log, Begins, LacksUngiven}
+use Rattle.turn_lock.specs.Shown.{Held}
 use Rattle.version_manager.specs.Log.{tagged, events}
 use Rattle.version_manager.specs.declared.journal.DeskFixed.{DeskFixed}
-use Rattle.client_session.specs.Sessions.{session_at}
+use Rattle.client_session.specs.Sessions.{StoreState, SessionState, session_at, session_of, pass_of}
 use Rattle.blobseer_run.specs.Run.{input_limit, store_fixed}
 use Rattle.blobseer_run.specs.Serving.{ServedLines}
 use Rattle.blobseer_run.proofs.Alone.{own_of}
@@ -55,6 +57,35 @@ served_none old input = record {
 
 pub lines_none : (session : Session) (faults : ℕ) (input : Input) (written : Option (List ℕ)) → ServedLines (record { session = session; faults = faults; written = written }) input input session.seen faults written Ends.NoMemory
 lines_none session faults input written = record { last = session; sees = refl; served = served_none (record { session = session; faults = faults; written = written }) input }
+
+-- the session couldn't be made, and its pass and its doors came back
+pub lines_back : {D : Type 0} (faults : D → ℕ) (f : DeskFixed) (pass back : Held Event DeskFixed) (doors doors' : List D) (input : Input) (written : Option (List ℕ)) → back ≡ pass → doors' ≡ doors
+    → ServedLines (record { session = session_at f pass.caller pass.seen [] 1; faults = sum_by faults doors; written = written }) input input (events back.seen) (sum_by faults doors') written Ends.NoMemory
+lines_back {D} faults f pass back doors doors' input written same all =
+    let start : Point = record { session = session_at f pass.caller pass.seen [] 1; faults = sum_by faults doors; written = written } in
+    let P : Held Event DeskFixed → Type 0 = λ p. ServedLines start input input (events p.seen) (sum_by faults doors') written Ends.NoMemory in
+    let Q : List D → Type 0 = λ ds. ServedLines start input input (events pass.seen) (sum_by faults ds) written Ends.NoMemory in
+    subst P (sym same) (subst Q (sym all) (lines_none (session_at f pass.caller pass.seen [] 1) (sum_by faults doors) input written))
+
+-- ---- what a session was served
+
+module _ {D : Type 0} (faults : D → ℕ) (store : StoreState) (pass back : Held Event DeskFixed) (doors doors' : List D) (start stop : SessionState D) (before after : Input) (written written' : Option (List ℕ)) (end : End) where
+  abbrev new : SessionState D
+  new = record { store = store; caller = pass.caller; log = pass.seen; held = []; next = 1; doors = doors }
+
+  abbrev ServedFrom : SessionState D → List ℕ → Type 0
+  ServedFrom s fed = Served said (record { session = session_of s; faults = sum_by faults s.doors; written = written }) (λ more. heard (fed ++ more)) before after input_limit (record { session = session_of stop; faults = sum_by faults stop.doors; written = written' }) end
+
+  pub lines_of : (fed : List ℕ) → fed ≡ [] → start ≡ new → back ≡ pass_of stop → doors' ≡ stop.doors → ServedFrom start fed
+      → ServedLines (record { session = session_at store.fixed pass.caller pass.seen [] 1; faults = sum_by faults doors; written = written }) before after (events back.seen) (sum_by faults doors') written' end
+  lines_of fed none made gave same served =
+      let first : ServedFrom new [] = subst (λ (l : List ℕ). ServedFrom new l) none (subst (λ (s : SessionState D). ServedFrom s fed) made served) in
+      let F : List D → Type 0 = λ ds. Served said (record { session = session_of new; faults = sum_by faults doors; written = written }) heard before after input_limit (record { session = session_of stop; faults = sum_by faults ds; written = written' }) end in
+      record {
+        last = session_of stop;
+        sees = ap (λ (p : Held Event DeskFixed). events p.seen) (sym gave);
+        served = subst F (sym same) first;
+      }
 
 -- ---- new doors have never failed
 

@@ -1,5 +1,5 @@
 -- What a run's session made of its script.
-use Rattle.std.specs.Prelude.{◌≡◌, ℕ, List, [], Option}
+use Rattle.std.specs.Prelude.{◌≡◌, ℕ, List, Option}
 use Rattle.blob_model.specs.declared.call.Event.{Event}
 use Rattle.request_form.specs.Session.{Session, AllOwn}
 use Rattle.request_form.specs.Transcript.{first_session}

@@ -66,7 +66,6 @@ fn serve_session<R: Wait + Threads + Sync, S: Source, K: Sink, D: Door, G: Gate>
         (record { given = S.given script.new; left = S.left script.new; ends = S.ends script.new })
         (events result.1.seen) (sum_by D.faults result.2) (K.written out.new) result.0 }
     ensures pass { IsPassOf shared.now result.1 }
-    ensures caller { result.1.caller ≡ pass.caller }
     ensures read_faults { RoseBy (end_read_faults result.0) (S.read_faults script.old) (S.read_faults script.new) }
     ensures write_faults { RoseBy (end_write_faults result.0) (K.write_faults out.old) (K.write_faults out.new) }
 {

@@ -141,3 +141,15 @@ returns-in-Err-NoMemory-default-clause-goes_on g c =
       caller = ap (λ (x : SessionState g.row.D.Denot). x.caller) more.ensures.held ∙ (ap (λ (p : Seat Event DeskFixed). p.caller) c.report.ensures.pass ∙ before.caller);
       begins = subst (λ (l : List (ℕ × Event)). Begins s.log l) (sym (ap (λ (x : SessionState g.row.D.Denot). x.log) more.ensures.held)) (begins_both s.log i.pass.seen c.report.new.pass.seen before.begins c.report.ensures.went.begins);
     }
+
+pub returns-in-Ok-report-clause-goes_on : goal.returns-in-Ok-report-clause-goes_on
+returns-in-Ok-report-clause-goes_on g c =
+    let i = c.self.inside in
+    let s = c.args.self.now in
+    let mid : SessionState g.row.D.Denot = record { store = i.shared.now; caller = i.pass.caller; log = i.pass.seen; held = i.held; next = i.next; doors = i.doors } in
+    let before : Continues s mid = subst (λ (m : SessionState g.row.D.Denot). Continues s m) (sym c.self.view_is) c.number.ensures.goes_on in
+    record {
+      store = before.store;
+      caller = ap (λ (p : Seat Event DeskFixed). p.caller) c.report.ensures.pass ∙ before.caller;
+      begins = begins_both s.log i.pass.seen c.report.new.pass.seen before.begins c.report.ensures.went.begins;
+    }

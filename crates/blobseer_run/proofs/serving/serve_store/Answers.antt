@@ -1,0 +1,32 @@
+use Rattle.std.specs.Prelude.{◌≡◌, [], sum_by}
+use Rattle.std.proofs.Common.{◌∙◌, ap, subst, arith}
+use Rattle.blob_model.specs.declared.call.Event.{Event}
+use Rattle.request_form.specs.Session.{Session}
+use Rattle.turn_lock.specs.Shown.{Held, Owned}
+use Rattle.version_manager.specs.Log.{events}
+use Rattle.version_manager.specs.declared.journal.DeskFixed.{DeskFixed}
+use Rattle.server_core.specs.Served.{Input}
+use Rattle.blobseer_run.specs.Serving.{ServedLines}
+use Rattle.blobseer_run.proofs.Stores.{first_there, own_there}
+use Rattle.blobseer_run.proofs.serving.serve_store.Goals as goal
+
+pub returns-clause-lines : goal.returns-clause-lines
+returns-clause-lines g c =
+    let served = c.serve_session-end in
+    let pass = c.in-Ok.pass in
+    let back = served.result.1 in
+    let given = c.in-Ok.ensures in
+    let made : c.pass.new.owner.made ≡ 1 = ap (λ (o : Owned Event DeskFixed). o.made) given.counts ∙ omega (arith, c.requires.no_pass) in
+    let one : c.take_back.new.owner.made ≡ 1 = ap (λ (o : Owned Event DeskFixed). o.made) c.take_back.ensures.counts.1 ∙ made in
+    let caller : pass.caller ≡ 1 = ap (λ (p : Held Event DeskFixed). p.caller) given.pass ∙ omega (arith, c.requires.no_pass) in
+    let none : pass.seen ≡ [] = ap (λ (p : Held Event DeskFixed). p.seen) given.pass ∙ c.requires.new in
+    let script = c.args.script.now in
+    let after = served.new.script in
+    let before : Input = record { given = g.S.Ends.given script; left = g.S.Ends.left script; ends = g.S.Ends.ends script } in
+    let later : Input = record { given = g.S.Ends.given after; left = g.S.Ends.left after; ends = g.S.Ends.ends after } in
+    let L : Session → Type 0 = λ s. ServedLines (record { session = s; faults = sum_by g.D.Door.faults c.args.doors; written = g.K.Ends.written c.args.out.now }) before later (events back.seen) (sum_by g.D.Door.faults served.result.2) (g.K.Ends.written served.new.out) served.result.0 in
+    record {
+      seen = events back.seen;
+      own = own_there c.take_back.new.owner.made c.in-Ok-close._desk.history c.take_back.new.owner.seen back.seen one c.in-Ok-close.ensures.no_other c.in-Ok-close.ensures.history c.take_back.ensures.begins.1 served.ensures.pass.log.tags;
+      lines = subst L (first_there c.args.shared.fixed pass.caller pass.seen c.requires.limits c.requires.page_size caller none) served.ensures.lines;
+    }
