@@ -11,6 +11,8 @@ mod scripts;
 #[cfg(test)]
 mod session;
 #[cfg(test)]
+mod sharing;
+#[cfg(test)]
 mod tickets;
 #[cfg(test)]
 mod visits;
