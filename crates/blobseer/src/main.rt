@@ -5,6 +5,7 @@ ghost use Rattle.std.specs.Prelude.{◌≡◌};
 
 use blobseer_run::run;
 use page_store::PlainMaker;
+use ports::gate::FreeGate;
 use ports::reader::ReaderSource;
 use ports::writer::WriterSink;
 use std::env::{self, Env};
@@ -40,6 +41,7 @@ fn main(rt: HostRuntime) -> ExitCode {
         &mut out,
         &mut err,
         &mut doors,
+        &FreeGate,
     );
     ExitCode::from(status)
 }

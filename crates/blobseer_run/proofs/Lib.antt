@@ -1,6 +1,7 @@
-mod Told
-mod Legal
-mod Scripts
-mod Words
-mod Quits
-mod Runs
+pub mod Words
+pub mod Told
+pub mod Scripts
+pub mod Legal
+pub mod Runs
+pub mod Alone
+pub mod Stores

@@ -1,54 +1,28 @@
 -- What a run wrote, from what the stream's loop says, and how it ended then.
-use Rattle.std.proofs.Common.{◌≡◌, ◌⊎◌, ℕ, ◌+◌, ◌-◌, ◌^◌, ◌<◌, ◌≤◌, min, true, false, List, [], ◌∷◌, ◌++◌, length, sum_by, refl, sym, ◌∙◌, ap, subst, inl, inr, append-nil, length-append, lit<, arith}
-use Rattle.std.specs.Prelude.{Option, Some, None, Ok, Err}
-use Rattle.std.specs.Io.KnownBytes.{Appends, Consumes, IsAtEnd}
-use Rattle.std.proofs.KnownBytes.{Appends-nil, Consumes-nil}
+use Rattle.std.proofs.Common.{◌≡◌, ◌≢◌, ℕ, ◌+◌, ◌-◌, ◌^◌, ◌<◌, ◌≤◌, min, true, false, List, [], ◌++◌, length, sum_by, refl, sym, ◌∙◌, ap, subst, inl, inr, arith}
+use Rattle.std.proofs.lemmas.Bool.{false≢true}
 use Rattle.std.proofs.lemmas.List.Sums.{sum_by-cons}
+use Rattle.std.proofs.KnownBytes.{Appends-nil, Consumes-nil}
+use Rattle.std.specs.Prelude.{Option, ◌∷◌, ◌⊎◌}
 use Rattle.ports.specs.Counts.{RoseBy}
 use Rattle.request_form.specs.Session.{AllOwn}
 use Rattle.request_form.specs.Stream.{Stream, AllWellHeard}
-use Rattle.request_form.specs.Transcript.{until_quit, has_quit, first_session, faults_of}
+use Rattle.request_form.specs.Transcript.{has_quit, first_session, faults_of}
 use Rattle.request_form.specs.declared.form.Heard.{Heard}
 use Rattle.script_text.specs.Lines.{heard}
 use Rattle.script_text.specs.Said.{said}
 use Rattle.server_core.specs.declared.step.End.{End}
 use Rattle.server_core.specs.declared.step.End.TheVariants as Ends
 use Rattle.server_core.specs.Progress.{Point}
-use Rattle.server_core.specs.Served.{AnswersFront, Input, StaysFirst, Served, end_read_faults}
-use Rattle.server_core.specs.Laws.{SaysWithin, ServedAlone}
-use Rattle.blobseer_run.specs.Take.{TakesOff, Took, fault_count}
-use Rattle.blobseer_run.specs.declared.take.TakeFault.{TakeFault}
-use Rattle.blobseer_run.specs.declared.take.TakeFault.TheVariants as TakeFaults
+use Rattle.server_core.specs.Served.{Input, end_read_faults, end_write_faults}
+use Rattle.server_core.specs.Laws as Streams
 use Rattle.blobseer_run.specs.declared.status.Status.{Status}
-use Rattle.blobseer_run.specs.Legal.{LegalAlone, AlwaysSays}
-use Rattle.blobseer_run.specs.Run.{store_fixed, input_limit, IsCalm, Says, SaysFront, Counts, IsDue, Ended, Ran}
-use Rattle.blobseer_run.specs.Answering.{Answering, write_faults_of, status_or}
-use Rattle.blobseer_run.specs.Status.{code_of}
 use Rattle.blobseer_run.specs.declared.status.Status.TheVariants as Statuses
-use Rattle.blobseer_run.specs.declared.answer.Answered.{Answered}
-use Rattle.blobseer_run.specs.declared.answer.Answered.TheVariants as Answers
-use Rattle.blobseer_run.proofs.Quits.{has_quit-until_quit, none_after_quit}
+use Rattle.blobseer_run.specs.Legal.{LegalAlone}
+use Rattle.blobseer_run.specs.Run.{store_fixed, input_limit, IsCalm, Says, Counts, IsDue, Ended, Ran}
+use Rattle.blobseer_run.specs.Serving.{ServedByOne}
+use Rattle.blobseer_run.specs.Status.{code_of, out_of_memory, input_too_long}
 use Rattle.blobseer_run.proofs.Scripts.{script_well, whole_script_well, script_not_cut}
-
--- ---- what a stream over bytes in memory took
-
-record TookOf (script taken : List ℕ) (left : Option (List ℕ)) : Type 0 where
-  rest : List ℕ
-  has : left ≡ Some rest
-  is : script ≡ taken ++ rest
-
-took : (script taken : List ℕ) (left left' : Option (List ℕ)) → left ≡ Some script → Consumes left left' taken → TookOf script taken left'
-took script taken left None e h = let P : Option (List ℕ) → Type 0 = λ o. Consumes o None taken in absurd (subst P e h)
-took script taken left (Some rest) e h = let P : Option (List ℕ) → Type 0 = λ o. Consumes o (Some rest) taken in record { rest = rest; has = refl; is = subst P e h }
-
-took_all : (script taken : List ℕ) (left : Option (List ℕ)) → TookOf script taken left → IsAtEnd left → taken ≡ script
-took_all script taken left t h =
-    let P : Option (List ℕ) → Type 0 = λ o. IsAtEnd o in
-    let none : t.rest ≡ [] = subst P t.has h in
-    sym (t.is ∙ ap (λ (xs : List ℕ). taken ++ xs) none ∙ append-nil taken)
-
-never_rose : RoseBy 1 0 0 → ⊥
-never_rose rose = omega (arith, rose.by (lit< tt))
 
 -- ---- what the doors tell
 
@@ -62,11 +36,9 @@ pub record GaveBack (calm : Type 0) (before after doors doors' : ℕ) : Type 0 w
   pub rises : min (doors + after) (2 ^ 64 - 1) ≤ doors'
   pub quiet : calm → after ≡ 0
 
-pub gave_back : {D : Type 0} (faults : D → ℕ) (old new back : List D) (doors mid doors' : ℕ) → sum_by faults old ≡ 0 → back ≡ new → mid ≡ doors → min (mid + sum_by faults back) (2 ^ 64 - 1) ≤ doors' →
+pub gave_back : {D : Type 0} (faults : D → ℕ) (old new : List D) (doors mid doors' : ℕ) → sum_by faults old ≡ 0 → mid ≡ doors → min (mid + sum_by faults new) (2 ^ 64 - 1) ≤ doors' →
     GaveBack (IsCalm faults) (sum_by faults old) (sum_by faults new) doors doors'
-gave_back {D} faults old new back doors mid doors' fresh is same rises =
-    let sums : sum_by faults back ≡ sum_by faults new = ap (λ (xs : List D). sum_by faults xs) is in
-    record { fresh = fresh; rises = omega (arith, sums); quiet = λ calm. sum_none faults calm new }
+gave_back {D} faults old new doors mid doors' fresh same rises = record { fresh = fresh; rises = omega (arith, same, rises); quiet = λ calm. sum_none faults calm new }
 
 rose_within : (n before after doors doors' : ℕ) → before ≡ 0 → min (doors + after) (2 ^ 64 - 1) ≤ doors' → RoseBy n before after → doors' < 2 ^ 64 - 1 → doors + n ≤ doors'
 rose_within n before after doors doors' fresh rises rose less = omega (arith, rose.by)
@@ -74,8 +46,43 @@ rose_within n before after doors doors' fresh rises rose less = omega (arith, ro
 rose_none : (n before after : ℕ) → before ≡ 0 → after ≡ 0 → RoseBy n before after → n ≡ 0
 rose_none n before after fresh quiet rose = omega (arith, rose.by)
 
-module _ (alone : ServedAlone) (legal : LegalAlone) (calm : Type 0) (doors doors' : ℕ) where
-  says : (items : List Heard) (text : List ℕ) (before after : ℕ) → AllWellHeard items → GaveBack calm before after doors doors' → SaysWithin said store_fixed items before after text → Says calm doors doors' items text
+-- ---- how a run ended
+
+-- the status by the end of the stream; a script isn't cut
+abbrev pub status_of : End → Status
+status_of Ends.Quit = Statuses.Done
+status_of Ends.InputEnd = Statuses.Done
+status_of Ends.Cut = Statuses.Done
+status_of Ends.ReadFault = Statuses.ReadFault
+status_of Ends.WriteFault = Statuses.WriteFault
+status_of Ends.InputTooLong = Statuses.InputTooLong
+status_of Ends.NoMemory = Statuses.OutOfMemory
+
+less_and_full : (taken limit : ℕ) → taken < limit → taken ≡ limit → ⊥
+less_and_full taken limit less full = omega arith
+
+some_and_none : (rest : List ℕ) → 0 < length rest → rest ≡ [] → ⊥
+some_and_none rest some none = omega (arith, some, ap length none)
+
+module _ (A calm : Type 0) (taken text rest : List ℕ) (old new : Counts) (status : ℕ) (a : A) (full : length taken ≡ input_limit) (none : has_quit (heard taken).whole ≡ false) (wrote : rest ≡ []) (memory : status ≢ out_of_memory) where
+  not_due : (due : List Heard) → IsDue taken old new due → has_quit due ≡ true → ⊥
+  not_due due (IsDue.all less rose is) quits = less_and_full (length taken) input_limit less full
+  not_due due (IsDue.whole is) quits = false≢true (sym none ∙ (ap has_quit (sym is) ∙ quits))
+
+  -- no other status comes where the input is full and its requests are answered
+  pub full_of : Ended A calm taken text rest old new status → status ≡ input_too_long
+  full_of (Ended.refused e isnt t x) = absurd (isnt a)
+  full_of (Ended.finished e u less rose r x) = absurd (less_and_full (length taken) input_limit less full)
+  full_of (Ended.quit e u due is quits r x) = absurd (not_due due is quits)
+  full_of (Ended.unread e u less rose quit r x) = absurd (less_and_full (length taken) input_limit less full)
+  full_of (Ended.unwritten e u rose due is some x) = absurd (some_and_none rest some wrote)
+  full_of (Ended.starved e u due is x) = absurd (memory e)
+  full_of (Ended.too_long e u at quit r x) = e
+
+-- ---- a script that was served
+
+module _ (alone : Streams.ServedAlone) (legal : LegalAlone) (calm : Type 0) (doors doors' : ℕ) where
+  says : (items : List Heard) (text : List ℕ) (before after : ℕ) → AllWellHeard items → GaveBack calm before after doors doors' → Streams.SaysWithin said store_fixed items before after text → Says calm doors doors' items text
   says items text before after well gave s = record {
     alone = s.alone;
     legal = legal store_fixed items s.alone.replies s.alone.last s.alone.transcript;
@@ -83,229 +90,149 @@ module _ (alone : ServedAlone) (legal : LegalAlone) (calm : Type 0) (doors doors
     no_page_fault = λ is_calm. rose_none (faults_of s.alone.replies) before after gave.fresh (gave.quiet is_calm) (s.faults well);
   }
 
-  -- ---- a served script
-  module _ (old new : Point) (reads : List ℕ → Stream) (before after : Input) (limit : ℕ) (script : List ℕ) (start : old.session ≡ first_session store_fixed 1) (own : AllOwn 1 new.session.seen)
-      (gave : GaveBack calm old.faults new.faults doors doors')
-      (reads_is : (bytes : List ℕ) → reads bytes ≡ heard bytes) (given : before.left ≡ Some script) (more : limit ≡ length script + 1) where
-    pub answered_all : Served said old reads before after limit new Ends.InputEnd → Answering calm doors doors' (heard script).items old.written new.written Answers.All
-    answered_all served =
-        let all : served.taken ≡ script = took_all script served.taken after.left (took script served.taken before.left after.left given served.takes.left) served.ended.4 in
-        let wrote : SaysWithin said store_fixed (reads served.taken).items old.faults new.faults served.progress.out = alone said store_fixed old reads before after limit new Ends.InputEnd start own served in
-        let same : (reads served.taken).items ≡ (heard script).items = ap (λ (s : Stream). s.items) (reads_is served.taken ∙ ap heard all) in
-        let P : List Heard → Type 0 = λ items. SaysWithin said store_fixed items old.faults new.faults served.progress.out in
-        record {
-          text = served.progress.out;
-          adds = served.progress.adds;
-          is = (says _ _ old.faults new.faults (script_well script) gave (subst P same wrote), ap has_quit (sym same) ∙ served.ended.1);
-        }
+  module _ (before after : Input) (faults faults' : ℕ) (written written' : Option (List ℕ)) (reads reads' writes writes' : ℕ) (gave : GaveBack calm faults faults' doors doors') where
+    abbrev old : Counts
+    old = record { reads = reads; ends = before.ends; writes = writes; doors = doors }
 
-    -- the items that were answered are the first of the whole script's
-    front_of : (taken : List ℕ) (items : List Heard) → TookOf script taken after.left → AnswersFront (reads taken).items items → StaysFirst reads taken items after.left → AnswersFront (heard script).items items
-    front_of taken items t here (inl stays) =
-        let P : Stream → Type 0 = λ s. AnswersFront s.items items in
-        subst P (reads_is (taken ++ t.rest) ∙ ap heard (sym t.is)) (stays t.rest)
-    front_of taken items t here (inr at_end) =
-        let P : Stream → Type 0 = λ s. AnswersFront s.items items in
-        subst P (reads_is taken ∙ ap heard (took_all script taken after.left t at_end)) here
+    abbrev new : Counts
+    new = record { reads = reads'; ends = after.ends; writes = writes'; doors = doors' }
 
-    abbrev whole_before : Input
-    whole_before = record { given = None; left = Some script; ends = 0 }
+    abbrev RanTo : Status → Type 0
+    RanTo status = Ran (Unit {0}) calm before.given before.left after.given after.left written written' old new (code_of status)
 
-    abbrev whole_after : Input
-    whole_after = record { given = None; left = Some []; ends = 0 }
+    module _ (end : End) (s : ServedByOne before after faults faults' written written' end) where
+      abbrev start : Point
+      start = record { session = first_session store_fixed 1; faults = faults; written = written }
 
-    pub answered_part : Served said old reads before after limit new Ends.WriteFault → Answering calm doors doors' (heard script).items old.written new.written Answers.WriteFault
-    answered_part served =
-        let t = took script served.taken before.left after.left given served.takes.left in
-        let front = front_of served.taken served.items t served.ended.0 served.stays in
-        let whole : Served said old heard whole_before whole_after (length script) new Ends.WriteFault = record {
-          taken = script;
-          takes = record { given = tt; left = sym (append-nil script) };
-          within = omega arith;
-          items = served.items;
-          rest = served.rest;
-          progress = served.progress;
-          ended = (front, served.ended.1);
-          closing = λ cut. refl;
-          stays = inr refl;
-        } in
-        let wrote = alone said store_fixed old heard whole_before whole_after (length script) new Ends.WriteFault start own whole in
-        record { text = served.progress.out; adds = served.progress.adds; is = (wrote.0, wrote.1, says _ _ old.faults new.faults (script_well script) gave wrote.2) }
+      abbrev stop : Point
+      stop = record { session = s.lines.last; faults = faults'; written = written' }
 
-    pub answered_front : Served said old reads before after limit new Ends.NoMemory → Answering calm doors doors' (heard script).items old.written new.written Answers.NoMemory
-    answered_front served =
-        let t = took script served.taken before.left after.left given served.takes.left in
-        let front = front_of served.taken served.items t served.ended served.stays in
-        let whole : Served said old heard whole_before whole_after (length script) new Ends.NoMemory = record {
-          taken = script;
-          takes = record { given = tt; left = sym (append-nil script) };
-          within = omega arith;
-          items = served.items;
-          rest = served.rest;
-          progress = served.progress;
-          ended = front;
-          closing = tt;
-          stays = inr refl;
-        } in
-        let wrote = alone said store_fixed old heard whole_before whole_after (length script) new Ends.NoMemory start own whole in
-        record { text = served.progress.out; adds = served.progress.adds; is = (wrote.0, says _ _ old.faults new.faults (script_well script) gave wrote.1) }
+      own : AllOwn 1 s.lines.last.seen
+      own = subst (AllOwn 1) (sym s.lines.sees) s.own
 
-    -- a Quit was answered: all replies up to it were written, and it is the last of them in the whole script too
-    pub answered_quit : Served said old reads before after limit new Ends.Quit → Answering calm doors doors' (heard script).items old.written new.written Answers.Quit
-    answered_quit served =
-        let t = took script served.taken before.left after.left given served.takes.left in
-        let here : AnswersFront (reads served.taken).items served.items = ([], sym served.ended.0.0 ∙ sym (append-nil served.items)) in
-        let front = front_of served.taken served.items t here served.stays in
-        let quits : has_quit served.items ≡ true = ap has_quit served.ended.0.0 ∙ has_quit-until_quit (reads served.taken).items ∙ served.ended.1 in
-        let none : front.0 ≡ [] = none_after_quit (heard script).items served.items front.0 front.1 quits in
-        let all : served.items ≡ until_quit (heard script).items = sym (front.1 ∙ (ap (λ (xs : List Heard). served.items ++ xs) none ∙ append-nil served.items)) in
-        let has : has_quit (heard script).items ≡ true = sym (has_quit-until_quit (heard script).items) ∙ ap has_quit (sym all) ∙ quits in
-        let whole : Served said old heard whole_before whole_after (length script) new Ends.Quit = record {
-          taken = script;
-          takes = record { given = tt; left = sym (append-nil script) };
-          within = omega arith;
-          items = served.items;
-          rest = served.rest;
-          progress = served.progress;
-          ended = ((all, served.ended.0.1), has);
-          closing = λ cut. refl;
-          stays = inr refl;
-        } in
-        let wrote = alone said store_fixed old heard whole_before whole_after (length script) new Ends.Quit start own whole in
-        record { text = served.progress.out; adds = served.progress.adds; is = (says _ _ old.faults new.faults (script_well script) gave wrote, has) }
+      pub wrote : Streams.WroteAlone said store_fixed (heard s.lines.served.taken) (length s.lines.served.taken) input_limit before.ends after.ends faults faults' s.lines.served.progress.out end
+      wrote = alone said store_fixed start heard before after input_limit stop end refl own s.lines.served
 
-    never_cut : Served said old reads before after limit new Ends.Cut → ⊥
-    never_cut served =
-        let no : (reads served.taken).cut ≡ false = ap (λ (s : Stream). s.cut) (reads_is served.taken) ∙ script_not_cut served.taken in
-        let yes : (reads served.taken).cut ≡ true = served.ended.2 in
-        cc
+      abbrev taken : List ℕ
+      taken = s.lines.served.taken
 
-    never_too_long : Served said old reads before after limit new Ends.InputTooLong → ⊥
-    never_too_long served =
-        let t = took script served.taken before.left after.left given served.takes.left in
-        let size : length script ≡ length served.taken + length t.rest = ap (λ (xs : List ℕ). length xs) t.is ∙ length-append served.taken t.rest in
-        omega (arith, size, more, served.ended.2)
+      abbrev text : List ℕ
+      text = s.lines.served.progress.out
 
-    -- these ends can't come over bytes in memory
-    pub never : (end : End) → (end ≡ Ends.Cut) ⊎ ((end ≡ Ends.ReadFault) ⊎ (end ≡ Ends.InputTooLong)) → RoseBy (end_read_faults end) 0 0 → Served said old reads before after limit new end → ⊥
-    never end (inl e) rose served = let P : End → Type 0 = λ x. Served said old reads before after limit new x in never_cut (subst P e served)
-    never end (inr (inl e)) rose served = let P : End → Type 0 = λ x. RoseBy (end_read_faults x) 0 0 in never_rose (subst P e rose)
-    never end (inr (inr e)) rose served = let P : End → Type 0 = λ x. Served said old reads before after limit new x in never_too_long (subst P e served)
+      pub due_of : (due : List Heard) → Streams.IsDue (heard taken) (length taken) input_limit before.ends after.ends due → IsDue taken old new due
+      due_of due (inl x) = IsDue.all x.1.0 x.1.1 x.0
+      due_of due (inr e) = IsDue.whole e
 
--- where nothing is written yet
-says_none : (always : AlwaysSays) (calm : Type 0) (doors doors' : ℕ) (items : List Heard) → AllWellHeard items → min doors (2 ^ 64 - 1) ≤ doors' → SaysFront calm doors doors' items []
-says_none always calm doors doors' items well rises =
-    let made = always items well in (
-      made.0,
-      record {
-        alone = made.1.alone;
-        legal = made.1.legal;
-        page_faults = λ less. omega (arith, made.1.calm);
-        no_page_fault = λ is_calm. made.1.calm;
-      },
-    )
+      pub well_due : (due : List Heard) → Streams.IsDue (heard taken) (length taken) input_limit before.ends after.ends due → AllWellHeard due
+      well_due due (inl x) = subst AllWellHeard (sym x.0) (script_well taken)
+      well_due due (inr e) = subst AllWellHeard (sym e) (whole_script_well taken)
+
+      pub says_due : (due : List Heard) (words : List ℕ) → Streams.IsDue (heard taken) (length taken) input_limit before.ends after.ends due → Streams.SaysWithin said store_fixed due faults faults' words → Says calm doors doors' due words
+      says_due due words is within = says due words faults faults' (well_due due is) gave within
+
+      pub says_whole : Streams.SaysWithin said store_fixed (heard taken).whole faults faults' text → Says calm doors doors' (heard taken).whole text
+      says_whole within = says (heard taken).whole text faults faults' (whole_script_well taken) gave within
+
+      pub says_all : Streams.SaysWithin said store_fixed (heard taken).items faults faults' text → Says calm doors doors' (heard taken).items text
+      says_all within = says (heard taken).items text faults faults' (script_well taken) gave within
+
+      pub ran_with : (rest : List ℕ) (status : Status) → Ended (Unit {0}) calm taken text rest old new (code_of status) → RanTo status
+      ran_with rest status e = record {
+        taken = taken;
+        text = text;
+        rest = rest;
+        takes = record { gave = s.lines.served.takes.given; took = s.lines.served.takes.left };
+        within = s.lines.served.within;
+        adds = s.lines.served.progress.adds;
+        ended = e;
+        full = λ a full none wrote memory. full_of (Unit {0}) calm taken text rest old new (code_of status) a full none wrote memory e;
+      }
+
+    pub ran : (end : End) → ServedByOne before after faults faults' written written' end → RoseBy (end_read_faults end) reads reads' → RoseBy (end_write_faults end) writes writes' → RanTo (status_of end)
+    ran Ends.Quit s r w =
+        let t = wrote Ends.Quit s in
+        ran_with Ends.Quit s [] Statuses.Done (Ended.quit refl tt t.0 (due_of Ends.Quit s t.0 t.1) t.2 refl (says_due Ends.Quit s t.0 _ t.1 t.3))
+    ran Ends.InputEnd s r w =
+        ran_with Ends.InputEnd s [] Statuses.Done (Ended.finished refl tt s.lines.served.ended.3 s.lines.served.closing refl (says_all Ends.InputEnd s (wrote Ends.InputEnd s)))
+    ran Ends.Cut s r w =
+        let no : true ≡ false = sym s.lines.served.ended.2 ∙ script_not_cut s.lines.served.taken in
+        absurd (false≢true (sym no))
+    ran Ends.ReadFault s r w =
+        ran_with Ends.ReadFault s [] Statuses.ReadFault (Ended.unread refl tt s.lines.served.ended.2 r s.lines.served.ended.1 refl (says_whole Ends.ReadFault s (wrote Ends.ReadFault s)))
+    ran Ends.WriteFault s r w =
+        let t = wrote Ends.WriteFault s in
+        ran_with Ends.WriteFault s t.2.0 Statuses.WriteFault (Ended.unwritten refl tt w t.0 (due_of Ends.WriteFault s t.0 t.1) t.2.1 (says_due Ends.WriteFault s t.0 _ t.1 t.2.2))
+    ran Ends.InputTooLong s r w =
+        ran_with Ends.InputTooLong s [] Statuses.InputTooLong (Ended.too_long refl tt s.lines.served.ended.2 s.lines.served.ended.1 refl (says_whole Ends.InputTooLong s (wrote Ends.InputTooLong s)))
+    ran Ends.NoMemory s r w =
+        let t = wrote Ends.NoMemory s in
+        ran_with Ends.NoMemory s t.2.0 Statuses.OutOfMemory (Ended.starved refl tt t.0 (due_of Ends.NoMemory s t.0 t.1) (says_due Ends.NoMemory s t.0 _ t.1 t.2.1))
+
+    pub ran_as : (end end' : End) → end ≡ end' → ServedByOne before after faults faults' written written' end → RoseBy (end_read_faults end) reads reads' → RoseBy (end_write_faults end) writes writes' → RanTo (status_of end')
+    ran_as end end' is s r w = subst (λ (e : End). RanTo (status_of e)) is (ran end s r w)
+
+    pub ran_done : (end : End) → (end ≡ Ends.InputEnd) ⊎ (end ≡ Ends.Quit) → ServedByOne before after faults faults' written written' end → RoseBy (end_read_faults end) reads reads' → RoseBy (end_write_faults end) writes writes' → RanTo Statuses.Done
+    ran_done end (inl is) s r w = ran_as end Ends.InputEnd is s r w
+    ran_done end (inr is) s r w = ran_as end Ends.Quit is s r w
+
+    pub never_cut : (end : End) → end ≡ Ends.Cut → ServedByOne before after faults faults' written written' end → ⊥
+    never_cut end is s =
+        let cut = subst (λ (e : End). ServedByOne before after faults faults' written written' e) is s in
+        false≢true (sym (script_not_cut cut.lines.served.taken) ∙ cut.lines.served.ended.2)
 
 -- where nothing could be done for want of memory
-pub answered_none : (always : AlwaysSays) (calm : Type 0) (doors doors' : ℕ) (script : List ℕ) (written : Option (List ℕ)) → min doors (2 ^ 64 - 1) ≤ doors' →
-    Answering calm doors doors' (heard script).items written written Answers.NoMemory
-answered_none always calm doors doors' script written rises =
-    record { text = []; adds = Appends-nil written; is = says_none always calm doors doors' (heard script).items (script_well script) rises }
+pub ran_none : (calm : Type 0) (given left written : Option (List ℕ)) (old new : Counts) → min old.doors (2 ^ 64 - 1) ≤ new.doors →
+    Ran (Unit {0}) calm given left given left written written old new (code_of Statuses.OutOfMemory)
+ran_none calm given left written old new rises = record {
+  taken = [];
+  text = [];
+  rest = [];
+  takes = record { gave = Appends-nil given; took = Consumes-nil left };
+  within = omega arith;
+  adds = Appends-nil written;
+  ended = Ended.starved refl tt [] (IsDue.whole refl) (record {
+    alone = record { replies = []; last = first_session store_fixed 1; transcript = refl; says = refl };
+    legal = tt;
+    page_faults = λ less. omega arith;
+    no_page_fault = λ is_calm. refl;
+  });
+  full = λ a full none wrote memory. absurd (memory refl);
+}
 
--- ---- how a run ended
-module _ (calm : Type 0) where
-  module _ (given left given' left' written written' : Option (List ℕ)) (old new : Counts) (taken : List ℕ) (takes : TakesOff given left given' left' taken) where
-    pub ran_finished : (answered : Answered) → Answering calm old.doors new.doors (heard taken).items written written' answered → length taken < input_limit → RoseBy 1 old.ends new.ends → RoseBy (write_faults_of answered) old.writes new.writes →
-        Ran (Unit {0}) calm given left given' left' written written' old new (code_of (status_or answered Statuses.Done))
-    ran_finished Answers.All a less ends writes = record { taken = taken; text = a.text; takes = takes; adds = a.adds; ended = Ended.finished refl tt less ends a.is.0 }
-    ran_finished Answers.Quit a less ends writes = record { taken = taken; text = a.text; takes = takes; adds = a.adds; ended = Ended.quit refl tt (heard taken).items (IsDue.all less ends refl) a.is.1 a.is.0 }
-    ran_finished Answers.WriteFault a less ends writes = record { taken = taken; text = a.text; takes = takes; adds = a.adds; ended = Ended.unwritten refl tt writes (heard taken).items (IsDue.all less ends refl) a.is }
-    ran_finished Answers.NoMemory a less ends writes = record { taken = taken; text = a.text; takes = takes; adds = a.adds; ended = Ended.starved refl tt (heard taken).items (IsDue.all less ends refl) a.is }
+-- ---- at the words
 
-    pub ran_unread : (answered : Answered) → Answering calm old.doors new.doors (heard taken).whole written written' answered → length taken < input_limit → RoseBy 1 old.reads new.reads → RoseBy (write_faults_of answered) old.writes new.writes →
-        Ran (Unit {0}) calm given left given' left' written written' old new (code_of (status_or answered Statuses.ReadFault))
-    ran_unread Answers.All a less reads writes = record { taken = taken; text = a.text; takes = takes; adds = a.adds; ended = Ended.unread refl tt less reads a.is.1 a.is.0 }
-    ran_unread Answers.Quit a less reads writes = record { taken = taken; text = a.text; takes = takes; adds = a.adds; ended = Ended.quit refl tt (heard taken).whole (IsDue.whole refl) a.is.1 a.is.0 }
-    ran_unread Answers.WriteFault a less reads writes = record { taken = taken; text = a.text; takes = takes; adds = a.adds; ended = Ended.unwritten refl tt writes (heard taken).whole (IsDue.whole refl) a.is }
-    ran_unread Answers.NoMemory a less reads writes = record { taken = taken; text = a.text; takes = takes; adds = a.adds; ended = Ended.starved refl tt (heard taken).whole (IsDue.whole refl) a.is }
+ended_accepted : (A calm : Type 0) (taken text rest : List ℕ) (old new : Counts) (status : ℕ) → A → Ended (Unit {0}) calm taken text rest old new status → Ended A calm taken text rest old new status
+ended_accepted A calm taken text rest old new status a (Ended.refused e isnt t x) = absurd (isnt tt)
+ended_accepted A calm taken text rest old new status a (Ended.finished e u less rose r x) = Ended.finished e a less rose r x
+ended_accepted A calm taken text rest old new status a (Ended.quit e u due is quits r x) = Ended.quit e a due is quits r x
+ended_accepted A calm taken text rest old new status a (Ended.unread e u less rose quit r x) = Ended.unread e a less rose quit r x
+ended_accepted A calm taken text rest old new status a (Ended.unwritten e u rose due is some x) = Ended.unwritten e a rose due is some x
+ended_accepted A calm taken text rest old new status a (Ended.starved e u due is x) = Ended.starved e a due is x
+ended_accepted A calm taken text rest old new status a (Ended.too_long e u full quit r x) = Ended.too_long e a full quit r x
 
-    pub ran_too_long : (answered : Answered) → Answering calm old.doors new.doors (heard taken).whole written written' answered → length taken ≡ input_limit → RoseBy (write_faults_of answered) old.writes new.writes →
-        Ran (Unit {0}) calm given left given' left' written written' old new (code_of (status_or answered Statuses.InputTooLong))
-    ran_too_long Answers.All a full writes = record { taken = taken; text = a.text; takes = takes; adds = a.adds; ended = Ended.too_long refl tt full a.is.1 a.is.0 }
-    ran_too_long Answers.Quit a full writes = record { taken = taken; text = a.text; takes = takes; adds = a.adds; ended = Ended.quit refl tt (heard taken).whole (IsDue.whole refl) a.is.1 a.is.0 }
-    ran_too_long Answers.WriteFault a full writes = record { taken = taken; text = a.text; takes = takes; adds = a.adds; ended = Ended.unwritten refl tt writes (heard taken).whole (IsDue.whole refl) a.is }
-    ran_too_long Answers.NoMemory a full writes = record { taken = taken; text = a.text; takes = takes; adds = a.adds; ended = Ended.starved refl tt (heard taken).whole (IsDue.whole refl) a.is }
-
-    pub ran_starved : AlwaysSays → min old.doors (2 ^ 64 - 1) ≤ new.doors → written' ≡ written → Ran (Unit {0}) calm given left given' left' written written' old new (code_of Statuses.OutOfMemory)
-    ran_starved always rises same =
-        let P : Option (List ℕ) → Type 0 = λ o. Appends written o [] in
-        record { taken = taken; text = []; takes = takes; adds = subst P (sym same) (Appends-nil written); ended = Ended.starved refl tt (heard taken).whole (IsDue.whole refl) (says_none always calm old.doors new.doors (heard taken).whole (whole_script_well taken) rises) }
-
-  -- ---- from what taking the input told
-
-  took_fault : (limit : ℕ) (given left given' left' : Option (List ℕ)) (r fault : TakeFault) → r ≡ fault → Took limit given left given' left' (Err r) → Took limit given left given' left' (Err fault)
-  took_fault limit given left given' left' r fault e h = let P : TakeFault → Type 0 = λ f. Took limit given left given' left' (Err f) in subst P e h
-
-  counts_fault : (before after : ℕ) (r fault : TakeFault) → r ≡ fault → RoseBy (fault_count (Err r)) before after → RoseBy (fault_count (Err fault)) before after
-  counts_fault before after r fault e h = let P : TakeFault → Type 0 = λ f. RoseBy (fault_count (Err f)) before after in subst P e h
-
-  ran_as : (given left given' left' written written' : Option (List ℕ)) (old new : Counts) (s status : Status) → status ≡ s → Ran (Unit {0}) calm given left given' left' written written' old new (code_of s) → Ran (Unit {0}) calm given left given' left' written written' old new (code_of status)
-  ran_as given left given' left' written written' old new s status e h = let P : Status → Type 0 = λ x. Ran (Unit {0}) calm given left given' left' written written' old new (code_of x) in subst P (sym e) h
-
-  answering_as : (doors doors' : ℕ) (items due : List Heard) (written written' : Option (List ℕ)) (answered : Answered) → items ≡ due → Answering calm doors doors' items written written' answered → Answering calm doors doors' due written written' answered
-  answering_as doors doors' items due written written' answered e h = let P : List Heard → Type 0 = λ xs. Answering calm doors doors' xs written written' answered in subst P e h
-
-  module _ (given left given' left' written written' : Option (List ℕ)) (old new : Counts) (answered : Answered) (status : Status) (writes : RoseBy (write_faults_of answered) old.writes new.writes) where
-    pub ends_finished : (bytes script : List ℕ) → Took input_limit given left given' left' (Ok bytes) → RoseBy 1 old.ends new.ends → script ≡ bytes → Answering calm old.doors new.doors (heard script).items written written' answered →
-        status ≡ status_or answered Statuses.Done → Ran (Unit {0}) calm given left given' left' written written' old new (code_of status)
-    ends_finished bytes script took ends same answering is =
-        let due : (heard script).items ≡ (heard bytes).items = ap (λ (xs : List ℕ). (heard xs).items) same in
-        ran_as given left given' left' written written' old new _ status is (ran_finished given left given' left' written written' old new bytes took.0 answered (answering_as old.doors new.doors _ _ written written' answered due answering) took.1 ends writes)
-
-    pub ends_unread : (r : TakeFault) (bytes script lines : List ℕ) → r ≡ TakeFaults.Failed bytes → Took input_limit given left given' left' (Err r) → RoseBy (fault_count (Err r)) old.reads new.reads → script ≡ bytes →
-        (heard lines).items ≡ (heard script).whole → Answering calm old.doors new.doors (heard lines).items written written' answered → status ≡ status_or answered Statuses.ReadFault →
-        Ran (Unit {0}) calm given left given' left' written written' old new (code_of status)
-    ends_unread r bytes script lines e took reads same kept answering is =
-        let t = took_fault input_limit given left given' left' r (TakeFaults.Failed bytes) e took in
-        let rose = counts_fault old.reads new.reads r (TakeFaults.Failed bytes) e reads in
-        let due : (heard lines).items ≡ (heard bytes).whole = kept ∙ ap (λ (xs : List ℕ). (heard xs).whole) same in
-        ran_as given left given' left' written written' old new _ status is (ran_unread given left given' left' written written' old new bytes t.0 answered (answering_as old.doors new.doors _ _ written written' answered due answering) t.1 rose writes)
-
-    pub ends_too_long : (r : TakeFault) (bytes script lines : List ℕ) → r ≡ TakeFaults.TooLong bytes → Took input_limit given left given' left' (Err r) → script ≡ bytes →
-        (heard lines).items ≡ (heard script).whole → Answering calm old.doors new.doors (heard lines).items written written' answered → status ≡ status_or answered Statuses.InputTooLong →
-        Ran (Unit {0}) calm given left given' left' written written' old new (code_of status)
-    ends_too_long r bytes script lines e took same kept answering is =
-        let t = took_fault input_limit given left given' left' r (TakeFaults.TooLong bytes) e took in
-        let due : (heard lines).items ≡ (heard bytes).whole = kept ∙ ap (λ (xs : List ℕ). (heard xs).whole) same in
-        ran_as given left given' left' written written' old new _ status is (ran_too_long given left given' left' written written' old new bytes t.0 answered (answering_as old.doors new.doors _ _ written written' answered due answering) t.1 writes)
-
-  pub ends_starved : (given left given' left' written : Option (List ℕ)) (old new : Counts) (r : TakeFault) → AlwaysSays → min old.doors (2 ^ 64 - 1) ≤ new.doors → r ≡ TakeFaults.NoMemory → Took input_limit given left given' left' (Err r) →
-      Ran (Unit {0}) calm given left given' left' written written old new (code_of Statuses.OutOfMemory)
-  ends_starved given left given' left' written old new r always rises e took =
-      let t = took_fault input_limit given left given' left' r TakeFaults.NoMemory e took in
-      ran_starved given left given' left' written written old new t.0 t.1.0 always rises refl
-
-  -- ---- at the words
-
-  ended_accepted : (A : Type 0) (taken text : List ℕ) (old new : Counts) (status : ℕ) → A → Ended (Unit {0}) calm taken text old new status → Ended A calm taken text old new status
-  ended_accepted A taken text old new status a (Ended.refused e isnt t x) = absurd (isnt tt)
-  ended_accepted A taken text old new status a (Ended.finished e u less rose x) = Ended.finished e a less rose x
-  ended_accepted A taken text old new status a (Ended.quit e u due is quits x) = Ended.quit e a due is quits x
-  ended_accepted A taken text old new status a (Ended.unread e u less rose quit x) = Ended.unread e a less rose quit x
-  ended_accepted A taken text old new status a (Ended.unwritten e u rose due is x) = Ended.unwritten e a rose due is x
-  ended_accepted A taken text old new status a (Ended.starved e u due is x) = Ended.starved e a due is x
-  ended_accepted A taken text old new status a (Ended.too_long e u full quit x) = Ended.too_long e a full quit x
-
-  pub ran_accepted : (A : Type 0) (given left given' left' written written' : Option (List ℕ)) (old new : Counts) (status n : ℕ) → A → n ≡ status → Ran (Unit {0}) calm given left given' left' written written' old new status →
-      Ran A calm given left given' left' written written' old new n
-  ran_accepted A given left given' left' written written' old new status n a e ran =
+module _ (calm A : Type 0) (given left given' left' written written' : Option (List ℕ)) (old new : Counts) (status n : ℕ) (a : A) where
+  pub ran_accepted : n ≡ status → Ran (Unit {0}) calm given left given' left' written written' old new status → Ran A calm given left given' left' written written' old new n
+  ran_accepted e ran =
       let P : ℕ → Type 0 = λ m. Ran A calm given left given' left' written written' old new m in
-      subst P (sym e) (record { taken = ran.taken; text = ran.text; takes = ran.takes; adds = ran.adds; ended = ended_accepted A ran.taken ran.text old new status a ran.ended })
+      subst P (sym e) (record {
+        taken = ran.taken;
+        text = ran.text;
+        rest = ran.rest;
+        takes = ran.takes;
+        within = ran.within;
+        adds = ran.adds;
+        ended = ended_accepted A calm ran.taken ran.text ran.rest old new status a ran.ended;
+        full = λ b full none wrote memory. ran.full tt full none wrote memory;
+      })
 
-  pub ran_refused : (A : Type 0) (given left written : Option (List ℕ)) (counts : Counts) (n : ℕ) → ¬ A → n ≡ 1 → Ran A calm given left given left written written counts counts n
-  ran_refused A given left written counts n isnt e = record {
-    taken = [];
-    text = [];
-    takes = record { gave = Appends-nil given; took = Consumes-nil left };
-    adds = Appends-nil written;
-    ended = Ended.refused e isnt refl refl;
-  }
+pub ran_refused : (calm A : Type 0) (given left written : Option (List ℕ)) (counts : Counts) (n : ℕ) → ¬ A → n ≡ 1 → Ran A calm given left given left written written counts counts n
+ran_refused calm A given left written counts n isnt e = record {
+  taken = [];
+  text = [];
+  rest = [];
+  takes = record { gave = Appends-nil given; took = Consumes-nil left };
+  within = omega arith;
+  adds = Appends-nil written;
+  ended = Ended.refused e isnt refl refl;
+  full = λ a full none wrote memory. absurd (isnt a);
+}

@@ -1,5 +1,4 @@
-pub mod Take
 pub mod Status
 pub mod Run
 pub mod Legal
-pub mod Answering
+pub mod Serving

@@ -1,18 +1,14 @@
 //! The program: one command, from the bytes that come in to the bytes that go out.
 //!
-//! `run` takes the whole input, answers it line by line by the one session of a new store, whose pages go through doors
-//! that it is lent, and writes the replies.
+//! `run` makes a new store and serves its input line by line by one session, whose pages go through doors that it is lent,
+//! as the lines come. It keeps neither the input nor the replies.
 #![tactic(auto)]
 
 ghost use Rattle.std.specs.Prelude.{◌≡◌};
 
-mod answer;
 pub mod laws;
-mod lines;
 mod program;
+mod serving;
 mod status;
-mod take;
-mod taken;
 
 pub use program::run;
-pub use take::{TakeFault, take_all};

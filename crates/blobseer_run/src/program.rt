@@ -5,19 +5,14 @@ ghost use Rattle.ports.specs.Counts.{RoseBy};
 ghost use Rattle.blobseer_run.specs.Run.{Ran, IsCalm, IsCommand};
 ghost use Rattle.blobseer_run.specs.Status.{code_of, Tells};
 
-use crate::answer::answer_script;
-use crate::laws::transcripts_are_legal;
-use crate::lines::keep_whole_lines;
+use crate::serving::serve_script;
 use crate::status::Status;
-use crate::take::{TakeFault, take_all};
 use page_store::DoorMaker;
+use ports::gate::Gate;
 use ports::stream::{Sink, Source};
 use std::alloc::Global;
 use std::sync::Wait;
 use std::thread::Threads;
-
-// The most bytes that a run takes of its input.
-const INPUT_LIMIT: u64 = 4_294_967_296;
 
 // Whether the words are the command's.
 fn is_command(words: &[String]) -> bool
@@ -29,45 +24,9 @@ fn is_command(words: &[String]) -> bool
     }
 }
 
-// Takes the whole script, and answers it. What was taken before a fault, or before the limit, is
-// answered as far as its lines are whole.
-fn run_script<R: Wait + Threads + Sync, S: Source, K: Sink, M: DoorMaker>(
-    rt: &R,
-    alloc: Global,
-    script: &mut S,
-    out: &mut K,
-    doors: &mut M,
-) -> Status
-    requires true_doors { M.is_true doors.old }
-    ensures ran { Ran (Unit {0}) (IsCalm M.Door.faults) (S.given script.old) (S.left script.old) (S.given script.new) (S.left script.new)
-        (K.written out.old) (K.written out.new)
-        (record { reads = S.read_faults script.old; ends = S.ends script.old; writes = K.write_faults out.old; doors = M.faults doors.old })
-        (record { reads = S.read_faults script.new; ends = S.ends script.new; writes = K.write_faults out.new; doors = M.faults doors.new })
-        (code_of result) }
-    ensures read_faults { RoseBy 0 (S.read_faults script.old) (S.read_faults script.new) }
-    ensures write_faults { RoseBy 0 (K.write_faults out.old) (K.write_faults out.new) }
-    ensures truth_stays { M.is_true doors.old ↔ M.is_true doors.new }
-{
-    // A law: where there is no memory, nothing was written, and that is the beginning of a transcript.
-    transcripts_are_legal();
-    match take_all(alloc, script, INPUT_LIMIT) {
-        Ok(bytes) => answer_script(rt, alloc, bytes.into_vec(), out, doors).status_or(Status::Done),
-        Err(TakeFault::Failed(bytes)) => {
-            let mut lines = bytes.into_vec();
-            keep_whole_lines(&mut lines);
-            answer_script(rt, alloc, lines, out, doors).status_or(Status::ReadFault)
-        }
-        Err(TakeFault::TooLong(bytes)) => {
-            let mut lines = bytes.into_vec();
-            keep_whole_lines(&mut lines);
-            answer_script(rt, alloc, lines, out, doors).status_or(Status::InputTooLong)
-        }
-        Err(TakeFault::NoMemory) => Status::OutOfMemory,
-    }
-}
-
-/// Does what the program does: with the one word `run` it reads a script to its end, answers it by the one session of a
-/// new store, up to a line that asks to end, and writes the replies. It answers the number that the process ends with.
+/// Does what the program does: with the one word `run` it answers a script, as it comes, by the one session of a new store,
+/// up to its end or to a line that asks to end. The replies to what was read are written before more is read, and what was
+/// answered isn't kept. It answers the number that the process ends with.
 ///
 /// | number | when |
 /// |---|---|
@@ -80,8 +39,8 @@ fn run_script<R: Wait + Threads + Sync, S: Source, K: Sink, M: DoorMaker>(
 ///
 /// Each but 0 writes its line on `err`, where a fault changes nothing. The store's pages go through doors of the maker
 /// `doors`, which gives back what was put; it has them back when `run` answers. A page that no door took, or gave, is a
-/// reply, and changes no status.
-pub fn run<R: Wait + Threads + Sync, S: Source, K: Sink, E: Sink, M: DoorMaker>(
+/// reply, and changes no status. The gate is called between the acts of updates. The store is closed before `run` answers.
+pub fn run<R: Wait + Threads + Sync, S: Source, K: Sink, E: Sink, M: DoorMaker, G: Gate>(
     rt: &R,
     alloc: Global,
     words: &[String],
@@ -89,6 +48,7 @@ pub fn run<R: Wait + Threads + Sync, S: Source, K: Sink, E: Sink, M: DoorMaker>(
     out: &mut K,
     err: &mut E,
     doors: &mut M,
+    gate: &G,
 ) -> u8
     // The doors give back the bytes that were put.
     requires true_doors { M.is_true doors.old }
@@ -115,6 +75,6 @@ pub fn run<R: Wait + Threads + Sync, S: Source, K: Sink, E: Sink, M: DoorMaker>(
     if !is_command(words) {
         return Status::WordsRefused.end(err);
     }
-    let status = run_script(rt, alloc, script, out, doors);
+    let status = serve_script(rt, alloc, script, out, doors, gate);
     status.end(err)
 }

@@ -1,8 +1,8 @@
 -- What a call on the desk tells of the list of entries.
-use Rattle.std.proofs.Common.{◌≡◌, ℕ, ◌<◌, ◌^◌, true, false, List, [], ◌∷◌, ◌++◌, length, refl, sym, ap, ◌∙◌, subst, arith}
-use Rattle.std.specs.Prelude.{Result, Ok, Err, IfOk, IfErr}
+use Rattle.std.proofs.Common.{◌≡◌, ℕ, ◌<◌, ◌^◌, true, false, List, [], ◌∷◌, ◌++◌, length, refl, sym, ap, ◌∙◌, subst, inl, inr, arith}
+use Rattle.std.specs.Prelude.{◌⊎◌, Result, Ok, Err, IfOk, IfErr}
 use Rattle.std.proofs.lemmas.List.{map-append, length-map}
-use Rattle.blob_model.specs.History.{IsLegal}
+use Rattle.blob_model.specs.History.{caller_of, IsLegal}
 use Rattle.blob_model.specs.declared.call.Call.{Call}
 use Rattle.blob_model.specs.declared.call.Call.TheVariants as Calls
 use Rattle.blob_model.specs.declared.call.Event.{Event}
@@ -84,6 +84,15 @@ module _ {A E : Type 0} (d d' : DeskState) (event : Event) (r : Result A E) (ws 
   same_by : (s : Result A E) → IfErr s (λ _. d' ≡ d) → IfErr s (λ _. tagged d'.history ≡ tagged d.history)
   same_by (Ok a) e = tt
   same_by (Err x) e = ap (λ (y : DeskState). tagged y.history) e
+
+  adds_by : (s : Result A E) → IfOk s (λ _. tagged d'.history ≡ tagged d.history ++ tag event ∷ []) → IfErr s (λ _. tagged d'.history ≡ tagged d.history)
+      → (tagged d'.history ≡ tagged d.history) ⊎ ((e : Event) × (tagged d'.history ≡ tagged d.history ++ (caller_of event, e) ∷ []))
+  adds_by (Ok a) added e = inr (event, added)
+  adds_by (Err x) added e = inl e
+
+  -- it enters nothing, or one event of the event's caller
+  pub adds : (tagged d'.history ≡ tagged d.history) ⊎ ((e : Event) × (tagged d'.history ≡ tagged d.history ++ (caller_of event, e) ∷ []))
+  adds = adds_by r (added_by r new) (same_by r same)
 
   pub changed : (call : Call) (caller : ℕ) (tells : A → Outcome) (fault : E → DeskFault) → IsLegal d.limits d.history → length d.history < 2 ^ 38 → IsLegal d'.limits d'.history → length d'.history < 2 ^ 38
       → IfOk r (λ a. outcome_now d caller call ≡ tells a) → IfErr r (λ e. OnRefused (fault e) (λ x. outcome_now d caller call ≡ Outcomes.Refused x))

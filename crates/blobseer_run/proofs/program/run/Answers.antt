@@ -12,4 +12,4 @@ returns-then-not-is_command-clause-ran g c =
 pub returns-clause-ran : goal.returns-clause-ran
 returns-clause-ran g c =
     let is : c.is_command.result ≡ true = first_of (cc, search rules, grind arith) in
-    ran_accepted (IsCalm g.M.Door.Door.faults) (IsCommand (map string_bytes c.args.words.now)) _ _ _ _ _ _ _ _ _ c.end-2.result (c.is_command.ensures.0 is) c.end-2.ensures.code c.run_script-status.ensures.ran
+    ran_accepted (IsCalm g.M.Door.Door.faults) (IsCommand (map string_bytes c.args.words.now)) _ _ _ _ _ _ _ _ _ c.end-2.result (c.is_command.ensures.0 is) c.end-2.ensures.code c.serve_script-status.ensures.ran

@@ -6,7 +6,7 @@ use Rattle.blob_model.specs.declared.call.Outcome.TheVariants as Outcomes
 use Rattle.publisher.specs.Windows.{with_finished}
 use Rattle.version_manager.specs.Desks.{windows_with, window_in}
 use Rattle.version_manager.proofs.Results.{if_err}
-use Rattle.version_manager.proofs.Turns.{changed, fixed_stays, finishes, ticket_here, row_here}
+use Rattle.version_manager.proofs.Turns.{adds, changed, fixed_stays, finishes, ticket_here, row_here}
 use Rattle.version_manager.proofs.acts.FinishActDesk.act.Goals as goal
 
 pub finish-finished-requires-clause-ticket : goal.finish-finished-requires-clause-ticket
@@ -31,3 +31,13 @@ returns-clause-gives c =
           before.legal before.short after.legal after.short done.published done.refused,
       finishes d d' t c.args.self.row r (fixed_stays d d' event r ws done.new same) done.unfinished done.finished done.already (if_err r _ (λ e. e.1 ≡ c.args.self.row) (λ e h. h.0) done.same),
     )
+
+pub returns-clause-adds : goal.returns-clause-adds
+returns-clause-adds c =
+    let d = c.args.state.now in
+    let d' = c.finish-finished.new.self in
+    let r = c.finish-finished.result in
+    let t = c.args.self.ticket.now in
+    let done = c.finish-finished.ensures in
+    let ws = λ (_ : ℕ). windows_with d t.blob (with_finished (window_in d t.blob) t.version (arc_value c.args.self.row)) in
+    adds d d' (Events.Finish c.args.caller t.blob t.version) r ws done.new (if_err r _ (λ _. d' ≡ d) (λ e h. h.1) done.same)

@@ -6,13 +6,14 @@ use Rattle.blob_model.specs.Answer.{answer}
 use Rattle.blob_model.specs.History.{store_of}
 use Rattle.blob_model.specs.declared.call.Call.TheVariants as Calls
 use Rattle.blob_model.specs.declared.call.Event.{Event}
+use Rattle.blob_model.specs.declared.call.Event.TheVariants as Events
 use Rattle.blob_model.specs.declared.call.Outcome.TheVariants as Outcomes
 use Rattle.blob_model.specs.declared.call.Refusal.TheVariants as Refusals
 use Rattle.node_store.specs.Rows.{IsRowIn}
 use Rattle.publisher.specs.Windows.{Numbered, with_finished}
 use Rattle.version_manager.specs.declared.entry.Entry.{Entry}
 use Rattle.version_manager.specs.declared.entry.Change.TheVariants as Changes
-use Rattle.version_manager.specs.Desks.{DeskState, finished_or_not, IsTicketOf, IsRowFor}
+use Rattle.version_manager.specs.Desks.{DeskState, finished_or_not, with_event, window_in, windows_with, IsTicketOf, IsRowFor}
 use Rattle.version_manager.specs.Entries.{event_of}
 use Rattle.version_manager.specs.Kept.{KeepsDesk}
 use Rattle.version_manager.proofs.Blobs.{finish_kept, published_is, assigned_is, finished_is}
@@ -253,3 +254,30 @@ returns-then-is_finished-clause-refused c =
     let O : DeskState → ℕ → ℕ → Type 0 = λ s i n. (answer (store_of s.limits s.history) c.args.caller (Calls.Finish i n)).1 ≡ Outcomes.Refused (Refusals.Already v) in
     let here : O this blob v = finish_already d.limits d.page_size h ws c.self.invariant.kept blob c.args.caller v f.at.found done in
     subst (λ (s : DeskState). O s t.blob t.version) c.self.view_is (subst (λ (n : ℕ). O this t.blob n) is (subst (λ (i : ℕ). O this i v) on here))
+
+pub returns-in-Ok-clause-new : goal.returns-in-Ok-clause-new
+returns-in-Ok-clause-new c =
+    let d = c.self.inside in
+    let h = map event_of d.history.items in
+    let ws = d.windows.items in
+    let this : DeskState = record { limits = d.limits; page_size = d.page_size; houses = arc_value d.houses; nodes = arc_value d.nodes; history = h; windows = ws } in
+    let t = c.args.ticket.now in
+    let row = arc_value c.args.row in
+    let blob = c.blob-blob.result in
+    let v = c.version-version.result in
+    let w = c.index_mut.result.now in
+    let on : blob ≡ t.blob = c.blob-blob.ensures in
+    let is : v ≡ t.version = c.version-version.ensures.version in
+    let first : 1 ≤ v = omega (arith, is, c.version-version.ensures.stands.version) in
+    let T : DeskState → Type 0 = λ s. IsTicketOf s t in
+    let R : DeskState → Type 0 = λ s. IsRowFor s t row in
+    let f = finishable d.limits d.page_size h ws c.self.invariant.kept blob (arc_value d.houses) (arc_value d.nodes) t v (blob - 1) w row on is refl first (subst T (sym c.self.view_is) c.requires.ticket) (subst R (sym c.self.view_is) c.requires.row) c.index_mut.ensures.value in
+    let entry : Entry = record { caller = c.args.caller; change = Changes.Finish blob v } in
+    let history = pushed_event d.history.items c.push_reserved.new.self.items entry (c.push_reserved.ensures.items ∙ ap (λ (l : List Entry). l ++ entry ∷ []) c.reserve.ensures.items) in
+    let window : c.finish.new.self ≡ with_finished (window_in this blob) v row = c.in-Ok.ensures.finished ∙ ap (λ (x : Numbered). with_finished x v row) f.at.window in
+    let desk : List Event → Numbered → DeskState = λ l x. record { limits = d.limits; page_size = d.page_size; houses = arc_value d.houses; nodes = arc_value d.nodes; history = l; windows = set ws (blob - 1) x } in
+    let after = map event_of c.push_reserved.new.self.items in
+    let now : desk after c.finish.new.self ≡ desk (h ++ event_of entry ∷ []) (with_finished (window_in this blob) v row) = ap (λ (l : List Event). desk l c.finish.new.self) history ∙ ap (λ (x : Numbered). desk (h ++ event_of entry ∷ []) x) window in
+    let N : DeskState → ℕ → ℕ → Type 0 = λ s i n. desk after c.finish.new.self ≡ with_event s (Events.Finish c.args.caller i n) (windows_with s i (with_finished (window_in s i) n row)) in
+    let here : N this blob v = now in
+    subst (λ (s : DeskState). N s t.blob t.version) c.self.view_is (subst (λ (n : ℕ). N this t.blob n) is (subst (λ (i : ℕ). N this i v) on here))
