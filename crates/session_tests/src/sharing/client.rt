@@ -77,7 +77,7 @@ impl<'a, N: Naming> Member<'a, N> {
         self.session.branch(rt, blob, version).ok()
     }
 
-    /// Updates a blob.
+    /// Updates a blob. Where that fails the session gives up its ticket, so that no other waits for it.
     pub fn update<R: Threads + Wait + Sync>(
         &mut self,
         rt: &R,
@@ -85,10 +85,14 @@ impl<'a, N: Naming> Member<'a, N> {
         place: Place,
         bytes: &[u8],
     ) -> Option<Done> {
-        match place {
-            Place::Append => self.session.append(rt, blob, bytes).ok(),
-            Place::WriteAt(offset) => self.session.write(rt, blob, offset, bytes).ok(),
+        let done = match place {
+            Place::Append => self.session.append(rt, blob, bytes),
+            Place::WriteAt(offset) => self.session.write(rt, blob, offset, bytes),
+        };
+        if done.is_err() {
+            self.session.hang_up(rt);
         }
+        done.ok()
     }
 
     /// Waits until the version is published, and answers whether it is.
