@@ -1,6 +1,6 @@
 //! A long chain of branches, read back through every blob at every version.
 
-use crate::session::{replies_to, session_of};
+use crate::session::said_to_script;
 use page_store::PlainMaker;
 use std::alloc::Global;
 use std::test::Fail;
@@ -110,8 +110,7 @@ fn a_chain_of_fifty_branches_shares_its_past(rt: HostRuntime) -> Result<(), Fail
     let contents = branch_on(alloc, &mut talk)?;
     read_shared(alloc, &mut talk, &contents)?;
     read_own(alloc, &mut talk, &contents)?;
-    let mut solo = session_of(alloc, 4, &mut PlainMaker::new())?;
-    let said = replies_to(&rt, alloc, &mut solo, talk.script.as_str())?;
+    let said = said_to_script(&rt, alloc, 4, &mut PlainMaker::new(), talk.script.as_str())?;
     assert!(rt; said.as_slice() == talk.replies.as_bytes());
     Ok(())
 }

@@ -1,14 +1,20 @@
-//! Tests of a session over its own store, by scripts: at page sizes of which small scripts fill many pages, and over doors of
+//! Tests of sessions: of one over its own store, by scripts, at page sizes of which small scripts fill many pages, and over doors of
 //! which some calls fail.
 #![tactic(auto)]
 
 #[cfg(test)]
 mod branches;
 #[cfg(test)]
+mod hanging_up;
+#[cfg(test)]
 mod scripts;
 #[cfg(test)]
 mod session;
 #[cfg(test)]
+mod sharing;
+#[cfg(test)]
 mod tickets;
 #[cfg(test)]
 mod visits;
+#[cfg(test)]
+mod waiting;

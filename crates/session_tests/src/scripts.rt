@@ -1,6 +1,6 @@
 //! Whole scripts in pages of four bytes, over doors that fail at the calls on their lists.
 
-use crate::session::{replies_to, session_of};
+use crate::session::said_to_script;
 use page_store::FlakyMaker;
 use std::alloc::Global;
 use std::sync::Wait;
@@ -147,8 +147,7 @@ fn said_to<R: Wait + Threads + Sync>(rt: &R, alloc: Global, row: &Row) -> Result
     for calls in row.failing {
         lists.push(calls.to_vec(alloc)?)?;
     }
-    let mut solo = session_of(alloc, 4, &mut FlakyMaker::new(alloc, lists))?;
-    replies_to(rt, alloc, &mut solo, row.script)
+    said_to_script(rt, alloc, 4, &mut FlakyMaker::new(alloc, lists), row.script)
 }
 
 #[test]

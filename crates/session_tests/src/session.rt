@@ -1,9 +1,12 @@
-//! Sessions for tests, and what they answer to a script.
+//! Stores and sessions for tests, and what a session answers to a script.
+ghost use Rattle.std.specs.Prelude.{◌≡◌, IfOk};
+ghost use Rattle.client_session.specs.Sessions.{IsOwnerOf};
 
 use blob_model::Limits;
-use client_session::Solo;
+use client_session::{Owner, Session, Shared};
 use page_fan::Doors;
 use page_store::{Door, DoorMaker};
+use ports::gate::{FreeGate, Gate};
 use ports::memory::{MemSink, MemSource};
 use ports::pair::Pair;
 use request_form::Service;
@@ -21,20 +24,51 @@ const PIECE: usize = 4096;
 // More bytes than any script here and its replies have.
 const ROOM: usize = 1 << 22;
 
-// A session of a new store: pages of so many bytes, three providers, two replicas of each page.
-pub(crate) fn session_of<D: Door + Drop, M: DoorMaker<Door = D>>(
+// A store with no blobs, and its owner: pages of so many bytes, three providers, two replicas of each page.
+pub(crate) fn store_of(alloc: Global, page_size: u64) -> Result<(Shared, Owner), Fail>
+    ensures { IfOk result (λ r. IsOwnerOf r.0 r.1) }
+{
+    let p = PageSize::new(page_size).ok_or("a page size")?;
+    match Shared::new(alloc, Limits::greatest(), p, 3, 2) {
+        Ok(store) => Ok(store),
+        Err(_) => Err("no memory".into()),
+    }
+}
+
+// A new session of a store, with the next pass of its owner.
+pub(crate) fn session_of<'a, D: Door + Drop, M: DoorMaker<Door = D>, G: Gate>(
+    alloc: Global,
+    shared: &'a Shared,
+    owner: &mut Owner,
+    maker: &mut M,
+    gate: &'a G,
+) -> Result<Session<'a, D, G>, Fail>
+    requires owner { IsOwnerOf shared.now owner.old }
+    requires maker { M.is_true maker.old }
+    ensures session { IfOk result (λ s. s.store ≡ shared.now) }
+    ensures owner { IsOwnerOf shared.now owner.new }
+{
+    let doors = Doors::new(alloc, maker, shared.providers())?;
+    let pass = shared.pass(owner)?;
+    match Session::new(alloc, shared, gate, pass, doors) {
+        Ok(session) => Ok(session),
+        Err((_pass, _doors)) => Err("no memory".into()),
+    }
+}
+
+// The replies of the only session of a new store to a script.
+pub(crate) fn said_to_script<D: Door + Drop, M: DoorMaker<Door = D>, R: Wait + Threads + Sync>(
+    rt: &R,
     alloc: Global,
     page_size: u64,
     maker: &mut M,
-) -> Result<Solo<D>, Fail>
+    script: &str,
+) -> Result<Vec<u8>, Fail>
     requires { M.is_true maker.old }
 {
-    let p = PageSize::new(page_size).ok_or("a page size")?;
-    let doors = Doors::new(alloc, maker, 3)?;
-    match Solo::new(alloc, Limits::greatest(), p, 3, 2, doors) {
-        Ok(solo) => Ok(solo),
-        Err((_, _doors)) => Err("no memory".into()),
-    }
+    let (shared, mut owner) = store_of(alloc, page_size)?;
+    let mut session = session_of(alloc, &shared, &mut owner, maker, &FreeGate)?;
+    replies_to(rt, alloc, &mut session, script)
 }
 
 // The replies to a script, which is to be read to its end or to its quit.

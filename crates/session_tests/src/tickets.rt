@@ -1,6 +1,6 @@
 //! Tickets: how many a session holds, and updates that overlap and finish in every order.
 
-use crate::session::{replies_to, session_of};
+use crate::session::said_to_script;
 use page_store::PlainMaker;
 use std::alloc::{AllocError, Global};
 use std::sync::Wait;
@@ -9,8 +9,7 @@ use std::thread::Threads;
 
 // What a session with no tickets says to a script, in pages of four bytes.
 fn said_to<R: Wait + Threads + Sync>(rt: &R, alloc: Global, script: &str) -> Result<Vec<u8>, Fail> {
-    let mut solo = session_of(alloc, 4, &mut PlainMaker::new())?;
-    replies_to(rt, alloc, &mut solo, script)
+    said_to_script(rt, alloc, 4, &mut PlainMaker::new(), script)
 }
 
 // The lines, one after another, with 1 to 64 in place of their number.

@@ -1,9 +1,10 @@
 //! How many node steps a read takes: as many as the shape of the tree asks for, and no step more.
 ghost use Rattle.std.specs.Prelude.{◌≡◌, ◌<◌};
 
-use crate::session::{replies_to, session_of};
-use client_session::Solo;
+use crate::session::{replies_to, said_to_script, session_of, store_of};
+use client_session::Session;
 use page_store::{PlainDoor, PlainMaker};
+use ports::gate::FreeGate;
 use request_form::Fault;
 use std::alloc::Global;
 use std::marker::Brand;
@@ -24,7 +25,7 @@ struct Part {
 // Reads it, and says how many bytes came and how many node steps it took.
 fn counted_by<R: Threads + Wait + Sync, L: Ledger>(
     rt: &R,
-    solo: &mut Solo<PlainDoor>,
+    session: &mut Session<'_, PlainDoor, FreeGate>,
     part: Part,
     blank: Blank,
 ) -> Result<(Vec<u8>, u64), Fault>
@@ -33,16 +34,16 @@ fn counted_by<R: Threads + Wait + Sync, L: Ledger>(
     requires some { 0 < blank.parts }
 {
     let mut steps = Steps::<L>::open(blank);
-    let bytes = solo.read(rt, 1, part.version, part.offset, part.count, &mut steps)?;
+    let bytes = session.read(rt, 1, part.version, part.offset, part.count, &mut steps)?;
     Ok((bytes.into_vec(), steps.taken()))
 }
 
 fn counted<R: Threads + Wait + Sync>(
     rt: &R,
-    solo: &mut Solo<PlainDoor>,
+    session: &mut Session<'_, PlainDoor, FreeGate>,
     part: Part,
 ) -> Result<(Vec<u8>, u64), Fail> {
-    match counted_by::<R, Brand>(rt, solo, part, Blank::new(1)) {
+    match counted_by::<R, Brand>(rt, session, part, Blank::new(1)) {
         Ok(seen) => Ok(seen),
         Err(_) => Err("a fault".into()),
     }
@@ -129,9 +130,16 @@ fn seen_of<R: Threads + Wait + Sync>(
     alloc: Global,
     row: &Visits,
 ) -> Result<(Vec<u8>, u64), Fail> {
-    let mut solo = session_of(alloc, 4, &mut PlainMaker::new())?;
-    replies_to(rt, alloc, &mut solo, row.script)?;
-    counted(rt, &mut solo, row.part)
+    let (shared, mut owner) = store_of(alloc, 4)?;
+    let mut session = session_of(
+        alloc,
+        &shared,
+        &mut owner,
+        &mut PlainMaker::new(),
+        &FreeGate,
+    )?;
+    replies_to(rt, alloc, &mut session, row.script)?;
+    counted(rt, &mut session, row.part)
 }
 
 #[test]
@@ -164,8 +172,15 @@ fn append_of(alloc: Global, bytes: &[u8]) -> Result<String, Fail> {
 fn a_mebibyte_is_read_whole_in_511_node_steps(rt: HostRuntime) -> Result<(), Fail> {
     let alloc = rt.alloc();
     let bytes = long_bytes(alloc, 1_048_576)?;
-    let mut solo = session_of(alloc, 4096, &mut PlainMaker::new())?;
-    let replies = replies_to(&rt, alloc, &mut solo, append_of(alloc, &bytes)?.as_str())?;
+    let (shared, mut owner) = store_of(alloc, 4096)?;
+    let mut session = session_of(
+        alloc,
+        &shared,
+        &mut owner,
+        &mut PlainMaker::new(),
+        &FreeGate,
+    )?;
+    let replies = replies_to(&rt, alloc, &mut session, append_of(alloc, &bytes)?.as_str())?;
     assert_eq!(rt;
         replies.as_slice(),
         "blob 1\nversion 1 at 0 size 1048576\n".as_bytes()
@@ -175,7 +190,7 @@ fn a_mebibyte_is_read_whole_in_511_node_steps(rt: HostRuntime) -> Result<(), Fai
         offset: 0,
         count: 1_048_576,
     };
-    let (seen, steps) = counted(&rt, &mut solo, whole)?;
+    let (seen, steps) = counted(&rt, &mut session, whole)?;
     assert!(rt; seen.as_slice() == bytes.as_slice());
     assert_eq!(rt; steps, 511);
     Ok(())
@@ -185,8 +200,8 @@ fn a_mebibyte_is_read_whole_in_511_node_steps(rt: HostRuntime) -> Result<(), Fai
 fn a_mebibyte_and_a_byte_is_refused(rt: HostRuntime) -> Result<(), Fail> {
     let alloc = rt.alloc();
     let bytes = long_bytes(alloc, 1_048_577)?;
-    let mut solo = session_of(alloc, 4096, &mut PlainMaker::new())?;
-    let replies = replies_to(&rt, alloc, &mut solo, append_of(alloc, &bytes)?.as_str())?;
+    let script = append_of(alloc, &bytes)?;
+    let replies = said_to_script(&rt, alloc, 4096, &mut PlainMaker::new(), script.as_str())?;
     assert_eq!(rt;
         replies.as_slice(),
         "blob 1\nerror update-too-long 1048577\n".as_bytes()
