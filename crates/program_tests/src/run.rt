@@ -1,8 +1,8 @@
 ghost use Rattle.std.specs.Prelude.{◌≡◌, ◌<◌, ◌≤◌, length};
 
-use blob_model::Bytes;
-use blobseer_run::{TakeFault, run, take_all};
+use blobseer_run::run;
 use page_store::{DoorMaker, FlakyMaker, PlainMaker};
+use ports::gate::FreeGate;
 use ports::memory::{MemSink, MemSource};
 use std::alloc::{AllocError, Global};
 use std::sync::Wait;
@@ -117,7 +117,16 @@ fn run_words<R: Wait + Threads + Sync, M: DoorMaker>(
     let mut source = source;
     let mut out = MemSink::new(alloc, room)?;
     let mut err = MemSink::new(alloc, ROOM)?;
-    let status = run(rt, alloc, words, &mut source, &mut out, &mut err, doors);
+    let status = run(
+        rt,
+        alloc,
+        words,
+        &mut source,
+        &mut out,
+        &mut err,
+        doors,
+        &FreeGate,
+    );
     Ok(Ran {
         out: out.bytes().to_vec(alloc)?,
         err: err.bytes().to_vec(alloc)?,
@@ -329,57 +338,5 @@ fn other_words_are_refused(rt: HostRuntime) -> Result<(), Fail> {
         assert_eq!(rt; ran.err.as_slice(), b"blobseer: words refused\n".as_slice());
         assert_eq!(rt; ran.status, 1);
     }
-    Ok(())
-}
-
-// How a source was taken.
-#[derive(Clone, Copy, Debug, PartialEq, Eq)]
-enum End {
-    Whole,
-    Failed,
-    TooLong,
-}
-
-// How a source was taken, and the bytes that were kept.
-fn parts_of(answer: Result<Bytes, TakeFault>) -> Option<(End, Bytes)> {
-    match answer {
-        Ok(bytes) => Some((End::Whole, bytes)),
-        Err(TakeFault::Failed(bytes)) => Some((End::Failed, bytes)),
-        Err(TakeFault::TooLong(bytes)) => Some((End::TooLong, bytes)),
-        Err(TakeFault::NoMemory) => None,
-    }
-}
-
-#[test]
-fn a_source_is_taken_up_to_the_limit(rt: HostRuntime) -> Result<(), Fail> {
-    for piece in PIECES {
-        let mut source = memory_of(rt.alloc(), "abcdefghi", piece, Vec::new(rt.alloc()))?;
-        let (end, bytes) = parts_of(take_all(rt.alloc(), &mut source, 8)).ok_or("no memory")?;
-        assert_eq!(rt; end, End::TooLong, "in pieces of {piece}");
-        assert_eq!(rt;
-            bytes.as_slice(),
-            b"abcdefgh".as_slice(),
-            "in pieces of {piece}"
-        );
-
-        let mut source = memory_of(rt.alloc(), "abcdefghi", piece, Vec::new(rt.alloc()))?;
-        let (end, bytes) = parts_of(take_all(rt.alloc(), &mut source, 10)).ok_or("no memory")?;
-        assert_eq!(rt; end, End::Whole, "in pieces of {piece}");
-        assert_eq!(rt;
-            bytes.as_slice(),
-            b"abcdefghi".as_slice(),
-            "in pieces of {piece}"
-        );
-    }
-    Ok(())
-}
-
-#[test]
-fn a_source_that_fails_keeps_what_it_gave(rt: HostRuntime) -> Result<(), Fail> {
-    let failing = vec![in rt.alloc(); false, false, true]?;
-    let mut source = memory_of(rt.alloc(), "abcdefghi", 2, failing)?;
-    let (end, bytes) = parts_of(take_all(rt.alloc(), &mut source, 100)).ok_or("no memory")?;
-    assert_eq!(rt; end, End::Failed);
-    assert_eq!(rt; bytes.as_slice(), b"abcd".as_slice());
     Ok(())
 }

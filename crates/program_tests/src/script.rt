@@ -274,7 +274,7 @@ fn replies_to_looks_are_written_as_lines(rt: HostRuntime) -> Result<(), Fail> {
 }
 
 // A fault and its line.
-const FAULTS: [(Fault, &str); 19] = [
+const FAULTS: [(Fault, &str); 21] = [
     (Fault::NoBlob { blob: 9 }, "error no-blob 9\n"),
     (
         Fault::NotPublished {
@@ -336,6 +336,11 @@ const FAULTS: [(Fault, &str); 19] = [
         Fault::NoMemoryTicket { ticket: 5 },
         "error no-memory ticket 5\n",
     ),
+    (
+        Fault::FrameTooLong { length: 16_777_313 },
+        "error frame-too-long 16777313\n",
+    ),
+    (Fault::BadFrame, "error bad-frame\n"),
 ];
 
 #[test]

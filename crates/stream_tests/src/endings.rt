@@ -1,5 +1,7 @@
 //! How a stream ends, and what is written then.
 
+ghost use Rattle.std.specs.Prelude.{◌<◌, ◌≤◌};
+
 use crate::unasked::Unasked;
 use ports::memory::{MemSink, MemSource};
 use ports::pair::Pair;

@@ -1,5 +1,7 @@
 //! When replies are written.
 
+ghost use Rattle.std.specs.Prelude.{◌≡◌, ◌<◌, []};
+
 use crate::long::{LENGTH, LongReplies};
 use crate::noted::{Act, Noted};
 use crate::unasked::Unasked;
@@ -37,7 +39,8 @@ fn acts_of<R: Wait + Threads + Sync, T: Dialect>(
     piece: usize,
     end: End,
 ) -> Result<Noted, Fail>
-    requires { (T.reads dialect.old []).whole ≡ [] }
+    requires fresh { (T.reads dialect.old []).whole ≡ [] }
+    requires piece { 0 < piece }
 {
     let mut io = Noted::new(alloc, script, piece)?;
     if serve_stream(rt, alloc, &mut Unasked, dialect, &mut io, LIMIT) != end {

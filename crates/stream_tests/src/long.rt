@@ -1,6 +1,6 @@
 //! Lines whose replies are long.
 
-ghost use Rattle.std.specs.Prelude.{◌≡◌, IfOk, replicate};
+ghost use Rattle.std.specs.Prelude.{◌≡◌, [], IfOk};
 
 use blob_model::Bytes;
 use request_form::{Dialect, Ending, Heard, NoMemory, Reply};
@@ -19,14 +19,19 @@ pub(crate) struct LongReplies {
 
 impl LongReplies {
     /// A dialect that was fed nothing.
-    pub(crate) fn new(alloc: Global) -> Result<LongReplies, NoMemory> {
+    pub(crate) fn new(alloc: Global) -> Result<LongReplies, NoMemory>
+        ensures { IfOk result (λ dialect. dialect.lines ≡ []) }
+    {
         let lines = ScriptDialect::new(alloc)?;
         Ok(LongReplies { alloc, lines })
     }
 }
 
 impl Dialect for LongReplies {
-    ghost reads = { λ d. ScriptDialect.reads d.lines };
+    ghost use Rattle.std.specs.Prelude.{◌++◌, replicate};
+    ghost use Rattle.script_text.specs.Lines.{heard};
+
+    ghost reads = { λ d more. heard (d.lines ++ more) };
 
     ghost said = { λ reply. replicate 70000 120 };
 
