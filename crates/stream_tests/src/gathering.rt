@@ -2,7 +2,6 @@
 
 ghost use Rattle.std.specs.Prelude.{◌≡◌, ◌<◌, []};
 
-use crate::long::{LENGTH, LongReplies};
 use crate::noted::{Act, Noted};
 use crate::unasked::Unasked;
 use request_form::Dialect;
@@ -96,16 +95,5 @@ fn replies_to_many_lines_are_written_in_few_writes(rt: HostRuntime) -> Result<()
     // Three whole pieces of 32,768 lines, the rest of 1,696 lines, and the end. Fewer than 65,536 bytes are held.
     assert_eq!(rt; reads, 5);
     assert_eq!(rt; writes, 3 * 9 + 1);
-    Ok(())
-}
-
-#[test]
-fn a_long_reply_is_written_by_itself(rt: HostRuntime) -> Result<(), Fail> {
-    let alloc = rt.alloc();
-    let script = wrong_lines(alloc, 2)?;
-    let mut dialect = LongReplies::new(alloc)?;
-    let io = acts_of(&rt, alloc, &mut dialect, script, usize::MAX, End::InputEnd)?;
-    let expected = [Act::Read, Act::Wrote(LENGTH), Act::Wrote(LENGTH), Act::Read];
-    assert_eq!(rt; io.acts(), expected.as_slice());
     Ok(())
 }

@@ -6,8 +6,6 @@ mod endings;
 #[cfg(test)]
 mod gathering;
 #[cfg(test)]
-mod long;
-#[cfg(test)]
 mod noted;
 #[cfg(test)]
 mod unasked;
