@@ -218,10 +218,17 @@ fn streams_say_the_same_cut_at_each_byte(rt: HostRuntime) -> Result<(), Fail> {
     Ok(())
 }
 
+// A head, and a byte so many times behind it.
+fn long_frame(alloc: Global, head: &[u8], byte: u8, count: usize) -> Result<Vec<u8>, AllocError> {
+    let mut stream = head.to_vec(alloc)?;
+    let body = vec![in alloc; byte; count]?;
+    stream.extend_from_slice(body.as_slice())?;
+    Ok(stream)
+}
+
 // A frame whose length is past the greatest by one, and a frame behind it.
 fn too_long(alloc: Global) -> Result<Vec<u8>, AllocError> {
-    let mut stream = vec![in alloc; 1u8; 2_097_157]?;
-    stream.as_mut_slice()[..4].copy_from_slice(&[0, 0x20, 0, 1]);
+    let mut stream = long_frame(alloc, &[0, 0x20, 0, 1], 1, 2_097_153)?;
     stream.extend_from_slice(&[0, 0, 0, 1, 1])?;
     Ok(stream)
 }
@@ -239,8 +246,8 @@ fn a_frame_that_is_too_long_is_answered_behind_its_last_byte(rt: HostRuntime) ->
 
 #[test]
 fn an_update_of_the_longest_frame_is_heard_whole(rt: HostRuntime) -> Result<(), Fail> {
-    let mut stream = vec![in rt.alloc(); 7u8; 2_097_156]?;
-    stream.as_mut_slice()[..13].copy_from_slice(&[0, 0x20, 0, 0, 2, 0, 0, 0, 0, 0, 0, 0, 1]);
+    let head = [0, 0x20, 0, 0, 2, 0, 0, 0, 0, 0, 0, 0, 1];
+    let stream = long_frame(rt.alloc(), &head, 7, 2_097_143)?;
     let mut dialect = FrameDialect::new(rt.alloc())?;
     let mut count = 0;
     for part in stream.as_slice().chunks(1000) {
