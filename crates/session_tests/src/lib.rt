@@ -5,16 +5,10 @@
 #[cfg(test)]
 mod branches;
 #[cfg(test)]
-mod hanging_up;
-#[cfg(test)]
 mod scripts;
 #[cfg(test)]
 mod session;
 #[cfg(test)]
-mod sharing;
-#[cfg(test)]
 mod tickets;
 #[cfg(test)]
 mod visits;
-#[cfg(test)]
-mod waiting;
