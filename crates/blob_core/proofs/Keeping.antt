@@ -14,13 +14,15 @@ use Rattle.range_log.specs.Log.{HasNode}
 use Rattle.range_log.specs.Extents.{InBounds}
 use Rattle.range_log.specs.Updates.{update_at, extents, Replayable}
 use Rattle.range_log.specs.Rows.{node_of}
-use Rattle.blob_core.specs.World.{World, empty_world, Kept, same_number, same_update, same_key, page_at, node_at, kept_at, origin, origin_of, key_in, node_in, joined, AreCut, log_of, waiting_after}
-use Rattle.blob_core.specs.declared.world.Parent.{Parent}
+use Rattle.blob_core.specs.World.{World, empty_world, Kept, same_number, same_update, same_key, page_at, node_at, kept_at, origin, key_in, node_in, joined, AreCut, log_of, waiting_after}
+use Rattle.branching.specs.Parents.{origin_of}
+use Rattle.branching.specs.declared.Parent.{Parent}
 use Rattle.blob_core.specs.declared.world.UpdateKey.{UpdateKey}
 use Rattle.blob_core.specs.Woven.{woven}
 use Rattle.blob_core.specs.Steps.{IsNumberedIn, RowIsThere, next_kept, with_update, with_node}
 use Rattle.blob_core.specs.Promises.{IsRowNode, NodesAreRows}
-use Rattle.blob_core.proofs.Lists.{one_value, none_some, number_means, update_means, update_itself, key_means, entry_kept, entry_new, entry_old, mark_next, mark_set, prefix_marked, prefix_within, prefix_set, prefix_next, prefix_all, origin_older, origin_past, origin_own, origin_shared, KeepsPages, SmallPages, cut_kept, joined_kept}
+use Rattle.blob_core.proofs.Lists.{one_value, none_some, number_means, update_means, update_itself, key_means, entry_kept, entry_new, entry_old, mark_next, mark_set, prefix_marked, prefix_within, prefix_set, prefix_next, prefix_all, KeepsPages, SmallPages, cut_kept, joined_kept}
+use Rattle.branching.proofs.Parents.{origin_older, origin_past, origin_own, origin_shared}
 use Rattle.blob_core.proofs.Growing.{Cited, Agrees, agree_same, agree_more, agree_front, replay_front, replay_next, update_next, waiting_same, length_log}
 use Rattle.blob_core.proofs.Finding.{RowsKnown, woven_is}
 use Rattle.blob_core.proofs.Taken.{blob_some, more_kept, more_was, with_was, with_new, with_on}

@@ -18,4 +18,3 @@ mod Rowing
 mod Onward
 mod Walking
 mod Sound
-mod Lines

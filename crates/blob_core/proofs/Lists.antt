@@ -7,8 +7,7 @@ use Rattle.std.proofs.Math.Seq.{take-append_seam, drop-append-add}
 use Rattle.std.proofs.Math.ListN.{drop_of_length-le}
 use Rattle.blob_model.specs.Store.{true_prefix}
 use Rattle.tree_geom.specs.declared.node.NodeKey.{NodeKey}
-use Rattle.blob_core.specs.World.{IsKnown, entry_at, same_number, same_update, same_key, page_at, origin_of, bytes_of_page, joined, nth_page, AreCut}
-use Rattle.blob_core.specs.declared.world.Parent.{Parent}
+use Rattle.blob_core.specs.World.{IsKnown, entry_at, same_number, same_update, same_key, page_at, bytes_of_page, joined, nth_page, AreCut}
 use Rattle.blob_core.specs.declared.world.UpdateKey.{UpdateKey}
 
 -- ---- tests
@@ -166,26 +165,6 @@ prefix_next (b ∷ bs) cs = front_fewer b _ _ (prefix_next bs cs)
 pub prefix_all : (n : ℕ) → true_prefix (replicate n true) ≡ n
 prefix_all zero = refl
 prefix_all (suc n) = omega (arith, prefix_all n)
-
--- ---- lineages
-pub origin_older : (x : Option Parent) (older : List (Option Parent)) (blob version : ℕ) → blob ≤ length older → origin_of (x ∷ older) blob version ≡ origin_of older blob version
-origin_older None older blob version le = refl
-origin_older (Some q) older blob version le = let t : (blob == suc (length older) && nat_le version q.version) ≡ false = grind (arith, nat_tests) in rw t refl
-
-pub origin_past : (l : List (Option Parent)) (blob version : ℕ) → length l < blob → origin_of l blob version ≡ blob
-origin_past [] blob version lt = refl
-origin_past (None ∷ l) blob version lt = origin_past l blob version (omega arith)
-origin_past (Some q ∷ l) blob version lt =
-    let t : (blob == suc (length l) && nat_le version q.version) ≡ false = grind (arith, nat_tests) in rw t (origin_past l blob version (omega arith))
-
-pub origin_own : (q : Parent) (l : List (Option Parent)) (blob version : ℕ) → blob ≡ suc (length l) → q.version < version → origin_of (Some q ∷ l) blob version ≡ blob
-origin_own q l blob version e lt =
-    let t : (blob == suc (length l) && nat_le version q.version) ≡ false = grind (arith, nat_tests) in rw t (origin_past l blob version (omega arith))
-
-pub origin_shared : (q : Parent) (l : List (Option Parent)) (blob version : ℕ) → blob ≡ suc (length l) → version ≤ q.version
-    → origin_of (Some q ∷ l) blob version ≡ origin_of l q.blob version
-origin_shared q l blob version e le =
-    let t : (blob == suc (length l) && nat_le version q.version) ≡ true = grind (arith, nat_tests) in rw t refl
 
 -- ---- pages
 -- what is there stays

@@ -5,4 +5,3 @@ pub mod Walk
 pub mod Promises
 pub mod Standing
 pub mod Acts
-pub mod Lines

@@ -7,7 +7,8 @@ use Rattle.tree_geom.specs.declared.touch.Touch.{Touch}
 use Rattle.tree_geom.specs.declared.node.Node.{Node}
 use Rattle.tree_geom.specs.declared.node.NodeKey.{NodeKey}
 use Rattle.range_log.specs.declared.«open».OpenTouch.{OpenTouch}
-use Rattle.blob_core.specs.declared.world.Parent.{Parent}
+use Rattle.branching.specs.declared.Parent.{Parent}
+use Rattle.branching.specs.Parents.{origin_of}
 use Rattle.blob_core.specs.declared.world.UpdateKey.{UpdateKey}
 use Rattle.range_log.specs.Log.{touch_at}
 use Rattle.range_log.specs.Extents.{touches}
@@ -66,14 +67,7 @@ node_at nodes key = entry_at same_key nodes key
 abbrev pub kept_at : List (UpdateKey × Kept) → ℕ → ℕ → Option Kept
 kept_at updates blob version = entry_at same_update updates (record { blob = blob; version = version })
 
--- The blob that a version was numbered in, where blob number n has the n-th parent from the end: the blob itself, but the
--- parent's for a version of a branch up to the one that it was taken at.
-abbrev pub origin_of : List (Option Parent) → ℕ → ℕ → ℕ
-origin_of [] blob version = blob
-origin_of (None ∷ older) blob version = origin_of older blob version
-origin_of (Some parent ∷ older) blob version =
-    if blob == suc (length older) && nat_le version parent.version then origin_of older parent.blob version else origin_of older blob version
-
+-- the blob that a blob's version was numbered in
 abbrev pub origin : World → ℕ → ℕ → ℕ
 origin w blob version = origin_of w.lineage blob version
 

@@ -11,7 +11,7 @@ use crate::finds::marked;
 use crate::laws::steps_hold;
 use crate::pages::copy_of;
 use crate::state::{ActFault, State, StoredBlob, StoredUpdate};
-use crate::world::Parent;
+use branching::Parent;
 use std::alloc::{AllocError, Global};
 use tree_geom::PageSize;
 

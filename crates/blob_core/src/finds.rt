@@ -1,11 +1,12 @@
 // Where things are in a world.
 ghost use Rattle.std.specs.Prelude.{◌≡◌, None, Some, MatchOption};
 ghost use Rattle.blob_model.specs.Store.{blob_at, true_prefix};
-ghost use Rattle.blob_core.specs.World.{same_key, node_at, page_at, origin_of};
+ghost use Rattle.blob_core.specs.World.{same_key, node_at, page_at};
+ghost use Rattle.branching.specs.Parents.{origin_of};
 
 use crate::state::{State, StoredBlob};
-use crate::world::Parent;
 use blob_model::Bytes;
+use branching::Parent;
 use tree_geom::{Node, NodeKey};
 
 /// Whether the keys are the same.

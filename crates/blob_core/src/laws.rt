@@ -1,7 +1,6 @@
 //! What holds after every list of allowed steps.
 ghost use Rattle.blob_core.specs.Promises.{StepsHold};
 ghost use Rattle.blob_core.specs.Standing.{ReachedStays};
-ghost use Rattle.blob_core.specs.Lines.{LinesStay, FirstLines, BranchedLines};
 
 use range_log::laws as rows;
 use tree_walk::laws as walks;
@@ -33,11 +32,3 @@ pub fn steps_hold()
     walks::weaver_finds();
     walks::visited_are_few();
 }
-
-/// Where each blob has a `branching::Lineage`, made by `first` with the blob and by `branch` with a branch, each of them tells
-/// the origins that the world's parents do, as long as the world goes on.
-pub fn lineages_tell_origins()
-    ensures stay { LinesStay }
-    ensures first { FirstLines }
-    ensures branched { BranchedLines }
-{}

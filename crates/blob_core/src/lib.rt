@@ -21,7 +21,7 @@ mod updates;
 mod walk;
 mod world;
 
-pub use laws::{lineages_tell_origins, steps_hold};
+pub use laws::steps_hold;
 pub use range_log::NoMemory;
 pub use replaying::{ReplayFault, replay};
 pub use step::{PageList, Step};

@@ -1,6 +1,7 @@
 // What a world holds: the store, the pages, what is kept beside each update, and the nodes.
-use crate::world::{Parent, UpdateKey};
+use crate::world::UpdateKey;
 use blob_model::{Bytes, Limits, Place};
+use branching::Parent;
 use range_log::{NoMemory, OpenTouch};
 use std::alloc::{AllocError, AllocFailed};
 use std::marker::Model;

@@ -19,13 +19,6 @@ use std::alloc::Global;
 use std::marker::Model;
 use tree_geom::{Node, NodeKey, PageSize};
 
-/// The blob that a branch was made from, and the version that it was taken at.
-#[derive(Clone, Copy)]
-pub struct Parent {
-    pub blob: u64,
-    pub version: u64,
-}
-
 /// The blob that an update was numbered in, and its version.
 #[derive(Clone, Copy)]
 pub struct UpdateKey {

@@ -1,2 +1,4 @@
 pub mod Line
 pub mod Rising
+pub mod Parents
+pub mod Laws

@@ -1,11 +1,23 @@
-//! The lineage of a blob: under which blob's id the nodes of each of its versions are kept.
+//! The lineage of a blob: under which blob's id the nodes of each of its versions are kept. [`laws`] says what the parents of
+//! all blobs of a store tell of it, and that a [`Lineage`] tells the same.
 #![tactic(auto)]
 
 ghost use Rattle.std.specs.Prelude.{◌≡◌, ◌<◌, ◌≤◌, ℕ, IfOk, length};
 ghost use Rattle.branching.specs.Line.{origin_of, begun_before};
 
+pub mod laws;
+
 use std::alloc::{AllocError, AllocFailed, Global};
 use std::marker::Model;
+
+/// The blob that a branch was made from, and the version that it was taken at.
+#[derive(Clone, Copy)]
+pub struct Parent {
+    /// The blob.
+    pub blob: u64,
+    /// The version.
+    pub version: u64,
+}
 
 /// No memory was found.
 #[derive(Clone, Copy, Debug, PartialEq, Eq)]

@@ -23,7 +23,7 @@ nodes_of nodes houses s h = λ k row lt. (h k row lt).nodes_here
 pub may_finish : (f : DeskFixed) (log : List (ℕ × Event)) (o : OpenUpdate) (row : UpdateRow) → IsOpen f log o → o.row ≡ Some row → MayFinish o.ticket row log f
 may_finish f log o row open_ is =
     let woven : IsWoven f.nodes f.houses o.ticket row = subst (λ (x : Option UpdateRow). IfSome x (IsWoven f.nodes f.houses o.ticket)) is open_.row in
-    record { ticket = open_.ticket; row_for = woven.for (desk_at f log) open_.ticket; here = woven.here }
+    record { ticket = open_.ticket; row_for = woven.for (desk_at f log) open_.ticket; under = woven.under; here = woven.here }
 
 -- the update of that number, once its row is kept
 pub taken_of : (held os : List OpenUpdate) (place number : ℕ) (row : UpdateRow) → (h : IsHeldAt held number place) → os ≡ slice_set held place (with_row h.update row) → IsTaken held os place number h.update

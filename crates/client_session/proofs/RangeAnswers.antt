@@ -1,12 +1,11 @@
 -- What a session answers a read, by what its turn and its walk gave.
-use Rattle.std.proofs.Common.{◌≡◌, refl, sym, ◌∙◌, ap, ℕ, ◌+◌, ◌<◌, ◌≤◌, List, [], ◌++◌, append-nil, length, take, drop, Result, Err, Bool, true, false, Some, None, inl, inr, arith}
+use Rattle.std.proofs.Common.{◌≡◌, refl, sym, ◌∙◌, ap, ℕ, ◌+◌, ◌<◌, ◌≤◌, List, ◌++◌, length, take, drop, Result, Err, Bool, true, false, Some, None, arith}
 use Rattle.std.specs.Prelude.{nat_lt, if◌then◌else◌}
-use Rattle.std.proofs.lemmas.Bool.{cases_lt, ltb-true, false≢true}
+use Rattle.std.proofs.lemmas.Bool.{ltb-true, false≢true}
 use Rattle.ports.specs.Counts.{RoseBy}
-use Rattle.page_store.specs.Count.{HasRisen}
 use Rattle.blob_model.specs.Answer.{answer}
 use Rattle.blob_model.specs.Content.{content, size_of}
-use Rattle.blob_model.specs.History.{AllOther, store_of}
+use Rattle.blob_model.specs.History.{AllOther}
 use Rattle.blob_model.specs.declared.call.Call.TheVariants as Calls
 use Rattle.blob_model.specs.declared.call.Event.{Event}
 use Rattle.blob_model.specs.declared.call.Outcome.TheVariants as Outcomes
@@ -17,9 +16,8 @@ use Rattle.version_manager.specs.Log.{desk_at, events, outcome_in}
 use Rattle.version_manager.specs.declared.journal.DeskFixed.{DeskFixed}
 use Rattle.version_manager.specs.declared.fault.DeskFault.{DeskFault}
 use Rattle.version_manager.specs.declared.fault.DeskFault.TheVariants as DeskFaults
-use Rattle.request_form.specs.Session.{Session, outcome_at}
+use Rattle.request_form.specs.Session.{Session}
 use Rattle.request_form.specs.Answers.{ReadAnswer, Unless, read_fault, max_read}
-use Rattle.request_form.specs.Replies.{page_faults}
 use Rattle.request_form.specs.declared.form.Reply.{Reply}
 use Rattle.request_form.specs.declared.form.Reply.TheVariants as Replies
 use Rattle.request_form.specs.declared.form.Fault.{Fault}
@@ -36,11 +34,6 @@ use Rattle.client_session.proofs.Ranges.{read_refused, read_past, read_within, c
 -- ---- the count of faults
 pub rose_none : (n a b : ℕ) → n ≡ 0 → a ≤ b → RoseBy n a b
 rose_none n a b none le = record { later = le; by = λ few. omega arith }
-
-pub rose_reading : (a b : ℕ) (fault : RangeFault) → OnPageLost fault (λ _. HasRisen a b) → a ≤ b → RoseBy (page_faults (range_fault fault)) a b
-rose_reading a b (RangeFaults.RangePastSize end size) risen le = rose_none 0 a b refl le
-rose_reading a b (RangeFaults.PageFault page) risen le = risen
-rose_reading a b RangeFaults.NoMemory risen le = rose_none 0 a b refl le
 
 none_unless : (x : Bool) (fault : Fault) (s : Session) (reply : Reply) (s' : Session) (Answer : Type 0) → x ≡ false → Answer → Unless (if x then Some fault else None) s reply s' Answer
 none_unless true fault s reply s' Answer is answer = absurd (false≢true (sym is))
@@ -131,15 +124,3 @@ module _ (f : DeskFixed) (caller : ℕ) (log log' gap : List (ℕ × Event)) (ot
           seen = seen_gap f caller log log' gap held next same;
         }
     failed_read RangeFaults.NoMemory refused past lost page = ReadAnswer.out_of_memory record { others = events gap; is_gap = others; said = refl; seen = seen_gap f caller log log' gap held next same }
-
-    -- a read that the store refuses then is past the size
-    pub past_if_refused : (r : Refusal) → outcome_at (session_at f caller log' held next) [] (Calls.Read blob version offset count) ≡ Outcomes.Refused r
-        → size_of (updates_in (desk_at f (log ++ gap)) blob) version < offset + count
-    past_if_refused r e =
-        let now : outcome_in f (log ++ gap) caller (Calls.Read blob version offset count) ≡ outcome_at (session_at f caller log' held next) [] (Calls.Read blob version offset count) =
-        ap (λ (h : List Event). (answer (store_of f.limits h) caller (Calls.Read blob version offset count)).1) (ap events (sym same) ∙ sym (append-nil (events log')))
-        in
-        elim (cases_lt (size_of (updates_in (desk_at f (log ++ gap)) blob) version) (offset + count)) [
-          | inl past ↦ past
-          | inr within ↦ absurd (not_both r (take count (drop offset (content (updates_in (desk_at f (log ++ gap)) blob) version))) (sym (now ∙ e) ∙ read_within f (log ++ gap) caller blob version offset count n there within))
-        ]

@@ -15,9 +15,10 @@ use Rattle.client_session.specs.Tickets.{OpenUpdate, Rise, all_held}
 use Rattle.client_session.specs.Sessions.{StoreState, IsPassOf}
 
 -- ---- what a held update keeps
--- the row is that of the ticket at each desk which the ticket is of, and lies in these houses
+-- the row is that of the ticket at each desk which the ticket is of, is stored under the ticket's blob, and lies in these houses
 pub record IsWoven (nodes : List Shelves) (houses : List House) (t : NumberedUpdate) (row : UpdateRow) : Type 0 where
   pub for : (d : DeskState) → IsTicketOf d t → IsRowFor d t row
+  pub under : row.blob ≡ t.blob
   pub here : IsRowIn nodes houses row
 
 -- the nodes of the ticket's snapshot and its pages lie in these houses

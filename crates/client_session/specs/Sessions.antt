@@ -1,5 +1,5 @@
 -- A store that sessions share, and a session of it: what their clauses see.
-use Rattle.std.specs.Prelude.{◌≡◌, ◌≢◌, ℕ, ◌<◌, List, [], Some}
+use Rattle.std.specs.Prelude.{◌≡◌, ◌≢◌, ℕ, ◌<◌, List, [], ◌++◌, Some}
 use Rattle.atomic_table.specs.Seated.{TableId}
 use Rattle.blob_model.specs.Content.{Update}
 use Rattle.blob_model.specs.Store.{blob_at}
@@ -18,7 +18,9 @@ use Rattle.version_manager.specs.Desks.{updates_or_none}
 use Rattle.version_manager.specs.Log.{IsLog, events}
 use Rattle.version_manager.specs.declared.journal.DeskFixed.{DeskFixed}
 use Rattle.request_form.specs.Answers.{max_read}
+use Rattle.request_form.specs.PublishedReads.{IsPublishedIn, Range, Tells, read_outcome}
 use Rattle.request_form.specs.Session.{Session, outcome_at}
+use Rattle.request_form.specs.declared.form.Reply.{Reply}
 use Rattle.client_session.specs.Tickets.{OpenUpdate, all_held}
 
 -- a store that sessions share: the lock of its desk, what no act changes, and how many providers it has
@@ -93,3 +95,9 @@ pub record NoStepIfRefused (s : Session) (blob version offset count before after
 -- it isn't said that the version is pending
 abbrev pub IsSettled : Outcome → Type 0
 IsSettled outcome = (version held : ℕ) → outcome ≢ Outcomes.Refused (Refusals.Pending version held)
+
+-- The reply to a read of that range, by a session that has seen this by then. Where the version is published in any history that it has seen, the reply is what
+-- the store of that history answers, unless the read is too long or the outside failed.
+abbrev pub AnswersAsPublished : Session → Range → Reply → Type 0
+AnswersAsPublished s range reply = (history more : List Event) → s.seen ≡ history ++ more → IsPublishedIn (store_of s.fixed.limits history) range.blob range.version
+    → Tells (read_outcome (store_of s.fixed.limits history) range) range.count reply

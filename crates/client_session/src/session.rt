@@ -3,10 +3,10 @@ ghost use Rattle.std.specs.Prelude.{◌≡◌, ◌≢◌, ℕ, ◌+◌, ◌<◌,
 ghost use Rattle.ports.specs.Counts.{RoseBy};
 ghost use Rattle.blob_model.specs.History.{AllOther};
 ghost use Rattle.request_form.specs.Replies.{reply_of, page_faults, fault_count};
-ghost use Rattle.request_form.specs.Answers.{Answers};
+ghost use Rattle.request_form.specs.Answers.{Answers, max_read};
 ghost use Rattle.request_form.specs.declared.form.Request.TheVariants as Requests;
 ghost use Rattle.client_session.specs.Results.{desk_fault, told_of, range_fault, create_reply, branch_reply, read_reply};
-ghost use Rattle.client_session.specs.Sessions.{IsPassOf, session_of, pass_of, Continues, visits_seen, NoStepIfRefused, IsSettled};
+ghost use Rattle.client_session.specs.Sessions.{IsPassOf, session_of, pass_of, Continues, visits_seen, NoStepIfRefused, IsSettled, AnswersAsPublished};
 
 use crate::reading::{RangeFault, read_range};
 use crate::shared::Shared;
@@ -228,7 +228,8 @@ impl<'a, D: Door, G: Gate> Session<'a, D, G> {
     ///
     /// `ReadTooLong` comes first, exactly where more than 16,777,216 bytes are asked for, then the store's refusals, then
     /// `PageFault`. It takes one turn, in which it gets the version's snapshot, and then walks without a lock through at most the
-    /// stated number of tree nodes; none where it is refused.
+    /// stated number of tree nodes; none where it is refused. Where the version is published in any history that the session has
+    /// seen, the reply is what the store of that history answers, whatever has come since.
     pub fn read<R: Wait, L: Ledger>(
         &mut self,
         rt: &R,
@@ -242,11 +243,33 @@ impl<'a, D: Door, G: Gate> Session<'a, D, G> {
         ensures faults { RoseBy (fault_count (read_reply result)) (sum_by D.faults self.old.doors) (sum_by D.faults self.new.doors) }
         ensures goes_on { Continues self.old self.new }
         ensures steps { steps.new ≤ steps.old + visits_seen (session_of self.new) blob version offset count }
+        ensures stays { AnswersAsPublished (session_of self.new) (record { blob = blob; version = version; offset = offset; count = count }) (read_reply result) }
         ensures no_step { NoStepIfRefused (session_of self.new) blob version offset count steps.old steps.new }
     {
         if count > MAX_READ {
             return Err(Fault::ReadTooLong { length: count });
         }
+        request_form::laws::published_reads_stay();
+        self.read_few(rt, blob, version, offset, count, steps)
+    }
+
+    // Reads at most as many bytes as a read may be asked for.
+    fn read_few<R: Wait, L: Ledger>(
+        &mut self,
+        rt: &R,
+        blob: u64,
+        version: u64,
+        offset: u64,
+        count: u64,
+        steps: &mut Steps<L>,
+    ) -> Result<Bytes, Fault>
+        requires { count ≤ max_read }
+        ensures answers { Answers AllOther (session_of self.old) (Requests.Read blob version offset count) (read_reply result) (session_of self.new) }
+        ensures faults { RoseBy (fault_count (read_reply result)) (sum_by D.faults self.old.doors) (sum_by D.faults self.new.doors) }
+        ensures goes_on { Continues self.old self.new }
+        ensures steps { steps.new ≤ steps.old + visits_seen (session_of self.new) blob version offset count }
+        ensures no_step { NoStepIfRefused (session_of self.new) blob version offset count steps.old steps.new }
+    {
         version_manager::laws::gaps_are_of_others();
         let shared = self.shared;
         let snapshot = match shared.desk().snapshot_of(rt, &mut self.pass, blob, version) {

@@ -302,7 +302,8 @@ impl<'a, D: Door, G: Gate> Session<'a, D, G> {
     fn row_at<R: Wait>(&mut self, rt: &R, place: usize) -> Result<Arc<Row>, NoMemory>
         requires within { place < length self.old.held }
         ensures woven { IfOk result (λ row. (o : OpenUpdate) → slice_get self.old.held place ≡ Some o → IsWoven self.old.store.fixed.nodes self.old.store.fixed.houses o.ticket (arc_value row)) }
-        ensures kept { IfOk result (λ row. (o : OpenUpdate) → slice_get self.old.held place ≡ Some o → self.new ≡ record self.old { held = slice_set self.old.held place (with_row o (arc_value row)) }) }
+        ensures kept { IfOk result (λ row. (o : OpenUpdate) → slice_get self.old.held place ≡ Some o
+            → self.new ≡ record self.old { held = slice_set self.old.held place (with_row o (arc_value row)) }) }
         ensures same { OnErr result (self.new ≡ self.old) }
     {
         if let Some(row) = self.held.at(place).row()? {

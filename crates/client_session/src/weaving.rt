@@ -19,7 +19,7 @@ use std::sync::{Arc, Wait};
 use tree_geom::Steps;
 use tree_weaver::{PlannedRow, plan, put_row};
 
-/// Weaves the row of the ticket's update and stores its nodes. It takes no lock of a desk; it may wait for another thread's
+/// Weaves the row of the ticket's update and stores its nodes, under the ticket's blob. It takes no lock of a desk; it may wait for another thread's
 /// put into the house. After want of memory some nodes may lie unused there, and it may be called again.
 pub(crate) fn weave<R: Wait>(
     rt: &R,
@@ -29,6 +29,7 @@ pub(crate) fn weave<R: Wait>(
 ) -> Result<Arc<Row>, NoMemory>
     requires { NodesLieIn nodes.now ticket.now.snapshot }
     ensures row { IfOk result (λ row. (d : DeskState) → IsTicketOf d ticket.now → IsRowFor d ticket.now (arc_value row)) }
+    ensures under { IfOk result (λ row. (arc_value row).blob ≡ ticket.now.blob) }
     ensures here { IfOk result (λ row. (houses : List House) → LieAmong houses ticket.now.pages.pages → IsRowIn nodes.now houses (arc_value row)) }
 {
     snapshot::laws::rows_stay();

@@ -18,6 +18,7 @@ use Rattle.blob_model.specs.Store.{Blob, blob_at}
 use Rattle.blob_model.specs.History.{store_of}
 use Rattle.version_manager.specs.Desks.{DeskState, HasHints, updates_in, updates_or_none, published_in, published_or_none}
 use Rattle.version_manager.specs.Kept.{Keeps}
+use Rattle.version_manager.specs.Origins.{LieUnderOrigins}
 use Rattle.version_manager.proofs.Blobs.{published_is, leads, tells_all}
 use Rattle.version_manager.proofs.Houses.{AreRowsIn, older_in}
 
@@ -27,8 +28,8 @@ all_in nodes houses w h =
     subst V (take-length (leading w.rows)) (older_in nodes houses w (length (leading w.rows)) h)
 
 pub has_hints : (d : DeskState) (on : ℕ) (t : NumberedUpdate) (b : Blob) (w : Numbered) (limits : Bounds) → blob_at (store_of d.limits d.history) on ≡ Some b → w.page_size ≡ d.page_size → Keeps limits w b
-    → length w.rows ≡ length w.log → IsVersion (version_of w) → t.snapshot ≡ version_of w → t.waiting ≡ waiting_of w → AreRowsIn d.nodes d.houses w → HasHints d on t
-has_hints d on t b w limits at page k even is snapshot waiting lies =
+    → length w.rows ≡ length w.log → IsVersion (version_of w) → t.snapshot ≡ version_of w → t.waiting ≡ waiting_of w → AreRowsIn d.nodes d.houses w → LieUnderOrigins d.history on (leading w.rows) → HasHints d on t
+has_hints d on t b w limits at page k even is snapshot waiting lies under =
     let count : published_of w ≡ published_in d on = published_is limits w b k ∙ sym (ap published_or_none at) in
     let us : b.updates ≡ updates_in d on = sym (ap updates_or_none at) in
     let log : w.log ≡ touches d.page_size (extents (updates_in d on)) =
@@ -38,10 +39,12 @@ has_hints d on t b w limits at page k even is snapshot waiting lies =
     let U : List Update → Type 0 = λ l. TellUpdates d.page_size l (leading w.rows) in
     let P : ℕ → Type 0 = λ p. TellUpdates p b.updates (leading w.rows) in
     let V : Version → Type 0 = λ v. IsVersionIn d.nodes d.houses v in
+    let O : List UpdateRow → Type 0 = λ l. LieUnderOrigins d.history on l in
     record {
       rows = ap length rows ∙ leads limits w b k even ∙ count;
       tells = subst T (sym rows) (subst U us (subst P page (tells_all limits w b k even is)));
       waiting = waiting ∙ ap (λ (l : List Touch). opens_from (published_of w + 1) (drop (published_of w) l)) log
           ∙ ap (λ (n : ℕ). opens_from (n + 1) (drop n (touches d.page_size (extents (updates_in d on))))) count;
       here = subst V (sym snapshot) (all_in d.nodes d.houses w lies);
+      origins = subst O (sym rows) under;
     }

@@ -15,3 +15,4 @@ pub mod Lasting
 pub mod Turns
 pub mod Gaps
 pub mod GapFinishes
+pub mod Origins

@@ -70,10 +70,6 @@ module _ (limits : Bounds) (p : ℕ) (h : List Event) (ws : List Numbered) (kept
         let s : Store = store_of limits h in
         unless_refused s (not_published b version ∷ too_many_blobs s ∷ []) (and_blob s (branch_of b version), Outcomes.Blob (length s.blobs + 1))
 
-    pub branch_none : (1 ≤ blob → length ws < blob) → (answer (store_of limits h) caller (Calls.Branch blob version)).1 ≡ Outcomes.Refused (Refusals.NoBlob blob)
-    unfolding branching
-    branch_none past = ap (λ (a : Answered). a.1) (in_blob_none (store_of limits h) blob branching (absent limits p h ws kept blob past))
-
     module _ (x : IsHere limits p h ws kept blob) where
       w : Numbered
       w = get_or ws (blob - 1) no_window

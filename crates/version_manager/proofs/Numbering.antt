@@ -99,10 +99,6 @@ module _ (limits : Bounds) (p : ℕ) (h : List Event) (ws : List Numbered) (kept
       (offset_past_size b place ∷ blob_too_big s b place bytes ∷ too_many_versions s b ∷ too_many_open s b ∷ [])
       (with_blob s blob (and_update b own_update), Outcomes.Assigned (assigned b + 1) (offset_of place (size_now b)) (size_with b place bytes))
 
-  pub assign_none : (1 ≤ blob → length ws < blob) → (answer (store_of limits h) caller (Calls.Assign blob place bytes)).1 ≡ Outcomes.Refused (Refusals.NoBlob blob)
-  unfolding assigning
-  assign_none past = ap (λ (a : Answered). a.1) (in_blob_none (store_of limits h) blob assigning (absent limits p h ws kept blob past))
-
   module _ (x : IsHere limits p h ws kept blob) where
     tests_is : first_refusal (update_tests (store_of limits h).limits x.b place bytes) ≡ first_refusal (update_tests limits x.b place bytes)
     tests_is = ap (λ (l : Bounds). first_refusal (update_tests l x.b place bytes)) (store_limits limits h)

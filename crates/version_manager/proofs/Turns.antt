@@ -17,6 +17,7 @@ use Rattle.publisher.specs.Windows.{Numbered}
 use Rattle.version_manager.specs.declared.fault.DeskFault.{DeskFault}
 use Rattle.version_manager.specs.declared.journal.DeskFixed.{DeskFixed}
 use Rattle.version_manager.specs.Desks.{DeskState, OnRefused, IsTicketOf, IsRowFor, IsNumbering, IsUnfinished, HasHints, with_event, outcome_now, updates_in, is_finished_in}
+use Rattle.version_manager.specs.Origins.{LieUnderOrigins}
 use Rattle.version_manager.specs.Log.{IsLog, Looked, Changed, IsNewTicket, IsSnapshotOf, Opened, Finishes, desk_at, events, tagged, tag, fixed_of}
 
 pub events_tagged : (h : List Event) → events (tagged h) ≡ h
@@ -47,7 +48,7 @@ whole_ticket : (d : DeskState) (t : NumberedUpdate) → IsTicketOf (bare d) t �
 whole_ticket d t x = record { page_size = x.page_size; numbered = x.numbered; caller = x.caller; stands = x.stands; bytes = x.bytes }
 
 bare_hints : (d : DeskState) (on : ℕ) (t : NumberedUpdate) → HasHints d on t → HasHints (bare d) on t
-bare_hints d on t x = record { rows = x.rows; tells = x.tells; waiting = x.waiting; here = x.here }
+bare_hints d on t x = record { rows = x.rows; tells = x.tells; waiting = x.waiting; here = x.here; origins = x.origins }
 
 bare_unfinished : (d : DeskState) (on v : ℕ) → IsUnfinished d on v → IsUnfinished (bare d) on v
 bare_unfinished d on v x = record { some = x.some; numbered = x.numbered; unfinished = x.unfinished }
@@ -147,19 +148,21 @@ looked d call caller said legal short is =
     record { log = is_log d d refl legal short; same = refl; said_is = subst P (sym (at_now d)) (is caller) }
 
 snapshot_by : (d : DeskState) (blob version : ℕ) (r : Result Version DeskFault) → IfOk r (λ s. length s.rows ≡ version) → IfOk r (λ s. s.page_size ≡ d.page_size)
-    → IfOk r (λ s. TellUpdates d.page_size (updates_in d blob) s.rows) → IfOk r (λ s. IsVersionIn d.nodes d.houses s) → IfOk r (λ s. IsSnapshotOf (fixed_of d) (tagged d.history) blob version s)
-snapshot_by d blob version (Err x) rows page tells here = tt
-snapshot_by d blob version (Ok s) rows page tells here =
+    → IfOk r (λ s. TellUpdates d.page_size (updates_in d blob) s.rows) → IfOk r (λ s. IsVersionIn d.nodes d.houses s) → IfOk r (λ s. LieUnderOrigins d.history blob s.rows)
+    → IfOk r (λ s. IsSnapshotOf (fixed_of d) (tagged d.history) blob version s)
+snapshot_by d blob version (Err x) rows page tells here origins = tt
+snapshot_by d blob version (Ok s) rows page tells here origins =
     let T : DeskState → Type 0 = λ x. TellUpdates x.page_size (updates_in x blob) s.rows in
-    record { rows = rows; page_size = page; tells = subst T (sym (at_now d)) tells; here = here }
+    let O : List Event → Type 0 = λ l. LieUnderOrigins l blob s.rows in
+    record { rows = rows; page_size = page; tells = subst T (sym (at_now d)) tells; here = here; origins = subst O (sym (events_tagged d.history)) origins }
 
 pub opened : (d : DeskState) (blob version caller : ℕ) (r : Result Version DeskFault) → IsLegal d.limits d.history → length d.history < 2 ^ 38
     → ((c : ℕ) → IfOk r (λ s. outcome_now d c (Calls.Size blob version) ≡ Outcomes.Size (size_now s)))
     → ((c : ℕ) → IfErr r (λ fault. OnRefused fault (λ x. outcome_now d c (Calls.Size blob version) ≡ Outcomes.Refused x)))
     → IfOk r (λ s. length s.rows ≡ version) → IfOk r (λ s. s.page_size ≡ d.page_size)
-    → IfOk r (λ s. TellUpdates d.page_size (updates_in d blob) s.rows) → IfOk r (λ s. IsVersionIn d.nodes d.houses s)
+    → IfOk r (λ s. TellUpdates d.page_size (updates_in d blob) s.rows) → IfOk r (λ s. IsVersionIn d.nodes d.houses s) → IfOk r (λ s. LieUnderOrigins d.history blob s.rows)
     → Opened (fixed_of d) blob version (tagged d.history) caller r (tagged d.history)
-opened d blob version caller r legal short size refused rows page tells here =
+opened d blob version caller r legal short size refused rows page tells here origins =
     let D : DeskState → Type 0 = λ x. IfOk r (λ s. outcome_now x caller (Calls.Size blob version) ≡ Outcomes.Size (size_now s)) in
     let R : DeskState → Type 0 = λ x. IfErr r (λ fault. OnRefused fault (λ y. outcome_now x caller (Calls.Size blob version) ≡ Outcomes.Refused y)) in
     record {
@@ -167,5 +170,5 @@ opened d blob version caller r legal short size refused rows page tells here =
       same = refl;
       done = subst D (sym (at_now d)) (size caller);
       refused = subst R (sym (at_now d)) (refused caller);
-      snapshot = snapshot_by d blob version r rows page tells here;
+      snapshot = snapshot_by d blob version r rows page tells here origins;
     }

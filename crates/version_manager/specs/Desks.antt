@@ -19,6 +19,7 @@ use Rattle.snapshot.specs.Versions.{IsRowOf, IsVersionIn}
 use Rattle.snapshot.specs.Laws.{TellUpdates}
 use Rattle.border_hints.specs.Numbered.{NumberedUpdate, StandsFor}
 use Rattle.publisher.specs.Windows.{Numbered, version_of, waiting_of, opens_from}
+use Rattle.version_manager.specs.Origins.{LieUnderOrigins}
 use Rattle.version_manager.specs.declared.fault.DeskFault.{DeskFault}
 use Rattle.version_manager.specs.declared.fault.DeskFault.TheVariants.{Refused, NoMemory}
 
@@ -133,9 +134,11 @@ abbrev pub LieIn : List Shelves → List House → List Numbered → Type 0
 LieIn nodes houses windows = All (λ (w : Numbered). All (IsRowIfAnyIn nodes houses) w.rows) windows
 
 -- ---- hints
--- The ticket tells, of the updates of the blob: the published ones by their rows, which lie in the desk's houses, and what the others above them touch.
+-- The ticket tells, of the updates of the blob: the published ones by their rows, which lie in the desk's houses, each under the blob that its version was
+-- numbered in, and what the others above them touch.
 pub record HasHints (d : DeskState) (on : ℕ) (t : NumberedUpdate) : Type 0 where
   pub rows : length t.snapshot.rows ≡ published_in d on
   pub tells : TellUpdates d.page_size (updates_in d on) t.snapshot.rows
   pub waiting : t.waiting ≡ opens_from (published_in d on + 1) (drop (published_in d on) (touches d.page_size (extents (updates_in d on))))
   pub here : IsVersionIn d.nodes d.houses t.snapshot
+  pub origins : LieUnderOrigins d.history on t.snapshot.rows

@@ -11,6 +11,7 @@ use Rattle.boxcar.specs.Table.{Shelves}
 use Rattle.page_store.specs.House.{House}
 use Rattle.publisher.specs.Windows.{Numbered, finished_of, StandsFor}
 use Rattle.version_manager.specs.Desks.{LieIn}
+use Rattle.version_manager.specs.Origins.{parents_of, KeepsOrigins}
 
 -- the window keeps the blob of that id: it stands for its updates, and tells which of them are finished; the blob is within the limits
 pub record IsBlobKept (limits : Bounds) (p id : ℕ) (b : Blob) (w : Numbered) : Type 0 where
@@ -40,8 +41,9 @@ pub record KeepsDesk (limits : Bounds) (p : ℕ) (history : List Event) (windows
   pub each : (i : ℕ) (b : Blob) (w : Numbered) → slice_get (store_of limits history).blobs i ≡ Some b → slice_get windows i ≡ Some w
       → IsBlobKept limits p (suc i) b w
 
--- The desk keeps its blobs, its rows lie in its houses, and its history is short.
+-- The desk keeps its blobs, its rows lie in its houses, each under the blob that its version was numbered in, and its history is short.
 pub record IsDesk (limits : Bounds) (p : ℕ) (houses : List House) (nodes : List Shelves) (history : List Event) (windows : List Numbered) : Type 0 where
   pub kept : KeepsDesk limits p history windows
   pub lies : LieIn nodes houses windows
+  pub origins : KeepsOrigins (parents_of history) windows
   pub short : length history < 2 ^ 38

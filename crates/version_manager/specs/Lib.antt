@@ -4,4 +4,5 @@ pub mod Entries
 pub mod Kept
 pub mod Laws
 pub mod Log
+pub mod Origins
 pub mod Stays

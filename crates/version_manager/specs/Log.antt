@@ -11,6 +11,7 @@ use Rattle.blob_model.specs.declared.call.Event.{Event}
 use Rattle.blob_model.specs.declared.call.Outcome.{Outcome}
 use Rattle.blob_model.specs.declared.call.Outcome.TheVariants as Outcomes
 use Rattle.border_hints.specs.Numbered.{NumberedUpdate}
+use Rattle.version_manager.specs.Origins.{LieUnderOrigins}
 use Rattle.version_manager.specs.declared.fault.DeskFault.{DeskFault}
 use Rattle.version_manager.specs.declared.journal.DeskFixed.{DeskFixed}
 use Rattle.version_manager.specs.Desks.{DeskState, OnRefused, IsTicketOf, IsRowFor, IsUnfinished, HasHints, outcome_now, updates_in, is_finished_in}
@@ -77,10 +78,11 @@ pub record IsNewTicket (f : DeskFixed) (blob caller : ℕ) (pages : Cut) (before
   pub ticket : IsTicketOf (desk_at f after) t
   pub unfinished : IsUnfinished (desk_at f after) blob t.version
 
--- what a finish needs
+-- what a finish needs: the row of the ticket's update, stored under the ticket's blob, in the desk's houses
 pub record MayFinish (t : NumberedUpdate) (row : UpdateRow) (log : List (ℕ × Event)) (f : DeskFixed) : Type 0 where
   pub ticket : IsTicketOf (desk_at f log) t
   pub row_for : IsRowFor (desk_at f log) t row
+  pub under : row.blob ≡ t.blob
   pub here : IsRowIn f.nodes f.houses row
 
 -- a finish: the version wasn't finished where it is done, and was where it is refused; the row comes back where it isn't done
@@ -90,12 +92,13 @@ pub record Finishes {R : Type 0} (f : DeskFixed) (t : NumberedUpdate) (row : R) 
   pub already : IfErr said (λ e. OnRefused e.0 (λ _. is_finished_in (desk_at f before) t.blob t.version ≡ true))
   pub back : IfErr said (λ e. e.1 ≡ row)
 
--- The snapshot of a version: its rows tell the blob's updates, and lie in the desk's houses.
+-- The snapshot of a version: its rows tell the blob's updates, and lie in the desk's houses, each under the blob that its version was numbered in.
 pub record IsSnapshotOf (f : DeskFixed) (log : List (ℕ × Event)) (blob version : ℕ) (s : Version) : Type 0 where
   pub rows : length s.rows ≡ version
   pub page_size : s.page_size ≡ f.page_size
   pub tells : TellUpdates f.page_size (updates_in (desk_at f log) blob) s.rows
   pub here : IsVersionIn f.nodes f.houses s
+  pub origins : LieUnderOrigins (events log) blob s.rows
 
 -- A look at the size of a version, with its snapshot
 pub record Opened (f : DeskFixed) (blob version : ℕ) (before : List (ℕ × Event)) (caller : ℕ) (said : Result Version DeskFault) (after : List (ℕ × Event)) : Type 0 where

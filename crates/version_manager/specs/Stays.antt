@@ -68,5 +68,6 @@ finish_stays t row xs ys f h =
     record {
       ticket = ticket_stays t xs ys f h.ticket;
       row_for = subst R (sym is) (IsRowOf-longer rows_stay extents_grow f.page_size v us later row h.ticket.numbered h.row_for);
+      under = h.under;
       here = h.here;
     }

@@ -94,7 +94,8 @@ pub(crate) fn ticket_over(
     requires some { 1 ≤ length (joined (arc_value pages.now).pages) }
     requires few { length (joined (arc_value pages.now).pages) ≤ 1048576 }
     requires page_size { (arc_value pages.now).page_size ≡ window.now.page_size }
-    ensures refused { (b : Blob) → Keeps limits window.now b → IfErr result (λ fault. OnRefused fault (λ refusal. first_refusal (update_tests limits b place (joined (arc_value pages.now).pages)) ≡ Some refusal)) }
+    ensures refused { (b : Blob) → Keeps limits window.now b
+        → IfErr result (λ fault. OnRefused fault (λ refusal. first_refusal (update_tests limits b place (joined (arc_value pages.now).pages)) ≡ Some refusal)) }
     ensures accepted { (b : Blob) → Keeps limits window.now b → IfOk result (λ _. first_refusal (update_tests limits b place (joined (arc_value pages.now).pages)) ≡ None) }
     ensures version { (b : Blob) → Keeps limits window.now b → IfOk result (λ t. t.version ≡ assigned b + 1) }
     ensures at { (b : Blob) → Keeps limits window.now b → IfOk result (λ t. t.at ≡ offset_of place (size_now b)) }
@@ -106,7 +107,8 @@ pub(crate) fn ticket_over(
     ensures snapshot { IfOk result (λ t. t.snapshot ≡ version_of window.now) }
     ensures waiting { IfOk result (λ t. t.waiting ≡ waiting_of window.now) }
     ensures pages { IfOk result (λ t. t.pages ≡ arc_value pages.now) }
-    ensures stands { (b : Blob) (u : Update) → Keeps limits window.now b → u.place ≡ place → u.bytes ≡ joined (arc_value pages.now).pages → IfOk result (λ t. StandsFor t (extents (b.updates ++ u ∷ []))) }
+    ensures stands { (b : Blob) (u : Update) → Keeps limits window.now b → u.place ≡ place → u.bytes ≡ joined (arc_value pages.now).pages
+        → IfOk result (λ t. StandsFor t (extents (b.updates ++ u ∷ []))) }
     ensures kept { (b : Blob) (u : Update) → Keeps limits window.now b → u.place ≡ place → u.bytes ≡ joined (arc_value pages.now).pages
         → IfOk result (λ t. Keeps limits (with_numbered window.now (own_touch t)) (and_update b u)) }
     ensures few { IfOk result (λ _. length window.now.log < published_of window.now + 64) }

@@ -12,6 +12,7 @@ ghost use Rattle.blob_model.specs.declared.call.Call.TheVariants as Calls;
 ghost use Rattle.blob_model.specs.declared.call.Event.TheVariants as Events;
 ghost use Rattle.blob_model.specs.declared.call.Outcome.TheVariants as Outcomes;
 ghost use Rattle.version_manager.specs.Desks.{empty_desk, outcome_now, updates_in, window_in, with_event, windows_with, windows_and, is_finished_in, OnRefused, IsUnfinished, IsNumbering, IsTicketOf, IsRowFor, HasHints};
+ghost use Rattle.version_manager.specs.Origins.{LieUnderOrigins};
 
 use crate::blob::{branch_in, first_in, ticket_over};
 use crate::entry::{Change, Entry};
@@ -34,8 +35,8 @@ const MAX_ENTRIES: u64 = (1 << 38) - 1;
 /// The blobs of a store, and the history of all changes that it accepted, in order, each with its caller.
 ///
 /// The history is legal, and the blobs are what it leaves. A call that is refused, and one that finds no memory, leaves the
-/// desk as before. The pages and nodes of the desk's versions lie in the houses that it was made for. It has fewer than 2^38
-/// entries.
+/// desk as before. The pages and nodes of the desk's versions lie in the houses that it was made for, the nodes of each version
+/// under the blob that it was numbered in. It has fewer than 2^38 entries.
 #[derive(Drop)]
 pub struct Desk {
     alloc: Global,
@@ -56,7 +57,8 @@ impl Model for Desk {
 
     ghost Value = { DeskState };
 
-    ghost view = { λ d. record { limits = d.limits; page_size = d.page_size; houses = arc_value d.houses; nodes = arc_value d.nodes; history = map event_of d.history.items; windows = d.windows.items } };
+    ghost view = { λ d. record { limits = d.limits; page_size = d.page_size; houses = arc_value d.houses; nodes = arc_value d.nodes;
+        history = map event_of d.history.items; windows = d.windows.items } };
 
     ghost invariant = { λ d. IsDesk d.limits d.page_size (arc_value d.houses) (arc_value d.nodes) (map event_of d.history.items) d.windows.items };
 }
@@ -190,8 +192,8 @@ impl Desk {
         Ok(ticket)
     }
 
-    /// Finishes a ticket's update by its row, and gives the version that is published now. `Refused` exactly where the
-    /// version is finished already. On an error the row comes back.
+    /// Finishes a ticket's update by its row, which is stored under the ticket's blob, and gives the version that is published
+    /// now. `Refused` exactly where the version is finished already. On an error the row comes back.
     pub fn finish(
         &mut self,
         caller: u32,
@@ -200,6 +202,7 @@ impl Desk {
     ) -> Result<u64, (DeskFault, Arc<Row>)>
         requires ticket { IsTicketOf self.old ticket.now }
         requires row { IsRowFor self.old ticket.now (arc_value row) }
+        requires under { (arc_value row).blob ≡ ticket.now.blob }
         requires here { IsRowIn self.old.nodes self.old.houses (arc_value row) }
         ensures published { IfOk result (λ published. outcome_now self.old caller (Calls.Finish ticket.now.blob ticket.now.version) ≡ Outcomes.Published published) }
         ensures new { IfOk result (λ _. self.new ≡ with_event self.old (Events.Finish caller ticket.now.blob ticket.now.version)
@@ -277,7 +280,8 @@ impl Desk {
         Ok(id)
     }
 
-    /// The snapshot of a published version. `Refused` in the order of the reasons, as the size of the version is.
+    /// The snapshot of a published version. `Refused` in the order of the reasons, as the size of the version is. Each of its
+    /// rows is stored under the blob that its version was numbered in.
     pub fn snapshot_of(&self, blob: u64, version: u64) -> Result<Snapshot, DeskFault>
         ensures size { (caller : ℕ) → IfOk result (λ s. outcome_now self.now caller (Calls.Size blob version) ≡ Outcomes.Size (size_now s)) }
         ensures this { IfOk result (λ s. s ≡ older_version (version_of (window_in self.now blob)) version) }
@@ -286,6 +290,7 @@ impl Desk {
         ensures tells { IfOk result (λ s. TellUpdates self.now.page_size (updates_in self.now blob) s.rows) }
         ensures refused { (caller : ℕ) → IfErr result (λ fault. OnRefused fault (λ refusal. outcome_now self.now caller (Calls.Size blob version) ≡ Outcomes.Refused refusal)) }
         ensures here { IfOk result (λ s. IsVersionIn self.now.nodes self.now.houses s) }
+        ensures origins { IfOk result (λ s. LieUnderOrigins self.now.history blob s.rows) }
     {
         match place_of(&self.windows, blob) {
             Some(place) => snapshot_in(&self.windows[place], version),

@@ -143,7 +143,8 @@ impl SharedDesk {
         requires ready { IfSome pass.old.fixed (λ f. MayAssign (arc_value pages.now) f) }
         ensures pass { pass.new ≡ record pass.old { seen = pass.new.seen } }
         ensures turned { let bytes = joined (arc_value pages.now).pages in let by = pass.old.caller in
-            Turned (λ before f after. Changed f (Calls.Assign blob place bytes) (Events.Assign by blob place bytes) (λ t. Outcomes.Assigned t.version t.at t.size) (λ fault. fault) before by result after
+            Turned (λ before f after.
+            Changed f (Calls.Assign blob place bytes) (Events.Assign by blob place bytes) (λ t. Outcomes.Assigned t.version t.at t.size) (λ fault. fault) before by result after
             × IfOk result (λ t. IsNewTicket f blob by (arc_value pages.now) before after t)) pass.old pass.new }
     {
         self.turn.with_turn(rt, pass, Assign { blob, place, pages })

@@ -1,5 +1,5 @@
 use Rattle.std.proofs.Common.{◌≡◌, ◌+◌, drop, length}
-use Rattle.blob_core.specs.World.{origin_of}
+use Rattle.branching.specs.Parents.{origin_of}
 use Rattle.blob_core.proofs.finds.origin.Given as goal
 
 abbrev pub invariant-loop-parent : goal.invariant-loop-parent

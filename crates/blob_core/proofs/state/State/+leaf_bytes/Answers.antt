@@ -5,9 +5,10 @@ use Rattle.tree_geom.specs.declared.range.Range.{Range}
 use Rattle.tree_geom.specs.declared.node.Node.{Node}
 use Rattle.tree_geom.specs.declared.node.Node.TheVariants.{Inner, Leaf}
 use Rattle.tree_geom.specs.Geometry.{page_range}
-use Rattle.blob_core.specs.World.{World, Kept, kept_at, node_in, origin, origin_of}
+use Rattle.blob_core.specs.World.{World, Kept, kept_at, node_in, origin}
+use Rattle.branching.specs.Parents.{origin_of}
 use Rattle.blob_core.specs.Walk.{bytes_of_piece, leaf_walk}
-use Rattle.blob_core.specs.declared.world.Parent.{Parent}
+use Rattle.branching.specs.declared.Parent.{Parent}
 use Rattle.blob_core.specs.declared.world.UpdateKey.{UpdateKey}
 use Rattle.blob_core.proofs.Walking.{leaf_last, leaf_gone, leaf_unkept, leaf_inner, leaf_on}
 use Rattle.blob_core.proofs.state.State.+leaf_bytes.Goals as goal

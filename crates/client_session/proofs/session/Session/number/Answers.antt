@@ -165,7 +165,7 @@ returns-clause-numbered g c =
     in
     let woven : IfSome row (IsWoven fixed.nodes fixed.houses ticket) =
     elim c.match-weave.branch [
-      | in-Ok-weave w ↦ rw w.row-is (record { for = w.in-Ok-weave.ensures.row; here = rw c.nodes.ensures at (w.in-Ok-weave.ensures.here fixed.houses pages) })
+      | in-Ok-weave w ↦ rw w.row-is (record { for = w.in-Ok-weave.ensures.row; under = w.in-Ok-weave.ensures.under; here = rw c.nodes.ensures at (w.in-Ok-weave.ensures.here fixed.houses pages) })
       | in-Err-weave w ↦ rw w.row-is tt
     ]
     in

@@ -39,7 +39,7 @@ invariant_of-self g c =
     let fixed = i.shared.now.fixed in
     let open_ : IsOpen fixed i.pass.seen o = at_place (IsOpen fixed i.pass.seen) i.held c.args.place o c.at-2.ensures c.self.invariant.holding.open_ in
     let pages : LieAmong fixed.houses c.ticket.result.now.pages.pages = subst (λ (t : NumberedUpdate). LieAmong fixed.houses t.pages.pages) (sym c.ticket.ensures) open_.here.pages in
-    let own : IsWoven c.nodes.result.now fixed.houses c.ticket.result.now (arc_value c.in-Ok.row) = record { for = c.in-Ok.ensures.row; here = c.in-Ok.ensures.here fixed.houses pages } in
+    let own : IsWoven c.nodes.result.now fixed.houses c.ticket.result.now (arc_value c.in-Ok.row) = record { for = c.in-Ok.ensures.row; under = c.in-Ok.ensures.under; here = c.in-Ok.ensures.here fixed.houses pages } in
     let woven : IsWoven fixed.nodes fixed.houses o.ticket (arc_value c.in-Ok.row) =
     subst (λ (n : List Shelves). IsWoven n fixed.houses o.ticket (arc_value c.in-Ok.row)) c.nodes.ensures
     (subst (λ (t : NumberedUpdate). IsWoven c.nodes.result.now fixed.houses t (arc_value c.in-Ok.row)) c.ticket.ensures own)
@@ -66,7 +66,7 @@ returns-clause-woven g c = λ u at.
     let fixed = i.shared.now.fixed in
     let open_ : IsOpen fixed i.pass.seen o = at_place (IsOpen fixed i.pass.seen) i.held c.args.place o c.at-2.ensures c.self.invariant.holding.open_ in
     let pages : LieAmong fixed.houses c.ticket.result.now.pages.pages = subst (λ (t : NumberedUpdate). LieAmong fixed.houses t.pages.pages) (sym c.ticket.ensures) open_.here.pages in
-    let own : IsWoven c.nodes.result.now fixed.houses c.ticket.result.now (arc_value c.in-Ok.row) = record { for = c.in-Ok.ensures.row; here = c.in-Ok.ensures.here fixed.houses pages } in
+    let own : IsWoven c.nodes.result.now fixed.houses c.ticket.result.now (arc_value c.in-Ok.row) = record { for = c.in-Ok.ensures.row; under = c.in-Ok.ensures.under; here = c.in-Ok.ensures.here fixed.houses pages } in
     let woven : IsWoven fixed.nodes fixed.houses o.ticket (arc_value c.in-Ok.row) =
     subst (λ (n : List Shelves). IsWoven n fixed.houses o.ticket (arc_value c.in-Ok.row)) c.nodes.ensures
     (subst (λ (t : NumberedUpdate). IsWoven c.nodes.result.now fixed.houses t (arc_value c.in-Ok.row)) c.ticket.ensures own)

@@ -14,15 +14,17 @@ use Rattle.blob_model.specs.declared.call.Event.TheVariants as Events
 use Rattle.blob_model.specs.declared.call.Outcome.TheVariants as Outcomes
 use Rattle.border_hints.specs.Numbered.{own_touch}
 use Rattle.publisher.specs.Windows.{Numbered, published_of, version_of, waiting_of, with_numbered}
-use Rattle.version_manager.specs.Desks.{DeskState, OnRefused, updates_or_none, IsNumbering, HasHints}
+use Rattle.version_manager.specs.Desks.{DeskState, no_window, OnRefused, updates_or_none, IsNumbering, HasHints}
 use Rattle.version_manager.specs.Entries.{event_of}
 use Rattle.version_manager.specs.Kept.{KeepsDesk}
+use Rattle.version_manager.specs.Origins.{parents_of, AreUnder}
 use Rattle.version_manager.proofs.Desks.{at_place, short_yet}
 use Rattle.version_manager.proofs.Numbering.{numbered_event, is_ticket, is_unfinished, assign_fault, assign_outcome, assign_keeps, assign_there, even_of}
 use Rattle.version_manager.specs.declared.entry.Change.TheVariants as Changes
 use Rattle.version_manager.specs.declared.entry.Entry.{Entry}
 use Rattle.version_manager.proofs.Hints.{has_hints}
 use Rattle.version_manager.proofs.Houses.{AreRowsIn, numbered_in, window_lies}
+use Rattle.version_manager.proofs.Origins.{numbered_under, origins_at, origins_set, origins_after, version_under}
 use Rattle.version_manager.proofs.desk.Desk.assign.Goals as goal
 
 pub ticket_over-requires-clause-kept : goal.ticket_over-requires-clause-kept
@@ -87,9 +89,15 @@ invariant_of-self-2 c =
     let within : c.in-Some.place_in < length d.windows.items = omega (arith, d.windows.ok.0, c.in-Some.ensures.0, c.in-Some.ensures.1, c.in-Some.ensures.2) in
     let was : L c.index_mut.result.now = window_lies nodes houses d.windows.items c.in-Some.place_in c.index_mut.result.now _ c.self.invariant.lies within c.index_mut.ensures.value in
     let now : L c.number.new.self = subst L (sym c.number.ensures.new) (numbered_in nodes houses c.index_mut.result.now c.touch.result was) in
+    let old = c.index_mut.result.now in
+    let there = origins_at (parents_of h) d.windows.items c.self.invariant.origins blob old no_window x.some (omega (arith, d.windows.ok.0, c.in-Some.ensures.2)) y.window in
+    let U : Numbered → Type 0 = λ v. AreUnder (parents_of h) blob v.rows in
+    let own : U c.number.new.self = subst U (sym c.number.ensures.new) (numbered_under (parents_of h) blob old c.touch.result there) in
+    let placed = ap (λ (i : ℕ). set d.windows.items i c.number.new.self) x.at in
     record {
       kept = subst R (sym is) (subst Q (sym x.at) (subst P (sym history) keeps));
       lies = All-set (AreRowsIn nodes houses) d.windows.items c.in-Some.place_in c.number.new.self now c.self.invariant.lies;
+      origins = origins_after h _ e _ _ history placed (origins_set (parents_of h) d.windows.items c.self.invariant.origins blob c.number.new.self x.some own);
       short = short_yet d.history.items c.push_reserved.new.self.items entry (c.push_reserved.ensures.items ∙ ap (λ (l : List Entry). l ++ entry ∷ []) c.reserve.ensures.items) (omega (arith, c.len.ensures, d.history.ok.0, c.if-len-ge-MAX_ENTRIES.false));
     }
 
@@ -174,5 +182,6 @@ returns-clause-hints c =
     let L : Numbered → Type 0 = λ v. AreRowsIn (arc_value d.nodes) (arc_value d.houses) v in
     let within : c.in-Some.place_in < length d.windows.items = omega (arith, d.windows.ok.0, c.in-Some.ensures.0, c.in-Some.ensures.1, c.in-Some.ensures.2) in
     let lies : L w = window_lies (arc_value d.nodes) (arc_value d.houses) d.windows.items c.in-Some.place_in w _ c.self.invariant.lies within c.index-window.ensures in
+    let under = origins_at (parents_of h) d.windows.items c.self.invariant.origins blob w no_window x.some (omega (arith, d.windows.ok.0, c.in-Some.ensures.2)) x.window in
     let P : DeskState → Type 0 = λ s. HasHints s blob t in
-    subst P c.self.view_is (has_hints _ blob t x.found.b w d.limits x.found.at x.page x.keeps (sym c.assigned-assigned.ensures.rows ∙ c.assigned-assigned.ensures.log) (subst (λ (v : Version). IsVersion v) c.in-Ok.ensures.snapshot c.in-Ok.ensures.published) c.in-Ok.ensures.snapshot c.in-Ok.ensures.waiting lies)
+    subst P c.self.view_is (has_hints _ blob t x.found.b w d.limits x.found.at x.page x.keeps (sym c.assigned-assigned.ensures.rows ∙ c.assigned-assigned.ensures.log) (subst (λ (v : Version). IsVersion v) c.in-Ok.ensures.snapshot c.in-Ok.ensures.published) c.in-Ok.ensures.snapshot c.in-Ok.ensures.waiting lies (version_under h blob w under))

@@ -1,5 +1,5 @@
-use Rattle.std.proofs.Common.{◌≡◌, ℕ, ◌+◌, ◌-◌, ◌<◌, ◌≤◌, List, [], ◌∷◌, ◌++◌, length, map, get_or, sym, ◌∙◌, ap, subst, arith}
-use Rattle.std.specs.Prelude.{All}
+use Rattle.std.proofs.Common.{◌≡◌, ℕ, ◌+◌, ◌-◌, ◌<◌, ◌≤◌, List, [], ◌∷◌, ◌++◌, length, map, get_or, suc, sym, ◌∙◌, ap, subst, arith}
+use Rattle.std.specs.Prelude.{All, Some}
 use Rattle.std.specs.Arc.{arc_value}
 use Rattle.std.proofs.lemmas.List.Elements.{All-push}
 use Rattle.blob_model.specs.Limits.{Bounds}
@@ -7,17 +7,22 @@ use Rattle.blob_model.specs.Answer.{answer}
 use Rattle.blob_model.specs.History.{store_of}
 use Rattle.blob_model.specs.declared.call.Call.TheVariants as Calls
 use Rattle.blob_model.specs.declared.call.Event.{Event}
+use Rattle.blob_model.specs.declared.call.Event.TheVariants as Events
+use Rattle.branching.specs.declared.Parent.{Parent}
 use Rattle.blob_model.specs.declared.call.Outcome.TheVariants as Outcomes
 use Rattle.blob_model.specs.declared.call.Refusal.TheVariants as Refusals
-use Rattle.publisher.specs.Windows.{Numbered, published_of}
+use Rattle.publisher.specs.Windows.{Numbered, leading, published_of}
+use Rattle.publisher.proofs.Leading.{published_counts}
 use Rattle.version_manager.specs.declared.entry.Entry.{Entry}
 use Rattle.version_manager.specs.declared.entry.Change.TheVariants as Changes
 use Rattle.version_manager.specs.Desks.{DeskState, no_window}
 use Rattle.version_manager.specs.Entries.{event_of}
 use Rattle.version_manager.specs.Kept.{KeepsDesk}
+use Rattle.version_manager.specs.Origins.{parents_of, AreUnder}
 use Rattle.version_manager.proofs.Desks.{at_place, pushed_event, short_yet}
 use Rattle.version_manager.proofs.NewBlobs.{branch_ahead, branch_full, branch_outcome, branch_keeps}
 use Rattle.version_manager.proofs.Houses.{AreRowsIn, branch_in_houses, window_lies}
+use Rattle.version_manager.proofs.Origins.{branch_under, origins_at, origins_pushed, origins_after}
 use Rattle.version_manager.proofs.desk.Desk.branch.Goals as goal
 
 pub returns-then-version-published-clause-refused : goal.returns-then-version-published-clause-refused
@@ -76,9 +81,17 @@ invariant_of-self-2 c =
     let within : c.in-Some.place < length d.windows.items = omega (arith, d.windows.ok.0, c.in-Some.ensures.0, c.in-Some.ensures.1, c.in-Some.ensures.2) in
     let was : W c.index-parent.result.now = window_lies nodes houses d.windows.items c.in-Some.place c.index-parent.result.now _ c.self.invariant.lies within c.index-parent.ensures in
     let new : W w = subst W (sym c.in-Ok.ensures.new) (branch_in_houses nodes houses c.index-parent.result.now version (c.len-count.result + 1) was) in
+    let parent : Parent = record { blob = blob; version = version } in
+    let k = c.self.invariant.origins in
+    let before = c.index-parent.result.now in
+    let U : Numbered → Type 0 = λ v. AreUnder (Some parent ∷ parents_of h) (suc (length ws)) v.rows in
+    let there = origins_at (parents_of h) ws k blob before no_window x.some (omega (arith, d.windows.ok.0, c.in-Some.ensures.2)) x.window in
+    let far : version ≤ length (leading before.rows) = omega (arith, c.published-published.ensures, c.if-version-published.false, published_counts before.rows) in
+    let own : U w = subst U (sym c.in-Ok.ensures.new) (branch_under (parents_of h) parent before (suc (length ws)) (omega (arith, k.count)) far there) in
     record {
       kept = subst Q (sym c.in-Ok-add.ensures.windows) (subst P (sym history) keeps);
       lies = subst A (sym c.in-Ok-add.ensures.windows) (All-push (AreRowsIn nodes houses) d.windows.items w c.self.invariant.lies new);
+      origins = origins_after h _ (Events.Branch c.args.caller blob version) _ _ history c.in-Ok-add.ensures.windows (origins_pushed (parents_of h) ws k (Some parent) w own);
       short = short_yet d.history.items _ _ c.in-Ok-add.ensures.history (omega (arith, c.len.ensures, d.history.ok.0, c.if-len-ge-MAX_ENTRIES.false));
     }
 

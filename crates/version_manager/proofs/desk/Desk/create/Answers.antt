@@ -1,5 +1,5 @@
-use Rattle.std.proofs.Common.{◌≡◌, ℕ, ◌+◌, List, [], ◌∷◌, ◌++◌, length, map, sym, ◌∙◌, ap, subst, arith}
-use Rattle.std.specs.Prelude.{All}
+use Rattle.std.proofs.Common.{◌≡◌, ℕ, ◌+◌, List, [], ◌∷◌, ◌++◌, length, map, suc, sym, ◌∙◌, ap, subst, arith}
+use Rattle.std.specs.Prelude.{All, None}
 use Rattle.std.specs.Arc.{arc_value}
 use Rattle.std.proofs.lemmas.List.{map-append}
 use Rattle.std.proofs.lemmas.List.Elements.{All-push}
@@ -8,15 +8,18 @@ use Rattle.blob_model.specs.Answer.{answer}
 use Rattle.blob_model.specs.History.{store_of}
 use Rattle.blob_model.specs.declared.call.Call.TheVariants as Calls
 use Rattle.blob_model.specs.declared.call.Event.{Event}
+use Rattle.blob_model.specs.declared.call.Event.TheVariants as Events
 use Rattle.blob_model.specs.declared.call.Outcome.TheVariants as Outcomes
 use Rattle.blob_model.specs.declared.call.Refusal.TheVariants as Refusals
 use Rattle.publisher.specs.Windows.{Numbered}
 use Rattle.version_manager.specs.Desks.{DeskState}
 use Rattle.version_manager.specs.Entries.{event_of}
 use Rattle.version_manager.specs.Kept.{KeepsDesk}
+use Rattle.version_manager.specs.Origins.{parents_of}
 use Rattle.version_manager.proofs.Desks.{short_yet}
 use Rattle.version_manager.proofs.NewBlobs.{create_refused, create_outcome, create_keeps}
 use Rattle.version_manager.proofs.Houses.{AreRowsIn, none_in}
+use Rattle.version_manager.proofs.Origins.{none_under, origins_pushed, origins_after}
 use Rattle.version_manager.proofs.desk.Desk.create.Goals as goal
 
 pub returns-then-count-limit-clause-refused : goal.returns-then-count-limit-clause-refused
@@ -42,9 +45,13 @@ invariant_of-self-2 c =
     let Q : List Numbered → Type 0 = λ l. KeepsDesk d.limits d.page_size (map event_of c.add.new.history.items) l in
     let A : List Numbered → Type 0 = λ l. All (AreRowsIn (arc_value d.nodes) (arc_value d.houses)) l in
     let new : AreRowsIn (arc_value d.nodes) (arc_value d.houses) w = none_in (arc_value d.nodes) (arc_value d.houses) w (ap (λ (x : Numbered). x.rows) c.in-Ok.ensures.new) in
+    let h = map event_of d.history.items in
+    let k = c.self.invariant.origins in
+    let own = none_under (parents_of h) w (suc (length d.windows.items)) (omega (arith, k.count)) (ap (λ (x : Numbered). x.rows) c.in-Ok.ensures.new) in
     record {
       kept = subst Q (sym c.in-Ok-add.ensures.windows) (subst P (sym history) keeps);
       lies = subst A (sym c.in-Ok-add.ensures.windows) (All-push (AreRowsIn (arc_value d.nodes) (arc_value d.houses)) d.windows.items w c.self.invariant.lies new);
+      origins = origins_after h _ (Events.Create c.args.caller) _ _ history c.in-Ok-add.ensures.windows (origins_pushed (parents_of h) d.windows.items k None w own);
       short = short_yet d.history.items _ _ c.in-Ok-add.ensures.history (omega (arith, c.len.ensures, d.history.ok.0, c.if-len-ge-MAX_ENTRIES.false));
     }
 

@@ -13,14 +13,16 @@ use Rattle.node_store.specs.Rows.{IsRowIn}
 use Rattle.publisher.specs.Windows.{Numbered, with_finished}
 use Rattle.version_manager.specs.declared.entry.Entry.{Entry}
 use Rattle.version_manager.specs.declared.entry.Change.TheVariants as Changes
-use Rattle.version_manager.specs.Desks.{DeskState, finished_or_not, with_event, window_in, windows_with, IsTicketOf, IsRowFor}
+use Rattle.version_manager.specs.Desks.{DeskState, no_window, finished_or_not, with_event, window_in, windows_with, IsTicketOf, IsRowFor}
 use Rattle.version_manager.specs.Entries.{event_of}
 use Rattle.version_manager.specs.Kept.{KeepsDesk}
+use Rattle.version_manager.specs.Origins.{parents_of, AreUnder}
 use Rattle.version_manager.proofs.Blobs.{finish_kept, published_is, assigned_is, finished_is}
 use Rattle.version_manager.proofs.Desks.{pushed_event, short_yet}
 use Rattle.version_manager.proofs.Numbering.{even_of}
 use Rattle.version_manager.proofs.Finishing.{ticket_place, finishable, finished_true, finish_already, finish_outcome, finish_keeps, finish_there}
 use Rattle.version_manager.proofs.Houses.{AreRowsIn, finished_in, window_lies}
+use Rattle.version_manager.proofs.Origins.{finished_under, unfinished_none, origins_at, origins_set, origins_after}
 use Rattle.version_manager.proofs.desk.Desk.finish.Goals as goal
 
 pub is_finished-requires : goal.is_finished-requires
@@ -119,9 +121,14 @@ invariant_of-self-in-Ok c =
     let was : L w = window_lies nodes houses ws (blob - 1) w _ c.self.invariant.lies (omega (arith, r.0, r.1)) c.index_mut.ensures.value in
     let fits : IsRowIn nodes houses row = subst (λ (s : DeskState). IsRowIn s.nodes s.houses row) (sym c.self.view_is) c.requires.here in
     let now : L c.finish.new.self = subst L (sym c.in-Ok.ensures.finished) (finished_in nodes houses w v row fits was) in
+    let there = origins_at (parents_of h) ws c.self.invariant.origins blob w no_window f.at.some r.1 f.at.window in
+    let U : Numbered → Type 0 = λ x. AreUnder (parents_of h) blob x.rows in
+    let none = unfinished_none w.rows (v - 1) c.in-Ok.ensures.unfinished in
+    let own : U c.finish.new.self = subst U (sym c.in-Ok.ensures.finished) (finished_under (parents_of h) blob w v row (c.requires.under ∙ sym on) none there) in
     record {
       kept = subst R (sym c.in-Ok.ensures.finished) (subst P (sym history) keeps);
       lies = All-set (AreRowsIn nodes houses) ws (blob - 1) c.finish.new.self now c.self.invariant.lies;
+      origins = origins_after h _ (Events.Finish c.args.caller blob v) _ _ history refl (origins_set (parents_of h) ws c.self.invariant.origins blob c.finish.new.self f.at.some own);
       short = short_yet d.history.items c.push_reserved.new.self.items entry (c.push_reserved.ensures.items ∙ ap (λ (l : List Entry). l ++ entry ∷ []) c.reserve.ensures.items) (omega (arith, c.len.ensures, d.history.ok.0, c.if-len-ge-MAX_ENTRIES.false));
     }
 

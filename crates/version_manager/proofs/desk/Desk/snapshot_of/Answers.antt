@@ -10,11 +10,13 @@ use Rattle.blob_model.specs.declared.call.Refusal.TheVariants as Refusals
 use Rattle.snapshot.specs.Laws.{TellUpdates}
 use Rattle.snapshot.specs.Versions.{Version, IsVersionIn, size_now}
 use Rattle.version_manager.specs.declared.fault.DeskFault.{DeskFault}
-use Rattle.version_manager.specs.Desks.{DeskState, OnRefused, updates_in, updates_or_none}
+use Rattle.version_manager.specs.Desks.{DeskState, no_window, OnRefused, updates_in, updates_or_none}
 use Rattle.version_manager.specs.Entries.{event_of}
+use Rattle.version_manager.specs.Origins.{LieUnderOrigins, parents_of}
 use Rattle.version_manager.proofs.Desks.{at_place}
 use Rattle.version_manager.proofs.Houses.{AreRowsIn, older_in, window_lies}
 use Rattle.version_manager.proofs.Looking.{look_none, look_at, on_refused, size_in}
+use Rattle.version_manager.proofs.Origins.{origins_at, older_under}
 use Rattle.version_manager.proofs.Results.{if_ok, if_err}
 use Rattle.version_manager.proofs.desk.Desk.snapshot_of.Goals as goal
 
@@ -68,6 +70,18 @@ returns-in-Some-clause-here c =
     let V : Version → Type 0 = λ s. IsVersionIn nodes houses s in
     let P : DeskState → Type 0 = λ s. IfOk c.snapshot_in.result (λ (a : Version). IsVersionIn s.nodes s.houses a) in
     subst P c.self.view_is (if_ok c.snapshot_in.result _ _ (λ (a : Version) e. subst V (sym e) (older_in nodes houses c.index.result.now c.args.version was)) c.snapshot_in.ensures.this)
+
+pub returns-in-Some-clause-origins : goal.returns-in-Some-clause-origins
+returns-in-Some-clause-origins c =
+    let d = c.self.inside in
+    let h = map event_of d.history.items in
+    let blob = c.args.blob in
+    let x = at_place d.limits d.page_size h d.windows.items c.self.invariant.kept blob c.in-Some.place _ c.index.result.now d.windows.ok.0 c.in-Some.ensures c.index.ensures in
+    let w = c.index.result.now in
+    let under = origins_at (parents_of h) d.windows.items c.self.invariant.origins blob w no_window x.some (omega (arith, d.windows.ok.0, c.in-Some.ensures.2)) x.window in
+    let O : Version → Type 0 = λ s. LieUnderOrigins h blob s.rows in
+    let P : DeskState → Type 0 = λ s. IfOk c.snapshot_in.result (λ (a : Version). LieUnderOrigins s.history blob a.rows) in
+    subst P c.self.view_is (if_ok c.snapshot_in.result _ _ (λ (a : Version) e. subst O (sym e) (older_under h blob c.args.version w under)) c.snapshot_in.ensures.this)
 
 pub returns-in-None-clause-refused : goal.returns-in-None-clause-refused
 returns-in-None-clause-refused c = λ caller.

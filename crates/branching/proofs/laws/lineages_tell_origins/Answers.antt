@@ -1,5 +1,5 @@
-use Rattle.blob_core.proofs.Lines.{lines_stay, first_lines, branched_lines}
-use Rattle.blob_core.proofs.laws.lineages_tell_origins.Goals as goal
+use Rattle.branching.proofs.Parents.{lines_stay, first_lines, branched_lines}
+use Rattle.branching.proofs.laws.lineages_tell_origins.Goals as goal
 
 pub returns-clause-stay : goal.returns-clause-stay
 returns-clause-stay c = lines_stay

@@ -1,10 +1,29 @@
--- The line of branches that a blob's lineage keeps, beside the parents that a world keeps.
+-- What holds of the origins of versions, and of the lines of branches that tell them.
 use Rattle.std.specs.Prelude.{◌≡◌, ℕ, ◌<◌, ◌≤◌, suc, List, ◌∷◌, length, Option, Some, None}
 use Rattle.branching.specs.Line.{Line}
 use Rattle.branching.specs.Line.{origin_of as line_origin}
-use Rattle.blob_core.specs.declared.world.Parent.{Parent}
-use Rattle.blob_core.specs.World.{origin_of}
+use Rattle.branching.specs.Parents.{origin_of}
+use Rattle.branching.specs.declared.Parent.{Parent}
 
+-- ---- origins
+-- an origin stays, whatever blob is made next
+abbrev pub OriginsStay : Type 0
+OriginsStay = (next : Option Parent) (parents : List (Option Parent)) (blob version : ℕ) → blob ≤ length parents → origin_of (next ∷ parents) blob version ≡ origin_of parents blob version
+
+-- the versions of a blob that isn't there yet are its own
+abbrev pub NewAreOwn : Type 0
+NewAreOwn = (parents : List (Option Parent)) (blob version : ℕ) → length parents < blob → origin_of parents blob version ≡ blob
+
+-- the versions of a new branch above the one that it was taken at are its own
+abbrev pub BranchesOwn : Type 0
+BranchesOwn = (parent : Parent) (parents : List (Option Parent)) (blob version : ℕ) → blob ≡ suc (length parents) → parent.version < version → origin_of (Some parent ∷ parents) blob version ≡ blob
+
+-- the others have the origin that they have in the parent
+abbrev pub BranchesShare : Type 0
+BranchesShare = (parent : Parent) (parents : List (Option Parent)) (blob version : ℕ) → blob ≡ suc (length parents) → version ≤ parent.version
+    → origin_of (Some parent ∷ parents) blob version ≡ origin_of parents parent.blob version
+
+-- ---- lines
 -- the line tells of each version of the blob which blob it was numbered in
 abbrev pub IsLineOf : List (Option Parent) → ℕ → Line → Type 0
 IsLineOf parents blob line = (version : ℕ) → line_origin line version ≡ origin_of parents blob version
