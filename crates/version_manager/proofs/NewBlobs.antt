@@ -15,8 +15,8 @@ use Rattle.publisher.specs.Windows.{Numbered, published_of}
 use Rattle.version_manager.specs.Desks.{no_window}
 use Rattle.version_manager.specs.Kept.{Keeps, KeepsDesk}
 use Rattle.version_manager.proofs.BlobsTests.{first_hit, first_pass}
-use Rattle.version_manager.proofs.Stores.{store_after, legal_after, unless_none, unless_some, in_blob_here, in_blob_none, store_limits}
-use Rattle.version_manager.proofs.Desks.{kept_of, absent, pushed, IsHere}
+use Rattle.version_manager.proofs.Stores.{store_after, legal_after, unless_none, unless_some, in_blob_here, store_limits}
+use Rattle.version_manager.proofs.Desks.{kept_of, pushed, IsHere}
 
 abbrev pub no_updates : Blob
 no_updates = record { updates = []; finished = [] }

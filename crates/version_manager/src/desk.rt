@@ -57,8 +57,14 @@ impl Model for Desk {
 
     ghost Value = { DeskState };
 
-    ghost view = { λ d. record { limits = d.limits; page_size = d.page_size; houses = arc_value d.houses; nodes = arc_value d.nodes;
-        history = map event_of d.history.items; windows = d.windows.items } };
+    ghost view = { λ d. record {
+      limits = d.limits;
+      page_size = d.page_size;
+      houses = arc_value d.houses;
+      nodes = arc_value d.nodes;
+      history = map event_of d.history.items;
+      windows = d.windows.items;
+    } };
 
     ghost invariant = { λ d. IsDesk d.limits d.page_size (arc_value d.houses) (arc_value d.nodes) (map event_of d.history.items) d.windows.items };
 }
