@@ -1,0 +1,240 @@
+//! Sessions that hold tickets: how many a blob takes, and what becomes of them where a session ends.
+ghost use Rattle.std.specs.Prelude.{◌≡◌};
+ghost use Rattle.client_session.specs.Sessions.{IsOwnerOf};
+
+use crate::calls::{
+    append, create, finish, hang_up, pending, refusal_of, start, status, status_of,
+};
+use crate::store::{Two, closed, end_session, new_store, two_sessions};
+use client_session::{HangUp, Owner, Session, Shared};
+use page_store::PlainDoor;
+use ports::gate::FreeGate;
+use request_form::Fault;
+use std::alloc::Global;
+use std::sync::Wait;
+use std::test::Fail;
+use std::thread;
+use std::thread::Threads;
+
+// Starts so many updates of one byte, and answers how many got the next ticket in a row.
+fn start_times<R: Threads + Wait + Sync>(
+    rt: &R,
+    session: &mut Session<'_, PlainDoor, FreeGate>,
+    times: u64,
+) -> Result<u64, Fault> {
+    for before in 0..times {
+        let started = start(rt, session, b"a")?;
+        if started.ticket != before + 1 {
+            return Ok(before);
+        }
+    }
+    Ok(times)
+}
+
+// Appends a byte so many times.
+fn append_times<R: Threads + Wait + Sync>(
+    rt: &R,
+    session: &mut Session<'_, PlainDoor, FreeGate>,
+    times: u32,
+) -> Result<(), Fault> {
+    for _ in 0..times {
+        append(rt, session, b"b")?;
+    }
+    Ok(())
+}
+
+fn start_too_many<R: Threads + Wait + Sync>(
+    rt: &R,
+    one: &mut Session<'_, PlainDoor, FreeGate>,
+    two: &mut Session<'_, PlainDoor, FreeGate>,
+) -> Result<(u64, [Fault; 3]), Fail> {
+    create(rt, one)?;
+    let started = start_times(rt, one, 64)?;
+    let same = refusal_of(start(rt, one, b"a"))?;
+    let other = refusal_of(start(rt, two, b"a"))?;
+    let appended = refusal_of(append(rt, two, b"a"))?;
+    Ok((started, [same, other, appended]))
+}
+
+// How many of 64 updates the first session of a new store starts, and why it can't start one more, nor the second start or append
+// one.
+fn refused_beside<R: Threads + Wait + Sync>(
+    rt: &R,
+    alloc: Global,
+) -> Result<(u64, [Fault; 3]), Fail> {
+    let (shared, mut owner) = new_store(alloc)?;
+    let Two { mut one, mut two } = two_sessions(alloc, &shared, &mut owner, &FreeGate)?;
+    start_too_many(rt, &mut one, &mut two)
+}
+
+#[test]
+fn sixty_four_updates_of_a_blob_are_open_at_once(rt: HostRuntime) -> Result<(), Fail> {
+    let (started, faults) = refused_beside(&rt, rt.alloc())?;
+    let open = Fault::TooManyOpen { limit: 64 };
+    assert_eq!(rt; started, 64);
+    assert_eq!(rt; faults, [Fault::TooManyTickets, open, open]);
+    Ok(())
+}
+
+// Starts three updates and gives them up; then starts one more.
+fn start_and_hang_up<R: Threads + Wait + Sync>(
+    rt: &R,
+    session: &mut Session<'_, PlainDoor, FreeGate>,
+) -> Result<(u64, HangUp, u64), Fault> {
+    let started = start_times(rt, session, 3)?;
+    let hung_up = hang_up(rt, session);
+    if hung_up.no_memory > 0 {
+        return Err(Fault::NoMemory);
+    }
+    let again = start_times(rt, session, 1)?;
+    Ok((started, hung_up, again))
+}
+
+// The first session gives up its tickets, while the second goes on.
+fn hang_up_beside<R: Threads + Wait + Sync>(
+    rt: &R,
+    one: &mut Session<'_, PlainDoor, FreeGate>,
+    two: &mut Session<'_, PlainDoor, FreeGate>,
+) -> (Result<(u64, HangUp, u64), Fault>, Result<(), Fault>) {
+    thread::join(
+        rt,
+        || start_and_hang_up(rt, one),
+        || append_times(rt, two, 20),
+    )
+}
+
+// What a session is told that gives up three tickets, starts one more update and finishes it, beside another; what is published
+// then, and how far the updates are; and what it is told where it has nothing left to give up.
+#[derive(Clone, Copy, Debug, PartialEq, Eq)]
+struct GivenUp {
+    beside: (u64, HangUp, u64),
+    published: u64,
+    status: Option<(u64, u64, u64)>,
+    again: HangUp,
+}
+
+fn give_up_beside<R: Threads + Wait + Sync>(
+    rt: &R,
+    one: &mut Session<'_, PlainDoor, FreeGate>,
+    two: &mut Session<'_, PlainDoor, FreeGate>,
+) -> Result<GivenUp, Fail> {
+    create(rt, one)?;
+    let (first, second) = hang_up_beside(rt, one, two);
+    let beside = first?;
+    second?;
+    let published = finish(rt, one, 1)?;
+    let status = status(rt, two);
+    let again = hang_up(rt, one);
+    Ok(GivenUp {
+        beside,
+        published,
+        status,
+        again,
+    })
+}
+
+fn given_up<R: Threads + Wait + Sync>(rt: &R, alloc: Global) -> Result<GivenUp, Fail> {
+    let (shared, mut owner) = new_store(alloc)?;
+    let Two { mut one, mut two } = two_sessions(alloc, &shared, &mut owner, &FreeGate)?;
+    give_up_beside(rt, &mut one, &mut two)
+}
+
+// What a session that gave up so many tickets is told where memory is found.
+fn all_finished(finished: u32) -> HangUp {
+    HangUp {
+        finished,
+        no_memory: 0,
+        pending: 0,
+        page_fault: 0,
+    }
+}
+
+#[test]
+fn a_session_that_hangs_up_leaves_no_update_unfinished(rt: HostRuntime) -> Result<(), Fail> {
+    let given_up = given_up(&rt, rt.alloc())?;
+    let expected = GivenUp {
+        beside: (3, all_finished(3), 1),
+        published: 24,
+        status: Some((24, 24, 0)),
+        again: all_finished(0),
+    };
+    assert_eq!(rt; given_up, expected);
+    Ok(())
+}
+
+// A session makes the blob and starts two updates, and ends without hanging up.
+fn start_and_end<R: Threads + Wait + Sync>(
+    rt: &R,
+    mut session: Session<'_, PlainDoor, FreeGate>,
+    shared: &Shared,
+    owner: &mut Owner,
+) -> bool
+    requires session { session.store ≡ shared.now }
+    requires owner { IsOwnerOf shared.now owner.old }
+    ensures { IsOwnerOf shared.now owner.new }
+{
+    let made = create(rt, &mut session).is_ok();
+    let first = start(rt, &mut session, b"a").is_ok();
+    let second = start(rt, &mut session, b"a").is_ok();
+    end_session(session, shared, owner);
+    made && first && second
+}
+
+// Another session appends twice, and ends. How far it sees the updates, and what its last version waits for.
+fn append_and_end<R: Threads + Wait + Sync>(
+    rt: &R,
+    mut session: Session<'_, PlainDoor, FreeGate>,
+    shared: &Shared,
+    owner: &mut Owner,
+) -> (bool, Option<(u64, u64, u64)>, Option<(u64, u64)>)
+    requires session { session.store ≡ shared.now }
+    requires owner { IsOwnerOf shared.now owner.old }
+    ensures { IsOwnerOf shared.now owner.new }
+{
+    let first = append(rt, &mut session, b"b").is_ok();
+    let second = append(rt, &mut session, b"b").is_ok();
+    let status = status(rt, &mut session);
+    let pending = pending(rt, &mut session, 4);
+    end_session(session, shared, owner);
+    (first && second, status, pending)
+}
+
+// How far the second session of a new store sees the updates, where the first has ended without hanging up; what its last version
+// waits for; and how far they are on the desk, once the store is closed.
+#[derive(Clone, Copy, Debug, PartialEq, Eq)]
+struct Left {
+    seen: Option<(u64, u64, u64)>,
+    pending: Option<(u64, u64)>,
+    closed: Option<(u64, u64, u64)>,
+}
+
+fn left_unfinished<R: Threads + Wait + Sync>(rt: &R, alloc: Global) -> Result<Left, Fail> {
+    let (shared, mut owner) = new_store(alloc)?;
+    let Two { one, two } = two_sessions(alloc, &shared, &mut owner, &FreeGate)?;
+    let started = start_and_end(rt, one, &shared, &mut owner);
+    let (appended, seen, pending) = append_and_end(rt, two, &shared, &mut owner);
+    let desk = closed(shared, owner)?;
+    if !started || !appended {
+        return Err("an update was refused".into());
+    }
+    let status = desk.status(1);
+    Ok(Left {
+        seen,
+        pending,
+        closed: status_of(&status),
+    })
+}
+
+#[test]
+fn a_session_that_ends_without_hanging_up_holds_the_others_back(
+    rt: HostRuntime,
+) -> Result<(), Fail> {
+    let left = left_unfinished(&rt, rt.alloc())?;
+    let expected = Left {
+        seen: Some((4, 0, 1)),
+        pending: Some((4, 1)),
+        closed: Some((4, 0, 1)),
+    };
+    assert_eq!(rt; left, expected);
+    Ok(())
+}

@@ -1,0 +1,93 @@
+//! The history that the notes of all clients tell, played again over flat bytes.
+
+use crate::calls::{recent_of, status_of};
+use crate::sharing::client::Note;
+use crate::sharing::script::{BASE, Sum};
+use blob_model::{Outcome, Place};
+use std::alloc::Global;
+use version_manager::Desk;
+
+// The update that made the version, where one client was told of it, and no other.
+fn only_note(notes: &[Note], blob: u64, version: u64) -> Option<&Note> {
+    let mut found = None;
+    for note in notes {
+        if note.blob == blob && note.done.version == version {
+            if found.is_some() {
+                return None;
+            }
+            found = Some(note);
+        }
+    }
+    found
+}
+
+// Where an update of a blob of so many bytes falls, if it may be made.
+fn start_of(place: Place, size: usize) -> Option<usize> {
+    match place {
+        Place::Append => Some(size),
+        Place::WriteAt(offset) => {
+            let offset = offset as usize;
+            (offset <= size).then_some(offset)
+        }
+    }
+}
+
+// Writes one byte, over another or behind the last.
+fn put(content: &mut Vec<u8>, at: usize, byte: u8) -> Option<()> {
+    match content.get_mut(at) {
+        Some(old) => *old = byte,
+        None => content.push(byte).ok()?,
+    }
+    Some(())
+}
+
+// The bytes of the blob after the update.
+fn replay(content: &mut Vec<u8>, note: &Note) -> Option<()> {
+    let start = start_of(note.place, content.len())?;
+    if note.done.at != start as u64 {
+        return None;
+    }
+    for i in 0..note.count {
+        put(content, start.checked_add(i)?, note.byte)?;
+    }
+    Some(())
+}
+
+// Whether the update was answered the size, and its version read as the bytes.
+fn is_told(note: &Note, content: &[u8]) -> bool {
+    note.done.size == content.len() as u64 && note.content.as_slice() == content
+}
+
+/// Whether each version of a blob up to the last was told to one client alone, and every answer and every read is what the updates
+/// up to it make.
+pub(crate) fn replays(alloc: Global, notes: &[Note], blob: u64, last: u64) -> Option<()> {
+    let mut content = BASE.to_vec(alloc).ok()?;
+    for before in 1..last {
+        let note = only_note(notes, blob, before + 1)?;
+        replay(&mut content, note)?;
+        if !is_told(note, content.as_slice()) {
+            return None;
+        }
+    }
+    Some(())
+}
+
+/// Whether the desk has the size of the update's version.
+pub(crate) fn has_size(desk: &Desk, note: &Note) -> bool {
+    match desk.size(note.blob, note.done.version) {
+        Outcome::Size(size) => size == note.done.size,
+        _ => false,
+    }
+}
+
+/// Whether the version is the blob's last, and is published, with so many bytes.
+pub(crate) fn ends_at(desk: &Desk, blob: u64, version: u64, size: u64) -> bool {
+    let status = desk.status(blob);
+    let recent = desk.recent(blob);
+    status_of(&status) == Some((version, version, 0)) && recent_of(&recent) == Some((version, size))
+}
+
+/// Whether the desk ends the blob as the scripts add up.
+pub(crate) fn ends_as(desk: &Desk, blob: u64, sum: &Sum) -> bool {
+    ends_at(desk, blob, sum.last, sum.size as u64)
+}
