@@ -1,0 +1,44 @@
+use Rattle.std.proofs.Common.{◌≡◌, ◌∙◌, List, length, subst, arith}
+use Rattle.std.specs.List.{All}
+use Rattle.client_session.specs.Sessions.{SessionState}
+use Rattle.blob_server.specs.Peers.{IsIdle}
+use Rattle.blob_server.proofs.Idling.{all_front, last_of, own_store, idle_still}
+use Rattle.blob_server.proofs.server.serve.Goals as goal
+
+pub work_all-taken-requires-clause-others : goal.work_all-taken-requires-clause-others
+work_all-taken-requires-clause-others g c κs within =
+    let store = c.args.shared.now in
+    let all = subst (λ (l : List (SessionState _)). All (IsIdle store) l) c.in-Some.ensures.items c.in-Ok-sessions_of.ensures.idle in
+    own_store store c.pop.new.self.items (all_front (IsIdle store) c.pop.new.self.items c.in-Some.first all)
+
+pub end_session-requires-clause-idle : goal.end_session-requires-clause-idle
+end_session-requires-clause-idle g c =
+    let store = c.args.shared.now in
+    let all = subst (λ (l : List (SessionState _)). All (IsIdle store) l) c.in-Some.ensures.items c.in-Ok-sessions_of.ensures.idle in
+    let before = last_of (IsIdle store) c.pop.new.self.items c.in-Some.first all in
+    let after = c.work_all-taken.ensures.first in
+    record { of_store = after.of_store ∙ before.of_store; none_held = after.none_held; first_next = after.first_next }
+
+pub end_sessions-requires-clause-idle : goal.end_sessions-requires-clause-idle
+end_sessions-requires-clause-idle g c =
+    let store = c.args.shared.now in
+    let w = c.work_all-taken.ensures in
+    let old = c.pop.new.self.items in
+    let new = c.work_all-taken.result.2.items in
+    let all = subst (λ (l : List (SessionState _)). All (IsIdle store) l) c.in-Some.ensures.items c.in-Ok-sessions_of.ensures.idle in
+    let same : length new ≡ length old = omega (arith, w.count, c.pop.new.self.ok.0, c.work_all-taken.result.2.ok.0) in
+    idle_still store old new same (all_front (IsIdle store) old c.in-Some.first all) (λ k d less. w.others k d (omega (arith, less, c.pop.new.self.ok.0)))
+
+pub returns-in-Some-taken-clause-plan_stays : goal.returns-in-Some-taken-clause-plan_stays
+returns-in-Some-taken-clause-plan_stays g c n door =
+    let made = c.in-Ok-sessions_of.ensures.plan_stays n door in
+    let one = c.end_session.ensures.plan_stays n door in
+    let all = c.end_sessions.ensures.plan_stays n door in
+    (λ h. all.0 (one.0 (made.0 h)), λ h. made.1 (one.1 (all.1 h)))
+
+pub returns-clause-plan_stays : goal.returns-clause-plan_stays
+returns-clause-plan_stays g c n door =
+    let made = c.in-Ok-sessions_of.ensures.plan_stays n door in
+    let one = c.end_session.ensures.plan_stays n door in
+    let all = c.end_sessions.ensures.plan_stays n door in
+    (λ h. all.0 (one.0 (made.0 h)), λ h. made.1 (one.1 (all.1 h)))

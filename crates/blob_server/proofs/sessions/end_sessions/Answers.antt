@@ -1,0 +1,29 @@
+use Rattle.std.proofs.Common.{◌≡◌, ◌∙◌, ◌+◌, List, ap, subst, arith}
+use Rattle.std.specs.List.{All}
+use Rattle.std.specs.Prelude.{sum_by}
+use Rattle.client_session.specs.Sessions.{SessionState}
+use Rattle.blob_server.specs.Peers.{IsIdle, faults_of_doors}
+use Rattle.blob_server.proofs.Idling.{all_front, sum_more, gave_back, begins_on}
+use Rattle.blob_server.proofs.sessions.end_sessions.Goals as goal
+
+pub loop-session-preserved : goal.loop-session-preserved
+loop-session-preserved g c =
+    let faults = g.M.DoorMaker.faults in
+    let counted = faults_of_doors g.M.Door.Door.faults in
+    let i = c.loop-session.invariant in
+    let e = c.end_session.ensures in
+    let front = c.pop.new.self.items in
+    let one = c.in-Some.session in
+    let joined = c.in-Some.ensures.items in
+    let all = subst (λ (l : List (SessionState _)). All (IsIdle c.args.shared.now) l) joined i.idle in
+    let more : sum_by counted c.loop-session.sessions.items ≡ sum_by counted front + counted one = ap (sum_by counted) joined ∙ sum_more counted front one in
+    record {
+      idle = all_front (IsIdle c.args.shared.now) front one all;
+      owner = e.owner;
+      made = e.made ∙ i.made;
+      out = omega (arith, e.out, i.out, c.in-Some.ensures.cases);
+      seen = begins_on _ _ _ i.seen e.seen;
+      doors = gave_back (faults c.args.maker.now) (faults c.loop-session.maker) (faults c.end_session.new.maker) (sum_by counted c.args.sessions.items) (sum_by counted front) (counted one) (omega (arith, i.doors, more)) e.doors;
+      plan_stays = λ n door. (λ h. (e.plan_stays n door).0 ((i.plan_stays n door).0 h), λ h. (i.plan_stays n door).1 ((e.plan_stays n door).1 h));
+      truth_stays = (λ t. e.truth_stays.0 (i.truth_stays.0 t), λ t. i.truth_stays.1 (e.truth_stays.1 t));
+    }

@@ -1,0 +1,44 @@
+-- How serving ends, by what the listener did in the call.
+use Rattle.std.specs.Prelude.{◌≡◌, ℕ, ◌+◌, ◌<◌, ◌≤◌, Bool, true, Option, Some, None, Result, Ok, Err}
+use Rattle.ports.specs.Counts.{RoseBy, counted}
+use Rattle.blob_server.specs.declared.server.ServeFault.{ServeFault}
+use Rattle.blob_server.specs.declared.server.ServeFault.TheVariants as Faults
+
+-- a listener's count of peers, whether it has answered that it gives no more, and its count of faults
+pub record Handing : Type 0 where
+  pub handed : ℕ
+  pub is_done : Bool
+  pub faults : ℕ
+
+-- So many peers were handed out: as many as were asked for, or fewer where the listener then answered that it gives no more.
+pub record TookPeers (connections peers : ℕ) (old new : Handing) : Type 0 where
+  pub within : peers ≤ connections
+  pub handed : new.handed ≡ counted peers old.handed
+  pub fewer : peers < connections → new.is_done ≡ true
+  pub all : peers ≡ connections → new.is_done ≡ old.is_done
+  pub faults : RoseBy 0 old.faults new.faults
+
+-- The listener failed, after it had handed out fewer peers than were asked for.
+pub record FailedAfter (connections : ℕ) (old new : Handing) : Type 0 where
+  pub peers : ℕ
+  pub fewer : peers < connections
+  pub handed : new.handed ≡ counted peers old.handed
+  pub done : new.is_done ≡ old.is_done
+  pub failed : RoseBy 1 old.faults new.faults
+
+-- how the taking of peers ended, by what it answers
+abbrev pub TakesAs : ℕ → Handing → Handing → Option ℕ → Type 0
+TakesAs connections old new (Some peers) = TookPeers connections peers old new
+TakesAs connections old new None = FailedAfter connections old new
+
+-- How serving ended, by what it answers: the number of the peers that were handed out, or why it ended early. Where no memory was found, no peer was taken.
+abbrev pub EndsAs : ℕ → Handing → Handing → Result ℕ ServeFault → Type 0
+EndsAs connections old new (Ok peers) = TookPeers connections peers old new
+EndsAs connections old new (Err Faults.Listener) = FailedAfter connections old new
+EndsAs connections old new (Err Faults.NoMemory) = new ≡ old
+
+-- one pass was made for each worker; where no memory was found it may be fewer
+abbrev pub MakesPasses : ℕ → ℕ → ℕ → Result ℕ ServeFault → Type 0
+MakesPasses workers old new (Ok peers) = new ≡ old + workers
+MakesPasses workers old new (Err Faults.Listener) = new ≡ old + workers
+MakesPasses workers old new (Err Faults.NoMemory) = (old ≤ new) × (new ≤ old + workers)

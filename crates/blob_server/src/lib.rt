@@ -1,0 +1,15 @@
+//! A server of many connections: a listener's peers are served by a pool of workers, each of which has a session of the store.
+#![tactic(auto)]
+
+ghost use Rattle.std.specs.Prelude.{◌≡◌};
+
+mod bell;
+mod desk;
+mod peer;
+mod pool;
+mod server;
+mod sessions;
+mod task;
+
+pub use peer::serve_peer;
+pub use server::{ServeFault, serve};

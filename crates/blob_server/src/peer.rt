@@ -1,0 +1,66 @@
+// One connection.
+ghost use Rattle.std.specs.Prelude.{◌≡◌, [], sum_by};
+ghost use Rattle.frame_wire.specs.Frames.{heard};
+ghost use Rattle.frame_wire.specs.Said.{said};
+ghost use Rattle.server_core.specs.Served.{Served};
+ghost use Rattle.client_session.specs.Sessions.{session_of};
+ghost use Rattle.blob_server.specs.Peers.{connection_limit, ServedFrames, IsIdle};
+
+use client_session::Session;
+use frame_wire::FrameDialect;
+use page_store::Door;
+use ports::gate::Gate;
+use ports::stream::{Sink, Source};
+use server_core::{End, serve_stream};
+use std::alloc::Global;
+use std::sync::Wait;
+use std::thread::Threads;
+
+// The most bytes that are taken of a connection.
+const CONNECTION_LIMIT: u64 = 4_294_967_296;
+
+// Answers the frames of a connection.
+fn serve_frames<R: Threads + Wait + Sync, P: Source + Sink, D: Door, G: Gate>(
+    rt: &R,
+    alloc: Global,
+    session: &mut Session<'_, D, G>,
+    peer: &mut P,
+) -> End
+    ensures served { Served said
+        (record { session = session_of session.old; faults = sum_by D.faults session.old.doors; written = P.written peer.old })
+        heard
+        (record { given = P.given peer.old; left = P.left peer.old; ends = P.ends peer.old })
+        (record { given = P.given peer.new; left = P.left peer.new; ends = P.ends peer.new })
+        connection_limit
+        (record { session = session_of session.new; faults = sum_by D.faults session.new.doors; written = P.written peer.new })
+        result }
+    ensures store { session.new.store ≡ session.old.store }
+{
+    let Ok(mut dialect) = FrameDialect::new(alloc) else {
+        return End::NoMemory;
+    };
+    serve_stream(rt, alloc, session, &mut dialect, peer, CONNECTION_LIMIT)
+}
+
+/// Serves one connection with frames by a session that holds no ticket, and then hangs the session up: tickets that the peer
+/// left are given up, and the next peer's are numbered from 1 again. A connection whose dialect finds no memory is ended at
+/// once. At most 4,294,967,296 bytes are taken of it. It tells how the connection ended.
+pub fn serve_peer<R: Threads + Wait + Sync, P: Source + Sink, D: Door, G: Gate>(
+    rt: &R,
+    alloc: Global,
+    session: &mut Session<'_, D, G>,
+    peer: &mut P,
+) -> End
+    requires { IsIdle session.old.store session.old }
+    ensures served { ServedFrames
+        (record { session = session_of session.old; faults = sum_by D.faults session.old.doors; written = P.written peer.old })
+        (record { given = P.given peer.old; left = P.left peer.old; ends = P.ends peer.old })
+        (record { given = P.given peer.new; left = P.left peer.new; ends = P.ends peer.new })
+        (record { session = session_of session.new; faults = sum_by D.faults session.new.doors; written = P.written peer.new })
+        result }
+    ensures idle { IsIdle session.old.store session.new }
+{
+    let end = serve_frames(rt, alloc, session, peer);
+    session.hang_up(rt);
+    end
+}

@@ -1,0 +1,97 @@
+// The server.
+ghost use Rattle.std.specs.Prelude.{◌≡◌, ◌≤◌, ◌<◌, ◌+◌, ◌-◌, ◌^◌, ◌↔◌, ℕ, true, IfErr};
+ghost use Rattle.turn_lock.specs.History.{Begins};
+ghost use Rattle.client_session.specs.Sessions.{IsOwnerOf};
+ghost use Rattle.blob_server.specs.Serving.{EndsAs, MakesPasses};
+ghost use Rattle.blob_server.specs.declared.server.ServeFault.TheVariants as Faults;
+
+use crate::desk::Desk;
+use crate::pool::work_all;
+use crate::sessions::{end_session, end_sessions, sessions_of};
+use client_session::{Owner, Shared};
+use page_store::DoorMaker;
+use ports::gate::Gate;
+use ports::listener::Listener;
+use std::alloc::Global;
+use std::sync::Wait;
+use std::thread::Threads;
+
+/// Why serving ended before all connections were served.
+#[derive(Clone, Copy, Debug, PartialEq, Eq)]
+pub enum ServeFault {
+    /// The listener failed. The peers that it had handed out before were served.
+    Listener,
+    /// No memory was found for the sessions and for the queue. No peer was taken.
+    NoMemory,
+}
+
+/// Serves connections with frames, by so many workers, until as many peers were handed out as `connections` or the listener
+/// gives no more. It answers the number of the peers that the listener handed out. Where the listener fails no more peers are
+/// taken, and it answers so once those that were taken are served.
+///
+/// Each worker has one session of the store, with a pass of its own and with doors of the maker `doors`, which gives back what
+/// was put. The sessions are made before the first peer is taken. The calling thread is the first worker: it takes the peers and
+/// leaves them to the others, which run in threads of their own and take them from a queue of 64 places. Where the queue is full
+/// or there is no other worker it serves a peer itself, and when it has taken the last one it serves what still waits, so that
+/// all are served where no thread can be made. A worker with nothing to do sleeps. Each peer is served once, as `serve_peer`
+/// tells: its session is hung up before the next one, and what goes wrong with a peer ends its connection alone. When it answers
+/// every pass and every door have gone back. The gate is called between the acts of updates.
+pub fn serve<R: Threads + Wait + Sync, Li: Listener, M: DoorMaker, G: Gate + Sync>(
+    rt: &R,
+    alloc: Global,
+    shared: &Shared,
+    owner: &mut Owner,
+    net: &mut Li,
+    doors: &mut M,
+    gate: &G,
+    workers: u32,
+    connections: u32,
+) -> Result<u64, ServeFault>
+where
+    Li::Peer: Drop + Send,
+    M::Door: Drop + Send,
+    requires listens { Li.listens net.old ≡ true }
+    requires some_workers { 1 ≤ workers }
+    requires few_workers { workers ≤ 16 }
+    requires some_connections { 1 ≤ connections }
+    requires owner { IsOwnerOf shared.now owner.old }
+    requires passes_left { owner.old.made ≤ 1008 }
+    requires true_doors { M.is_true doors.old }
+
+    // How it ended, by what the listener did in this call.
+    ensures ended { EndsAs connections
+        (record { handed = Li.handed net.old; is_done = Li.is_done net.old; faults = Li.faults net.old })
+        (record { handed = Li.handed net.new; is_done = Li.is_done net.new; faults = Li.faults net.new })
+        result }
+    ensures listens { Li.listens net.new ≡ true }
+    ensures untouched { IfErr result (λ fault. fault ≡ Faults.NoMemory → net.new ≡ net.old) }
+
+    // Each pass that it made came back.
+    ensures passes { owner.new.out ≡ owner.old.out }
+    ensures made { MakesPasses workers owner.old.made owner.new.made result }
+    ensures seen { Begins owner.old.seen owner.new.seen }
+    ensures owner { IsOwnerOf shared.now owner.new }
+
+    // What the doors counted went to the maker, which makes the doors that it made before.
+    ensures doors { M.faults doors.new < 2 ^ 64 - 1 → M.faults doors.old ≤ M.faults doors.new }
+    ensures truth_stays { M.is_true doors.old ↔ M.is_true doors.new }
+    ensures plan_stays { (n : ℕ) (door : _) → M.makes doors.old n door ↔ M.makes doors.new n door }
+{
+    let Ok(desk) = Desk::new(alloc) else {
+        return Err(ServeFault::NoMemory);
+    };
+    let Ok(mut sessions) = sessions_of(alloc, shared, owner, doors, gate, workers) else {
+        return Err(ServeFault::NoMemory);
+    };
+    let Some(first) = sessions.pop() else {
+        // There is at least one worker.
+        unreachable!()
+    };
+    let (taken, first, others) = work_all(rt, alloc, &desk, first, sessions, net, connections);
+    end_session(shared, owner, doors, first);
+    end_sessions(shared, owner, doors, others);
+    match taken {
+        Some(peers) => Ok(u64::from(peers)),
+        None => Err(ServeFault::Listener),
+    }
+}
