@@ -1,4 +1,4 @@
-//! The program: `run` over the words of its command line, standard input, standard output and standard error.
+//! The program: `run` over the words of its command line, its standard input and outputs, its network and its files.
 #![tactic(auto)]
 
 ghost use Rattle.std.specs.Prelude.{◌≡◌};
@@ -6,7 +6,9 @@ ghost use Rattle.std.specs.Prelude.{◌≡◌};
 use blobseer_run::run;
 use page_store::PlainMaker;
 use ports::gate::FreeGate;
+use ports::host::HostFiles;
 use ports::reader::ReaderSource;
+use ports::tcp::TcpPorts;
 use ports::writer::WriterSink;
 use std::env::{self, Env};
 use std::io::{self, ErrorKind};
@@ -32,6 +34,8 @@ fn main(rt: HostRuntime) -> ExitCode {
     let mut script = ReaderSource::new(rt.stdin());
     let mut out = WriterSink::new(rt.stdout());
     let mut err = WriterSink::new(rt.stderr());
+    let mut net = TcpPorts::new(&rt);
+    let mut files = HostFiles::new(&rt, rt.alloc());
     let mut doors = PlainMaker::new();
     let status = run(
         &rt,
@@ -40,6 +44,8 @@ fn main(rt: HostRuntime) -> ExitCode {
         &mut script,
         &mut out,
         &mut err,
+        &mut net,
+        &mut files,
         &mut doors,
         &FreeGate,
     );

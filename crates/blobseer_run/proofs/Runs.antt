@@ -3,9 +3,10 @@ use Rattle.std.proofs.Common.{◌≡◌, ◌≢◌, ℕ, ◌+◌, ◌-◌, ◌^�
 use Rattle.std.proofs.lemmas.Bool.{false≢true}
 use Rattle.std.proofs.lemmas.List.Sums.{sum_by-cons}
 use Rattle.std.proofs.KnownBytes.{Appends-nil, Consumes-nil}
+use Rattle.std.specs.Io.KnownBytes.{Appends, Consumes}
 use Rattle.std.specs.Prelude.{Option, ◌∷◌, ◌⊎◌}
 use Rattle.ports.specs.Counts.{RoseBy}
-use Rattle.request_form.specs.Session.{AllOwn}
+use Rattle.request_form.specs.Session.{Fixed, AllOwn}
 use Rattle.request_form.specs.Stream.{AllWellHeard}
 use Rattle.request_form.specs.Transcript.{has_quit, first_session, faults_of}
 use Rattle.request_form.specs.declared.form.Heard.{Heard}
@@ -19,7 +20,7 @@ use Rattle.server_core.specs.Laws as Streams
 use Rattle.blobseer_run.specs.declared.status.Status.{Status}
 use Rattle.blobseer_run.specs.declared.status.Status.TheVariants as Statuses
 use Rattle.blobseer_run.specs.Legal.{LegalAlone}
-use Rattle.blobseer_run.specs.Run.{store_fixed, input_limit, IsCalm, Says, Counts, IsDue, Ended, Ran}
+use Rattle.blobseer_run.specs.Run.{input_limit, IsCalm, Says, Outside, IsDue, Ended, ServedScript}
 use Rattle.blobseer_run.specs.Serving.{ServedByOne}
 use Rattle.blobseer_run.specs.Status.{code_of, out_of_memory, input_too_long}
 use Rattle.blobseer_run.proofs.Scripts.{script_well, whole_script_well, script_not_cut}
@@ -64,45 +65,44 @@ less_and_full taken limit less full = omega arith
 some_and_none : (rest : List ℕ) → 0 < length rest → rest ≡ [] → ⊥
 some_and_none rest some none = omega (arith, some, ap length none)
 
-module _ (A calm : Type 0) (taken text rest : List ℕ) (old new : Counts) (status : ℕ) (a : A) (full : length taken ≡ input_limit) (none : has_quit (heard taken).whole ≡ false) (wrote : rest ≡ []) (memory : status ≢ out_of_memory) where
+module _ (fixed : Fixed) (calm : Type 0) (taken text rest : List ℕ) (old new : Outside) (status : ℕ) (full : length taken ≡ input_limit) (none : has_quit (heard taken).whole ≡ false) (wrote : rest ≡ []) (memory : status ≢ out_of_memory) where
   not_due : (due : List Heard) → IsDue taken old new due → has_quit due ≡ true → ⊥
   not_due due (IsDue.all less rose is) quits = less_and_full (length taken) input_limit less full
   not_due due (IsDue.whole is) quits = false≢true (sym none ∙ (ap has_quit (sym is) ∙ quits))
 
   -- no other status comes where the input is full and its requests are answered
-  pub full_of : Ended A calm taken text rest old new status → status ≡ input_too_long
-  full_of (Ended.refused e isnt t x) = absurd (isnt a)
-  full_of (Ended.finished e u less rose r x) = absurd (less_and_full (length taken) input_limit less full)
-  full_of (Ended.quit e u due is quits r x) = absurd (not_due due is quits)
-  full_of (Ended.unread e u less rose quit r x) = absurd (less_and_full (length taken) input_limit less full)
-  full_of (Ended.unwritten e u rose due is some x) = absurd (some_and_none rest some wrote)
-  full_of (Ended.starved e u due is x) = absurd (memory e)
-  full_of (Ended.too_long e u at quit r x) = e
+  pub full_of : Ended fixed calm taken text rest old new status → status ≡ input_too_long
+  full_of (Ended.finished e less rose r x) = absurd (less_and_full (length taken) input_limit less full)
+  full_of (Ended.quit e due is quits r x) = absurd (not_due due is quits)
+  full_of (Ended.unread e less rose quit r x) = absurd (less_and_full (length taken) input_limit less full)
+  full_of (Ended.unwritten e rose due is some x) = absurd (some_and_none rest some wrote)
+  full_of (Ended.starved e due is x) = absurd (memory e)
+  full_of (Ended.too_long e at quit r x) = e
 
 -- ---- a script that was served
 
-module _ (alone : Streams.ServedAlone) (legal : LegalAlone) (calm : Type 0) (doors doors' : ℕ) where
-  says : (items : List Heard) (text : List ℕ) (before after : ℕ) → AllWellHeard items → GaveBack calm before after doors doors' → Streams.SaysWithin said store_fixed items before after text → Says calm doors doors' items text
+module _ (alone : Streams.ServedAlone) (legal : LegalAlone) (fixed : Fixed) (calm : Type 0) (doors doors' : ℕ) where
+  says : (items : List Heard) (text : List ℕ) (before after : ℕ) → AllWellHeard items → GaveBack calm before after doors doors' → Streams.SaysWithin said fixed items before after text → Says fixed calm doors doors' items text
   says items text before after well gave s = record {
     alone = s.alone;
-    legal = legal store_fixed items s.alone.replies s.alone.last s.alone.transcript;
+    legal = legal fixed items s.alone.replies s.alone.last s.alone.transcript;
     page_faults = rose_within (faults_of s.alone.replies) before after doors doors' gave.fresh gave.rises (s.faults well);
     no_page_fault = λ is_calm. rose_none (faults_of s.alone.replies) before after gave.fresh (gave.quiet is_calm) (s.faults well);
   }
 
-  module _ (before after : Input) (faults faults' : ℕ) (written written' : Option (List ℕ)) (reads reads' writes writes' : ℕ) (gave : GaveBack calm faults faults' doors doors') where
-    abbrev old : Counts
-    old = record { reads = reads; ends = before.ends; writes = writes; doors = doors }
+  module _ (before after : Input) (faults faults' : ℕ) (written written' : Option (List ℕ)) (reads reads' writes writes' files files' : ℕ) (gave : GaveBack calm faults faults' doors doors') where
+    abbrev old : Outside
+    old = record { given = before.given; left = before.left; written = written; reads = reads; ends = before.ends; writes = writes; files = files; doors = doors }
 
-    abbrev new : Counts
-    new = record { reads = reads'; ends = after.ends; writes = writes'; doors = doors' }
+    abbrev new : Outside
+    new = record { given = after.given; left = after.left; written = written'; reads = reads'; ends = after.ends; writes = writes'; files = files'; doors = doors' }
 
     abbrev RanTo : Status → Type 0
-    RanTo status = Ran (Unit {0}) calm before.given before.left after.given after.left written written' old new (code_of status)
+    RanTo status = ServedScript fixed calm old new (code_of status)
 
-    module _ (end : End) (s : ServedByOne before after faults faults' written written' end) where
+    module _ (end : End) (s : ServedByOne fixed before after faults faults' written written' end) where
       abbrev start : Point
-      start = record { session = first_session store_fixed 1; faults = faults; written = written }
+      start = record { session = first_session fixed 1; faults = faults; written = written }
 
       abbrev stop : Point
       stop = record { session = s.lines.last; faults = faults'; written = written' }
@@ -110,8 +110,8 @@ module _ (alone : Streams.ServedAlone) (legal : LegalAlone) (calm : Type 0) (doo
       own : AllOwn 1 s.lines.last.seen
       own = subst (AllOwn 1) (sym s.lines.sees) s.own
 
-      pub wrote : Streams.WroteAlone said store_fixed (heard s.lines.served.taken) (length s.lines.served.taken) input_limit before.ends after.ends faults faults' s.lines.served.progress.out end
-      wrote = alone said store_fixed start heard before after input_limit stop end refl own s.lines.served
+      pub wrote : Streams.WroteAlone said fixed (heard s.lines.served.taken) (length s.lines.served.taken) input_limit before.ends after.ends faults faults' s.lines.served.progress.out end
+      wrote = alone said fixed start heard before after input_limit stop end refl own s.lines.served
 
       abbrev taken : List ℕ
       taken = s.lines.served.taken
@@ -127,16 +127,16 @@ module _ (alone : Streams.ServedAlone) (legal : LegalAlone) (calm : Type 0) (doo
       well_due due (inl x) = subst AllWellHeard (sym x.0) (script_well taken)
       well_due due (inr e) = subst AllWellHeard (sym e) (whole_script_well taken)
 
-      pub says_due : (due : List Heard) (words : List ℕ) → Streams.IsDue (heard taken) (length taken) input_limit before.ends after.ends due → Streams.SaysWithin said store_fixed due faults faults' words → Says calm doors doors' due words
+      pub says_due : (due : List Heard) (words : List ℕ) → Streams.IsDue (heard taken) (length taken) input_limit before.ends after.ends due → Streams.SaysWithin said fixed due faults faults' words → Says fixed calm doors doors' due words
       says_due due words is within = says due words faults faults' (well_due due is) gave within
 
-      pub says_whole : Streams.SaysWithin said store_fixed (heard taken).whole faults faults' text → Says calm doors doors' (heard taken).whole text
+      pub says_whole : Streams.SaysWithin said fixed (heard taken).whole faults faults' text → Says fixed calm doors doors' (heard taken).whole text
       says_whole within = says (heard taken).whole text faults faults' (whole_script_well taken) gave within
 
-      pub says_all : Streams.SaysWithin said store_fixed (heard taken).items faults faults' text → Says calm doors doors' (heard taken).items text
+      pub says_all : Streams.SaysWithin said fixed (heard taken).items faults faults' text → Says fixed calm doors doors' (heard taken).items text
       says_all within = says (heard taken).items text faults faults' (script_well taken) gave within
 
-      pub ran_with : (rest : List ℕ) (status : Status) → Ended (Unit {0}) calm taken text rest old new (code_of status) → RanTo status
+      pub ran_with : (rest : List ℕ) (status : Status) → Ended fixed calm taken text rest old new (code_of status) → RanTo status
       ran_with rest status e = record {
         taken = taken;
         text = text;
@@ -145,94 +145,63 @@ module _ (alone : Streams.ServedAlone) (legal : LegalAlone) (calm : Type 0) (doo
         within = s.lines.served.within;
         adds = s.lines.served.progress.adds;
         ended = e;
-        full = λ a full none wrote memory. full_of (Unit {0}) calm taken text rest old new (code_of status) a full none wrote memory e;
+        full = λ full none wrote memory. full_of fixed calm taken text rest old new (code_of status) full none wrote memory e;
       }
 
-    pub ran : (end : End) → ServedByOne before after faults faults' written written' end → RoseBy (end_read_faults end) reads reads' → RoseBy (end_write_faults end) writes writes' → RanTo (status_of end)
+    pub ran : (end : End) → ServedByOne fixed before after faults faults' written written' end → RoseBy (end_read_faults end) reads reads' → RoseBy (end_write_faults end) writes writes' → RanTo (status_of end)
     ran Ends.Quit s r w =
         let t = wrote Ends.Quit s in
-        ran_with Ends.Quit s [] Statuses.Done (Ended.quit refl tt t.0 (due_of Ends.Quit s t.0 t.1) t.2 refl (says_due Ends.Quit s t.0 _ t.1 t.3))
+        ran_with Ends.Quit s [] Statuses.Done (Ended.quit refl t.0 (due_of Ends.Quit s t.0 t.1) t.2 refl (says_due Ends.Quit s t.0 _ t.1 t.3))
     ran Ends.InputEnd s r w =
-        ran_with Ends.InputEnd s [] Statuses.Done (Ended.finished refl tt s.lines.served.ended.3 s.lines.served.closing refl (says_all Ends.InputEnd s (wrote Ends.InputEnd s)))
+        ran_with Ends.InputEnd s [] Statuses.Done (Ended.finished refl s.lines.served.ended.3 s.lines.served.closing refl (says_all Ends.InputEnd s (wrote Ends.InputEnd s)))
     ran Ends.Cut s r w =
         let no : true ≡ false = sym s.lines.served.ended.2 ∙ script_not_cut s.lines.served.taken in
         absurd (false≢true (sym no))
     ran Ends.ReadFault s r w =
-        ran_with Ends.ReadFault s [] Statuses.ReadFault (Ended.unread refl tt s.lines.served.ended.2 r s.lines.served.ended.1 refl (says_whole Ends.ReadFault s (wrote Ends.ReadFault s)))
+        ran_with Ends.ReadFault s [] Statuses.ReadFault (Ended.unread refl s.lines.served.ended.2 r s.lines.served.ended.1 refl (says_whole Ends.ReadFault s (wrote Ends.ReadFault s)))
     ran Ends.WriteFault s r w =
         let t = wrote Ends.WriteFault s in
-        ran_with Ends.WriteFault s t.2.0 Statuses.WriteFault (Ended.unwritten refl tt w t.0 (due_of Ends.WriteFault s t.0 t.1) t.2.1 (says_due Ends.WriteFault s t.0 _ t.1 t.2.2))
+        ran_with Ends.WriteFault s t.2.0 Statuses.WriteFault (Ended.unwritten refl w t.0 (due_of Ends.WriteFault s t.0 t.1) t.2.1 (says_due Ends.WriteFault s t.0 _ t.1 t.2.2))
     ran Ends.InputTooLong s r w =
-        ran_with Ends.InputTooLong s [] Statuses.InputTooLong (Ended.too_long refl tt s.lines.served.ended.2 s.lines.served.ended.1 refl (says_whole Ends.InputTooLong s (wrote Ends.InputTooLong s)))
+        ran_with Ends.InputTooLong s [] Statuses.InputTooLong (Ended.too_long refl s.lines.served.ended.2 s.lines.served.ended.1 refl (says_whole Ends.InputTooLong s (wrote Ends.InputTooLong s)))
     ran Ends.NoMemory s r w =
         let t = wrote Ends.NoMemory s in
-        ran_with Ends.NoMemory s t.2.0 Statuses.OutOfMemory (Ended.starved refl tt t.0 (due_of Ends.NoMemory s t.0 t.1) (says_due Ends.NoMemory s t.0 _ t.1 t.2.1))
+        ran_with Ends.NoMemory s t.2.0 Statuses.OutOfMemory (Ended.starved refl t.0 (due_of Ends.NoMemory s t.0 t.1) (says_due Ends.NoMemory s t.0 _ t.1 t.2.1))
 
-    pub ran_as : (end end' : End) → end ≡ end' → ServedByOne before after faults faults' written written' end → RoseBy (end_read_faults end) reads reads' → RoseBy (end_write_faults end) writes writes' → RanTo (status_of end')
+    pub ran_as : (end end' : End) → end ≡ end' → ServedByOne fixed before after faults faults' written written' end → RoseBy (end_read_faults end) reads reads' → RoseBy (end_write_faults end) writes writes' → RanTo (status_of end')
     ran_as end end' is s r w = subst (λ (e : End). RanTo (status_of e)) is (ran end s r w)
 
-    pub ran_done : (end : End) → (end ≡ Ends.InputEnd) ⊎ (end ≡ Ends.Quit) → ServedByOne before after faults faults' written written' end → RoseBy (end_read_faults end) reads reads' → RoseBy (end_write_faults end) writes writes' → RanTo Statuses.Done
+    pub ran_done : (end : End) → (end ≡ Ends.InputEnd) ⊎ (end ≡ Ends.Quit) → ServedByOne fixed before after faults faults' written written' end → RoseBy (end_read_faults end) reads reads' → RoseBy (end_write_faults end) writes writes' → RanTo Statuses.Done
     ran_done end (inl is) s r w = ran_as end Ends.InputEnd is s r w
     ran_done end (inr is) s r w = ran_as end Ends.Quit is s r w
 
-    pub never_cut : (end : End) → end ≡ Ends.Cut → ServedByOne before after faults faults' written written' end → ⊥
+    pub never_cut : (end : End) → end ≡ Ends.Cut → ServedByOne fixed before after faults faults' written written' end → ⊥
     never_cut end is s =
-        let cut = subst (λ (e : End). ServedByOne before after faults faults' written written' e) is s in
+        let cut = subst (λ (e : End). ServedByOne fixed before after faults faults' written written' e) is s in
         false≢true (sym (script_not_cut cut.lines.served.taken) ∙ cut.lines.served.ended.2)
 
+-- the same of a store that keeps to the same
+pub at_fixed : (fixed fixed' : Fixed) (calm : Type 0) (old new : Outside) (status : ℕ) → fixed ≡ fixed' → ServedScript fixed calm old new status → ServedScript fixed' calm old new status
+at_fixed fixed fixed' calm old new status is served = subst (λ (f : Fixed). ServedScript f calm old new status) is served
+
 -- where nothing could be done for want of memory
-pub ran_none : (calm : Type 0) (given left written : Option (List ℕ)) (old new : Counts) → min old.doors (2 ^ 64 - 1) ≤ new.doors →
-    Ran (Unit {0}) calm given left given left written written old new (code_of Statuses.OutOfMemory)
-ran_none calm given left written old new rises = record {
+pub ran_none : (fixed : Fixed) (calm : Type 0) (old new : Outside) → new.given ≡ old.given → new.left ≡ old.left → new.written ≡ old.written → min old.doors (2 ^ 64 - 1) ≤ new.doors →
+    ServedScript fixed calm old new (code_of Statuses.OutOfMemory)
+ran_none fixed calm old new given left written rises = record {
   taken = [];
   text = [];
   rest = [];
-  takes = record { gave = Appends-nil given; took = Consumes-nil left };
+  takes = record {
+    gave = let P : Option (List ℕ) → Type 0 = λ o. Appends old.given o [] in subst P (sym given) (Appends-nil old.given);
+    took = let Q : Option (List ℕ) → Type 0 = λ o. Consumes old.left o [] in subst Q (sym left) (Consumes-nil old.left);
+  };
   within = omega arith;
-  adds = Appends-nil written;
-  ended = Ended.starved refl tt [] (IsDue.whole refl) (record {
-    alone = record { replies = []; last = first_session store_fixed 1; transcript = refl; says = refl };
+  adds = let R : Option (List ℕ) → Type 0 = λ o. Appends old.written o [] in subst R (sym written) (Appends-nil old.written);
+  ended = Ended.starved refl [] (IsDue.whole refl) (record {
+    alone = record { replies = []; last = first_session fixed 1; transcript = refl; says = refl };
     legal = tt;
     page_faults = λ less. omega arith;
     no_page_fault = λ is_calm. refl;
   });
-  full = λ a full none wrote memory. absurd (memory refl);
-}
-
--- ---- at the words
-
-ended_accepted : (A calm : Type 0) (taken text rest : List ℕ) (old new : Counts) (status : ℕ) → A → Ended (Unit {0}) calm taken text rest old new status → Ended A calm taken text rest old new status
-ended_accepted A calm taken text rest old new status a (Ended.refused e isnt t x) = absurd (isnt tt)
-ended_accepted A calm taken text rest old new status a (Ended.finished e u less rose r x) = Ended.finished e a less rose r x
-ended_accepted A calm taken text rest old new status a (Ended.quit e u due is quits r x) = Ended.quit e a due is quits r x
-ended_accepted A calm taken text rest old new status a (Ended.unread e u less rose quit r x) = Ended.unread e a less rose quit r x
-ended_accepted A calm taken text rest old new status a (Ended.unwritten e u rose due is some x) = Ended.unwritten e a rose due is some x
-ended_accepted A calm taken text rest old new status a (Ended.starved e u due is x) = Ended.starved e a due is x
-ended_accepted A calm taken text rest old new status a (Ended.too_long e u full quit r x) = Ended.too_long e a full quit r x
-
-module _ (calm A : Type 0) (given left given' left' written written' : Option (List ℕ)) (old new : Counts) (status n : ℕ) (a : A) where
-  pub ran_accepted : n ≡ status → Ran (Unit {0}) calm given left given' left' written written' old new status → Ran A calm given left given' left' written written' old new n
-  ran_accepted e ran =
-      let P : ℕ → Type 0 = λ m. Ran A calm given left given' left' written written' old new m in
-      subst P (sym e) (record {
-        taken = ran.taken;
-        text = ran.text;
-        rest = ran.rest;
-        takes = ran.takes;
-        within = ran.within;
-        adds = ran.adds;
-        ended = ended_accepted A calm ran.taken ran.text ran.rest old new status a ran.ended;
-        full = λ b full none wrote memory. ran.full tt full none wrote memory;
-      })
-
-pub ran_refused : (calm A : Type 0) (given left written : Option (List ℕ)) (counts : Counts) (n : ℕ) → ¬ A → n ≡ 1 → Ran A calm given left given left written written counts counts n
-ran_refused calm A given left written counts n isnt e = record {
-  taken = [];
-  text = [];
-  rest = [];
-  takes = record { gave = Appends-nil given; took = Consumes-nil left };
-  within = omega arith;
-  adds = Appends-nil written;
-  ended = Ended.refused e isnt refl refl;
-  full = λ a full none wrote memory. absurd (isnt a);
+  full = λ full none wrote memory. absurd (memory refl);
 }

@@ -5,7 +5,6 @@ use Rattle.std.specs.Prelude.{Option}
 use Rattle.std.specs.List.{AllByRecursion}
 use Rattle.std.proofs.lemmas.List.Elements.{recursion_from_All}
 use Rattle.std.proofs.lemmas.List.Sums.{sum_by-cons}
-use Rattle.blob_model.specs.Limits.{greatest}
 use Rattle.blob_model.specs.declared.call.Event.{Event}
 use Rattle.request_form.specs.Session.{Session, AllOwn}
 use Rattle.request_form.specs.Transcript.{until_quit, first_session}
@@ -20,7 +19,8 @@ use Rattle.turn_lock.specs.Shown.{Held}
 use Rattle.version_manager.specs.Log.{tagged, events}
 use Rattle.version_manager.specs.declared.journal.DeskFixed.{DeskFixed}
 use Rattle.client_session.specs.Sessions.{StoreState, SessionState, session_at, session_of, pass_of}
-use Rattle.blobseer_run.specs.Run.{input_limit, store_fixed}
+use Rattle.settings.specs.Values.{SettingsValues}
+use Rattle.blobseer_run.specs.Run.{input_limit, fixed_of}
 use Rattle.blobseer_run.specs.Serving.{ServedLines}
 use Rattle.blobseer_run.proofs.Alone.{own_of}
 
@@ -98,8 +98,8 @@ sum_fresh faults doors h = sum_each faults doors (recursion_from_All (λ door. f
 
 -- ---- the first session of a new store, alone in it
 
-pub first_there : (f : DeskFixed) (caller : ℕ) (seen : Log Event) → f.limits ≡ greatest → f.page_size ≡ 4096 → caller ≡ 1 → seen ≡ [] → session_at f caller seen [] 1 ≡ first_session store_fixed 1
-first_there f caller seen limits page one none = rw (limits, page, one, none) refl
+pub first_there : (f : DeskFixed) (caller : ℕ) (seen : Log Event) → caller ≡ 1 → seen ≡ [] → session_at f caller seen [] 1 ≡ first_session (record { limits = f.limits; page = f.page_size }) 1
+first_there f caller seen one none = rw (one, none) refl
 
 -- what its pass has seen is its own, by the history of the closed store
 pub own_there : (made : ℕ) (history : List Event) (whole seen : Log Event) → made ≡ 1 → LacksUngiven made (tagged history) → tagged history ≡ whole → Begins seen whole → seen ≡ tagged (events seen) → AllOwn 1 (events seen)
@@ -107,3 +107,7 @@ own_there made history whole seen one lacks is begins tags =
     let given : LacksUngiven 1 (tagged history) = subst (λ (n : ℕ). LacksUngiven n (tagged history)) one lacks in
     let there : LacksUngiven 1 (seen ++ begins.0) = subst (LacksUngiven 1) (is ∙ begins.1) given in
     own_of seen begins.0 there tags
+
+-- what a new store keeps to is what its settings say
+pub fixed_there : (f : DeskFixed) (settings : SettingsValues) (page : ℕ) → f.limits ≡ settings.limits → f.page_size ≡ page → page ≡ settings.page → record { limits = f.limits; page = f.page_size } ≡ fixed_of settings
+fixed_there f settings page limits size is = rw (limits, size, is) refl

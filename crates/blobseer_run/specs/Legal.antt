@@ -7,7 +7,6 @@ use Rattle.request_form.specs.Transcript.{Transcript, first_session, SaysAlone, 
 use Rattle.request_form.specs.declared.form.Reply.{Reply}
 use Rattle.request_form.specs.declared.form.Heard.{Heard}
 use Rattle.script_text.specs.Said.{said}
-use Rattle.blobseer_run.specs.Run.{store_fixed}
 
 -- Where nobody else is there, what a first session has seen in the end is a legal history.
 abbrev pub LegalAlone : Type 0
@@ -15,11 +14,11 @@ LegalAlone = (fixed : Fixed) (heard : List Heard) (replies : List Reply) (last :
     → Transcript IsNobody (first_session fixed 1) heard replies last → IsLegal fixed.limits last.seen
 
 -- the text is said of a transcript alone of these items, whose history is legal, and in which the outside failed for no request
-pub record SaysCalmly (items : List Heard) (text : List ℕ) : Type 0 where
-  pub alone : SaysAlone said store_fixed items text
-  pub legal : IsLegal store_fixed.limits alone.last.seen
+pub record SaysCalmly (fixed : Fixed) (items : List Heard) (text : List ℕ) : Type 0 where
+  pub alone : SaysAlone said fixed items text
+  pub legal : IsLegal fixed.limits alone.last.seen
   pub calm : faults_of alone.replies ≡ 0
 
 -- Something can be said of each list of items of which no wrong one is a fault of the outside.
 abbrev pub AlwaysSays : Type 0
-AlwaysSays = (items : List Heard) → AllWellHeard items → (text : List ℕ) × SaysCalmly items text
+AlwaysSays = (fixed : Fixed) (items : List Heard) → AllWellHeard items → (text : List ℕ) × SaysCalmly fixed items text

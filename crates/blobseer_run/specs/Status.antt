@@ -11,6 +11,9 @@ done = 0
 abbrev pub words_refused : ℕ
 words_refused = 1
 
+abbrev pub settings_refused : ℕ
+settings_refused = 2
+
 abbrev pub read_fault : ℕ
 read_fault = 3
 
@@ -20,6 +23,9 @@ write_fault = 4
 abbrev pub out_of_memory : ℕ
 out_of_memory = 5
 
+abbrev pub listener_fault : ℕ
+listener_fault = 6
+
 abbrev pub input_too_long : ℕ
 input_too_long = 7
 
@@ -27,19 +33,23 @@ input_too_long = 7
 abbrev pub code_of : Status → ℕ
 code_of Statuses.Done = done
 code_of Statuses.WordsRefused = words_refused
+code_of Statuses.SettingsRefused = settings_refused
 code_of Statuses.ReadFault = read_fault
 code_of Statuses.WriteFault = write_fault
 code_of Statuses.OutOfMemory = out_of_memory
+code_of Statuses.ListenerFault = listener_fault
 code_of Statuses.InputTooLong = input_too_long
 
 -- what a status puts on the error output
 abbrev pub error_line : ℕ → List ℕ
 error_line status =
     if status == words_refused then codes "blobseer: words refused\n"
+    else (if status == settings_refused then codes "blobseer: settings refused\n"
     else (if status == read_fault then codes "blobseer: read fault\n"
     else (if status == write_fault then codes "blobseer: write fault\n"
     else (if status == out_of_memory then codes "blobseer: out of memory\n"
-    else (if status == input_too_long then codes "blobseer: input too long\n" else []))))
+    else (if status == listener_fault then codes "blobseer: listener fault\n"
+    else (if status == input_too_long then codes "blobseer: input too long\n" else []))))))
 
 -- The error output got the status's line, or only its beginning where the count of faults rose.
 pub record Tells (status : ℕ) (written written' : Option (List ℕ)) (faults faults' : ℕ) : Type 0 where

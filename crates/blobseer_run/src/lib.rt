@@ -1,14 +1,17 @@
-//! The program: one command, from the bytes that come in to the bytes that go out.
+//! The program: one command, from the words of the command line and the bytes that come in to the bytes that go out.
 //!
-//! `run` makes a new store and serves its input line by line by one session, whose pages go through doors that it is lent,
-//! as the lines come. It keeps neither the input nor the replies.
+//! `run` reads the words and the settings file that they name, makes a new store by these settings, and serves its input line
+//! by line by one session, whose pages go through doors that it is lent, as the lines come. It keeps neither the input nor
+//! the replies.
 #![tactic(auto)]
 
 ghost use Rattle.std.specs.Prelude.{◌≡◌};
 
+mod hosting;
 pub mod laws;
 mod program;
 mod serving;
 mod status;
+mod told;
 
 pub use program::run;

@@ -1,65 +1,163 @@
-ghost use Rattle.std.specs.Prelude.{◌≡◌, ◌↔◌, map};
-ghost use Rattle.std.specs.Bool.{Decides};
+ghost use Rattle.std.specs.Prelude.{◌≡◌, ◌↔◌, ℕ, List, true, map};
 ghost use Rattle.std.specs.String.{string_bytes};
 ghost use Rattle.ports.specs.Counts.{RoseBy};
-ghost use Rattle.blobseer_run.specs.Run.{Ran, IsCalm, IsCommand};
+ghost use Rattle.blobseer_run.specs.Run.{Ran, Did, RefusesWords, RefusesSettings, IsTaken, IsComplete, IsCalm};
+ghost use Rattle.blobseer_run.specs.Told.{is_built};
 ghost use Rattle.blobseer_run.specs.Status.{code_of, Tells};
 
+use crate::hosting::serve_peers;
 use crate::serving::serve_script;
 use crate::status::Status;
+use crate::told::told;
 use page_store::DoorMaker;
+use ports::files::Files;
 use ports::gate::Gate;
+use ports::listener::Listener;
 use ports::stream::{Sink, Source};
+use settings::{Command, Settings};
 use std::alloc::Global;
 use std::sync::Wait;
 use std::thread::Threads;
 
-// Whether the words are the command's.
-fn is_command(words: &[String]) -> bool
-    ensures { Decides result (IsCommand (map string_bytes words.now)) }
+// Does what a command does, with these settings.
+fn obey<R: Wait + Threads + Sync, S: Source, K: Sink, L: Listener, M: DoorMaker, G: Gate + Sync>(
+    rt: &R,
+    alloc: Global,
+    command: Command,
+    settings: &Settings,
+    script: &mut S,
+    out: &mut K,
+    net: &mut L,
+    doors: &mut M,
+    gate: &G,
+) -> Status
+where
+    L::Peer: Drop + Send,
+    M::Door: Drop + Send,
+    requires built { is_built command ≡ true }
+    requires true_doors { M.is_true doors.old }
+    ensures did { (files files' : ℕ) → Did command settings.now (IsCalm M.Door.faults)
+        (record { listens = L.listens net.old; handing = record { handed = L.handed net.old; is_done = L.is_done net.old; faults = L.faults net.old } })
+        (record { listens = L.listens net.new; handing = record { handed = L.handed net.new; is_done = L.is_done net.new; faults = L.faults net.new } })
+        (record {
+          given = S.given script.old;
+          left = S.left script.old;
+          written = K.written out.old;
+          reads = S.read_faults script.old;
+          ends = S.ends script.old;
+          writes = K.write_faults out.old;
+          files = files;
+          doors = M.faults doors.old;
+        })
+        (record {
+          given = S.given script.new;
+          left = S.left script.new;
+          written = K.written out.new;
+          reads = S.read_faults script.new;
+          ends = S.ends script.new;
+          writes = K.write_faults out.new;
+          files = files';
+          doors = M.faults doors.new;
+        })
+        (code_of result) }
+    ensures read_faults { RoseBy 0 (S.read_faults script.old) (S.read_faults script.new) }
+    ensures write_faults { RoseBy 0 (K.write_faults out.old) (K.write_faults out.new) }
+    ensures listener_faults { RoseBy 0 (L.faults net.old) (L.faults net.new) }
+    ensures truth_stays { M.is_true doors.old ↔ M.is_true doors.new }
 {
-    match words {
-        [word] => word.as_str() == "run",
-        _ => false,
+    match command {
+        Command::Run => serve_script(rt, alloc, settings, script, out, doors, gate),
+        Command::Serve => serve_peers(rt, alloc, settings, net, out, doors, gate),
+        // The words of this one are refused.
+        Command::Load => unreachable!(),
     }
 }
 
-/// Does what the program does: with the one word `run` it answers a script, as it comes, by the one session of a new store,
-/// up to its end or to a line that asks to end. The replies to what was read are written before more is read, and what was
-/// answered isn't kept. It answers the number that the process ends with.
+/// Does what the program does: what the words ask for, with the settings that they, the settings file that they name and the
+/// defaults come to. With the command `run` it answers a script, as it comes, by the one session of a new store, up to its
+/// end or to a line that asks to end. The replies to what was read are written before more is read, and what was answered
+/// isn't kept. With the command `serve` it serves connections of `net`, each by one of many sessions of a new store, and then
+/// writes how many they were. It answers the number that the process ends with.
 ///
 /// | number | when |
 /// |---|---|
-/// | 0 | the input was read to its end, or holds a whole request to end, and was answered up to there |
-/// | 1 | the words aren't the one word `run` |
-/// | 3 | a read of `script` failed; the lines before it that were ended are answered |
+/// | 0 | the input was read to its end, or holds a whole request to end, and was answered up to there; or all connections were served |
+/// | 1 | the words are refused; those of the command `load`, which it hasn't yet, are too |
+/// | 2 | the settings file is longer than 65,536 bytes or isn't one of settings, or the replicas are more than the providers |
+/// | 3 | a read of the settings file failed; or a read of `script`, and the lines before it that were ended are answered |
 /// | 4 | a write on `out` failed |
 /// | 5 | no memory was found |
+/// | 6 | the listener failed, and the connections before were served |
 /// | 7 | 4,294,967,296 bytes were taken; the lines in them that were ended are answered |
 ///
-/// Each but 0 writes its line on `err`, where a fault changes nothing. The store's pages go through doors of the maker
+/// The first cause that comes decides: the words, the read of the file, its text, what both come to, and then the command.
+/// Each number but 0 writes its line on `err`, where a fault changes nothing. The store's pages go through doors of the maker
 /// `doors`, which gives back what was put; it has them back when `run` answers. A page that no door took, or gave, is a
 /// reply, and changes no status. The gate is called between the acts of updates. The store is closed before `run` answers.
-pub fn run<R: Wait + Threads + Sync, S: Source, K: Sink, E: Sink, M: DoorMaker, G: Gate>(
+pub fn run<
+    R: Wait + Threads + Sync,
+    S: Source,
+    K: Sink,
+    E: Sink,
+    L: Listener,
+    F: Files,
+    M: DoorMaker,
+    G: Gate + Sync,
+>(
     rt: &R,
     alloc: Global,
     words: &[String],
     script: &mut S,
     out: &mut K,
     err: &mut E,
+    net: &mut L,
+    files: &mut F,
     doors: &mut M,
     gate: &G,
 ) -> u8
+where
+    L::Peer: Drop + Send,
+    M::Door: Drop + Send,
     // The doors give back the bytes that were put.
     requires true_doors { M.is_true doors.old }
 
-    // What it took and wrote, and how it ended.
-    ensures ran { Ran (IsCommand (map string_bytes words.now)) (IsCalm M.Door.faults)
-        (S.given script.old) (S.left script.old) (S.given script.new) (S.left script.new)
-        (K.written out.old) (K.written out.new)
-        (record { reads = S.read_faults script.old; ends = S.ends script.old; writes = K.write_faults out.old; doors = M.faults doors.old })
-        (record { reads = S.read_faults script.new; ends = S.ends script.new; writes = K.write_faults out.new; doors = M.faults doors.new })
+    // What it was told, what it took and wrote, and how it ended.
+    ensures ran { Ran (map string_bytes words.now) (F.known files.old) (IsCalm M.Door.faults)
+        (record { listens = L.listens net.old; handing = record { handed = L.handed net.old; is_done = L.is_done net.old; faults = L.faults net.old } })
+        (record { listens = L.listens net.new; handing = record { handed = L.handed net.new; is_done = L.is_done net.new; faults = L.faults net.new } })
+        (record {
+          given = S.given script.old;
+          left = S.left script.old;
+          written = K.written out.old;
+          reads = S.read_faults script.old;
+          ends = S.ends script.old;
+          writes = K.write_faults out.old;
+          files = F.faults files.old;
+          doors = M.faults doors.old;
+        })
+        (record {
+          given = S.given script.new;
+          left = S.left script.new;
+          written = K.written out.new;
+          reads = S.read_faults script.new;
+          ends = S.ends script.new;
+          writes = K.write_faults out.new;
+          files = F.faults files.new;
+          doors = M.faults doors.new;
+        })
         result }
+
+    // When words and settings are refused.
+    ensures words_refused { RefusesWords (map string_bytes words.now) result }
+    ensures settings_refused { RefusesSettings (map string_bytes words.now) (F.known files.old) (F.faults files.old) (F.faults files.new) result }
+
+    // Where words and settings are taken and nothing outside fails, it comes to its end, unless no memory is found or the input is too long.
+    ensures complete { IsTaken (map string_bytes words.now) (F.known files.old)
+        → ¬ RoseBy 1 (S.read_faults script.old) (S.read_faults script.new)
+        → ¬ RoseBy 1 (K.write_faults out.old) (K.write_faults out.new)
+        → ¬ RoseBy 1 (L.faults net.old) (L.faults net.new)
+        → ¬ RoseBy 1 (F.faults files.old) (F.faults files.new)
+        → IsComplete result }
 
     // What it put on the error output.
     ensures tells { Tells result (E.written err.old) (E.written err.new) (E.write_faults err.old) (E.write_faults err.new) }
@@ -68,13 +166,17 @@ pub fn run<R: Wait + Threads + Sync, S: Source, K: Sink, E: Sink, M: DoorMaker, 
     ensures read_faults { RoseBy 0 (S.read_faults script.old) (S.read_faults script.new) }
     ensures write_faults { RoseBy 0 (K.write_faults out.old) (K.write_faults out.new) }
     ensures error_faults { RoseBy 0 (E.write_faults err.old) (E.write_faults err.new) }
+    ensures listener_faults { RoseBy 0 (L.faults net.old) (L.faults net.new) }
+    ensures file_faults { RoseBy 0 (F.faults files.old) (F.faults files.new) }
 
-    // Its doors stay true.
+    // Its doors stay true, and its files stay as they are.
     ensures truth_stays { M.is_true doors.old ↔ M.is_true doors.new }
+    ensures files_stay { (name : List ℕ) → F.known files.new name ≡ F.known files.old name }
 {
-    if !is_command(words) {
-        return Status::WordsRefused.end(err);
+    match told(alloc, words, files) {
+        Ok((command, settings)) => {
+            obey(rt, alloc, command, &settings, script, out, net, doors, gate).end(err)
+        }
+        Err(status) => status.end(err),
     }
-    let status = serve_script(rt, alloc, script, out, doors, gate);
-    status.end(err)
 }

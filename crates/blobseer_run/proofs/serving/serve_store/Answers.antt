@@ -28,5 +28,5 @@ returns-clause-lines g c =
     record {
       seen = events back.seen;
       own = own_there c.take_back.new.owner.made c.in-Ok-close._desk.history c.take_back.new.owner.seen back.seen one c.in-Ok-close.ensures.no_other c.in-Ok-close.ensures.history c.take_back.ensures.begins.1 served.ensures.pass.log.tags;
-      lines = subst L (first_there c.args.shared.fixed pass.caller pass.seen c.requires.limits c.requires.page_size caller none) served.ensures.lines;
+      lines = subst L (first_there c.args.shared.fixed pass.caller pass.seen caller none) served.ensures.lines;
     }

@@ -1,6 +1,6 @@
 use Rattle.std.proofs.Common.{ℕ, sym, subst}
 use Rattle.blobseer_run.specs.Status.{code_of, Tells}
-use Rattle.blobseer_run.proofs.Told.{tells}
+use Rattle.blobseer_run.proofs.ErrorLines.{tells}
 use Rattle.blobseer_run.proofs.status.Status.end.Goals as goal
 
 pub returns-clause-tells : goal.returns-clause-tells

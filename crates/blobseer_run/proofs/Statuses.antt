@@ -1,0 +1,128 @@
+-- What follows of a run for its status.
+use Rattle.std.proofs.Common.{◌≡◌, ◌≢◌, ℕ, List, refl, sym, ◌∙◌, subst, inl, inr, arith}
+use Rattle.std.proofs.lemmas.Option.{none-some}
+use Rattle.std.specs.Prelude.{Option, Some, None, ◌↔◌, ◌⊎◌}
+use Rattle.ports.specs.Counts.{RoseBy}
+use Rattle.ports.specs.Files.{Files}
+use Rattle.request_form.specs.Session.{Fixed}
+use Rattle.settings.specs.declared.table.Command.{Command}
+use Rattle.settings.specs.declared.table.Command.TheVariants as Commands
+use Rattle.settings.specs.Values.{SettingsValues}
+use Rattle.settings.specs.Words.{Bytes}
+use Rattle.blobseer_run.specs.Status.{done, words_refused, settings_refused, read_fault, write_fault, out_of_memory, listener_fault, input_too_long}
+use Rattle.blobseer_run.specs.Told.{Order, asked, Settled, SettingsRefused, IsFileKnown, Stopped}
+use Rattle.blobseer_run.specs.Hosting.{Net, WritesLine, Hosted, served_line}
+use Rattle.blobseer_run.specs.Run.{Outside, Ended, ServedScript, Did, Ran, RefusesWords, RefusesSettings, IsTaken, IsComplete}
+use Rattle.blobseer_run.proofs.Settling.{settled_not_refused}
+
+-- a status of the command's own work
+abbrev IsOwn : ℕ → Type 0
+IsOwn status = (status ≢ words_refused) × (status ≢ settings_refused)
+
+own : (status n : ℕ) → status ≡ n → IsOwn n → IsOwn status
+own status n e is = (λ f. is.0 (sym e ∙ f), λ f. is.1 (sym e ∙ f))
+
+module _ (old new : Outside) (status : ℕ) where
+  ended_own : (fixed : Fixed) (calm : Type 0) (taken text rest : List ℕ) → Ended fixed calm taken text rest old new status → IsOwn status
+  ended_own fixed calm taken text rest (Ended.finished e less rose r x) = own status done e (λ f. cc, λ f. cc)
+  ended_own fixed calm taken text rest (Ended.quit e due is quits r x) = own status done e (λ f. cc, λ f. cc)
+  ended_own fixed calm taken text rest (Ended.unread e less rose quit r x) = own status read_fault e (λ f. cc, λ f. cc)
+  ended_own fixed calm taken text rest (Ended.unwritten e rose due is some x) = own status write_fault e (λ f. cc, λ f. cc)
+  ended_own fixed calm taken text rest (Ended.starved e due is x) = own status out_of_memory e (λ f. cc, λ f. cc)
+  ended_own fixed calm taken text rest (Ended.too_long e at quit r x) = own status input_too_long e (λ f. cc, λ f. cc)
+
+  line_own : (line text : List ℕ) → WritesLine line text old.writes new.writes status → IsOwn status
+  line_own line text (WritesLine.whole e is) = own status done e (λ f. cc, λ f. cc)
+  line_own line text (WritesLine.part e rest is some rose) = own status write_fault e (λ f. cc, λ f. cc)
+  line_own line text (WritesLine.nothing e is) = own status out_of_memory e (λ f. cc, λ f. cc)
+
+  hosted_own : (connections : ℕ) (net net' : Net) (text : List ℕ) → Hosted connections net net' text old.writes new.writes status → IsOwn status
+  hosted_own connections net net' text (Hosted.served peers listens took line) = line_own (served_line peers) text line
+  hosted_own connections net net' text (Hosted.unserved e rose is) = own status listener_fault e (λ f. cc, λ f. cc)
+  hosted_own connections net net' text (Hosted.starved e is) = own status out_of_memory e (λ f. cc, λ f. cc)
+
+  did_own : (command : Command) (settings : SettingsValues) (calm : Type 0) (net net' : Net) → Did command settings calm net net' old new status → IsOwn status
+  did_own Commands.Run settings calm net net' d = ended_own _ calm d.0.taken d.0.text d.0.rest d.0.ended
+  did_own Commands.Serve settings calm net net' d = hosted_own settings.connections net net' d.0.text d.0.ended
+  did_own Commands.Load settings calm net net' d = absurd d
+
+  ended_complete : (fixed : Fixed) (calm : Type 0) (taken text rest : List ℕ) → ¬ RoseBy 1 old.reads new.reads → ¬ RoseBy 1 old.writes new.writes → Ended fixed calm taken text rest old new status → IsComplete status
+  ended_complete fixed calm taken text rest reads writes (Ended.finished e less rose r x) = inl e
+  ended_complete fixed calm taken text rest reads writes (Ended.quit e due is quits r x) = inl e
+  ended_complete fixed calm taken text rest reads writes (Ended.unread e less rose quit r x) = absurd (reads rose)
+  ended_complete fixed calm taken text rest reads writes (Ended.unwritten e rose due is some x) = absurd (writes rose)
+  ended_complete fixed calm taken text rest reads writes (Ended.starved e due is x) = inr (inl e)
+  ended_complete fixed calm taken text rest reads writes (Ended.too_long e at quit r x) = inr (inr e)
+
+  line_complete : (line text : List ℕ) → ¬ RoseBy 1 old.writes new.writes → WritesLine line text old.writes new.writes status → IsComplete status
+  line_complete line text writes (WritesLine.whole e is) = inl e
+  line_complete line text writes (WritesLine.part e rest is some rose) = absurd (writes rose)
+  line_complete line text writes (WritesLine.nothing e is) = inr (inl e)
+
+  hosted_complete : (connections : ℕ) (net net' : Net) (text : List ℕ) → ¬ RoseBy 1 old.writes new.writes → ¬ RoseBy 1 net.handing.faults net'.handing.faults
+      → Hosted connections net net' text old.writes new.writes status → IsComplete status
+  hosted_complete connections net net' text writes peers (Hosted.served n listens took line) = line_complete (served_line n) text writes line
+  hosted_complete connections net net' text writes peers (Hosted.unserved e rose is) = absurd (peers rose)
+  hosted_complete connections net net' text writes peers (Hosted.starved e is) = inr (inl e)
+
+  did_complete : (command : Command) (settings : SettingsValues) (calm : Type 0) (net net' : Net) → ¬ RoseBy 1 old.reads new.reads → ¬ RoseBy 1 old.writes new.writes
+      → ¬ RoseBy 1 net.handing.faults net'.handing.faults → Did command settings calm net net' old new status → IsComplete status
+  did_complete Commands.Run settings calm net net' reads writes peers d = ended_complete _ calm d.0.taken d.0.text d.0.rest reads writes d.0.ended
+  did_complete Commands.Serve settings calm net net' reads writes peers d = hosted_complete settings.connections net net' d.0.text writes peers d.0.ended
+  did_complete Commands.Load settings calm net net' reads writes peers d = absurd d
+
+some_none : (o : Option Order) (order : Order) → o ≡ Some order → o ≡ None → ⊥
+some_none o order e f = none-some order (sym f ∙ e)
+
+refused_asked : (words : List Bytes) (known : Files) → SettingsRefused words known → asked words ≡ None → ⊥
+refused_asked words known (SettingsRefused.file_refused order asks x) none = some_none (asked words) order asks none
+refused_asked words known (SettingsRefused.too_many_replicas order file asks g x) none = some_none (asked words) order asks none
+
+two : (status m n : ℕ) → status ≡ m → status ≡ n → m ≢ n → ⊥
+two status m n e f differ = differ (sym e ∙ f)
+
+module _ (words : List Bytes) (known : Files) (calm : Type 0) (net net' : Net) (old new : Outside) (status : ℕ) where
+  stopped_words : Stopped words known old.files new.files status → RefusesWords words status
+  stopped_words (Stopped.unasked e none same) memory = (λ f. none, λ f. e)
+  stopped_words (Stopped.unread e names rose) memory = (λ f. absurd (two status read_fault words_refused e f (λ d. cc)), λ f. absurd (some_none (asked words) names.0 names.2 f))
+  stopped_words (Stopped.unsettled e refused) memory = (λ f. absurd (two status settings_refused words_refused e f (λ d. cc)), λ f. absurd (refused_asked words known refused f))
+  stopped_words (Stopped.starved e) memory = absurd (memory e)
+
+  pub refuses_words : Ran words known calm net net' old new status → RefusesWords words status
+  refuses_words (Ran.stopped s quiet idle) = stopped_words s
+  refuses_words (Ran.did command settings settled did) = λ memory. (
+    λ f. absurd ((did_own old new status command settings calm net net' did).0 f),
+    λ f. absurd (some_none (asked words) (command, settled.given) settled.asks f),
+  )
+
+  stopped_settings : Stopped words known old.files new.files status → RefusesSettings words known old.files new.files status
+  stopped_settings (Stopped.unasked e none same) told still memory = (λ f. absurd (two status words_refused settings_refused e f (λ d. cc)), λ refused. absurd (refused_asked words known refused none))
+  stopped_settings (Stopped.unread e names rose) told still memory = absurd (still rose)
+  stopped_settings (Stopped.unsettled e refused) told still memory = (λ f. refused, λ x. e)
+  stopped_settings (Stopped.starved e) told still memory = absurd (memory e)
+
+  pub refuses_settings : Ran words known calm net net' old new status → RefusesSettings words known old.files new.files status
+  refuses_settings (Ran.stopped s quiet idle) = stopped_settings s
+  refuses_settings (Ran.did command settings settled did) = λ told still memory. (
+    λ f. absurd ((did_own old new status command settings calm net net' did).1 f),
+    λ refused. absurd (settled_not_refused words known told command settings settled refused),
+  )
+
+  stopped_complete : Stopped words known old.files new.files status → IsTaken words known → ¬ RoseBy 1 old.files new.files → IsComplete status
+  stopped_complete (Stopped.unasked e none same) taken files = absurd (taken.0 none)
+  stopped_complete (Stopped.unread e names rose) taken files = absurd (files rose)
+  stopped_complete (Stopped.unsettled e refused) taken files = absurd (taken.1 refused)
+  stopped_complete (Stopped.starved e) taken files = inr (inl e)
+
+  pub complete : Ran words known calm net net' old new status → IsTaken words known → ¬ RoseBy 1 old.reads new.reads → ¬ RoseBy 1 old.writes new.writes → ¬ RoseBy 1 net.handing.faults net'.handing.faults → ¬ RoseBy 1 old.files new.files → IsComplete status
+  complete (Ran.stopped s quiet idle) taken reads writes peers files = stopped_complete s taken files
+  complete (Ran.did command settings settled did) taken reads writes peers files = did_complete old new status command settings calm net net' reads writes peers did
+
+-- ---- how a run went, at the status that its line gave
+
+module _ (words : List Bytes) (known : Files) (calm : Type 0) (net net' : Net) (old new : Outside) (n status : ℕ) (is : n ≡ status) where
+  pub ran_stopped : Stopped words known old.files new.files status → net' ≡ net → new ≡ record old { files = new.files } → Ran words known calm net net' old new n
+  ran_stopped stopped quiet idle = let P : ℕ → Type 0 = λ m. Ran words known calm net net' old new m in subst P (sym is) (Ran.stopped stopped quiet idle)
+
+  pub ran_did : (command : Command) (settings : SettingsValues) → Settled words known command settings → Did command settings calm net net' old new status → Ran words known calm net net' old new n
+  ran_did command settings settled did = let P : ℕ → Type 0 = λ m. Ran words known calm net net' old new m in subst P (sym is) (Ran.did command settings settled did)

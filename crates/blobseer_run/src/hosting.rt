@@ -1,0 +1,95 @@
+// Connections are served over a new store.
+ghost use Rattle.std.specs.Prelude.{◌≡◌, ◌↔◌, ℕ};
+ghost use Rattle.ports.specs.Counts.{RoseBy};
+ghost use Rattle.blobseer_run.specs.Hosting.{served_line, ServedPeers, ToldLine};
+ghost use Rattle.blobseer_run.specs.Status.{code_of};
+
+use crate::serving::page_size;
+use crate::status::Status;
+use blob_server::{ServeFault, serve};
+use client_session::Shared;
+use page_store::DoorMaker;
+use ports::gate::Gate;
+use ports::listener::Listener;
+use ports::stream::{Sink, Written};
+use settings::Settings;
+use std::alloc::Global;
+use std::sync::Wait;
+use std::thread::Threads;
+
+// Writes how many connections were served.
+fn tell_served<K: Sink>(alloc: Global, peers: u64, out: &mut K) -> Status
+    ensures told { ToldLine (served_line peers) (K.written out.old) (K.written out.new) (K.write_faults out.old) (K.write_faults out.new) (code_of result) }
+    ensures write_faults { RoseBy 0 (K.write_faults out.old) (K.write_faults out.new) }
+{
+    let Ok(line) = format!(in alloc; "served {peers}\n") else {
+        return Status::OutOfMemory;
+    };
+    match out.write(line.as_bytes()) {
+        Written::Whole => Status::Done,
+        Written::Failed(_) => Status::WriteFault,
+    }
+}
+
+/// Serves the connections of a listener over a new store of these settings, and writes how many they were. The store is closed
+/// before that, and the doors are with their maker again.
+pub(crate) fn serve_peers<
+    R: Wait + Threads + Sync,
+    L: Listener,
+    K: Sink,
+    M: DoorMaker,
+    G: Gate + Sync,
+>(
+    rt: &R,
+    alloc: Global,
+    settings: &Settings,
+    net: &mut L,
+    out: &mut K,
+    maker: &mut M,
+    gate: &G,
+) -> Status
+where
+    L::Peer: Drop + Send,
+    M::Door: Drop + Send,
+    requires true_doors { M.is_true maker.old }
+    ensures served { ServedPeers settings.now.connections
+        (record { listens = L.listens net.old; handing = record { handed = L.handed net.old; is_done = L.is_done net.old; faults = L.faults net.old } })
+        (record { listens = L.listens net.new; handing = record { handed = L.handed net.new; is_done = L.is_done net.new; faults = L.faults net.new } })
+        (K.written out.old) (K.written out.new) (K.write_faults out.old) (K.write_faults out.new) (code_of result) }
+    ensures write_faults { RoseBy 0 (K.write_faults out.old) (K.write_faults out.new) }
+    ensures listener_faults { RoseBy 0 (L.faults net.old) (L.faults net.new) }
+    ensures truth_stays { M.is_true maker.old ↔ M.is_true maker.new }
+{
+    let Ok((shared, mut owner)) = Shared::new(
+        alloc,
+        settings.limits,
+        page_size(settings),
+        settings.providers,
+        settings.replicas,
+    ) else {
+        return Status::OutOfMemory;
+    };
+    if !net.listen(settings.listen.as_str()) {
+        return Status::ListenerFault;
+    }
+    let served = serve(
+        rt,
+        alloc,
+        &shared,
+        &mut owner,
+        net,
+        maker,
+        gate,
+        settings.workers,
+        settings.connections,
+    );
+    let Ok(_desk) = shared.close(owner) else {
+        // All passes came back.
+        unreachable!()
+    };
+    match served {
+        Ok(peers) => tell_served(alloc, peers, out),
+        Err(ServeFault::Listener) => Status::ListenerFault,
+        Err(ServeFault::NoMemory) => Status::OutOfMemory,
+    }
+}

@@ -1,0 +1,1 @@
+../../blobseer/src/main.rt

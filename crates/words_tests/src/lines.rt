@@ -1,0 +1,113 @@
+//! Command lines, and the status and the error line that they come to.
+
+use crate::program::{error_line, run_line};
+use std::alloc::Global;
+use std::process::Abort;
+use std::sync::Wait;
+use std::test::Fail;
+use std::thread::Threads;
+
+// Command lines that need no file, and their status.
+static LINES: [(&str, u8); 44] = [
+    ("run", 0),
+    ("run --page 4", 0),
+    ("run --page=1048576", 0),
+    ("run --page 3", 1),
+    ("run --page 2097152", 1),
+    ("run --page 08", 1),
+    ("run --page +8", 1),
+    ("run --page -8", 1),
+    ("run --page 0x10", 1),
+    ("run --page 4_096", 1),
+    ("run --page 8.0", 1),
+    ("run --page", 1),
+    ("run --page=", 1),
+    ("run --page ", 1),
+    ("run --page --replicas 1", 1),
+    ("run --page 8 --page 8", 1),
+    ("run --pages 4", 1),
+    ("run -p 8", 1),
+    ("run --providers 64 --replicas 8", 0),
+    ("run --providers 65", 1),
+    ("run --replicas 0", 1),
+    ("run --replicas 9", 1),
+    ("run --replicas 4", 0),
+    ("run --replicas 5", 2),
+    ("run --providers 2 --replicas 3", 2),
+    ("run --providers=2 --replicas=2", 0),
+    ("run --providers 1", 2),
+    ("run --providers 1 --replicas 1", 0),
+    (
+        "run --max-size 8 --max-versions 2 --max-blobs 1 --max-open 2",
+        0,
+    ),
+    ("run --max-size 0", 1),
+    ("run --max-open 65", 1),
+    ("run --workers 4", 1),
+    ("run --seed 1", 1),
+    ("run --listen a:1", 1),
+    ("run --settings", 1),
+    ("run --settings=", 1),
+    ("run run", 1),
+    ("run --", 1),
+    ("run --help", 1),
+    ("run help", 1),
+    ("-h", 1),
+    ("", 1),
+    ("Run", 1),
+    ("watch", 1),
+];
+
+// Right words of commands that the program hasn't yet.
+static TO_COME: [&str; 4] = [
+    "load",
+    "load --seed 7 --workers 4 --ops 100",
+    "serve --listen 127.0.0.1:0",
+    "serve --listen 127.0.0.1:0 --connections 1 --max-size 8",
+];
+
+fn check_row<R: Wait + Threads + Sync + Abort>(
+    rt: &R,
+    alloc: Global,
+    line: &str,
+    status: u8,
+) -> Result<(), Fail> {
+    let ran = run_line(rt, alloc, line, "", "create\n")?;
+    assert_eq!(rt; ran.status, status, "{line}");
+    assert_eq!(rt; ran.err.as_slice(), error_line(status).as_bytes(), "{line}");
+    let replies = if status == 0 { "blob 1\n" } else { "" };
+    assert_eq!(rt; ran.out.as_slice(), replies.as_bytes(), "{line}");
+    Ok(())
+}
+
+fn check_rows<R: Wait + Threads + Sync + Abort>(
+    rt: &R,
+    alloc: Global,
+    rows: &[(&str, u8)],
+) -> Result<(), Fail> {
+    for (line, status) in rows {
+        check_row(rt, alloc, line, *status)?;
+    }
+    Ok(())
+}
+
+fn check_refused<R: Wait + Threads + Sync + Abort>(
+    rt: &R,
+    alloc: Global,
+    lines: &[&str],
+) -> Result<(), Fail> {
+    for line in lines {
+        check_row(rt, alloc, line, 1)?;
+    }
+    Ok(())
+}
+
+#[test]
+fn lines_come_to_their_status_and_error_line(rt: HostRuntime) -> Result<(), Fail> {
+    check_rows(&rt, rt.alloc(), LINES.as_slice())
+}
+
+#[test]
+fn words_of_commands_to_come_are_refused(rt: HostRuntime) -> Result<(), Fail> {
+    check_refused(&rt, rt.alloc(), TO_COME.as_slice())
+}
