@@ -105,7 +105,7 @@ fn hang_up_beside<R: Threads + Wait + Sync>(
 
 // What a session is told that gives up three tickets, starts one more update and finishes it, beside another; what is published
 // then, and how far the updates are; and what it is told where it has nothing left to give up.
-#[derive(Clone, Copy, Debug, PartialEq, Eq)]
+#[derive(Clone, Copy, Debug, PartialEq)]
 struct GivenUp {
     beside: (u64, HangUp, u64),
     published: u64,
@@ -201,7 +201,7 @@ fn append_and_end<R: Threads + Wait + Sync>(
 
 // How far the second session of a new store sees the updates, where the first has ended without hanging up; what its last version
 // waits for; and how far they are on the desk, once the store is closed.
-#[derive(Clone, Copy, Debug, PartialEq, Eq)]
+#[derive(Clone, Copy, Debug, PartialEq)]
 struct Left {
     seen: Option<(u64, u64, u64)>,
     pending: Option<(u64, u64)>,

@@ -17,7 +17,7 @@ const LOOKS: u32 = 1_000_000;
 
 // What the second session is told while the first is held: of its append, how many bytes version 0 has, and what version 2 waits
 // for.
-#[derive(Clone, Copy, Debug, PartialEq, Eq)]
+#[derive(Clone, Copy, Debug, PartialEq)]
 struct Told {
     done: Done,
     bytes: Option<usize>,
@@ -25,7 +25,7 @@ struct Told {
 }
 
 // What both are told, and what is published once both have gone on.
-#[derive(Clone, Copy, Debug, PartialEq, Eq)]
+#[derive(Clone, Copy, Debug, PartialEq)]
 struct Both {
     first: Done,
     told: Told,

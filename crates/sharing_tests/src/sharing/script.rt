@@ -15,7 +15,7 @@ pub(crate) const BASE: &[u8] = b"abcdefghijklmnop";
 pub(crate) const MOST: usize = 7;
 
 /// What a client does once it has read its update.
-#[derive(Clone, Copy, Debug, PartialEq, Eq)]
+#[derive(Clone, Copy, PartialEq)]
 pub(crate) enum Next {
     /// It branches the blob at the update, and writes the branch's first byte.
     Branches,
@@ -24,7 +24,7 @@ pub(crate) enum Next {
 }
 
 /// An update of so many bytes, and what comes after it.
-#[derive(Clone, Copy, Debug)]
+#[derive(Clone, Copy)]
 pub(crate) struct Step {
     pub(crate) blob: u64,
     pub(crate) place: Place,
@@ -46,21 +46,20 @@ impl Dice {
         }
     }
 
-    // A number below `sides`.
-    fn roll(&mut self, sides: u64) -> u64 {
+    fn roll(&mut self) -> u64 {
         self.state = self.state.wrapping_mul(75).wrapping_add(74) % 65_537;
-        self.state.checked_rem(sides).unwrap_or(0)
+        self.state
     }
 
     /// The next step.
     pub(crate) fn step(&mut self) -> Step {
-        let blob = self.roll(3).saturating_add(1);
-        let count = self.roll(7).saturating_add(1) as usize;
-        let place = match self.roll(2) {
+        let blob = self.roll() % 3 + 1;
+        let count = (self.roll() % 7 + 1) as usize;
+        let place = match self.roll() % 2 {
             0 => Place::Append,
-            _ => Place::WriteAt(self.roll(8)),
+            _ => Place::WriteAt(self.roll() % 8),
         };
-        let next = match self.roll(3) {
+        let next = match self.roll() % 3 {
             0 => Next::Branches,
             _ => Next::ReadsBase,
         };
@@ -74,7 +73,7 @@ impl Dice {
 }
 
 /// What all scripts add up to: of one blob the last version and the size, and how many branches are made of it.
-#[derive(Clone, Copy, Debug)]
+#[derive(Drop)]
 pub(crate) struct Sum {
     pub(crate) last: u64,
     pub(crate) size: usize,
