@@ -6,3 +6,4 @@ pub mod Alone
 pub mod Stores
 pub mod Settling
 pub mod Statuses
+pub mod PeersServed

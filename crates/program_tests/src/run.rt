@@ -4,9 +4,11 @@ use blobseer_run::run;
 use page_store::{DoorMaker, FlakyMaker, PlainMaker};
 use ports::gate::FreeGate;
 use ports::mem_files::MemFiles;
+use ports::mem_listener::MemListener;
 use ports::memory::{MemSink, MemSource};
+use ports::pair::Pair;
 use std::alloc::{AllocError, Global};
-use std::collections::BTreeMap;
+use std::collections::{BTreeMap, VecDeque};
 use std::process::Abort;
 use std::sync::Wait;
 use std::test::Fail;
@@ -108,6 +110,11 @@ struct Ran {
     status: u8,
 }
 
+// A listener to which nobody comes.
+fn nobody<'a>(alloc: Global) -> MemListener<Pair<'a, MemSource, MemSink>> {
+    MemListener::new(String::new(alloc), VecDeque::new(alloc), Vec::new(alloc))
+}
+
 // A run with the words of a line, over an input in pieces whose calls fail as told, an output that takes so many bytes, and
 // doors of that maker.
 fn run_words<R: Wait + Threads + Sync, M: DoorMaker>(
@@ -118,6 +125,8 @@ fn run_words<R: Wait + Threads + Sync, M: DoorMaker>(
     room: usize,
     doors: &mut M,
 ) -> Result<Ran, Fail>
+where
+    M::Door: Drop + Send,
     requires { M.is_true doors.old }
 {
     let words = words_of(alloc, line)?;
@@ -125,6 +134,7 @@ fn run_words<R: Wait + Threads + Sync, M: DoorMaker>(
     let mut out = MemSink::new(alloc, room)?;
     let mut err = MemSink::new(alloc, ROOM)?;
     let mut files = MemFiles::new(alloc, BTreeMap::new(alloc));
+    let mut net = nobody(alloc);
     let status = run(
         rt,
         alloc,
@@ -132,6 +142,7 @@ fn run_words<R: Wait + Threads + Sync, M: DoorMaker>(
         &mut source,
         &mut out,
         &mut err,
+        &mut net,
         &mut files,
         doors,
         &FreeGate,

@@ -7,9 +7,11 @@ use blobseer_run::run;
 use page_store::{DoorMaker, PlainMaker};
 use ports::gate::FreeGate;
 use ports::mem_files::MemFiles;
+use ports::mem_listener::MemListener;
 use ports::memory::{MemSink, MemSource};
+use ports::pair::Pair;
 use std::alloc::{AllocError, Global};
-use std::collections::BTreeMap;
+use std::collections::{BTreeMap, VecDeque};
 use std::sync::Wait;
 use std::test::Fail;
 use std::thread::Threads;
@@ -41,6 +43,11 @@ pub fn file_of(alloc: Global, bytes: Vec<u8>) -> Result<MemFiles, AllocError> {
     Ok(MemFiles::new(alloc, files))
 }
 
+// A listener to which nobody comes.
+fn nobody<'a>(alloc: Global) -> MemListener<Pair<'a, MemSource, MemSink>> {
+    MemListener::new(String::new(alloc), VecDeque::new(alloc), Vec::new(alloc))
+}
+
 /// The program with the words of a line, over these files, a script, an error output that takes so many bytes, and doors of
 /// that maker.
 pub fn run_over<R: Wait + Threads + Sync, M: DoorMaker>(
@@ -52,6 +59,8 @@ pub fn run_over<R: Wait + Threads + Sync, M: DoorMaker>(
     room: usize,
     doors: &mut M,
 ) -> Result<Ran, Fail>
+where
+    M::Door: Drop + Send,
     requires { M.is_true doors.old }
 {
     let words = words_of(alloc, line)?;
@@ -59,6 +68,7 @@ pub fn run_over<R: Wait + Threads + Sync, M: DoorMaker>(
     let mut source = MemSource::new(script.as_bytes().to_vec(alloc)?, 64, Vec::new(alloc));
     let mut out = MemSink::new(alloc, ROOM)?;
     let mut err = MemSink::new(alloc, room)?;
+    let mut net = nobody(alloc);
     let status = run(
         rt,
         alloc,
@@ -66,6 +76,7 @@ pub fn run_over<R: Wait + Threads + Sync, M: DoorMaker>(
         &mut source,
         &mut out,
         &mut err,
+        &mut net,
         &mut files,
         doors,
         &FreeGate,

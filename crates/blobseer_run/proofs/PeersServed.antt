@@ -1,0 +1,46 @@
+-- How a server ended, from what its parts did.
+use Rattle.std.proofs.Common.{◌≡◌, ℕ, ◌<◌, true, List, [], length, take, drop, refl, ◌∙◌, ap, arith, take-append-drop}
+use Rattle.std.specs.Prelude.{Bool, Option}
+use Rattle.std.specs.Io.KnownBytes.{Appends}
+use Rattle.std.proofs.KnownBytes.{Appends-nil}
+use Rattle.std.proofs.lemmas.List.{length-drop}
+use Rattle.ports.specs.Counts.{RoseBy, counted}
+use Rattle.ports.proofs.Counts.{RoseBy-trans}
+use Rattle.blob_server.specs.Serving.{Handing, TookPeers, FailedAfter}
+use Rattle.blobseer_run.specs.Status.{write_fault, out_of_memory, listener_fault}
+use Rattle.blobseer_run.specs.Hosting.{Net, WritesLine, Hosted, ServedPeers, ToldLine, served_line}
+
+-- a write that failed after so many bytes of a line
+pub told_part : (line : List ℕ) (n : ℕ) (written written' : Option (List ℕ)) (writes writes' : ℕ) → Appends written written' (take n line) → RoseBy 1 writes writes' → n < length line
+    → ToldLine line written written' writes writes' write_fault
+told_part line n written written' writes writes' adds rose less = record {
+  text = take n line;
+  adds = adds;
+  is_line = WritesLine.part refl (drop n line) (take-append-drop n line) (omega (arith, length-drop n line, less)) rose;
+}
+
+-- ---- what the listener did, from before it listened
+module _ (connections : ℕ) (old mid new : Handing) (handed : mid.handed ≡ old.handed) (done : mid.is_done ≡ old.is_done) (rose : RoseBy 0 old.faults mid.faults) where
+  pub took_since : (peers : ℕ) → TookPeers connections peers mid new → TookPeers connections peers old new
+  took_since peers t = record {
+    within = t.within;
+    handed = t.handed ∙ ap (counted peers) handed;
+    fewer = t.fewer;
+    all = λ e. t.all e ∙ done;
+    faults = RoseBy-trans 0 0 old.faults mid.faults new.faults rose t.faults;
+  }
+
+  pub failed_since : FailedAfter connections mid new → RoseBy 1 old.faults new.faults
+  failed_since f = RoseBy-trans 0 1 old.faults mid.faults new.faults rose f.failed
+
+-- ---- how it ended
+module _ (connections : ℕ) (net net' : Net) where
+  pub served_there : (peers : ℕ) (written written' : Option (List ℕ)) (writes writes' status : ℕ) → net'.listens ≡ true → TookPeers connections peers net.handing net'.handing
+      → ToldLine (served_line peers) written written' writes writes' status → ServedPeers connections net net' written written' writes writes' status
+  served_there peers written written' writes writes' status listens took told = record { text = told.text; adds = told.adds; ended = Hosted.served peers listens took told.is_line }
+
+  pub unserved_there : (written : Option (List ℕ)) (writes : ℕ) → RoseBy 1 net.handing.faults net'.handing.faults → ServedPeers connections net net' written written writes writes listener_fault
+  unserved_there written writes rose = record { text = []; adds = Appends-nil written; ended = Hosted.unserved refl rose refl }
+
+  pub starved_there : (written : Option (List ℕ)) (writes : ℕ) → ServedPeers connections net net' written written writes writes out_of_memory
+  starved_there written writes = record { text = []; adds = Appends-nil written; ended = Hosted.starved refl refl }

@@ -1,0 +1,75 @@
+//! The program serves two connections beside each other.
+ghost use Rattle.std.specs.Prelude.{◌≡◌};
+
+use crate::program::run_peers;
+use crate::store::Line;
+use ports::gate::{Gate, HoldGate, Point};
+use std::alloc::Global;
+use std::sync::Wait;
+use std::sync::atomic::{AtomicU32, Ordering};
+use std::test::Fail;
+use turn_lock::{Journaled, Pass};
+
+// Holds callers 1 and 2 each where its update has its number, until the other one comes there.
+#[derive(Drop)]
+struct MeetingGate {
+    first: HoldGate,
+    second: HoldGate,
+    first_came: AtomicU32,
+    second_came: AtomicU32,
+}
+
+impl MeetingGate {
+    fn new() -> MeetingGate {
+        MeetingGate {
+            first: HoldGate::new(Point::Numbered, 1),
+            second: HoldGate::new(Point::Numbered, 2),
+            first_came: AtomicU32::new(0),
+            second_came: AtomicU32::new(0),
+        }
+    }
+
+    // Whether both came, and none went on without the other.
+    fn met(&self) -> bool {
+        self.first_came.load(Ordering::SeqCst) == 1
+            && self.second_came.load(Ordering::SeqCst) == 1
+            && !self.first.ran_out()
+            && !self.second.ran_out()
+    }
+}
+
+impl Gate for MeetingGate {
+    fn at<S: Journaled, R: Wait>(&self, rt: &R, point: Point, pass: &Pass<S>) {
+        if point != Point::Numbered {
+            return;
+        }
+        if pass.caller() == 1 {
+            self.first_came.fetch_add(1, Ordering::SeqCst);
+            self.second.release();
+            self.first.at(rt, point, pass);
+        }
+        if pass.caller() == 2 {
+            self.second_came.fetch_add(1, Ordering::SeqCst);
+            self.first.release();
+            self.second.at(rt, point, pass);
+        }
+    }
+}
+
+#[test]
+fn two_connections_wait_for_each_other(rt: HostRuntime) -> Result<(), Fail> {
+    let alloc: Global = rt.alloc();
+    let asks = "00000001010000000a020000000000000001aa";
+    let mut lines = vec![in alloc; Line::giving(alloc, asks)?, Line::giving(alloc, asks)?]?;
+    let gate = MeetingGate::new();
+    let line = "serve --listen x:1 --workers 2 --connections 2";
+    let ran = run_peers(&rt, alloc, line, lines.as_mut_slice(), 64, &gate)?;
+    assert_eq!(rt; ran.out.as_slice(), b"served 2\n".as_slice());
+    assert_eq!(rt; ran.status, 0);
+    assert!(rt; gate.met());
+    // A reply to a create and one to an append are as long for every blob and version.
+    for line in &lines {
+        assert_eq!(rt; line.got(alloc)?.len(), 2 * (13 + 29));
+    }
+    Ok(())
+}

@@ -1,0 +1,223 @@
+//! What peers get, and how serving ends.
+ghost use Rattle.std.specs.Prelude.{◌≡◌, ◌≤◌};
+
+use crate::store::{Line, serve_anew};
+use blob_server::ServeFault;
+use ports::gate::FreeGate;
+use std::alloc::{AllocError, Global};
+use std::sync::Wait;
+use std::test::Fail;
+use std::thread::Threads;
+
+// What a peer gives, and what it gets.
+#[derive(Clone, Copy)]
+struct Exchange {
+    gives: &'static str,
+    gets: &'static str,
+}
+
+// Two peers, one after the other.
+#[derive(Clone, Copy)]
+struct Row {
+    name: &'static str,
+    first: Exchange,
+    second: Exchange,
+}
+
+const ROWS: [Row; 4] = [
+    Row {
+        name: "each peer gets its own replies",
+        first: Exchange {
+            gives: "00000001010000000c02000000000000000161626300000021070000000000000001000000000000000100000000000000000000000000000003",
+            gets: "0000000981000000000000000100000019820000000000000001000000000000000000000000000000030000000487616263",
+        },
+        second: Exchange {
+            gives: "0000000101",
+            gets: "00000009810000000000000002",
+        },
+    },
+    Row {
+        name: "the update of a peer that went away inside a frame is finished",
+        first: Exchange {
+            gives: "00000001010000000a040000000000000001aa000000",
+            gets: "0000000981000000000000000100000021840000000000000001000000000000000100000000000000000000000000000001",
+        },
+        second: Exchange {
+            gives: "000000090b0000000000000001",
+            gets: "000000198b000000000000000100000000000000010000000000000000",
+        },
+    },
+    Row {
+        name: "the tickets of each peer are numbered from 1",
+        first: Exchange {
+            gives: "00000001010000000a040000000000000001aa",
+            gets: "0000000981000000000000000100000021840000000000000001000000000000000100000000000000000000000000000001",
+        },
+        second: Exchange {
+            gives: "0000000a040000000000000001bb00000009060000000000000001",
+            gets: "0000002184000000000000000100000000000000020000000000000001000000000000000200000009860000000000000002",
+        },
+    },
+    Row {
+        name: "after a quit nothing is answered",
+        first: Exchange {
+            gives: "000000010d0000000101",
+            gets: "000000018d",
+        },
+        second: Exchange {
+            gives: "0000000101",
+            gets: "00000009810000000000000001",
+        },
+    },
+];
+
+// Two peers, served by one worker.
+fn serve_row<R: Threads + Wait + Sync>(rt: &R, alloc: Global, row: &Row) -> Result<(), Fail> {
+    let mut lines = vec![in alloc;
+        Line::giving(alloc, row.first.gives)?,
+        Line::giving(alloc, row.second.gives)?,
+    ]?;
+    let served = serve_anew(
+        rt,
+        alloc,
+        &FreeGate,
+        lines.as_mut_slice(),
+        Vec::new(alloc),
+        1,
+        2,
+    )?;
+    let wanted = [row.first.gets, row.second.gets];
+    if served != Ok(2) || !got_all(alloc, lines.as_slice(), &wanted)? {
+        return Err(row.name.into());
+    }
+    Ok(())
+}
+
+// Whether the peers got these.
+fn got_all(alloc: Global, lines: &[Line], wanted: &[&str]) -> Result<bool, AllocError> {
+    for (line, want) in lines.iter().zip(wanted.iter()) {
+        if line.got(alloc)?.as_str() != *want {
+            return Ok(false);
+        }
+    }
+    Ok(lines.len() == wanted.len())
+}
+
+#[test]
+fn peers_one_after_the_other(rt: HostRuntime) -> Result<(), Fail> {
+    for row in &ROWS {
+        serve_row(&rt, rt.alloc(), row)?;
+    }
+    Ok(())
+}
+
+// Three peers, and a listener.
+#[derive(Clone, Copy)]
+struct Listening {
+    // The number of the accept that fails, from 1.
+    failing: usize,
+    connections: u32,
+    workers: u32,
+    served: Result<u64, ServeFault>,
+    // How many peers get a reply.
+    answered: usize,
+}
+
+const LISTENINGS: [Listening; 7] = [
+    Listening {
+        failing: 1,
+        connections: 3,
+        workers: 1,
+        served: Err(ServeFault::Listener),
+        answered: 0,
+    },
+    Listening {
+        failing: 2,
+        connections: 3,
+        workers: 1,
+        served: Err(ServeFault::Listener),
+        answered: 1,
+    },
+    Listening {
+        failing: 3,
+        connections: 3,
+        workers: 4,
+        served: Err(ServeFault::Listener),
+        answered: 2,
+    },
+    Listening {
+        failing: 4,
+        connections: 3,
+        workers: 4,
+        served: Ok(3),
+        answered: 3,
+    },
+    Listening {
+        failing: 0,
+        connections: 2,
+        workers: 4,
+        served: Ok(2),
+        answered: 2,
+    },
+    Listening {
+        failing: 0,
+        connections: 9,
+        workers: 1,
+        served: Ok(3),
+        answered: 3,
+    },
+    Listening {
+        failing: 0,
+        connections: 9,
+        workers: 16,
+        served: Ok(3),
+        answered: 3,
+    },
+];
+
+// Which accepts fail: the one of that number, or none.
+fn failing_at(alloc: Global, number: usize) -> Result<Vec<bool>, AllocError> {
+    let mut failing = Vec::new(alloc);
+    for before in 0..4usize {
+        failing.push(before + 1 == number)?;
+    }
+    Ok(failing)
+}
+
+// How many peers got a reply.
+fn answered(lines: &[Line]) -> usize {
+    lines.iter().filter(|line| line.got_some()).count()
+}
+
+fn listen_so<R: Threads + Wait + Sync>(
+    rt: &R,
+    alloc: Global,
+    listening: &Listening,
+) -> Result<(Result<u64, ServeFault>, usize), Fail> {
+    let mut lines = Vec::new(alloc);
+    for _ in 0..3 {
+        lines.push(Line::giving(alloc, "0000000101")?)?;
+    }
+    if listening.workers == 0 || listening.workers > 16 || listening.connections == 0 {
+        return Err("no such call".into());
+    }
+    let served = serve_anew(
+        rt,
+        alloc,
+        &FreeGate,
+        lines.as_mut_slice(),
+        failing_at(alloc, listening.failing)?,
+        listening.workers,
+        listening.connections,
+    )?;
+    Ok((served, answered(lines.as_slice())))
+}
+
+#[test]
+fn serving_ends_as_the_listener_does(rt: HostRuntime) -> Result<(), Fail> {
+    for listening in &LISTENINGS {
+        let (served, answered) = listen_so(&rt, rt.alloc(), listening)?;
+        assert!(rt; served == listening.served && answered == listening.answered);
+    }
+    Ok(())
+}
