@@ -15,3 +15,4 @@ mod operation;
 mod reply;
 
 pub use dialect::FrameDialect;
+pub use operation::Operation;

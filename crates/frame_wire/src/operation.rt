@@ -5,7 +5,7 @@ ghost use Rattle.frame_wire.specs.Operations.{number_of, numbers_of, has_bytes, 
 use blob_model::Bytes;
 use request_form::Request;
 
-/// What a client's frame asks for.
+/// What a client asks for, but for the fields: the operation of a frame, or the command of a line.
 #[derive(Clone, Copy, Debug, PartialEq, Eq)]
 pub enum Operation {
     Create,

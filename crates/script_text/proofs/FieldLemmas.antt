@@ -1,217 +1,296 @@
--- The fields of a text, taken apart at its spaces, and lists of fields that no form has.
-use Rattle.std.proofs.Common.{◌≡◌, ◌≢◌, ℕ, ◌^◌, ◌<◌, ◌==◌, Bool, true, false, cond, nat_le, List, [], ◌∷◌, ◌++◌, length, get_or, codes, Option, Some, None, Result, Ok, Err, MatchResult, Bor, refl, sym, ap, ◌∙◌, arith}
-use Rattle.std.specs.Str.{all_ascii_digits, bytes_eq, IsUtf8}
-use Rattle.std.specs.Str.Parse.{digits_value, ParsesUnsigned}
-use Rattle.std.specs.Result.{OkIff, result_ok}
+-- The fields of a text, taken apart at its spaces, and what a command makes of them.
+use Rattle.std.proofs.Common.{◌≡◌, ◌≢◌, ◌∙◌, ℕ, zero, suc, ◌+◌, ◌^◌, ◌<◌, ◌==◌, Bool, cond, true, false, List, [], ◌∷◌, ◌++◌, length, map, Option, Some, None, codes, refl, sym, ap, arith, append_assoc}
+use Rattle.std.specs.Fmt.{decimal}
+use Rattle.std.specs.Str.{bytes_eq}
+use Rattle.std.specs.Str.Parse.{AllDigits}
+use Rattle.std.specs.List.{All}
+use Rattle.std.specs.Option.{option_map}
 use Rattle.std.proofs.lemmas.Bool.{ne_eqb}
-use Rattle.std.proofs.Math.Bool.{and-true}
-use Rattle.std.proofs.lemmas.Str.{IsUtf8-from_ascii}
-use Rattle.std.proofs.lemmas.Str.Parse.{IsNumeralModel, numerals_by_value, tells_all_ascii_digits, parse_plain}
-use Rattle.std.proofs.lemmas.Fmt.{IsAscii-from_digits}
 use Rattle.std.proofs.lemmas.Bool.Decides.{nat_tests}
-use Rattle.request_form.specs.declared.form.Request.{Request}
-use Rattle.script_text.specs.Fields.{is_numeral, number_of, max_number}
+use Rattle.std.proofs.lemmas.Fmt.{decimal_is_IsNumeral}
+use Rattle.std.proofs.lemmas.Str.Parse.{digit_from_value}
+use Rattle.std.proofs.lemmas.Slice.Eq.{bytes_eq-Decides}
+use Rattle.std.proofs.lemmas.List.Elements.{All-nil, All-cons, All-head, All-tail, All-weaker}
 use Rattle.std.proofs.lemmas.List.Splits.{slice_split_at, slice_split_none}
-use Rattle.std.specs.List.{onto_first, slice_get}
-use Rattle.std.specs.Char.{is_ascii_digit}
-use Rattle.script_text.specs.Begun.{IsWithout}
+use Rattle.request_form.specs.declared.form.Request.{Request}
+use Rattle.request_form.specs.declared.form.Request.TheVariants as Requests
+use Rattle.frame_wire.specs.declared.operation.Operation.{Operation}
+use Rattle.frame_wire.specs.declared.operation.Operation.TheVariants as Operations
+use Rattle.frame_wire.specs.Operations.{numbers_of, has_bytes, request_with}
+use Rattle.script_text.specs.Fields.{number_of, bytes_of}
+use Rattle.script_text.specs.Requests.{both, one_number, two_numbers, four_numbers, number_and_bytes, two_numbers_and_bytes, made, forms, request_in, request_of}
 use Rattle.script_text.specs.Lines.{fields_of}
-use Rattle.script_text.specs.Requests.{numbered, bare, one_number, two_numbers, four_numbers, number_and_bytes, two_numbers_and_bytes, request_in}
+use Rattle.script_text.specs.Begun.{IsWithout, IsLetter}
+use Rattle.script_text.specs.Commands.{command_of}
+use Rattle.script_text.specs.Decoded.{numbers_text, part_text, fields_text}
+use Rattle.script_text.specs.declared.fields.Part.{Part}
+use Rattle.script_text.proofs.NumberLemmas.{number_of-decimal}
 
 -- a text with a space has the field before it first
-pub fields_of-cut : (text front back : List ℕ) → text ≡ front ++ 32 ∷ back → IsWithout 32 front → fields_of text ≡ front ∷ fields_of back
-fields_of-cut text front back e without =
-    ap (λ (t : List ℕ). fields_of t) e ∙ slice_split_at (λ b. b == 32) front 32 back without refl
+pub fields_of-cut : (front back : List ℕ) → IsWithout 32 front → fields_of (front ++ 32 ∷ back) ≡ front ∷ fields_of back
+fields_of-cut front back without = slice_split_at (λ b. b == 32) front 32 back without refl
 
 -- a text without a space is one field
 pub fields_of-one : (text : List ℕ) → IsWithout 32 text → fields_of text ≡ text ∷ []
 fields_of-one text without = slice_split_none (λ b. b == 32) text without
 
-fields_some : (b : Bool) (fs gs : List (List ℕ)) → fs ≢ [] → gs ≢ [] → cond b fs gs ≢ []
-fields_some true fs gs f g = f
-fields_some false fs gs f g = g
+-- ---- bytes without a space
 
-onto_first-some : (b : ℕ) (fields : List (List ℕ)) → onto_first b fields ≢ []
-onto_first-some b [] e = absurd (cc)
-onto_first-some b (field ∷ fields) e = absurd (cc)
+abbrev pub IsSolid : List ℕ → Type 0
+IsSolid bytes = All (λ b. 35 < b) bytes
 
-cons-some : (field : List ℕ) (fields : List (List ℕ)) → field ∷ fields ≢ []
-cons-some field fields e = absurd (cc)
+solid_byte : (b : ℕ) → 35 < b → (b == 32) ≡ false
+solid_byte b h = ne_eqb b 32 (λ e. omega arith)
 
--- there is at least one field
-pub fields_of-some : (text : List ℕ) → fields_of text ≢ []
-fields_of-some [] = cons-some [] []
-fields_of-some (b ∷ text) = fields_some (b == 32) ([] ∷ fields_of text) (onto_first b (fields_of text)) (cons-some [] (fields_of text)) (onto_first-some b (fields_of text))
+pub solid_without : (bytes : List ℕ) → IsSolid bytes → IsWithout 32 bytes
+solid_without bytes h = All-weaker (λ b. 35 < b) (λ b. (b == 32) ≡ false) solid_byte bytes h
 
-one_two : (x a b : List ℕ) → x ∷ [] ≢ a ∷ b ∷ []
-one_two x a b e = absurd (cc)
+digits_solid : (ds : List ℕ) → AllDigits 10 ds → IsSolid ds
+digits_solid [] h = All-nil (λ b. 35 < b)
+digits_solid (c ∷ cs) h = let range = digit_from_value c h.0 in All-cons (λ b. 35 < b) c cs (omega arith) (digits_solid cs h.1)
 
-one_three : (x a b c : List ℕ) → x ∷ [] ≢ a ∷ b ∷ c ∷ []
-one_three x a b c e = absurd (cc)
+pub decimal_solid : (n : ℕ) → n < 2 ^ 64 → IsSolid (decimal n)
+decimal_solid n h = let numeral = decimal_is_IsNumeral n h in digits_solid (decimal n) numeral.0.1
 
-one_four : (x a b c d : List ℕ) → x ∷ [] ≢ a ∷ b ∷ c ∷ d ∷ []
-one_four x a b c d e = absurd (cc)
+abbrev is_letter : ℕ → Bool
+is_letter b = cond (b == 45) true (cond (b == 97) true (cond (b == 98) true (cond (b == 99) true (cond (b == 100) true (cond (b == 101) true (cond (b == 102) true (cond (b == 104) true (cond (b == 105) true (cond (b == 110) true
+    (cond (b == 112) true (cond (b == 113) true (cond (b == 114) true (cond (b == 115) true (cond (b == 116) true (cond (b == 117) true (cond (b == 119) true (cond (b == 121) true (b == 122))))))))))))))))))
 
-rest_of : (x a : List ℕ) (more others : List (List ℕ)) → x ∷ more ≡ a ∷ others → more ≡ others
-rest_of x a more others e = cc
+abbrev all_letters : List ℕ → Bool
+all_letters [] = true
+all_letters (b ∷ bs) = cond (is_letter b) (all_letters bs) false
 
-rest_of_two : (x y a b : List ℕ) (more : List (List ℕ)) → x ∷ y ∷ more ≡ a ∷ b ∷ [] → more ≡ []
-rest_of_two x y a b more e = cc
+letter_from : (b : ℕ) → is_letter b ≡ true → IsLetter b
+letter_from b h = grind (arith, nat_tests)
 
--- one field isn't two, nor are three or more
-pub not_two-one : (text : List ℕ) → IsWithout 32 text → (a b : List ℕ) → fields_of text ≢ a ∷ b ∷ []
-not_two-one text without a b e = one_two text a b (sym (fields_of-one text without) ∙ e)
+letters_from : (bs : List ℕ) → all_letters bs ≡ true → All IsLetter bs
+letters_from [] h = All-nil IsLetter
+letters_from (b ∷ bs) h = go (is_letter b) refl h (letters_from bs)
+  where
+    go : (t : Bool) → is_letter b ≡ t → cond t (all_letters bs) false ≡ true → (all_letters bs ≡ true → All IsLetter bs) → All IsLetter (b ∷ bs)
+    go true e k on = All-cons IsLetter b bs (letter_from b e) (on k)
+    go false e k on = absurd (cc)
 
-pub not_two-more : (text first second third more : List ℕ) → fields_of text ≡ first ∷ fields_of second → fields_of second ≡ third ∷ fields_of more →
-    (a b : List ℕ) → fields_of text ≢ a ∷ b ∷ []
-not_two-more text first second third more e f a b g =
-    fields_of-some more (rest_of_two first third a b (fields_of more) (sym (ap (λ (fs : List (List ℕ)). first ∷ fs) f) ∙ (sym e ∙ g)))
+pub command_letters : (operation : Operation) → All IsLetter (command_of operation)
+command_letters Operations.Create = letters_from (codes "create") refl
+command_letters Operations.Append = letters_from (codes "append") refl
+command_letters Operations.Write = letters_from (codes "write") refl
+command_letters Operations.StartAppend = letters_from (codes "start-append") refl
+command_letters Operations.StartWrite = letters_from (codes "start-write") refl
+command_letters Operations.Finish = letters_from (codes "finish") refl
+command_letters Operations.Read = letters_from (codes "read") refl
+command_letters Operations.Recent = letters_from (codes "recent") refl
+command_letters Operations.Size = letters_from (codes "size") refl
+command_letters Operations.Sync = letters_from (codes "sync") refl
+command_letters Operations.Status = letters_from (codes "status") refl
+command_letters Operations.Branch = letters_from (codes "branch") refl
+command_letters Operations.Quit = letters_from (codes "quit") refl
 
--- one field isn't three, nor are some before others than two
-pub not_three-one : (text : List ℕ) → IsWithout 32 text → (a b c : List ℕ) → fields_of text ≢ a ∷ b ∷ c ∷ []
-not_three-one text without a b c e = one_three text a b c (sym (fields_of-one text without) ∙ e)
+pub letter_solid : (b : ℕ) → IsLetter b → 35 < b
+letter_solid b h = grind arith
 
-pub not_three-more : (text first rest : List ℕ) → fields_of text ≡ first ∷ fields_of rest → ((a b : List ℕ) → fields_of rest ≢ a ∷ b ∷ []) →
-    (a b c : List ℕ) → fields_of text ≢ a ∷ b ∷ c ∷ []
-not_three-more text first rest e not_two a b c g = not_two b c (rest_of first a (fields_of rest) (b ∷ c ∷ []) (sym e ∙ g))
+pub letters_solid : (bs : List ℕ) → All IsLetter bs → IsSolid bs
+letters_solid bs h = All-weaker IsLetter (λ b. 35 < b) letter_solid bs h
 
--- one field isn't four, nor are some before others than three
-pub not_four-one : (text : List ℕ) → IsWithout 32 text → (a b c d : List ℕ) → fields_of text ≢ a ∷ b ∷ c ∷ d ∷ []
-not_four-one text without a b c d e = one_four text a b c d (sym (fields_of-one text without) ∙ e)
+-- ---- what commands make of fields
 
-pub not_four-more : (text first rest : List ℕ) → fields_of text ≡ first ∷ fields_of rest → ((a b c : List ℕ) → fields_of rest ≢ a ∷ b ∷ c ∷ []) →
-    (a b c d : List ℕ) → fields_of text ≢ a ∷ b ∷ c ∷ d ∷ []
-not_four-more text first rest e not_three a b c d g = not_three b c d (rest_of first a (fields_of rest) (b ∷ c ∷ d ∷ []) (sym e ∙ g))
+-- a number in front of numbers and bytes
+abbrev pub with_number : Option ℕ → Option (List ℕ × List ℕ) → Option (List ℕ × List ℕ)
+with_number (Some n) (Some p) = Some (n ∷ p.0, p.1)
+with_number (Some n) None = None
+with_number None p = None
 
--- ---- fields that are too few or too many
+pub with_number-none : (o : Option ℕ) → with_number o None ≡ None
+with_number-none (Some n) = refl
+with_number-none None = refl
 
-pub one_number-more : (first : List ℕ) (fields : List (List ℕ)) → fields ≢ [] → one_number (first ∷ fields) ≡ None
-one_number-more first [] some = absurd (some refl)
-one_number-more first (second ∷ fields) some = refl
+abbrev bytes_alone : Option (List ℕ) → Option (List ℕ × List ℕ)
+bytes_alone (Some bytes) = Some ([], bytes)
+bytes_alone None = None
 
-pub two_numbers-other : (fields : List (List ℕ)) → ((a b : List ℕ) → fields ≢ a ∷ b ∷ []) → two_numbers fields ≡ None
-two_numbers-other [] not_two = refl
-two_numbers-other (a ∷ []) not_two = refl
-two_numbers-other (a ∷ b ∷ []) not_two = absurd (not_two a b refl)
-two_numbers-other (a ∷ b ∷ c ∷ more) not_two = refl
+-- what stands behind all numbers
+abbrev pub read_last : Bool → List (List ℕ) → Option (List ℕ × List ℕ)
+read_last false [] = Some ([], [])
+read_last false (field ∷ fields) = None
+read_last true [] = None
+read_last true (field ∷ []) = bytes_alone (bytes_of field)
+read_last true (field ∷ next ∷ fields) = None
 
-pub number_and_bytes-other : (fields : List (List ℕ)) → ((a b : List ℕ) → fields ≢ a ∷ b ∷ []) → number_and_bytes fields ≡ None
-number_and_bytes-other [] not_two = refl
-number_and_bytes-other (a ∷ []) not_two = refl
-number_and_bytes-other (a ∷ b ∷ []) not_two = absurd (not_two a b refl)
-number_and_bytes-other (a ∷ b ∷ c ∷ more) not_two = refl
+-- so many numbers, and bytes behind them or none
+abbrev pub read : ℕ → Bool → List (List ℕ) → Option (List ℕ × List ℕ)
+read zero bytes fields = read_last bytes fields
+read (suc k) bytes [] = None
+read (suc k) bytes (field ∷ fields) = with_number (number_of field) (read k bytes fields)
 
-pub two_numbers_and_bytes-other : (fields : List (List ℕ)) → ((a b c : List ℕ) → fields ≢ a ∷ b ∷ c ∷ []) → two_numbers_and_bytes fields ≡ None
-two_numbers_and_bytes-other [] not_three = refl
-two_numbers_and_bytes-other (a ∷ []) not_three = refl
-two_numbers_and_bytes-other (a ∷ b ∷ []) not_three = refl
-two_numbers_and_bytes-other (a ∷ b ∷ c ∷ []) not_three = absurd (not_three a b c refl)
-two_numbers_and_bytes-other (a ∷ b ∷ c ∷ d ∷ more) not_three = refl
+abbrev pub ask : Operation → Option (List ℕ × List ℕ) → Option Request
+ask operation p = option_map (λ r. request_with operation r.0 r.1) p
 
-pub four_numbers-other : (fields : List (List ℕ)) → ((a b c d : List ℕ) → fields ≢ a ∷ b ∷ c ∷ d ∷ []) → four_numbers fields ≡ None
-four_numbers-other [] not_four = refl
-four_numbers-other (a ∷ []) not_four = refl
-four_numbers-other (a ∷ b ∷ []) not_four = refl
-four_numbers-other (a ∷ b ∷ c ∷ []) not_four = refl
-four_numbers-other (a ∷ b ∷ c ∷ d ∷ []) not_four = absurd (not_four a b c d refl)
-four_numbers-other (a ∷ b ∷ c ∷ d ∷ e ∷ more) not_four = refl
+none_numbers : (o : Option ℕ) (p : Option (List ℕ × List ℕ)) (w : List ℕ × List ℕ → Request) → p ≡ None → None ≡ option_map w (with_number o p)
+none_numbers o p w e = sym (ap (λ (q : Option (List ℕ × List ℕ)). option_map w (with_number o q)) e ∙ ap (λ (q : Option (List ℕ × List ℕ)). option_map w q) (with_number-none o))
 
--- ---- requests
+one_is : (q : ℕ → Request) (w : List ℕ × List ℕ → Request) → ((n : ℕ) → q n ≡ w (n ∷ [], [])) → (fs : List (List ℕ)) → made q (one_number fs) ≡ option_map w (read 1 false fs)
+one_is q w h [] = refl
+one_is q w h (a ∷ []) = go (number_of a)
+  where
+    go : (o : Option ℕ) → made q o ≡ option_map w (with_number o (Some ([], [])))
+    go (Some n) = ap (λ (r : Request). Some r) (h n)
+    go None = refl
+one_is q w h (a ∷ b ∷ fs) = none_numbers (number_of a) None w refl
 
-either_none : (b c : Bool) → cond b None (cond c None None) ≡ (let n : Option Request = None in n)
-either_none true c = refl
-either_none false true = refl
-either_none false false = refl
+two_is : (q : ℕ × ℕ → Request) (w : List ℕ × List ℕ → Request) → ((n m : ℕ) → q (n, m) ≡ w (n ∷ m ∷ [], [])) → (fs : List (List ℕ)) → made q (two_numbers fs) ≡ option_map w (read 2 false fs)
+two_is q w h [] = refl
+two_is q w h (a ∷ []) = none_numbers (number_of a) None w refl
+two_is q w h (a ∷ b ∷ []) = go (number_of a) (number_of b)
+  where
+    go : (o p : Option ℕ) → made q (both o p) ≡ option_map w (with_number o (with_number p (Some ([], []))))
+    go (Some n) (Some m) = ap (λ (r : Request). Some r) (h n m)
+    go (Some n) None = refl
+    go None p = refl
+two_is q w h (a ∷ b ∷ c ∷ fs) = none_numbers (number_of a) (with_number (number_of b) None) w (with_number-none (number_of b))
 
--- a command that is none of those with numbers makes no request of fields
-pub numbered-none : (command : List ℕ) (fields : List (List ℕ)) → fields ≢ [] → bytes_eq command (codes "finish") ≡ false → bytes_eq command (codes "read") ≡ false →
-    bytes_eq command (codes "recent") ≡ false → bytes_eq command (codes "size") ≡ false → bytes_eq command (codes "sync") ≡ false → bytes_eq command (codes "status") ≡ false →
-    bytes_eq command (codes "branch") ≡ false → request_in (numbered ++ bare) command fields ≡ None
-numbered-none command [] some finish read recent size sync status branch = absurd (some refl)
-numbered-none command (field ∷ fields) some finish read recent size sync status branch =
-    rw (finish, read, recent, size, sync, status, branch) (either_none (bytes_eq command (codes "create")) (bytes_eq command (codes "quit")))
+four_is : (q : (ℕ × ℕ) × (ℕ × ℕ) → Request) (w : List ℕ × List ℕ → Request) → ((k l m n : ℕ) → q ((k, l), (m, n)) ≡ w (k ∷ l ∷ m ∷ n ∷ [], [])) → (fs : List (List ℕ)) → made q (four_numbers fs) ≡ option_map w (read 4 false fs)
+four_is q w h [] = refl
+four_is q w h (a ∷ []) = none_numbers (number_of a) None w refl
+four_is q w h (a ∷ b ∷ []) = none_numbers (number_of a) (with_number (number_of b) None) w (with_number-none (number_of b))
+four_is q w h (a ∷ b ∷ c ∷ []) =
+    none_numbers (number_of a) (with_number (number_of b) (with_number (number_of c) None)) w
+    (ap (λ (p : Option (List ℕ × List ℕ)). with_number (number_of b) p) (with_number-none (number_of c)) ∙ with_number-none (number_of b))
+four_is q w h (a ∷ b ∷ c ∷ d ∷ []) = go (number_of a) (number_of b) (number_of c) (number_of d)
+  where
+    go : (k l m n : Option ℕ) → made q (both (both k l) (both m n)) ≡ option_map w (with_number k (with_number l (with_number m (with_number n (Some ([], []))))))
+    go (Some k) (Some l) (Some m) (Some n) = ap (λ (r : Request). Some r) (h k l m n)
+    go (Some k) (Some l) (Some m) None = refl
+    go (Some k) (Some l) None n = refl
+    go (Some k) None m n = refl
+    go None l m n = refl
+four_is q w h (a ∷ b ∷ c ∷ d ∷ e ∷ fs) =
+    none_numbers (number_of a) (with_number (number_of b) (with_number (number_of c) (with_number (number_of d) None))) w
+    (ap (λ (p : Option (List ℕ × List ℕ)). with_number (number_of b) (with_number (number_of c) p)) (with_number-none (number_of d))
+    ∙ ap (λ (p : Option (List ℕ × List ℕ)). with_number (number_of b) p) (with_number-none (number_of c))
+    ∙ with_number-none (number_of b))
 
--- ---- numbers
+one_bytes_is : (q : ℕ × List ℕ → Request) (w : List ℕ × List ℕ → Request) → ((n : ℕ) (bs : List ℕ) → q (n, bs) ≡ w (n ∷ [], bs)) → (fs : List (List ℕ)) → made q (number_and_bytes fs) ≡ option_map w (read 1 true fs)
+one_bytes_is q w h [] = refl
+one_bytes_is q w h (a ∷ []) = none_numbers (number_of a) None w refl
+one_bytes_is q w h (a ∷ d ∷ []) = go (number_of a) (bytes_of d)
+  where
+    go : (o : Option ℕ) (p : Option (List ℕ)) → made q (both o p) ≡ option_map w (with_number o (bytes_alone p))
+    go (Some n) (Some bs) = ap (λ (r : Request). Some r) (h n bs)
+    go (Some n) None = refl
+    go None p = refl
+one_bytes_is q w h (a ∷ d ∷ e ∷ fs) = none_numbers (number_of a) None w refl
 
-own : IsNumeralModel (λ ds. all_ascii_digits ds ≡ true) (digits_value 10)
-own = numerals_by_value (λ ds. all_ascii_digits ds ≡ true) tells_all_ascii_digits
+two_bytes_is : (q : (ℕ × ℕ) × List ℕ → Request) (w : List ℕ × List ℕ → Request) → ((n m : ℕ) (bs : List ℕ) → q ((n, m), bs) ≡ w (n ∷ m ∷ [], bs)) → (fs : List (List ℕ)) → made q (two_numbers_and_bytes fs) ≡ option_map w (read 2 true fs)
+two_bytes_is q w h [] = refl
+two_bytes_is q w h (a ∷ []) = none_numbers (number_of a) None w refl
+two_bytes_is q w h (a ∷ b ∷ []) = none_numbers (number_of a) (with_number (number_of b) None) w (with_number-none (number_of b))
+two_bytes_is q w h (a ∷ b ∷ d ∷ []) = go (number_of a) (number_of b) (bytes_of d)
+  where
+    go : (o p : Option ℕ) (r : Option (List ℕ)) → made q (both (both o p) r) ≡ option_map w (with_number o (with_number p (bytes_alone r)))
+    go (Some n) (Some m) (Some bs) = ap (λ (r : Request). Some r) (h n m bs)
+    go (Some n) (Some m) None = refl
+    go (Some n) None r = refl
+    go None p r = refl
+two_bytes_is q w h (a ∷ b ∷ d ∷ e ∷ fs) = none_numbers (number_of a) (with_number (number_of b) None) w (with_number-none (number_of b))
 
--- a numeral that begins with no zero is one of digits
-is_numeral-plain : (field : List ℕ) → 0 < length field → get_or field 0 0 ≢ 48 → is_numeral field ≡ all_ascii_digits field
-is_numeral-plain [] some first = absurd (omega arith)
-is_numeral-plain (d ∷ []) some first = sym (and-true (is_ascii_digit d))
-is_numeral-plain (d ∷ e ∷ ds) some first = rw (ne_eqb d 48 first) refl
+-- a command makes of its fields what they are read as
+pub command_reads : (operation : Operation) (fs : List (List ℕ)) → request_in forms (command_of operation) fs ≡ ask operation (read (numbers_of operation) (has_bytes operation) fs)
+command_reads Operations.Create [] = refl
+command_reads Operations.Create (f ∷ fs) = refl
+command_reads Operations.Append fs = one_bytes_is (λ f. Requests.Append f.0 f.1) (λ r. request_with Operations.Append r.0 r.1) (λ n bs. refl) fs
+command_reads Operations.Write fs = two_bytes_is (λ f. Requests.Write f.0.0 f.0.1 f.1) (λ r. request_with Operations.Write r.0 r.1) (λ n m bs. refl) fs
+command_reads Operations.StartAppend fs = one_bytes_is (λ f. Requests.StartAppend f.0 f.1) (λ r. request_with Operations.StartAppend r.0 r.1) (λ n bs. refl) fs
+command_reads Operations.StartWrite fs = two_bytes_is (λ f. Requests.StartWrite f.0.0 f.0.1 f.1) (λ r. request_with Operations.StartWrite r.0 r.1) (λ n m bs. refl) fs
+command_reads Operations.Finish fs = one_is (λ n. Requests.Finish n) (λ r. request_with Operations.Finish r.0 r.1) (λ n. refl) fs
+command_reads Operations.Read fs = four_is (λ f. Requests.Read f.0.0 f.0.1 f.1.0 f.1.1) (λ r. request_with Operations.Read r.0 r.1) (λ k l m n. refl) fs
+command_reads Operations.Recent fs = one_is (λ n. Requests.Recent n) (λ r. request_with Operations.Recent r.0 r.1) (λ n. refl) fs
+command_reads Operations.Size fs = two_is (λ f. Requests.Size f.0 f.1) (λ r. request_with Operations.Size r.0 r.1) (λ n m. refl) fs
+command_reads Operations.Sync fs = two_is (λ f. Requests.Sync f.0 f.1) (λ r. request_with Operations.Sync r.0 r.1) (λ n m. refl) fs
+command_reads Operations.Status fs = one_is (λ n. Requests.Status n) (λ r. request_with Operations.Status r.0 r.1) (λ n. refl) fs
+command_reads Operations.Branch fs = two_is (λ f. Requests.Branch f.0 f.1) (λ r. request_with Operations.Branch r.0 r.1) (λ n m. refl) fs
+command_reads Operations.Quit [] = refl
+command_reads Operations.Quit (f ∷ fs) = refl
 
--- no digits, no number
-no_digits : (field : List ℕ) → 0 < length field → get_or field 0 0 ≢ 48 → all_ascii_digits field ≡ false → number_of field ≡ None
-no_digits field some first e = rw (is_numeral-plain field some first ∙ e) refl
+differs : (a b : List ℕ) → a ≢ b → bytes_eq a b ≡ false
+differs a b h = go (bytes_eq a b) refl
+  where
+    go : (t : Bool) → bytes_eq a b ≡ t → bytes_eq a b ≡ false
+    go true e = let d = bytes_eq-Decides a b in absurd (h (d.0 e))
+    go false e = e
 
--- a sign is no digit
-pub number_of-plus : (field : List ℕ) → get_or field 0 0 ≡ 43 → number_of field ≡ None
-number_of-plus [] first = absurd (omega arith)
-number_of-plus (d ∷ []) first = rw first refl
-number_of-plus (d ∷ e ∷ ds) first = rw first refl
+-- what is no command makes no request
+pub no_command : (word : List ℕ) (fs : List (List ℕ)) → ((operation : Operation) → word ≢ command_of operation) → request_in forms word fs ≡ None
+no_command word fs h =
+    rw (
+      differs word (codes "append") (h Operations.Append),
+      differs word (codes "write") (h Operations.Write),
+      differs word (codes "start-append") (h Operations.StartAppend),
+      differs word (codes "start-write") (h Operations.StartWrite),
+      differs word (codes "finish") (h Operations.Finish),
+      differs word (codes "read") (h Operations.Read),
+      differs word (codes "recent") (h Operations.Recent),
+      differs word (codes "size") (h Operations.Size),
+      differs word (codes "sync") (h Operations.Sync),
+      differs word (codes "status") (h Operations.Status),
+      differs word (codes "branch") (h Operations.Branch),
+      differs word (codes "create") (h Operations.Create),
+      differs word (codes "quit") (h Operations.Quit),
+    ) refl
 
-pub number_of-empty : (field : List ℕ) → length field ≡ 0 → number_of field ≡ None
-number_of-empty [] e = refl
-number_of-empty (d ∷ ds) e = absurd (omega arith)
+-- ---- a line up to the field that has begun
 
--- a zero alone
-pub number_of-zero : (field : List ℕ) → get_or field 0 0 ≡ 48 → length field ≡ 1 → number_of field ≡ Some 0
-number_of-zero [] first one = absurd (omega arith)
-number_of-zero (d ∷ []) first one = rw first refl
-number_of-zero (d ∷ e ∷ ds) first one = absurd (omega arith)
+-- numbers that have come in front of what is read
+abbrev pub with_numbers : List ℕ → Option (List ℕ × List ℕ) → Option (List ℕ × List ℕ)
+with_numbers [] p = p
+with_numbers (n ∷ ns) p = with_number (Some n) (with_numbers ns p)
 
--- a zero and more
-pub number_of-leading_zero : (field : List ℕ) → get_or field 0 0 ≡ 48 → length field ≢ 1 → number_of field ≡ None
-number_of-leading_zero [] first many = absurd (omega arith)
-number_of-leading_zero (d ∷ []) first many = absurd (many refl)
-number_of-leading_zero (d ∷ e ∷ ds) first many = rw first refl
+pub with_numbers-none : (ns : List ℕ) → with_numbers ns None ≡ None
+with_numbers-none [] = refl
+with_numbers-none (n ∷ ns) = ap (λ (p : Option (List ℕ × List ℕ)). with_number (Some n) p) (with_numbers-none ns)
 
-not_true : (b : Bool) → b ≢ true → b ≡ false
-not_true true h = absurd (h refl)
-not_true false h = refl
+pub with_numbers-some : (ns ms bytes : List ℕ) → with_numbers ns (Some (ms, bytes)) ≡ Some (ns ++ ms, bytes)
+with_numbers-some [] ms bytes = refl
+with_numbers-some (n ∷ ns) ms bytes = ap (λ (p : Option (List ℕ × List ℕ)). with_number (Some n) p) (with_numbers-some ns ms bytes)
 
--- what is no UTF-8 is no number
-pub number_of-no_text : (field : List ℕ) → 0 < length field → get_or field 0 0 ≢ 48 → ¬ (IsUtf8 field) → number_of field ≡ None
-number_of-no_text field some first no_text =
-    no_digits field some first (not_true (all_ascii_digits field) (λ e. no_text (IsUtf8-from_ascii field (IsAscii-from_digits field (own.to field e)))))
+abbrev pub AllSmall : List ℕ → Type 0
+AllSmall ns = All (λ n. n < 2 ^ 64) ns
 
-in_range : (n : ℕ) → n < 2 ^ 64 → nat_le n max_number ≡ true
-in_range n h = grind (arith, nat_tests)
+small_head : (n : ℕ) (ns : List ℕ) → AllSmall (n ∷ ns) → n < 2 ^ 64
+small_head n ns h = All-head (λ n. n < 2 ^ 64) n ns h
 
-out_of_range : (n : ℕ) → (n < 2 ^ 64 → ⊥) → nat_le n max_number ≡ false
-out_of_range n h = grind (arith, nat_tests)
+small_tail : (n : ℕ) (ns : List ℕ) → AllSmall (n ∷ ns) → AllSmall ns
+small_tail n ns h = All-tail (λ n. n < 2 ^ 64) n ns h
 
-number_from_err : (field : List ℕ) → 0 < length field → get_or field 0 0 ≢ 48 →
-    ¬ ((all_ascii_digits field ≡ true) × (0 < length field) × (digits_value 10 field < 2 ^ 64)) → (b : Bool) → all_ascii_digits field ≡ b → None ≡ number_of field
-number_from_err field some first h true e =
-    sym (rw (is_numeral-plain field some first ∙ e, out_of_range (digits_value 10 field) (λ small. h (e, some, small))) refl)
-number_from_err field some first h false e = sym (no_digits field some first e)
+fields_numbers : (ns text : List ℕ) → AllSmall ns → fields_of (numbers_text ns ++ text) ≡ map decimal ns ++ fields_of text
+fields_numbers [] text h = refl
+fields_numbers (n ∷ ns) text h =
+    ap (λ (l : List ℕ). fields_of l) (append_assoc (decimal n) (32 ∷ numbers_text ns) text)
+    ∙ fields_of-cut (decimal n) (numbers_text ns ++ text) (solid_without (decimal n) (decimal_solid n (small_head n ns h)))
+    ∙ ap (λ (fs : List (List ℕ)). decimal n ∷ fs) (fields_numbers ns text (small_tail n ns h))
 
-number_from : {E : Type 0} (field : List ℕ) (r : Result ℕ E) → 0 < length field → get_or field 0 0 ≢ 48 →
-    OkIff r ((all_ascii_digits field ≡ true) × (0 < length field) × (digits_value 10 field < 2 ^ 64)) (digits_value 10 field) → result_ok r ≡ number_of field
-number_from field (Ok x) some first h =
-    ap (λ (n : ℕ). Some n) h.1 ∙ sym (rw (is_numeral-plain field some first ∙ h.0.0, in_range (digits_value 10 field) h.0.2) refl)
-number_from field (Err e) some first h = number_from_err field some first h (all_ascii_digits field) refl
+read_numbers : (ns : List ℕ) (k total : ℕ) (bytes : Bool) (fs : List (List ℕ)) → AllSmall ns → length ns + k ≡ total → read total bytes (map decimal ns ++ fs) ≡ with_numbers ns (read k bytes fs)
+read_numbers [] k total bytes fs h e = let same : total ≡ k = omega arith in ap (λ (n : ℕ). read n bytes fs) same
+read_numbers (n ∷ ns) k zero bytes fs h e = absurd (omega arith)
+read_numbers (n ∷ ns) k (suc total) bytes fs h e =
+    ap (λ (o : Option ℕ). with_number o (read total bytes (map decimal ns ++ fs))) (number_of-decimal n (small_head n ns h))
+    ∙ ap (λ (p : Option (List ℕ × List ℕ)). with_number (Some n) p) (read_numbers ns k total bytes fs (small_tail n ns h) (omega arith))
 
--- what std's numbers read, where no sign and no zero comes first
-pub number_of-parsed : {E : Type 0} (field : List ℕ) (r : Result ℕ E) → 0 < length field → get_or field 0 0 ≢ 48 → get_or field 0 0 ≢ 43 →
-    ParsesUnsigned 64 10 field r → result_ok r ≡ number_of field
-number_of-parsed field r some zero plus h = number_from field r some zero (parse_plain own 64 field r h plus)
+-- where the field stands that has begun
+pub text_splits : (operation : Operation) (ns : List ℕ) (part : Part) (bytes more : List ℕ) → fields_text operation ns part bytes ++ more ≡ command_of operation ++ 32 ∷ (numbers_text ns ++ (part_text part bytes ++ more))
+unfolding fields_text
+text_splits operation ns part bytes more =
+    append_assoc (command_of operation) (32 ∷ (numbers_text ns ++ part_text part bytes)) more
+    ∙ ap (λ (l : List ℕ). command_of operation ++ 32 ∷ l) (append_assoc (numbers_text ns) (part_text part bytes) more)
 
--- ---- what std's calls gave
+pub command_cut : (operation : Operation) (back : List ℕ) → request_of (fields_of (command_of operation ++ 32 ∷ back)) ≡ request_in forms (command_of operation) (fields_of back)
+command_cut operation back = ap (λ (fs : List (List ℕ)). request_of fs) (fields_of-cut (command_of operation) back (solid_without (command_of operation) (letters_solid (command_of operation) (command_letters operation))))
 
-pub first_is : (field : List ℕ) (x : ℕ) → Some x ≡ slice_get field 0 → (0 < length field) × (get_or field 0 0 ≡ x)
-first_is [] x e = absurd (cc)
-first_is (b ∷ bs) x e = (omega arith, cc)
-
-pub utf8_failed : {E : Type 0} (Q : E → Type 0) (r : Result (Bor (List ℕ)) E) (field : List ℕ) →
-    MatchResult r (λ s. (s.now ≡ field) × IsUtf8 field) (λ e. ¬ (IsUtf8 field) × Q e) → None ≡ result_ok r → ¬ (IsUtf8 field)
-utf8_failed Q (Ok s) field h e = absurd (cc)
-utf8_failed Q (Err x) field h e = h.0
-
-pub utf8_read : {E : Type 0} (Q : E → Type 0) (r : Result (Bor (List ℕ)) E) (field : List ℕ) (s : Bor (List ℕ)) →
-    MatchResult r (λ t. (t.now ≡ field) × IsUtf8 field) (λ e. ¬ (IsUtf8 field) × Q e) → Some s ≡ result_ok r → s.now ≡ field
-utf8_read Q (Ok t) field s h e = let same : s ≡ t = cc in ap (λ (x : Bor (List ℕ)). x.now) same ∙ h.0
-utf8_read Q (Err x) field s h e = absurd (cc)
+-- such a line asks for what its numbers and the fields from there on are read as
+pub asks : (operation : Operation) (ns : List ℕ) (part : Part) (bytes more : List ℕ) (k : ℕ) → AllSmall ns → length ns + k ≡ numbers_of operation
+    → request_of (fields_of (fields_text operation ns part bytes ++ more)) ≡ ask operation (with_numbers ns (read k (has_bytes operation) (fields_of (part_text part bytes ++ more))))
+asks operation ns part bytes more k small e =
+    ap (λ (l : List ℕ). request_of (fields_of l)) (text_splits operation ns part bytes more)
+    ∙ command_cut operation (numbers_text ns ++ (part_text part bytes ++ more))
+    ∙ ap (λ (fs : List (List ℕ)). request_in forms (command_of operation) fs) (fields_numbers ns (part_text part bytes ++ more) small)
+    ∙ command_reads operation (map decimal ns ++ fields_of (part_text part bytes ++ more))
+    ∙ ap (λ (p : Option (List ℕ × List ℕ)). ask operation p) (read_numbers ns k (numbers_of operation) (has_bytes operation) (fields_of (part_text part bytes ++ more)) small e)

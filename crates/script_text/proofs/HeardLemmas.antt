@@ -18,17 +18,17 @@ onto-cons : (xs part : List ℕ) (parts : List (List ℕ)) → onto xs (part ∷
 onto-cons [] part parts = refl
 onto-cons (x ∷ xs) part parts = ap (λ (ps : List (List ℕ)). onto_first x ps) (onto-cons xs part parts)
 
-slice_split-append : (xs more : List ℕ) → IsWithout 10 xs → slice_split (λ b. b == 10) (xs ++ more) ≡ onto xs (slice_split (λ b. b == 10) more)
-slice_split-append [] more h = refl
-slice_split-append (x ∷ xs) more h =
-    slice_split-cons_no (λ b. b == 10) x (xs ++ more) (All-head (λ b. (b == 10) ≡ false) x xs h)
-    ∙ ap (λ (ps : List (List ℕ)). onto_first x ps) (slice_split-append xs more (All-tail (λ b. (b == 10) ≡ false) x xs h))
+slice_split-append : (c : ℕ) (xs more : List ℕ) → IsWithout c xs → slice_split (λ b. b == c) (xs ++ more) ≡ onto xs (slice_split (λ b. b == c) more)
+slice_split-append c [] more h = refl
+slice_split-append c (x ∷ xs) more h =
+    slice_split-cons_no (λ b. b == c) x (xs ++ more) (All-head (λ b. (b == c) ≡ false) x xs h)
+    ∙ ap (λ (ps : List (List ℕ)). onto_first x ps) (slice_split-append c xs more (All-tail (λ b. (b == c) ≡ false) x xs h))
 
 -- there is a first part
-record HasFirst (parts : List (List ℕ)) : Type 0 where
-  first : List ℕ
-  others : List (List ℕ)
-  is : parts ≡ first ∷ others
+pub record HasFirst (parts : List (List ℕ)) : Type 0 where
+  pub first : List ℕ
+  pub others : List (List ℕ)
+  pub is : parts ≡ first ∷ others
 
 onto_first_has : (x : ℕ) (parts : List (List ℕ)) → HasFirst (onto_first x parts)
 onto_first_has x [] = record { first = x ∷ []; others = []; is = refl }
@@ -38,11 +38,16 @@ cond_has : (b : Bool) (ps qs : List (List ℕ)) → HasFirst ps → HasFirst qs 
 cond_has true ps qs p q = p
 cond_has false ps qs p q = q
 
-slice_split_has : (bytes : List ℕ) → HasFirst (slice_split (λ b. b == 10) bytes)
-slice_split_has [] = record { first = []; others = []; is = refl }
-slice_split_has (b ∷ bytes) =
-    cond_has (b == 10) ([] ∷ slice_split (λ b. b == 10) bytes) (onto_first b (slice_split (λ b. b == 10) bytes))
-    (record { first = []; others = slice_split (λ b. b == 10) bytes; is = refl }) (onto_first_has b (slice_split (λ b. b == 10) bytes))
+pub slice_split_has : (c : ℕ) (bytes : List ℕ) → HasFirst (slice_split (λ b. b == c) bytes)
+slice_split_has c [] = record { first = []; others = []; is = refl }
+slice_split_has c (b ∷ bytes) =
+    cond_has (b == c) ([] ∷ slice_split (λ b. b == c) bytes) (onto_first b (slice_split (λ b. b == c) bytes))
+    (record { first = []; others = slice_split (λ b. b == c) bytes; is = refl }) (onto_first_has b (slice_split (λ b. b == c) bytes))
+
+-- bytes without the separator belong to the first part
+pub split_behind : (c : ℕ) (xs more : List ℕ) (h : HasFirst (slice_split (λ b. b == c) more)) → IsWithout c xs → slice_split (λ b. b == c) (xs ++ more) ≡ (xs ++ h.first) ∷ h.others
+split_behind c xs more h without =
+    slice_split-append c xs more without ∙ (ap (λ (ls : List (List ℕ)). onto xs ls) h.is ∙ onto-cons xs h.first h.others)
 
 stream_of-same : (line other : List ℕ) (lines : List (List ℕ)) → item_of line ≡ item_of other → stream_of (line ∷ lines) ≡ stream_of (other ∷ lines)
 stream_of-same line other [] e =
@@ -54,21 +59,19 @@ stream_of-cons line lines h =
     ap (λ (ls : List (List ℕ)). stream_of (line ∷ ls)) h.is ∙ ap (λ (ls : List (List ℕ)). with_item (item_of line) (stream_of ls)) (sym h.is)
 
 heard-append : (xs more : List ℕ) (h : HasFirst (slice_split (λ b. b == 10) more)) → IsWithout 10 xs → heard (xs ++ more) ≡ stream_of ((xs ++ h.first) ∷ h.others)
-heard-append xs more h without =
-    ap (λ (ls : List (List ℕ)). stream_of ls)
-    (slice_split-append xs more without ∙ (ap (λ (ls : List (List ℕ)). onto xs ls) h.is ∙ onto-cons xs h.first h.others))
+heard-append xs more h without = ap (λ (ls : List (List ℕ)). stream_of ls) (split_behind 10 xs more h without)
 
 -- A line may begin otherwise, where however it goes on its item is the same.
 pub goes_on : (xs ys : List ℕ) → IsWithout 10 xs → IsWithout 10 ys → ((zs : List ℕ) → item_of (xs ++ zs) ≡ item_of (ys ++ zs)) → GoesOnAs xs ys
 goes_on xs ys xs_without ys_without same more =
-    let h = slice_split_has more in
+    let h = slice_split_has 10 more in
     heard-append xs more h xs_without ∙ (stream_of-same (xs ++ h.first) (ys ++ h.first) h.others (same h.first) ∙ sym (heard-append ys more h ys_without))
 
 -- a line and its line feed in front of a script
 pub heard_line : (line script : List ℕ) → IsWithout 10 line → heard (line ++ 10 ∷ script) ≡ with_item (item_of line) (heard script)
 heard_line line script without =
     ap (λ (ls : List (List ℕ)). stream_of ls) (slice_split_at (λ b. b == 10) line 10 script without refl)
-    ∙ stream_of-cons line (slice_split (λ b. b == 10) script) (slice_split_has script)
+    ∙ stream_of-cons line (slice_split (λ b. b == 10) script) (slice_split_has 10 script)
 
 -- a line that no line feed ends
 pub heard_last : (line : List ℕ) → IsWithout 10 line → heard line ≡ record { items = option_to_list (item_of line); whole = []; cut = false }

@@ -1,176 +1,174 @@
--- The item of a line, by its first byte and its length.
-use Rattle.std.proofs.Common.{◌≡◌, ◌≢◌, ℕ, suc, add-one, ◌⊎◌, ⊎_elim, subst, ◌-◌, ◌+◌, ◌<◌, ◌≤◌, ◌==◌, Bool, true, false, cond, List, [], ◌∷◌, ◌++◌, length, get_or, take, drop, replicate, Some, None, refl, sym, ap, ◌∙◌, arith}
+-- What a text says as a line, however it goes on.
+use Rattle.std.proofs.Common.{◌≡◌, ◌≢◌, ◌∙◌, ◌⊎◌, inl, inr, ℕ, suc, ◌-◌, ◌<◌, ◌≤◌, ◌==◌, nat_lt, Bool, true, false, cond, List, [], ◌∷◌, ◌++◌, length, take, slice_index, Some, None, refl, sym, ap, subst, arith, append_assoc, append-nil, length-append}
+use Rattle.std.specs.List.{All}
 use Rattle.std.specs.Str.Lines.{strip_carriage_return}
-use Rattle.std.proofs.lemmas.Bool.{lt-ltb, le-ltb, ne_eqb, eqb-true}
-use Rattle.std.proofs.lemmas.List.{get_or-take}
-use Rattle.std.proofs.Common.{length-take, eq-eqb}
+use Rattle.std.proofs.lemmas.Bool.{ne_eqb, le-ltb}
+use Rattle.std.proofs.lemmas.List.Elements.{All-head, All-tail, All-push}
+use Rattle.request_form.specs.declared.form.Heard.{Heard}
 use Rattle.request_form.specs.declared.form.Heard.TheVariants.{Wrong}
-use Rattle.request_form.specs.declared.form.Fault.TheVariants.{Malformed}
-use Rattle.std.proofs.Common.{length-append, append_assoc}
-use Rattle.std.proofs.lemmas.List.{get_or-replicate, length-replicate}
-use Rattle.std.proofs.lemmas.List.Elements.{All-append, All-replicate, All-nil, All-cons}
-use Rattle.script_text.specs.declared.line.Kept.{Kept}
-use Rattle.script_text.specs.declared.line.Kept.TheVariants.{Whole, Comment, TooLong}
-use Rattle.script_text.specs.Begun.{IsWithout, GoesOnAs, too_long, begun}
-use Rattle.script_text.specs.Lines.{item_of_text, item_of, spelled, with_item, heard}
-use Rattle.script_text.proofs.HeardLemmas.{goes_on, heard_line}
+use Rattle.request_form.specs.declared.form.Fault.TheVariants as Faults
+use Rattle.frame_wire.specs.declared.operation.Operation.{Operation}
+use Rattle.frame_wire.specs.declared.operation.Operation.TheVariants as Operations
+use Rattle.script_text.specs.Requests.{forms, request_in, request_of}
+use Rattle.script_text.specs.Lines.{max_line, fields_of, heard_as, item_of_text, item_of}
+use Rattle.script_text.specs.Begun.{IsWithout, SaysAs, IsLetter}
+use Rattle.script_text.specs.Commands.{command_of}
+use Rattle.script_text.specs.Decoded.{AsksNothing}
+use Rattle.script_text.proofs.HeardLemmas.{slice_split_has, split_behind}
+use Rattle.script_text.proofs.FieldLemmas.{fields_of-cut, fields_of-one, letters_solid, letter_solid, solid_without, command_letters, no_command}
+use Rattle.script_text.proofs.DecodedLemmas.{letters_plain}
 
--- a text that begins with `#`
-pub item_of_text-comment : (text : List ℕ) → get_or text 0 0 ≡ 35 → item_of_text text ≡ None
-item_of_text-comment [] first = absurd (omega arith)
-item_of_text-comment (b ∷ bs) first = rw (eq-eqb b 35 first) refl
+-- ---- what a text says that isn't empty and no comment
 
--- a text that is too long, and doesn't
-pub item_of_text-long : (text : List ℕ) → 4194304 < length text → get_or text 0 0 ≢ 35 → item_of_text text ≡ Some (Wrong Malformed)
-item_of_text-long [] long first = absurd (omega arith)
-item_of_text-long (b ∷ bs) long first = rw (ne_eqb b 35 first, lt-ltb 4194304 (length (b ∷ bs)) long) refl
+says : (text : List ℕ) → 0 < length text → slice_index text 0 ≢ 35 → item_of_text text ≡ Some (cond (nat_lt max_line (length text)) (Wrong Faults.Malformed) (heard_as (request_of (fields_of text))))
+says [] some_text first = absurd (omega arith)
+says (b ∷ bs) some_text first = rw (ne_eqb b 35 first) refl
 
-strip-first_by : (b : Bool) (line : List ℕ) → (b ≡ true → 1 < length line) → get_or (cond b (take (length line - 1) line) line) 0 0 ≡ get_or line 0 0
-strip-first_by true line h = get_or-take (length line - 1) line 0 0 (omega (arith, h refl))
-strip-first_by false line h = refl
+first_of : (text more : List ℕ) → 0 < length text → slice_index (text ++ more) 0 ≡ slice_index text 0
+first_of [] more some_text = absurd (omega arith)
+first_of (b ∷ bs) more some_text = refl
 
--- a carriage return at the end is not the first byte, unless it is all there is
-strip_carriage_return-first : (line : List ℕ) → (get_or line 0 0 ≡ 13 → 1 < length line) → get_or (strip_carriage_return line) 0 0 ≡ get_or line 0 0
-strip_carriage_return-first [] h = refl
-strip_carriage_return-first (b ∷ []) h = strip-first_by (get_or (b ∷ []) 0 0 == 13) (b ∷ []) (λ e. h (eqb-true (get_or (b ∷ []) 0 0) 13 e))
-strip_carriage_return-first (b ∷ c ∷ cs) h = strip-first_by (get_or (b ∷ c ∷ cs) (length (b ∷ c ∷ cs) - 1) 0 == 13) (b ∷ c ∷ cs) (λ e. omega arith)
+-- the same of all that it may go on as
+says_on : (text more : List ℕ) → 0 < length text → slice_index text 0 ≢ 35
+    → item_of_text (text ++ more) ≡ Some (cond (nat_lt max_line (length (text ++ more))) (Wrong Faults.Malformed) (heard_as (request_of (fields_of (text ++ more)))))
+says_on text more some_text first =
+    let l = length-append text more in
+    says (text ++ more) (omega arith) (λ e. first (sym (first_of text more some_text) ∙ e))
 
-length-strip_by : (b : Bool) (line : List ℕ) → length line ≤ length (cond b (take (length line - 1) line) line) + 1
-length-strip_by true line = omega (arith, length-take (length line - 1) line)
-length-strip_by false line = omega arith
+-- the item of a whole text that isn't too long
+pub says_whole : (text : List ℕ) → 0 < length text → slice_index text 0 ≢ 35 → length text ≤ 4194304 → item_of_text text ≡ Some (heard_as (request_of (fields_of text)))
+says_whole text some_text first short = says text some_text first ∙ rw (le-ltb 4194304 (length text) short) refl
 
-length-strip : (line : List ℕ) → length line ≤ length (strip_carriage_return line) + 1
-length-strip line = length-strip_by (get_or line (length line - 1) 0 == 13) line
+wrong_both : (b : Bool) (h : Heard) → h ≡ Wrong Faults.Malformed → cond b (Wrong Faults.Malformed) h ≡ Wrong Faults.Malformed
+wrong_both true h e = refl
+wrong_both false h e = e
 
--- a line that begins with `#`
-pub item_of-comment : (line : List ℕ) → get_or line 0 0 ≡ 35 → item_of line ≡ None
-item_of-comment line first =
-    item_of_text-comment (strip_carriage_return line) (strip_carriage_return-first line (λ e. absurd (omega arith)) ∙ first)
+malformed_on : (text more : List ℕ) → 0 < length text → slice_index text 0 ≢ 35 → AsksNothing text → item_of_text (text ++ more) ≡ Some (Wrong Faults.Malformed)
+malformed_on text more some_text first none =
+    says_on text more some_text first ∙ ap (λ (h : Heard). Some h) (wrong_both (nat_lt max_line (length (text ++ more))) (heard_as (request_of (fields_of (text ++ more)))) (ap heard_as (none more)))
 
--- a line that is too long, whether a carriage return ends it or not
-pub item_of-long : (line : List ℕ) → 4194305 < length line → get_or line 0 0 ≢ 35 → item_of line ≡ Some (Wrong Malformed)
-item_of-long line long first =
-    let shorter = length-strip line in
-    item_of_text-long (strip_carriage_return line) (omega arith)
-    (λ e. first (sym (strip_carriage_return-first line (λ _. omega arith)) ∙ e))
+space_on : (more : List ℕ) → item_of_text (32 ∷ more) ≡ Some (Wrong Faults.Malformed)
+space_on more = malformed_on (32 ∷ []) more (omega arith) (λ e. omega arith) (λ more. refl)
 
--- a text that is neither, and not too long
-pub item_of_text-spelled : (text : List ℕ) → 0 < length text → length text ≤ 4194304 → get_or text 0 0 ≢ 35 → item_of_text text ≡ Some (spelled text)
-item_of_text-spelled [] some short first = absurd (omega arith)
-item_of_text-spelled (b ∷ bs) some short first = rw (ne_eqb b 35 first, le-ltb 4194304 (length (b ∷ bs)) short) refl
+-- a text that spells no request, however it goes on
+pub says_malformed : (text : List ℕ) → 0 < length text → slice_index text 0 ≢ 35 → AsksNothing text → SaysAs text (32 ∷ [])
+says_malformed text some_text first none more = malformed_on text more some_text first none ∙ sym (space_on more)
 
-first-append : (xs ys : List ℕ) → 0 < length xs → get_or (xs ++ ys) 0 0 ≡ get_or xs 0 0
-first-append [] ys some = absurd (omega arith)
-first-append (x ∷ xs) ys some = refl
+-- ---- words
 
-some_first : (xs : List ℕ) → get_or xs 0 0 ≡ 35 → 0 < length xs
-some_first [] first = absurd (omega arith)
-some_first (x ∷ xs) first = omega arith
+command_short : (operation : Operation) → length (command_of operation) ≤ 12
+command_short Operations.Create = omega arith
+command_short Operations.Append = omega arith
+command_short Operations.Write = omega arith
+command_short Operations.StartAppend = omega arith
+command_short Operations.StartWrite = omega arith
+command_short Operations.Finish = omega arith
+command_short Operations.Read = omega arith
+command_short Operations.Recent = omega arith
+command_short Operations.Size = omega arith
+command_short Operations.Sync = omega arith
+command_short Operations.Status = omega arith
+command_short Operations.Branch = omega arith
+command_short Operations.Quit = omega arith
 
-IsWithout-append : (xs ys : List ℕ) → IsWithout 10 xs → IsWithout 10 ys → IsWithout 10 (xs ++ ys)
-IsWithout-append xs ys = All-append (λ b. (b == 10) ≡ false) xs ys
+letter_inside : (front : List ℕ) (b : ℕ) (back : List ℕ) → All IsLetter (front ++ b ∷ back) → IsLetter b
+letter_inside [] b back h = All-head IsLetter b back h
+letter_inside (x ∷ front) b back h = letter_inside front b back (All-tail IsLetter x (front ++ b ∷ back) h)
 
--- of a comment no byte but the first matters
-comment_goes_on : (xs ys : List ℕ) → IsWithout 10 xs → IsWithout 10 ys → get_or xs 0 0 ≡ 35 → get_or ys 0 0 ≡ 35 → GoesOnAs xs ys
-comment_goes_on xs ys xs_without ys_without xs_first ys_first =
-    goes_on xs ys xs_without ys_without
-    (λ zs. item_of-comment (xs ++ zs) (first-append xs zs (some_first xs xs_first) ∙ xs_first)
-    ∙ sym (item_of-comment (ys ++ zs) (first-append ys zs (some_first ys ys_first) ∙ ys_first)))
+-- a byte that makes a word no command's
+word_stops : (word : List ℕ) (byte : ℕ) → All IsLetter word → byte ≢ 32 → ((IsLetter byte → ⊥) ⊎ (12 ≤ length word)) → AsksNothing (word ++ byte ∷ [])
+word_stops word byte letters other why more =
+    let first = slice_split_has 32 more in
+    let joined : IsWithout 32 (word ++ byte ∷ []) = All-push (λ b. (b == 32) ≡ false) word byte (solid_without word (letters_solid word letters)) (ne_eqb byte 32 other) in
+    let text : List ℕ = (word ++ byte ∷ []) ++ first.first in
+    ap (λ (fs : List (List ℕ)). request_of fs) (split_behind 32 (word ++ byte ∷ []) more first joined)
+    ∙ no_command text first.others (no why)
+  where
+    no : ((IsLetter byte → ⊥) ⊎ (12 ≤ length word)) → (operation : Operation) → ((word ++ byte ∷ []) ++ (slice_split_has 32 more).first) ≢ command_of operation
+    no (inl bad) operation e =
+        bad (letter_inside word byte (slice_split_has 32 more).first (subst (λ (l : List ℕ). All IsLetter l) (sym (sym (append_assoc word (byte ∷ []) (slice_split_has 32 more).first) ∙ e)) (command_letters operation)))
+    no (inr long) operation e =
+        let a = length-append (word ++ byte ∷ []) (slice_split_has 32 more).first in
+        let b = length-append word (byte ∷ []) in
+        let c : length ((word ++ byte ∷ []) ++ (slice_split_has 32 more).first) ≡ length (command_of operation) = ap (λ (l : List ℕ). length l) e in
+        let d = command_short operation in
+        omega arith
 
--- of a line that is too long, no byte matters
-long_goes_on : (xs ys : List ℕ) → IsWithout 10 xs → IsWithout 10 ys → 4194305 < length xs → 4194305 < length ys →
-    get_or xs 0 0 ≢ 35 → get_or ys 0 0 ≢ 35 → GoesOnAs xs ys
-long_goes_on xs ys xs_without ys_without xs_long ys_long xs_first ys_first =
-    goes_on xs ys xs_without ys_without
-    (λ zs. item_of-long (xs ++ zs) (omega (arith, length-append xs zs)) (λ e. xs_first (sym (first-append xs zs (omega arith)) ∙ e))
-    ∙ sym (item_of-long (ys ++ zs) (omega (arith, length-append ys zs)) (λ e. ys_first (sym (first-append ys zs (omega arith)) ∙ e))))
+word_first : (word : List ℕ) (byte : ℕ) → All IsLetter word → (byte ≡ 35 → 0 < length word) → slice_index (word ++ byte ∷ []) 0 ≢ 35
+word_first [] byte letters mark e = absurd (omega (arith, mark e))
+word_first (b ∷ bs) byte letters mark e = let solid = letter_solid b (All-head IsLetter b bs letters) in omega arith
 
--- ---- the bytes that stand for a line that is too long
+pub word_malformed : (word : List ℕ) (byte : ℕ) → All IsLetter word → byte ≢ 32 → (byte ≡ 35 → 0 < length word) → ((IsLetter byte → ⊥) ⊎ (12 ≤ length word)) → SaysAs (word ++ byte ∷ []) (32 ∷ [])
+word_malformed word byte letters other mark why =
+    let l = length-append word (byte ∷ []) in
+    says_malformed (word ++ byte ∷ []) (omega arith) (word_first word byte letters mark) (word_stops word byte letters other why)
 
-abbrev long_line : List ℕ
-long_line = replicate too_long 0
+-- a space behind what is no command
+pub unknown_stops : (word : List ℕ) → All IsLetter word → ((operation : Operation) → word ≢ command_of operation) → SaysAs (word ++ 32 ∷ []) (32 ∷ [])
+unknown_stops word letters unknown =
+    let l = length-append word (32 ∷ []) in
+    says_malformed (word ++ 32 ∷ []) (omega arith) (word_first word 32 letters (λ e. omega arith))
+    (λ more.
+    ap (λ (t : List ℕ). request_of (fields_of t)) (append_assoc word (32 ∷ []) more)
+    ∙ ap (λ (fs : List (List ℕ)). request_of fs) (fields_of-cut word more (solid_without word (letters_solid word letters)))
+    ∙ no_command word (fields_of more) unknown)
 
-too_long-is : too_long ≡ 4194306
-unfolding too_long
-too_long-is = refl
+-- a command that may not stand alone
+pub not_bare : (operation : Operation) → operation ≢ Operations.Create → operation ≢ Operations.Quit → request_in forms (command_of operation) [] ≡ None
+not_bare Operations.Create a b = absurd (a refl)
+not_bare Operations.Append a b = refl
+not_bare Operations.Write a b = refl
+not_bare Operations.StartAppend a b = refl
+not_bare Operations.StartWrite a b = refl
+not_bare Operations.Finish a b = refl
+not_bare Operations.Read a b = refl
+not_bare Operations.Recent a b = refl
+not_bare Operations.Size a b = refl
+not_bare Operations.Sync a b = refl
+not_bare Operations.Status a b = refl
+not_bare Operations.Branch a b = refl
+not_bare Operations.Quit a b = absurd (b refl)
 
-length-too_long : 4194305 < length (long_line)
-length-too_long = omega (arith, length-replicate {A = ℕ} too_long 0, too_long-is)
+-- a line that is no more than a word
+pub word_asks : (word : List ℕ) → All IsLetter word → request_of (fields_of word) ≡ request_in forms word []
+word_asks word letters = ap (λ (fs : List (List ℕ)). request_of fs) (fields_of-one word (solid_without word (letters_solid word letters)))
 
-first-too_long : get_or (long_line) 0 0 ≢ 35
-first-too_long e = let z : get_or (long_line) 0 0 ≡ 0 = get_or-replicate too_long 0 0 0 (omega (arith, too_long-is)) in omega arith
+pub word_whole : (word : List ℕ) → All IsLetter word → 0 < length word → length word ≤ 4194304 → item_of_text word ≡ Some (heard_as (request_of (fields_of word)))
+word_whole word letters some_word short = let plain = letters_plain word letters in says_whole word some_word plain.no_mark short
 
-without-too_long : IsWithout 10 (long_line)
-without-too_long = All-replicate (λ b. (b == 10) ≡ false) too_long 0 refl
+-- ---- carriage returns
 
--- what the item of such a line is
-pub begun-too_long : (line : List ℕ) → long_line ≡ line → Some (Wrong Malformed) ≡ item_of line
-begun-too_long line e = sym (item_of-long (long_line) length-too_long first-too_long) ∙ ap (λ (l : List ℕ). item_of l) e
+-- a line without its byte at that place, where it is a carriage return
+abbrev strip_at : ℕ → List ℕ → List ℕ
+strip_at n l = cond (slice_index l n == 13) (take n l) l
 
--- ---- how a line grows
+strip_at-cons : (n x : ℕ) (l : List ℕ) → strip_at (suc n) (x ∷ l) ≡ x ∷ strip_at n l
+strip_at-cons n x l = go (slice_index l n == 13)
+  where
+    go : (b : Bool) → cond b (x ∷ take n l) (x ∷ l) ≡ x ∷ cond b (take n l) l
+    go true = refl
+    go false = refl
 
--- one of which no bytes are kept stays so
-pub comment_grows : (line more : List ℕ) → 35 ∷ [] ≡ line → IsWithout 10 line → IsWithout 10 more → GoesOnAs (line ++ more) line
-comment_grows line more e line_without more_without =
-    let first : get_or line 0 0 ≡ 35 = sym (ap (λ (l : List ℕ). get_or l 0 0) e) in
-    comment_goes_on (line ++ more) line (IsWithout-append line more line_without more_without) line_without
-    (first-append line more (some_first line first) ∙ first) first
+strip-cons : (x : ℕ) (l : List ℕ) → 0 < length l → strip_carriage_return (x ∷ l) ≡ x ∷ strip_carriage_return l
+strip-cons x l some_more =
+    let n : ℕ = length l - 1 in
+    let here : length (x ∷ l) - 1 ≡ suc n = omega arith in
+    ap (λ (m : ℕ). strip_at m (x ∷ l)) here ∙ strip_at-cons n x l
 
-pub too_long_grows : (line more : List ℕ) → long_line ≡ line → IsWithout 10 line → IsWithout 10 more → GoesOnAs (line ++ more) line
-too_long_grows line more e line_without more_without =
-    let long : 4194305 < length line = omega (arith, length-too_long, ap (λ (l : List ℕ). length l) e) in
-    let first : get_or line 0 0 ≢ 35 = λ f. first-too_long (ap (λ (l : List ℕ). get_or l 0 0) e ∙ f) in
-    long_goes_on (line ++ more) line (IsWithout-append line more line_without more_without) line_without
-    (omega (arith, length-append line more)) long
-    (λ f. first (sym (first-append line more (omega arith)) ∙ f)) first
+strip-append : (text more : List ℕ) → 0 < length more → strip_carriage_return (text ++ more) ≡ text ++ strip_carriage_return more
+strip-append [] more some_more = refl
+strip-append (x ∷ text) more some_more =
+    let l = length-append text more in
+    strip-cons x (text ++ more) (omega arith) ∙ ap (λ (t : List ℕ). x ∷ t) (strip-append text more some_more)
 
-pub dropped_grows : (kept : Kept) (bytes line more : List ℕ) → (kept ≡ Comment) ⊎ (kept ≡ TooLong) → begun kept bytes ≡ line →
-    IsWithout 10 line → IsWithout 10 more → GoesOnAs (line ++ more) line
-dropped_grows Whole bytes line more which e line_without more_without = absurd (⊎_elim (λ f. cc) (λ f. cc) which)
-dropped_grows Comment bytes line more which e line_without more_without = comment_grows line more e line_without more_without
-dropped_grows TooLong bytes line more which e line_without more_without = too_long_grows line more e line_without more_without
+strip-plain : (text : List ℕ) → IsWithout 13 text → strip_carriage_return text ≡ text
+strip-plain [] h = refl
+strip-plain (b ∷ bs) h = rw (h (length (b ∷ bs) - 1) 0 (omega arith)) refl
 
--- of one of which all bytes are kept, they are the line
-pub whole_is : (kept : Kept) (bytes line : List ℕ) → kept ≡ Whole → begun kept bytes ≡ line → bytes ≡ line
-whole_is Whole bytes line which e = e
-whole_is Comment bytes line which e = absurd (cc)
-whole_is TooLong bytes line which e = absurd (cc)
+-- the item of a line that goes on behind a text
+pub item_behind : (text more : List ℕ) → 0 < length more → item_of (text ++ more) ≡ item_of_text (text ++ strip_carriage_return more)
+item_behind text more some_more = ap (λ (l : List ℕ). item_of_text l) (strip-append text more some_more)
 
-pub too_long_is : (kept : Kept) (bytes line : List ℕ) → kept ≡ TooLong → begun kept bytes ≡ line → replicate too_long 0 ≡ line
-too_long_is Whole bytes line which e = absurd (cc)
-too_long_is Comment bytes line which e = absurd (cc)
-too_long_is TooLong bytes line which e = e
-
--- one that turns out to be a comment
-pub becomes_comment : (line more new : List ℕ) → get_or (line ++ more) 0 0 ≡ 35 → new ≡ 35 ∷ [] → IsWithout 10 line → IsWithout 10 more → GoesOnAs (line ++ more) new
-becomes_comment line more new first e line_without more_without =
-    let is : get_or new 0 0 ≡ 35 = ap (λ (l : List ℕ). get_or l 0 0) e in
-    let without : IsWithout 10 new = subst (λ (l : List ℕ). IsWithout 10 l) (sym e) (All-cons (λ b. (b == 10) ≡ false) 35 [] refl (All-nil (λ b. (b == 10) ≡ false))) in
-    comment_goes_on (line ++ more) new (IsWithout-append line more line_without more_without) without first is
-
--- one that turns out to be too long
-pub becomes_too_long : (line more new : List ℕ) → get_or (line ++ more) 0 0 ≢ 35 → 4194305 < length line + length more → new ≡ long_line →
-    IsWithout 10 line → IsWithout 10 more → GoesOnAs (line ++ more) new
-becomes_too_long line more new first long e line_without more_without =
-    let without : IsWithout 10 new = subst (λ (l : List ℕ). IsWithout 10 l) (sym e) without-too_long in
-    let new_long : 4194305 < length new = omega (arith, length-too_long, ap (λ (l : List ℕ). length l) e) in
-    long_goes_on (line ++ more) new (IsWithout-append line more line_without more_without) without
-    (omega (arith, length-append line more)) new_long first
-    (λ f. first-too_long (sym (ap (λ (l : List ℕ). get_or l 0 0) e) ∙ f))
-
-drop-append-suc : (front : List ℕ) (b : ℕ) (back : List ℕ) → drop (suc (length front)) (front ++ b ∷ back) ≡ back
-drop-append-suc [] b back = refl
-drop-append-suc (x ∷ front) b back = drop-append-suc front b back
-
-drop-cut : (front back : List ℕ) → drop (length front + 1) (front ++ 10 ∷ back) ≡ back
-drop-cut front back = rw (add-one (length front)) (drop-append-suc front 10 back)
-
--- a line's end is taken off the script behind it
-pub line_ends : (line piece front back line' piece' : List ℕ) → piece ≡ front ++ 10 ∷ back → piece' ≡ drop (length front + 1) piece →
-    GoesOnAs (line ++ front) line' → IsWithout 10 line' → (more : List ℕ) → heard (line ++ (piece ++ more)) ≡ with_item (item_of line') (heard (piece' ++ more))
-line_ends line piece front back line' piece' cut rest goes without more =
-    let rest_is : piece' ≡ back = rest ∙ (ap (λ (l : List ℕ). drop (length front + 1) l) cut ∙ drop-cut front back) in
-    let text : line ++ (piece ++ more) ≡ (line ++ front) ++ (10 ∷ (back ++ more)) =
-    ap (λ (l : List ℕ). line ++ (l ++ more)) cut ∙ (ap (λ (l : List ℕ). line ++ l) (append_assoc front (10 ∷ back) more) ∙ sym (append_assoc line front (10 ∷ (back ++ more)))) in
-    ap (λ (l : List ℕ). heard l) text
-    ∙ (goes (10 ∷ (back ++ more)) ∙ (heard_line line' (back ++ more) without ∙ ap (λ (l : List ℕ). with_item (item_of line') (heard (l ++ more))) (sym rest_is)))
+pub item_plain : (text more : List ℕ) → IsWithout 13 text → item_of (text ++ more) ≡ item_of_text (text ++ strip_carriage_return more)
+item_plain text [] h = ap (λ (l : List ℕ). item_of_text (strip_carriage_return l)) (append-nil text) ∙ ap (λ (l : List ℕ). item_of_text l) (strip-plain text h ∙ sym (append-nil text))
+item_plain text (b ∷ bs) h = item_behind text (b ∷ bs) (omega arith)

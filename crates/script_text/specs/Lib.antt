@@ -2,4 +2,6 @@ pub mod Fields
 pub mod Requests
 pub mod Lines
 pub mod Said
+pub mod Commands
+pub mod Decoded
 pub mod Begun

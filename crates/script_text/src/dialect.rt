@@ -1,7 +1,6 @@
 ghost use Rattle.std.specs.Prelude.{◌≡◌, ◌++◌, [], ◌<◌, length, Ok, true, IfOk, OnOk};
 ghost use Rattle.script_text.specs.Begun.{IsWithout, TakesLine, TakesItem};
 
-use crate::cut::cut_at;
 use crate::line::Line;
 use crate::reply::reply_line;
 use blob_model::Bytes;
@@ -14,14 +13,13 @@ const ROOM: usize = 65_536;
 
 /// The spelling of requests and replies as the lines of a script.
 ///
-/// It keeps the line that has begun and the bytes that were fed and not read yet, of a comment and of a line that is
-/// too long no bytes at all. Contracts see the bytes that were fed and not answered by `next`, or such as say the same
-/// however they go on.
+/// Of a line that isn't whole it keeps what was decoded, and of a comment and of a line that is certainly malformed no more
+/// than that. Contracts see the bytes that were fed and not answered by `next`, or such as say the same however they go on.
 #[derive(Drop)]
 pub struct ScriptDialect {
     alloc: Global,
     line: Line,
-    piece: Piece,
+    rest: Piece,
 }
 
 impl Model for ScriptDialect {
@@ -30,43 +28,35 @@ impl Model for ScriptDialect {
 
     ghost Value = { List ℕ };
 
-    ghost view = { λ d. d.line ++ d.piece };
+    ghost view = { λ d. d.line ++ d.rest };
 
     ghost invariant = { λ d. IsWithout 10 d.line };
 }
 
-// Moves bytes of the piece to the line, up to the line feed that ends it, and says whether there was one.
-fn take_line(line: &mut Line, piece: &mut Piece) -> Result<bool, NoMemory>
+// Moves bytes of the rest to the line, up to the line feed that ends it, and says whether there was one.
+fn take_line(line: &mut Line, rest: &mut Piece) -> Result<bool, NoMemory>
     requires { IsWithout 10 line.old }
-    ensures taken { IfOk result (λ ended. TakesLine line.old piece.old line.new piece.new ended) }
+    ensures taken { IfOk result (λ ended. TakesLine line.old rest.old line.new rest.new ended) }
     ensures line { IsWithout 10 line.new }
-    ensures less { result ≡ Ok true → length piece.new < length piece.old }
+    ensures less { result ≡ Ok true → length rest.new < length rest.old }
 {
-    match cut_at(piece.as_slice(), b'\n') {
-        Some((front, _)) => {
-            let count = front.len() + 1;
-            line.add(front)?;
-            piece.take(count);
-            Ok(true)
-        }
-        None => {
-            line.add(piece.as_slice())?;
-            let count = piece.as_slice().len();
-            piece.take(count);
-            Ok(false)
-        }
+    let count = line.take(rest.as_slice())?;
+    if count == rest.as_slice().len() {
+        rest.take(count);
+        return Ok(false);
     }
+    rest.take(count + 1);
+    Ok(true)
 }
 
 // Takes the next item off, and passes over the lines that have none.
-fn take_item(alloc: Global, line: &mut Line, piece: &mut Piece) -> Result<Option<Heard>, NoMemory>
+fn take_item(line: &mut Line, rest: &mut Piece) -> Result<Option<Heard>, NoMemory>
     requires { IsWithout 10 line.old }
-    ensures taken { IfOk result (λ item. TakesItem line.old piece.old line.new piece.new item) }
+    ensures taken { IfOk result (λ item. TakesItem line.old rest.old line.new rest.new item) }
     ensures line { IsWithout 10 line.new }
 {
-    'lines: while take_line(line, piece)? {
-        let item = line.item(alloc)?;
-        line.clear();
+    'lines: while take_line(line, rest)? {
+        let item = line.end();
         if item.is_some() {
             return Ok(item);
         }
@@ -82,7 +72,7 @@ impl ScriptDialect {
         Ok(ScriptDialect {
             alloc,
             line: Line::new(alloc),
-            piece: Piece::with_room(alloc, ROOM)?,
+            rest: Piece::with_room(alloc, ROOM)?,
         })
     }
 }
@@ -97,17 +87,23 @@ impl Dialect for ScriptDialect {
     ghost said = { said };
 
     fn feed(&mut self, piece: &[u8]) -> Result<(), NoMemory> {
-        self.piece.add(piece)
+        // Bytes of the line that has begun are decoded straight from the piece, where no others wait before them.
+        if self.rest.as_slice().is_empty() {
+            let taken = self.line.take(piece)?;
+            self.rest.add(&piece[taken..])
+        } else {
+            self.rest.add(piece)
+        }
     }
 
     fn next(&mut self) -> Result<Option<Heard>, NoMemory> {
-        take_item(self.alloc, &mut self.line, &mut self.piece)
+        take_item(&mut self.line, &mut self.rest)
     }
 
     fn end(&mut self) -> Result<Ending, NoMemory> {
-        match take_item(self.alloc, &mut self.line, &mut self.piece)? {
+        match take_item(&mut self.line, &mut self.rest)? {
             Some(_) => unreachable!(),
-            None => match self.line.item(self.alloc)? {
+            None => match self.line.end() {
                 None => Ok(Ending::Clean),
                 Some(heard) => Ok(Ending::Last(heard)),
             },

@@ -6,11 +6,10 @@
 
 ghost use Rattle.std.specs.Prelude.{◌≡◌};
 
-mod cut;
+mod command;
 mod dialect;
 mod fields;
 mod line;
 mod reply;
-mod request;
 
 pub use dialect::ScriptDialect;

@@ -1,113 +1,263 @@
-ghost use Rattle.std.specs.Prelude.{◌≡◌, ◌==◌, ◌++◌, [], slice_index, OnOk, IfOk};
-ghost use Rattle.script_text.specs.Lines.{item_of};
-ghost use Rattle.script_text.specs.Begun.{IsWithout, GoesOnAs, begun};
+ghost use Rattle.std.specs.Prelude.{◌≡◌, ◌≢◌, ◌≤◌, ◌+◌, ◌∷◌, ◌++◌, [], length, true, false, IfOk, OnErr, OnOk};
+ghost use Rattle.std.specs.Bool.{MatchBool};
+ghost use Rattle.std.specs.List.{All};
+ghost use Rattle.script_text.specs.Requests.{forms, request_in, request_of};
+ghost use Rattle.script_text.specs.Commands.{command_of};
+ghost use Rattle.script_text.specs.Lines.{fields_of, heard_as, item_of_text, item_of};
+ghost use Rattle.script_text.specs.Begun.{IsWithout, GoesOnAs, SaysAs, IsLetter, begun_text, IsBegun, Counts, IsTooLong, AddsShort, TakesFront};
+ghost use Rattle.script_text.specs.Begun as spec;
 
-use crate::request::{MAX_LINE, item};
-use request_form::{Fault, Heard, NoMemory};
+use crate::command::operation_of;
+use crate::fields::Fields;
+use arrayvec::ArrayVec;
+use frame_wire::Operation;
+use request_form::{Fault, Heard, NoMemory, Request};
 use std::alloc::Global;
 use std::marker::Model;
+use std::mem;
 
-/// Which bytes of a line are kept.
-#[derive(Clone, Copy)]
-pub enum Kept {
-    /// All of them.
-    Whole,
-    /// None: the line begins with `#`.
-    Comment,
-    /// None: the line is longer than a line may be, and doesn't begin with `#`.
-    TooLong,
-}
+// The most bytes of a line, its end not counted.
+const MAX_LINE: usize = 4_194_304;
 
-/// A line that has begun. It keeps at most one byte more than a line may have.
+/// What has come of a line, decoded, but for a carriage return at its end.
 #[derive(Drop)]
-pub struct Line {
-    bytes: Vec<u8>,
-    kept: Kept,
+pub enum Begun {
+    /// Letters of its command.
+    Word(ArrayVec<u8, 12>),
+    /// Its command, and what has come of the fields behind it.
+    Asked(Fields),
+    /// A line that begins with `#`.
+    Comment,
+    /// A line that is certainly malformed.
+    Malformed,
 }
 
-impl Model for Line {
-    ghost use Rattle.std.specs.Prelude.{ℕ, List};
-
-    ghost Value = { List ℕ };
-
-    ghost use Rattle.script_text.specs.Begun.{begun};
-
-    ghost view = { λ l. begun l.kept l.bytes.items };
-
-    ghost use Rattle.std.specs.Prelude.{◌≤◌, length};
-
-    ghost invariant = { λ l. length l.bytes.items ≤ 4194305 };
-}
-
-// Whether a line that began so, and goes on so, begins with `#`.
-fn begins_comment(begun: &[u8], more: &[u8]) -> bool
-    ensures { result ≡ (slice_index (begun.now ++ more.now) 0 == 35) }
+// Whether a command may have this byte.
+fn is_letter(byte: u8) -> bool
+    ensures { MatchBool result (IsLetter byte) (IsLetter byte → ⊥) }
 {
-    match (begun, more) {
-        ([first, ..], _) | ([], [first, ..]) => *first == b'#',
-        ([], []) => false,
+    byte.is_ascii_lowercase() || byte == b'-'
+}
+
+// A line whose first field is whole.
+fn asked(alloc: Global, word: &[u8]) -> Begun
+    requires { All IsLetter word.now }
+    ensures begun { IsBegun result }
+    ensures counts { Counts result (length word.now + 1) }
+    ensures says { SaysAs (word.now ++ 32 ∷ []) (begun_text result) }
+{
+    match operation_of(word) {
+        None => Begun::Malformed,
+        Some(operation) => match Fields::of(alloc, operation) {
+            None => Begun::Malformed,
+            Some(fields) => Begun::Asked(fields),
+        },
     }
 }
 
+// One more byte of a line that has no space yet.
+fn add_to_word(alloc: Global, mut word: ArrayVec<u8, 12>, byte: u8) -> Begun
+    requires { IsBegun (Begun.Word word) }
+    ensures { spec.Adds (Begun.Word word) byte result }
+{
+    if byte == b' ' {
+        return asked(alloc, word.as_slice());
+    }
+    if byte == b'#' && word.is_empty() {
+        return Begun::Comment;
+    }
+    if !is_letter(byte) {
+        return Begun::Malformed;
+    }
+    if word.is_full() {
+        return Begun::Malformed;
+    }
+    word.push(byte);
+    Begun::Word(word)
+}
+
+// One more byte of a line, which isn't its end.
+fn add(alloc: Global, begun: Begun, byte: u8) -> Result<Begun, NoMemory>
+    requires { IsBegun begun }
+    ensures { IfOk result (λ next. spec.Adds begun byte next) }
+{
+    match begun {
+        Begun::Word(word) => Ok(add_to_word(alloc, word, byte)),
+        Begun::Asked(mut fields) => {
+            if fields.add(byte)? {
+                Ok(Begun::Asked(fields))
+            } else {
+                Ok(Begun::Malformed)
+            }
+        }
+        Begun::Comment => Ok(Begun::Comment),
+        Begun::Malformed => Ok(Begun::Malformed),
+    }
+}
+
+// A line that has one byte more than a line may have.
+fn too_long(begun: Begun) -> Begun
+    ensures { IsTooLong begun result }
+{
+    match begun {
+        Begun::Comment => Begun::Comment,
+        _ => Begun::Malformed,
+    }
+}
+
+// The request of a command without fields, if it makes one.
+fn bare(operation: Operation) -> Option<Request>
+    ensures { result ≡ request_in forms (command_of operation) [] }
+{
+    match operation {
+        Operation::Create => Some(Request::Create),
+        Operation::Quit => Some(Request::Quit),
+        _ => None,
+    }
+}
+
+// The request of a line that is no more than a word, if it spells one.
+fn word_request(word: &[u8]) -> Option<Request>
+    requires { All IsLetter word.now }
+    ensures { result ≡ request_of (fields_of word.now) }
+{
+    match operation_of(word) {
+        None => None,
+        Some(operation) => bare(operation),
+    }
+}
+
+// What a line says that may be a request.
+fn heard(request: Option<Request>) -> Heard
+    ensures { result ≡ heard_as request }
+{
+    match request {
+        Some(request) => Heard::Asked(request),
+        None => Heard::Wrong(Fault::Malformed),
+    }
+}
+
+// What a line says, now that it has ended. An empty line and a comment say nothing.
+fn item(begun: Begun) -> Option<Heard>
+    requires begun { IsBegun begun }
+    requires short { length (begun_text begun) ≤ 4194304 }
+    ensures { result ≡ item_of_text (begun_text begun) }
+{
+    match begun {
+        Begun::Word(word) => {
+            if word.is_empty() {
+                return None;
+            }
+            Some(heard(word_request(word.as_slice())))
+        }
+        Begun::Asked(fields) => Some(heard(fields.into_request())),
+        Begun::Comment => None,
+        Begun::Malformed => Some(Heard::Wrong(Fault::Malformed)),
+    }
+}
+
+// One more byte of a line of `length` bytes, which isn't its end.
+fn push(alloc: Global, begun: &mut Begun, length: &mut usize, byte: u8) -> Result<(), NoMemory>
+    requires begun { IsBegun begun.old }
+    requires counts { Counts begun.old length.old }
+    requires short { length.old ≤ 4194304 }
+    ensures ok { OnOk result (AddsShort begun.old length.old byte begun.new length.new) }
+    ensures begun { IsBegun begun.new }
+    ensures counts { Counts begun.new length.new }
+    ensures short { length.new ≤ 4194304 }
+{
+    let was = mem::replace(begun, Begun::Malformed);
+    if *length == MAX_LINE {
+        *begun = too_long(was);
+        return Ok(());
+    }
+    *begun = add(alloc, was, byte)?;
+    *length += 1;
+    Ok(())
+}
+
+/// A line as it comes, decoded. Contracts see the bytes that have come, or such as say the same however they go on.
+#[derive(Drop)]
+pub struct Line {
+    alloc: Global,
+    begun: Begun,
+    // How many bytes have come, where the line may still be a request.
+    length: usize,
+    // A carriage return has come behind them.
+    returned: bool,
+}
+
+impl Model for Line {
+    ghost use Rattle.std.specs.Prelude.{ℕ, List, ◌++◌};
+
+    ghost Value = { List ℕ };
+
+    ghost use Rattle.script_text.specs.Begun.{begun_text, return_text, IsBegun, Counts};
+
+    ghost view = { λ l. begun_text l.begun ++ return_text l.returned };
+
+    ghost use Rattle.std.specs.Prelude.{◌≤◌};
+
+    ghost invariant = { λ l. IsBegun l.begun × Counts l.begun l.length × (l.length ≤ 4194304) };
+}
+
 impl Line {
-    /// A line with no byte.
+    /// A line of which nothing has come.
     pub fn new(alloc: Global) -> Line
         ensures { result ≡ [] }
     {
         Line {
-            bytes: Vec::new(alloc),
-            kept: Kept::Whole,
+            alloc,
+            begun: Begun::Word(ArrayVec::new()),
+            length: 0,
+            returned: false,
         }
     }
 
-    // Drops the line's bytes.
-    fn drop_bytes(&mut self, kept: Kept)
-        ensures { self.new ≡ begun kept [] }
-    {
-        self.bytes.clear();
-        self.kept = kept;
-    }
-
-    /// More bytes of the line.
-    pub fn add(&mut self, more: &[u8]) -> Result<(), NoMemory>
+    // One more byte of the line.
+    fn add(&mut self, byte: u8) -> Result<(), NoMemory>
+        requires byte { byte ≢ 10 }
         requires line { IsWithout 10 self.old }
-        requires more { IsWithout 10 more.now }
-        ensures ok { OnOk result (GoesOnAs (self.old ++ more.now) self.new) }
+        ensures ok { OnOk result (GoesOnAs (self.old ++ byte ∷ []) self.new) }
         ensures line { IsWithout 10 self.new }
     {
-        match self.kept {
-            Kept::Comment | Kept::TooLong => Ok(()),
-            Kept::Whole if begins_comment(self.bytes.as_slice(), more) => {
-                self.drop_bytes(Kept::Comment);
+        match (self.returned, byte == b'\r') {
+            (false, false) => push(self.alloc, &mut self.begun, &mut self.length, byte),
+            (false, true) => {
+                self.returned = true;
                 Ok(())
             }
-            Kept::Whole if more.len() > MAX_LINE + 1 - self.bytes.len() => {
-                self.drop_bytes(Kept::TooLong);
-                Ok(())
+            (true, true) => push(self.alloc, &mut self.begun, &mut self.length, byte),
+            (true, false) => {
+                push(self.alloc, &mut self.begun, &mut self.length, b'\r')?;
+                self.returned = false;
+                push(self.alloc, &mut self.begun, &mut self.length, byte)
             }
-            Kept::Whole => match self.bytes.extend_from_slice(more) {
-                Ok(()) => Ok(()),
-                Err(_) => Err(NoMemory),
-            },
         }
     }
 
-    /// What the line says, now that it has ended.
-    pub fn item(&self, alloc: Global) -> Result<Option<Heard>, NoMemory>
-        ensures { IfOk result (λ item. item ≡ item_of self.now) }
+    /// Takes bytes of the line off the front of a piece: all there are, or all before a line feed. Answers how many.
+    pub fn take(&mut self, piece: &[u8]) -> Result<usize, NoMemory>
+        requires { IsWithout 10 self.old }
+        ensures ok { IfOk result (TakesFront self.old piece.now self.new) }
+        ensures line { IsWithout 10 self.new }
     {
-        match self.kept {
-            Kept::Whole => item(alloc, self.bytes.as_slice()),
-            Kept::Comment => Ok(None),
-            Kept::TooLong => Ok(Some(Heard::Wrong(Fault::Malformed))),
+        let mut count = 0;
+        'bytes: while count < piece.len() && piece[count] != b'\n' {
+            self.add(piece[count])?;
+            count += 1;
         }
+        Ok(count)
     }
 
-    /// Begins the next line.
-    pub fn clear(&mut self)
-        ensures { self.new ≡ [] }
+    /// What the line says, now that it has ended; the next one begins then.
+    pub fn end(&mut self) -> Option<Heard>
+        ensures item { result ≡ item_of self.old }
+        ensures next { self.new ≡ [] }
     {
-        self.bytes.clear();
-        self.kept = Kept::Whole;
+        let begun = mem::replace(&mut self.begun, Begun::Word(ArrayVec::new()));
+        self.length = 0;
+        self.returned = false;
+        item(begun)
     }
 }

@@ -5,9 +5,9 @@ use Rattle.script_text.proofs.dialect.take_item.Given as goal
 
 abbrev pub invariant-lines : goal.invariant-lines
 invariant-lines l = record {
-  same : (more : List ℕ) → heard (l.fn.line ++ (l.fn.piece ++ more)) ≡ heard (l.line ++ (l.piece ++ more));
+  same : (more : List ℕ) → heard (l.fn.line ++ (l.fn.rest ++ more)) ≡ heard (l.line ++ (l.rest ++ more));
   line : IsWithout 10 l.line;
 }
 
 abbrev pub decreases-lines : goal.decreases-lines
-decreases-lines l = length l.piece
+decreases-lines l = length l.rest

@@ -1,9 +1,15 @@
-use Rattle.std.proofs.Common.{sym, ◌∙◌}
-use Rattle.script_text.proofs.TextLemmas.{line_ends}
+use Rattle.std.proofs.Common.{◌≡◌, ◌<◌, ℕ, List, length, ap, subst, arith}
+use Rattle.script_text.specs.Begun.{TakesFront}
+use Rattle.script_text.proofs.DialectLemmas.{line_ends}
 use Rattle.script_text.proofs.dialect.take_line.Goals as goal
 
-pub returns-in_ok-add-in-Some-clause-taken : goal.returns-in_ok-add-in-Some-clause-taken
-returns-in_ok-add-in-Some-clause-taken c =
-    let cut = c.in-Some.ensures in
-    line_ends c.args.line.now c.args.piece.now c.in-Some.front.now c.in-Some.field-0-1.now c.add.new.self c.take.new.self
-    (sym c.as_slice.ensures ∙ cut.0) c.take.ensures c.in_ok-add-in-Some.ensures.ok c.in_ok-add-in-Some.ensures.line
+pub returns-clause-taken : goal.returns-clause-taken
+returns-clause-taken c =
+    let count = c.in_ok-count.count in
+    let takes : List ℕ → Type 0 = λ l. TakesFront c.args.line.now l c.take.new.self count in
+    let t = subst takes c.as_slice.ensures c.in_ok-count.ensures.ok in
+    let within = t.within in
+    let all : length c.as_slice-2.result.now ≡ length c.args.rest.now = ap (λ (l : List ℕ). length l) c.as_slice-2.ensures in
+    let other = c.if-count-as_slice.false in
+    let less : count < length c.args.rest.now = omega arith in
+    line_ends c.args.line.now c.args.rest.now c.take.new.self c.take-2.new.self count t less c.take-2.ensures

@@ -1,15 +1,15 @@
-use Rattle.std.proofs.Common.{◌≡◌, ℕ, List, ◌++◌, Result, Ok, Err, OnOk, sym, ap, ◌∙◌, append_assoc}
-use Rattle.script_text.specs.Lines.{heard}
+use Rattle.script_text.proofs.DialectLemmas.{fed, fed_straight, none_left, as_added, tail_is}
 use Rattle.script_text.proofs.dialect.ScriptDialectDialect.feed.Goals as goal
 
--- bytes put behind the rest stand behind all that was fed
-fed : {E : Type 0} (r : Result (Unit {0}) E) (line rest rest' was piece : List ℕ) → line ++ rest ≡ was → OnOk r (rest' ≡ rest ++ piece) →
-    OnOk r ((more : List ℕ) → heard ((line ++ rest') ++ more) ≡ heard (was ++ (piece ++ more)))
-fed (Ok u) line rest rest' was piece is h = λ more.
-    ap (λ (l : List ℕ). heard ((line ++ l) ++ more)) h
-    ∙ (ap (λ (l : List ℕ). heard (l ++ more)) (sym (append_assoc line rest piece))
-    ∙ (ap (λ (l : List ℕ). heard ((l ++ piece) ++ more)) is ∙ ap (λ (l : List ℕ). heard l) (append_assoc was piece more)))
-fed (Err e) line rest rest' was piece is h = tt
+pub returns-in_ok-taken : goal.returns-in_ok-taken
+returns-in_ok-taken c =
+    let d = c.self.inside in
+    let taken = c.in_ok-taken.taken in
+    let takes = c.in_ok-taken.ensures.ok in
+    fed_straight c.add.result d.line d.rest c.take.new.self c.add.new.self c.args.self.now c.args.piece.now taken c.self.view_is
+    (none_left c.as_slice.result.now d.rest c.is_empty.result c.as_slice.ensures c.is_empty.ensures c.if-is_empty.true) takes
+    (as_added c.add.result c.add.new.self d.rest _ _ (tail_is c.args.piece.now taken takes.within) c.add.ensures)
 
-pub returns : goal.returns
-returns c = fed c.add.result c.self.inside.line c.self.inside.piece c.add.new.self c.args.self.now c.args.piece.now c.self.view_is c.add.ensures
+pub returns-else-is_empty : goal.returns-else-is_empty
+returns-else-is_empty c =
+    fed c.add-else-is_empty.result c.self.inside.line c.self.inside.rest c.add-else-is_empty.new.self c.args.self.now c.args.piece.now c.self.view_is c.add-else-is_empty.ensures

@@ -1,0 +1,100 @@
+-- A line as its bytes come, a carriage return among them.
+use Rattle.std.proofs.Common.{◌≡◌, ◌≢◌, ◌∙◌, ℕ, ◌==◌, Bool, true, false, List, [], ◌∷◌, ◌++◌, Result, Ok, Err, OnOk, sym, ap, subst, arith, append_assoc, append-nil}
+use Rattle.std.specs.Str.Lines.{strip_carriage_return}
+use Rattle.std.proofs.lemmas.Bool.{ne_eqb}
+use Rattle.std.proofs.lemmas.List.Elements.{All-nil, All-cons, All-push, All-append}
+use Rattle.script_text.specs.Lines.{item_of_text, item_of, heard}
+use Rattle.script_text.specs.Begun.{IsWithout, GoesOnAs, begun_text, IsBegun, AddsShort, return_text}
+use Rattle.script_text.specs.declared.line.Begun.{Begun}
+use Rattle.script_text.specs.declared.line.Begun.TheVariants.{Word, Asked, Comment, Malformed}
+use Rattle.script_text.proofs.HeardLemmas.{goes_on}
+use Rattle.script_text.proofs.DecodedLemmas.{letters_plain}
+use Rattle.script_text.proofs.TextLemmas.{item_behind, item_plain}
+
+one_without : (c b : ℕ) → b ≢ c → IsWithout c (b ∷ [])
+one_without c b h = All-cons (λ x. (x == c) ≡ false) b [] (ne_eqb b c h) (All-nil (λ x. (x == c) ≡ false))
+
+begun_without : (b : Begun) → IsBegun b → IsWithout 10 (begun_text b) × IsWithout 13 (begun_text b)
+begun_without (Word word) h = let plain = letters_plain word.items h in (plain.no_feed, plain.no_return)
+begun_without (Asked text) h = (h.0.no_feed, h.0.no_return)
+begun_without Comment h = (one_without 10 35 (λ e. omega arith), one_without 13 35 (λ e. omega arith))
+begun_without Malformed h = (one_without 10 32 (λ e. omega arith), one_without 13 32 (λ e. omega arith))
+
+return_without : (r : Bool) → IsWithout 10 (return_text r)
+return_without true = one_without 10 13 (λ e. omega arith)
+return_without false = All-nil (λ x. (x == 10) ≡ false)
+
+-- no line feed stands in a line
+pub line_without : (b : Begun) (r : Bool) → IsBegun b → IsWithout 10 (begun_text b ++ return_text r)
+line_without b r h = let text = begun_without b h in All-append (λ x. (x == 10) ≡ false) (begun_text b) (return_text r) text.0 (return_without r)
+
+-- what a whole line says
+pub item_whole : (b : Begun) (r : Bool) → IsBegun b → item_of (begun_text b ++ return_text r) ≡ item_of_text (begun_text b)
+item_whole b true h = item_behind (begun_text b) (13 ∷ []) (omega arith) ∙ ap (λ (l : List ℕ). item_of_text l) (append-nil (begun_text b))
+item_whole b false h = let text = begun_without b h in item_plain (begun_text b) [] text.1 ∙ ap (λ (l : List ℕ). item_of_text l) (append-nil (begun_text b))
+
+-- ---- one more byte
+
+push_without : (line : List ℕ) (byte : ℕ) → byte ≢ 10 → IsWithout 10 line → IsWithout 10 (line ++ byte ∷ [])
+push_without line byte other h = All-push (λ x. (x == 10) ≡ false) line byte h (ne_eqb byte 10 other)
+
+no_return : (text : List ℕ) → text ++ return_text false ≡ text
+no_return text = append-nil text
+
+-- of the text
+text_on : (old new : Begun) (n byte n' : ℕ) → IsBegun old → byte ≢ 10 → byte ≢ 13 → AddsShort old n byte new n' → (zs : List ℕ) → item_of ((begun_text old ++ byte ∷ []) ++ zs) ≡ item_of (begun_text new ++ zs)
+text_on old new n byte n' begun feed other a zs =
+    let was = begun_without old begun in
+    let now = begun_without new a.begun_well in
+    item_plain (begun_text old ++ byte ∷ []) zs (All-push (λ x. (x == 13) ≡ false) (begun_text old) byte was.1 (ne_eqb byte 13 other))
+    ∙ a.says (strip_carriage_return zs)
+    ∙ sym (item_plain (begun_text new) zs now.1)
+
+-- a carriage return that wasn't the line's end
+return_on : (old new : Begun) (n byte n' : ℕ) → AddsShort old n 13 new n' → (zs : List ℕ) → item_of (((begun_text old ++ 13 ∷ []) ++ byte ∷ []) ++ zs) ≡ item_of ((begun_text new ++ byte ∷ []) ++ zs)
+return_on old new n byte n' a zs =
+    ap (λ (l : List ℕ). item_of l) (append_assoc (begun_text old ++ 13 ∷ []) (byte ∷ []) zs)
+    ∙ item_behind (begun_text old ++ 13 ∷ []) (byte ∷ zs) (omega arith)
+    ∙ a.says (strip_carriage_return (byte ∷ zs))
+    ∙ sym (item_behind (begun_text new) (byte ∷ zs) (omega arith))
+    ∙ ap (λ (l : List ℕ). item_of l) (sym (append_assoc (begun_text new) (byte ∷ []) zs))
+
+pub add_plain : {E : Type 0} (r : Result (Unit {0}) E) (old new : Begun) (n byte n' : ℕ) (ret ret' : Bool) (line : List ℕ) → begun_text old ++ return_text ret ≡ line → ret ≡ false → ret' ≡ false → IsBegun old → byte ≢ 10 → byte ≢ 13
+    → OnOk r (AddsShort old n byte new n') → OnOk r (GoesOnAs (line ++ byte ∷ []) (begun_text new ++ return_text ret'))
+add_plain (Err e) old new n byte n' ret ret' line seen none none' begun feed other a = tt
+add_plain (Ok u) old new n byte n' ret ret' line seen none none' begun feed other a =
+    let text : line ≡ begun_text old = sym seen ∙ ap (λ (b : Bool). begun_text old ++ return_text b) none ∙ no_return (begun_text old) in
+    let next : begun_text new ≡ begun_text new ++ return_text ret' = sym (ap (λ (b : Bool). begun_text new ++ return_text b) none' ∙ no_return (begun_text new)) in
+    let was = begun_without old begun in
+    let now = begun_without new a.begun_well in
+    let goes = goes_on (begun_text old ++ byte ∷ []) (begun_text new) (push_without (begun_text old) byte feed was.0) now.0 (text_on old new n byte n' begun feed other a) in
+    λ more. ap (λ (l : List ℕ). heard ((l ++ byte ∷ []) ++ more)) text ∙ goes more ∙ ap (λ (l : List ℕ). heard (l ++ more)) next
+
+pub add_twice : {E : Type 0} (r : Result (Unit {0}) E) (old new : Begun) (n byte n' : ℕ) (ret ret' : Bool) (line : List ℕ) → begun_text old ++ return_text ret ≡ line → ret ≡ true → ret' ≡ true → IsBegun old → byte ≡ 13
+    → OnOk r (AddsShort old n byte new n') → OnOk r (GoesOnAs (line ++ byte ∷ []) (begun_text new ++ return_text ret'))
+add_twice (Err e) old new n byte n' ret ret' line seen there there' begun is a = tt
+add_twice (Ok u) old new n byte n' ret ret' line seen there there' begun is a =
+    let b : AddsShort old n 13 new n' = subst (λ (x : ℕ). AddsShort old n x new n') is a in
+    let text : line ++ byte ∷ [] ≡ (begun_text old ++ 13 ∷ []) ++ 13 ∷ [] =
+    ap (λ (l : List ℕ). l ++ byte ∷ []) (sym seen ∙ ap (λ (t : Bool). begun_text old ++ return_text t) there) ∙ ap (λ (x : ℕ). (begun_text old ++ 13 ∷ []) ++ x ∷ []) is in
+    let next : begun_text new ++ 13 ∷ [] ≡ begun_text new ++ return_text ret' = ap (λ (t : Bool). begun_text new ++ return_text t) (sym there') in
+    let was = begun_without old begun in
+    let now = begun_without new b.begun_well in
+    let goes = goes_on ((begun_text old ++ 13 ∷ []) ++ 13 ∷ []) (begun_text new ++ 13 ∷ [])
+    (push_without (begun_text old ++ 13 ∷ []) 13 (λ e. omega arith) (push_without (begun_text old) 13 (λ e. omega arith) was.0)) (push_without (begun_text new) 13 (λ e. omega arith) now.0) (return_on old new n 13 n' b) in
+    λ more. ap (λ (l : List ℕ). heard (l ++ more)) text ∙ goes more ∙ ap (λ (l : List ℕ). heard (l ++ more)) next
+
+pub add_behind : {E : Type 0} (r : Result (Unit {0}) E) (old mid new : Begun) (n n' n'' byte : ℕ) (ret ret' : Bool) (line : List ℕ) → begun_text old ++ return_text ret ≡ line → ret ≡ true → ret' ≡ false → IsBegun old → byte ≢ 10 → byte ≢ 13
+    → AddsShort old n 13 mid n' → OnOk r (AddsShort mid n' byte new n'') → OnOk r (GoesOnAs (line ++ byte ∷ []) (begun_text new ++ return_text ret'))
+add_behind (Err e) old mid new n n' n'' byte ret ret' line seen there none begun feed other a b = tt
+add_behind (Ok u) old mid new n n' n'' byte ret ret' line seen there none begun feed other a b =
+    let text : line ++ byte ∷ [] ≡ (begun_text old ++ 13 ∷ []) ++ byte ∷ [] = ap (λ (l : List ℕ). l ++ byte ∷ []) (sym seen ∙ ap (λ (t : Bool). begun_text old ++ return_text t) there) in
+    let next : begun_text new ≡ begun_text new ++ return_text ret' = sym (ap (λ (t : Bool). begun_text new ++ return_text t) none ∙ no_return (begun_text new)) in
+    let was = begun_without old begun in
+    let now = begun_without new b.begun_well in
+    let goes = goes_on ((begun_text old ++ 13 ∷ []) ++ byte ∷ []) (begun_text new)
+    (push_without (begun_text old ++ 13 ∷ []) byte feed (push_without (begun_text old) 13 (λ e. omega arith) was.0)) now.0
+    (λ zs. return_on old mid n byte n' a zs ∙ text_on mid new n' byte n'' a.begun_well feed other b zs) in
+    λ more. ap (λ (l : List ℕ). heard (l ++ more)) text ∙ goes more ∙ ap (λ (l : List ℕ). heard (l ++ more)) next
+
+-- ---- more of a piece
