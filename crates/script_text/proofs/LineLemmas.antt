@@ -1,15 +1,18 @@
 -- A line as its bytes come, a carriage return among them.
-use Rattle.std.proofs.Common.{◌≡◌, ◌≢◌, ◌∙◌, ℕ, ◌==◌, Bool, true, false, List, [], ◌∷◌, ◌++◌, Result, Ok, Err, OnOk, sym, ap, subst, arith, append_assoc, append-nil}
+use Rattle.std.proofs.Common.{◌≡◌, ◌≢◌, ◌∙◌, ◌⊎◌, inl, inr, ℕ, ◌+◌, ◌-◌, ◌<◌, ◌≤◌, ◌==◌, Bool, true, false, List, [], ◌∷◌, ◌++◌, length, take, drop, slice_index, Option, Some, None, Result, Ok, Err, OnOk, refl, sym, ap, subst, arith, append_assoc, append-nil, take-add, length-drop, get_or-drop}
 use Rattle.std.specs.Str.Lines.{strip_carriage_return}
 use Rattle.std.proofs.lemmas.Bool.{ne_eqb}
 use Rattle.std.proofs.lemmas.List.Elements.{All-nil, All-cons, All-push, All-append}
 use Rattle.script_text.specs.Lines.{item_of_text, item_of, heard}
-use Rattle.script_text.specs.Begun.{IsWithout, GoesOnAs, begun_text, IsBegun, AddsShort, return_text}
+use Rattle.script_text.specs.Begun.{IsWithout, GoesOnAs, begun_text, IsBegun, AddsShort, return_text, IsDropped, TakesFront}
 use Rattle.script_text.specs.declared.line.Begun.{Begun}
 use Rattle.script_text.specs.declared.line.Begun.TheVariants.{Word, Asked, Comment, Malformed}
 use Rattle.script_text.proofs.HeardLemmas.{goes_on}
 use Rattle.script_text.proofs.DecodedLemmas.{letters_plain}
-use Rattle.script_text.proofs.TextLemmas.{item_behind, item_plain}
+use Rattle.script_text.proofs.TextLemmas.{item_behind, item_plain, space_on}
+use Rattle.request_form.specs.declared.form.Heard.{Heard}
+use Rattle.request_form.specs.declared.form.Heard.TheVariants.{Wrong}
+use Rattle.request_form.specs.declared.form.Fault.TheVariants as Faults
 
 one_without : (c b : ℕ) → b ≢ c → IsWithout c (b ∷ [])
 one_without c b h = All-cons (λ x. (x == c) ≡ false) b [] (ne_eqb b c h) (All-nil (λ x. (x == c) ≡ false))
@@ -98,3 +101,51 @@ add_behind (Ok u) old mid new n n' n'' byte ret ret' line seen there none begun 
     λ more. ap (λ (l : List ℕ). heard (l ++ more)) text ∙ goes more ∙ ap (λ (l : List ℕ). heard (l ++ more)) next
 
 -- ---- more of a piece
+
+-- ---- lines of which nothing is kept
+
+comment_item : (ws : List ℕ) → item_of (35 ∷ ws) ≡ None
+comment_item ws = item_plain (35 ∷ []) ws (one_without 13 35 (λ e. omega arith))
+
+malformed_item : (ws : List ℕ) → item_of (32 ∷ ws) ≡ Some (Wrong Faults.Malformed)
+malformed_item ws = item_plain (32 ∷ []) ws (one_without 13 32 (λ e. omega arith)) ∙ space_on (strip_carriage_return ws)
+
+dropped_by : (text : List ℕ) (r : Bool) (item : Option Heard) → IsWithout 10 text → ((ws : List ℕ) → item_of (text ++ ws) ≡ item) → IsDropped (text ++ return_text r)
+dropped_by text r item without same bytes bytes_without =
+    let line : List ℕ = text ++ return_text r in
+    let line_out : IsWithout 10 line = All-append (λ x. (x == 10) ≡ false) text (return_text r) without (return_without r) in
+    goes_on (line ++ bytes) line (All-append (λ x. (x == 10) ≡ false) line bytes line_out bytes_without) line_out
+    (λ zs.
+    ap (λ (l : List ℕ). item_of l) (append_assoc line bytes zs ∙ append_assoc text (return_text r) (bytes ++ zs))
+    ∙ same (return_text r ++ (bytes ++ zs))
+    ∙ sym (same (return_text r ++ zs))
+    ∙ ap (λ (l : List ℕ). item_of l) (sym (append_assoc text (return_text r) zs)))
+
+pub comment_dropped : (r : Bool) → IsDropped (begun_text Comment ++ return_text r)
+comment_dropped r = dropped_by (35 ∷ []) r None (one_without 10 35 (λ e. omega arith)) comment_item
+
+pub malformed_dropped : (r : Bool) → IsDropped (begun_text Malformed ++ return_text r)
+malformed_dropped r = dropped_by (32 ∷ []) r (Some (Wrong Faults.Malformed)) (one_without 10 32 (λ e. omega arith)) malformed_item
+
+pub is_dropped : (b : Begun) (r : Bool) (line : List ℕ) → begun_text b ++ return_text r ≡ line → (b ≡ Comment) ⊎ (b ≡ Malformed) → IsDropped line
+is_dropped b r line seen (inl e) = subst IsDropped (ap (λ (x : Begun). begun_text x ++ return_text r) (sym e) ∙ seen) (comment_dropped r)
+is_dropped b r line seen (inr e) = subst IsDropped (ap (λ (x : Begun). begun_text x ++ return_text r) (sym e) ∙ seen) (malformed_dropped r)
+
+-- all bytes of such a line come off a piece at once
+pub skips : (line piece now slice : List ℕ) (count more : ℕ) → count < length piece → slice ≡ drop count piece → IsWithout 10 now → GoesOnAs (line ++ take count piece) now → IsDropped now
+    → more ≤ length slice → IsWithout 10 (take more slice) → (more < length slice → slice_index slice more ≡ 10) → TakesFront line piece now (count + more)
+skips line piece now slice count more less is without before dropped within out enough =
+    let there : length slice ≡ length piece - count = ap (λ (l : List ℕ). length l) is ∙ length-drop count piece in
+    let part : take count piece ++ take more slice ≡ take (count + more) piece = ap (λ (l : List ℕ). take count piece ++ take more l) is ∙ sym (take-add count more piece) in
+    record {
+      within = omega arith;
+      goes_on = λ zs.
+          ap (λ (l : List ℕ). heard ((line ++ l) ++ zs)) (sym part)
+          ∙ ap (λ (l : List ℕ). heard (l ++ zs)) (sym (append_assoc line (take count piece) (take more slice)))
+          ∙ ap (λ (l : List ℕ). heard l) (append_assoc (line ++ take count piece) (take more slice) zs)
+          ∙ before (take more slice ++ zs)
+          ∙ ap (λ (l : List ℕ). heard l) (sym (append_assoc now (take more slice) zs))
+          ∙ dropped (take more slice) out zs;
+      without = without;
+      enough = λ short. sym (get_or-drop count piece more 0) ∙ ap (λ (l : List ℕ). slice_index l more) (sym is) ∙ enough (omega arith);
+    }

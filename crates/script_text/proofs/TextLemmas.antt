@@ -47,7 +47,7 @@ malformed_on : (text more : List ℕ) → 0 < length text → slice_index text 0
 malformed_on text more some_text first none =
     says_on text more some_text first ∙ ap (λ (h : Heard). Some h) (wrong_both (nat_lt max_line (length (text ++ more))) (heard_as (request_of (fields_of (text ++ more)))) (ap heard_as (none more)))
 
-space_on : (more : List ℕ) → item_of_text (32 ∷ more) ≡ Some (Wrong Faults.Malformed)
+pub space_on : (more : List ℕ) → item_of_text (32 ∷ more) ≡ Some (Wrong Faults.Malformed)
 space_on more = malformed_on (32 ∷ []) more (omega arith) (λ e. omega arith) (λ more. refl)
 
 -- a text that spells no request, however it goes on

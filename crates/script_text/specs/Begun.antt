@@ -72,6 +72,10 @@ abbrev pub return_text : Bool → List ℕ
 return_text true = 13 ∷ []
 return_text false = []
 
+-- whatever comes of the line says nothing more
+abbrev pub IsDropped : List ℕ → Type 0
+IsDropped line = (bytes : List ℕ) → IsWithout 10 bytes → GoesOnAs (line ++ bytes) line
+
 -- bytes of a line have come off the front of a piece: all of them, or all before a line feed
 pub record TakesFront (line piece line' : List ℕ) (count : ℕ) : Type 0 where
   pub within : count ≤ length piece

@@ -1,10 +1,10 @@
-ghost use Rattle.std.specs.Prelude.{◌≡◌, ◌≢◌, ◌≤◌, ◌+◌, ◌∷◌, ◌++◌, [], length, true, false, IfOk, OnErr, OnOk};
+ghost use Rattle.std.specs.Prelude.{◌≡◌, ◌≢◌, ◌<◌, ◌≤◌, ◌+◌, ◌∷◌, ◌++◌, [], length, take, slice_index, true, false, IfOk, OnErr, OnOk};
 ghost use Rattle.std.specs.Bool.{MatchBool};
 ghost use Rattle.std.specs.List.{All};
 ghost use Rattle.script_text.specs.Requests.{forms, request_in, request_of};
 ghost use Rattle.script_text.specs.Commands.{command_of};
 ghost use Rattle.script_text.specs.Lines.{fields_of, heard_as, item_of_text, item_of};
-ghost use Rattle.script_text.specs.Begun.{IsWithout, GoesOnAs, SaysAs, IsLetter, begun_text, IsBegun, Counts, IsTooLong, AddsShort, TakesFront};
+ghost use Rattle.script_text.specs.Begun.{IsWithout, GoesOnAs, SaysAs, IsLetter, begun_text, IsBegun, Counts, IsTooLong, AddsShort, IsDropped, TakesFront};
 ghost use Rattle.script_text.specs.Begun as spec;
 
 use crate::command::operation_of;
@@ -176,6 +176,18 @@ fn push(alloc: Global, begun: &mut Begun, length: &mut usize, byte: u8) -> Resul
     Ok(())
 }
 
+// How many bytes come before the line feed.
+fn before_line_feed(piece: &[u8]) -> usize
+    ensures within { result ≤ length piece.now }
+    ensures without { IsWithout 10 (take result piece.now) }
+    ensures enough { result < length piece.now → slice_index piece.now result ≡ 10 }
+{
+    match piece.iter().position(|b| *b == b'\n') {
+        Some(at) => at,
+        None => piece.len(),
+    }
+}
+
 /// A line as it comes, decoded. Contracts see the bytes that have come, or such as say the same however they go on.
 #[derive(Drop)]
 pub struct Line {
@@ -214,6 +226,17 @@ impl Line {
         }
     }
 
+    // Whether nothing is kept of the line, since no byte of it matters any more.
+    fn is_dropped(&self) -> bool
+        ensures { result ≡ true → IsDropped self.now }
+    {
+        match &self.begun {
+            Begun::Comment => true,
+            Begun::Malformed => true,
+            _ => false,
+        }
+    }
+
     // One more byte of the line.
     fn add(&mut self, byte: u8) -> Result<(), NoMemory>
         requires byte { byte ≢ 10 }
@@ -244,6 +267,9 @@ impl Line {
     {
         let mut count = 0;
         'bytes: while count < piece.len() && piece[count] != b'\n' {
+            if self.is_dropped() {
+                return Ok(count + before_line_feed(&piece[count..]));
+            }
             self.add(piece[count])?;
             count += 1;
         }
