@@ -1,14 +1,16 @@
 -- How a server ended, from what its parts did.
-use Rattle.std.proofs.Common.{◌≡◌, ℕ, ◌<◌, true, List, [], length, take, drop, refl, ◌∙◌, ap, arith, take-append-drop}
-use Rattle.std.specs.Prelude.{Bool, Option}
+use Rattle.std.proofs.Common.{◌≡◌, ℕ, ◌<◌, true, List, [], length, take, drop, refl, sym, ◌∙◌, ap, subst, arith, take-append-drop}
+use Rattle.std.specs.Prelude.{Option, Err}
 use Rattle.std.specs.Io.KnownBytes.{Appends}
 use Rattle.std.proofs.KnownBytes.{Appends-nil}
 use Rattle.std.proofs.lemmas.List.{length-drop}
 use Rattle.ports.specs.Counts.{RoseBy, counted}
 use Rattle.ports.proofs.Counts.{RoseBy-trans}
-use Rattle.blob_server.specs.Serving.{Handing, TookPeers, FailedAfter}
-use Rattle.blobseer_run.specs.Status.{write_fault, out_of_memory, listener_fault}
-use Rattle.blobseer_run.specs.Hosting.{Net, WritesLine, Hosted, ServedPeers, ToldLine, served_line}
+use Rattle.blob_server.specs.Serving.{Handing, TookPeers, FailedAfter, EndsAs}
+use Rattle.blob_server.specs.declared.server.ServeFault.{ServeFault}
+use Rattle.blob_server.specs.declared.server.ServeFault.TheVariants as Faults
+use Rattle.blobseer_run.specs.Status.{code_of, write_fault, out_of_memory, listener_fault}
+use Rattle.blobseer_run.specs.Hosting.{Net, WritesLine, Hosted, ServedPeers, ToldLine, served_line, status_of}
 
 -- a write that failed after so many bytes of a line
 pub told_part : (line : List ℕ) (n : ℕ) (written written' : Option (List ℕ)) (writes writes' : ℕ) → Appends written written' (take n line) → RoseBy 1 writes writes' → n < length line
@@ -44,3 +46,10 @@ module _ (connections : ℕ) (net net' : Net) where
 
   pub starved_there : (written : Option (List ℕ)) (writes : ℕ) → ServedPeers connections net net' written written writes writes out_of_memory
   starved_there written writes = record { text = []; adds = Appends-nil written; ended = Hosted.starved refl refl }
+
+  -- it was ended early, by what the listener did from before it listened
+  pub faulted_there : (asked : ℕ) (mid new : Handing) (fault : ServeFault) (written : Option (List ℕ)) (writes : ℕ) → net'.handing ≡ new → mid.handed ≡ net.handing.handed → mid.is_done ≡ net.handing.is_done
+      → RoseBy 0 net.handing.faults mid.faults → EndsAs asked mid new (Err fault) → ServedPeers connections net net' written written writes writes (code_of (status_of fault))
+  faulted_there asked mid new Faults.Listener written writes is handed done rose ended =
+      unserved_there written writes (subst (λ (h : Handing). RoseBy 1 net.handing.faults h.faults) (sym is) (failed_since asked net.handing mid new handed done rose ended))
+  faulted_there asked mid new Faults.NoMemory written writes is handed done rose ended = starved_there written writes

@@ -4,6 +4,10 @@ use Rattle.std.specs.Fmt.{decimal}
 use Rattle.std.specs.Io.KnownBytes.{Appends}
 use Rattle.ports.specs.Counts.{RoseBy}
 use Rattle.blob_server.specs.Serving.{Handing, TookPeers}
+use Rattle.blob_server.specs.declared.server.ServeFault.{ServeFault}
+use Rattle.blob_server.specs.declared.server.ServeFault.TheVariants as Faults
+use Rattle.blobseer_run.specs.declared.status.Status.{Status}
+use Rattle.blobseer_run.specs.declared.status.Status.TheVariants as Statuses
 use Rattle.blobseer_run.specs.Status.{done, write_fault, out_of_memory, listener_fault}
 
 -- a listener: whether it listens, and what it has handed out
@@ -14,6 +18,11 @@ pub record Net : Type 0 where
 -- the line that tells the number of the connections that were served
 abbrev pub served_line : ℕ → List ℕ
 served_line peers = codes "served " ++ decimal peers ++ 10 ∷ []
+
+-- how a server ends that was ended early
+abbrev pub status_of : ServeFault → Status
+status_of Faults.Listener = Statuses.ListenerFault
+status_of Faults.NoMemory = Statuses.OutOfMemory
 
 -- What was written of a line, by the status: all of it, or only its beginning as a write failed, or nothing as no memory was found.
 pub data WritesLine (line text : List ℕ) (writes writes' status : ℕ) : Type 0 where

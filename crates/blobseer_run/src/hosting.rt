@@ -1,7 +1,7 @@
 // Connections are served over a new store.
 ghost use Rattle.std.specs.Prelude.{◌≡◌, ◌↔◌, ℕ};
 ghost use Rattle.ports.specs.Counts.{RoseBy};
-ghost use Rattle.blobseer_run.specs.Hosting.{served_line, ServedPeers, ToldLine};
+ghost use Rattle.blobseer_run.specs.Hosting.{served_line, status_of, ServedPeers, ToldLine};
 ghost use Rattle.blobseer_run.specs.Status.{code_of};
 
 use crate::serving::page_size;
@@ -28,6 +28,16 @@ fn tell_served<K: Sink>(alloc: Global, peers: u64, out: &mut K) -> Status
     match out.write(line.as_bytes()) {
         Written::Whole => Status::Done,
         Written::Failed(_) => Status::WriteFault,
+    }
+}
+
+// How a server ends that was ended early.
+fn status_of(fault: ServeFault) -> Status
+    ensures { result ≡ status_of fault }
+{
+    match fault {
+        ServeFault::Listener => Status::ListenerFault,
+        ServeFault::NoMemory => Status::OutOfMemory,
     }
 }
 
@@ -89,7 +99,6 @@ where
     };
     match served {
         Ok(peers) => tell_served(alloc, peers, out),
-        Err(ServeFault::Listener) => Status::ListenerFault,
-        Err(ServeFault::NoMemory) => Status::OutOfMemory,
+        Err(fault) => status_of(fault),
     }
 }
