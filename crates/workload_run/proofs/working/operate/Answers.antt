@@ -1,0 +1,34 @@
+use Rattle.std.proofs.Common.{ℕ, List, subst}
+use Rattle.blob_model.specs.declared.call.Place.TheVariants.{WriteAt, Append}
+use Rattle.client_session.specs.Sessions.{session_of}
+use Rattle.workload_law.specs.Pieces.{cell_of}
+use Rattle.workload_run.specs.Updates.{IsUpdated, IsStopped}
+use Rattle.workload_run.proofs.Operations.{operated, stopped_in_record, stopped_in_cell}
+use Rattle.workload_run.proofs.working.operate.Goals as goal
+
+pub returns-in-Err-clause-operated : goal.returns-in-Err-clause-operated
+returns-in-Err-clause-operated g c =
+    let s = session_of c.args.session.now in
+    let s' = session_of c.update.new.session in
+    stopped_in_record c.args.plan.now c.args.worker c.args.op s c.requires.caller c.requires.limits s' c.in-Err.fault
+    (subst (λ (b : List ℕ). IsStopped s 1 Append b c.in-Err.fault s') c.record-recorded.ensures c.in-Err.ensures.told)
+
+pub returns-in-Ok-update-clause-operated : goal.returns-in-Ok-update-clause-operated
+returns-in-Ok-update-clause-operated g c =
+    let s = session_of c.args.session.now in
+    let mid = session_of c.update.new.session in
+    let s' = session_of c.update-2.new.session in
+    let wrote = subst (λ (b : List ℕ). IsUpdated s 1 Append b mid) c.record-recorded.ensures c.in-Ok.ensures.told in
+    operated c.args.plan.now c.args.worker c.args.op s mid c.requires.caller wrote c.calls_leave.ensures.add s'
+    (subst (λ (o : ℕ). IsUpdated mid 2 (WriteAt o) (cell_of c.args.plan.now.seed c.args.worker c.args.op) s') c.cell_offset-offset.ensures
+    (subst (λ (b : List ℕ). IsUpdated mid 2 (WriteAt c.cell_offset-offset.result) b s') c.cell-written.ensures c.in-Ok-update.ensures.told))
+
+pub returns-in-Err-update-clause-operated : goal.returns-in-Err-update-clause-operated
+returns-in-Err-update-clause-operated g c =
+    let s = session_of c.args.session.now in
+    let mid = session_of c.update.new.session in
+    let s' = session_of c.update-2.new.session in
+    let wrote = subst (λ (b : List ℕ). IsUpdated s 1 Append b mid) c.record-recorded.ensures c.in-Ok.ensures.told in
+    stopped_in_cell c.args.plan.now c.args.worker c.args.op s mid c.requires.caller wrote c.calls_leave.ensures.add c.requires.limits s' c.in-Err-update.lost
+    (subst (λ (o : ℕ). IsStopped mid 2 (WriteAt o) (cell_of c.args.plan.now.seed c.args.worker c.args.op) c.in-Err-update.lost s') c.cell_offset-offset.ensures
+    (subst (λ (b : List ℕ). IsStopped mid 2 (WriteAt c.cell_offset-offset.result) b c.in-Err-update.lost s') c.cell-written.ensures c.in-Err-update.ensures.told))
