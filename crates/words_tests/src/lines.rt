@@ -8,7 +8,7 @@ use std::test::Fail;
 use std::thread::Threads;
 
 // Command lines that need no file, and their status.
-static LINES: [(&str, u8); 44] = [
+static LINES: [(&str, u8); 48] = [
     ("run", 0),
     ("run --page 4", 0),
     ("run --page=1048576", 0),
@@ -56,15 +56,18 @@ static LINES: [(&str, u8); 44] = [
     ("", 1),
     ("Run", 1),
     ("watch", 1),
+    // Nobody listens at these addresses.
+    ("serve --listen 127.0.0.1:0", 6),
+    (
+        "serve --listen=127.0.0.1:0 --connections 1 --max-size 8 --workers 16",
+        6,
+    ),
+    ("serve", 1),
+    ("serve --listen 127.0.0.1:0 --workers 17", 1),
 ];
 
-// Right words of commands that the program hasn't yet.
-static TO_COME: [&str; 4] = [
-    "load",
-    "load --seed 7 --workers 4 --ops 100",
-    "serve --listen 127.0.0.1:0",
-    "serve --listen 127.0.0.1:0 --connections 1 --max-size 8",
-];
+// Right words of the command that the program hasn't yet.
+static TO_COME: [&str; 2] = ["load", "load --seed 7 --workers 4 --ops 100"];
 
 fn check_row<R: Wait + Threads + Sync + Abort>(
     rt: &R,

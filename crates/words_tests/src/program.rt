@@ -107,6 +107,7 @@ pub fn error_line(status: u8) -> &'static str {
         1 => "blobseer: words refused\n",
         2 => "blobseer: settings refused\n",
         3 => "blobseer: read fault\n",
+        6 => "blobseer: listener fault\n",
         _ => "",
     }
 }
