@@ -1,9 +1,8 @@
 -- Lists of sessions that wait for a peer, what their doors have counted, and histories that go on.
-use Rattle.std.proofs.Common.{◌≡◌, ◌∙◌, ℕ, ◌+◌, ◌-◌, ◌^◌, ◌<◌, ◌≤◌, suc, min, List, [], ◌∷◌, ◌++◌, length, take, drop, refl, sym, ap, subst, arith, length-append, append_assoc, append-nil}
+use Rattle.std.proofs.Common.{◌≡◌, ◌∙◌, ℕ, ◌+◌, ◌-◌, ◌^◌, ◌<◌, ◌≤◌, suc, min, List, [], ◌∷◌, ◌++◌, length, refl, ap, subst, arith, length-append, append_assoc}
 use Rattle.std.specs.List.{All}
 use Rattle.std.specs.Prelude.{sum_by, slice_index_or}
 use Rattle.std.proofs.Math.ListN.{get_or-append}
-use Rattle.std.proofs.lemmas.List.{take-append-le, take_all}
 use Rattle.std.proofs.lemmas.List.Sums.{sum_by-append, sum_by-cons}
 use Rattle.turn_lock.specs.History.{Log, Begins}
 use Rattle.client_session.specs.Sessions.{StoreState, SessionState}
@@ -19,10 +18,6 @@ all_front P xs x h k d less =
 pub last_of : {X : Type 0} (P : X → Type 0) (xs : List X) (x : X) → All P (xs ++ x ∷ []) → P x
 last_of P [] x h = h 0 x (omega arith)
 last_of P (y ∷ xs) x h = last_of P xs x (λ k d less. h (suc k) d (omega arith))
-
--- what was written over a slice of all of a vector
-pub written_whole : {X : Type 0} (n : ℕ) (new old : List X) → length new ≡ n → take n (new ++ drop (length new) old) ≡ new
-written_whole n new old e = ap (λ (k : ℕ). take k (new ++ drop (length new) old)) (sym e) ∙ take-append-le (length new) new (drop (length new) old) (omega arith) ∙ take_all (length new) new (omega arith)
 
 -- a sum with one more
 pub sum_more : {X : Type 0} (f : X → ℕ) (xs : List X) (x : X) → sum_by f (xs ++ x ∷ []) ≡ sum_by f xs + f x
@@ -58,8 +53,5 @@ gave_back first before now whole front one had back = omega (arith, had, back)
 -- ---- histories
 
 module _ {E : Type 0} where
-  pub begins_same : (xs : Log E) → Begins xs xs
-  begins_same xs = ([], sym (append-nil xs))
-
   pub begins_on : (xs ys zs : Log E) → Begins xs ys → Begins ys zs → Begins xs zs
   begins_on xs ys zs a b = (a.0 ++ b.0, b.1 ∙ (ap (λ (l : Log E). l ++ b.0) a.1 ∙ append_assoc xs a.0 b.0))

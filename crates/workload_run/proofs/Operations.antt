@@ -1,10 +1,8 @@
 -- A worker's work, operation by operation.
-use Rattle.std.proofs.Common.{◌≡◌, ℕ, suc, ◌+◌, ◌<◌, ◌≤◌, List, [], ◌∷◌, ◌++◌, length, refl, sym, ap, subst, ◌∙◌, append_assoc, append-nil, arith}
-use Rattle.std.specs.Prelude.{Result, Ok, Err, sum_by}
+use Rattle.std.proofs.Common.{◌≡◌, ℕ, suc, ◌+◌, ◌<◌, List, [], ◌++◌, refl, sym, ap, subst, ◌∙◌, append_assoc, append-nil, arith}
 use Rattle.blob_model.specs.Limits.{Bounds, greatest}
 use Rattle.blob_model.specs.History.{events_by}
 use Rattle.blob_model.specs.declared.call.Event.{Event}
-use Rattle.blob_model.specs.declared.call.Event.TheVariants as Events
 use Rattle.blob_model.specs.declared.call.Place.TheVariants.{WriteAt, Append}
 use Rattle.request_form.specs.Session.{Fixed, Session}
 use Rattle.request_form.specs.declared.form.Fault.{Fault}
@@ -15,7 +13,7 @@ use Rattle.workload_law.specs.Sessions.{FinishesItsOwn}
 use Rattle.workload_law.specs.Ends.{Leaves, UpdateHindered, LeavesAdd}
 use Rattle.workload_law.specs.Closing.{OperationHindered, IdleOwnsAll}
 use Rattle.workload_law.specs.Laws.{StoppedHaveBegun}
-use Rattle.workload_run.specs.Updates.{update_events, IsUpdated, StoppedWithin, IsStopped}
+use Rattle.workload_run.specs.Updates.{update_events, IsUpdated, IsStopped}
 use Rattle.workload_run.specs.Work.{HasOperated, HasStoppedAt, HasWorked, HasEndedEarly, IsFresh}
 
 -- ---- one operation
@@ -147,11 +145,9 @@ module _ (plan : LoadPlan) (worker op : ℕ) (s mid s' : Session) (limits : s.fi
         seen = seen_more x.own x.leaves;
         begun = subst (λ (h : List Event). HasBegun plan worker h) (sym (own_more x.own x.leaves)) begun;
         own = finishes_more x.own x.leaves;
+        none_held = x.none_held;
         op = op;
         is_op = within;
         later = worked.more ++ stop.more;
         hindered = subst (λ (h : List Event). OperationHindered plan worker op h s'.seen fault) first stop.hindered;
       }
-
-pub worked_all : (plan : LoadPlan) (worker n : ℕ) (s s' : Session) → n ≡ plan.ops → HasWorked plan worker n s s' → HasWorked plan worker plan.ops s s'
-worked_all plan worker n s s' same worked = subst (λ (k : ℕ). HasWorked plan worker k s s') same worked

@@ -1,8 +1,7 @@
 -- An update of a load's session, try by try.
-use Rattle.std.proofs.Common.{◌≡◌, ◌≢◌, ◌⊎◌, inl, inr, ℕ, ◌+◌, ◌≤◌, ◌==◌, nat_lt, Bool, true, false, List, [], ◌∷◌, ◌++◌, length, refl, sym, ap, subst, ◌∙◌, append_assoc, append-nil, arith}
+use Rattle.std.proofs.Common.{◌≡◌, ◌⊎◌, inl, inr, ℕ, ◌==◌, nat_lt, true, false, List, [], ◌∷◌, ◌++◌, length, refl, sym, ap, subst, ◌∙◌, append_assoc, append-nil, arith}
 use Rattle.std.proofs.lemmas.Bool.Decides.{nat_tests}
-use Rattle.std.specs.Prelude.{Option, Some, None, Result, Ok, Err, sum_by}
-use Rattle.blob_model.specs.Limits.{Bounds}
+use Rattle.std.specs.Prelude.{Option, None, Result, Ok, Err}
 use Rattle.blob_model.specs.History.{events_by, AllOther}
 use Rattle.blob_model.specs.declared.call.Call.{Call}
 use Rattle.blob_model.specs.declared.call.Event.{Event}
@@ -11,7 +10,6 @@ use Rattle.blob_model.specs.declared.call.Place.{Place}
 use Rattle.blob_model.specs.declared.call.Place.TheVariants.{WriteAt, Append}
 use Rattle.ports.specs.Counts.{RoseBy}
 use Rattle.request_form.specs.Session.{Fixed, Session, Held}
-use Rattle.request_form.specs.Replies.{fault_count, page_faults}
 use Rattle.request_form.specs.Answers.{Unless, UpdateAnswer, Updated, ReportAnswer, LookAnswer, Answers, update_fault, max_update, max_tickets}
 use Rattle.request_form.specs.HangUp.{GivenUp, GivesUp, HungUp}
 use Rattle.request_form.specs.declared.form.Request.TheVariants as Requests
@@ -22,12 +20,12 @@ use Rattle.request_form.specs.declared.form.Fault.TheVariants as Faults
 use Rattle.client_session.specs.declared.done.Done.{Done}
 use Rattle.client_session.specs.Results.{done_reply}
 use Rattle.client_session.specs.Updates.{update_reply}
-use Rattle.client_session.specs.Sessions.{SessionState, Continues, session_of}
+use Rattle.client_session.specs.Sessions.{SessionState, Continues}
 use Rattle.turn_lock.specs.History.{Log, Begins}
 use Rattle.workload_law.specs.Numbered.{IsNumberedBy}
 use Rattle.workload_law.specs.Sessions.{FinishesItsOwn}
 use Rattle.workload_law.specs.Ends.{Leaves, StopsAt, UpdateHindered, UpdateEnds, UpdatesEnd, LeavesAdd, StopsLater, LooksLeaveNone, ReportsLeave, HindrancesStay}
-use Rattle.workload_run.specs.Updates.{update_events, is_full, told_faults, IsOneUpdate, IsUpdated, StoppedWithin, IsStopped, IsHindered, UpdateTried, UpdateTold, HasWaited, Retries}
+use Rattle.workload_run.specs.Updates.{update_events, is_full, IsOneUpdate, IsUpdated, IsStopped, IsHindered, UpdateTried, HasWaited}
 
 -- ---- one try
 
@@ -235,11 +233,3 @@ module _ (adds : LeavesAdd) (stay : HindrancesStay) (reports : ReportsLeave) (s 
 
   pub hung_up : s.tickets ≡ [] → HungUp AllOther mid finished no_memory s' → IsStopped s blob place bytes fault s'
   hung_up none up = stopped_at none up hindered.stops
-
--- ---- the doors' counts
-
-pub told_rose : (place : Place) (told : Result Done Fault) (a b : ℕ) → RoseBy (fault_count (done_reply place told)) a b → RoseBy (told_faults told) a b
-told_rose Append (Ok done) a b rose = rose
-told_rose (WriteAt offset) (Ok done) a b rose = rose
-told_rose Append (Err fault) a b rose = rose
-told_rose (WriteAt offset) (Err fault) a b rose = rose

@@ -57,6 +57,7 @@ pub record HasEndedEarly (plan : LoadPlan) (worker : ℕ) (fault : Fault) (s s' 
   pub seen : s'.seen ≡ s.seen ++ more
   pub begun : HasBegun plan worker (events_by (worker + 1) s'.seen)
   pub own : FinishesItsOwn greatest s'.seen (worker + 1)
+  pub none_held : s'.tickets ≡ []
   pub op : ℕ
   pub is_op : op < plan.ops
   pub later : List Event

@@ -1,4 +1,4 @@
-use Rattle.std.proofs.Common.{◌≡◌, refl, sym, ◌∙◌, ap, append-nil, [], true, false, arith}
+use Rattle.std.proofs.Common.{◌≡◌, refl, sym, ◌∙◌, append-nil, [], true, false, arith}
 use Rattle.std.specs.Prelude.{sum_by}
 use Rattle.request_form.specs.Replies.{fault_count}
 use Rattle.client_session.specs.Results.{done_reply}

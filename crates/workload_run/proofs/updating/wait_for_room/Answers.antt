@@ -2,7 +2,7 @@ use Rattle.blob_model.specs.declared.call.Call.TheVariants as Calls
 use Rattle.request_form.specs.Replies.{reply_of, fault_count}
 use Rattle.client_session.specs.Sessions.{session_of}
 use Rattle.std.specs.Prelude.{sum_by}
-use Rattle.workload_run.proofs.Updates.{waited_look, waited_both, rose_none, rose_both}
+use Rattle.workload_run.proofs.Updates.{waited_look, waited_both, rose_none}
 use Rattle.workload_run.proofs.updating.wait_for_room.Goals as goal
 
 pub returns-then-held-ne0-clause-waited : goal.returns-then-held-ne0-clause-waited

@@ -1,4 +1,4 @@
-use Rattle.std.proofs.Common.{◌≡◌, ◌<◌, refl, sym, append-nil, [], arith}
+use Rattle.std.proofs.Common.{◌<◌, refl, sym, append-nil, [], arith}
 use Rattle.std.specs.Prelude.{sum_by}
 use Rattle.client_session.specs.Sessions.{session_of}
 use Rattle.workload_run.proofs.Updates.{rose_both, goes_both}
