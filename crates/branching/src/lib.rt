@@ -7,7 +7,8 @@ ghost use Rattle.branching.specs.Line.{origin_of, begun_before};
 
 pub mod laws;
 
-use std::alloc::{AllocError, AllocFailed, Global};
+pub use no_memory::NoMemory;
+use std::alloc::Global;
 use std::marker::Model;
 
 /// The blob that a branch was made from, and the version that it was taken at.
@@ -17,16 +18,6 @@ pub struct Parent {
     pub blob: u64,
     /// The version.
     pub version: u64,
-}
-
-/// No memory was found.
-#[derive(Clone, Copy, Debug, PartialEq, Eq)]
-pub struct NoMemory;
-
-impl From<AllocError> for NoMemory {
-    fn from(_error: AllocError) -> NoMemory {
-        NoMemory
-    }
 }
 
 /// The versions above `after` were made on this blob.

@@ -67,21 +67,11 @@ fn housed_desk(
     ensures empty { IfOk result (λ r. r.2 ≡ empty_desk limits p (arc_value r.0) (arc_value r.1)) }
     ensures houses { IfOk result (λ r. length (arc_value r.0) ≡ providers) }
 {
-    let Ok(houses) = Houses::new(alloc, providers) else {
-        return Err(NoMemory);
-    };
-    let Ok(nodes) = NodeHouse::new(alloc) else {
-        return Err(NoMemory);
-    };
-    let Ok(houses) = Arc::new(alloc, houses) else {
-        return Err(NoMemory);
-    };
-    let Ok(nodes) = Arc::new(alloc, nodes) else {
-        return Err(NoMemory);
-    };
-    let Ok(desk) = Desk::new(alloc, limits, p, &houses, &nodes) else {
-        return Err(NoMemory);
-    };
+    let houses = Houses::new(alloc, providers)?;
+    let nodes = NodeHouse::new(alloc)?;
+    let houses = Arc::new(alloc, houses)?;
+    let nodes = Arc::new(alloc, nodes)?;
+    let desk = Desk::new(alloc, limits, p, &houses, &nodes)?;
     Ok((houses, nodes, desk))
 }
 
@@ -102,12 +92,8 @@ impl Shared {
         ensures providers { IfOk result (λ r. r.0.providers ≡ providers) }
     {
         let (houses, nodes, desk) = housed_desk(alloc, limits, p, providers)?;
-        let Ok(book) = LoadBook::new(alloc, providers, replicas) else {
-            return Err(NoMemory);
-        };
-        let Ok((desk, owner)) = SharedDesk::new(alloc, desk) else {
-            return Err(NoMemory);
-        };
+        let book = LoadBook::new(alloc, providers, replicas)?;
+        let (desk, owner) = SharedDesk::new(alloc, desk)?;
         let shared = Shared {
             desk,
             houses,

@@ -309,18 +309,14 @@ impl<'a, D: Door, G: Gate> Session<'a, D, G> {
         if let Some(row) = self.held.at(place).row()? {
             return Ok(row);
         }
-        let Ok(row) = weave(
+        let row = weave(
             rt,
             self.alloc,
             self.held.at(place).ticket(),
             self.shared.nodes(),
-        ) else {
-            return Err(NoMemory);
-        };
+        )?;
         self.gate.at(rt, Point::Woven, &self.pass);
-        let Ok(kept) = Arc::try_clone(&row) else {
-            return Err(NoMemory);
-        };
+        let kept = Arc::try_clone(&row)?;
         self.held.set_row(place, kept);
         Ok(row)
     }

@@ -8,22 +8,6 @@ mod house;
 mod row;
 
 pub use house::{NodeHouse, NodeRef};
+pub use no_memory::NoMemory;
 pub use row::Row;
-use std::alloc::{AllocError, AllocFailed};
 pub use tree_geom::{Node, NodeKey, Piece, Range, Touch};
-
-/// Memory was refused.
-#[derive(Clone, Copy, Debug, PartialEq, Eq)]
-pub struct NoMemory;
-
-impl From<AllocError> for NoMemory {
-    fn from(_error: AllocError) -> NoMemory {
-        NoMemory
-    }
-}
-
-impl<T: Drop> From<AllocFailed<T>> for NoMemory {
-    fn from(_error: AllocFailed<T>) -> NoMemory {
-        NoMemory
-    }
-}

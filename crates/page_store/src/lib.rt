@@ -11,25 +11,9 @@ mod stored;
 pub use door::{Door, DoorMaker, GetAnswer, PutAnswer};
 pub use flaky::{FlakyDoor, FlakyMaker};
 pub use house::{Houses, PageHouse, PageRef};
+pub use no_memory::NoMemory;
 pub use plain::{PlainDoor, PlainMaker};
-use std::alloc::{AllocError, AllocFailed};
 pub use stored::{Pages, StoredPage};
 
 /// The greatest length of a page, in bytes.
 pub const MAX_PAGE: usize = 1_048_576;
-
-/// Memory was refused.
-#[derive(Clone, Copy, Debug, PartialEq, Eq)]
-pub struct NoMemory;
-
-impl From<AllocError> for NoMemory {
-    fn from(_error: AllocError) -> NoMemory {
-        NoMemory
-    }
-}
-
-impl<T: Drop> From<AllocFailed<T>> for NoMemory {
-    fn from(_error: AllocFailed<T>) -> NoMemory {
-        NoMemory
-    }
-}

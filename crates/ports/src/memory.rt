@@ -4,12 +4,9 @@ ghost use Rattle.ports.specs.Counts.{counted, RoseBy};
 use crate::count::count_up;
 use crate::plan::Plan;
 use crate::stream::{Ends, Sink, Source, Taken, Written};
+use no_memory::NoMemory;
 use std::alloc::Global;
 use std::marker::Model;
-
-/// There was no memory.
-#[derive(Clone, Copy, Debug, PartialEq, Eq)]
-pub struct NoMemory;
 
 /// A list of bytes as a source that tells all of itself. It gives the bytes in pieces, and fails where it is told to.
 #[derive(Drop)]

@@ -10,19 +10,7 @@ mod placements;
 mod shared;
 
 pub use book::{LoadBook, MOST_PROVIDERS, MOST_REPLICAS_PLACED, PlaceFault};
+pub use no_memory::NoMemory;
 pub use placements::Placements;
 pub use replica_place::Placement;
 pub use shared::SharedLoads;
-use std::alloc::AllocError;
-use thiserror::Error;
-
-/// Memory ran out.
-#[derive(Clone, Copy, Debug, PartialEq, Eq, Error)]
-#[error("out of memory")]
-pub struct NoMemory;
-
-impl From<AllocError> for NoMemory {
-    fn from(_error: AllocError) -> NoMemory {
-        NoMemory
-    }
-}

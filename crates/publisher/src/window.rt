@@ -60,9 +60,7 @@ impl Window {
         ensures { IfOk result (λ window. window ≡ window_on base) }
     {
         let _version = base.version();
-        let Ok(waiting) = OpenList::new(alloc) else {
-            return Err(NoMemory);
-        };
+        let waiting = OpenList::new(alloc)?;
         Ok(Window {
             snapshot: base,
             waiting,

@@ -4,26 +4,9 @@ ghost use Rattle.range_log.specs.Log.{size_at};
 ghost use Rattle.range_log.specs.Extents.{IsLog};
 ghost use Rattle.range_log.specs.Rows.{level_of, row_keys_of};
 
-use std::alloc::{AllocError, AllocFailed, Global};
-use thiserror::Error;
+use no_memory::NoMemory;
+use std::alloc::Global;
 use tree_geom::{PageSize, Range, Touch, height};
-
-/// There was no memory for the list.
-#[derive(Clone, Copy, PartialEq, Eq, Debug, Error)]
-#[error("no memory for a list of ranges or of touches")]
-pub struct NoMemory;
-
-impl From<AllocError> for NoMemory {
-    fn from(_error: AllocError) -> NoMemory {
-        NoMemory
-    }
-}
-
-impl<T: Drop> From<AllocFailed<T>> for NoMemory {
-    fn from(_failed: AllocFailed<T>) -> NoMemory {
-        NoMemory
-    }
-}
 
 /// Adds the ranges of `p * 2^height` bytes that the touched pages meet, by offset.
 #[tactic(auto, using(crate::proofs::Levels::power_fits, crate::proofs::Levels::size_fits, crate::proofs::Levels::begin_fits))]

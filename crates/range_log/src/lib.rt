@@ -11,6 +11,7 @@ pub mod laws;
 mod log;
 mod open;
 
-pub use keys::{NoMemory, row_keys};
+pub use keys::row_keys;
 pub use log::newest;
+pub use no_memory::NoMemory;
 pub use open::{OpenList, OpenTouch};

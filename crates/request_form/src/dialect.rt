@@ -1,5 +1,6 @@
-use crate::form::{Ending, Heard, NoMemory, Reply};
+use crate::form::{Ending, Heard, Reply};
 use blob_model::Bytes;
+use no_memory::NoMemory;
 
 /// How requests and replies are spelled on a stream. After want of memory a dialect isn't used again.
 pub trait Dialect {

@@ -257,7 +257,3 @@ pub enum Ending {
     /// A part of an item.
     Cut,
 }
-
-/// No memory was found.
-#[derive(Clone, Copy, Debug, PartialEq, Eq)]
-pub struct NoMemory;

@@ -10,6 +10,7 @@ mod piece;
 mod service;
 
 pub use dialect::Dialect;
-pub use form::{Ending, Fault, Heard, NoMemory, Reply, Request};
+pub use form::{Ending, Fault, Heard, Reply, Request};
+pub use no_memory::NoMemory;
 pub use piece::Piece;
 pub use service::Service;

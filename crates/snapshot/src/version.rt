@@ -75,9 +75,7 @@ impl Snapshot {
         ensures { IfOk result (λ s. s ≡ older_version self.now version) }
     {
         laws::older_versions_stay();
-        let Ok(rows) = self.rows.prefix(version) else {
-            return Err(NoMemory);
-        };
+        let rows = self.rows.prefix(version)?;
         Ok(Snapshot {
             blob: self.blob,
             page_size: self.page_size,
@@ -89,9 +87,7 @@ impl Snapshot {
     pub fn under(&self, blob: u64) -> Result<Snapshot, NoMemory>
         ensures { IfOk result (λ s. s ≡ under_blob self.now blob) }
     {
-        let Ok(rows) = self.rows.share() else {
-            return Err(NoMemory);
-        };
+        let rows = self.rows.share()?;
         Ok(Snapshot {
             blob,
             page_size: self.page_size,

@@ -138,7 +138,7 @@ fn closing_with_one_pass_out_is_refused_with_1(rt: HostRuntime) -> Result<(), Fa
 #[test]
 fn faults_are_printed(rt: HostRuntime) -> Result<(), Fail> {
     let none = format!(in rt.alloc(); "{NoMemory}")?;
-    assert_eq!(rt; none.as_str(), "no memory for a turn lock");
+    assert_eq!(rt; none.as_str(), "no memory");
     let many = format!(in rt.alloc(); "{}", PassFault::TooManyPasses)?;
     assert_eq!(rt; many.as_str(), "1024 passes were made");
     Ok(())

@@ -9,4 +9,5 @@ mod turn;
 mod view;
 
 pub use journal::{Act, Journaled};
-pub use turn::{CloseRefused, NoMemory, Owner, Pass, PassFault, Turn};
+pub use no_memory::NoMemory;
+pub use turn::{CloseRefused, Owner, Pass, PassFault, Turn};

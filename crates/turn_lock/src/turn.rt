@@ -6,6 +6,7 @@ ghost use Rattle.turn_lock.specs.Shown.{Turned};
 use crate::journal::{Act, Journaled};
 use crate::rule::{Place, Room};
 use crate::steps::{deal, end_turns, take_in, take_turn};
+use no_memory::NoMemory;
 use std::alloc::Global;
 use std::marker::Model;
 use std::snapshot::Snapshot;
@@ -74,11 +75,6 @@ impl<S: Journaled> Model for Owner<S> {
 
     ghost invariant = { λ o. IsOwning o.seat o.made o.out };
 }
-
-/// There was no memory for a lock. Its state was dropped.
-#[derive(Debug, Drop, Error)]
-#[error("no memory for a turn lock")]
-pub struct NoMemory;
 
 /// Why there is no further pass.
 #[derive(Debug, Drop, Error)]

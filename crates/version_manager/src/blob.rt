@@ -179,9 +179,7 @@ fn hints_of(alloc: Global, window: &Window) -> Result<Hints, NoMemory>
 fn copy_of(alloc: Global, waiting: &OpenList) -> Result<OpenList, NoMemory>
     ensures { IfOk result (λ copy. copy ≡ waiting.now) }
 {
-    let Ok(mut copy) = OpenList::new(alloc) else {
-        return Err(NoMemory);
-    };
+    let mut copy = OpenList::new(alloc)?;
     for i in 0..waiting.count() {
         copy.add(waiting.at(i));
     }

@@ -66,10 +66,8 @@ impl SharedDesk {
         requires { desk.history ≡ [] }
         ensures { IfOk result (λ s. s.1 ≡ record { lock = s.0; made = 0; out = 0; seen = []; fixed = Some (fixed_of desk); kept = [] }) }
     {
-        match Turn::new(alloc, desk) {
-            Ok((turn, owner)) => Ok((SharedDesk { turn }, owner)),
-            Err(_) => Err(NoMemory),
-        }
+        let (turn, owner) = Turn::new(alloc, desk)?;
+        Ok((SharedDesk { turn }, owner))
     }
 
     /// A new pass, which has seen what the owner has. Passes get the callers 1, 2, 3 and so on. `TooManyPasses` exactly where

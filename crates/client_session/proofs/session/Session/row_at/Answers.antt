@@ -39,20 +39,20 @@ invariant_of-self g c =
     let fixed = i.shared.now.fixed in
     let open_ : IsOpen fixed i.pass.seen o = at_place (IsOpen fixed i.pass.seen) i.held c.args.place o c.at-2.ensures c.self.invariant.holding.open_ in
     let pages : LieAmong fixed.houses c.ticket.result.now.pages.pages = subst (λ (t : NumberedUpdate). LieAmong fixed.houses t.pages.pages) (sym c.ticket.ensures) open_.here.pages in
-    let own : IsWoven c.nodes.result.now fixed.houses c.ticket.result.now (arc_value c.in-Ok.row) = record { for = c.in-Ok.ensures.row; under = c.in-Ok.ensures.under; here = c.in-Ok.ensures.here fixed.houses pages } in
-    let woven : IsWoven fixed.nodes fixed.houses o.ticket (arc_value c.in-Ok.row) =
-    subst (λ (n : List Shelves). IsWoven n fixed.houses o.ticket (arc_value c.in-Ok.row)) c.nodes.ensures
-    (subst (λ (t : NumberedUpdate). IsWoven c.nodes.result.now fixed.houses t (arc_value c.in-Ok.row)) c.ticket.ensures own)
+    let own : IsWoven c.nodes.result.now fixed.houses c.ticket.result.now (arc_value c.in_ok-row-2.row) = record { for = c.in_ok-row-2.ensures.row; under = c.in_ok-row-2.ensures.under; here = c.in_ok-row-2.ensures.here fixed.houses pages } in
+    let woven : IsWoven fixed.nodes fixed.houses o.ticket (arc_value c.in_ok-row-2.row) =
+    subst (λ (n : List Shelves). IsWoven n fixed.houses o.ticket (arc_value c.in_ok-row-2.row)) c.nodes.ensures
+    (subst (λ (t : NumberedUpdate). IsWoven c.nodes.result.now fixed.houses t (arc_value c.in_ok-row-2.row)) c.ticket.ensures own)
     in
     let s = c.self.invariant in
-    let kept : arc_value c.in-Ok-try_clone.kept ≡ arc_value c.in-Ok.row = c.in-Ok-try_clone.ensures in
-    let held : c.set_row.new.self ≡ slice_set i.held c.args.place (with_row o (arc_value c.in-Ok.row)) =
+    let kept : arc_value c.in_ok-kept.kept ≡ arc_value c.in_ok-row-2.row = c.in_ok-kept.ensures in
+    let held : c.set_row.new.self ≡ slice_set i.held c.args.place (with_row o (arc_value c.in_ok-row-2.row)) =
     c.set_row.ensures o c.at-2.ensures ∙ ap (λ (r : UpdateRow). slice_set i.held c.args.place (with_row o r)) kept
     in
     subst (λ (os : List OpenUpdate). IsSession g.D.Door.is_true i.shared.now i.pass os i.next i.doors i.room) (sym held)
     (record {
       pass_is = s.pass_is;
-      holding = holding_row fixed i.pass.seen i.held i.next c.args.place o (arc_value c.in-Ok.row) c.at-2.ensures woven s.holding;
+      holding = holding_row fixed i.pass.seen i.held i.next c.args.place o (arc_value c.in_ok-row-2.row) c.at-2.ensures woven s.holding;
       housed = s.housed;
       served = s.served;
       true_doors = s.true_doors;
@@ -66,13 +66,13 @@ returns-clause-woven g c = λ u at.
     let fixed = i.shared.now.fixed in
     let open_ : IsOpen fixed i.pass.seen o = at_place (IsOpen fixed i.pass.seen) i.held c.args.place o c.at-2.ensures c.self.invariant.holding.open_ in
     let pages : LieAmong fixed.houses c.ticket.result.now.pages.pages = subst (λ (t : NumberedUpdate). LieAmong fixed.houses t.pages.pages) (sym c.ticket.ensures) open_.here.pages in
-    let own : IsWoven c.nodes.result.now fixed.houses c.ticket.result.now (arc_value c.in-Ok.row) = record { for = c.in-Ok.ensures.row; under = c.in-Ok.ensures.under; here = c.in-Ok.ensures.here fixed.houses pages } in
-    let woven : IsWoven fixed.nodes fixed.houses o.ticket (arc_value c.in-Ok.row) =
-    subst (λ (n : List Shelves). IsWoven n fixed.houses o.ticket (arc_value c.in-Ok.row)) c.nodes.ensures
-    (subst (λ (t : NumberedUpdate). IsWoven c.nodes.result.now fixed.houses t (arc_value c.in-Ok.row)) c.ticket.ensures own)
+    let own : IsWoven c.nodes.result.now fixed.houses c.ticket.result.now (arc_value c.in_ok-row-2.row) = record { for = c.in_ok-row-2.ensures.row; under = c.in_ok-row-2.ensures.under; here = c.in_ok-row-2.ensures.here fixed.houses pages } in
+    let woven : IsWoven fixed.nodes fixed.houses o.ticket (arc_value c.in_ok-row-2.row) =
+    subst (λ (n : List Shelves). IsWoven n fixed.houses o.ticket (arc_value c.in_ok-row-2.row)) c.nodes.ensures
+    (subst (λ (t : NumberedUpdate). IsWoven c.nodes.result.now fixed.houses t (arc_value c.in_ok-row-2.row)) c.ticket.ensures own)
     in
     let v = c.args.self.now in
     let there : slice_get i.held c.args.place ≡ Some u = ap (λ (s : SessionState g.row.D.Denot). slice_get s.held c.args.place) c.self.view_is ∙ at in
     let same : o ≡ u = same_at i.held c.args.place o u c.at-2.ensures there in
-    subst (λ (s : SessionState g.row.D.Denot). IsWoven s.store.fixed.nodes s.store.fixed.houses u.ticket (arc_value c.in-Ok.row)) c.self.view_is
-    (subst (λ (x : OpenUpdate). IsWoven fixed.nodes fixed.houses x.ticket (arc_value c.in-Ok.row)) same woven)
+    subst (λ (s : SessionState g.row.D.Denot). IsWoven s.store.fixed.nodes s.store.fixed.houses u.ticket (arc_value c.in_ok-row-2.row)) c.self.view_is
+    (subst (λ (x : OpenUpdate). IsWoven fixed.nodes fixed.houses x.ticket (arc_value c.in_ok-row-2.row)) same woven)

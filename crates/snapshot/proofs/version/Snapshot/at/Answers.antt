@@ -9,9 +9,9 @@ pub invariant_of-result : goal.invariant_of-result
 invariant_of-result c =
     let all = c.self.inside.rows in
     let P : List UpdateRow → Type 0 = λ l. IsVersion (of_rows c.self.inside.blob c.self.inside.page_size l) in
-    subst P (sym c.in-Ok.ensures)
+    subst P (sym c.in_ok-rows.ensures)
     (IsVersion-front c.older_versions_stay.ensures.rows c.older_versions_stay.ensures.extents c.self.inside.blob c.self.inside.page_size (take c.args.version all) (drop c.args.version all)
     (subst P (sym (take-append-drop c.args.version all)) c.self.invariant))
 
 pub returns : goal.returns
-returns c = rw (← c.self.view_is) (ap (of_rows c.self.inside.blob c.self.inside.page_size) c.in-Ok.ensures)
+returns c = rw (← c.self.view_is) (ap (of_rows c.self.inside.blob c.self.inside.page_size) c.in_ok-rows.ensures)
