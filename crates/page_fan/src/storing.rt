@@ -18,14 +18,17 @@ use replica_place::Placement;
 use std::alloc::Global;
 use std::sync::Wait;
 use std::thread::Threads;
+use thiserror::Error;
 use tree_geom::PageSize;
 
 /// Why a buffer was not stored. Pages that were put before may lie unused in their houses.
-#[derive(Clone, Copy, Debug, PartialEq, Eq)]
+#[derive(Clone, Copy, Debug, PartialEq, Eq, Error)]
 pub enum StoreFault {
     /// No door took the page of this number, from 0; a door took each page before it.
+    #[error("no door took page {0}")]
     PageFault(u64),
     /// Memory was refused.
+    #[error("no memory")]
     NoMemory,
 }
 

@@ -15,14 +15,17 @@ use page_fan::Doors;
 use page_store::{Door, Houses};
 use snapshot::Snapshot;
 use std::sync::ledger::Ledger;
+use thiserror::Error;
 use tree_geom::Steps;
 
 /// Why a read gave no bytes. The buffer then holds any bytes.
-#[derive(Clone, Copy, Debug, PartialEq, Eq)]
+#[derive(Clone, Copy, Debug, PartialEq, Eq, Error)]
 pub enum ReadFault {
     /// The range would end at byte `end`, past the version's size.
+    #[error("the range ends at byte {end}, past the size of {size} bytes")]
     RangePastSize { end: u128, size: u64 },
     /// All doors of a stored page failed that this page of the blob needs.
+    #[error("no door gave a stored page of page {0}")]
     PageFault(u64),
 }
 
