@@ -36,7 +36,7 @@ pub(crate) fn weave<R: Wait>(
     tree_weaver::laws::stored_rows_are_rows();
     let _version = ticket.version();
     let planned = planned::<Brand>(alloc, ticket, nodes, Blank::new(1))?;
-    put_row(alloc, rt, ticket, &planned, nodes)
+    put_row(rt, alloc, ticket, &planned, nodes)
 }
 
 // The plan of the ticket's row, whose node steps nobody counts.

@@ -16,8 +16,8 @@ use std::sync::{Arc, Wait};
 /// It takes no lock; it may wait for another thread's put. After want of memory some nodes may lie unused in the house, and
 /// nothing else has changed.
 pub fn put_row<R: Wait>(
-    alloc: Global,
     rt: &R,
+    alloc: Global,
     ticket: &Ticket,
     planned: &PlannedRow,
     nodes: &NodeHouse,

@@ -241,7 +241,7 @@ impl Blob {
         tree_weaver::laws::stored_rows_are_rows();
         let ticket = self.ticket(alloc, version, published)?;
         let (planned, _) = self.plan(alloc, &ticket)?;
-        let row = put_row(alloc, rt, &ticket, &planned, &self.nodes)?;
+        let row = put_row(rt, alloc, &ticket, &planned, &self.nodes)?;
         let version = ticket.version();
         Ok(self.window.finish(version, row))
     }
