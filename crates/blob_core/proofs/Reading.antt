@@ -455,9 +455,6 @@ cut_slice c low high o n begins ends =
 no_size : (us : List Update) → size_of us 0 ≡ 0
 no_size us = refl
 
-no_visits : (p : ℕ) (us : List Extent) (v o n : ℕ) → 0 ≤ visits p us v o n
-no_visits p us v o n = omega arith
-
 pub record ReadIs (t : Walked) (asked : List ℕ) (bound : ℕ) : Type 0 where
   pub bytes : t.bytes ≡ asked
   pub nodes : t.nodes ≤ bound

@@ -96,12 +96,6 @@ height_is heights p h pos =
       | inr ge ↦ omega arith
     ]
 
--- ---- ranges
-range_from : (a b : Range) → a.offset ≡ b.offset → a.size ≡ b.size → a ≡ b
-range_from a b o s =
-    let made : ℕ → ℕ → Range = λ x y. record { offset = x; size = y } in
-    ap (λ x. made x a.size) o ∙ ap (made b.offset) s
-
 -- the range is one of the ranges beside an edge
 pub record IsPlaced (p : ℕ) (touch : Touch) (range : Range) : Type 0 where
   pub h : ℕ
@@ -187,34 +181,6 @@ placed heights no_span span low high p touch range pos ordered not_first not_las
       | inr page ↦ elim page [
         | inl first ↦ absurd (not_first (page_number p touch.first range pos first))
         | inr last ↦ absurd (not_last (page_number p touch.last range pos last))
-      ]
-    ]
-
-same_page : (p i j : ℕ) (range : Range) → 1 ≤ p → range ≡ page_range p j → range.offset / p ≡ i → range ≡ page_range p i
-same_page p i j range pos is e =
-    let n : range.offset / p ≡ j = (page_number p j range pos is).1 in
-    is ∙ ap (page_range p) (sym n ∙ e)
-
--- a border that has a page's size and number is that page
-pub border_page : HeightsHold → SpanOfNone → SpanOfSome → LowHalvesAlign → HighHalvesAlign → (p i : ℕ) (touch : Touch) (range : Range) → 1 ≤ p → touch.first ≤ touch.last
-    → (range.size ≡ p) × (range.offset / p ≡ i) → IsBorder p touch range → range ≡ page_range p i
-border_page heights no_span span low high p i touch range pos ordered page is =
-    elim is [
-      | inl half ↦
-          let at = untouched_half heights no_span span low high p touch range pos ordered half in
-          let of_number : (c : ℕ) → range ≡ tree_range p at.h c → range ≡ page_range p i = λ c e.
-          let size : range.size ≡ p * 2 ^ at.h = at.size in
-          let one : p * 2 ^ at.h ≡ p = sym size ∙ page.0 in
-          let offset : range.offset ≡ c * p = ap (λ (r : Range). r.offset) e ∙ ap (λ n. c * n) one in
-          let number : c ≡ i = sym (ap (λ n. n / p) offset ∙ mul-div_cancel c pos) ∙ page.1 in
-          range_from range (page_range p i) (offset ∙ ap (λ n. n * p) number) page.0 in
-          elim (cases_lt (range.offset / p) touch.first) [
-            | inl before ↦ of_number _ (at.of_first before)
-            | inr after ↦ of_number _ (at.of_last after)
-          ]
-      | inr edge ↦ elim edge [
-        | inl first ↦ same_page p i touch.first range pos first page.1
-        | inr last ↦ same_page p i touch.last range pos last page.1
       ]
     ]
 

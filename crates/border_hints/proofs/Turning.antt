@@ -6,7 +6,6 @@ use Rattle.std.proofs.lemmas.Bool.Decides.{nat_tests}
 use Rattle.std.proofs.lemmas.Nat.{mul-le, pow_pos, div_below}
 use Rattle.std.proofs.lemmas.List.{get_or-map, get_or_append_left, get_or-append_right, get_or-set_same, get_or-set_other, length-set}
 use Rattle.std.proofs.Math.Nat.{pow-succ', div-div-eq-div-mul, div-mul-le_self, lt-div-mul-add}
-use Rattle.std.proofs.Math.Seq.{get_or-append_seam}
 use Rattle.tree_geom.specs.declared.range.Range.{Range}
 use Rattle.tree_geom.specs.declared.touch.Touch.{Touch}
 use Rattle.tree_geom.specs.Geometry.{tree_range, page_range, height_of, span_of, no_touch, meets_of}
@@ -38,14 +37,6 @@ touch_waiting are t i lt =
     ∙ get_or-append_right s w (length s) (v + i) no_touch refl (omega arith)
     ∙ ap (λ k. get_or w k no_touch) e
     ∙ get_or-map touch_in t.waiting i no_open no_touch lt
-
--- its own
-pub touch_own : TouchesAre → (t : NumberedUpdate) → IsNumbered t → touch_at (log_upto t) t.version ≡ own_touch t
-touch_own are t is =
-    let below : List Touch = log_with t.snapshot t.waiting in
-    let count : length below ≡ length t.snapshot.rows + length t.waiting = length-log_with are t.snapshot t.waiting in
-    let e : t.version ≡ suc (length below) = omega (arith, is.version) in
-    ap (touch_at (log_upto t)) e ∙ get_or-append_seam below (own_touch t) [] no_touch
 
 -- the versions of the snapshot have the same newest ones in the ticket's touches
 pub newest_stays : TouchesAre → LogsGrow → (t : NumberedUpdate) (range : Range) → newest_known t.snapshot range ≡ newest_of t.snapshot.page_size (log_upto t) (length t.snapshot.rows) range

@@ -29,9 +29,6 @@ rises_at f [] i x y l e h = absurd (omega arith)
 rises_at f (z ∷ zs) zero x y l e h = let s : f x ≡ f z = ap f e in record { later = omega (arith, s, h.later); by = λ few. omega (arith, s, h.by few) }
 rises_at f (z ∷ zs) (suc i) x y l e h = rises_at f zs i x y (omega arith) e h
 
-pub none_fell_yet : (before : List ℕ) → NoneFell before before
-none_fell_yet before = record { same = refl; rises = λ i. omega arith }
-
 pub none_fell_since : (before mid now : List ℕ) → NoneFell before mid → NoneFell mid now → NoneFell before now
 none_fell_since before mid now a b = record { same = a.same ∙ b.same; rises = λ i. omega (arith, a.rises i, b.rises i) }
 
@@ -93,9 +90,6 @@ all_parts P [] x h = (All-nil P, h 0 x (omega arith))
 all_parts P (y ∷ ys) x h =
     let rest = all_parts P ys x (λ k d l. h (suc k) d (omega arith)) in
     (all_cons P y ys (h 0 y (omega arith)) rest.0, rest.1)
-
-pub others_yet : (before : List ℕ) → OthersStay [] before before
-others_yet before = λ n other. refl
 
 -- one door more was used
 pub others_next : (places : List Place) (i : ℕ) (d : Place) (before mid now : List ℕ) → i < length places → OthersStay (take i places) before mid → OthersStay (get_or places i d ∷ []) mid now → OthersStay (take (i + 1) places) before now

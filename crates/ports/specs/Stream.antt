@@ -43,12 +43,6 @@ read_fault_count (Takens.Got n) = 0
 read_fault_count Takens.End = 0
 read_fault_count Takens.Failed = 1
 
--- the ends that a read's answer tells of
-abbrev pub end_count : Taken → ℕ
-end_count (Takens.Got n) = 0
-end_count Takens.End = 1
-end_count Takens.Failed = 0
-
 -- the bytes that a write appended
 abbrev pub appended_bytes : List ℕ → Written → List ℕ
 appended_bytes bytes Writtens.Whole = bytes

@@ -1,17 +1,12 @@
 -- Loads after more replicas.
-use Rattle.std.proofs.Common.{◌≡◌, ◌≢◌, ℕ, zero, suc, ◌+◌, ◌-◌, ◌<◌, ◌≤◌, List, [], ◌∷◌, length, get_or, take, sum, All, AllPairs, refl, sym, ap, ◌∙◌, arith}
+use Rattle.std.proofs.Common.{◌≡◌, ◌≢◌, ℕ, zero, suc, ◌+◌, ◌-◌, ◌<◌, List, [], ◌∷◌, length, get_or, All, AllPairs, refl, sym, ap, ◌∙◌, arith}
 use Rattle.std.proofs.lemmas.List.{length-set, get_or-set_same, get_or-set_other}
-use Rattle.std.proofs.lemmas.List.Sums.{fold_more, sum_by-set}
 use Rattle.replica_place.specs.Order.{load_of}
 use Rattle.provider_manager.specs.Loads.{with_replica, with_replicas}
 
 pub length-with_replicas : (loads ps : List ℕ) → length (with_replicas loads ps) ≡ length loads
 length-with_replicas loads [] = refl
 length-with_replicas loads (p ∷ ps) = length-with_replicas (with_replica loads p) ps ∙ length-set loads (p - 1) (load_of loads p + 1)
-
-pub sum-with_replica : (loads : List ℕ) (p : ℕ) → 1 ≤ p → p ≤ length loads → sum (with_replica loads p) ≡ sum loads + 1
-sum-with_replica loads p low high =
-    omega (arith, sum_by-set (λ x. x) loads (p - 1) (load_of loads p + 1) 0 (omega arith))
 
 -- a load whose provider got no replica
 pub with_replicas-other : (loads ps : List ℕ) (k : ℕ) → All (λ p. p - 1 ≢ k) ps → get_or (with_replicas loads ps) k 0 ≡ get_or loads k 0
@@ -33,7 +28,3 @@ with_replicas-one loads (p ∷ ps) zero small apart within =
 with_replicas-one loads (p ∷ ps) (suc i) small apart within =
     with_replicas-one (with_replica loads p) ps i (omega arith) (AreApart-tail p ps apart) (omega (arith, length-set loads (p - 1) (load_of loads p + 1)))
     ∙ ap (λ x. x + 1) (get_or-set_other loads (p - 1) (get_or ps i 0 - 1) (load_of loads p + 1) 0 (λ e. apart 0 (suc i) 0 (omega arith) (omega arith) (sym e)))
-
--- one provider more of those that get a replica
-pub with_replicas-more : (loads ps : List ℕ) (i : ℕ) → i < length ps → with_replicas loads (take (i + 1) ps) ≡ with_replica (with_replicas loads (take i ps)) (get_or ps i 0)
-with_replicas-more loads ps i h = fold_more with_replica loads ps i 0 h

@@ -1,5 +1,5 @@
 -- Pages placed one after another.
-use Rattle.std.proofs.Common.{◌≡◌, ℕ, ◌+◌, ◌*◌, inl, inr, List, [], ◌∷◌, ◌++◌, length, sum, All, refl, sym, ap, ◌∙◌, subst, arith}
+use Rattle.std.proofs.Common.{◌≡◌, ℕ, ◌+◌, ◌*◌, inl, inr, List, [], ◌∷◌, ◌++◌, length, sum, All, sym, ap, ◌∙◌, subst, arith}
 use Rattle.std.proofs.lemmas.List.{take-append-le, take_at, get_or_append_left, get_or_push, length_push}
 use Rattle.std.proofs.lemmas.List.Elements.{All-push}
 use Rattle.std.proofs.lemmas.List.Sums.{fold_push}
@@ -18,17 +18,6 @@ pub record IsAfter (start now : Book) (pages : List (List ℕ)) : Type 0 where
   pub sum_is : sum now.loads ≡ sum start.loads + length pages * start.replicas
   pub replicas : now.replicas ≡ start.replicas
   pub even : IsEven start.loads → IsEven now.loads
-
-pub after-none : (start : Book) → IsAfter start start []
-after-none start = record {
-  in_turn = λ k l. absurd (omega arith);
-  spread = λ k d l. absurd (omega arith);
-  loads = refl;
-  count = refl;
-  sum_is = omega arith;
-  replicas = refl;
-  even = λ h. h;
-}
 
 in_turn-push : (loads : List ℕ) (r : ℕ) (pages : List (List ℕ)) (page : List ℕ) → PlacedInTurn loads r pages → page ≡ least (loads_after loads pages) r → PlacedInTurn loads r (pages ++ page ∷ [])
 in_turn-push loads r pages page h is = λ k l.

@@ -1,7 +1,7 @@
 -- Lists of waiting updates.
 use Rattle.std.proofs.Common.{◌≡◌, ℕ, ◌+◌, ◌-◌, ◌<◌, List, [], ◌∷◌, ◌++◌, length, take, drop, arith, inl, inr, ap, sym, ◌∙◌, get_or, length-append, length-drop}
 use Rattle.std.proofs.lemmas.Bool.{cases_lt}
-use Rattle.std.proofs.lemmas.List.{get_or-drop, get_or_append_left, take-append-le}
+use Rattle.std.proofs.lemmas.List.{get_or_append_left, take-append-le}
 use Rattle.std.proofs.Math.Seq.{get_or-append_seam, take-length}
 use Rattle.range_log.specs.declared.open.OpenTouch.{OpenTouch}
 use Rattle.range_log.specs.Open.{no_open, open_at, Rises}
@@ -22,15 +22,6 @@ rises_push xs o rises next i lt =
           ∙ ap (λ k. V (get_or xs k no_open) + 1) f
           ∙ ap (λ x. V x + 1) (sym here)
     ]
-
-pub rises_drop : (xs : List OpenTouch) (n : ℕ) → Rises xs → Rises (drop n xs)
-rises_drop xs n rises i lt =
-    let count : length (drop n xs) ≡ length xs - n = length-drop n xs in
-    let V : OpenTouch → ℕ = λ (x : OpenTouch). x.version in
-    let e : n + (i + 1) ≡ n + i + 1 = omega arith in
-    ap V (get_or-drop n xs (i + 1) no_open ∙ ap (λ k. get_or xs k no_open) e)
-    ∙ rises (n + i) (omega arith)
-    ∙ ap (λ x. V x + 1) (sym (get_or-drop n xs i no_open))
 
 -- what is left of a list after its first part was turned to its end and cut off
 pub turned : (xs : List OpenTouch) (n kept : ℕ) → kept ≡ length xs - n → take kept (drop n xs ++ take n xs) ≡ drop n xs

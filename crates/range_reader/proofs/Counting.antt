@@ -7,7 +7,7 @@ use Rattle.page_store.specs.House.{House, IsProvider}
 use Rattle.page_store.specs.Page.{Place, IsAmong}
 use Rattle.page_fan.specs.Counts.{NoneFell, RoseAt}
 use Rattle.snapshot.specs.Versions.{Version}
-use Rattle.range_reader.specs.Faults.{CountsKept, AllRose, StoredFailed, PieceFailed, PageFailed}
+use Rattle.range_reader.specs.Faults.{CountsKept, AllRose, StoredFailed, PageFailed}
 
 pub kept_yet : (before : List ℕ) (sum : ℕ) → CountsKept before before sum sum
 kept_yet before sum = record { none_fell = record { same = refl; rises = λ i. omega arith }; total = omega arith }
@@ -31,9 +31,6 @@ all_since before mid now places kept rose =
 
 pub stored_since : (s : Version) (before mid now : List ℕ) (j q : ℕ) → NoneFell before mid → StoredFailed s mid now j q → StoredFailed s before now j q
 stored_since s before mid now j q kept f = record { stored = f.stored; is = f.is; failed = all_since before mid now f.stored.places kept f.failed }
-
-pub piece_since : (s : Version) (before mid now : List ℕ) (i j : ℕ) → NoneFell before mid → PieceFailed s mid now i j → PieceFailed s before now i j
-piece_since s before mid now i j kept f = record { number = f.number; piece = f.piece; failed = stored_since s before mid now j f.number kept f.failed }
 
 pub page_since : (s : Version) (before mid now : List ℕ) (i : ℕ) → NoneFell before mid → PageFailed s mid now i → PageFailed s before now i
 page_since s before mid now i kept f = record { version = f.version; number = f.number; needed = f.needed; failed = stored_since s before mid now f.version f.number kept f.failed }

@@ -1,42 +1,20 @@
 -- The parts of the nodes of a row.
-use Rattle.std.proofs.Common.{◌≡◌, ℕ, ◌*◌, ◌/◌, ◌<◌, ◌≤◌, List, arith, ap, sym, ◌∙◌, subst, inl, inr, true, false}
+use Rattle.std.proofs.Common.{◌≡◌, ℕ, ◌*◌, ◌/◌, ◌≤◌, List, arith, ap, sym, ◌∙◌, subst, inl, inr, true, false}
 use Rattle.std.specs.Prelude.{◌-◌, ◌%◌, ◌==◌, nat_lt, if◌then◌else◌, Bool}
 use Rattle.std.proofs.lemmas.Bool.Decides.{nat_tests}
 use Rattle.std.proofs.Math.Nat.{mul-div_cancel}
-use Rattle.tree_geom.specs.declared.range.Range.{Range}
 use Rattle.tree_geom.specs.declared.node.Node.{Node}
-use Rattle.tree_geom.specs.declared.node.Node.TheVariants.{Inner}
-use Rattle.tree_geom.specs.Geometry.{page_range, left_half, right_half}
-use Rattle.tree_geom.specs.Nodes.{back_link, is_leaf, start_of, first_of, second_of}
-use Rattle.range_log.specs.Log.{newest_of}
-use Rattle.range_log.specs.Extents.{Extent, extent_at, touches}
-use Rattle.range_log.specs.Rows.{node_of, leaf_of, inner_of, back_of, leaf_start, leaf_from, leaf_len, first_piece, second_piece, piece_count}
+use Rattle.tree_geom.specs.Geometry.{page_range}
+use Rattle.tree_geom.specs.Nodes.{back_link, start_of, first_of, second_of}
+use Rattle.range_log.specs.Extents.{Extent, extent_at}
+use Rattle.range_log.specs.Rows.{node_of, leaf_of, back_of, leaf_start, leaf_from, leaf_len, first_piece, second_piece, piece_count}
 use Rattle.range_reader.specs.Faults.{HasPieceIn}
-
-inner_is : (p j : ℕ) (xs : List Extent) (r : Range) → p < r.size → node_of p xs j r ≡ inner_of p xs j r
-inner_is p j xs r large = let e : (r.size == p) ≡ false = grind (arith, nat_tests) in rw e
 
 pub leaf_node : (p j i : ℕ) (xs : List Extent) → 1 ≤ p → node_of p xs j (page_range p i) ≡ leaf_of p xs j i
 leaf_node p j i xs pos =
     let e : (p == p) ≡ true = grind (arith, nat_tests) in
     let f : i * p / p ≡ i = mul-div_cancel i pos in
     rw e (ap (leaf_of p xs j) f)
-
-pub inner_links : (p j : ℕ) (xs : List Extent) (r : Range) (left right : ℕ) → p < r.size → Inner left right ≡ node_of p xs j r
-    → (left ≡ newest_of p (touches p xs) j (left_half r)) × (right ≡ newest_of p (touches p xs) j (right_half r))
-inner_links p j xs r left right large is =
-    let e : Inner left right ≡ Inner (newest_of p (touches p xs) j (left_half r)) (newest_of p (touches p xs) j (right_half r)) = is ∙ inner_is p j xs r large in
-    (cc, cc)
-
-pub not_leaf : (p j : ℕ) (xs : List Extent) (r : Range) (n : Node) → is_leaf n ≡ true → p < r.size → n ≡ node_of p xs j r → ⊥
-not_leaf p j xs r n leaf large is =
-    let e : is_leaf n ≡ false = ap is_leaf (is ∙ inner_is p j xs r large) in
-    cc
-
-pub not_inner : (p j i : ℕ) (xs : List Extent) (left right : ℕ) → 1 ≤ p → Inner left right ≡ node_of p xs j (page_range p i) → ⊥
-not_inner p j i xs left right pos is =
-    let e = is ∙ leaf_node p j i xs pos in
-    cc
 
 pub record PartsAre (p j i : ℕ) (xs : List Extent) (n : Node) : Type 0 where
   pub starts : start_of n ≡ leaf_start p (extent_at xs j) i

@@ -37,11 +37,6 @@ Run-append gap s (h ∷ hs) (r ∷ rs) mid hs' rs' s' (m, first, rest) run =
 Run-append gap s [] (r ∷ rs) mid hs' rs' s' none run = absurd none
 Run-append gap s (h ∷ hs) [] mid hs' rs' s' none run = absurd none
 
--- a run and then one item
-pub Run-more : (gap : Gap) (s : Session) (hs : List Heard) (rs : List Reply) (mid : Session) (h : Heard) (r : Reply) (s' : Session) →
-    Run gap s hs rs mid → ItemReply gap mid h r s' → Run gap s (hs ++ h ∷ []) (rs ++ r ∷ []) s'
-Run-more gap s hs rs mid h r s' run item = Run-append gap s hs rs mid (h ∷ []) (r ∷ []) s' run (s', item, refl)
-
 or_false : (a b : Bool) → (a || b) ≡ false → (a ≡ false) × (b ≡ false)
 or_false true b e = absurd (false≢true (sym e))
 or_false false b e = (refl, e)

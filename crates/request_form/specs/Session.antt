@@ -2,7 +2,7 @@ use Rattle.std.specs.Prelude.{◌≡◌, ℕ, ◌+◌, ◌==◌, if◌then◌els
 use Rattle.blob_model.specs.Limits.{Bounds}
 use Rattle.blob_model.specs.Store.{Store}
 use Rattle.blob_model.specs.Answer.{answer}
-use Rattle.blob_model.specs.History.{caller_of, store_of, entered}
+use Rattle.blob_model.specs.History.{caller_of, store_of}
 use Rattle.blob_model.specs.declared.call.Call.{Call}
 use Rattle.blob_model.specs.declared.call.Event.{Event}
 use Rattle.blob_model.specs.declared.call.Outcome.{Outcome}
@@ -42,10 +42,6 @@ store_at s more = store_of s.fixed.limits (s.seen ++ more)
 -- what the store answers a call once more events have come
 abbrev pub outcome_at : Session → List Event → Call → Outcome
 outcome_at s more call = (answer (store_at s more) s.caller call).1
-
--- those events, and then the call's own where it isn't refused
-abbrev pub entered_at : Session → List Event → Call → List Event
-entered_at s more call = more ++ entered (store_at s more) s.caller call
 
 -- the session once it has seen more
 abbrev pub sees : Session → List Event → Session

@@ -1,13 +1,11 @@
 -- Numbers in decimal digits, as std reads them.
-use Rattle.std.proofs.Common.{◌≡◌, ◌≢◌, ℕ, ◌^◌, ◌<◌, Bool, true, false, nat_le, List, [], ◌∷◌, length, get_or, Some, None, Result, Ok, Err, MatchResult, Bor, refl, sym, ap, ◌∙◌, arith}
-use Rattle.std.specs.Str.{all_ascii_digits, IsUtf8}
+use Rattle.std.proofs.Common.{◌≡◌, ◌≢◌, ℕ, ◌^◌, ◌<◌, Bool, true, false, nat_le, List, [], ◌∷◌, length, get_or, Some, None, Result, Ok, Err, refl, sym, ap, ◌∙◌, arith}
+use Rattle.std.specs.Str.{all_ascii_digits}
 use Rattle.std.specs.Str.Parse.{digits_value, ParsesUnsigned}
 use Rattle.std.specs.Result.{OkIff, result_ok}
 use Rattle.std.proofs.lemmas.Bool.{ne_eqb}
 use Rattle.std.proofs.Math.Bool.{and-true}
-use Rattle.std.proofs.lemmas.Str.{IsUtf8-from_ascii}
 use Rattle.std.proofs.lemmas.Str.Parse.{IsNumeralModel, numerals_by_value, tells_all_ascii_digits, parse_plain}
-use Rattle.std.proofs.lemmas.Fmt.{IsAscii-from_digits}
 use Rattle.std.proofs.lemmas.Bool.Decides.{nat_tests}
 use Rattle.std.specs.List.{slice_get}
 use Rattle.std.specs.Char.{is_ascii_digit}
@@ -25,37 +23,6 @@ is_numeral-plain (d ∷ e ∷ ds) some first = rw (ne_eqb d 48 first) refl
 -- no digits, no number
 no_digits : (field : List ℕ) → 0 < length field → get_or field 0 0 ≢ 48 → all_ascii_digits field ≡ false → number_of field ≡ None
 no_digits field some first e = rw (is_numeral-plain field some first ∙ e) refl
-
--- a sign is no digit
-pub number_of-plus : (field : List ℕ) → get_or field 0 0 ≡ 43 → number_of field ≡ None
-number_of-plus [] first = absurd (omega arith)
-number_of-plus (d ∷ []) first = rw first refl
-number_of-plus (d ∷ e ∷ ds) first = rw first refl
-
-pub number_of-empty : (field : List ℕ) → length field ≡ 0 → number_of field ≡ None
-number_of-empty [] e = refl
-number_of-empty (d ∷ ds) e = absurd (omega arith)
-
--- a zero alone
-pub number_of-zero : (field : List ℕ) → get_or field 0 0 ≡ 48 → length field ≡ 1 → number_of field ≡ Some 0
-number_of-zero [] first one = absurd (omega arith)
-number_of-zero (d ∷ []) first one = rw first refl
-number_of-zero (d ∷ e ∷ ds) first one = absurd (omega arith)
-
--- a zero and more
-pub number_of-leading_zero : (field : List ℕ) → get_or field 0 0 ≡ 48 → length field ≢ 1 → number_of field ≡ None
-number_of-leading_zero [] first many = absurd (omega arith)
-number_of-leading_zero (d ∷ []) first many = absurd (many refl)
-number_of-leading_zero (d ∷ e ∷ ds) first many = rw first refl
-
-not_true : (b : Bool) → b ≢ true → b ≡ false
-not_true true h = absurd (h refl)
-not_true false h = refl
-
--- what is no UTF-8 is no number
-pub number_of-no_text : (field : List ℕ) → 0 < length field → get_or field 0 0 ≢ 48 → ¬ (IsUtf8 field) → number_of field ≡ None
-number_of-no_text field some first no_text =
-    no_digits field some first (not_true (all_ascii_digits field) (λ e. no_text (IsUtf8-from_ascii field (IsAscii-from_digits field (own.to field e)))))
 
 in_range : (n : ℕ) → n < 2 ^ 64 → nat_le n max_number ≡ true
 in_range n h = grind (arith, nat_tests)
@@ -85,13 +52,3 @@ number_of-parsed field r some zero plus h = number_from field r some zero (parse
 pub first_is : (field : List ℕ) (x : ℕ) → Some x ≡ slice_get field 0 → (0 < length field) × (get_or field 0 0 ≡ x)
 first_is [] x e = absurd (cc)
 first_is (b ∷ bs) x e = (omega arith, cc)
-
-pub utf8_failed : {E : Type 0} (Q : E → Type 0) (r : Result (Bor (List ℕ)) E) (field : List ℕ) →
-    MatchResult r (λ s. (s.now ≡ field) × IsUtf8 field) (λ e. ¬ (IsUtf8 field) × Q e) → None ≡ result_ok r → ¬ (IsUtf8 field)
-utf8_failed Q (Ok s) field h e = absurd (cc)
-utf8_failed Q (Err x) field h e = h.0
-
-pub utf8_read : {E : Type 0} (Q : E → Type 0) (r : Result (Bor (List ℕ)) E) (field : List ℕ) (s : Bor (List ℕ)) →
-    MatchResult r (λ t. (t.now ≡ field) × IsUtf8 field) (λ e. ¬ (IsUtf8 field) × Q e) → Some s ≡ result_ok r → s.now ≡ field
-utf8_read Q (Ok t) field s h e = let same : s ≡ t = cc in ap (λ (x : Bor (List ℕ)). x.now) same ∙ h.0
-utf8_read Q (Err x) field s h e = absurd (cc)

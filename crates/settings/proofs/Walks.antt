@@ -105,10 +105,6 @@ plain_value (b ∷ bs) h = go (b == 45) refl h
 
 -- ---- the rule of a listed option
 
-RuleOf : List (Bytes × Bool) → Bytes → Type 0
-RuleOf options name = (needed : Bool) × (arg_by_long (option_rules options) name ≡ Some (option_rule (name, needed)))
-    × (arg_by_id (option_rules options) name ≡ Some (option_rule (name, needed)))
-
 pub rule_named : (options : List (Bytes × Bool)) (name : Bytes) → is_listed (names_in options) name ≡ true
     → (needed : Bool) × (arg_by_long (option_rules options) name ≡ Some (option_rule (name, needed)))
     × (arg_by_id (option_rules options) name ≡ Some (option_rule (name, needed)))

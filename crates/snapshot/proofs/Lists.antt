@@ -1,5 +1,5 @@
 -- Lists of rows, of updates and of where these fall.
-use Rattle.std.proofs.Common.{◌≡◌, ℕ, zero, suc, ◌+◌, ◌-◌, ◌<◌, ◌≤◌, List, [], ◌∷◌, ◌++◌, length, map, arith, refl, ap, sym, ◌∙◌, get_or}
+use Rattle.std.proofs.Common.{◌≡◌, ℕ, zero, suc, ◌+◌, ◌-◌, ◌<◌, ◌≤◌, List, [], ◌∷◌, ◌++◌, length, map, arith, refl, ap, ◌∙◌, get_or}
 use Rattle.std.specs.List.{range_with_len}
 use Rattle.std.proofs.lemmas.List.{length-map, get_or-map, get_or_append_left}
 use Rattle.std.proofs.Math.Seq.{get_or-append_seam}
@@ -7,13 +7,6 @@ use Rattle.blob_model.specs.Content.{Update}
 use Rattle.range_log.specs.Updates.{update_at, no_update}
 use Rattle.node_store.specs.Rows.{UpdateRow}
 use Rattle.snapshot.specs.Versions.{no_row, row_at, written, updates}
-
--- ---- rows
-pub row_at_read : {A : Type 0} (view : A → UpdateRow) (items : List A) (j : ℕ) (x : A) → 1 ≤ j → j ≤ length items → x ≡ get_or items (j - 1) x → row_at (map view items) j ≡ view x
-row_at_read view items zero x some le is = absurd (omega arith)
-row_at_read view items (suc i) x some le is =
-    let e : suc i - 1 ≡ i = omega arith in
-    get_or-map view items i x no_row le ∙ ap view (ap (λ n. get_or items n x) (sym e) ∙ sym is)
 
 pub row_at_front : (rows more : List UpdateRow) (k : ℕ) → k ≤ length rows → row_at (rows ++ more) k ≡ row_at rows k
 row_at_front rows more zero le = refl

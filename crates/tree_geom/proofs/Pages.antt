@@ -32,13 +32,6 @@ meets_by_pages p t r pos some =
     let c : nat_lt 0 r.size ≡ true = grind (arith, nat_tests) in
     rw (a, b, c) (grind (arith, nat_tests))
 
-pub few_doublings : (p h n : ℕ) → 4 ≤ p → p * 2 ^ h < n → n ≤ 2 ^ 40 → h < 38
-few_doublings p h n page lt fits =
-    elim (cases_lt h 38) [
-      | inl few ↦ few
-      | inr many ↦ absurd (let two : 0 < 2 = omega arith in let e : 2 ^ 38 ≤ 2 ^ h = pow-le-pow_right two many in let f : 4 * 2 ^ 38 ≤ p * 2 ^ h = mul-le 4 (2 ^ 38) p (2 ^ h) page e in omega arith)
-    ]
-
 pub small_power : (k : ℕ) → k ≤ 20 → 2 ^ k ≤ 1048576
 small_power k h = let two : 0 < 2 = omega arith in let e : 2 ^ k ≤ 2 ^ 20 = pow-le-pow_right two h in omega arith
 

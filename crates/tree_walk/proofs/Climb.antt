@@ -142,12 +142,6 @@ enter p log w a inside = record {
   above = a.above inside;
 }
 
--- the page of the range that is a page
-pub page_here : (p : ℕ) (log : List Touch) (v top i at : ℕ) (rights : List ℕ) → Down p log v top i 0 at rights → at ≡ newest_of p log v (page_range p i)
-page_here p log v top i at rights d =
-    let e : i / 2 ^ 0 ≡ i = omega arith in
-    d.newest ∙ ap (λ c. newest_of p log v (tree_range p 0 c)) e ∙ ap (newest_of p log v) (sym (page_aligned p i))
-
 pub page_count : (p i size top : ℕ) → 1 ≤ p → top ≡ height_of p size → i * p < size → i < 2 ^ top
 page_count p i size top pos high inside =
     let enough : size ≤ p * 2 ^ height_of p size = (heights_hold p size pos).reaches in

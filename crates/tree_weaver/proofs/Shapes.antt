@@ -113,9 +113,6 @@ level_range heights span nest p h q u pos some ends low from to =
       met = (omega arith, omega arith, size_pos p h pos);
     }
 
-pub level_fits : (p h q root : ℕ) (u : Touch) → IsRowRange p u (tree_range p h q) → span_of p u.size ≤ 2 ^ 40 → q * (p * 2 ^ h) + p * 2 ^ h ≤ 2 ^ 40
-level_fits p h q root u is fits = omega (arith, is.within)
-
 -- a page's node is its leaf, a larger range's an inner node
 pub node_leaf : (t : NumberedUpdate) (h q : ℕ) → 1 ≤ t.snapshot.page_size → h ≡ 0 → own_leaf t q ≡ own_node t (tree_range t.snapshot.page_size h q)
 node_leaf t h q pos e =

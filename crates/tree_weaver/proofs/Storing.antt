@@ -4,7 +4,7 @@ use Rattle.std.specs.Prelude.{Option, Some, IfSome, All, slice_get}
 use Rattle.std.proofs.lemmas.List.{length-map, length-take-le, get_or-map, get_or-take, map-append}
 use Rattle.std.proofs.lemmas.List.Elements.{All-append}
 use Rattle.std.proofs.lemmas.Option.{slice_get-get_or}
-use Rattle.std.proofs.Math.Seq.{take-suc, take-length}
+use Rattle.std.proofs.Math.Seq.{take-suc}
 use Rattle.boxcar.specs.Table.{Shelves}
 use Rattle.tree_geom.specs.declared.range.Range.{Range}
 use Rattle.tree_geom.specs.declared.node.Node.{Node}
@@ -72,9 +72,6 @@ only house placed is (suc k) d lt = absurd (omega arith)
 
 pub here_more : (house : List Shelves) (nodes : List PlacedNode) (placed : PlacedNode) → All (IsIn house) nodes → IsIn house placed → All (IsIn house) (nodes ++ placed ∷ [])
 here_more house nodes placed all is = All-append (IsIn house) nodes (placed ∷ []) all (only house placed is)
-
-pub all_stored : (row : UpdateRow) (planned : List (Range × Node)) (i : ℕ) → i ≡ length planned → pairs_of row ≡ take i planned → pairs_of row ≡ planned
-all_stored row planned i e is = is ∙ ap (λ n. take n planned) e ∙ take-length planned
 
 pub pair_is : (a : Range) (n : Node) (x : Range × Node) → a ≡ x.0 → n ≡ x.1 → (a, n) ≡ x
 pair_is a n x e f = let made : Range → Node → Range × Node = λ r m. (r, m) in ap (λ r. made r n) e ∙ ap (made x.0) f
