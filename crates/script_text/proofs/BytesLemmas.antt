@@ -10,7 +10,7 @@ use Rattle.hex.proofs.HexLemmas.{IsDigits-lower_digits}
 use Rattle.script_text.specs.Fields.{bytes_of}
 
 -- a byte in front of bytes, where there are both
-abbrev with_byte : Option ℕ → Option (List ℕ) → Option (List ℕ)
+abbrev pub with_byte : Option ℕ → Option (List ℕ) → Option (List ℕ)
 with_byte (Some b) (Some bs) = Some (b ∷ bs)
 with_byte (Some b) None = None
 with_byte None o = None
@@ -20,7 +20,7 @@ with_byte-none (Some b) = refl
 with_byte-none None = refl
 
 -- the bytes of pairs of digits
-abbrev pairs : List ℕ → Option (List ℕ)
+abbrev pub pairs : List ℕ → Option (List ℕ)
 pairs [] = Some []
 pairs (digit ∷ []) = None
 pairs (high ∷ low ∷ rest) = with_byte (result_ok (pair_value high low 0)) (pairs rest)
@@ -55,7 +55,7 @@ pairs-odd (digit ∷ []) h = refl
 pairs-odd (high ∷ low ∷ rest) h =
     ap (λ (o : Option (List ℕ)). with_byte (result_ok (pair_value high low 0)) o) (pairs-odd rest (omega arith)) ∙ with_byte-none (result_ok (pair_value high low 0))
 
-decode_of-is : (s : List ℕ) → result_ok (decode_of s) ≡ pairs s
+pub decode_of-is : (s : List ℕ) → result_ok (decode_of s) ≡ pairs s
 decode_of-is s = go (length s % 2 == 1) refl
   where
     go : (b : Bool) → (length s % 2 == 1) ≡ b → result_ok (cond b (Err OddLength) (decode_pairs 0 s)) ≡ pairs s

@@ -127,7 +127,7 @@ some_digit : (c : ℕ) (o : Option ℕ) → hex_digit_value c ≡ o → is_some 
 some_digit c (Some v) e h = digit_solid_by c v e
 some_digit c None e h = absurd (cc)
 
-digit_solid : (c : ℕ) → is_hex_digit c ≡ true → 35 < c
+pub digit_solid : (c : ℕ) → is_hex_digit c ≡ true → 35 < c
 digit_solid c h = some_digit c (hex_digit_value c) refl h
 
 glyph_solid : (d : ℕ) → d < 16 → 35 < slice_index lower_digits d

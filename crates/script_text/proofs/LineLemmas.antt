@@ -1,10 +1,10 @@
 -- A line as its bytes come, a carriage return among them.
-use Rattle.std.proofs.Common.{◌≡◌, ◌≢◌, ◌∙◌, ◌⊎◌, inl, inr, ℕ, ◌+◌, ◌-◌, ◌<◌, ◌≤◌, ◌==◌, Bool, true, false, List, [], ◌∷◌, ◌++◌, length, take, drop, slice_index, Option, Some, None, Result, Ok, Err, OnOk, refl, sym, ap, subst, arith, append_assoc, append-nil, take-add, length-drop, get_or-drop}
+use Rattle.std.proofs.Common.{◌≡◌, ◌≢◌, ◌∙◌, ◌⊎◌, inl, inr, ℕ, ◌+◌, ◌-◌, ◌<◌, ◌≤◌, ◌==◌, Bool, true, false, List, [], ◌∷◌, ◌++◌, length, take, drop, slice_index, Option, Some, None, Result, Ok, Err, IfOk, OnOk, refl, sym, ap, subst, arith, append_assoc, append-nil, take-add, length-drop, get_or-drop}
 use Rattle.std.specs.Str.Lines.{strip_carriage_return}
 use Rattle.std.proofs.lemmas.Bool.{ne_eqb}
 use Rattle.std.proofs.lemmas.List.Elements.{All-nil, All-cons, All-push, All-append}
 use Rattle.script_text.specs.Lines.{item_of_text, item_of, heard}
-use Rattle.script_text.specs.Begun.{IsWithout, GoesOnAs, begun_text, IsBegun, AddsShort, return_text, IsDropped, TakesFront}
+use Rattle.script_text.specs.Begun.{IsWithout, GoesOnAs, begun_text, IsBegun, AddsShort, TakesSolid, return_text, IsDropped, TakesSome, TakesFront}
 use Rattle.script_text.specs.declared.line.Begun.{Begun}
 use Rattle.script_text.specs.declared.line.Begun.TheVariants.{Word, Asked, Comment, Malformed}
 use Rattle.script_text.proofs.HeardLemmas.{goes_on}
@@ -101,6 +101,50 @@ add_behind (Ok u) old mid new n n' n'' byte ret ret' line seen there none begun 
     λ more. ap (λ (l : List ℕ). heard (l ++ more)) text ∙ goes more ∙ ap (λ (l : List ℕ). heard (l ++ more)) next
 
 -- ---- more of a piece
+
+solid_text : (old new : Begun) (piece : List ℕ) (count : ℕ) → IsBegun old → IsBegun new → TakesSolid old piece new count → (zs : List ℕ) → item_of ((begun_text old ++ take count piece) ++ zs) ≡ item_of (begun_text new ++ zs)
+solid_text old new piece count begun begun' t zs =
+    let was = begun_without old begun in
+    let now = begun_without new begun' in
+    item_plain (begun_text old ++ take count piece) zs (All-append (λ x. (x == 13) ≡ false) (begun_text old) (take count piece) was.1 t.no_return)
+    ∙ t.says (strip_carriage_return zs)
+    ∙ sym (item_plain (begun_text new) zs now.1)
+
+-- bytes that are no end of a line, where no carriage return waits
+solid_goes : (old new : Begun) (ret : Bool) (line line' piece : List ℕ) (count : ℕ) → begun_text old ++ return_text ret ≡ line → begun_text new ++ return_text ret ≡ line' → ret ≡ false → IsBegun old → IsBegun new
+    → TakesSolid old piece new count → TakesSome line piece line' count
+solid_goes old new ret line line' piece count seen seen' none begun begun' t =
+    let was = begun_without old begun in
+    let now = begun_without new begun' in
+    let text : line ≡ begun_text old = sym seen ∙ ap (λ (b : Bool). begun_text old ++ return_text b) none ∙ no_return (begun_text old) in
+    let next : begun_text new ≡ line' = sym (ap (λ (b : Bool). begun_text new ++ return_text b) none ∙ no_return (begun_text new)) ∙ seen' in
+    let goes = goes_on (begun_text old ++ take count piece) (begun_text new) (All-append (λ x. (x == 10) ≡ false) (begun_text old) (take count piece) was.0 t.no_feed) now.0 (solid_text old new piece count begun begun' t) in
+    record {
+      within = t.within;
+      goes_on = λ more. ap (λ (l : List ℕ). heard ((l ++ take count piece) ++ more)) text ∙ goes more ∙ ap (λ (l : List ℕ). heard (l ++ more)) next;
+    }
+
+pub solid_ok : {E : Type 0} (r : Result ℕ E) (old new : Begun) (ret : Bool) (line piece : List ℕ) → begun_text old ++ return_text ret ≡ line → ret ≡ false → IsBegun old → IsBegun new
+    → IfOk r (λ count. TakesSolid old piece new count) → IfOk r (λ count. TakesSome line piece (begun_text new ++ return_text ret) count)
+solid_ok (Err e) old new ret line piece seen none begun begun' t = tt
+solid_ok (Ok count) old new ret line piece seen none begun begun' t = solid_goes old new ret line (begun_text new ++ return_text ret) piece count seen refl none begun begun' t
+
+-- what comes off the rest of a piece, behind what came off its front
+pub takes_on : (line piece now slice now' : List ℕ) (count more : ℕ) → count ≤ length piece → slice ≡ drop count piece → GoesOnAs (line ++ take count piece) now → TakesSome now slice now' more → TakesSome line piece now' (count + more)
+takes_on line piece now slice now' count more within is before t =
+    let there : length slice ≡ length piece - count = ap (λ (l : List ℕ). length l) is ∙ length-drop count piece in
+    let part : take count piece ++ take more slice ≡ take (count + more) piece = ap (λ (l : List ℕ). take count piece ++ take more l) is ∙ sym (take-add count more piece) in
+    let some_more : more ≤ length slice = t.within in
+    record {
+      within = omega arith;
+      goes_on = λ zs.
+          ap (λ (l : List ℕ). heard ((line ++ l) ++ zs)) (sym part)
+          ∙ ap (λ (l : List ℕ). heard (l ++ zs)) (sym (append_assoc line (take count piece) (take more slice)))
+          ∙ ap (λ (l : List ℕ). heard l) (append_assoc (line ++ take count piece) (take more slice) zs)
+          ∙ before (take more slice ++ zs)
+          ∙ ap (λ (l : List ℕ). heard l) (sym (append_assoc now (take more slice) zs))
+          ∙ t.goes_on zs;
+    }
 
 -- ---- lines of which nothing is kept
 

@@ -67,6 +67,13 @@ pub record AddsShort (begun : Begun) (count byte : ℕ) (begun' : Begun) (count'
   pub short : count' ≤ 4194304
   pub says : SaysAs (begun_text begun ++ byte ∷ []) (begun_text begun')
 
+-- bytes that are no end of a line have come off the front of a piece
+pub record TakesSolid (begun : Begun) (piece : List ℕ) (begun' : Begun) (count : ℕ) : Type 0 where
+  pub within : count ≤ length piece
+  pub no_feed : IsWithout 10 (take count piece)
+  pub no_return : IsWithout 13 (take count piece)
+  pub says : SaysAs (begun_text begun ++ take count piece) (begun_text begun')
+
 -- the carriage return that has come behind a text, and is its end's if nothing follows
 abbrev pub return_text : Bool → List ℕ
 return_text true = 13 ∷ []
@@ -75,6 +82,11 @@ return_text false = []
 -- whatever comes of the line says nothing more
 abbrev pub IsDropped : List ℕ → Type 0
 IsDropped line = (bytes : List ℕ) → IsWithout 10 bytes → GoesOnAs (line ++ bytes) line
+
+-- some bytes of a line have come off the front of a piece
+pub record TakesSome (line piece line' : List ℕ) (count : ℕ) : Type 0 where
+  pub within : count ≤ length piece
+  pub goes_on : GoesOnAs (line ++ take count piece) line'
 
 -- bytes of a line have come off the front of a piece: all of them, or all before a line feed
 pub record TakesFront (line piece line' : List ℕ) (count : ℕ) : Type 0 where

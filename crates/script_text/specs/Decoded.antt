@@ -1,9 +1,9 @@
 -- What is kept of a command's fields, and the text in whose place it stands.
-use Rattle.std.specs.Prelude.{◌≡◌, ◌≢◌, ◌⊎◌, ◌<◌, ◌+◌, ◌^◌, ℕ, Bool, true, false, List, [], ◌∷◌, ◌++◌, length, Option, Some, None, codes}
-use Rattle.std.specs.List.{All}
+use Rattle.std.specs.Prelude.{◌≡◌, ◌≢◌, ◌⊎◌, ◌<◌, ◌≤◌, ◌+◌, ◌^◌, ℕ, Bool, true, false, List, [], ◌∷◌, ◌++◌, length, take, Option, Some, None, Ok, codes}
+use Rattle.std.specs.List.{All, AllPass}
 use Rattle.std.specs.Option.{option_to_list, IfSome}
 use Rattle.std.specs.Fmt.{decimal}
-use Rattle.hex.specs.Hex.{encode_lower, is_hex_digit, IsBytes}
+use Rattle.hex.specs.Hex.{encode_lower, decode_of, is_hex_digit, IsBytes}
 use Rattle.frame_wire.specs.declared.operation.Operation.{Operation}
 use Rattle.frame_wire.specs.Operations.{numbers_of, has_bytes}
 use Rattle.script_text.specs.declared.fields.Part.{Part}
@@ -85,3 +85,17 @@ EndsNumber operation numbers (Some n) numbers' (Some part) = (numbers' ≡ numbe
 abbrev pub AddsByte : List ℕ → ℕ → List ℕ → Bool → Type 0
 AddsByte text byte text' true = AsksAs (text ++ byte ∷ []) text' × (length text' ≡ length text + 1)
 AddsByte text byte text' false = AsksNothing (text ++ byte ∷ [])
+
+-- the bytes that pairs of digits spell stand behind those that were there
+pub record Decodes (bytes digits bytes' : List ℕ) : Type 0 where
+  pub spelled : List ℕ
+  pub spells : decode_of digits ≡ Ok spelled
+  pub behind : bytes' ≡ bytes ++ spelled
+
+-- pairs of digits have come off the front of a piece, in no more than so many bytes
+pub record TakesPairs (text piece : List ℕ) (room : ℕ) (text' : List ℕ) (count : ℕ) : Type 0 where
+  pub within : count ≤ length piece
+  pub few : count ≤ room
+  pub digits : AllPass is_hex_digit (take count piece)
+  pub asks : AsksAs (text ++ take count piece) text'
+  pub longer : length text' ≡ length text + count

@@ -1,13 +1,15 @@
-ghost use Rattle.std.specs.Prelude.{◌≡◌, ◌≤◌, ◌<◌, ◌+◌, ◌^◌, ◌==◌, ◌∷◌, ◌++◌, [], length, true, IfOk, OnErr, MatchOption};
+ghost use Rattle.std.specs.Prelude.{◌≡◌, ◌≤◌, ◌<◌, ◌+◌, ◌-◌, ◌*◌, ◌%◌, ◌^◌, ◌==◌, ◌∷◌, ◌++◌, [], length, take, true, false, IfOk, OnOk, OnErr, MatchOption};
+ghost use Rattle.std.specs.Bool.{MatchBool};
+ghost use Rattle.std.specs.List.{AllPass};
 ghost use Rattle.std.specs.Fmt.{decimal};
 ghost use Rattle.std.specs.Result.{result_ok};
-ghost use Rattle.hex.specs.Hex.{pair_value};
+ghost use Rattle.hex.specs.Hex.{pair_value, is_hex_digit};
 ghost use Rattle.frame_wire.specs.Operations.{numbers_of};
 ghost use Rattle.script_text.specs.Requests.{request_of};
 ghost use Rattle.script_text.specs.Lines.{fields_of};
 ghost use Rattle.script_text.specs.Begun.{IsPlain};
 ghost use Rattle.script_text.specs.Commands.{command_of};
-ghost use Rattle.script_text.specs.Decoded.{digits_of, SpellsNoNumber, IsDecoded, IsFieldBehind, BeginsPair, EndsNumber, Adds, AddsByte, AsksNothing};
+ghost use Rattle.script_text.specs.Decoded.{digits_of, SpellsNoNumber, IsDecoded, IsFieldBehind, BeginsPair, EndsNumber, Adds, AddsByte, AsksNothing, Decodes, TakesPairs};
 
 use arrayvec::ArrayVec;
 use blob_model::Bytes;
@@ -131,6 +133,67 @@ fn pair(high: u8, low: u8) -> Option<u8>
     }
 }
 
+// Whether a byte is no hex digit.
+fn is_other(byte: u8) -> bool
+    ensures { MatchBool result (is_hex_digit byte ≡ false) (is_hex_digit byte ≡ true) }
+{
+    !byte.is_ascii_hexdigit()
+}
+
+// How many bytes come before the first that is no hex digit.
+fn before_other(piece: &[u8]) -> usize
+    ensures within { result ≤ length piece.now }
+    ensures digits { AllPass is_hex_digit (take result piece.now) }
+{
+    match piece.iter().position(|b| is_other(*b)) {
+        Some(at) => at,
+        None => piece.len(),
+    }
+}
+
+// The pairs of hex digits at the front of a piece, in no more than so many bytes.
+fn pairs_of(piece: &[u8], room: usize) -> &[u8]
+    ensures front { result.now ≡ take (length result.now) piece.now }
+    ensures within { length result.now ≤ length piece.now }
+    ensures few { length result.now ≤ room }
+    ensures even { length result.now % 2 ≡ 0 }
+    ensures digits { AllPass is_hex_digit result.now }
+{
+    let front = &piece[..room.min(piece.len())];
+    let count = before_other(front);
+    &front[..count - count % 2]
+}
+
+// Decodes pairs of hex digits into the bytes behind the first `held`, which are as many as the pairs.
+fn decode_behind(all: &mut [u8], held: usize, digits: &[u8])
+    requires held { held ≤ length all.old }
+    requires room { length digits.now ≡ 2 * (length all.old - held) }
+    requires digits { AllPass is_hex_digit digits.now }
+    ensures { Decodes (take held all.old) digits.now all.new }
+{
+    match decode_to_slice(digits, &mut all[held..]) {
+        Ok(()) => {}
+        Err(_) => unreachable!(),
+    }
+}
+
+// Puts the bytes that pairs of hex digits spell behind those that have come.
+fn push_pairs(bytes: &mut Vec<u8>, digits: &[u8]) -> Result<(), NoMemory>
+    requires even { length digits.now % 2 ≡ 0 }
+    requires digits { AllPass is_hex_digit digits.now }
+    ensures ok { OnOk result (Decodes bytes.old.items digits.now bytes.new.items) }
+    ensures err { OnErr result (bytes.new.items ≡ bytes.old.items) }
+{
+    let held = bytes.len();
+    match bytes.resize(held + digits.len() / 2, 0) {
+        Ok(()) => {
+            decode_behind(bytes.as_mut_slice(), held, digits);
+            Ok(())
+        }
+        Err(_) => Err(NoMemory),
+    }
+}
+
 // Adds one more byte, and says which part has come then.
 fn next_part(
     operation: Operation,
@@ -196,6 +259,23 @@ impl Fields {
                 Ok(true)
             }
             None => Ok(false),
+        }
+    }
+
+    /// Takes pairs of hex digits off the front of a piece, in no more than `room` bytes. Answers how many bytes they are: none
+    /// where the first byte isn't the first digit of a pair.
+    pub fn take_pairs(&mut self, piece: &[u8], room: usize) -> Result<usize, NoMemory>
+        ensures takes { IfOk result (λ count. TakesPairs self.old piece.now room self.new count) }
+        ensures same { OnErr result (self.new ≡ self.old) }
+        ensures plain { IsPlain self.new }
+    {
+        match self.part {
+            Part::Digits(None) => {
+                let digits = pairs_of(piece, room);
+                push_pairs(&mut self.bytes, digits)?;
+                Ok(digits.len())
+            }
+            _ => Ok(0),
         }
     }
 

@@ -4,7 +4,7 @@ ghost use Rattle.std.specs.List.{All};
 ghost use Rattle.script_text.specs.Requests.{forms, request_in, request_of};
 ghost use Rattle.script_text.specs.Commands.{command_of};
 ghost use Rattle.script_text.specs.Lines.{fields_of, heard_as, item_of_text, item_of};
-ghost use Rattle.script_text.specs.Begun.{IsWithout, GoesOnAs, SaysAs, IsLetter, begun_text, IsBegun, Counts, IsTooLong, AddsShort, IsDropped, TakesFront};
+ghost use Rattle.script_text.specs.Begun.{IsWithout, GoesOnAs, SaysAs, IsLetter, begun_text, IsBegun, Counts, IsTooLong, AddsShort, TakesSolid, IsDropped, TakesSome, TakesFront};
 ghost use Rattle.script_text.specs.Begun as spec;
 
 use crate::command::operation_of;
@@ -176,6 +176,26 @@ fn push(alloc: Global, begun: &mut Begun, length: &mut usize, byte: u8) -> Resul
     Ok(())
 }
 
+// Takes pairs of hex digits of a line of `length` bytes off the front of a piece. Answers how many bytes they are.
+fn take_pairs(begun: &mut Begun, length: &mut usize, piece: &[u8]) -> Result<usize, NoMemory>
+    requires begun { IsBegun begun.old }
+    requires counts { Counts begun.old length.old }
+    requires short { length.old ≤ 4194304 }
+    ensures ok { IfOk result (λ count. TakesSolid begun.old piece.now begun.new count) }
+    ensures begun { IsBegun begun.new }
+    ensures counts { Counts begun.new length.new }
+    ensures short { length.new ≤ 4194304 }
+{
+    match begun {
+        Begun::Asked(fields) => {
+            let count = fields.take_pairs(piece, MAX_LINE - *length)?;
+            *length += count;
+            Ok(count)
+        }
+        _ => Ok(0),
+    }
+}
+
 // How many bytes come before the line feed.
 fn before_line_feed(piece: &[u8]) -> usize
     ensures within { result ≤ length piece.now }
@@ -259,6 +279,35 @@ impl Line {
         }
     }
 
+    // Takes pairs of hex digits off the front of a piece, where no carriage return waits. Answers how many bytes they are.
+    fn take_pairs(&mut self, piece: &[u8]) -> Result<usize, NoMemory>
+        requires { IsWithout 10 self.old }
+        ensures ok { IfOk result (λ count. TakesSome self.old piece.now self.new count) }
+        ensures line { IsWithout 10 self.new }
+    {
+        if self.returned {
+            return Ok(0);
+        }
+        take_pairs(&mut self.begun, &mut self.length, piece)
+    }
+
+    // Takes bytes of the line off the front of a piece: pairs of hex digits, or one byte. Answers how many.
+    fn take_some(&mut self, piece: &[u8]) -> Result<usize, NoMemory>
+        requires some { 0 < length piece.now }
+        requires byte { slice_index piece.now 0 ≢ 10 }
+        requires line { IsWithout 10 self.old }
+        ensures some { IfOk result (λ count. 0 < count) }
+        ensures ok { IfOk result (λ count. TakesSome self.old piece.now self.new count) }
+        ensures line { IsWithout 10 self.new }
+    {
+        let count = self.take_pairs(piece)?;
+        if count > 0 {
+            return Ok(count);
+        }
+        self.add(piece[0])?;
+        Ok(1)
+    }
+
     /// Takes bytes of the line off the front of a piece: all there are, or all before a line feed. Answers how many.
     pub fn take(&mut self, piece: &[u8]) -> Result<usize, NoMemory>
         requires { IsWithout 10 self.old }
@@ -270,8 +319,7 @@ impl Line {
             if self.is_dropped() {
                 return Ok(count + before_line_feed(&piece[count..]));
             }
-            self.add(piece[count])?;
-            count += 1;
+            count += self.take_some(&piece[count..])?;
         }
         Ok(count)
     }
