@@ -3,6 +3,7 @@
 ghost use Rattle.std.specs.Prelude.{◌≡◌, ◌<◌, []};
 
 use crate::noted::{Act, Noted};
+use crate::sizes::Sizes;
 use crate::unasked::Unasked;
 use request_form::Dialect;
 use script_text::ScriptDialect;
@@ -95,5 +96,49 @@ fn replies_to_many_lines_are_written_in_few_writes(rt: HostRuntime) -> Result<()
     // Three whole pieces of 32,768 lines, the rest of 1,696 lines, and the end. Fewer than 65,536 bytes are held.
     assert_eq!(rt; reads, 5);
     assert_eq!(rt; writes, 3 * 9 + 1);
+    assert!(rt; writes as usize <= bytes / 65_536 + reads as usize);
+    Ok(())
+}
+
+// What is done with a stream whose replies are so many thousand bytes long each.
+fn acts_of_sizes<R: Wait + Threads + Sync>(
+    rt: &R,
+    alloc: Global,
+    sizes: &[u8],
+) -> Result<Noted, Fail> {
+    let mut dialect = Sizes::new(alloc)?;
+    acts_of(
+        rt,
+        alloc,
+        &mut dialect,
+        sizes.to_vec(alloc)?,
+        usize::MAX,
+        End::InputEnd,
+    )
+}
+
+#[test]
+fn a_long_reply_is_written_by_itself(rt: HostRuntime) -> Result<(), Fail> {
+    // Those before it go out in one write, and those behind it are gathered again.
+    let io = acts_of_sizes(&rt, rt.alloc(), &[1, 2, 100, 3, 4, 5])?;
+    let expected = [
+        Act::Read,
+        Act::Wrote(3_000),
+        Act::Wrote(100_000),
+        Act::Wrote(12_000),
+        Act::Read,
+    ];
+    assert_eq!(rt; io.acts(), expected.as_slice());
+    // Where none is held, it goes out at once. One of 65,000 bytes is held, and goes out where another doesn't fit.
+    let io = acts_of_sizes(&rt, rt.alloc(), &[100, 66, 65, 1])?;
+    let expected = [
+        Act::Read,
+        Act::Wrote(100_000),
+        Act::Wrote(66_000),
+        Act::Wrote(65_000),
+        Act::Wrote(1_000),
+        Act::Read,
+    ];
+    assert_eq!(rt; io.acts(), expected.as_slice());
     Ok(())
 }

@@ -8,4 +8,6 @@ mod gathering;
 #[cfg(test)]
 mod noted;
 #[cfg(test)]
+mod sizes;
+#[cfg(test)]
 mod unasked;
