@@ -7,7 +7,7 @@ ghost use Rattle.blob_server.specs.declared.server.ServeFault.TheVariants as Fau
 
 use crate::desk::Desk;
 use crate::pool::work_all;
-use crate::sessions::{end_session, end_sessions, sessions_of};
+use crate::sessions::{end_sessions, sessions_of};
 use client_session::{Owner, Shared};
 use page_store::DoorMaker;
 use ports::gate::Gate;
@@ -15,6 +15,7 @@ use ports::listener::Listener;
 use std::alloc::Global;
 use std::sync::Wait;
 use std::thread::Threads;
+use store_sessions::end_session;
 
 /// Why serving ended before all connections were served.
 #[derive(Clone, Copy, Debug, PartialEq, Eq)]

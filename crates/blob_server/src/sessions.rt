@@ -1,75 +1,15 @@
 // The sessions of the workers: made before the first peer is taken, and ended after the last one.
 ghost use Rattle.std.specs.Prelude.{◌≡◌, ◌≤◌, ◌<◌, ◌+◌, ◌-◌, ◌^◌, ◌↔◌, ℕ, min, length, All, IfOk, OnOk, OnErr, IfErr, sum_by, vec_len};
 ghost use Rattle.turn_lock.specs.History.{Begins};
-ghost use Rattle.client_session.specs.Sessions.{IsOwnerOf, IsPassOf};
+ghost use Rattle.client_session.specs.Sessions.{IsOwnerOf};
 ghost use Rattle.blob_server.specs.Peers.{IsIdle, faults_of_doors};
 
-use client_session::{Owner, Pass, Session, Shared};
-use page_fan::Doors;
+use client_session::{Owner, Session, Shared};
 use page_store::DoorMaker;
 use ports::gate::Gate;
 use request_form::NoMemory;
 use std::alloc::Global;
-
-// A pass goes back to the store's owner, and doors to their maker, which adds up what they counted.
-fn give_back<M: DoorMaker>(
-    shared: &Shared,
-    owner: &mut Owner,
-    maker: &mut M,
-    pass: Pass,
-    doors: Doors<M::Door>,
-)
-    requires owner { IsOwnerOf shared.now owner.old }
-    requires pass { IsPassOf shared.now pass }
-    ensures out { owner.old.out ≡ owner.new.out + 1 }
-    ensures made { owner.new.made ≡ owner.old.made }
-    ensures seen { Begins owner.old.seen owner.new.seen }
-    ensures owner { IsOwnerOf shared.now owner.new }
-    ensures doors { min (M.faults maker.old + sum_by M.Door.faults doors) (2 ^ 64 - 1) ≤ M.faults maker.new }
-    ensures truth_stays { M.is_true maker.old ↔ M.is_true maker.new }
-    ensures plan_stays { (n : ℕ) (door : _) → M.makes maker.old n door ↔ M.makes maker.new n door }
-{
-    shared.take_back(owner, pass);
-    doors.back(maker);
-}
-
-// A session with a new pass and new doors. Where no memory is found the pass and the doors have gone back.
-fn session_of<'a, M: DoorMaker, G: Gate>(
-    alloc: Global,
-    shared: &'a Shared,
-    owner: &mut Owner,
-    maker: &mut M,
-    gate: &'a G,
-) -> Result<Session<'a, M::Door, G>, NoMemory>
-    requires owner { IsOwnerOf shared.now owner.old }
-    requires passes_left { owner.old.made < 1024 }
-    requires true_doors { M.is_true maker.old }
-    ensures idle { IfOk result (λ s. IsIdle shared.now s) }
-    ensures made { OnOk result (owner.new.made ≡ owner.old.made + 1) }
-    ensures out { OnOk result (owner.new.out ≡ owner.old.out + 1) }
-    ensures made_most { (owner.old.made ≤ owner.new.made) × (owner.new.made ≤ owner.old.made + 1) }
-    ensures none_out { OnErr result (owner.new.out ≡ owner.old.out) }
-    ensures seen { Begins owner.old.seen owner.new.seen }
-    ensures owner { IsOwnerOf shared.now owner.new }
-    ensures doors { M.faults maker.new < 2 ^ 64 - 1 → M.faults maker.old ≤ M.faults maker.new }
-    ensures truth_stays { M.is_true maker.old ↔ M.is_true maker.new }
-    ensures plan_stays { (n : ℕ) (door : _) → M.makes maker.old n door ↔ M.makes maker.new n door }
-{
-    let Ok(doors) = Doors::new(alloc, maker, shared.providers()) else {
-        return Err(NoMemory);
-    };
-    let Ok(pass) = shared.pass(owner) else {
-        // Fewer passes than a store may have were made.
-        unreachable!()
-    };
-    match Session::new(alloc, shared, gate, pass, doors) {
-        Ok(session) => Ok(session),
-        Err((pass, doors)) => {
-            give_back(shared, owner, maker, pass, doors);
-            Err(NoMemory)
-        }
-    }
-}
+use store_sessions::{end_session, open_session};
 
 /// A session for each worker, with a new pass and new doors. Where no memory is found, what was made has gone back.
 pub(crate) fn sessions_of<'a, M: DoorMaker, G: Gate>(
@@ -99,7 +39,7 @@ pub(crate) fn sessions_of<'a, M: DoorMaker, G: Gate>(
         return Err(NoMemory);
     };
     for _ in 0..workers {
-        match session_of(alloc, shared, owner, maker, gate) {
+        match open_session(alloc, shared, owner, maker, gate) {
             Ok(session) => sessions.push_reserved(session),
             Err(NoMemory) => {
                 end_sessions(shared, owner, maker, sessions);
@@ -110,28 +50,7 @@ pub(crate) fn sessions_of<'a, M: DoorMaker, G: Gate>(
     Ok(sessions)
 }
 
-/// Ends a session: its pass goes back to the store's owner, and its doors to the maker, which adds up what they counted.
-pub(crate) fn end_session<M: DoorMaker, G: Gate>(
-    shared: &Shared,
-    owner: &mut Owner,
-    maker: &mut M,
-    session: Session<'_, M::Door, G>,
-)
-    requires owner { IsOwnerOf shared.now owner.old }
-    requires idle { IsIdle shared.now session }
-    ensures out { owner.old.out ≡ owner.new.out + 1 }
-    ensures made { owner.new.made ≡ owner.old.made }
-    ensures seen { Begins owner.old.seen owner.new.seen }
-    ensures owner { IsOwnerOf shared.now owner.new }
-    ensures doors { min (M.faults maker.old + sum_by M.Door.faults session.entry.doors) (2 ^ 64 - 1) ≤ M.faults maker.new }
-    ensures truth_stays { M.is_true maker.old ↔ M.is_true maker.new }
-    ensures plan_stays { (n : ℕ) (door : _) → M.makes maker.old n door ↔ M.makes maker.new n door }
-{
-    let (pass, doors) = session.into_parts();
-    give_back(shared, owner, maker, pass, doors);
-}
-
-/// Ends sessions, each as `end_session` does.
+/// Ends sessions: their passes go back to the store's owner, and their doors to the maker, which adds up what they counted.
 pub(crate) fn end_sessions<M: DoorMaker, G: Gate>(
     shared: &Shared,
     owner: &mut Owner,

@@ -11,13 +11,11 @@ work_all-taken-requires-clause-others g c κs within =
     let all = subst (λ (l : List (SessionState _)). All (IsIdle store) l) c.in-Some.ensures.items c.in-Ok-sessions_of.ensures.idle in
     own_store store c.pop.new.self.items (all_front (IsIdle store) c.pop.new.self.items c.in-Some.first all)
 
-pub end_session-requires-clause-idle : goal.end_session-requires-clause-idle
-end_session-requires-clause-idle g c =
+pub end_session-requires-clause-of_store : goal.end_session-requires-clause-of_store
+end_session-requires-clause-of_store g c =
     let store = c.args.shared.now in
     let all = subst (λ (l : List (SessionState _)). All (IsIdle store) l) c.in-Some.ensures.items c.in-Ok-sessions_of.ensures.idle in
-    let before = last_of (IsIdle store) c.pop.new.self.items c.in-Some.first all in
-    let after = c.work_all-taken.ensures.first in
-    record { of_store = after.of_store ∙ before.of_store; none_held = after.none_held; first_next = after.first_next }
+    c.work_all-taken.ensures.first.of_store ∙ (last_of (IsIdle store) c.pop.new.self.items c.in-Some.first all).of_store
 
 pub end_sessions-requires-clause-idle : goal.end_sessions-requires-clause-idle
 end_sessions-requires-clause-idle g c =

@@ -1,23 +1,25 @@
-use Rattle.std.proofs.Common.{arith}
+use Rattle.std.proofs.Common.{arith, ap, subst, sym}
 use Rattle.std.proofs.lemmas.List.Elements.{All-push}
 use Rattle.blob_server.specs.Peers.{IsIdle}
-use Rattle.blob_server.proofs.Idling.{begins_on}
+use Rattle.blob_model.specs.declared.call.Event.{Event}
+use Rattle.turn_lock.specs.History.{Log, Begins}
+use Rattle.turn_lock.specs.Shown.{Owned}
 use Rattle.blob_server.proofs.sessions.sessions_of.Goals as goal
 
 pub loop-preserved : goal.loop-preserved
 loop-preserved g c =
     let i = c.loop.invariant in
-    let m = c.in-Ok-session_of.ensures in
+    let m = c.in-Ok-open_session.ensures in
     let p = c.push_reserved.ensures in
     record {
       count = omega (arith, p.len, i.count);
       room = omega (arith, p.capacity, i.room);
-      idle = rw p.items (All-push (IsIdle c.args.shared.now) c.loop.sessions.items c.in-Ok-session_of.session i.idle m.idle);
+      idle = rw p.items (All-push (IsIdle c.args.shared.now) c.loop.sessions.items c.in-Ok-open_session.session i.idle (record { of_store = m.session.of_store; none_held = m.session.none_held; first_next = m.session.first_next }));
       owner = m.owner;
       passes_left = i.passes_left;
-      made = omega (arith, m.made, i.made);
-      out = omega (arith, m.out, i.out);
-      seen = begins_on _ _ _ i.seen m.seen;
+      made = omega (arith, ap (λ (o : Owned _ _). o.made) m.given, i.made);
+      out = omega (arith, ap (λ (o : Owned _ _). o.out) m.given, i.out);
+      seen = subst (λ (l : Log Event). Begins c.args.owner.now.seen l) (sym m.seen) i.seen;
       maker_true = m.truth_stays.0 i.maker_true;
       doors = λ less.
           let below = m.doors less in

@@ -1,0 +1,27 @@
+use Rattle.std.proofs.Common.{◌≡◌, ℕ, List, [], ◌∙◌, ap, subst, sym, sum_by}
+use Rattle.blob_model.specs.declared.call.Event.{Event}
+use Rattle.turn_lock.specs.History.{entries_by}
+use Rattle.turn_lock.specs.Shown.{Held}
+use Rattle.version_manager.specs.declared.journal.DeskFixed.{DeskFixed}
+use Rattle.client_session.specs.Sessions.{SessionState}
+use Rattle.store_sessions.proofs.Fresh.{fresh_doors}
+use Rattle.store_sessions.proofs.open_session.Goals as goal
+
+pub returns-in-Ok-new-clause-session : goal.returns-in-Ok-new-clause-session
+returns-in-Ok-new-clause-session g c =
+    let faults = g.M.Door.Door.faults in
+    let is = c.in-Ok-new.ensures.session in
+    let p = c.in-Ok-pass.ensures.pass in
+    let caller : c.in-Ok-new.session.caller ≡ c.in-Ok-pass.pass.caller = ap (λ (s : SessionState _). s.caller) is in
+    let log : c.in-Ok-new.session.log ≡ c.in-Ok-pass.pass.seen = ap (λ (s : SessionState _). s.log) is in
+    record {
+      of_store = ap (λ (s : SessionState _). s.store) is;
+      caller = caller ∙ ap (λ (v : Held Event DeskFixed). v.caller) p;
+      log = log ∙ ap (λ (v : Held Event DeskFixed). v.seen) p;
+      none =
+          subst (λ (l : List (ℕ × Event)). entries_by c.in-Ok-new.session.caller l ≡ []) (sym log)
+          (subst (λ (n : ℕ). entries_by n c.in-Ok-pass.pass.seen ≡ []) (sym caller) c.in-Ok-pass.ensures.own);
+      none_held = ap (λ (s : SessionState _). s.held) is;
+      first_next = ap (λ (s : SessionState _). s.next) is;
+      no_fault = ap (λ (s : SessionState _). sum_by faults s.doors) is ∙ fresh_doors faults c.in-Ok.doors c.in-Ok.ensures.fresh;
+    }

@@ -1,0 +1,101 @@
+//! Sessions of a shared store with all that they work with: each is made with a pass of its own and a door to each provider, and
+//! when it ends the pass goes back to the store's owner and the doors to their maker.
+#![tactic(auto)]
+
+ghost use Rattle.std.specs.Prelude.{◌≡◌, ◌≤◌, ◌<◌, ◌+◌, ◌-◌, ◌^◌, ◌↔◌, ◌++◌, [], ◌∷◌, ℕ, min, length, IfOk, OnOk, OnErr, sum_by, Contains};
+ghost use Rattle.turn_lock.specs.History.{entries_by, Begins, longer};
+ghost use Rattle.client_session.specs.Sessions.{IsOwnerOf, IsPassOf};
+ghost use Rattle.store_sessions.specs.Made.{IsNewSession};
+
+use client_session::{Owner, Pass, Session, Shared};
+use page_fan::Doors;
+use page_store::DoorMaker;
+use ports::gate::Gate;
+use request_form::NoMemory;
+use std::alloc::Global;
+
+// A pass goes back to the store's owner, and doors to their maker, which adds up what they counted.
+fn give_back<M: DoorMaker>(
+    shared: &Shared,
+    owner: &mut Owner,
+    maker: &mut M,
+    pass: Pass,
+    doors: Doors<M::Door>,
+)
+    requires owner { IsOwnerOf shared.now owner.old }
+    requires pass { IsPassOf shared.now pass }
+    ensures counts { (owner.old.out ≡ owner.new.out + 1) × (owner.new ≡ record owner.old { out = owner.new.out; seen = owner.new.seen; kept = owner.old.kept ++ pass.caller ∷ [] }) }
+    ensures seen { owner.new.seen ≡ longer owner.old.seen pass.seen }
+    ensures begins { Begins owner.old.seen owner.new.seen × Begins pass.seen owner.new.seen }
+    ensures own { entries_by pass.caller owner.new.seen ≡ entries_by pass.caller pass.seen }
+    ensures before { (c : ℕ) → Contains owner.old.kept c → entries_by c owner.new.seen ≡ entries_by c owner.old.seen }
+    ensures owner { IsOwnerOf shared.now owner.new }
+    ensures doors { min (M.faults maker.old + sum_by M.Door.faults doors) (2 ^ 64 - 1) ≤ M.faults maker.new }
+    ensures truth_stays { M.is_true maker.old ↔ M.is_true maker.new }
+    ensures plan_stays { (n : ℕ) (door : _) → M.makes maker.old n door ↔ M.makes maker.new n door }
+{
+    shared.take_back(owner, pass);
+    doors.back(maker);
+}
+
+/// A session with a new pass, which has seen what the store's owner has, and with new doors of the maker. It holds no ticket,
+/// and its first one will be number 1. Where no memory is found the pass, if one was made, and the doors have gone back.
+pub fn open_session<'a, M: DoorMaker, G: Gate>(
+    alloc: Global,
+    shared: &'a Shared,
+    owner: &mut Owner,
+    maker: &mut M,
+    gate: &'a G,
+) -> Result<Session<'a, M::Door, G>, NoMemory>
+    requires owner { IsOwnerOf shared.now owner.old }
+    requires passes_left { owner.old.made < 1024 }
+    requires true_doors { M.is_true maker.old }
+    ensures session { IfOk result (λ s. IsNewSession M.Door.faults shared.now owner.old s) }
+    ensures given { OnOk result (owner.new ≡ record owner.old { made = owner.old.made + 1; out = owner.old.out + 1 }) }
+    ensures made_most { (owner.old.made ≤ owner.new.made) × (owner.new.made ≤ owner.old.made + 1) }
+    ensures none_out { OnErr result (owner.new.out ≡ owner.old.out) }
+    ensures seen { owner.new.seen ≡ owner.old.seen }
+    ensures owner { IsOwnerOf shared.now owner.new }
+    ensures doors { M.faults maker.new < 2 ^ 64 - 1 → M.faults maker.old ≤ M.faults maker.new }
+    ensures truth_stays { M.is_true maker.old ↔ M.is_true maker.new }
+    ensures plan_stays { (n : ℕ) (door : _) → M.makes maker.old n door ↔ M.makes maker.new n door }
+{
+    let Ok(doors) = Doors::new(alloc, maker, shared.providers()) else {
+        return Err(NoMemory);
+    };
+    let Ok(pass) = shared.pass(owner) else {
+        // Fewer passes than a store may have were made.
+        unreachable!()
+    };
+    match Session::new(alloc, shared, gate, pass, doors) {
+        Ok(session) => Ok(session),
+        Err((pass, doors)) => {
+            give_back(shared, owner, maker, pass, doors);
+            Err(NoMemory)
+        }
+    }
+}
+
+/// Ends a session of the store: its pass goes back to the store's owner, which has then seen what the session has, and of its
+/// caller exactly the events that the session has seen; its doors go back to the maker, which adds up what they counted.
+/// Tickets that it holds are dropped: hang up first.
+pub fn end_session<M: DoorMaker, G: Gate>(
+    shared: &Shared,
+    owner: &mut Owner,
+    maker: &mut M,
+    session: Session<'_, M::Door, G>,
+)
+    requires owner { IsOwnerOf shared.now owner.old }
+    requires of_store { session.store ≡ shared.now }
+    ensures counts { (owner.old.out ≡ owner.new.out + 1) × (owner.new ≡ record owner.old { out = owner.new.out; seen = owner.new.seen; kept = owner.old.kept ++ session.entry.caller ∷ [] }) }
+    ensures begins { Begins owner.old.seen owner.new.seen × Begins session.entry.log owner.new.seen }
+    ensures own { entries_by session.entry.caller owner.new.seen ≡ entries_by session.entry.caller session.entry.log }
+    ensures before { (c : ℕ) → Contains owner.old.kept c → entries_by c owner.new.seen ≡ entries_by c owner.old.seen }
+    ensures owner { IsOwnerOf shared.now owner.new }
+    ensures doors { min (M.faults maker.old + sum_by M.Door.faults session.entry.doors) (2 ^ 64 - 1) ≤ M.faults maker.new }
+    ensures truth_stays { M.is_true maker.old ↔ M.is_true maker.new }
+    ensures plan_stays { (n : ℕ) (door : _) → M.makes maker.old n door ↔ M.makes maker.new n door }
+{
+    let (pass, doors) = session.into_parts();
+    give_back(shared, owner, maker, pass, doors);
+}
