@@ -1,2 +1,9 @@
 pub mod Updates
 pub mod Operations
+pub mod Openings
+pub mod Returns
+pub mod Endings
+pub mod Looks
+pub mod Summaries
+pub mod Stores
+pub mod Crews

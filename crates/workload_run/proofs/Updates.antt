@@ -129,6 +129,7 @@ module _ (adds : LeavesAdd) (later : StopsLater) (s mid : Session) (blob : ℕ) 
   tried_hindered : (fault : Fault) → UpdateHindered mid.fixed.limits mid.caller blob place bytes mid.seen s'.seen fault → StopsAt mid blob place bytes s' → IsHindered s blob place bytes fault s'
   tried_hindered fault hindered stops = record {
     more = waited.leaves.more;
+    of_others = ap (λ (h : List Event). events_by s.caller h) (sym waited.leaves.seen) ∙ (waited.leaves.mine ∙ append-nil (events_by s.caller s.seen));
     hindered =
         subst (λ (h : List Event). UpdateHindered s.fixed.limits s.caller blob place bytes h s'.seen fault) waited.leaves.seen
         (subst (λ (f : Fixed). UpdateHindered f.limits s.caller blob place bytes mid.seen s'.seen fault) waited.leaves.fixed
@@ -158,7 +159,7 @@ leaves_as s own a b l seen caller fixed = record {
   finishes = λ was. subst (λ (h : List Event). FinishesItsOwn s.fixed.limits h s.caller) (sym seen) (l.finishes was);
 }
 
-leaves_same : (s : Session) → Leaves s [] s
+pub leaves_same : (s : Session) → Leaves s [] s
 leaves_same s = record { more = []; seen = sym (append-nil s.seen); mine = sym (append-nil (events_by s.caller s.seen)); caller = refl; fixed = refl; finishes = λ was. was }
 
 -- the session's own finish, or nothing
@@ -209,6 +210,7 @@ module _ (adds : LeavesAdd) (stay : HindrancesStay) (reports : ReportsLeave) (s 
     version = version;
     stopped = record { own = own ++ more; rest = rest; split = split; leaves = adds s mid s' own more first second; none_held = none_held };
     more = hindered.more;
+    of_others = hindered.of_others;
     hindered =
         subst (λ (h : List Event). UpdateHindered s.fixed.limits s.caller blob place bytes (s.seen ++ hindered.more) h fault) (sym second.seen)
         (stay s.fixed.limits s.caller blob place bytes (s.seen ++ hindered.more) mid.seen second.more fault hindered.hindered);

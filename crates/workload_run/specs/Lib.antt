@@ -1,2 +1,7 @@
 pub mod Updates
 pub mod Work
+pub mod Opening
+pub mod Stages
+pub mod Workers
+pub mod Look
+pub mod Loading

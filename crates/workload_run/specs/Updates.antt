@@ -1,5 +1,6 @@
 -- An update of a load's session, which is tried again while too many updates of its blob wait.
 use Rattle.std.specs.Prelude.{◌≡◌, ℕ, ◌≤◌, Bool, true, false, List, [], ◌∷◌, ◌++◌, length, Result, Ok, Err, sum_by}
+use Rattle.blob_model.specs.History.{events_by}
 use Rattle.blob_model.specs.declared.call.Event.{Event}
 use Rattle.blob_model.specs.declared.call.Event.TheVariants as Events
 use Rattle.blob_model.specs.declared.call.Place.{Place}
@@ -50,11 +51,13 @@ pub record IsStopped (s : Session) (blob : ℕ) (place : Place) (bytes : List �
   pub version : ℕ
   pub stopped : StoppedWithin s (update_events s.caller blob place bytes version) s'
   pub more : List Event
+  pub of_others : events_by s.caller (s.seen ++ more) ≡ events_by s.caller s.seen
   pub hindered : UpdateHindered s.fixed.limits s.caller blob place bytes (s.seen ++ more) s'.seen fault
 
 -- The same before it hung up.
 pub record IsHindered (s : Session) (blob : ℕ) (place : Place) (bytes : List ℕ) (fault : Fault) (s' : Session) : Type 0 where
   pub more : List Event
+  pub of_others : events_by s.caller (s.seen ++ more) ≡ events_by s.caller s.seen
   pub hindered : UpdateHindered s.fixed.limits s.caller blob place bytes (s.seen ++ more) s'.seen fault
   pub stops : StopsAt s blob place bytes s'
 

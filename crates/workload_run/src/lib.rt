@@ -1,7 +1,13 @@
-//! The work of one of a load's workers: its records and cells, update by update, by a session of its own, while others work.
+//! A load: many workers append records to one shared log and write cells of one shared grid, each by a session of its own, and
+//! what they come to is the same at every schedule.
 #![tactic(auto)]
 
+mod crew;
+mod loading;
+mod looking;
+mod opening;
+mod starting;
 mod updating;
 mod working;
 
-pub use working::work;
+pub use loading::{LoadFault, load};

@@ -19,11 +19,11 @@ use std::thread::Threads;
 use workload_law::laws::{calls_leave, loads_close, loads_go_on};
 use workload_law::{LoadPlan, cell, record};
 
-// The blob to which the records are appended.
-const LOG: u64 = 1;
+/// The blob to which the records are appended.
+pub(crate) const LOG: u64 = 1;
 
-// The blob in which the cells lie.
-const GRID: u64 = 2;
+/// The blob in which the cells lie.
+pub(crate) const GRID: u64 = 2;
 
 // Does an operation: appends its record, and then writes its cell. Where one of these isn't done, the session hangs up.
 fn operate<R: Threads + Wait + Sync, D: Door, G: Gate>(

@@ -1,0 +1,204 @@
+-- The last session's look at the log and at the grid.
+use Rattle.std.proofs.Common.{◌≡◌, ℕ, ◌<◌, ◌≤◌, ◌==◌, nat_lt, if◌then◌else◌, Bool, true, false, List, [], ◌∷◌, ◌++◌, length, sum, refl, sym, ap, subst, ◌∙◌, append_assoc, append-nil, arith}
+use Rattle.std.specs.Prelude.{Option, Some, None, Result, Ok, Err}
+use Rattle.std.proofs.lemmas.List.{append_cancel_left}
+use Rattle.std.proofs.lemmas.Bool.Decides.{nat_tests}
+use Rattle.blob_model.specs.Limits.{Bounds}
+use Rattle.blob_model.specs.Answer.{answer}
+use Rattle.blob_model.specs.History.{store_of, AllOther, events_by}
+use Rattle.blob_model.specs.declared.call.Call.{Call}
+use Rattle.blob_model.specs.declared.call.Call.TheVariants as Calls
+use Rattle.blob_model.specs.declared.call.Event.{Event}
+use Rattle.blob_model.specs.declared.call.Outcome.{Outcome}
+use Rattle.blob_model.specs.declared.call.Outcome.TheVariants as Outcomes
+use Rattle.request_form.specs.Session.{Fixed, Session, outcome_at, sees}
+use Rattle.request_form.specs.Answers.{Unless, LookAnswer, ReadAnswer, Answers, read_fault, max_read}
+use Rattle.request_form.specs.Replies.{reply_of}
+use Rattle.request_form.specs.declared.form.Request.TheVariants as Requests
+use Rattle.request_form.specs.declared.form.Reply.{Reply}
+use Rattle.request_form.specs.declared.form.Reply.TheVariants as Replies
+use Rattle.request_form.specs.declared.form.Fault.{Fault}
+use Rattle.request_form.specs.declared.form.Fault.TheVariants as Faults
+use Rattle.client_session.specs.Results.{read_reply}
+use Rattle.workload_law.specs.declared.plan.LoadPlan.{LoadPlan}
+use Rattle.workload_law.specs.declared.plan.Summary.{Summary}
+use Rattle.workload_law.specs.Load.{IsSized, all_ops}
+use Rattle.workload_law.specs.Laws.{IsReadBack}
+use Rattle.workload_law.specs.Pieces.{in_order_of}
+use Rattle.workload_law.specs.Summed.{summary_of, cells_sum}
+use Rattle.workload_law.specs.Ends.{Leaves, LeavesAdd, LooksLeaveNone, IsOutside}
+use Rattle.workload_law.specs.Closing.{ReadsAreShort}
+use Rattle.workload_run.specs.declared.looking.Last.{Last}
+use Rattle.workload_run.specs.Opening.{HasDoneOwn}
+use Rattle.workload_run.specs.Stages.{TellsSummary}
+use Rattle.workload_run.specs.Look.{recent_told, is_read_reply, IsTold, IsUntold, LookEnds, summed_up, SummaryEnds}
+use Rattle.workload_run.proofs.Updates.{leaves_same}
+
+-- ---- nothing more was seen
+
+no_more : (xs ys : List Event) → xs ++ ys ≡ xs → ys ≡ []
+no_more xs ys e = append_cancel_left xs ys [] (e ∙ sym (append-nil xs))
+
+first_none : (xs ys : List Event) → xs ++ ys ≡ [] → xs ≡ []
+first_none [] ys e = refl
+first_none (x ∷ xs) ys e = absurd (let no : (x ∷ (xs ++ ys)) ≡ [] = e in cc)
+
+module _ (xs mid ys a b : List Event) (one : mid ≡ xs ++ a) (two : ys ≡ mid ++ b) (same : ys ≡ xs) where
+  all_none : a ++ b ≡ []
+  all_none = no_more xs (a ++ b) (sym (append_assoc xs a b) ∙ (ap (λ (l : List Event). l ++ b) (sym one) ∙ (sym two ∙ same)))
+
+  pub mid_same : mid ≡ xs
+  mid_same = one ∙ (ap (λ (l : List Event). xs ++ l) (first_none a b all_none) ∙ append-nil xs)
+
+  pub end_same : ys ≡ mid
+  end_same = same ∙ sym mid_same
+
+-- what a session that has seen the same is told is the same
+module _ (s t : Session) (call : Call) where
+  pub outcome_same : t.fixed ≡ s.fixed → t.caller ≡ s.caller → t.seen ≡ s.seen → outcome_at t [] call ≡ outcome_at s [] call
+  outcome_same fixed caller seen =
+      ap (λ (f : Fixed). (answer (store_of f.limits (t.seen ++ [])) t.caller call).1) fixed
+      ∙ (ap (λ (h : List Event). (answer (store_of s.fixed.limits (h ++ [])) t.caller call).1) seen ∙ ap (λ (c : ℕ). (answer (store_of s.fixed.limits (s.seen ++ [])) c call).1) caller)
+
+-- ---- gaps
+
+-- a session that saw others' events alone
+pub record SawOthers (s : Session) (others : List Event) (s' : Session) : Type 0 where
+  pub is_gap : AllOther s.caller others
+  pub seen : s' ≡ sees s others
+
+module _ (looks : LooksLeaveNone) (s s' : Session) (others : List Event) (saw : SawOthers s others s') where
+  pub saw_left : s.tickets ≡ [] → HasDoneOwn s [] s'
+  saw_left none =
+      let call : Call = Calls.Recent 0 in
+      let left = looks s call (reply_of (outcome_at s others call)) s' (record { others = others; is_gap = saw.is_gap; said = refl; seen = saw.seen }) in
+      record { leaves = left.0; none_held = left.1 ∙ none }
+
+  pub saw_none : s'.seen ≡ s.seen → others ≡ []
+  saw_none same = no_more s.seen others (sym (ap (λ (x : Session). x.seen) saw.seen) ∙ same)
+
+-- ---- the most recent version
+
+told_pair : (r : Result (ℕ × ℕ) Fault) (x y : ℕ × ℕ) → r ≡ Ok x → r ≡ Ok y → x ≡ y
+told_pair r x y e f = cc
+
+never_told : (r : Result (ℕ × ℕ) Fault) (fault : Fault) (x : ℕ × ℕ) → r ≡ Err fault → r ≡ Ok x → ⊥
+never_told r fault x e f = cc
+
+recent_is : (blob : ℕ) (outcome : Outcome) (version size : ℕ) → recent_told blob outcome ≡ Ok (version, size) → outcome ≡ Outcomes.Recent version size
+recent_is blob (Outcomes.Recent v n) version size e = ap (λ (x : ℕ × ℕ). Outcomes.Recent x.0 x.1) (told_pair (Ok (v, n)) (v, n) (version, size) refl e)
+recent_is blob (Outcomes.Blob x) version size e = absurd (never_told (Err (Faults.NoBlob blob)) (Faults.NoBlob blob) (version, size) refl e)
+recent_is blob (Outcomes.Assigned x y z) version size e = absurd (never_told (Err (Faults.NoBlob blob)) (Faults.NoBlob blob) (version, size) refl e)
+recent_is blob (Outcomes.Published x) version size e = absurd (never_told (Err (Faults.NoBlob blob)) (Faults.NoBlob blob) (version, size) refl e)
+recent_is blob (Outcomes.Content x) version size e = absurd (never_told (Err (Faults.NoBlob blob)) (Faults.NoBlob blob) (version, size) refl e)
+recent_is blob (Outcomes.Size x) version size e = absurd (never_told (Err (Faults.NoBlob blob)) (Faults.NoBlob blob) (version, size) refl e)
+recent_is blob (Outcomes.Synced x) version size e = absurd (never_told (Err (Faults.NoBlob blob)) (Faults.NoBlob blob) (version, size) refl e)
+recent_is blob (Outcomes.Status x y z) version size e = absurd (never_told (Err (Faults.NoBlob blob)) (Faults.NoBlob blob) (version, size) refl e)
+recent_is blob (Outcomes.Refused x) version size e = absurd (never_told (Err (Faults.NoBlob blob)) (Faults.NoBlob blob) (version, size) refl e)
+
+-- nothing else is said so
+said_recent : (outcome : Outcome) (version size : ℕ) → reply_of outcome ≡ Replies.RecentIs version size → outcome ≡ Outcomes.Recent version size
+said_recent (Outcomes.Recent v n) version size e = let same : Replies.RecentIs v n ≡ Replies.RecentIs version size = e in cc
+said_recent (Outcomes.Blob x) version size e = absurd (let no : Replies.Created x ≡ Replies.RecentIs version size = e in cc)
+said_recent (Outcomes.Assigned x y z) version size e = absurd (let no : Replies.Appended x y z ≡ Replies.RecentIs version size = e in cc)
+said_recent (Outcomes.Published x) version size e = absurd (let no : Replies.Finished x ≡ Replies.RecentIs version size = e in cc)
+said_recent (Outcomes.Content x) version size e = absurd (let no : Replies.Content x ≡ Replies.RecentIs version size = e in cc)
+said_recent (Outcomes.Size x) version size e = absurd (let no : Replies.SizeIs x ≡ Replies.RecentIs version size = e in cc)
+said_recent (Outcomes.Synced x) version size e = absurd (let no : Replies.Synced x ≡ Replies.RecentIs version size = e in cc)
+said_recent (Outcomes.Status x y z) version size e = absurd (let no : Replies.StatusIs x y z ≡ Replies.RecentIs version size = e in cc)
+said_recent (Outcomes.Refused x) version size e = absurd (let no : Replies.Refused _ ≡ Replies.RecentIs version size = e in cc)
+
+module _ (s mid : Session) (blob : ℕ) (outcome : Outcome) (look : LookAnswer AllOther s (Calls.Recent blob) (reply_of outcome) mid) where
+  pub recent_saw : SawOthers s look.others mid
+  recent_saw = record { is_gap = look.is_gap; seen = look.seen }
+
+  said_alone : mid.seen ≡ s.seen → reply_of outcome ≡ reply_of (outcome_at s [] (Calls.Recent blob))
+  said_alone same =
+      let none : look.others ≡ [] = no_more s.seen look.others (sym (ap (λ (x : Session). x.seen) look.seen) ∙ same) in
+      look.said ∙ ap (λ (l : List Event). reply_of (outcome_at s l (Calls.Recent blob))) none
+
+  pub told_recent : mid.seen ≡ s.seen → (version size : ℕ) → recent_told blob outcome ≡ Ok (version, size) → outcome_at s [] (Calls.Recent blob) ≡ Outcomes.Recent version size
+  told_recent same version size told =
+      said_recent (outcome_at s [] (Calls.Recent blob)) version size (sym (said_alone same) ∙ ap (λ (o : Outcome). reply_of o) (recent_is blob outcome version size told))
+
+  pub told_none : mid.seen ≡ s.seen → (fault : Fault) → recent_told blob outcome ≡ Err fault → (version size : ℕ) → outcome_at s [] (Calls.Recent blob) ≡ Outcomes.Recent version size → ⊥
+  told_none same fault told version size is =
+      let said : reply_of outcome ≡ Replies.RecentIs version size = said_alone same ∙ ap (λ (o : Outcome). reply_of o) is in
+      let recent : outcome ≡ Outcomes.Recent version size = said_recent outcome version size said in
+      never_told (recent_told blob outcome) fault (version, size) told (ap (λ (o : Outcome). recent_told blob o) recent)
+
+-- ---- its bytes
+
+said_fault : (a b : Fault) → Replies.Refused a ≡ Replies.Refused b → a ≡ b
+said_fault a b e = cc
+
+module _ (s s' : Session) (blob version size : ℕ) where
+  abbrev read_call : Call
+  read_call = Calls.Read blob version 0 size
+
+  module _ (reply : Reply) where
+    said_read : (e : Option Fault) → Unless e s reply s' (ReadAnswer AllOther s blob version 0 size reply s') → is_read_reply reply ≡ true
+    said_read (Some fault) x = ap (λ (r : Reply). is_read_reply r) x.0
+    said_read None (ReadAnswer.content x) = ap (λ (r : Reply). is_read_reply r) x.said
+    said_read None (ReadAnswer.refused x) = ap (λ (r : Reply). is_read_reply r) x.said
+    said_read None (ReadAnswer.out_of_memory x) = ap (λ (r : Reply). is_read_reply r) x.said
+    said_read None (ReadAnswer.not_read x) = ap (λ (r : Reply). is_read_reply r) x.said
+
+    pub reads_so : Answers AllOther s (Requests.Read blob version 0 size) reply s' → is_read_reply reply ≡ true
+    reads_so answers = said_read (read_fault size) answers
+
+    left_by : LooksLeaveNone → s.tickets ≡ [] → (e : Option Fault) → Unless e s reply s' (ReadAnswer AllOther s blob version 0 size reply s') → HasDoneOwn s [] s'
+    left_by looks none (Some fault) x = subst (λ (t : Session). HasDoneOwn s [] t) (sym x.1) (record { leaves = leaves_same s; none_held = none })
+    left_by looks none None (ReadAnswer.content x) = saw_left looks s s' x.others (record { is_gap = x.is_gap; seen = x.seen }) none
+    left_by looks none None (ReadAnswer.refused x) = saw_left looks s s' x.others (record { is_gap = x.is_gap; seen = x.seen }) none
+    left_by looks none None (ReadAnswer.out_of_memory x) = saw_left looks s s' x.others (record { is_gap = x.is_gap; seen = x.seen }) none
+    left_by looks none None (ReadAnswer.not_read x) = saw_left looks s s' x.others (record { is_gap = x.is_gap; seen = x.seen }) none
+
+    pub read_left : LooksLeaveNone → s.tickets ≡ [] → Answers AllOther s (Requests.Read blob version 0 size) reply s' → HasDoneOwn s [] s'
+    read_left looks none answers = left_by looks none (read_fault size) answers
+
+  alone : (others : List Event) → s' ≡ sees s others → s'.seen ≡ s.seen → outcome_at s others read_call ≡ outcome_at s [] read_call
+  alone others seen same = ap (λ (l : List Event). outcome_at s l read_call) (no_more s.seen others (sym (ap (λ (x : Session). x.seen) seen) ∙ same))
+
+  -- what was read
+  module _ (bytes : List ℕ) where
+    bytes_in : (e : Option Fault) → Unless e s (Replies.Content bytes) s' (ReadAnswer AllOther s blob version 0 size (Replies.Content bytes) s') → s'.seen ≡ s.seen
+        → outcome_at s [] read_call ≡ Outcomes.Content bytes
+    bytes_in (Some fault) x same = absurd (let no : Replies.Content bytes ≡ Replies.Refused fault = x.0 in cc)
+    bytes_in None (ReadAnswer.content x) same =
+        let is : bytes ≡ x.bytes = (let said : Replies.Content bytes ≡ Replies.Content x.bytes = x.said in cc) in
+        sym (alone x.others x.seen same) ∙ (x.done ∙ ap (λ (b : List ℕ). Outcomes.Content b) (sym is))
+    bytes_in None (ReadAnswer.refused x) same = absurd (let no : Replies.Content bytes ≡ Replies.Refused _ = x.said in cc)
+    bytes_in None (ReadAnswer.out_of_memory x) same = absurd (let no : Replies.Content bytes ≡ Replies.Refused _ = x.said in cc)
+    bytes_in None (ReadAnswer.not_read x) same = absurd (let no : Replies.Content bytes ≡ Replies.Refused _ = x.said in cc)
+
+    pub read_bytes : Answers AllOther s (Requests.Read blob version 0 size) (Replies.Content bytes) s' → s'.seen ≡ s.seen → outcome_at s [] read_call ≡ Outcomes.Content bytes
+    read_bytes answers same = bytes_in (read_fault size) answers same
+
+    short_in : ReadsAreShort → (t : Bool) → nat_lt max_read size ≡ t
+        → Unless (if t then Some (Faults.ReadTooLong size) else None) s (Replies.Content bytes) s' (ReadAnswer AllOther s blob version 0 size (Replies.Content bytes) s') → length bytes ≤ max_read
+    short_in short true is x = absurd (let no : Replies.Content bytes ≡ Replies.Refused (Faults.ReadTooLong size) = x.0 in cc)
+    short_in short false is (ReadAnswer.content x) =
+        let bytes_are : bytes ≡ x.bytes = (let said : Replies.Content bytes ≡ Replies.Content x.bytes = x.said in cc) in
+        let few : length x.bytes ≤ size = short (store_of s.fixed.limits (s.seen ++ x.others)) s.caller blob version 0 size x.bytes x.done in
+        let within : size ≤ max_read = grind (arith, nat_tests) in
+        subst (λ (b : List ℕ). length b ≤ max_read) (sym bytes_are) (omega (arith, few, within))
+    short_in short false is (ReadAnswer.refused x) = absurd (let no : Replies.Content bytes ≡ Replies.Refused _ = x.said in cc)
+    short_in short false is (ReadAnswer.out_of_memory x) = absurd (let no : Replies.Content bytes ≡ Replies.Refused _ = x.said in cc)
+    short_in short false is (ReadAnswer.not_read x) = absurd (let no : Replies.Content bytes ≡ Replies.Refused _ = x.said in cc)
+
+    pub read_short : ReadsAreShort → Answers AllOther s (Requests.Read blob version 0 size) (Replies.Content bytes) s' → length bytes ≤ max_read
+    read_short short answers = short_in short (nat_lt max_read size) refl answers
+
+  -- why nothing was read
+  module _ (fault : Fault) (recent : outcome_at s [] (Calls.Recent blob) ≡ Outcomes.Recent version size) where
+    unread_in : (t : Bool) → nat_lt max_read size ≡ t
+        → Unless (if t then Some (Faults.ReadTooLong size) else None) s (Replies.Refused fault) s' (ReadAnswer AllOther s blob version 0 size (Replies.Refused fault) s') → s'.seen ≡ s.seen → IsUntold s blob fault
+    unread_in true is x same = IsUntold.too_long version size recent (grind (arith, nat_tests))
+    unread_in false is (ReadAnswer.content x) same = absurd (let no : Replies.Refused fault ≡ Replies.Content x.bytes = x.said in cc)
+    unread_in false is (ReadAnswer.refused x) same = IsUntold.refused version size x.refusal recent (sym (alone x.others x.seen same) ∙ x.refused)
+    unread_in false is (ReadAnswer.out_of_memory x) same = IsUntold.outside (IsOutside.starved (said_fault fault Faults.NoMemory x.said))
+    unread_in false is (ReadAnswer.not_read x) same = IsUntold.outside (IsOutside.lost x.page (said_fault fault (Faults.PageFault x.page) x.said))
+
+    pub unread : Answers AllOther s (Requests.Read blob version 0 size) (Replies.Refused fault) s' → s'.seen ≡ s.seen → IsUntold s blob fault
+    unread answers same = unread_in (nat_lt max_read size) refl answers same

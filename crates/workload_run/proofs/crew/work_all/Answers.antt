@@ -1,0 +1,48 @@
+use Rattle.std.proofs.Common.{◌≡◌, length, sym, arith}
+use Rattle.std.specs.Prelude.{sum_by}
+use Rattle.request_form.specs.Replies.{page_faults}
+use Rattle.workload_run.specs.Workers.{counted_by}
+use Rattle.workload_run.proofs.Stores.{workable, crew_done, crew_stopped, counted_stop, rose_stop}
+use Rattle.workload_run.proofs.crew.work_all.Goals as goal
+
+pub run_all-workers-requires-after_bounds : goal.run_all-workers-requires-after_bounds
+run_all-workers-requires-after_bounds g c κs within =
+    let old = c.in-Ok.workers in
+    let count : length old.items ≡ c.args.plan.now.workers = omega (arith, c.in-Ok.ensures.count, old.ok.0) in
+    workable c.entries_are_events.ensures g.M.Door.Door.faults c.args.plan.now c.requires.sized c.args.shared.now c.requires.limits c.args.owner.now.seen c.requires.owner.log.tags old.items count
+    c.in-Ok.ensures.ready
+
+pub returns-in-Some-clause-works : goal.returns-in-Some-clause-works
+returns-in-Some-clause-works g c =
+    let old = c.in-Ok.workers in
+    let new = c.run_all-workers.result in
+    let e = c.end_workers.ensures in
+    let count : length old.items ≡ c.args.plan.now.workers = omega (arith, c.in-Ok.ensures.count, old.ok.0) in
+    let same : length new.items ≡ length old.items = omega (arith, c.run_all-workers.ensures.count, old.ok.0, new.ok.0) in
+    crew_stopped c.entries_are_events.ensures c.loads_close.ensures.own c.args.plan.now c.requires.sized g.M.Door.Door.faults c.args.shared.now c.requires.limits c.args.owner.now c.workers_of.new.owner
+    c.end_workers.new.owner c.requires.opened c.in-Ok.ensures.given old.items new.items count same c.in-Ok.ensures.ready c.run_all-workers.ensures.run e.owner.log.tags e.back e.before e.kept_before e.kept
+    e.made (omega (arith, e.out, count, same, new.ok.0)) e.seen c.in-Some.fault (sym c.in-Some.ensures.stop)
+
+pub returns-in-Some-clause-doors : goal.returns-in-Some-clause-doors
+returns-in-Some-clause-doors g c =
+    let faults = g.M.DoorMaker.faults in
+    let old = c.in-Ok.workers in
+    let new = c.run_all-workers.result in
+    let count : length old.items ≡ c.args.plan.now.workers = omega (arith, c.in-Ok.ensures.count, old.ok.0) in
+    let same : length new.items ≡ length old.items = omega (arith, c.run_all-workers.ensures.count, old.ok.0, new.ok.0) in
+    rose_stop (page_faults c.in-Some.fault) (faults c.args.maker.now) (faults c.workers_of.new.maker) (sum_by (counted_by g.M.Door.Door.faults) new.items) (faults c.end_workers.new.maker)
+    c.in-Ok.ensures.doors
+    (counted_stop c.entries_are_events.ensures g.M.Door.Door.faults c.args.plan.now c.requires.sized c.args.shared.now c.requires.limits c.args.owner.now.seen c.requires.owner.log.tags old.items count
+    c.in-Ok.ensures.ready new.items same c.run_all-workers.ensures.run c.in-Some.fault (sym c.in-Some.ensures.stop))
+    c.end_workers.ensures.doors
+
+pub returns-in-None-clause-works : goal.returns-in-None-clause-works
+returns-in-None-clause-works g c =
+    let old = c.in-Ok.workers in
+    let new = c.run_all-workers.result in
+    let e = c.end_workers.ensures in
+    let count : length old.items ≡ c.args.plan.now.workers = omega (arith, c.in-Ok.ensures.count, old.ok.0) in
+    let same : length new.items ≡ length old.items = omega (arith, c.run_all-workers.ensures.count, old.ok.0, new.ok.0) in
+    crew_done c.entries_are_events.ensures c.loads_close.ensures.own c.args.plan.now c.requires.sized g.M.Door.Door.faults c.args.shared.now c.requires.limits c.args.owner.now c.workers_of.new.owner
+    c.end_workers.new.owner c.requires.opened c.in-Ok.ensures.given old.items new.items count same c.in-Ok.ensures.ready c.run_all-workers.ensures.run e.owner.log.tags e.back e.before e.kept_before e.kept
+    e.made (omega (arith, e.out, count, same, new.ok.0)) e.seen (sym c.in-None.ensures.stop)

@@ -1,0 +1,69 @@
+// The beginning of a load: the log, the grid and the grid's zeros.
+ghost use Rattle.std.specs.Prelude.{◌≡◌, ◌≤◌, [], ◌∷◌, length, sum_by};
+ghost use denote.Param.Send.{IsSync};
+ghost use Rattle.ports.specs.Counts.{RoseBy};
+ghost use Rattle.client_session.specs.Sessions.{session_of, Continues};
+ghost use Rattle.workload_law.specs.Load.{IsSized, zeros_of};
+ghost use Rattle.workload_run.specs.Updates.{told_faults};
+ghost use Rattle.workload_run.specs.Work.{IsFresh};
+ghost use Rattle.workload_run.specs.Opening.{MakingEnds, OpeningEnds};
+
+use crate::updating::update;
+use crate::working::GRID;
+use blob_model::Place;
+use client_session::Session;
+use page_store::Door;
+use ports::gate::Gate;
+use request_form::Fault;
+use std::sync::Wait;
+use std::thread::Threads;
+use workload_law::LoadPlan;
+use workload_law::laws::{calls_end, calls_leave};
+
+// Makes a blob, whatever its id is.
+fn make_blob<R: Wait, D: Door, G: Gate>(
+    rt: &R,
+    session: &mut Session<'_, D, G>,
+) -> Result<(), Fault>
+    requires none_held { (session_of session.old).tickets ≡ [] }
+    ensures ends { MakingEnds result (session_of session.old) (session_of session.new) }
+    ensures faults { RoseBy (told_faults result) (sum_by D.faults session.old.doors) (sum_by D.faults session.new.doors) }
+    ensures goes_on { Continues session.old session.new }
+{
+    calls_end();
+    match session.create(rt) {
+        Ok(_blob) => Ok(()),
+        Err(fault) => Err(fault),
+    }
+}
+
+/// Makes the log and the grid, and fills the grid with zeros, by the first session of a store. Where one of these isn't done the
+/// session hangs up.
+pub(crate) fn open_blobs<R: Threads + Wait + Sync, D: Door, G: Gate>(
+    rt: &R,
+    session: &mut Session<'_, D, G>,
+    plan: &LoadPlan,
+    zeros: &[u8],
+) -> Result<(), Fault>
+    requires sync { IsSync R.row }
+    requires sized { IsSized plan.now }
+    requires zeros { zeros.now ≡ zeros_of plan.now }
+    requires fresh { IsFresh 0 (session_of session.old) }
+    ensures ends { OpeningEnds plan.now result (session_of session.old) (session_of session.new) }
+    ensures faults { RoseBy (told_faults result) (sum_by D.faults session.old.doors) (sum_by D.faults session.new.doors) }
+    ensures goes_on { Continues session.old session.new }
+{
+    calls_leave();
+    match make_blob(rt, session) {
+        Ok(()) => {}
+        Err(no_log) => return Err(no_log),
+    }
+    match make_blob(rt, session) {
+        Ok(()) => {}
+        Err(no_grid) => return Err(no_grid),
+    }
+    match update(rt, session, GRID, Place::Append, zeros) {
+        Ok(_done) => Ok(()),
+        Err(no_zeros) => Err(no_zeros),
+    }
+}
