@@ -7,3 +7,4 @@ pub mod Stores
 pub mod Settling
 pub mod Statuses
 pub mod PeersServed
+pub mod Loads

@@ -10,7 +10,8 @@ use Rattle.blob_server.specs.Serving.{Handing, TookPeers, FailedAfter, EndsAs}
 use Rattle.blob_server.specs.declared.server.ServeFault.{ServeFault}
 use Rattle.blob_server.specs.declared.server.ServeFault.TheVariants as Faults
 use Rattle.blobseer_run.specs.Status.{code_of, write_fault, out_of_memory, listener_fault}
-use Rattle.blobseer_run.specs.Hosting.{Net, WritesLine, Hosted, ServedPeers, ToldLine, served_line, status_of}
+use Rattle.blobseer_run.specs.Hosting.{Net, Hosted, ServedPeers, served_line, status_of}
+use Rattle.blobseer_run.specs.Writing.{WritesLine, ToldLine}
 
 -- a write that failed after so many bytes of a line
 pub told_part : (line : List ℕ) (n : ℕ) (written written' : Option (List ℕ)) (writes writes' : ℕ) → Appends written written' (take n line) → RoseBy 1 writes writes' → n < length line

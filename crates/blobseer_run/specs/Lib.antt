@@ -1,7 +1,9 @@
 pub mod Status
 pub mod Told
 pub mod Telling
+pub mod Writing
 pub mod Hosting
+pub mod Loading
 pub mod Run
 pub mod Legal
 pub mod Serving

@@ -14,8 +14,9 @@ use Rattle.settings.specs.declared.table.Command.TheVariants as Commands
 use Rattle.settings.specs.Values.{SettingsValues}
 use Rattle.settings.specs.Words.{Bytes}
 use Rattle.blobseer_run.specs.Hosting.{Net, ServedPeers}
+use Rattle.blobseer_run.specs.Loading.{plan_of, Rises, RanLoad}
 use Rattle.blobseer_run.specs.Told.{asked, Settled, SettingsRefused, IsFileKnown, Stopped}
-use Rattle.blobseer_run.specs.Status.{done, words_refused, settings_refused, read_fault, write_fault, out_of_memory, input_too_long}
+use Rattle.blobseer_run.specs.Status.{done, words_refused, settings_refused, read_fault, write_fault, out_of_memory, input_too_long, load_ended_early}
 
 -- the most bytes that a run takes of its input
 abbrev pub input_limit : ℕ
@@ -97,7 +98,7 @@ pub record ServedScript (fixed : Fixed) (calm : Type 0) (old new : Outside) (sta
 
 -- ---- a run
 
--- a server leaves the input alone
+-- a server and a load leave the input alone
 pub record LeavesInput (old new : Outside) : Type 0 where
   pub given : new.given ≡ old.given
   pub left : new.left ≡ old.left
@@ -112,11 +113,15 @@ DidRun settings calm net net' old new status = ServedScript (fixed_of settings) 
 abbrev pub DidServe : SettingsValues → Net → Net → Outside → Outside → ℕ → Type 0
 DidServe settings net net' old new status = ServedPeers settings.connections net net' old.written new.written old.writes new.writes status × LeavesInput old new
 
--- What the command did with its settings. The words of the command that the program hasn't yet are refused, so that it never comes to it.
+-- a load was run, and the input and the listener were left alone
+abbrev pub DidLoad : SettingsValues → Net → Net → Outside → Outside → ℕ → Type 0
+DidLoad settings net net' old new status = RanLoad (plan_of settings) old.written new.written old.doors new.doors old.writes new.writes status × (net' ≡ net) × LeavesInput old new
+
+-- what the command did with its settings
 abbrev pub Did : Command → SettingsValues → Type 0 → Net → Net → Outside → Outside → ℕ → Type 0
 Did Commands.Run settings calm net net' old new status = DidRun settings calm net net' old new status
 Did Commands.Serve settings calm net net' old new status = DidServe settings net net' old new status
-Did Commands.Load settings calm net net' old new status = ⊥
+Did Commands.Load settings calm net net' old new status = DidLoad settings net net' old new status
 
 -- A run was stopped before its command did anything, or the command did its work.
 pub data Ran (words : List Bytes) (known : Files) (calm : Type 0) (net net' : Net) (old new : Outside) (status : ℕ) : Type 0 where
@@ -139,6 +144,6 @@ RefusesSettings words known files files' status =
 abbrev pub IsTaken : List Bytes → Files → Type 0
 IsTaken words known = (asked words ≢ None) × (¬ SettingsRefused words known)
 
--- it came to its end, or no memory was found, or the input was too long
-abbrev pub IsComplete : ℕ → Type 0
-IsComplete status = (status ≡ done) ⊎ (status ≡ out_of_memory) ⊎ (status ≡ input_too_long)
+-- it came to its end, or no memory was found, or the input was too long, or a load ended early, and then the doors' count rose
+abbrev pub IsComplete : ℕ → ℕ → ℕ → Type 0
+IsComplete status doors doors' = (status ≡ done) ⊎ (status ≡ out_of_memory) ⊎ (status ≡ input_too_long) ⊎ ((status ≡ load_ended_early) × Rises doors doors')

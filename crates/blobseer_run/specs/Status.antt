@@ -29,6 +29,9 @@ listener_fault = 6
 abbrev pub input_too_long : ℕ
 input_too_long = 7
 
+abbrev pub load_ended_early : ℕ
+load_ended_early = 8
+
 -- the number of a status
 abbrev pub code_of : Status → ℕ
 code_of Statuses.Done = done
@@ -39,6 +42,7 @@ code_of Statuses.WriteFault = write_fault
 code_of Statuses.OutOfMemory = out_of_memory
 code_of Statuses.ListenerFault = listener_fault
 code_of Statuses.InputTooLong = input_too_long
+code_of Statuses.LoadEndedEarly = load_ended_early
 
 -- what a status puts on the error output
 abbrev pub error_line : ℕ → List ℕ
@@ -49,7 +53,8 @@ error_line status =
     else (if status == write_fault then codes "blobseer: write fault\n"
     else (if status == out_of_memory then codes "blobseer: out of memory\n"
     else (if status == listener_fault then codes "blobseer: listener fault\n"
-    else (if status == input_too_long then codes "blobseer: input too long\n" else []))))))
+    else (if status == input_too_long then codes "blobseer: input too long\n"
+    else (if status == load_ended_early then codes "blobseer: load ended early\n" else [])))))))
 
 -- The error output got the status's line, or only its beginning where the count of faults rose.
 pub record Tells (status : ℕ) (written written' : Option (List ℕ)) (faults faults' : ℕ) : Type 0 where

@@ -1,10 +1,9 @@
 -- What the program is told: the command of its words, and the settings that the words, the settings file and the defaults come to.
-use Rattle.std.specs.Prelude.{◌≡◌, ◌≢◌, ℕ, ◌<◌, ◌≤◌, Bool, true, false, if◌then◌else◌, List, length, Option, Some, None, option_and_then}
+use Rattle.std.specs.Prelude.{◌≡◌, ◌≢◌, ℕ, ◌<◌, ◌≤◌, List, length, Option, Some, None}
 use Rattle.ports.specs.Counts.{RoseBy}
 use Rattle.ports.specs.Files.{Files, Reads}
 use Rattle.ports.specs.declared.files.FileText.TheVariants as Texts
 use Rattle.settings.specs.declared.table.Command.{Command}
-use Rattle.settings.specs.declared.table.Command.TheVariants as Commands
 use Rattle.settings.specs.Values.{GivenValues, SettingsValues, nothing}
 use Rattle.settings.specs.Words.{Bytes, given_by_words}
 use Rattle.settings.specs.File.{Gives}
@@ -21,18 +20,9 @@ file_limit = 65536
 abbrev pub Order : Type 0
 Order = Command × GivenValues
 
--- whether the program has the command yet
-abbrev pub is_built : Command → Bool
-is_built Commands.Run = true
-is_built Commands.Serve = true
-is_built Commands.Load = false
-
-abbrev pub if_built : Order → Option Order
-if_built order = if is_built order.0 then Some order else None
-
--- What the words ask for, or none where they are refused. Those of a command that the program hasn't yet are refused too.
+-- what the words ask for, or none where they are refused
 abbrev pub asked : List Bytes → Option Order
-asked words = option_and_then if_built (given_by_words words)
+asked words = given_by_words words
 
 -- ---- the settings file, by what is known of files
 

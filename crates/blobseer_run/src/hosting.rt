@@ -1,17 +1,19 @@
 // Connections are served over a new store.
 ghost use Rattle.std.specs.Prelude.{◌≡◌, ◌↔◌, ℕ};
 ghost use Rattle.ports.specs.Counts.{RoseBy};
-ghost use Rattle.blobseer_run.specs.Hosting.{served_line, status_of, ServedPeers, ToldLine};
+ghost use Rattle.blobseer_run.specs.Hosting.{served_line, status_of, ServedPeers};
+ghost use Rattle.blobseer_run.specs.Writing.{ToldLine};
 ghost use Rattle.blobseer_run.specs.Status.{code_of};
 
 use crate::serving::page_size;
 use crate::status::Status;
+use crate::writing::tell;
 use blob_server::{ServeFault, serve};
 use client_session::Shared;
 use page_store::DoorMaker;
 use ports::gate::Gate;
 use ports::listener::Listener;
-use ports::stream::{Sink, Written};
+use ports::stream::Sink;
 use settings::Settings;
 use std::alloc::Global;
 use std::sync::Wait;
@@ -25,10 +27,7 @@ fn tell_served<K: Sink>(alloc: Global, peers: u64, out: &mut K) -> Status
     let Ok(line) = format!(in alloc; "served {peers}\n") else {
         return Status::OutOfMemory;
     };
-    match out.write(line.as_bytes()) {
-        Written::Whole => Status::Done,
-        Written::Failed(_) => Status::WriteFault,
-    }
+    tell(line.as_str(), out)
 }
 
 // How a server ends that was ended early.

@@ -2,16 +2,18 @@
 //!
 //! `run` reads the words and the settings file that they name, makes a new store by these settings, and serves its input line
 //! by line by one session, whose pages go through doors that it is lent, as the lines come. It keeps neither the input nor
-//! the replies.
+//! the replies. Or it serves connections by many sessions of a new store, or runs a load over one.
 #![tactic(auto)]
 
 ghost use Rattle.std.specs.Prelude.{◌≡◌};
 
 mod hosting;
 pub mod laws;
+mod loading;
 mod program;
 mod serving;
 mod status;
 mod told;
+mod writing;
 
 pub use program::run;

@@ -1,11 +1,11 @@
-ghost use Rattle.std.specs.Prelude.{◌≡◌, ◌↔◌, ℕ, List, true, map};
+ghost use Rattle.std.specs.Prelude.{◌≡◌, ◌↔◌, ℕ, List, map};
 ghost use Rattle.std.specs.String.{string_bytes};
 ghost use Rattle.ports.specs.Counts.{RoseBy};
 ghost use Rattle.blobseer_run.specs.Run.{Ran, Did, RefusesWords, RefusesSettings, IsTaken, IsComplete, IsCalm};
-ghost use Rattle.blobseer_run.specs.Told.{is_built};
 ghost use Rattle.blobseer_run.specs.Status.{code_of, Tells};
 
 use crate::hosting::serve_peers;
+use crate::loading::run_load;
 use crate::serving::serve_script;
 use crate::status::Status;
 use crate::told::told;
@@ -34,7 +34,6 @@ fn obey<R: Wait + Threads + Sync, S: Source, K: Sink, L: Listener, M: DoorMaker,
 where
     L::Peer: Drop + Send,
     M::Door: Drop + Send,
-    requires built { is_built command ≡ true }
     requires true_doors { M.is_true doors.old }
     ensures did { (files files' : ℕ) → Did command settings.now (IsCalm M.Door.faults)
         (record { listens = L.listens net.old; handing = record { handed = L.handed net.old; is_done = L.is_done net.old; faults = L.faults net.old } })
@@ -68,8 +67,7 @@ where
     match command {
         Command::Run => serve_script(rt, alloc, settings, script, out, doors, gate),
         Command::Serve => serve_peers(rt, alloc, settings, net, out, doors, gate),
-        // The words of this one are refused.
-        Command::Load => unreachable!(),
+        Command::Load => run_load(rt, alloc, settings, out, doors, gate),
     }
 }
 
@@ -77,18 +75,20 @@ where
 /// defaults come to. With the command `run` it answers a script, as it comes, by the one session of a new store, up to its
 /// end or to a line that asks to end. The replies to what was read are written before more is read, and what was answered
 /// isn't kept. With the command `serve` it serves connections of `net`, each by one of many sessions of a new store, and then
-/// writes how many they were. It answers the number that the process ends with.
+/// writes how many they were. With the command `load` it runs a load of many workers over a new store with the greatest limits,
+/// and writes its three lines, which are the same at every schedule. It answers the number that the process ends with.
 ///
 /// | number | when |
 /// |---|---|
-/// | 0 | the input was read to its end, or holds a whole request to end, and was answered up to there; or all connections were served |
-/// | 1 | the words are refused; those of the command `load`, which it hasn't yet, are too |
+/// | 0 | the input was read to its end, or holds a whole request to end, and was answered up to there; or all connections were served; or the load was done |
+/// | 1 | the words are refused |
 /// | 2 | the settings file is longer than 65,536 bytes or isn't one of settings, or the replicas are more than the providers |
 /// | 3 | a read of the settings file failed; or a read of `script`, and the lines before it that were ended are answered |
 /// | 4 | a write on `out` failed |
 /// | 5 | no memory was found |
 /// | 6 | the listener failed, and the connections before were served |
 /// | 7 | 4,294,967,296 bytes were taken; the lines in them that were ended are answered |
+/// | 8 | the load ended early, as a page was lost |
 ///
 /// The first cause that comes decides: the words, the read of the file, its text, what both come to, and then the command.
 /// Each number but 0 writes its line on `err`, where a fault changes nothing. The store's pages go through doors of the maker
@@ -151,13 +151,14 @@ where
     ensures words_refused { RefusesWords (map string_bytes words.now) result }
     ensures settings_refused { RefusesSettings (map string_bytes words.now) (F.known files.old) (F.faults files.old) (F.faults files.new) result }
 
-    // Where words and settings are taken and nothing outside fails, it comes to its end, unless no memory is found or the input is too long.
+    // Where words and settings are taken and nothing outside fails, it comes to its end, unless no memory is found or the input is too long; a load also
+    // ends early where a door failed.
     ensures complete { IsTaken (map string_bytes words.now) (F.known files.old)
         → ¬ RoseBy 1 (S.read_faults script.old) (S.read_faults script.new)
         → ¬ RoseBy 1 (K.write_faults out.old) (K.write_faults out.new)
         → ¬ RoseBy 1 (L.faults net.old) (L.faults net.new)
         → ¬ RoseBy 1 (F.faults files.old) (F.faults files.new)
-        → IsComplete result }
+        → IsComplete result (M.faults doors.old) (M.faults doors.new) }
 
     // What it put on the error output.
     ensures tells { Tells result (E.written err.old) (E.written err.new) (E.write_faults err.old) (E.write_faults err.new) }

@@ -23,6 +23,8 @@ pub(crate) enum Status {
     ListenerFault,
     /// As much input as a run takes was taken.
     InputTooLong,
+    /// A load ended before its workers' ends.
+    LoadEndedEarly,
 }
 
 impl Status {
@@ -41,6 +43,7 @@ impl Status {
             Status::OutOfMemory => 5,
             Status::ListenerFault => 6,
             Status::InputTooLong => 7,
+            Status::LoadEndedEarly => 8,
         }
     }
 
@@ -57,6 +60,7 @@ impl Status {
             Status::OutOfMemory => b"blobseer: out of memory\n",
             Status::ListenerFault => b"blobseer: listener fault\n",
             Status::InputTooLong => b"blobseer: input too long\n",
+            Status::LoadEndedEarly => b"blobseer: load ended early\n",
         }
     }
 

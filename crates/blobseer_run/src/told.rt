@@ -1,7 +1,7 @@
 // What the program is told to do, by its words, the settings file and the defaults.
-ghost use Rattle.std.specs.Prelude.{◌≡◌, ℕ, List, Some, true, map, IfOk, IfErr, string_bytes};
+ghost use Rattle.std.specs.Prelude.{◌≡◌, ℕ, List, Some, map, IfOk, IfErr, string_bytes};
 ghost use Rattle.ports.specs.Counts.{RoseBy};
-ghost use Rattle.blobseer_run.specs.Told.{is_built, asked, FileGives, Settled, Stopped};
+ghost use Rattle.blobseer_run.specs.Told.{asked, FileGives, Settled, Stopped};
 ghost use Rattle.blobseer_run.specs.Telling.{FileStops, WordsStop};
 ghost use Rattle.blobseer_run.specs.Status.{code_of};
 
@@ -10,29 +10,13 @@ use ports::files::{FileText, Files};
 use settings::{Command, Given, MOST_FILE_BYTES, Settings, Text, TextFault, WordsFault};
 use std::alloc::Global;
 
-// Whether the program has the command yet.
-fn is_built(command: Command) -> bool
-    ensures { result ≡ is_built command }
-{
-    match command {
-        Command::Run | Command::Serve => true,
-        Command::Load => false,
-    }
-}
-
-// What the words ask for, of a command that the program has.
+// What the words ask for.
 fn order_of(alloc: Global, words: &[String]) -> Result<(Command, Given), Status>
     ensures asks { IfOk result (λ order. asked (map string_bytes words.now) ≡ Some (order.0, order.1)) }
-    ensures built { IfOk result (λ order. is_built order.0 ≡ true) }
     ensures stopped { IfErr result (λ status. WordsStop (map string_bytes words.now) status) }
 {
     match settings::read_words(alloc, words) {
-        Ok((command, given)) => {
-            if !is_built(command) {
-                return Err(Status::WordsRefused);
-            }
-            Ok((command, given))
-        }
+        Ok((command, given)) => Ok((command, given)),
         Err(WordsFault::Refused) => Err(Status::WordsRefused),
         Err(WordsFault::NoMemory) => Err(Status::OutOfMemory),
     }
@@ -69,7 +53,6 @@ pub(crate) fn told<F: Files>(
     files: &mut F,
 ) -> Result<(Command, Settings), Status>
     ensures settled { IfOk result (λ told. Settled (map string_bytes words.now) (F.known files.old) told.0 told.1) }
-    ensures built { IfOk result (λ told. is_built told.0 ≡ true) }
     ensures stopped { IfErr result (λ status. Stopped (map string_bytes words.now) (F.known files.old) (F.faults files.old) (F.faults files.new) (code_of status)) }
     ensures faults { RoseBy 0 (F.faults files.old) (F.faults files.new) }
     ensures files { (other : List ℕ) → F.known files.new other ≡ F.known files.old other }

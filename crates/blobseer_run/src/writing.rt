@@ -1,0 +1,19 @@
+// A command's own text on the output.
+ghost use Rattle.std.specs.Prelude.{◌≡◌};
+ghost use Rattle.ports.specs.Counts.{RoseBy};
+ghost use Rattle.blobseer_run.specs.Writing.{ToldLine};
+ghost use Rattle.blobseer_run.specs.Status.{code_of};
+
+use crate::status::Status;
+use ports::stream::{Sink, Written};
+
+/// Writes a text on the output.
+pub(crate) fn tell<K: Sink>(text: &str, out: &mut K) -> Status
+    ensures told { ToldLine text.now (K.written out.old) (K.written out.new) (K.write_faults out.old) (K.write_faults out.new) (code_of result) }
+    ensures write_faults { RoseBy 0 (K.write_faults out.old) (K.write_faults out.new) }
+{
+    match out.write(text.as_bytes()) {
+        Written::Whole => Status::Done,
+        Written::Failed(_) => Status::WriteFault,
+    }
+}
