@@ -1,4 +1,4 @@
-//! Tests of the server of many connections, over peers in memory.
+//! Tests of the commands of many sessions: the server, over peers in memory, and the load.
 #![tactic(auto)]
 
 #[cfg(test)]
@@ -11,3 +11,5 @@ mod program;
 mod rows;
 #[cfg(test)]
 mod store;
+#[cfg(test)]
+mod working;

@@ -41,7 +41,9 @@ static TEXTS: [(&str, &str, u8); 30] = [
     ("run", "pages = 4", 0),
     ("run --page 3 --settings s", "page = 4", 1),
     ("run --settings s --settings s", "page = 4", 1),
-    ("load --settings s", "pages = 4", 1),
+    ("load --settings s", "pages = 4", 2),
+    ("load --settings s", "ops = 0", 2),
+    ("load --settings s --ops 1", "workers = 17", 2),
     // There is no file of these names, and what it would have come to isn't asked.
     ("run --settings t", "page = 4", 3),
     ("run --settings ss --providers 1", "", 3),

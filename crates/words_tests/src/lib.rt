@@ -6,6 +6,8 @@ mod files;
 #[cfg(test)]
 mod lines;
 #[cfg(test)]
+mod loads;
+#[cfg(test)]
 mod program;
 #[cfg(test)]
 mod stores;

@@ -8,7 +8,7 @@ use std::test::Fail;
 use std::thread::Threads;
 
 // Command lines that need no file, and their status.
-static LINES: [(&str, u8); 48] = [
+static LINES: [(&str, u8); 60] = [
     ("run", 0),
     ("run --page 4", 0),
     ("run --page=1048576", 0),
@@ -64,10 +64,19 @@ static LINES: [(&str, u8); 48] = [
     ),
     ("serve", 1),
     ("serve --listen 127.0.0.1:0 --workers 17", 1),
+    ("load --ops 0", 1),
+    ("load --ops 4097", 1),
+    ("load --workers 0", 1),
+    ("load --workers 17", 1),
+    ("load --workers -1", 1),
+    ("load --seed 18446744073709551616", 1),
+    ("load --seed 1 --seed 1", 1),
+    ("load --ops", 1),
+    ("load --ops=", 1),
+    ("load --max-open 2", 1),
+    ("load --listen 127.0.0.1:0", 1),
+    ("load --providers 1", 2),
 ];
-
-// Right words of the command that the program hasn't yet.
-static TO_COME: [&str; 2] = ["load", "load --seed 7 --workers 4 --ops 100"];
 
 fn check_row<R: Wait + Threads + Sync + Abort>(
     rt: &R,
@@ -94,23 +103,7 @@ fn check_rows<R: Wait + Threads + Sync + Abort>(
     Ok(())
 }
 
-fn check_refused<R: Wait + Threads + Sync + Abort>(
-    rt: &R,
-    alloc: Global,
-    lines: &[&str],
-) -> Result<(), Fail> {
-    for line in lines {
-        check_row(rt, alloc, line, 1)?;
-    }
-    Ok(())
-}
-
 #[test]
 fn lines_come_to_their_status_and_error_line(rt: HostRuntime) -> Result<(), Fail> {
     check_rows(&rt, rt.alloc(), LINES.as_slice())
-}
-
-#[test]
-fn words_of_commands_to_come_are_refused(rt: HostRuntime) -> Result<(), Fail> {
-    check_refused(&rt, rt.alloc(), TO_COME.as_slice())
 }

@@ -108,6 +108,7 @@ pub fn error_line(status: u8) -> &'static str {
         2 => "blobseer: settings refused\n",
         3 => "blobseer: read fault\n",
         6 => "blobseer: listener fault\n",
+        8 => "blobseer: load ended early\n",
         _ => "",
     }
 }
