@@ -31,7 +31,7 @@ use Rattle.workload_law.specs.Closing.{ReadsAreShort}
 use Rattle.workload_run.specs.declared.looking.Last.{Last}
 use Rattle.workload_run.specs.Opening.{HasDoneOwn}
 use Rattle.workload_run.specs.Stages.{TellsSummary}
-use Rattle.workload_run.specs.Look.{recent_told, is_read_reply, IsTold, IsUntold, LookEnds, summed_up, SummaryEnds}
+use Rattle.workload_run.specs.Look.{recent_told, IsTold, IsUntold, LookEnds, summed_up, SummaryEnds}
 use Rattle.workload_run.proofs.Updates.{leaves_same}
 
 -- ---- nothing more was seen
@@ -73,9 +73,6 @@ module _ (looks : LooksLeaveNone) (s s' : Session) (others : List Event) (saw : 
       let call : Call = Calls.Recent 0 in
       let left = looks s call (reply_of (outcome_at s others call)) s' (record { others = others; is_gap = saw.is_gap; said = refl; seen = saw.seen }) in
       record { leaves = left.0; none_held = left.1 ∙ none }
-
-  pub saw_none : s'.seen ≡ s.seen → others ≡ []
-  saw_none same = no_more s.seen others (sym (ap (λ (x : Session). x.seen) saw.seen) ∙ same)
 
 -- ---- the most recent version
 
@@ -137,16 +134,6 @@ module _ (s s' : Session) (blob version size : ℕ) where
   read_call = Calls.Read blob version 0 size
 
   module _ (reply : Reply) where
-    said_read : (e : Option Fault) → Unless e s reply s' (ReadAnswer AllOther s blob version 0 size reply s') → is_read_reply reply ≡ true
-    said_read (Some fault) x = ap (λ (r : Reply). is_read_reply r) x.0
-    said_read None (ReadAnswer.content x) = ap (λ (r : Reply). is_read_reply r) x.said
-    said_read None (ReadAnswer.refused x) = ap (λ (r : Reply). is_read_reply r) x.said
-    said_read None (ReadAnswer.out_of_memory x) = ap (λ (r : Reply). is_read_reply r) x.said
-    said_read None (ReadAnswer.not_read x) = ap (λ (r : Reply). is_read_reply r) x.said
-
-    pub reads_so : Answers AllOther s (Requests.Read blob version 0 size) reply s' → is_read_reply reply ≡ true
-    reads_so answers = said_read (read_fault size) answers
-
     left_by : LooksLeaveNone → s.tickets ≡ [] → (e : Option Fault) → Unless e s reply s' (ReadAnswer AllOther s blob version 0 size reply s') → HasDoneOwn s [] s'
     left_by looks none (Some fault) x = subst (λ (t : Session). HasDoneOwn s [] t) (sym x.1) (record { leaves = leaves_same s; none_held = none })
     left_by looks none None (ReadAnswer.content x) = saw_left looks s s' x.others (record { is_gap = x.is_gap; seen = x.seen }) none

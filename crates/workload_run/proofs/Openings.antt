@@ -6,34 +6,14 @@ use Rattle.blob_model.specs.declared.call.Event.{Event}
 use Rattle.blob_model.specs.declared.call.Event.TheVariants as Events
 use Rattle.blob_model.specs.declared.call.Place.TheVariants.{Append}
 use Rattle.request_form.specs.Session.{Fixed, Session}
-use Rattle.request_form.specs.declared.form.Reply.TheVariants as Replies
 use Rattle.request_form.specs.declared.form.Fault.{Fault}
 use Rattle.workload_law.specs.declared.plan.LoadPlan.{LoadPlan}
 use Rattle.workload_law.specs.Load.{zeros_of, opened_with}
-use Rattle.workload_law.specs.Ends.{CreateHindered, CreateEnds, UpdateHindered, Leaves, LeavesAdd}
+use Rattle.workload_law.specs.Ends.{CreateHindered, UpdateHindered, Leaves, LeavesAdd}
 use Rattle.workload_law.specs.Closing.{OpeningHindered}
 use Rattle.workload_run.specs.Updates.{update_events, IsUpdated, IsStopped}
 use Rattle.workload_run.specs.Work.{IsFresh}
 use Rattle.workload_run.specs.Opening.{HasDoneOwn, HasNotMade, HasOpened, HasNotOpened}
-
--- ---- one blob
-
-same_fault : (a b : Fault) → Replies.Refused a ≡ Replies.Refused b → a ≡ b
-same_fault a b e = cc
-
-module _ (s s' : Session) (none : s.tickets ≡ []) where
-  pub made_done : (blob : ℕ) → CreateEnds s (Replies.Created blob) s' → HasDoneOwn s (Events.Create s.caller ∷ []) s'
-  made_done blob (CreateEnds.does b said l t) = record { leaves = l; none_held = t ∙ none }
-  made_done blob (CreateEnds.hinders f said h l t) = absurd (let no : Replies.Created blob ≡ Replies.Refused f = said in cc)
-
-  pub made_not : (fault : Fault) → CreateEnds s (Replies.Refused fault) s' → HasNotMade s fault s'
-  made_not fault (CreateEnds.does b said l t) = absurd (let no : Replies.Refused fault ≡ Replies.Created b = said in cc)
-  made_not fault (CreateEnds.hinders f said h l t) = record {
-    left = record { leaves = l; none_held = t ∙ none };
-    hindered = subst (λ (x : Fault). CreateHindered s.fixed.limits s.caller s.seen s'.seen x) (sym (same_fault fault f said)) h;
-  }
-
--- ---- the whole opening
 
 module _ (adds : LeavesAdd) (plan : LoadPlan) (s : Session) (fresh : IsFresh 0 s) where
   abbrev create_one : List Event

@@ -60,13 +60,6 @@ came_back are caller log seen tags begins same = record {
   same = same_by are seen log caller tags (tags_of_front log seen begins tags) same;
 }
 
-pub came_on : (caller : ℕ) (one two three : List Event) → CameBack caller one two → CameBack caller two three → CameBack caller one three
-came_on caller one two three a b = record {
-  later = a.later ++ b.later;
-  begins = b.begins ∙ (ap (λ (l : List Event). l ++ b.later) a.begins ∙ append_assoc one a.later b.later);
-  same = b.same ∙ a.same;
-}
-
 -- its finishes stay its own
 pub owns_back : OwnsStay → (limits : Bounds) (caller : ℕ) (seen history : List Event) → CameBack caller seen history → FinishesItsOwn limits seen caller → FinishesItsOwn limits history caller
 owns_back stay limits caller seen history back own =

@@ -32,7 +32,7 @@ use Rattle.workload_run.specs.Look.{SummaryEnds}
 use Rattle.std.proofs.lemmas.List.Sums.{get_or-le-sum_by}
 use Rattle.workload_run.specs.Workers.{Told, WorkerState, IsBack, AreKept, counted_by, stop_or, IsReadyAt, AreReady, IsWorkable, AreWorkable, HasRun, HaveRun, IsOfStore, AreOfStore, AreBack, first_stop}
 use Rattle.workload_run.proofs.Looks.{mid_same}
-use Rattle.workload_run.proofs.Returns.{none_by, same_by, came_back, came_on, owns_back, tags_of_front, events_append}
+use Rattle.workload_run.proofs.Returns.{none_by, same_by, came_back, owns_back, tags_of_front, events_append}
 
 -- ---- sessions
 
