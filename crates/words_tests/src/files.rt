@@ -9,7 +9,7 @@ use std::test::Fail;
 use std::thread::Threads;
 
 // A command line, the text of the file `s`, and the status.
-static TEXTS: [(&str, &str, u8); 30] = [
+static TEXTS: [(&str, &str, u8); 32] = [
     ("run --settings s", "", 0),
     ("run --settings=s", "page = 4\n", 0),
     ("run --settings s", "page = 4\r\nproviders = 3\r\n", 0),
