@@ -33,7 +33,7 @@ pub record IsRowNode (p : ℕ) (w : World) (key : NodeKey) (n : Node) : Type 0 w
 abbrev pub NodesAreRows : ℕ → World → Type 0
 NodesAreRows p w = (key : NodeKey) (n : Node) → node_at w.nodes key ≡ Some n → IsRowNode p w key n
 
--- every key of the row of a finished update is there
+-- once an update is finished, the store has a node under each key of its row
 abbrev pub FinishedRowsAreThere : ℕ → World → Type 0
 FinishedRowsAreThere p w =
     (blob version : ℕ) (b : Blob) (r : Range) → blob_at w.store blob ≡ Some b → 1 ≤ version → version ≤ assigned b → is_finished b version ≡ true
@@ -69,7 +69,7 @@ pub record Holds (p : ℕ) (limits : Bounds) (steps : List Step) (w : World) : T
   pub reached : ReachedIsThere p w
   pub reads : ReadsAreContent p w
 
--- After every list of allowed steps from the empty world its promises hold.
+-- Whatever allowed steps are taken from the empty world, in whatever order, the promises hold of the world they lead to.
 abbrev pub StepsHold : Type 0
 StepsHold = (p : ℕ) (limits : Bounds) (steps : List Step) → 1 ≤ p → AllAllowed p (empty_world limits) steps
     → Holds p limits steps (world_after p (empty_world limits) steps)

@@ -1,11 +1,11 @@
-//! What holds after every list of allowed steps.
+//! What holds whatever allowed steps were taken.
 ghost use Rattle.blob_core.specs.Promises.{StepsHold};
 ghost use Rattle.blob_core.specs.Standing.{ReachedStays};
 
 use range_log::laws as rows;
 use tree_walk::laws as walks;
 
-/// After every list of allowed steps from the empty world:
+/// Of each world to which allowed steps lead from the empty one, in whatever order:
 ///
 /// - the store is that of the changing steps as events, and these are a legal history;
 /// - every node that is there is the row's node for its key, however old the hints that its writer had;

@@ -31,7 +31,7 @@ pub enum ServeFault {
 /// taken, and it answers so once those that were taken are served.
 ///
 /// Each worker has one session of the store, with a pass of its own and with doors of the maker `doors`, which gives back what
-/// was put. The sessions are made before the first peer is taken. The calling thread is the first worker: it takes the peers and
+/// was put. No peer is taken before all sessions are made. The calling thread is the first worker: it takes the peers and
 /// leaves them to the others, which run in threads of their own and take them from a queue of 64 places. Where the queue is full
 /// or there is no other worker it serves a peer itself, and when it has taken the last one it serves what still waits, so that
 /// all are served where no thread can be made. A worker with nothing to do sleeps. Each peer is served once, as `serve_peer`

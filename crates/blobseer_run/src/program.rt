@@ -80,7 +80,7 @@ where
 ///
 /// | number | when |
 /// |---|---|
-/// | 0 | the input was read to its end, or holds a whole request to end, and was answered up to there; or all connections were served; or the load was done |
+/// | 0 | the input was answered, up to its end or to the first whole request to end; or, with `serve`, as many connections as were asked for; or the load did all its operations |
 /// | 1 | the words are refused |
 /// | 2 | the settings file is longer than 65,536 bytes or isn't one of settings, or the replicas are more than the providers |
 /// | 3 | a read of the settings file failed; or a read of `script`, and the lines before it that were ended are answered |

@@ -31,8 +31,8 @@ pub(crate) enum RangeFault {
 
 /// The `count` bytes of the version from byte `offset` on.
 ///
-/// Memory is taken for them once the range is known to be within the size. It waits for nobody. It takes at most the stated
-/// number of node steps; none for a range past the size.
+/// Memory is taken for them once the range is known to be within the size. It waits for nobody. The clause `steps` bounds its
+/// node steps; a range past the size takes none.
 pub(crate) fn read_range<D: Door, L: Ledger>(
     alloc: Global,
     snapshot: &Snapshot,

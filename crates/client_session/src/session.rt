@@ -227,8 +227,8 @@ impl<'a, D: Door, G: Gate> Session<'a, D, G> {
     /// `count` bytes of a published version from byte `offset` on.
     ///
     /// `ReadTooLong` comes first, exactly where more than 16,777,216 bytes are asked for, then the store's refusals, then
-    /// `PageFault`. It takes one turn, in which it gets the version's snapshot, and then walks without a lock through at most the
-    /// stated number of tree nodes; none where it is refused. Where the version is published in any history that the session has
+    /// `PageFault`. It takes one turn, in which it gets the version's snapshot. From there it goes through the tree holding no lock,
+    /// and the clause `steps` bounds how many nodes it meets: none where it is refused. Where the version is published in any history that the session has
     /// seen, the reply is what the store of that history answers, whatever has come since.
     pub fn read<R: Wait, L: Ledger>(
         &mut self,

@@ -155,8 +155,8 @@ impl Shared {
         &self.notices
     }
 
-    /// A new pass, which has seen what the owner has. Passes get the callers 1, 2, 3 and so on. `TooManyPasses` exactly where
-    /// 1,024 were made.
+    /// A new pass, which has seen what the owner has. Its caller is how many passes were made up to now, this one too.
+    /// `TooManyPasses` exactly where 1,024 were made.
     pub fn pass(&self, owner: &mut Owner) -> Result<Pass, PassFault>
         requires { IsOwnerOf self.now owner.old }
         ensures too_many { IsErr result ↔ (owner.old.made ≡ 1024) }

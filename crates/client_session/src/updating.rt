@@ -266,7 +266,7 @@ impl<'a, D: Door, G: Gate> Session<'a, D, G> {
     /// Finishes the update of a ticket, and gives the greatest published version of its blob. Its tree is woven first where no
     /// memory was found for that yet.
     ///
-    /// `NoTicket` exactly where the session doesn't hold it. After `NoMemory` it still does, after `Already` not: then another
+    /// `NoTicket` where this session holds no such ticket, and only then. After `NoMemory` it still does, after `Already` not: then another
     /// session has finished the update.
     pub fn finish<R: Wait>(&mut self, rt: &R, ticket: u64) -> Result<u64, Fault>
         ensures answers { Answers AllOther (session_of self.old) (Requests.Finish ticket) (finish_reply result) (session_of self.new) }

@@ -62,7 +62,7 @@ drop_fields place (n ∷ ns) bytes e =
 
 -- ---- operations
 
--- an operation asks for nothing where its fields aren't whole or something is left over
+-- an operation whose fields are cut short, or followed by more bytes, asks for nothing
 pub misfit : (operation : Operation) (bytes : List ℕ) → fits operation (length bytes) ≡ false → request_of (number_of operation ∷ bytes) ≡ None
 misfit Operations.Create [] h = absurd (true≢false h)
 misfit Operations.Create (b ∷ bs) h = refl

@@ -96,7 +96,7 @@ impl Row {
         self.touch
     }
 
-    /// The node of that range. None exactly where the row has no node of that range. The time is logarithmic in the row.
+    /// The node of that range, or None where the row has none. The time is logarithmic in the row.
     pub fn at(&self, range: Range) -> Option<&NodeRef>
         ensures { MatchOption result (HasNoNodeFor self.now range) (λ node. IsNodeFor self.now range node.now) }
     {
@@ -121,8 +121,8 @@ impl Row {
         &self.pages
     }
 
-    /// The stored page that the number `q` of a piece means. Its bytes are those of the update from `q` times the page
-    /// size on. The row has a stored page of that number.
+    /// The stored page `q` of the update, counted from 0, to which a piece of that number leads. It begins `q` page sizes after
+    /// the update's first byte. `q` is below the number of the row's stored pages.
     pub fn page(&self, q: u32) -> &StoredPage
         requires { q < length self.now.pages.pages }
         ensures this { slice_get self.now.pages.pages q ≡ Some result.now }

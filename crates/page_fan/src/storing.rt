@@ -40,7 +40,7 @@ enum Unstored {
 
 /// Stores the buffer as pages of `p` bytes, the last one of what is left, each at the providers of its placement.
 ///
-/// A page that one or more of its doors took is stored. It may wait for another thread's push into a house.
+/// One door of a page's placement that takes it is enough for the page to count as stored. It may wait for another thread's push into a house.
 pub fn store<D: Door, R: Threads + Wait + Sync>(
     rt: &R,
     alloc: Global,

@@ -1,5 +1,5 @@
 -- How counts that rise go on, alone and in sums.
-use Rattle.std.proofs.Common.{ℕ, ◌+◌, ◌-◌, arith}
+use Rattle.std.proofs.Common.{ℕ, ◌+◌, arith}
 use Rattle.ports.specs.Counts.{RoseBy}
 
 pub RoseBy-trans : (n m a b c : ℕ) → RoseBy n a b → RoseBy m b c → RoseBy (n + m) a c

@@ -21,7 +21,7 @@ pub record Numbered : Type 0 where
 abbrev pub finished_of : Numbered → List Bool
 finished_of w = map is_some w.rows
 
--- the length of the longest prefix in which all are finished
+-- how many versions are finished before the first that isn't
 abbrev pub published_of : Numbered → ℕ
 published_of w = true_prefix (finished_of w)
 

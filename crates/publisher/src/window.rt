@@ -85,7 +85,7 @@ impl Window {
     /// Finishes a numbered version by its row, and gives the version that is published now: the greatest one up to which
     /// all are finished. A row above an unfinished version is kept until that one is finished.
     ///
-    /// `Already` exactly where the version is finished. On an error the row comes back, and all is as before.
+    /// `Already` exactly where the version is finished. On an error the row comes back, and the window has changed nothing.
     pub fn finish(&mut self, version: u64, row: Arc<Row>) -> Result<u64, (FinishFault, Arc<Row>)>
         requires numbered { (1 ≤ version) × (version ≤ length self.old.log) }
         requires own { IsRowIn self.old version (arc_value row) }

@@ -58,8 +58,8 @@ BacksLead = (p k i : ℕ) (us : List Extent) → 1 ≤ p → InBounds us → Has
     → Leads p (touches p us) (back_of p us k i) (page_range p i)
 
 -- ---- no holes
--- an inner node's link is 0 exactly where its half begins at or past the size; a leaf that doesn't cover all valid bytes of
--- its page has a back to an older version
+-- of the halves of an inner node, those that begin below the size have a link to a version and the others have 0; from a leaf
+-- that leaves valid bytes of its page to older leaves, a back leads to an older version
 abbrev pub NoHoles : Type 0
 NoHoles = (p k : ℕ) (us : List Update) (r : Range) → 1 ≤ p → Replayable us → HasNode p (touches p (extents us)) k r
     → (p < r.size

@@ -10,7 +10,7 @@ unfoldable pub backs_from : ℕ → ℕ → List Extent → ℕ → ℕ → ℕ
 backs_from zero p us j i = 0
 backs_from (suc most) p us j i = if back_of p us j i == 0 then 0 else 1 + backs_from most p us (back_of p us j i) i
 
--- the backs from the newest leaf of page i at version v
+-- how many backs lead on, one after another, from the leaf in which version v last touched page i
 unfoldable pub backs_of : ℕ → List Extent → ℕ → ℕ → ℕ
 backs_of p us v i = backs_from v p us (newest_of p (touches p us) v (page_range p i)) i
 
@@ -18,7 +18,7 @@ backs_of p us v i = backs_from v p us (newest_of p (touches p us) v (page_range 
 abbrev pub pages_met : ℕ → ℕ → ℕ → List ℕ
 pages_met p o n = range_with_len (o / p) ((o + n - 1) / p + 1 - o / p)
 
--- the visit bound: how many nodes a read of n bytes at o of version v may visit
+-- the visit bound: the most nodes that are met when n bytes of version v are read from byte o on
 abbrev pub visits : ℕ → List Extent → ℕ → ℕ → ℕ → ℕ
 visits p us v o n =
     if n == 0 then 0

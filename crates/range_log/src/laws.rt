@@ -9,8 +9,8 @@ pub fn links_name_nodes()
     ensures backs { BacksLead }
 {}
 
-/// A link is 0 exactly where its half begins at or past the size. A leaf that doesn't cover all valid bytes of its page has
-/// a back, to an older version.
+/// Each half of an inner node that begins below the size has a link to a version; one that doesn't has 0. A leaf that leaves
+/// valid bytes of its page to older leaves has a back to an older version.
 pub fn no_holes()
     ensures nodes { NoHoles }
     ensures links { LinksHaveNoHoles }

@@ -1,8 +1,8 @@
 //! Reads bytes of a published version: a walk by links that takes no lock and no memory, in a number of node steps that is
 //! bounded beforehand.
 //!
-//! The walk goes from the version's root to the leaf of each page that the range meets, and visits each inner node once. At
-//! a leaf it goes on along the backs for the bytes that the newer leaves lack. The bytes go straight into the caller's
+//! The walk begins at the version's root, visits once each inner node above a page of the range, and comes to the newest leaf
+//! of each such page. There it goes on along the backs for the bytes that the newer leaves lack. The bytes go straight into the caller's
 //! buffer.
 #![tactic(auto)]
 

@@ -1,4 +1,4 @@
-// The marks of one page's bytes that are still wanted.
+// Which bytes of one page a read still wants, as marks.
 ghost use Rattle.std.specs.Prelude.{◌≡◌, ◌≢◌, ℕ, ◌<◌, ◌≤◌, length, false, IfOk, slice_index_or};
 
 use node_store::NoMemory;

@@ -29,10 +29,10 @@ pub enum ReadFault {
     PageFault(u64),
 }
 
-/// Fills `out` with the bytes of the version from byte `offset` on.
+/// Reads as many bytes of the version as `out` has room for, from byte `offset` on.
 ///
-/// It takes no lock and no memory, waits for nobody, and takes at most the stated number of node steps; none for no bytes
-/// and for a range past the size. The room was made for the snapshot's page size.
+/// It takes no lock and no memory, and waits for nobody. Its node steps are bounded by the clause `steps`; there are none for no
+/// bytes and for a range past the size. `room` is one for pages of the snapshot's size.
 pub fn read<D: Door, L: Ledger>(
     snapshot: &Snapshot,
     nodes: &NodeHouse,

@@ -19,7 +19,7 @@ pub record IsOrder (loads order : List ℕ) : Type 0 where
   pub all : IsPermutation (range_with_len 1 (length loads)) order
   pub in_order : AllPairs (λ p q. IsTrue (comes_before loads p q)) order
 
--- the first r providers when all are ordered by load and then by number
+-- r providers, less loaded ones before others and, where two loads are equal, lower numbers before higher: the front of that order
 pub record IsLeast (loads : List ℕ) (r : ℕ) (chosen : List ℕ) : Type 0 where
   pub order : List ℕ
   pub is_order : IsOrder loads order

@@ -7,7 +7,7 @@ ghost use Rattle.replica_place.specs.Chosen.{chosen};
 
 use crate::placement::{MOST_REPLICAS, Placement};
 
-/// The `r` providers that are least by load and then by number, in that order.
+/// The `r` least loaded providers, the least first; of two with one load, the lower number comes first.
 ///
 /// It goes over the loads once.
 pub fn choose(loads: &[u64], r: u32) -> Placement

@@ -38,7 +38,7 @@ abbrev pub has_quit : List Heard → Bool
 has_quit [] = false
 has_quit (item ∷ items) = is_last item || has_quit items
 
--- one item's reply: a wrong item gives its fault and leaves the session
+-- one item's reply: where an item is no request, the reply is its fault, and the session stays as it is
 abbrev pub ItemReply : Gap → Session → Heard → Reply → Session → Type 0
 ItemReply gap s (Asked request) reply s' = Answers gap s request reply s'
 ItemReply gap s (Wrong fault) reply s' = (reply ≡ Replies.Refused fault) × (s' ≡ s)

@@ -38,7 +38,7 @@ pub enum Request {
         offset: u64,
         length: u64,
     },
-    /// The greatest published version of a blob, and its size.
+    /// Which version of a blob is the last published one, and how long it is.
     Recent {
         blob: u64,
     },
@@ -170,7 +170,7 @@ pub enum Reply {
         at: u64,
         size: u64,
     },
-    /// The greatest published version of the ticket's blob, now that the update is finished.
+    /// Which version of the ticket's blob is the last published one, now that the update is finished.
     Finished {
         published: u64,
     },

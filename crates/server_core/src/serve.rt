@@ -305,7 +305,7 @@ fn answer_piece<R: Wait + Threads + Sync, V: Service, T: Dialect, I: Source + Si
 
 /// Answers the requests of one stream until it ends, takes at most `limit` bytes, and says how it ended.
 ///
-/// It reads pieces of at most 65,536 bytes. Replies are gathered: they are written whenever as many bytes come together, and
+/// A read takes up to 65,536 bytes. Replies are gathered: they are written whenever as many bytes come together, and
 /// at the latest before the next read and before it answers, and a longer one is written by itself. After want of memory the
 /// dialect isn't used again.
 pub fn serve_stream<R: Wait + Threads + Sync, V: Service, T: Dialect, I: Source + Sink>(

@@ -28,7 +28,7 @@ power_of_one (suc d) n small one = go (n % 2) refl (power_of_one d (n / 2))
         (zero, lone n (zero_from_ones (n / 2) none) e, omega arith)
     go (suc (suc r)) e rest = absurd (omega arith)
 
--- a power of two from 4 to 1,048,576 is one of those from 2^2 to 2^20
+-- a number within a page's bounds that has a single one bit is 2^i for an i from 2 to 20
 pub page_power : (n : ℕ) → 4 ≤ n → n ≤ 1048576 → count_ones n ≡ 1 → (i : ℕ) × (n ≡ 2 ^ i) × (2 ≤ i) × (i ≤ 20)
 page_power n least most one = go (power_of_one 21 n (omega arith) one)
   where

@@ -45,7 +45,7 @@ fn text_chosen(words: Option<Text>, file: Option<Text>) -> Text
 /// The settings that the words and the file come to: the words win over the file, and the file over the defaults. A
 /// setting that the command doesn't use is merged all the same. Takes no memory.
 ///
-/// Refused exactly where the merged replicas are more than the merged providers.
+/// It is refused where, after merging, each page were to have more replicas than there are providers, and only there.
 pub fn merge(words: Given, file: Given) -> Result<Settings, MergeRefused>
     ensures settings { IfOk result (λ settings. settings ≡ merged words file) }
     ensures refused { IsErr result ↔ ((merged words file).providers < (merged words file).replicas) }

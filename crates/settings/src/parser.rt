@@ -1,4 +1,4 @@
-// The parser of the command line, which pairs options with values, and refuses doubles and a missing option.
+// The parser of the command line: each option takes a value, none may come twice, and each that has no default must come.
 ghost use Rattle.std.specs.Prelude.{◌≡◌, ◌∷◌, fold, map, drop, Some, None, true, false, IfOk, MatchResult, string_bytes};
 ghost use Rattle.clap.specs.Words.{app_of, rule_of, with_rule};
 ghost use Rattle.clap.specs.Simple.{new_app};

@@ -191,7 +191,7 @@ impl Given {
 /// The settings of a program. Each is one of its option's range, and the replicas are at most the providers.
 #[derive(Drop)]
 pub struct Settings {
-    /// The bytes of a page: a power of two from 4 to 1,048,576.
+    /// The bytes of a page: 2^i for an i from 2 to 20.
     pub page: u64,
     /// The providers of the store, 1 to 64.
     pub providers: u32,

@@ -1,6 +1,6 @@
 //! One published version of a blob: the rows of its updates, each proved to be the row of its update.
 //!
-//! A snapshot stands for the list of updates 1 to its version. Each of its rows tells its update: a write of the bytes of
+//! What a snapshot means is a list of updates, from the first up to that of its version. Each of its rows tells one: a write of the bytes of
 //! the row's pages, at the first touched page and the byte of that page's leaf.
 #![tactic(auto)]
 

@@ -160,7 +160,7 @@ impl Snapshot {
         })
     }
 
-    /// The node that the row of update `j` has for the range. None exactly where the row has no node of that range. In
+    /// The node that the row of update `j` has for the range, or None where it has none. In
     /// both cases it takes one node step, and there is no other way from a lent snapshot to a node.
     pub fn find<'s, L: Ledger>(
         &'s self,

@@ -21,7 +21,7 @@ doublings (suc most) s n = elim (nat_le n s) [ true ↦ 0 | false ↦ suc (doubl
 unfoldable pub height_of : ℕ → ℕ → ℕ
 height_of p n = doublings n p n
 
--- 0 for 0, else the least p * 2^h that is at least n
+-- the bytes under the root of a tree over n bytes; an empty tree covers none
 unfoldable pub span_of : ℕ → ℕ → ℕ
 span_of p n = if n == 0 then 0 else p * 2 ^ height_of p n
 
@@ -30,7 +30,7 @@ span_of p n = if n == 0 then 0 else p * 2 ^ height_of p n
 abbrev pub tree_range : ℕ → ℕ → ℕ → Range
 tree_range p h q = record { offset = q * (p * 2 ^ h); size = p * 2 ^ h }
 
--- the range's size is p * 2^h, and its offset is a multiple of its size
+-- a range of whole pages, a power of two of them, that stands at such a multiple of their bytes as a tree's node does
 abbrev pub Aligned : ℕ → Range → Type 0
 Aligned p r = (h : ℕ) × (q : ℕ) × (r ≡ tree_range p h q)
 

@@ -4,7 +4,7 @@ ghost use Rattle.tree_geom.specs.Geometry.{IsPageSize, IsHeight, height_of, span
 
 use std::marker::Model;
 
-/// How many bytes a page has: a power of two from 4 to 1,048,576.
+/// How many bytes a page has: 2^i for an i from 2 to 20.
 #[derive(Clone, Copy)]
 pub struct PageSize {
     bytes: u64,
@@ -21,7 +21,7 @@ impl Model for PageSize {
 }
 
 impl PageSize {
-    /// Pages of `p` bytes. None exactly where `p` isn't a power of two from 4 to 1,048,576.
+    /// Pages of `p` bytes. It is None for each number that no page may have.
     pub fn new(p: u64) -> Option<PageSize>
         ensures { MatchOption result (¬ IsPageSize p) (λ size. (size ≡ p) × IsPageSize p) }
     {
@@ -64,8 +64,8 @@ pub fn height(p: PageSize, size: u64) -> u32
     height
 }
 
-/// The bytes that the root covers of the tree over `size` bytes: 0 for size 0, else the least `p * 2^h` that is at least
-/// the size.
+/// How many bytes the root of the tree over `size` bytes covers: those of `2^h` pages, where `h` is the tree's height. An empty
+/// tree has no root, and covers 0.
 ///
 /// The size is at most 2^40, and so is the span.
 pub fn span(p: PageSize, size: u64) -> u64

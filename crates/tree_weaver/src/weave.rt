@@ -98,8 +98,8 @@ fn plan_level(
     Ok(())
 }
 
-/// Plans the row of the ticket's update: the row of its version in the whole list of the blob's updates, whichever version
-/// was published at the numbering.
+/// Plans the row of the ticket's update. However far publication had come at the numbering, it is the row that its version has
+/// in the whole list of the blob's updates.
 ///
 /// It takes at most `4 h + 4` node steps, `h` the height of the tree after the update, and time linear in the nodes of the
 /// row, the waiting updates and the height. It takes no lock and waits for nobody. Fails for want of memory alone.

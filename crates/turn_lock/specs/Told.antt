@@ -93,7 +93,7 @@ module _ {E F : Type 0} where
   abbrev pub dealt : Known E F → Known E F
   dealt v = staged v (dealt_stage v.stage)
 
-  -- split: the new seat has seen what the owner has, has that caller, and keeps the owner's fixed data
+  -- split: what the owner has seen and its fixed data are the new seat's too, whose caller is the next number
   abbrev pub newcomer : Known E F → Known E F
   newcomer v = record { caller = given_of v.stage + 1; seen = v.seen; fixed = v.fixed; stage = Idle }
 

@@ -84,7 +84,7 @@ module _ {E F : Type 0} where
   abbrev pub IsUsed : Facts E F → ℕ → Known E F → Type 0
   IsUsed w j v = (0 < j) × (v.caller ≡ j) × (entries_by j w.log ≡ entries_by j v.seen)
 
-  -- How a seat stands, by its stage. One that waits has a number from the turn's up to the one before the next. The one that may enter has the turn's number, has seen the whole list, and the slot is out with it.
+  -- How a seat stands, by its stage. One that waits has drawn a number, which is not below the turn's and is below the next to be drawn. The one that may enter has the turn's number, has seen the whole list, and the slot is out with it.
   abbrev pub Stands : Facts E F → ℕ → Known E F → Stage E → Type 0
   Stands w j v Gone = Unit {0}
   Stands w j v (Owns g kept) = IsTrueOf w v × (j ≡ 0) × (g ≡ w.given) × (kept ≡ w.kept) × HasAllKept w.log kept v.seen
@@ -106,7 +106,7 @@ module _ {E F : Type 0} where
   turns v = turns_of v.stage
 
 module _ {S E F : Type 0} (history : S → Log E) (fixed : S → F) where
-  -- the slot is at home: the whole list is its state's history, and the fixed data are its state's
+  -- the slot is at home: its state's history is all that was added, and its fixed data are the lock's
   abbrev pub IsHome : Facts E F → List (maybe.Option S) → Type 0
   IsHome w homes = (w.away ≡ 0) × ((x : S) × (homes ≡ some x ∷ []) × (history x ≡ w.log) × (fixed x ≡ w.fixed))
 
@@ -118,7 +118,7 @@ module _ {S E F : Type 0} (history : S → Log E) (fixed : S → F) where
     pub facts : Facts E F
     pub words : s.words ≡ (facts.drawn % 18446744073709551616) ∷ (facts.turn % 18446744073709551616) ∷ length facts.log ∷ []
     pub each_seat : (j : ℕ) (v : Known E F) → get_elem? s.views j ≡ some v → Stands facts j v v.stage
-    -- Turns: the seats that wait or may enter have the numbers from the turn's up to the one before the next, each once. The slot is out exactly where one may enter.
+    -- Turns: each number from the turn's on that was drawn is held by one seat, which waits or may enter. The slot is out exactly where one may enter.
     pub all_waiting : total numbers s.views + facts.turn ≡ facts.drawn
     pub all_held : (n : ℕ) → facts.turn ≤ n → n < facts.drawn → (v : Known E F) × (get_elem? s.views (facts.holder n) ≡ some v) × HasDrawn n v.stage
     pub all_inside : total turns s.views ≡ facts.away

@@ -143,7 +143,8 @@ impl<S: Journaled> Pass<S> {
 }
 
 impl<S: Journaled> Owner<S> {
-    /// A new pass, which has seen what the owner has. Passes get the callers 1, 2, 3 and so on, and no caller twice. After 1,024 passes there is none, whether they were taken back or not.
+    /// A new pass, which has seen what the owner has. Its caller is how many passes were made up to now, this one too, so no caller
+    /// comes twice. After 1,024 passes there is none, whether they were taken back or not.
     pub fn pass(&mut self, turn: &Turn<S>) -> Result<Pass<S>, PassFault>
         requires { self.old.lock ≡ turn.now }
         ensures too_many { IsErr result ↔ (self.old.made ≡ 1024) }

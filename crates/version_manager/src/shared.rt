@@ -70,8 +70,8 @@ impl SharedDesk {
         Ok((SharedDesk { turn }, owner))
     }
 
-    /// A new pass, which has seen what the owner has. Passes get the callers 1, 2, 3 and so on. `TooManyPasses` exactly where
-    /// 1,024 were made.
+    /// A new pass, which has seen what the owner has. Its caller is how many passes were made up to now, this one too.
+    /// `TooManyPasses` exactly where 1,024 were made.
     pub fn pass(&self, owner: &mut Owner) -> Result<Pass, PassFault>
         requires { owner.old.lock ≡ self.now }
         ensures too_many { IsErr result ↔ (owner.old.made ≡ 1024) }

@@ -79,7 +79,7 @@ pub data UpdateEnds (s : Session) (blob : ℕ) (place : Place) (bytes : List ℕ
       → UpdateHindered s.fixed.limits s.caller blob place bytes s.seen s'.seen fault → StopsAt s blob place bytes s'
       → UpdateEnds s blob place bytes done reply s'
 
--- The answer to an update that the session itself doesn't refuse is one of these.
+-- How an update may end that the session lets through to the store.
 abbrev pub UpdatesEnd : Type 0
 UpdatesEnd = (s : Session) (blob : ℕ) (place : Place) (bytes : List ℕ) (done : ℕ → ℕ → ℕ → Reply) (reply : Reply) (s' : Session)
     → UpdateAnswer AllOther s blob place bytes (Updated AllOther s blob place bytes done reply s') reply s' → UpdateEnds s blob place bytes done reply s'

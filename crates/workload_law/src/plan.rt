@@ -1,8 +1,8 @@
 // The plan of a load, and what a load comes to.
 ghost use Rattle.std.specs.Prelude.{◌≡◌, ◌*◌, ◌≤◌, ◌<◌};
 
-/// How many workers do how many operations each, and the number from which the bytes of the grid begin. A load takes 1 to 16
-/// workers and 1 to 4,096 operations.
+/// How many workers do how many operations each, and the number from which the bytes of the grid begin. A load has at least
+/// one worker and at most 16, each with at least one operation and at most 4,096.
 #[derive(Clone, Copy, Debug, PartialEq, Eq)]
 pub struct LoadPlan {
     /// The number that is added to each byte of a cell.
