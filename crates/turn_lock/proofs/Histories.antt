@@ -4,6 +4,10 @@ use Rattle.std.proofs.lemmas.List.Elements.{filter-append}
 use Rattle.turn_lock.specs.History.{Log, Begins, Adds, entries_by, longer}
 
 module _ {E : Type 0} where
+  -- a beginning of a beginning
+  pub begins_both : (xs ys zs : Log E) → Begins xs ys → Begins ys zs → Begins xs zs
+  begins_both xs ys zs a b = (a.0 ++ b.0, b.1 ∙ (ap (λ l. l ++ b.0) a.1 ∙ append_assoc xs a.0 b.0))
+
   pub Begins-append : (xs ys ys' ext : Log E) → ys' ≡ ys ++ ext → Begins xs ys → Begins xs ys'
   Begins-append xs ys ys' ext e b = (b.0 ++ ext, e ∙ (ap (λ l. l ++ ext) b.1 ∙ append_assoc xs b.0 ext))
 
