@@ -25,6 +25,9 @@ pub struct Row {
     version: u64,
     touch: Touch,
     room: u32,
+    // the logarithms of the sizes of the first node's range and of the last one's, by which the place of a range is guessed
+    top: u32,
+    page: u32,
     pages: Arc<Pages>,
     nodes: Vec<NodeRef>,
 }
@@ -59,6 +62,8 @@ impl Row {
             version,
             touch,
             room,
+            top: 0,
+            page: 0,
             nodes: Vec::with_capacity(alloc, room as usize)?,
             pages,
         })
@@ -72,6 +77,8 @@ impl Row {
         requires after { IfSome (last_node self.old.nodes) (λ last. Before last.key.range node.key.range) }
         ensures { self.new ≡ with_node self.old node }
     {
+        self.page = node.key().range.size.trailing_zeros();
+        self.top = self.top.max(self.page);
         self.nodes.push_reserved(node);
     }
 
@@ -96,8 +103,25 @@ impl Row {
         self.touch
     }
 
-    /// The node of that range, or None where the row has none. The time is logarithmic in the row.
+    /// The node of that range, or None where the row has none.
+    ///
+    /// In a row of all nodes that its update touches, the place of the range is computed, and one node is looked at. Else the
+    /// time is logarithmic in the row.
     pub fn at(&self, range: Range) -> Option<&NodeRef>
+        ensures { MatchOption result (HasNoNodeFor self.now range) (λ node. IsNodeFor self.now range node.now) }
+    {
+        let place = place_of(self.touch, self.top, self.page, range);
+        if place < self.nodes.len() {
+            let node = &self.nodes[place];
+            if node.key().range == range {
+                return Some(node);
+            }
+        }
+        self.search(range)
+    }
+
+    // The same, by halving the nodes.
+    fn search(&self, range: Range) -> Option<&NodeRef>
         ensures { MatchOption result (HasNoNodeFor self.now range) (λ node. IsNodeFor self.now range node.now) }
     {
         let mut low = 0;
@@ -130,6 +154,28 @@ impl Row {
     {
         self.pages.page(q)
     }
+}
+
+// Where the range stands in the whole row of an update with that touch, whose largest range and whose pages have sizes of
+// these logarithms: after all larger ranges, and after those of its size that begin before it. It is a guess, of which
+// nothing is claimed: whoever asks looks there.
+fn place_of(touch: Touch, top: u32, page: u32, range: Range) -> usize {
+    let level = range.size.trailing_zeros();
+    if touch.first == touch.last {
+        return top.saturating_sub(level) as usize;
+    }
+    let height = level.saturating_sub(page);
+    let mut first = touch.first.wrapping_shr(height);
+    let mut last = touch.last.wrapping_shr(height);
+    let mut place = range.offset.wrapping_shr(level).saturating_sub(first);
+    for _above in level..top {
+        first /= 2;
+        last /= 2;
+        place = place
+            .saturating_add(last.saturating_sub(first))
+            .saturating_add(1);
+    }
+    place as usize
 }
 
 // How the first range stands to the second in a row.

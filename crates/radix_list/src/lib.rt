@@ -6,6 +6,7 @@
 
 mod branch;
 mod list;
+mod packed;
 
 pub use list::RadixList;
 pub use no_memory::NoMemory;

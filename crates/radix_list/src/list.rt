@@ -1,46 +1,38 @@
-// A list in a tree of four levels.
-ghost use Rattle.std.specs.Prelude.{◌≡◌, ℕ, ◌+◌, ◌*◌, ◌/◌, ◌<◌, ◌≤◌, [], ◌∷◌, ◌++◌, length, take, IfOk, IfErr, IfSome, Some, slice_get};
+// A front of a packed list.
+ghost use Rattle.std.specs.Prelude.{◌≡◌, ◌+◌, ◌<◌, ◌≤◌, [], ◌∷◌, ◌++◌, length, take, IfOk, IfErr, IfSome, slice_get};
 ghost use Rattle.std.specs.Arc.{arc_value};
-ghost use Rattle.std.specs.Option.{option_copied, option_map};
-ghost use Rattle.radix_list.specs.Packing.{groups};
+ghost use Rattle.std.specs.Option.{option_copied};
 
 use crate::NoMemory;
-use crate::branch::{Branch, WIDTH};
+use crate::packed::PackedList;
 use std::alloc::Global;
 use std::marker::Model;
 use std::sync::Arc;
 use std::sync::ledger::Ledger;
 use tree_geom::Steps;
 
-type Leaf<T> = Branch<T>;
-
-type Twig<T> = Branch<Leaf<T>>;
-
-type Limb<T> = Branch<Twig<T>>;
-
 /// A list of up to 1,048,576 shared items, seen by a contract as the list of their values.
 ///
 /// A list never changes: what adds an item or takes some away makes another list, which shares with this one all nodes but
-/// those on one path, and all items.
+/// those on one path, and all items. A list from which items were taken away keeps them, unseen.
 #[derive(Drop)]
 pub struct RadixList<T> {
-    root: Branch<Limb<T>>,
+    all: PackedList<T>,
+    // how many of them are the list's
     len: u64,
-    alloc: Global,
 }
 
 impl<T> Model for RadixList<T> {
-    ghost use Rattle.std.specs.Prelude.{List};
+    ghost use Rattle.std.specs.Prelude.{◌≤◌, List, length, take};
     ghost use Rattle.std.specs.Coded.{coded_list};
-    ghost use Rattle.radix_list.specs.Packing.{items_of, IsPacked};
 
     ghost Value = { List T };
 
     ghost coded = { coded_list T.code };
 
-    ghost view = { λ l. items_of l.root };
+    ghost view = { λ l. take l.len l.all };
 
-    ghost invariant = { λ l. IsPacked l.root l.len };
+    ghost invariant = { λ l. l.len ≤ length l.all };
 }
 
 impl<T> RadixList<T> {
@@ -49,9 +41,8 @@ impl<T> RadixList<T> {
         ensures { result ≡ [] }
     {
         RadixList {
-            root: Branch::empty(alloc),
+            all: PackedList::empty(alloc),
             len: 0,
-            alloc,
         }
     }
 
@@ -60,6 +51,7 @@ impl<T> RadixList<T> {
         ensures is { result ≡ length self.now }
         ensures few { result ≤ 1048576 }
     {
+        let _all = self.all.len();
         self.len
     }
 
@@ -70,11 +62,11 @@ impl<T> RadixList<T> {
         ensures few { steps.new ≤ steps.old + 4 }
         ensures counted { IfSome result (λ _. steps.new ≡ steps.old + 4) }
     {
-        let i = i as usize;
-        let limb = self.root.visit(i / WIDTH / WIDTH / WIDTH, steps)?;
-        let twig = limb.visit(i / WIDTH / WIDTH % WIDTH, steps)?;
-        let leaf = twig.visit(i / WIDTH % WIDTH, steps)?;
-        leaf.visit(i % WIDTH, steps)
+        if i < self.len {
+            self.all.get(i, steps)
+        } else {
+            None
+        }
     }
 
     /// The list with the item at its end. This list stays as it is. An `Err` is want of memory and gives the item back.
@@ -85,8 +77,11 @@ impl<T> RadixList<T> {
         ensures ok { IfOk result (λ list. list ≡ self.now ++ arc_value item ∷ []) }
         ensures err { IfErr result (λ back. back ≡ item) }
     {
-        match self.ending(self.len, &item) {
-            Ok(list) => Ok(list),
+        match self.all.ending(self.len, &item) {
+            Ok(all) => Ok(RadixList {
+                all,
+                len: self.len + 1,
+            }),
             Err(NoMemory) => Err(item),
         }
     }
@@ -98,84 +93,22 @@ impl<T> RadixList<T> {
         ensures { IfOk result (λ list. list ≡ self.now) }
     {
         Ok(RadixList {
-            root: self.root.share(self.alloc)?,
+            all: self.all.share()?,
             len: self.len,
-            alloc: self.alloc,
         })
     }
 
-    /// The list of the first `n` items. This list stays as it is. Where these are all, no node is copied but the root.
+    /// The list of the first `n` items. This list stays as it is. No node is copied but the root, and the items after them
+    /// are kept.
     pub fn prefix(&self, n: u64) -> Result<RadixList<T>, NoMemory>
     where
         T: Drop,
         requires { n ≤ length self.now }
         ensures { IfOk result (λ list. list ≡ take n self.now) }
     {
-        if n == 0 {
-            return Ok(RadixList::empty(self.alloc));
-        }
-        if n == self.len {
-            return self.share();
-        }
-        let last = self.handle(n as usize - 1).unwrap();
-        self.ending(n - 1, last)
-    }
-
-    // The first `keep` items and then this one, in new nodes on the path to it. All other nodes are shared.
-    fn ending(&self, keep: u64, item: &Arc<T>) -> Result<RadixList<T>, NoMemory>
-    where
-        T: Drop,
-        requires within { keep ≤ length self.now }
-        requires room { keep < 1048576 }
-        ensures { IfOk result (λ list. list ≡ take keep self.now ++ arc_value item.now ∷ []) }
-    {
-        let alloc = self.alloc;
-        let item = Arc::try_clone(item)?;
-        let at = keep as usize;
-        let leaf = Branch::ending(alloc, self.leaf(at), at % WIDTH, item)?;
-        let leaf = Arc::new(alloc, leaf)?;
-        let at = at / WIDTH;
-        let twig = Branch::ending(alloc, self.twig(at), at % WIDTH, leaf)?;
-        let twig = Arc::new(alloc, twig)?;
-        let at = at / WIDTH;
-        let limb = Branch::ending(alloc, self.limb(at), at % WIDTH, twig)?;
-        let limb = Arc::new(alloc, limb)?;
-        let at = at / WIDTH;
-        let root = Branch::ending(alloc, Some(&self.root), at, limb)?;
         Ok(RadixList {
-            root,
-            len: keep + 1,
-            alloc,
+            all: self.all.share()?,
+            len: n,
         })
-    }
-
-    // The share that this list has in item `i`.
-    fn handle(&self, i: usize) -> Option<&Arc<T>>
-        ensures { option_map (λ item. arc_value item.now) result ≡ slice_get self.now i }
-    {
-        self.leaf(i)?.handle(i % WIDTH)
-    }
-
-    // The leaf that item `i` is in.
-    fn leaf(&self, i: usize) -> Option<&Leaf<T>>
-        ensures { option_copied result ≡ slice_get (groups self.now) (i / 32) }
-    {
-        let leaf = i / WIDTH;
-        self.twig(leaf)?.at(leaf % WIDTH)
-    }
-
-    // The node that leaf `i` hangs on.
-    fn twig(&self, i: usize) -> Option<&Twig<T>>
-        ensures { option_copied result ≡ slice_get (groups (groups self.now)) (i / 32) }
-    {
-        let twig = i / WIDTH;
-        self.limb(twig)?.at(twig % WIDTH)
-    }
-
-    // The child of the root that twig `i` hangs on.
-    fn limb(&self, i: usize) -> Option<&Limb<T>>
-        ensures { option_copied result ≡ slice_get (groups (groups (groups self.now))) (i / 32) }
-    {
-        self.root.at(i / WIDTH)
     }
 }

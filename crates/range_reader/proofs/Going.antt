@@ -17,11 +17,11 @@ use Rattle.range_reader.proofs.LeafBytes.{length-page}
 use Rattle.range_reader.proofs.Standing.{AreIn}
 use Rattle.range_reader.proofs.Among.{length-updates}
 
-pub not_true : (b : Bool) → (b ≡ true → ⊥) → b ≡ false
+not_true : (b : Bool) → (b ≡ true → ⊥) → b ≡ false
 not_true b never = elim (either b) [ inl yes' ↦ absurd (never yes') | inr is ↦ is ]
 
 -- a byte that wasn't wanted isn't wanted after a leaf
-pub stays_unmarked : (start len begin x : ℕ) (old new : List Bool) → Taken start len begin old new → x < length old → get_or old x false ≡ false → get_or new x false ≡ false
+stays_unmarked : (start len begin x : ℕ) (old new : List Bool) → Taken start len begin old new → x < length old → get_or old x false ≡ false → get_or new x false ≡ false
 stays_unmarked start len begin x old new t lt unmarked =
     elim (cases_lt (begin + x) start) [
       | inl below ↦ t.below x lt below ∙ unmarked
@@ -30,6 +30,14 @@ stays_unmarked start len begin x old new t lt unmarked =
         | inr above ↦ t.above x lt above ∙ unmarked
       ]
     ]
+
+-- what isn't wanted before a leaf's next wanted byte
+pub no_longer : (start len begin x first next : ℕ) (old new : List Bool) → Taken start len begin old new → x < length old
+    → ((x : ℕ) → x < first → get_or old x false ≡ false) → ((x : ℕ) → first ≤ x → x < next → get_or new x false ≡ true → ⊥) → x < next → get_or new x false ≡ false
+no_longer start len begin x first next old new t lt before none less = elim (cases_lt x first) [
+  | inl earlier ↦ stays_unmarked start len begin x old new t lt (before x earlier)
+  | inr from ↦ not_true (get_or new x false) (none x from less)
+]
 
 -- at first all bytes are in the page at its newest version
 pub in_newest : PageBytesStay → (s : Version) → IsVersion s → (i newest begin count : ℕ) (marks : List Bool) → newest ≡ newest_in s (page_range s.page_size i) → begin + count ≤ s.page_size

@@ -8,7 +8,9 @@ pub mod NodeParts
 pub mod Running
 pub mod Overlaying
 pub mod Leaves
+pub mod Taking
 pub mod Along
 pub mod Going
 pub mod Walking
 pub mod Rooted
+pub mod Blocks

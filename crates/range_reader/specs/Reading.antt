@@ -1,5 +1,5 @@
 -- What a read of a snapshot speaks of.
-use Rattle.std.specs.Prelude.{ℕ, ◌+◌, List, length, slice_range}
+use Rattle.std.specs.Prelude.{◌≡◌, ℕ, ◌+◌, List, length, slice_range}
 use Rattle.std.specs.List.{sum_by}
 use Rattle.blob_model.specs.Content.{content}
 use Rattle.tree_geom.specs.declared.touch.Touch.{Touch}
@@ -7,9 +7,10 @@ use Rattle.tree_geom.specs.declared.range.Range.{Range}
 use Rattle.range_log.specs.Log.{newest_of}
 use Rattle.range_log.specs.Extents.{Extent, touches, extent_at}
 use Rattle.range_log.specs.Updates.{extents}
-use Rattle.range_log.specs.Rows.{leaf_start, leaf_from, leaf_len}
+use Rattle.range_log.specs.Rows.{leaf_start, leaf_from, leaf_len, first_piece, second_piece, back_of}
 use Rattle.range_log.specs.Visits.{visits, pages_met, backs_of}
 use Rattle.snapshot.specs.Versions.{Version, updates_of}
+use Rattle.range_reader.specs.declared.source.LeafParts.{LeafParts}
 
 -- where the updates of the version fall
 abbrev pub falls : Version → List Extent
@@ -48,3 +49,10 @@ own_from s j i = leaf_from s.page_size (extent_at (falls s) j) i
 
 abbrev pub own_len : Version → ℕ → ℕ → ℕ
 own_len s j i = leaf_len s.page_size (extent_at (falls s) j) i
+
+-- these are the parts of the leaf of page i in the row of update j
+pub record IsLeafOf (s : Version) (j i : ℕ) (parts : LeafParts) : Type 0 where
+  pub start : parts.start ≡ own_start s j i
+  pub first : parts.first ≡ first_piece s.page_size (own_from s j i) (own_len s j i)
+  pub second : parts.second ≡ second_piece s.page_size (own_from s j i) (own_len s j i)
+  pub back : parts.back ≡ back_of s.page_size (falls s) j i

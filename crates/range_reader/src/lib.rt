@@ -12,6 +12,7 @@ mod piece;
 mod reader;
 mod source;
 mod walk;
+mod whole;
 
 pub use marks::ReadRoom;
 pub use node_store::NoMemory;

@@ -1,17 +1,17 @@
 // The bytes of one page, from its newest leaf and along the backs.
 ghost use Rattle.std.specs.Prelude.{◌≡◌, ℕ, ◌+◌, ◌*◌, ◌^◌, ◌<◌, ◌≤◌, length, map, sum_by, All, IsTrue, IsFalse};
 ghost use Rattle.tree_geom.specs.Geometry.{page_range};
-ghost use Rattle.range_log.specs.Rows.{first_piece, second_piece};
 ghost use Rattle.range_log.specs.Visits.{backs_of};
 ghost use Rattle.page_store.specs.Count.{HasRisen};
 ghost use Rattle.snapshot.specs.Versions.{row_at, bytes_of, size_now, HasNodeFor, IsVersionIn};
 ghost use Rattle.range_reader.specs.Filling.{Overlaid, Taken};
-ghost use Rattle.range_reader.specs.Reading.{falls, newest_in, bytes_at, own_start, own_from, own_len};
+ghost use Rattle.range_reader.specs.Reading.{falls, newest_in, bytes_at, own_start, own_from, own_len, IsLeafOf};
 ghost use Rattle.range_reader.specs.Faults.{CountsKept, PieceFailed, PageFailed};
 
 use crate::marks::{first_marked, mark_all};
 use crate::piece::fill_piece;
 use crate::source::{LeafParts, Source, leaf};
+use crate::whole::take_leaf;
 use page_fan::Doors;
 use page_store::Door;
 use std::sync::ledger::Ledger;
@@ -31,11 +31,7 @@ fn fill_leaf<D: Door>(
     requires here { IsVersionIn source.now.nodes.now source.now.houses.now source.now.snapshot.now }
     requires doors { length doors.old ≡ length source.now.houses.now }
     requires has { HasNodeFor source.now.snapshot.now j (page_range source.now.snapshot.now.page_size page) }
-    requires start { leaf.start ≡ own_start source.now.snapshot.now j page }
-    requires first { let s = source.now.snapshot.now in
-        leaf.first ≡ first_piece s.page_size (own_from s j page) (own_len s j page) }
-    requires second { let s = source.now.snapshot.now in
-        leaf.second ≡ second_piece s.page_size (own_from s j page) (own_len s j page) }
+    requires leaf { IsLeafOf source.now.snapshot.now j page leaf }
     requires within { begin + length out.old ≤ source.now.snapshot.now.page_size }
     requires marked { length marks.old ≡ length out.old }
     ensures overlaid { let s = source.now.snapshot.now in
@@ -63,9 +59,64 @@ fn fill_leaf<D: Door>(
     fill_piece(source, doors, j, leaf.second, middle, begin, marks, out)
 }
 
+// Fills `out` as `fill_page` does, byte by byte as the marks say. `newest_parts` are those of the newest leaf.
+fn fill_along<D: Door, L: Ledger>(
+    source: &Source,
+    doors: &mut Doors<D>,
+    steps: &mut Steps<L>,
+    newest: u64,
+    page: u64,
+    newest_parts: LeafParts,
+    begin: usize,
+    marks: &mut [bool],
+    out: &mut [u8],
+) -> bool
+    requires here { IsVersionIn source.now.nodes.now source.now.houses.now source.now.snapshot.now }
+    requires doors { length doors.old ≡ length source.now.houses.now }
+    requires newest { newest ≡ newest_in source.now.snapshot.now (page_range source.now.snapshot.now.page_size page) }
+    requires has { HasNodeFor source.now.snapshot.now newest (page_range source.now.snapshot.now.page_size page) }
+    requires leaf { IsLeafOf source.now.snapshot.now newest page newest_parts }
+    requires within { begin + length out.old ≤ source.now.snapshot.now.page_size }
+    requires valid { page * source.now.snapshot.now.page_size + begin + length out.old ≤ size_now source.now.snapshot.now }
+    requires some { 1 ≤ length out.old }
+    requires marked { length marks.old ≡ length out.old }
+    ensures bytes { let s = source.now.snapshot.now in
+        All D.is_true doors.old → IsTrue result → out.new ≡ bytes_at s (page * s.page_size + begin) (length out.old) }
+    ensures steps { let s = source.now.snapshot.now in
+        steps.new ≤ steps.old + backs_of s.page_size (falls s) (length s.rows) page }
+    ensures failed { IsFalse result → PageFailed source.now.snapshot.now (map D.faults doors.old) (map D.faults doors.new) page }
+    ensures counted { IsFalse result → HasRisen (sum_by D.faults doors.old) (sum_by D.faults doors.new) }
+    ensures kept { CountsKept (map D.faults doors.old) (map D.faults doors.new) (sum_by D.faults doors.old) (sum_by D.faults doors.new) }
+    ensures count { length doors.new ≡ length doors.old }
+    ensures truth_stays { All D.is_true doors.old → All D.is_true doors.new }
+{
+    range_log::laws::leaves_fill();
+    range_log::laws::page_bytes_stay();
+    range_log::laws::links_name_nodes();
+    range_log::laws::no_holes();
+    range_log::laws::newest_is_greatest();
+    range_log::laws::backs_step();
+    let _version = source.snapshot.version();
+    mark_all(marks, true);
+    let mut first = 0;
+    let mut at = newest;
+    let mut parts = newest_parts;
+    loop {
+        if !fill_leaf(source, doors, at, page, parts, begin, marks, out) {
+            return false;
+        }
+        first = first_marked(marks, first, true);
+        if first == out.len() {
+            return true;
+        }
+        at = parts.back;
+        parts = leaf(source, at, page, steps);
+    }
+}
+
 // Fills `out` with bytes of the page from its byte `begin` on: from the newest leaf of the page, and along the backs for
-// the bytes that it lacks. A byte that a newer leaf has is never written again. False where all doors of one stored page
-// failed. `newest` is the version of the newest leaf.
+// the bytes that it lacks. A byte that a newer leaf has is never written again, and where the newest leaf has them all, no
+// mark is looked at. False where all doors of one stored page failed. `newest` is the version of the newest leaf.
 pub(crate) fn fill_page<D: Door, L: Ledger>(
     source: &Source,
     doors: &mut Doors<D>,
@@ -96,21 +147,10 @@ pub(crate) fn fill_page<D: Door, L: Ledger>(
 {
     range_log::laws::leaves_fill();
     range_log::laws::page_bytes_stay();
-    range_log::laws::links_name_nodes();
-    range_log::laws::no_holes();
-    range_log::laws::newest_is_greatest();
-    range_log::laws::backs_step();
     let _version = source.snapshot.version();
-    mark_all(marks, true);
-    let mut first = 0;
-    let mut at = newest;
-    while first < out.len() {
-        let parts = leaf(source, at, page, steps);
-        if !fill_leaf(source, doors, at, page, parts, begin, marks, out) {
-            return false;
-        }
-        first = first_marked(marks, first, true);
-        at = parts.back;
+    let parts = leaf(source, newest, page, steps);
+    if parts.has_all(begin, out.len()) {
+        return take_leaf(source, doors, newest, page, parts, begin, out);
     }
-    true
+    fill_along(source, doors, steps, newest, page, parts, begin, marks, out)
 }

@@ -1,10 +1,10 @@
 // What a read goes through, and the nodes that it asks for.
-ghost use Rattle.std.specs.Prelude.{◌≡◌, ◌+◌, ◌*◌, ◌^◌, ◌<◌, ◌≤◌};
+ghost use Rattle.std.specs.Prelude.{◌≡◌, ◌↔◌, ◌+◌, ◌*◌, ◌^◌, ◌<◌, ◌≤◌, IsTrue};
 ghost use Rattle.tree_geom.specs.Geometry.{left_half, right_half, page_range};
 ghost use Rattle.range_log.specs.Log.{newest_of};
-ghost use Rattle.range_log.specs.Rows.{node_of, back_of, first_piece, second_piece};
+ghost use Rattle.range_log.specs.Rows.{node_of};
 ghost use Rattle.snapshot.specs.Versions.{HasNodeFor, IsVersionIn};
-ghost use Rattle.range_reader.specs.Reading.{falls, log_of, own_start, own_from, own_len};
+ghost use Rattle.range_reader.specs.Reading.{falls, log_of, IsLeafOf};
 
 use node_store::{Node, NodeHouse, Piece, Range};
 use page_store::Houses;
@@ -27,6 +27,18 @@ pub(crate) struct LeafParts {
     pub first: Piece,
     pub second: Piece,
     pub back: u64,
+}
+
+impl LeafParts {
+    // Whether `count` bytes of the page from its byte `begin` on are all the leaf's own.
+    pub(crate) fn has_all(&self, begin: usize, count: usize) -> bool
+        requires { begin + count < 2 ^ 64 }
+        ensures { IsTrue result ↔ (self.now.start ≤ begin) × (begin + count ≤ self.now.start + self.now.first.len + self.now.second.len) }
+    {
+        let start = self.start as usize;
+        let end = start + self.first.len as usize + self.second.len as usize;
+        start <= begin && begin + count <= end
+    }
 }
 
 // The node that the row of update `j` has for the range.
@@ -68,12 +80,7 @@ pub(crate) fn leaf<L: Ledger>(source: &Source, j: u64, page: u64, steps: &mut St
     requires here { IsVersionIn source.now.nodes.now source.now.houses.now source.now.snapshot.now }
     requires has { HasNodeFor source.now.snapshot.now j (page_range source.now.snapshot.now.page_size page) }
     requires fits { page * source.now.snapshot.now.page_size ≤ 2 ^ 40 }
-    ensures start { result.start ≡ own_start source.now.snapshot.now j page }
-    ensures first { let s = source.now.snapshot.now in
-        result.first ≡ first_piece s.page_size (own_from s j page) (own_len s j page) }
-    ensures second { let s = source.now.snapshot.now in
-        result.second ≡ second_piece s.page_size (own_from s j page) (own_len s j page) }
-    ensures back { result.back ≡ back_of source.now.snapshot.now.page_size (falls source.now.snapshot.now) j page }
+    ensures leaf { IsLeafOf source.now.snapshot.now j page result }
     ensures step { steps.new ≡ steps.old + 1 }
 {
     let size = source.snapshot.page_size().bytes();

@@ -13,7 +13,7 @@ use node_store::{NoMemory, NodeHouse};
 use std::alloc::Global;
 use std::marker::Model;
 use std::sync::ledger::Ledger;
-use tree_geom::{Node, Range, Steps, height, span};
+use tree_geom::{Node, Range, Steps, Touch, height, span};
 
 /// The nodes of a numbered update beside their ranges, in the order of its row: the largest ranges first, and then by offset.
 #[derive(Drop)]
@@ -98,6 +98,16 @@ fn plan_level(
     Ok(())
 }
 
+// About how many nodes the row of an update with that touch has, in a tree of that height; so many exactly where it touches
+// one page. Nothing rests on it.
+fn expected(touch: Touch, height: u32) -> usize {
+    let pages = touch.last.saturating_sub(touch.first);
+    pages
+        .saturating_mul(2)
+        .saturating_add(u64::from(height))
+        .saturating_add(1) as usize
+}
+
 /// Plans the row of the ticket's update. However far publication had come at the numbering, it is the row that its version has
 /// in the whole list of the blob's updates.
 ///
@@ -120,8 +130,9 @@ pub fn plan<L: Ledger>(
     let p = ticket.hints().snapshot.page_size();
     let _version = ticket.version();
     let _root = span(p, ticket.size());
-    let mut row = Vec::new(alloc);
-    for level in (0..height(p, ticket.size()) + 1).rev() {
+    let top = height(p, ticket.size());
+    let mut row = Vec::with_capacity(alloc, expected(ticket.touch(), top))?;
+    for level in (0..top + 1).rev() {
         plan_level(ticket, &borders, level, &mut row)?;
     }
     Ok(PlannedRow { nodes: row })

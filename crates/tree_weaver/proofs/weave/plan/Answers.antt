@@ -23,8 +23,8 @@ invariant_of-result g c =
     let size = c.page_size-p.ensures ∙ ap (λ (s : Version). s.page_size) c.hints.ensures.snapshot in
     let O : List (Range × Node) → Type 0 = λ l. InRowOrder l in
     let whole : c.loop-level.row.items ≡ own_nodes t (own_ranges t) =
-    levels_done t c.loop-level.level c.height-level.result c.loop-level.row.items (omega (arith, c.loop-level-test.false))
-    (tall t.snapshot.page_size c.page_size-p.result t.size c.size-2.result c.height-level.result size c.size-2.ensures c.height-level.ensures.is) c.loop-level.invariant in
+    levels_done t c.loop-level.level c.height-top.result c.loop-level.row.items (omega (arith, c.loop-level-test.false))
+    (tall t.snapshot.page_size c.page_size-p.result t.size c.size-2.result c.height-top.result size c.size-2.ensures c.height-top.ensures.is) c.loop-level.invariant in
     subst O (sym whole) (plan_in_order c.row_keys_exact.ensures.order c.logs_are_grown.ensures.touches c.logs_are_grown.ensures.sizes t is (page_pos t.snapshot.page_size is.published.page_size))
 
 pub returns-clause-row : goal.returns-clause-row
@@ -33,6 +33,6 @@ returns-clause-row g c us st =
     let is = c.version-version.ensures.stands in
     let size = c.page_size-p.ensures ∙ ap (λ (s : Version). s.page_size) c.hints.ensures.snapshot in
     let whole : c.loop-level.row.items ≡ own_nodes t (own_ranges t) =
-    levels_done t c.loop-level.level c.height-level.result c.loop-level.row.items (omega (arith, c.loop-level-test.false))
-    (tall t.snapshot.page_size c.page_size-p.result t.size c.size-2.result c.height-level.result size c.size-2.ensures c.height-level.ensures.is) c.loop-level.invariant in
+    levels_done t c.loop-level.level c.height-top.result c.loop-level.row.items (omega (arith, c.loop-level-test.false))
+    (tall t.snapshot.page_size c.page_size-p.result t.size c.size-2.result c.height-top.result size c.size-2.ensures c.height-top.ensures.is) c.loop-level.invariant in
     whole ∙ sym (row_told c.logs_are_grown.ensures.touches c.logs_are_grown.ensures.sizes t is us st)

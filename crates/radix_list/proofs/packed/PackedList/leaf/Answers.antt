@@ -2,7 +2,7 @@ use Rattle.std.proofs.Common.{◌/◌, sym, ap, ◌∙◌}
 use Rattle.std.specs.Option.{option_copied}
 use Rattle.radix_list.specs.Packing.{groups}
 use Rattle.radix_list.proofs.Tree.{grouped_none, grouped_some}
-use Rattle.radix_list.proofs.list.RadixList.leaf.Goals as goal
+use Rattle.radix_list.proofs.packed.PackedList.leaf.Goals as goal
 
 pub returns-in_err-twig : goal.returns-in_err-twig
 returns-in_err-twig g c =

@@ -3,7 +3,7 @@ use Rattle.std.specs.Prelude.{slice_get}
 use Rattle.std.specs.Option.{option_copied}
 use Rattle.radix_list.specs.Packing.{groups, tree_of, items_of, IsPacked}
 use Rattle.radix_list.proofs.Tree.{tree_is, grouped_none, grouped_some}
-use Rattle.radix_list.proofs.list.RadixList.get.Goals as goal
+use Rattle.radix_list.proofs.packed.PackedList.get.Goals as goal
 
 -- the child of the root on the way to item i
 root_read : {T : Type 0} (root : List (List (List (List T)))) (len : ℕ) (xs : List T) (i : ℕ) → IsPacked root len → items_of root ≡ xs → slice_get (tree_of xs) (i / 32 / 32 / 32) ≡ slice_get root (i / 32 / 32 / 32)

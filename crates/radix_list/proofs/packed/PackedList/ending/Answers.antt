@@ -1,8 +1,8 @@
 use Rattle.std.proofs.Common.{◌+◌, ap, ◌∙◌, take, ◌++◌, ◌∷◌, []}
 use Rattle.std.specs.Arc.{arc_value}
 use Rattle.radix_list.proofs.Tree.{tree_is, tree_ending, IsTreeOf}
-use Rattle.radix_list.proofs.list.RadixList.ending.Given.{Over}
-use Rattle.radix_list.proofs.list.RadixList.ending.Goals as goal
+use Rattle.radix_list.proofs.packed.PackedList.ending.Given.{Over}
+use Rattle.radix_list.proofs.packed.PackedList.ending.Goals as goal
 
 -- the new root is the tree of the kept items and the new one
 tree : (g : Over) (c : goal.In_ok-root g) → IsTreeOf c.in_ok-root.root (take c.args.keep c.args.self.now ++ arc_value c.in_ok-item.item ∷ []) (c.args.keep + 1)

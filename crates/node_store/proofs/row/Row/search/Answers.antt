@@ -2,7 +2,7 @@ use Rattle.std.proofs.Common.{◌+◌, ◌-◌, ◌/◌, ◌<◌, length, arith,
 use Rattle.std.proofs.lemmas.Option.{slice_get_read}
 use Rattle.tree_geom.specs.declared.node.NodeKey.{NodeKey}
 use Rattle.node_store.proofs.Sorted.{below_one, above_one, named}
-use Rattle.node_store.proofs.row.Row.at.Goals as goal
+use Rattle.node_store.proofs.row.Row.search.Goals as goal
 
 pub returns-in-Equal : goal.returns-in-Equal
 returns-in-Equal c =

@@ -2,7 +2,7 @@ use Rattle.std.proofs.Common.{◌/◌, sym, ap, ◌∙◌}
 use Rattle.std.specs.Option.{option_copied}
 use Rattle.radix_list.specs.Packing.{groups}
 use Rattle.radix_list.proofs.Tree.{grouped_none, grouped_some}
-use Rattle.radix_list.proofs.list.RadixList.twig.Goals as goal
+use Rattle.radix_list.proofs.packed.PackedList.twig.Goals as goal
 
 pub returns-in_err-limb : goal.returns-in_err-limb
 returns-in_err-limb g c =

@@ -2,7 +2,7 @@ use Rattle.std.proofs.Common.{◌-◌, ◌≡◌, ◌<◌, ◌≤◌, ℕ, lengt
 use Rattle.std.specs.Prelude.{Some, slice_get}
 use Rattle.node_store.specs.Order.{Before}
 use Rattle.node_store.specs.Placed.{PlacedNode}
-use Rattle.node_store.proofs.row.Row.at.Given as goal
+use Rattle.node_store.proofs.row.Row.search.Given as goal
 
 -- the nodes below `low` stand before the range, and those from `high` on after it
 abbrev pub invariant-loop-low : goal.invariant-loop-low

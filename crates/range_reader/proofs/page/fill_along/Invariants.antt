@@ -5,32 +5,31 @@ use Rattle.range_log.specs.Updates.{page_bytes}
 use Rattle.range_log.specs.Visits.{backs_of}
 use Rattle.snapshot.specs.Versions.{updates_of, HasNodeFor}
 use Rattle.range_reader.specs.Faults.{CountsKept, IsLedTo}
-use Rattle.range_reader.specs.Reading.{falls}
+use Rattle.range_reader.specs.Reading.{falls, IsLeafOf}
 use Rattle.range_reader.proofs.Standing.{AreThere, AreIn}
-use Rattle.range_reader.proofs.page.fill_page.Given as goal
+use Rattle.range_reader.proofs.page.fill_along.Given as goal
 
 -- the bytes before `first` are there, and those still wanted are in the page at the leaf of version `at`
-abbrev pub invariant-loop-first : goal.invariant-loop-first
-invariant-loop-first g l =
+abbrev pub invariant-loop-parts : goal.invariant-loop-parts
+invariant-loop-parts g l =
     let faults = g.D.Door.faults in
     let s = l.source.snapshot.now in
     let us = updates_of s in
     let p = s.page_size in
     let v = length s.rows in
-    let budget = l.fn.steps + 1 + backs_of p (falls s) v l.page in
     record {
-      within : l.first ≤ length l.out;
+      within : l.first < length l.out;
       before : (x : ℕ) → x < l.first → get_or l.marks x false ≡ false;
-      has : l.first < length l.out → HasNodeFor s l.at (page_range p l.page);
-      led : l.first < length l.out → IsLedTo s l.page l.at;
-      ahead : l.first < length l.out → l.steps + 1 + backs_of p (falls s) l.at l.page ≤ budget;
-      spent : l.steps ≤ budget;
+      has : HasNodeFor s l.at (page_range p l.page);
+      led : IsLedTo s l.page l.at;
+      leaf : IsLeafOf s l.at l.page l.parts;
+      ahead : l.steps + backs_of p (falls s) l.at l.page ≤ l.fn.steps + backs_of p (falls s) v l.page;
       there : All g.D.Door.is_true l.fn.doors → AreThere (page_bytes p us v l.page) l.begin l.out l.marks;
-      from : l.first < length l.out → AreIn (page_bytes p us v l.page) (page_bytes p us l.at l.page) l.begin (length l.out) l.marks;
+      from : AreIn (page_bytes p us v l.page) (page_bytes p us l.at l.page) l.begin (length l.out) l.marks;
       kept : CountsKept (map faults l.fn.doors) (map faults l.doors) (sum_by faults l.fn.doors) (sum_by faults l.doors);
       count : length l.doors ≡ length l.fn.doors;
       truth : All g.D.Door.is_true l.fn.doors → All g.D.Door.is_true l.doors;
     }
 
-abbrev pub decreases-loop-first : goal.decreases-loop-first
-decreases-loop-first g l = l.at
+abbrev pub decreases-loop-parts : goal.decreases-loop-parts
+decreases-loop-parts g l = l.at

@@ -1,0 +1,141 @@
+// A list in a tree of four levels, all of whose items are the list's.
+ghost use Rattle.std.specs.Prelude.{◌≡◌, ℕ, ◌+◌, ◌*◌, ◌/◌, ◌<◌, ◌≤◌, [], ◌∷◌, ◌++◌, length, take, IfOk, IfSome, slice_get};
+ghost use Rattle.std.specs.Arc.{arc_value};
+ghost use Rattle.std.specs.Option.{option_copied};
+ghost use Rattle.radix_list.specs.Packing.{groups};
+
+use crate::NoMemory;
+use crate::branch::{Branch, WIDTH};
+use std::alloc::Global;
+use std::marker::Model;
+use std::sync::Arc;
+use std::sync::ledger::Ledger;
+use tree_geom::Steps;
+
+type Leaf<T> = Branch<T>;
+
+type Twig<T> = Branch<Leaf<T>>;
+
+type Limb<T> = Branch<Twig<T>>;
+
+/// A list of up to 1,048,576 shared items. It never changes: what adds an item to a front of it makes another list, which
+/// shares with this one all nodes but those on one path, and all items.
+#[derive(Drop)]
+pub(crate) struct PackedList<T> {
+    root: Branch<Limb<T>>,
+    len: u64,
+    alloc: Global,
+}
+
+impl<T> Model for PackedList<T> {
+    ghost use Rattle.std.specs.Prelude.{List};
+    ghost use Rattle.std.specs.Coded.{coded_list};
+    ghost use Rattle.radix_list.specs.Packing.{items_of, IsPacked};
+
+    ghost Value = { List T };
+
+    ghost coded = { coded_list T.code };
+
+    ghost view = { λ l. items_of l.root };
+
+    ghost invariant = { λ l. IsPacked l.root l.len };
+}
+
+impl<T> PackedList<T> {
+    /// The list without items. It takes no memory, and the lists that are made from it take theirs from this allocator.
+    pub(crate) fn empty(alloc: Global) -> PackedList<T>
+        ensures { result ≡ [] }
+    {
+        PackedList {
+            root: Branch::empty(alloc),
+            len: 0,
+            alloc,
+        }
+    }
+
+    /// How many items the list has.
+    pub(crate) fn len(&self) -> u64
+        ensures is { result ≡ length self.now }
+        ensures few { result ≤ 1048576 }
+    {
+        self.len
+    }
+
+    /// Item `i` from 0. None exactly where `i` isn't below the length. It takes a node step for each node on the way: four
+    /// to an item, and no more where there is none.
+    pub(crate) fn get<L: Ledger>(&self, i: u64, steps: &mut Steps<L>) -> Option<&T>
+        ensures item { option_copied result ≡ slice_get self.now i }
+        ensures few { steps.new ≤ steps.old + 4 }
+        ensures counted { IfSome result (λ _. steps.new ≡ steps.old + 4) }
+    {
+        let i = i as usize;
+        let limb = self.root.visit(i / WIDTH / WIDTH / WIDTH, steps)?;
+        let twig = limb.visit(i / WIDTH / WIDTH % WIDTH, steps)?;
+        let leaf = twig.visit(i / WIDTH % WIDTH, steps)?;
+        leaf.visit(i % WIDTH, steps)
+    }
+
+    /// The same list once more. Of its nodes and items none is copied, but for the root's pointers to its children, 32 at most.
+    pub(crate) fn share(&self) -> Result<PackedList<T>, NoMemory>
+    where
+        T: Drop,
+        ensures { IfOk result (λ list. list ≡ self.now) }
+    {
+        Ok(PackedList {
+            root: self.root.share(self.alloc)?,
+            len: self.len,
+            alloc: self.alloc,
+        })
+    }
+
+    /// The first `keep` items and then this one, in new nodes on the path to it. All other nodes are shared.
+    pub(crate) fn ending(&self, keep: u64, item: &Arc<T>) -> Result<PackedList<T>, NoMemory>
+    where
+        T: Drop,
+        requires within { keep ≤ length self.now }
+        requires room { keep < 1048576 }
+        ensures { IfOk result (λ list. list ≡ take keep self.now ++ arc_value item.now ∷ []) }
+    {
+        let alloc = self.alloc;
+        let item = Arc::try_clone(item)?;
+        let at = keep as usize;
+        let leaf = Branch::ending(alloc, self.leaf(at), at % WIDTH, item)?;
+        let leaf = Arc::new(alloc, leaf)?;
+        let at = at / WIDTH;
+        let twig = Branch::ending(alloc, self.twig(at), at % WIDTH, leaf)?;
+        let twig = Arc::new(alloc, twig)?;
+        let at = at / WIDTH;
+        let limb = Branch::ending(alloc, self.limb(at), at % WIDTH, twig)?;
+        let limb = Arc::new(alloc, limb)?;
+        let at = at / WIDTH;
+        let root = Branch::ending(alloc, Some(&self.root), at, limb)?;
+        Ok(PackedList {
+            root,
+            len: keep + 1,
+            alloc,
+        })
+    }
+
+    // The leaf that item `i` is in.
+    fn leaf(&self, i: usize) -> Option<&Leaf<T>>
+        ensures { option_copied result ≡ slice_get (groups self.now) (i / 32) }
+    {
+        let leaf = i / WIDTH;
+        self.twig(leaf)?.at(leaf % WIDTH)
+    }
+
+    // The node that leaf `i` hangs on.
+    fn twig(&self, i: usize) -> Option<&Twig<T>>
+        ensures { option_copied result ≡ slice_get (groups (groups self.now)) (i / 32) }
+    {
+        let twig = i / WIDTH;
+        self.limb(twig)?.at(twig % WIDTH)
+    }
+
+    // The child of the root that twig `i` hangs on.
+    fn limb(&self, i: usize) -> Option<&Limb<T>>
+        ensures { option_copied result ≡ slice_get (groups (groups (groups self.now))) (i / 32) }
+    {
+        self.root.at(i / WIDTH)
+    }
+}

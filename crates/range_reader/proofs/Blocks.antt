@@ -1,0 +1,21 @@
+-- Marks that are looked at block by block.
+use Rattle.std.proofs.Common.{◌≡◌, ℕ, ◌+◌, ◌-◌, ◌<◌, ◌≤◌, ◌∙◌, Bool, false, List, length, take, drop, get_or, ap, arith, inl, inr}
+use Rattle.std.proofs.lemmas.Bool.{cases_lt}
+use Rattle.std.proofs.lemmas.List.{get_or-take, get_or-drop, length-take-le, length-drop}
+
+-- none of the marks before a block is this, and none of its m, which are n
+pub none_further : (marks : List Bool) (from start n m : ℕ) (w : Bool) → start + n ≤ length marks → m ≡ n
+    → ((x : ℕ) → from ≤ x → x < start → get_or marks x false ≡ w → ⊥)
+    → ((x : ℕ) → x < length (take m (drop start marks)) → get_or (take m (drop start marks)) x false ≡ w → ⊥)
+    → (x : ℕ) → from ≤ x → x < start + n → get_or marks x false ≡ w → ⊥
+none_further marks from start n m w fits is before here x le lt at =
+    elim (cases_lt x start) [
+      | inl below ↦ before x le below at
+      | inr past ↦
+          let k : ℕ = x - start in
+          let e : start + k ≡ x = omega arith in
+          let count : length (take m (drop start marks)) ≡ m = length-take-le m (drop start marks) (omega (arith, length-drop start marks)) in
+          let same : get_or (take m (drop start marks)) k false ≡ get_or marks x false =
+          get_or-take m (drop start marks) k false (omega arith) ∙ (get_or-drop start marks k false ∙ ap (λ i. get_or marks i false) e) in
+          here k (omega (arith, count)) (same ∙ at)
+    ]
