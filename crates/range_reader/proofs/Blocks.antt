@@ -1,6 +1,7 @@
 -- Marks that are looked at block by block.
-use Rattle.std.proofs.Common.{◌≡◌, ℕ, ◌+◌, ◌-◌, ◌<◌, ◌≤◌, ◌∙◌, Bool, false, List, length, take, drop, get_or, ap, arith, inl, inr}
-use Rattle.std.proofs.lemmas.Bool.{cases_lt}
+use Rattle.std.proofs.Common.{◌≡◌, ℕ, ◌+◌, ◌-◌, ◌<◌, ◌≤◌, ◌∙◌, sym, Bool, true, false, List, length, take, drop, get_or, ap, arith, inl, inr}
+use mathlib.Core.Bool.{beq}
+use Rattle.std.proofs.lemmas.Bool.{cases_lt, false≢true}
 use Rattle.std.proofs.lemmas.List.{get_or-take, get_or-drop, length-take-le, length-drop}
 
 -- none of the marks before a block is this, and none of its m, which are n
@@ -19,3 +20,10 @@ none_further marks from start n m w fits is before here x le lt at =
           get_or-take m (drop start marks) k false (omega arith) ∙ (get_or-drop start marks k false ∙ ap (λ i. get_or marks i false) e) in
           here k (omega (arith, count)) (same ∙ at)
     ]
+
+-- marks that compare as different are different
+pub differs : (a b : Bool) → beq a b ≡ false → a ≡ b → ⊥
+differs true true apart same = absurd (false≢true (sym apart))
+differs true false apart same = absurd (false≢true (sym same))
+differs false true apart same = absurd (false≢true same)
+differs false false apart same = absurd (false≢true (sym apart))

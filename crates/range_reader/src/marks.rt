@@ -1,5 +1,5 @@
 // Which bytes of one page a read still wants, as marks.
-ghost use Rattle.std.specs.Prelude.{◌≡◌, ◌≢◌, ℕ, ◌<◌, ◌≤◌, length, false, IfOk, IsTrue, slice_index_or};
+ghost use Rattle.std.specs.Prelude.{◌≡◌, ◌≢◌, ℕ, ◌<◌, ◌≤◌, length, false, IfOk, slice_index_or};
 
 use node_store::NoMemory;
 use std::alloc::Global;
@@ -45,21 +45,8 @@ pub(crate) fn mark_all(marks: &mut [bool], wanted: bool)
     }
 }
 
-// How many marks are looked at without a stop.
+// How many marks are looked at together.
 const BLOCK: usize = 64;
-
-// Whether none of the marks is `wanted`. It looks at all of them.
-fn none_is(marks: &[bool], wanted: bool) -> bool
-    ensures { IsTrue result → (x : ℕ) → x < length marks.now → slice_index_or marks.now x false ≢ wanted }
-{
-    let mut none = true;
-    for mark in marks {
-        if *mark == wanted {
-            none = false;
-        }
-    }
-    none
-}
 
 // The first byte from `from` on whose mark is `wanted`, or the number of marks.
 pub(crate) fn first_marked(marks: &[bool], from: usize, wanted: bool) -> usize
@@ -71,7 +58,7 @@ pub(crate) fn first_marked(marks: &[bool], from: usize, wanted: bool) -> usize
 {
     let mut start = from;
     while marks.len() - start >= BLOCK {
-        if !none_is(&marks[start..start + BLOCK], wanted) {
+        if marks[start..start + BLOCK].contains(&wanted) {
             break;
         }
         start += BLOCK;
