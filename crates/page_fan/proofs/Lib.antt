@@ -2,4 +2,6 @@ pub mod Rises
 pub mod Standing
 pub mod Kept
 pub mod Answered
-pub mod Cutting
+pub mod Joined
+pub mod Gathered
+pub mod Answering

@@ -13,7 +13,7 @@ use Rattle.page_fan.specs.Replicas.{StandAt, AreReplicated, providers_of}
 use Rattle.page_fan.proofs.Rises.{still_risen, risen_since}
 
 -- a weaker fact may stand in the place of `missing`
-StandAt-weaken : (missing absent : ℕ → Type 0) → ((p : ℕ) → missing p → absent p) → (chosen at : List ℕ) → StandAt missing chosen at → StandAt absent chosen at
+pub StandAt-weaken : (missing absent : ℕ → Type 0) → ((p : ℕ) → missing p → absent p) → (chosen at : List ℕ) → StandAt missing chosen at → StandAt absent chosen at
 StandAt-weaken missing absent weaken [] at h = h
 StandAt-weaken missing absent weaken (p ∷ chosen) at (inl (rest, here)) = inl (rest, (here.0, StandAt-weaken missing absent weaken chosen rest here.1))
 StandAt-weaken missing absent weaken (p ∷ chosen) at (inr away) = inr (weaken p away.0, StandAt-weaken missing absent weaken chosen at away.1)

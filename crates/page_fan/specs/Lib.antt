@@ -1,6 +1,6 @@
 pub mod Counts
 pub mod Replicas
+pub mod Answer
 pub mod Fault
 pub mod Lending
-pub mod Unstored
 pub mod Made

@@ -1,6 +1,7 @@
 //! A session's doors to all providers, and pages that are put at several of them and read from whichever gives them.
 #![tactic(auto)]
 
+mod cutting;
 mod doors;
 mod fetching;
 mod storing;

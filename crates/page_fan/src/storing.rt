@@ -1,21 +1,22 @@
 // A buffer is cut into pages, and each page is put at its placed providers.
-ghost use Rattle.std.specs.Prelude.{◌≡◌, ◌+◌, ◌*◌, ◌<◌, ◌≤◌, length, IfOk, IfErr, IfSome, IfNone, All, map, sum_by, [], ◌∷◌, ◌++◌, slice_get};
+ghost use Rattle.std.specs.Prelude.{◌≡◌, ◌+◌, ◌*◌, ◌<◌, ◌≤◌, length, IfOk, IfErr, IfSome, MatchOption, IsSome, All, Some, None, map, sum_by, [], ◌∷◌, ◌++◌, slice_index_or};
 ghost use Rattle.std.specs.Option.{option_map_or};
 ghost use Rattle.page_store.specs.Count.{HasRisen};
 ghost use Rattle.page_store.specs.House.{IsProvider};
-ghost use Rattle.page_store.specs.Page.{IsAmong};
 ghost use Rattle.page_store.specs.Stored.{joined, IsCut, LieAmong};
 ghost use Rattle.replica_place.specs.Chosen.{chosen};
-ghost use Rattle.page_fan.specs.Counts.{NoneFell, RoseAt};
-ghost use Rattle.page_fan.specs.Replicas.{providers_of, StandAt, AreReplicated};
+ghost use Rattle.page_fan.specs.Answer.{AreAnswered, HaveLengths, IsFirstLost, IsPageAnswer};
+ghost use Rattle.page_fan.specs.Counts.{NoneFell};
+ghost use Rattle.page_fan.specs.Replicas.{AreReplicated};
 ghost use Rattle.page_fan.specs.Fault.{OnPageFault, FirstFailed};
-ghost use Rattle.page_fan.specs.Unstored.{OnAllFailed};
 
+use crate::cutting::page_bytes;
 use crate::doors::Doors;
-use page_store::{Door, Houses, MAX_PAGE, PageRef, Pages, PutAnswer, StoredPage};
+use page_store::{Door, Houses, MAX_PAGE, NoMemory, PageRef, Pages, PutAnswer, StoredPage};
 use provider_manager::Placements;
 use replica_place::Placement;
 use std::alloc::Global;
+use std::collections::VecDeque;
 use std::sync::Wait;
 use std::thread::Threads;
 use thiserror::Error;
@@ -24,7 +25,7 @@ use tree_geom::PageSize;
 /// Why a buffer was not stored. Pages that were put before may lie unused in their houses.
 #[derive(Clone, Copy, Debug, PartialEq, Eq, Error)]
 pub enum StoreFault {
-    /// No door took the page of this number, from 0; a door took each page before it.
+    /// No door took the page of this number, from 0. It is the first such page: a door took each page before it.
     #[error("no door took page {0}")]
     PageFault(u64),
     /// Memory was refused.
@@ -32,15 +33,10 @@ pub enum StoreFault {
     NoMemory,
 }
 
-/// Why a page was not stored.
-enum Unstored {
-    NoMemory,
-    AllFailed,
-}
-
 /// Stores the buffer as pages of `p` bytes, the last one of what is left, each at the providers of its placement.
 ///
-/// One door of a page's placement that takes it is enough for the page to count as stored. It may wait for another thread's push into a house.
+/// A page that one or more of its doors took is stored. Each page is put, also where one before it was lost. It may wait for another
+/// thread's push into a house.
 pub fn store<D: Door, R: Threads + Wait + Sync>(
     rt: &R,
     alloc: Global,
@@ -72,43 +68,93 @@ pub fn store<D: Door, R: Threads + Wait + Sync>(
     ensures count { length doors.new ≡ length doors.old }
     ensures truth_stays { All D.is_true doors.old → All D.is_true doors.new }
 {
-    let page_size = p.bytes();
-    let Ok(mut pages) = Pages::start(alloc, page_size, placements.count()) else {
+    let Ok(pages) = Pages::start(alloc, p.bytes(), placements.count()) else {
         return Err(StoreFault::NoMemory);
     };
+    let Ok(answer) = put_pages(rt, alloc, doors, houses, p, buffer, placements) else {
+        return Err(StoreFault::NoMemory);
+    };
+    if let Some(i) = first_lost(answer.as_slice()) {
+        return Err(StoreFault::PageFault(i as u64));
+    }
+    Ok(gather(pages, answer))
+}
+
+// The first page that has no replica.
+fn first_lost(answer: &[Option<StoredPage>]) -> Option<usize>
+    ensures { MatchOption result ((k : _) → k < length answer.now → IsSome (slice_index_or answer.now k None)) (IsFirstLost answer.now) }
+{
+    for (i, page) in answer.iter().enumerate() {
+        if page.is_none() {
+            return Some(i);
+        }
+    }
+    None
+}
+
+// Adds the pages of the answer, of which none is lost. It takes no memory.
+fn gather(mut pages: Pages, answer: Vec<Option<StoredPage>>) -> Pages
+    requires fresh { pages.pages ≡ [] }
+    requires room { length answer.items ≤ pages.room }
+    requires stored { (k : _) → k < length answer.items → IsSome (slice_index_or answer.items k None) }
+    requires lengths { HaveLengths pages.page_size answer.items }
+    ensures page_size { result.page_size ≡ pages.page_size }
+    ensures all { map Some result.pages ≡ answer.items }
+    ensures cut { IsCut pages.page_size result.pages }
+{
+    let mut rest = VecDeque::from_vec(answer);
+    while let Some(next) = rest.pop_front() {
+        if let Some(page) = next {
+            pages.add(page);
+        }
+    }
+    pages
+}
+
+// Puts each page at the providers of its placement, and answers which of them were stored.
+fn put_pages<D: Door, R: Wait>(
+    rt: &R,
+    alloc: Global,
+    doors: &mut Doors<D>,
+    houses: &Houses,
+    p: PageSize,
+    buffer: &[u8],
+    placements: &Placements,
+) -> Result<Vec<Option<StoredPage>>, NoMemory>
+    requires enough { length buffer.now ≤ length placements.now * p }
+    requires housed { length doors.old ≤ length houses.now }
+    requires served { All (All (IsProvider (length doors.old))) placements.now }
+    ensures answered { IfOk result (λ answer. AreAnswered houses.now p buffer.now placements.now (map D.faults doors.old) (map D.faults doors.new) answer.items) }
+    ensures none_fell { NoneFell (map D.faults doors.old) (map D.faults doors.new) }
+    ensures count { length doors.new ≡ length doors.old }
+    ensures truth_stays { All D.is_true doors.old → All D.is_true doors.new }
+{
+    let page_size = p.bytes() as usize;
+    let mut answer = Vec::with_capacity(alloc, placements.count() as usize)?;
     let mut at = 0;
     let mut i = 0;
     while at < buffer.len() {
-        let len = (buffer.len() - at).min(page_size as usize);
-        let bytes = &buffer[at..at + len];
-        match store_page(rt, doors, houses, placements.of(i), bytes) {
-            Ok(page) => pages.add(page),
-            Err(Unstored::NoMemory) => return Err(StoreFault::NoMemory),
-            Err(Unstored::AllFailed) => return Err(StoreFault::PageFault(u64::from(i))),
-        }
-        at += len;
+        let bytes = page_bytes(buffer, at, page_size);
+        answer.push_reserved(put_page(rt, doors, houses, placements.of(i), bytes)?);
+        at += page_size;
         i += 1;
     }
-    Ok(pages)
+    Ok(answer)
 }
 
 // Puts one page at each of the providers that were chosen for it, in order.
-fn store_page<D: Door, R: Wait>(
+fn put_page<D: Door, R: Wait>(
     rt: &R,
     doors: &mut Doors<D>,
     houses: &Houses,
     placement: &Placement,
     bytes: &[u8],
-) -> Result<StoredPage, Unstored>
+) -> Result<Option<StoredPage>, NoMemory>
     requires housed { length doors.old ≤ length houses.now }
     requires served { All (IsProvider (length doors.old)) (chosen placement.now) }
     requires some { 1 ≤ length bytes.now }
     requires small { length bytes.now ≤ MAX_PAGE }
-    ensures bytes { IfOk result (λ page. page.bytes ≡ bytes.now) }
-    ensures here { IfOk result (λ page. All (IsAmong houses.now) page.places) }
-    ensures replicas { IfOk result (λ page. StandAt (RoseAt (map D.faults doors.old) (map D.faults doors.new)) (chosen placement.now) (providers_of page.places)) }
-    ensures failed { IfErr result (λ why. OnAllFailed why (All (RoseAt (map D.faults doors.old) (map D.faults doors.new)) (chosen placement.now))) }
-    ensures counted { IfErr result (λ why. OnAllFailed why (HasRisen (sum_by D.faults doors.old) (sum_by D.faults doors.new))) }
+    ensures answered { IfOk result (IsPageAnswer houses.now bytes.now (chosen placement.now) (map D.faults doors.old) (map D.faults doors.new)) }
     ensures none_fell { NoneFell (map D.faults doors.old) (map D.faults doors.new) }
     ensures count { length doors.new ≡ length doors.old }
     ensures truth_stays { All D.is_true doors.old → All D.is_true doors.new }
@@ -119,13 +165,10 @@ fn store_page<D: Door, R: Wait>(
         match doors.put(rt, houses, *provider, bytes) {
             PutAnswer::Stored(page) => stored = Some(with_replica(stored, page)),
             PutAnswer::Failed => {}
-            PutAnswer::NoMemory => return Err(Unstored::NoMemory),
+            PutAnswer::NoMemory => return Err(NoMemory),
         }
     }
-    match stored {
-        Some(page) => Ok(page),
-        None => Err(Unstored::AllFailed),
-    }
+    Ok(stored)
 }
 
 // The page with one replica more.

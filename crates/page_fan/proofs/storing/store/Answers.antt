@@ -1,77 +1,59 @@
-use Rattle.std.proofs.Common.{arith, ◌≡◌, ◌+◌, ◌*◌, ◌<◌, length, map, take, ◌∙◌, ap, sym, length-append, [], ◌∷◌}
-use Rattle.std.specs.Prelude.{All}
-use Rattle.std.proofs.lemmas.List.Elements.{All-push}
-use Rattle.page_store.specs.Page.{IsAmong}
+use Rattle.std.proofs.Common.{◌≡◌, ◌<◌, ◌≤◌, arith, length, map, get_or, [], ap, sym, ◌∙◌}
+use Rattle.std.specs.Prelude.{Some}
+use Rattle.std.proofs.lemmas.List.{length-map}
+use Rattle.std.proofs.lemmas.Option.{slice_get_within, get_or_from_slice_get}
 use Rattle.page_store.specs.Stored.{Stored}
-use Rattle.page_fan.proofs.Cutting.{joined_next, part_length}
-use Rattle.page_fan.proofs.Rises.{none_fell_since, sum_never_falls, risen_since}
-use Rattle.page_fan.proofs.Standing.{replicated_still, replicated_next}
+use Rattle.page_fan.specs.Answer.{IsLost}
+use Rattle.page_fan.proofs.Joined.{few_pages, joined_whole, lengths_of, stored_at}
+use Rattle.page_fan.proofs.Rises.{sum_never_falls, sum_rises_at}
 use Rattle.page_fan.proofs.storing.store.Goals as goal
 
+pub returns-in_default-put_pages-clause-sum_never_falls : goal.returns-in_default-put_pages-clause-sum_never_falls
+returns-in_default-put_pages-clause-sum_never_falls g c = sum_never_falls g.D.Door.faults c.args.doors.now c.put_pages.new.doors c.put_pages.ensures.none_fell
+
+pub returns-in-Some-clause-sum_never_falls : goal.returns-in-Some-clause-sum_never_falls
+returns-in-Some-clause-sum_never_falls g c = sum_never_falls g.D.Door.faults c.args.doors.now c.put_pages.new.doors c.put_pages.ensures.none_fell
+
 pub returns-clause-sum_never_falls : goal.returns-clause-sum_never_falls
-returns-clause-sum_never_falls g c = sum_never_falls g.D.Door.faults c.args.doors.now c.loop-at.doors c.loop-at.invariant.kept
+returns-clause-sum_never_falls g c = sum_never_falls g.D.Door.faults c.args.doors.now c.put_pages.new.doors c.put_pages.ensures.none_fell
 
-pub returns-in-Err-NoMemory-clause-sum_never_falls : goal.returns-in-Err-NoMemory-clause-sum_never_falls
-returns-in-Err-NoMemory-clause-sum_never_falls g c =
+pub returns-in-Some-clause-counted : goal.returns-in-Some-clause-counted
+returns-in-Some-clause-counted g c =
     let counts = map g.D.Door.faults in
-    sum_never_falls g.D.Door.faults c.args.doors.now c.store_page.new.doors (none_fell_since (counts c.args.doors.now) (counts c.loop-at.doors) (counts c.store_page.new.doors) c.loop-at.invariant.kept c.store_page.ensures.none_fell)
+    let placements = c.args.placements.now in
+    let answered = c.in-Ok-put_pages.ensures.answered in
+    let i = c.in-Some.i in
+    let first = rw c.as_slice.ensures.value at c.in-Some.ensures in
+    let lost : IsLost (get_or placements i []) (counts c.args.doors.now) (counts c.put_pages.new.doors) = rw first.lost at (answered.each i first.within) in
+    let few : length c.in-Ok-put_pages.answer.items ≤ length placements = few_pages c.args.p _ (length placements) _ answered.within c.requires.enough in
+    let within : i < length placements = omega (arith, few, first.within) in
+    sum_rises_at g.D.Door.faults c.args.doors.now c.put_pages.new.doors (get_or (get_or placements i []) 0 0) c.put_pages.ensures.none_fell (c.requires.served i [] within 0 0 lost.some) (lost.failed 0 0 lost.some)
 
-pub returns-in-Err-AllFailed-clause-sum_never_falls : goal.returns-in-Err-AllFailed-clause-sum_never_falls
-returns-in-Err-AllFailed-clause-sum_never_falls g c =
-    let counts = map g.D.Door.faults in
-    sum_never_falls g.D.Door.faults c.args.doors.now c.store_page.new.doors (none_fell_since (counts c.args.doors.now) (counts c.loop-at.doors) (counts c.store_page.new.doors) c.loop-at.invariant.kept c.store_page.ensures.none_fell)
+pub gather-requires-clause-room : goal.gather-requires-clause-room
+gather-requires-clause-room g c =
+    let placements = c.args.placements.now in
+    let few : length c.in-Ok-put_pages.answer.items ≤ length placements = few_pages c.args.p _ (length placements) _ c.in-Ok-put_pages.ensures.answered.within c.requires.enough in
+    let room = ap (λ p. p.room) c.in-Ok.ensures in
+    omega (arith, few, room, c.count.ensures)
 
-pub returns-in-Err-AllFailed-clause-counted : goal.returns-in-Err-AllFailed-clause-counted
-returns-in-Err-AllFailed-clause-counted g c =
-    let so_far = sum_never_falls g.D.Door.faults c.args.doors.now c.loop-at.doors c.loop-at.invariant.kept in
-    let rose = rw c.in-Err-AllFailed.field-0-is at c.in-Err-AllFailed.ensures.counted in
-    omega (arith, so_far, rose)
+pub gather-requires-clause-lengths : goal.gather-requires-clause-lengths
+gather-requires-clause-lengths g c =
+    let size = ap (λ p. p.page_size) c.in-Ok.ensures ∙ c.bytes.ensures.is in
+    rw size (lengths_of c.args.houses.now c.args.p c.args.buffer.now c.args.placements.now _ _ c.in-Ok-put_pages.answer.items (omega (arith, c.bytes.ensures.is, c.bytes.ensures.bounds.0)) c.in-Ok-put_pages.ensures.answered)
 
-pub returns-in-Err-AllFailed-clause-first_failed : goal.returns-in-Err-AllFailed-clause-first_failed
-returns-in-Err-AllFailed-clause-first_failed g c =
-    let counts = map g.D.Door.faults in
-    let before = counts c.args.doors.now in
-    let mid = counts c.loop-at.doors in
-    let now = counts c.store_page.new.doors in
-    let i = c.loop-at.invariant in
-    let failed = rw c.in-Err-AllFailed.field-0-is at c.in-Err-AllFailed.ensures.failed in
-    let size = c.bytes-page_size.ensures.is in
-    let same = c.from.ensures in
-    let inside : c.loop-at.i * c.bytes-page_size.result < length c.args.buffer.now = let p = i.place in let t = c.loop-at-test.true in omega arith in
-    record {
-      within = rw (same, ← size) inside;
-      earlier = record {
-        pages = c.loop-at.pages.pages;
-        counted = i.counted ∙ sym same;
-        bytes = i.bytes ∙ ap (λ n. take n c.args.buffer.now) (let p = i.place in rw (same, ← size) (omega (arith, inside)));
-        here = i.here;
-        replicas = replicated_still before mid now c.args.placements.now c.loop-at.pages.pages c.store_page.ensures.none_fell i.replicas;
-      };
-      failed = rw same (λ k d l. risen_since before mid now i.kept _ (rw c.of.ensures at failed k d l));
-    }
+pub returns-clause-bytes : goal.returns-clause-bytes
+returns-clause-bytes g c =
+    let d : Stored = record { bytes = []; places = [] } in
+    let pages = c.gather.result.pages in
+    let answered = c.in-Ok-put_pages.ensures.answered in
+    let count : length pages ≡ length c.in-Ok-put_pages.answer.items = sym (length-map pages (λ (s : Stored). Some s)) ∙ ap length c.gather.ensures.all in
+    joined_whole c.args.p c.args.buffer.now pages d (λ k l. (stored_at c.args.houses.now c.args.p c.args.buffer.now c.args.placements.now _ _ _ pages answered c.gather.ensures.all k d l).bytes) (rw count answered.whole)
 
-pub loop-at-preserved : goal.loop-at-preserved
-loop-at-preserved g c =
-    let counts = map g.D.Door.faults in
-    let before = counts c.args.doors.now in
-    let mid = counts c.loop-at.doors in
-    let now = counts c.store_page.new.doors in
-    let i = c.loop-at.invariant in
-    let page = c.in-Ok-store_page.page in
-    let pages = c.loop-at.pages.pages in
-    let more = ap (λ p. p.pages) c.add.ensures.added in
-    let stored = c.in-Ok-store_page.ensures in
-    record {
-      place = omega (arith, c.min-len.ensures);
-      bytes = joined_next c.args.buffer.now pages _ page c.loop-at.at c.min-len.result i.bytes stored.bytes more;
-      counted = ap length more ∙ (length-append pages (page ∷ []) ∙ ap (λ n. n + 1) i.counted);
-      page_size = ap (λ p. p.page_size) c.add.ensures.added ∙ i.page_size;
-      room = ap (λ p. p.room) c.add.ensures.added ∙ i.room;
-      full = λ l. rw more (All-push (λ (s : Stored). length s.bytes ≡ c.bytes-page_size.result) pages page (i.full c.loop-at-test.true) (part_length c.args.buffer.now page.bytes c.loop-at.at c.min-len.result stored.bytes (omega (arith, c.min-len.ensures)) ∙ omega (arith, c.min-len.ensures)));
-      cut = rw (← (ap (λ p. p.page_size) c.add.ensures.added ∙ i.page_size)) c.add.ensures.cut;
-      here = rw more (All-push (λ (s : Stored). All (IsAmong c.args.houses.now) s.places) pages page i.here stored.here);
-      replicas = rw more (replicated_next before mid now c.args.placements.now pages page _ c.loop-at.i (sym i.counted) i.kept c.store_page.ensures.none_fell c.of.ensures i.replicas stored.replicas);
-      kept = none_fell_since before mid now i.kept c.store_page.ensures.none_fell;
-      truth = λ t. c.store_page.ensures.truth_stays (i.truth t);
-      count = c.store_page.ensures.count ∙ i.count;
-    }
+pub returns-clause-here : goal.returns-clause-here
+returns-clause-here g c = λ k d l. (stored_at c.args.houses.now c.args.p c.args.buffer.now c.args.placements.now _ _ _ c.gather.result.pages c.in-Ok-put_pages.ensures.answered c.gather.ensures.all k d l).here
+
+pub returns-clause-replicas : goal.returns-clause-replicas
+returns-clause-replicas g c = λ i page is.
+    let pages = c.gather.result.pages in
+    let stored = stored_at c.args.houses.now c.args.p c.args.buffer.now c.args.placements.now _ _ _ pages c.in-Ok-put_pages.ensures.answered c.gather.ensures.all i page (slice_get_within pages i page is) in
+    rw (get_or_from_slice_get pages i page page is) at stored.replicas

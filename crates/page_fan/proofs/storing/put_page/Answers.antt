@@ -1,11 +1,11 @@
-use Rattle.std.proofs.Common.{◌≤◌, arith, get_or, length, length-take, map, ◌∙◌}
+use Rattle.std.proofs.Common.{◌≤◌, arith, length, length-take, map, ◌∙◌}
 use Rattle.replica_place.specs.Chosen.{chosen}
-use Rattle.page_fan.specs.Counts.{RoseAt}
-use Rattle.page_fan.proofs.Rises.{none_fell_since, sum_rises_at}
+use Rattle.page_fan.proofs.Rises.{none_fell_since}
 use Rattle.page_fan.proofs.Kept.{kept_more, kept_longer}
-use Rattle.page_fan.proofs.Standing.{none_stands_at_end, stands_at_next, stands_without_next}
-use Rattle.page_fan.proofs.storing.store_page.Goals as goal
-use Rattle.page_fan.proofs.storing.store_page.Goals.{in-Stored, in-Failed}
+use Rattle.page_fan.proofs.Answering.{answer_at_end}
+use Rattle.page_fan.proofs.Standing.{stands_at_next, stands_without_next}
+use Rattle.page_fan.proofs.storing.put_page.Goals as goal
+use Rattle.page_fan.proofs.storing.put_page.Goals.{in-Stored, in-Failed}
 
 pub loop-provider-preserved : goal.loop-provider-preserved
 loop-provider-preserved g c =
@@ -33,16 +33,10 @@ loop-provider-preserved g c =
       }
     ]
 
-pub returns-in-None-clause-failed : goal.returns-in-None-clause-failed
-returns-in-None-clause-failed g c =
-    let counts = map g.D.Door.faults in
-    none_stands_at_end (RoseAt (counts c.args.doors.now) (counts c.loop-provider.doors)) (chosen c.args.placement.now) c.loop-provider.provider-index c.loop-provider.stored c.in-None.is c.loop-provider-test.false c.loop-provider.invariant.replicas
-
-pub returns-in-None-clause-counted : goal.returns-in-None-clause-counted
-returns-in-None-clause-counted g c =
+pub returns-clause-answered : goal.returns-clause-answered
+returns-clause-answered g c =
     let counts = map g.D.Door.faults in
     let providers = chosen c.args.placement.now in
-    let i = c.loop-provider.invariant in
     let some : 1 ≤ length providers = omega (arith, length-take c.args.placement.now.count c.args.placement.now.providers) in
-    let failed = none_stands_at_end (RoseAt (counts c.args.doors.now) (counts c.loop-provider.doors)) providers c.loop-provider.provider-index c.loop-provider.stored c.in-None.is c.loop-provider-test.false i.replicas in
-    sum_rises_at g.D.Door.faults c.args.doors.now c.loop-provider.doors (get_or providers 0 0) i.kept (c.requires.served 0 0 some) (failed 0 0 some)
+    let i = c.loop-provider.invariant in
+    answer_at_end c.args.houses.now c.args.bytes.now providers (counts c.args.doors.now) (counts c.loop-provider.doors) c.loop-provider.provider-index c.loop-provider.stored c.loop-provider-test.false some i.stored i.replicas
