@@ -258,6 +258,10 @@ class Script:
     def one(self, refused):
         talk = self.talk(self.tried, refused)
         told, end = converse(talk, self.lines)
+        if self.talk is Frames and not told and end[0] == 6:
+            # Somebody else may have taken the port meanwhile. What comes of the refused allocation comes again.
+            talk = self.talk(self.tried, refused)
+            told, end = converse(talk, self.lines)
         return judged(lambda: self.check(told, end), refused), talk.run.refused()
 
 
