@@ -8,7 +8,7 @@ ghost use Rattle.range_log.specs.Open.{open_at};
 ghost use Rattle.border_hints.specs.Numbered.{log_with, numbered, own_touch, IsNumbered};
 
 use page_store::Pages;
-use range_log::{OpenList, laws};
+use range_log::{OpenCopy, laws};
 use snapshot::Snapshot;
 use std::marker::Model;
 use std::sync::Arc;
@@ -19,7 +19,7 @@ use tree_geom::{Touch, touched};
 #[derive(Drop)]
 pub struct Hints {
     pub snapshot: Snapshot,
-    pub waiting: OpenList,
+    pub waiting: OpenCopy,
 }
 
 /// A numbered update: where it falls, its stored pages, and the hints of its numbering.

@@ -14,4 +14,4 @@ mod open;
 pub use keys::row_keys;
 pub use log::newest;
 pub use no_memory::NoMemory;
-pub use open::{OpenList, OpenTouch};
+pub use open::{OpenCopy, OpenList, OpenTouch};

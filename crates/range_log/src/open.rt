@@ -81,4 +81,51 @@ impl OpenList {
         self.items.rotate_left(first);
         self.items.truncate(kept);
     }
+
+    /// The same updates in a copy of their own, in room for no more than these.
+    pub fn copied(&self, alloc: Global) -> Result<OpenCopy, NoMemory>
+        ensures { IfOk result (λ copy. copy ≡ self.now) }
+    {
+        Ok(OpenCopy {
+            items: Vec::from_slice(alloc, &self.items)?,
+        })
+    }
+}
+
+/// What the updates of a blob touched that waited at one time, by version: a copy that stays as it is. Many are made, one for
+/// each numbering, and mostly of few updates, so it has room for those alone.
+#[derive(Drop)]
+pub struct OpenCopy {
+    items: Vec<OpenTouch>,
+}
+
+impl Model for OpenCopy {
+    ghost use Rattle.std.specs.Prelude.{List, ◌≤◌, length};
+    ghost use Rattle.range_log.specs.declared.open.OpenTouch.{OpenTouch};
+    ghost use Rattle.range_log.specs.Open.{Rises};
+
+    ghost Value = { List OpenTouch };
+
+    ghost view = { λ c. c.items.items };
+
+    ghost invariant = { λ c. (length c.items.items ≤ 64) × Rises c.items.items };
+}
+
+impl OpenCopy {
+    /// How many updates waited.
+    pub fn count(&self) -> u32
+        ensures count { result ≡ length self.now }
+        ensures few { result ≤ 64 }
+        ensures rises { Rises self.now }
+    {
+        self.items.len() as u32
+    }
+
+    /// The update of that number, the lowest version being number 0. There are more than `i`.
+    pub fn at(&self, i: u32) -> OpenTouch
+        requires { i < length self.now }
+        ensures { result ≡ open_at self.now i }
+    {
+        self.items[i as usize]
+    }
 }

@@ -19,7 +19,6 @@ use blob_model::{Limits, Place, Refusal};
 use border_hints::{Hints, Ticket};
 use page_store::Pages;
 use publisher::{NoMemory, Window};
-use range_log::OpenList;
 use snapshot::Snapshot;
 use std::alloc::Global;
 use std::sync::Arc;
@@ -171,19 +170,8 @@ fn hints_of(alloc: Global, window: &Window) -> Result<Hints, NoMemory>
     let snapshot = window.snapshot();
     Ok(Hints {
         snapshot: snapshot.at(snapshot.version())?,
-        waiting: copy_of(alloc, window.waiting())?,
+        waiting: window.waiting().copied(alloc)?,
     })
-}
-
-// The same updates in a list of their own.
-fn copy_of(alloc: Global, waiting: &OpenList) -> Result<OpenList, NoMemory>
-    ensures { IfOk result (λ copy. copy ≡ waiting.now) }
-{
-    let mut copy = OpenList::new(alloc)?;
-    for i in 0..waiting.count() {
-        copy.add(waiting.at(i));
-    }
-    Ok(copy)
 }
 
 /// The window of a new blob.

@@ -182,6 +182,7 @@ impl Blob {
         let pages = Arc::try_clone(&begun.pages)?;
         let len = pages.len();
         let size = self.touches[place].size;
+        let waiting = waiting.copied(alloc)?;
         let hints = Hints { snapshot, waiting };
         Ok(Ticket::of(1, 1, version, begun.at, len, size, hints, pages))
     }
