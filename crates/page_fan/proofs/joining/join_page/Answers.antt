@@ -4,8 +4,8 @@ use Rattle.page_fan.proofs.Rises.{none_fell_since}
 use Rattle.page_fan.proofs.Kept.{kept_more, kept_longer}
 use Rattle.page_fan.proofs.Answering.{answer_at_end}
 use Rattle.page_fan.proofs.Standing.{stands_at_next, stands_without_next}
-use Rattle.page_fan.proofs.storing.put_page.Goals as goal
-use Rattle.page_fan.proofs.storing.put_page.Goals.{in-Stored, in-Failed}
+use Rattle.page_fan.proofs.joining.join_page.Goals as goal
+use Rattle.page_fan.proofs.joining.join_page.Goals.{in-Stored, in-Failed}
 
 pub loop-provider-preserved : goal.loop-provider-preserved
 loop-provider-preserved g c =

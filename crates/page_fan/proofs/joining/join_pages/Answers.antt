@@ -4,7 +4,7 @@ use borrow.Author.Count.{below_more}
 use Rattle.page_fan.specs.Answer.{page_of, IsPageAnswer}
 use Rattle.page_fan.proofs.Answering.{answer_later, answer_since, each_more}
 use Rattle.page_fan.proofs.Rises.{none_fell_since}
-use Rattle.page_fan.proofs.storing.put_pages.Goals as goal
+use Rattle.page_fan.proofs.joining.join_pages.Goals as goal
 
 pub loop-at-preserved : goal.loop-at-preserved
 loop-at-preserved g c =

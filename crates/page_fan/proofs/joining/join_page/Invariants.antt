@@ -5,7 +5,7 @@ use Rattle.replica_place.specs.Chosen.{chosen}
 use Rattle.page_fan.specs.Counts.{NoneFell, RoseAt}
 use Rattle.page_fan.specs.Replicas.{StandAt, providers_of}
 use Rattle.page_fan.proofs.Kept.{KeptAs}
-use Rattle.page_fan.proofs.storing.put_page.Given as goal
+use Rattle.page_fan.proofs.joining.join_page.Given as goal
 
 abbrev pub invariant-loop-provider : goal.invariant-loop-provider
 invariant-loop-provider g l =

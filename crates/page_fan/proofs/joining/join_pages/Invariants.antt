@@ -2,7 +2,7 @@ use Rattle.std.proofs.Common.{◌≡◌, ℕ, ◌-◌, ◌*◌, ◌<◌, ◌≤�
 use Rattle.std.specs.Prelude.{All, None, slice_index_or, vec_capacity}
 use Rattle.page_fan.specs.Answer.{page_of, IsPageAnswer}
 use Rattle.page_fan.specs.Counts.{NoneFell}
-use Rattle.page_fan.proofs.storing.put_pages.Given as goal
+use Rattle.page_fan.proofs.joining.join_pages.Given as goal
 
 abbrev pub invariant-loop-at : goal.invariant-loop-at
 invariant-loop-at g l =
