@@ -1,7 +1,6 @@
 -- Answers and replies of a door, while its count rises.
-use Rattle.std.proofs.Common.{◌≡◌, ℕ, ◌+◌, ◌<◌, ◌≤◌, List, [], ◌∷◌, ◌++◌, length, take, drop, arith}
-use Rattle.std.specs.Prelude.{All}
-use Rattle.std.proofs.lemmas.List.Elements.{All-push, All-nil}
+use Rattle.std.proofs.Common.{◌≡◌, ℕ, suc, ◌≤◌, List, [], ◌∷◌, ◌++◌, take, drop, arith, refl}
+use Rattle.std.proofs.lemmas.List.Elements.{All-push}
 use Rattle.page_store.specs.Count.{HasRisen}
 use Rattle.page_store.specs.House.{House}
 use Rattle.page_store.specs.declared.door.PutAnswer.{PutAnswer}
@@ -61,5 +60,9 @@ pub replies_rest : (houses : List House) (page_size : ℕ) (buffer : List ℕ) (
 replies_rest houses page_size buffer provider before now reply rest tray is h =
     let whole = rw is at h in (
       whole.each 0 reply (omega arith),
-      record { kept = whole.kept; each = λ k d l. whole.each (k + 1) d (omega (arith, l)) },
+      record { kept = whole.kept; each = λ k d l. whole.each (suc k) d (omega (arith, l)) },
     )
+
+pub replies_dropped : (houses : List House) (page_size : ℕ) (buffer : List ℕ) (provider before now : ℕ) (tray : List Reply) → HasReplies houses page_size buffer provider before now tray → HasReplies houses page_size buffer provider before now (drop 1 tray)
+replies_dropped houses page_size buffer provider before now [] h = h
+replies_dropped houses page_size buffer provider before now (reply ∷ rest) h = (replies_rest houses page_size buffer provider before now reply rest (reply ∷ rest) refl h).1

@@ -1,5 +1,5 @@
 -- What doors answer to the puts of their groups.
-use Rattle.std.specs.Prelude.{◌≡◌, ℕ, ◌<◌, ◌≤◌, List, All, length, take, drop}
+use Rattle.std.specs.Prelude.{◌≡◌, ℕ, ◌+◌, ◌<◌, ◌≤◌, List, [], All, length, slice_index, slice_index_or, take, drop}
 use Rattle.page_store.specs.Answers.{IfStored, OnPutFailed}
 use Rattle.page_store.specs.Count.{HasRisen}
 use Rattle.page_store.specs.House.{House, IsProvider}
@@ -24,3 +24,7 @@ pub record IsAnswer (houses : List House) (provider : ℕ) (content : List ℕ) 
 pub record HasReplies (houses : List House) (page_size : ℕ) (buffer : List ℕ) (provider before now : ℕ) (tray : List Reply) : Type 0 where
   pub kept : before ≤ now
   pub each : All (λ (reply : Reply). IsAnswer houses provider (take page_size (drop reply.at buffer)) before now reply.answer) tray
+
+-- so it is at each provider, where the first of each list is that of provider 1
+abbrev pub AllReplied : List House → ℕ → List ℕ → List ℕ → List ℕ → List (List Reply) → Type 0
+AllReplied houses page_size buffer before now trays = (k : ℕ) → k < length trays → HasReplies houses page_size buffer (k + 1) (slice_index before k) (slice_index now k) (slice_index_or trays k [])

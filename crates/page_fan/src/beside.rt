@@ -36,7 +36,6 @@ pub trait BesideDoor: Door {
     )
         requires sync { IsSync R.row }
         requires puts { All (CanBePut (length houses.now) buffer.now) puts.now }
-        ensures before { (k : ℕ) (d : _) → k < length stands.old → (slice_index_or stands.new k d).before.value ≡ (slice_index_or stands.old k d).door }
         ensures truth_stays { (k : ℕ) (d : _) → k < length stands.old → Self.is_true (slice_index_or stands.old k d).door ↔ Self.is_true (slice_index_or stands.new k d).door }
         ensures replies { (k : ℕ) (d : _) → k < length stands.old → HasReplies houses.now p buffer.now (k + 1) (Self.faults (slice_index_or stands.old k d).door) (Self.faults (slice_index_or stands.new k d).door) (slice_index_or stands.new k d).tray.items };
 }
@@ -52,7 +51,6 @@ pub fn put_all_groups<D: Door + Send, R: Threads + Wait + Sync>(
     puts: &[Put],
 )
     requires puts { All (CanBePut (length houses.now) buffer.now) puts.now }
-    ensures before { (k : ℕ) (d : _) → k < length stands.old → (slice_index_or stands.new k d).before.value ≡ (slice_index_or stands.old k d).door }
     ensures truth_stays { (k : ℕ) (d : _) → k < length stands.old → D.is_true (slice_index_or stands.old k d).door ↔ D.is_true (slice_index_or stands.new k d).door }
     ensures replies { (k : ℕ) (d : _) → k < length stands.old → HasReplies houses.now p buffer.now (k + 1) (D.faults (slice_index_or stands.old k d).door) (D.faults (slice_index_or stands.new k d).door) (slice_index_or stands.new k d).tray.items }
 {

@@ -1,11 +1,11 @@
 // What the doors answered is joined, in the order of the pages and of their placements.
-ghost use Rattle.std.specs.Prelude.{◌≡◌, ℕ, ◌+◌, ◌-◌, ◌*◌, ◌<◌, ◌≤◌, length, IfOk, IfSome, All, map, [], ◌∷◌, ◌++◌, take, drop, slice_index, slice_index_or, vec_capacity};
+ghost use Rattle.std.specs.Prelude.{◌≡◌, ℕ, ◌+◌, ◌-◌, ◌*◌, ◌^◌, ◌<◌, ◌≤◌, List, length, IfOk, IfSome, All, map, [], ◌∷◌, ◌++◌, take, drop, slice_index, slice_index_or, vec_capacity};
 ghost use Rattle.std.specs.Option.{option_map_or};
 ghost use Rattle.page_store.specs.House.{IsProvider};
 ghost use Rattle.replica_place.specs.Chosen.{chosen};
 ghost use Rattle.page_fan.specs.Answer.{AreAnswered, IsPageAnswer};
 ghost use Rattle.page_fan.specs.Counts.{NoneFell};
-ghost use Rattle.page_fan.specs.Groups.{CanBePut, IsAnswer, HasReplies};
+ghost use Rattle.page_fan.specs.Groups.{CanBePut, IsAnswer, AllReplied};
 
 use crate::stand::{Put, Stand};
 use page_store::{Door, Houses, NoMemory, PageRef, PutAnswer, StoredPage};
@@ -24,13 +24,15 @@ pub(crate) fn join_pages<D: Door, R: Wait>(
     placements: &Placements,
     mut answer: Vec<Option<StoredPage>>,
 ) -> Result<Vec<Option<StoredPage>>, NoMemory>
+    ghost before: { List ℕ }
     requires fresh { answer.items ≡ [] }
     requires room { length placements.now ≤ vec_capacity answer }
+    requires few { length placements.now < 2 ^ 32 }
     requires enough { length buffer.now ≤ length placements.now * p }
     requires housed { length stands.old ≤ length houses.now }
     requires served { All (All (IsProvider (length stands.old))) placements.now }
-    requires replies { (k : ℕ) (d : _) → k < length stands.old → HasReplies houses.now p buffer.now (k + 1) (D.faults (slice_index_or stands.old k d).before.value) (D.faults (slice_index_or stands.old k d).door) (slice_index_or stands.old k d).tray.items }
-    ensures answered { IfOk result (λ answer. AreAnswered houses.now p buffer.now placements.now (map (λ s. D.faults s.before.value) stands.old) (map (λ s. D.faults s.door) stands.new) answer.items) }
+    requires replies { AllReplied houses.now p buffer.now before (map (λ s. D.faults s.door) stands.old) (map (λ s. s.tray.items) stands.old) }
+    ensures answered { IfOk result (λ answer. AreAnswered houses.now p buffer.now placements.now before (map (λ s. D.faults s.door) stands.new) answer.items) }
     ensures none_fell { NoneFell (map (λ s. D.faults s.door) stands.old) (map (λ s. D.faults s.door) stands.new) }
     ensures truth_stays { All (λ s. D.is_true s.door) stands.old → All (λ s. D.is_true s.door) stands.new }
 {
@@ -55,13 +57,13 @@ fn join_page<D: Door, R: Wait>(
     placement: &Placement,
     at: usize,
 ) -> Result<Option<StoredPage>, NoMemory>
+    ghost before: { List ℕ }
     requires within { at < length buffer.now }
     requires housed { length stands.old ≤ length houses.now }
     requires served { All (IsProvider (length stands.old)) (chosen placement.now) }
-    requires replies { (k : ℕ) (d : _) → k < length stands.old → HasReplies houses.now p buffer.now (k + 1) (D.faults (slice_index_or stands.old k d).before.value) (D.faults (slice_index_or stands.old k d).door) (slice_index_or stands.old k d).tray.items }
-    ensures answered { IfOk result (IsPageAnswer houses.now (take p (drop at buffer.now)) (chosen placement.now) (map (λ s. D.faults s.before.value) stands.old) (map (λ s. D.faults s.door) stands.new)) }
-    ensures replies { (k : ℕ) (d : _) → k < length stands.new → HasReplies houses.now p buffer.now (k + 1) (D.faults (slice_index_or stands.new k d).before.value) (D.faults (slice_index_or stands.new k d).door) (slice_index_or stands.new k d).tray.items }
-    ensures before { map (λ s. D.faults s.before.value) stands.new ≡ map (λ s. D.faults s.before.value) stands.old }
+    requires replies { AllReplied houses.now p buffer.now before (map (λ s. D.faults s.door) stands.old) (map (λ s. s.tray.items) stands.old) }
+    ensures answered { IfOk result (IsPageAnswer houses.now (take p (drop at buffer.now)) (chosen placement.now) before (map (λ s. D.faults s.door) stands.new)) }
+    ensures replies { AllReplied houses.now p buffer.now before (map (λ s. D.faults s.door) stands.new) (map (λ s. s.tray.items) stands.new) }
     ensures none_fell { NoneFell (map (λ s. D.faults s.door) stands.old) (map (λ s. D.faults s.door) stands.new) }
     ensures truth_stays { All (λ s. D.is_true s.door) stands.old → All (λ s. D.is_true s.door) stands.new }
 {
@@ -93,10 +95,8 @@ fn answer_at<D: Door, R: Wait>(
     requires within { put.at < length buffer.now }
     requires housed { length stands.old ≤ length houses.now }
     requires served { IsProvider (length stands.old) put.provider }
-    requires replies { (k : ℕ) (d : _) → k < length stands.old → HasReplies houses.now p buffer.now (k + 1) (D.faults (slice_index_or stands.old k d).before.value) (D.faults (slice_index_or stands.old k d).door) (slice_index_or stands.old k d).tray.items }
-    ensures answer { IsAnswer houses.now put.provider (take p (drop put.at buffer.now)) (slice_index (map (λ s. D.faults s.before.value) stands.old) (put.provider - 1)) (slice_index (map (λ s. D.faults s.door) stands.new) (put.provider - 1)) result }
-    ensures replies { (k : ℕ) (d : _) → k < length stands.new → HasReplies houses.now p buffer.now (k + 1) (D.faults (slice_index_or stands.new k d).before.value) (D.faults (slice_index_or stands.new k d).door) (slice_index_or stands.new k d).tray.items }
-    ensures before { map (λ s. D.faults s.before.value) stands.new ≡ map (λ s. D.faults s.before.value) stands.old }
+    ensures answer { (before : List ℕ) → AllReplied houses.now p buffer.now before (map (λ s. D.faults s.door) stands.old) (map (λ s. s.tray.items) stands.old) → IsAnswer houses.now put.provider (take p (drop put.at buffer.now)) (slice_index before (put.provider - 1)) (slice_index (map (λ s. D.faults s.door) stands.new) (put.provider - 1)) result }
+    ensures replies { (before : List ℕ) → AllReplied houses.now p buffer.now before (map (λ s. D.faults s.door) stands.old) (map (λ s. s.tray.items) stands.old) → AllReplied houses.now p buffer.now before (map (λ s. D.faults s.door) stands.new) (map (λ s. s.tray.items) stands.new) }
     ensures none_fell { NoneFell (map (λ s. D.faults s.door) stands.old) (map (λ s. D.faults s.door) stands.new) }
     ensures truth_stays { All (λ s. D.is_true s.door) stands.old → All (λ s. D.is_true s.door) stands.new }
 {

@@ -22,7 +22,7 @@ pub(crate) fn list_puts(
     ensures { (providers : ℕ) → All (All (IsProvider providers)) placements.now → IfOk result (λ puts. All (CanBePut providers buffer.now) puts.items) }
 {
     let page_size = p.bytes() as usize;
-    let mut puts = Vec::new(alloc);
+    let mut puts = Vec::with_capacity(alloc, placements.count() as usize)?;
     let mut at = 0;
     let mut i = 0;
     while at < buffer.len() {

@@ -1,5 +1,5 @@
 // A door beside what it answered to the puts of its own group.
-ghost use Rattle.std.specs.Prelude.{◌≡◌, ◌+◌, ◌-◌, ◌≤◌, ◌↔◌, All, length, take, drop, [], slice_get};
+ghost use Rattle.std.specs.Prelude.{◌≡◌, ℕ, ◌+◌, ◌-◌, ◌≤◌, ◌↔◌, All, length, take, drop, [], slice_get};
 ghost use Rattle.page_store.specs.Answers.{IfStored, OnPutFailed};
 ghost use Rattle.page_store.specs.Count.{HasRisen};
 ghost use Rattle.page_store.specs.House.{IsProvider};
@@ -10,7 +10,6 @@ use crate::cutting::page_bytes;
 use page_store::{Door, Houses, MAX_PAGE, PutAnswer};
 use std::alloc::Global;
 use std::collections::VecDeque;
-use std::snapshot::Snapshot;
 use std::sync::Wait;
 use tree_geom::PageSize;
 
@@ -28,12 +27,10 @@ pub struct Reply {
     pub answer: PutAnswer,
 }
 
-/// A door to one provider, what it was when its last group began, and a tray for its replies. Each stand goes to one thread,
-/// with all that is written there.
+/// A door to one provider, and a tray for its replies. Each stand goes to one thread, with all that is written there.
 #[derive(Drop)]
 pub struct Stand<D> {
     pub door: D,
-    pub before: Snapshot<D>,
     pub tray: VecDeque<Reply>,
 }
 
@@ -42,19 +39,17 @@ impl<D: Door> Stand<D> {
     pub(crate) fn new(alloc: Global, door: D) -> Stand<D>
         ensures { result.door ≡ door }
     {
-        let before = Snapshot::of(&door);
         Stand {
             door,
-            before,
             tray: VecDeque::new(alloc),
         }
     }
 
     // The door alone.
     pub(crate) fn into_door(self) -> D
-        ensures { result ≡ self.entry.door }
+        ensures { result ≡ self.door }
     {
-        let Stand { door, before: _before, tray: _tray } = self;
+        let Stand { door, tray: _tray } = self;
         door
     }
 
@@ -70,11 +65,9 @@ impl<D: Door> Stand<D> {
         puts: &[Put],
     )
         requires { All (CanBePut (length houses.now) buffer.now) puts.now }
-        ensures before { self.new.before.value ≡ self.old.door }
         ensures replies { HasReplies houses.now p buffer.now (place + 1) (D.faults self.old.door) (D.faults self.new.door) self.new.tray.items }
         ensures truth_stays { D.is_true self.old.door ↔ D.is_true self.new.door }
     {
-        self.before = Snapshot::of(&self.door);
         self.tray.clear();
         for put in puts {
             if put.provider as usize - 1 == place {
@@ -98,10 +91,8 @@ impl<D: Door> Stand<D> {
         put: Put,
     ) -> PutAnswer
         requires put { CanBePut (length houses.now) buffer.now put }
-        requires replies { HasReplies houses.now p buffer.now put.provider (D.faults self.old.before.value) (D.faults self.old.door) self.old.tray.items }
-        ensures answer { IsAnswer houses.now put.provider (take p (drop put.at buffer.now)) (D.faults self.old.before.value) (D.faults self.new.door) result }
-        ensures replies { HasReplies houses.now p buffer.now put.provider (D.faults self.old.before.value) (D.faults self.new.door) self.new.tray.items }
-        ensures before { self.new.before.value ≡ self.old.before.value }
+        ensures answer { (before : ℕ) → HasReplies houses.now p buffer.now put.provider before (D.faults self.old.door) self.old.tray.items → IsAnswer houses.now put.provider (take p (drop put.at buffer.now)) before (D.faults self.new.door) result }
+        ensures replies { (before : ℕ) → HasReplies houses.now p buffer.now put.provider before (D.faults self.old.door) self.old.tray.items → HasReplies houses.now p buffer.now put.provider before (D.faults self.new.door) self.new.tray.items }
         ensures never_falls { D.faults self.old.door ≤ D.faults self.new.door }
         ensures truth_stays { D.is_true self.old.door ↔ D.is_true self.new.door }
     {
@@ -115,13 +106,7 @@ impl<D: Door> Stand<D> {
     }
 
     // Puts the bytes at the provider.
-    fn put<R: Wait>(
-        &mut self,
-        rt: &R,
-        houses: &Houses,
-        provider: u32,
-        bytes: &[u8],
-    ) -> PutAnswer
+    fn put<R: Wait>(&mut self, rt: &R, houses: &Houses, provider: u32, bytes: &[u8]) -> PutAnswer
         requires house { IsProvider (length houses.now) provider }
         requires some { 1 ≤ length bytes.now }
         requires small { length bytes.now ≤ MAX_PAGE }
@@ -131,7 +116,6 @@ impl<D: Door> Stand<D> {
         ensures failed { OnPutFailed result (HasRisen (D.faults self.old.door) (D.faults self.new.door)) }
         ensures never_falls { D.faults self.old.door ≤ D.faults self.new.door }
         ensures truth_stays { D.is_true self.old.door ↔ D.is_true self.new.door }
-        ensures before { self.new.before.value ≡ self.old.before.value }
         ensures tray { self.new.tray ≡ self.old.tray }
     {
         self.door.put(rt, houses.house(provider), bytes)

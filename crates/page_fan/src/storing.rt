@@ -1,5 +1,5 @@
 // A buffer is cut into pages, and each page is put at its placed providers.
-ghost use Rattle.std.specs.Prelude.{◌≡◌, ◌+◌, ◌*◌, ◌<◌, ◌≤◌, length, IfOk, IfErr, IfSome, MatchOption, IsSome, All, Some, None, map, sum_by, [], ◌∷◌, ◌++◌, slice_index_or};
+ghost use Rattle.std.specs.Prelude.{◌≡◌, ℕ, ◌+◌, ◌*◌, ◌<◌, ◌≤◌, List, length, IfOk, IfErr, IfSome, MatchOption, IsSome, All, Some, None, map, sum_by, [], ◌∷◌, ◌++◌, slice_index_or};
 ghost use Rattle.std.specs.Option.{option_map_or};
 ghost use Rattle.page_store.specs.Count.{HasRisen};
 ghost use Rattle.page_store.specs.House.{IsProvider};
@@ -14,6 +14,7 @@ use crate::beside::BesideDoor;
 use crate::doors::Doors;
 use crate::joining::join_pages;
 use crate::listing::list_puts;
+use crate::stand::Stand;
 use page_store::{Houses, NoMemory, Pages, StoredPage};
 use provider_manager::Placements;
 use std::alloc::Global;
@@ -112,8 +113,7 @@ fn gather(mut pages: Pages, answer: Vec<Option<StoredPage>>) -> Pages
     pages
 }
 
-// Puts each page at the providers of its placement, the groups of the providers beside each other, and answers which pages were
-// stored. What takes memory comes before the first put.
+// Puts each page at the providers of its placement, and answers which of them were stored.
 fn put_pages<D: BesideDoor, R: Threads + Wait + Sync>(
     rt: &R,
     alloc: Global,
@@ -131,9 +131,31 @@ fn put_pages<D: BesideDoor, R: Threads + Wait + Sync>(
     ensures count { length doors.new ≡ length doors.old }
     ensures truth_stays { All D.is_true doors.old → All D.is_true doors.new }
 {
+    let stands = doors.stands.as_mut_slice();
+    put_in_groups(rt, alloc, stands, houses, p, buffer, placements)
+}
+
+// The same, where the groups of the providers are put beside each other. What takes memory comes before the first put.
+fn put_in_groups<D: BesideDoor, R: Threads + Wait + Sync>(
+    rt: &R,
+    alloc: Global,
+    stands: &mut [Stand<D>],
+    houses: &Houses,
+    p: PageSize,
+    buffer: &[u8],
+    placements: &Placements,
+) -> Result<Vec<Option<StoredPage>>, NoMemory>
+    ghost before: { List ℕ }
+    requires before { before ≡ map (λ s. D.faults s.door) stands.old }
+    requires enough { length buffer.now ≤ length placements.now * p }
+    requires housed { length stands.old ≤ length houses.now }
+    requires served { All (All (IsProvider (length stands.old))) placements.now }
+    ensures answered { IfOk result (λ answer. AreAnswered houses.now p buffer.now placements.now before (map (λ s. D.faults s.door) stands.new) answer.items) }
+    ensures none_fell { NoneFell (map (λ s. D.faults s.door) stands.old) (map (λ s. D.faults s.door) stands.new) }
+    ensures truth_stays { All (λ s. D.is_true s.door) stands.old → All (λ s. D.is_true s.door) stands.new }
+{
     let puts = list_puts(alloc, p, buffer, placements)?;
     let answer = Vec::with_capacity(alloc, placements.count() as usize)?;
-    let stands = doors.stands.as_mut_slice();
     D::put_groups(rt, stands, houses, p, buffer, puts.as_slice());
     join_pages(rt, stands, houses, p, buffer, placements, answer)
 }
