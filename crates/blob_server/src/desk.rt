@@ -6,7 +6,7 @@ use crate::bell::Bell;
 use crate::peer::serve_peer;
 use client_session::Session;
 use crossbeam_queue::ArrayQueue;
-use page_store::Door;
+use page_fan::BesideDoor;
 use ports::gate::Gate;
 use ports::stream::{Sink, Source};
 use request_form::NoMemory;
@@ -37,7 +37,7 @@ impl<P: Source + Sink + Drop> Desk<P> {
     }
 
     /// Leaves a peer to the others, or serves it where it can't wait.
-    pub(crate) fn hand_over<R: Threads + Wait + Sync, D: Door, G: Gate>(
+    pub(crate) fn hand_over<R: Threads + Wait + Sync, D: BesideDoor, G: Gate>(
         &self,
         rt: &R,
         alloc: Global,
@@ -61,7 +61,7 @@ impl<P: Source + Sink + Drop> Desk<P> {
     }
 
     /// Serves peers that wait, until no more come and none waits. While none waits it sleeps.
-    pub(crate) fn work<R: Threads + Wait + Sync, D: Door, G: Gate>(
+    pub(crate) fn work<R: Threads + Wait + Sync, D: BesideDoor, G: Gate>(
         &self,
         rt: &R,
         alloc: Global,

@@ -8,7 +8,7 @@ ghost use Rattle.blob_server.specs.Peers.{connection_limit, ServedFrames, IsIdle
 
 use client_session::Session;
 use frame_wire::FrameDialect;
-use page_store::Door;
+use page_fan::BesideDoor;
 use ports::gate::Gate;
 use ports::stream::{Sink, Source};
 use server_core::{End, serve_stream};
@@ -20,7 +20,7 @@ use std::thread::Threads;
 const CONNECTION_LIMIT: u64 = 4_294_967_296;
 
 // Answers the frames of a connection.
-fn serve_frames<R: Threads + Wait + Sync, P: Source + Sink, D: Door, G: Gate>(
+fn serve_frames<R: Threads + Wait + Sync, P: Source + Sink, D: BesideDoor, G: Gate>(
     rt: &R,
     alloc: Global,
     session: &mut Session<'_, D, G>,
@@ -45,7 +45,7 @@ fn serve_frames<R: Threads + Wait + Sync, P: Source + Sink, D: Door, G: Gate>(
 /// Serves one connection with frames by a session that holds no ticket, and then hangs the session up: tickets that the peer
 /// left are given up, and the next peer's are numbered from 1 again. A connection whose dialect finds no memory is ended at
 /// once. At most 4,294,967,296 bytes are taken of it. It tells how the connection ended.
-pub fn serve_peer<R: Threads + Wait + Sync, P: Source + Sink, D: Door, G: Gate>(
+pub fn serve_peer<R: Threads + Wait + Sync, P: Source + Sink, D: BesideDoor, G: Gate>(
     rt: &R,
     alloc: Global,
     session: &mut Session<'_, D, G>,

@@ -7,7 +7,7 @@ use crate::desk::Desk;
 use crate::peer::serve_peer;
 use crate::task::{Task, run_beside, take_back};
 use client_session::Session;
-use page_store::Door;
+use page_fan::BesideDoor;
 use ports::gate::Gate;
 use ports::listener::{Accepted, Listener};
 use ports::stream::{Sink, Source};
@@ -17,7 +17,7 @@ use std::thread;
 use std::thread::Threads;
 
 // Serves a peer, or leaves it to the other workers where there are some.
-fn place_peer<R: Threads + Wait + Sync, P: Source + Sink + Drop, D: Door, G: Gate>(
+fn place_peer<R: Threads + Wait + Sync, P: Source + Sink + Drop, D: BesideDoor, G: Gate>(
     rt: &R,
     alloc: Global,
     desk: &Desk<P>,
@@ -38,7 +38,7 @@ fn place_peer<R: Threads + Wait + Sync, P: Source + Sink + Drop, D: Door, G: Gat
 
 // Takes so many peers of the listener, or fewer where it gives no more, and answers how many they were. None where the
 // listener failed.
-fn take_peers<R: Threads + Wait + Sync, Li: Listener, D: Door, G: Gate>(
+fn take_peers<R: Threads + Wait + Sync, Li: Listener, D: BesideDoor, G: Gate>(
     rt: &R,
     alloc: Global,
     desk: &Desk<Li::Peer>,
@@ -69,7 +69,7 @@ where
 }
 
 // The first worker: takes the peers, and then serves those that wait still.
-fn lead<R: Threads + Wait + Sync, Li: Listener, D: Door, G: Gate>(
+fn lead<R: Threads + Wait + Sync, Li: Listener, D: BesideDoor, G: Gate>(
     rt: &R,
     alloc: Global,
     desk: &Desk<Li::Peer>,
@@ -99,7 +99,7 @@ where
 fn work_beside<
     R: Threads + Wait + Sync,
     P: Source + Sink + Drop + Send,
-    D: Door + Send,
+    D: BesideDoor + Send,
     G: Gate + Sync,
 >(rt: &R, alloc: Global, desk: &Desk<P>, sessions: &mut [Session<'_, D, G>])
     requires { All (λ s. IsIdle s.store s) sessions.old }
@@ -122,7 +122,7 @@ fn lend_beside<
     's,
     R: Threads + Wait + Sync,
     P: Source + Sink + Drop + Send,
-    D: Door + Drop + Send,
+    D: BesideDoor + Drop + Send,
     G: Gate + Sync,
 >(
     rt: &R,
@@ -140,7 +140,7 @@ fn lend_beside<
 
 // The first worker, with all that it works with.
 #[derive(Drop)]
-struct Leader<'d, 's, 'n, Li: Listener, D: Door, G: Gate> {
+struct Leader<'d, 's, 'n, Li: Listener, D: BesideDoor, G: Gate> {
     alloc: Global,
     desk: &'d Desk<Li::Peer>,
     session: Session<'s, D, G>,
@@ -149,7 +149,7 @@ struct Leader<'d, 's, 'n, Li: Listener, D: Door, G: Gate> {
     alone: bool,
 }
 
-impl<'d, 's, 'n, Li: Listener, D: Door + Drop, G: Gate> Task for Leader<'d, 's, 'n, Li, D, G>
+impl<'d, 's, 'n, Li: Listener, D: BesideDoor + Drop, G: Gate> Task for Leader<'d, 's, 'n, Li, D, G>
 where
     Li::Peer: Drop,
 {
@@ -185,7 +185,7 @@ pub(crate) fn work_all<
     's,
     R: Threads + Wait + Sync,
     Li: Listener,
-    D: Door + Drop + Send,
+    D: BesideDoor + Drop + Send,
     G: Gate + Sync,
 >(
     rt: &R,

@@ -9,6 +9,7 @@ use crate::desk::Desk;
 use crate::pool::work_all;
 use crate::sessions::{end_sessions, sessions_of};
 use client_session::{Owner, Shared};
+use page_fan::BesideDoor;
 use page_store::DoorMaker;
 use ports::gate::Gate;
 use ports::listener::Listener;
@@ -50,7 +51,7 @@ pub fn serve<R: Threads + Wait + Sync, Li: Listener, M: DoorMaker, G: Gate + Syn
 ) -> Result<u64, ServeFault>
 where
     Li::Peer: Drop + Send,
-    M::Door: Drop + Send,
+    M::Door: BesideDoor + Drop + Send,
     requires listens { Li.listens net.old ≡ true }
     requires some_workers { 1 ≤ workers }
     requires few_workers { workers ≤ 16 }

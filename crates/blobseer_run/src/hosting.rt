@@ -10,6 +10,7 @@ use crate::status::Status;
 use crate::writing::tell;
 use blob_server::{ServeFault, serve};
 use client_session::Shared;
+use page_fan::BesideDoor;
 use page_store::DoorMaker;
 use ports::gate::Gate;
 use ports::listener::Listener;
@@ -59,7 +60,7 @@ pub(crate) fn serve_peers<
 ) -> Status
 where
     L::Peer: Drop + Send,
-    M::Door: Drop + Send,
+    M::Door: BesideDoor + Drop + Send,
     requires true_doors { M.is_true maker.old }
     ensures served { ServedPeers settings.now.connections
         (record { listens = L.listens net.old; handing = record { handed = L.handed net.old; is_done = L.is_done net.old; faults = L.faults net.old } })

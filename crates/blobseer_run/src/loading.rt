@@ -11,6 +11,7 @@ use crate::status::Status;
 use crate::writing::tell;
 use blob_model::Limits;
 use client_session::Shared;
+use page_fan::BesideDoor;
 use page_store::DoorMaker;
 use ports::gate::Gate;
 use ports::stream::Sink;
@@ -53,7 +54,7 @@ pub(crate) fn run_load<R: Wait + Threads + Sync, K: Sink, M: DoorMaker, G: Gate 
     gate: &G,
 ) -> Status
 where
-    M::Door: Drop + Send,
+    M::Door: BesideDoor + Drop + Send,
     requires true_doors { M.is_true maker.old }
     ensures loaded { RanLoad (plan_of settings.now) (K.written out.old) (K.written out.new) (M.faults maker.old) (M.faults maker.new)
         (K.write_faults out.old) (K.write_faults out.new) (code_of result) }

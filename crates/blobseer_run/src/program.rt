@@ -9,6 +9,7 @@ use crate::loading::run_load;
 use crate::serving::serve_script;
 use crate::status::Status;
 use crate::told::told;
+use page_fan::BesideDoor;
 use page_store::DoorMaker;
 use ports::files::Files;
 use ports::gate::Gate;
@@ -33,7 +34,7 @@ fn obey<R: Wait + Threads + Sync, S: Source, K: Sink, L: Listener, M: DoorMaker,
 ) -> Status
 where
     L::Peer: Drop + Send,
-    M::Door: Drop + Send,
+    M::Door: BesideDoor + Drop + Send,
     requires true_doors { M.is_true doors.old }
     ensures did { (files files' : ℕ) → Did command settings.now (IsCalm M.Door.faults)
         (record { listens = L.listens net.old; handing = record { handed = L.handed net.old; is_done = L.is_done net.old; faults = L.faults net.old } })
@@ -117,7 +118,7 @@ pub fn run<
 ) -> u8
 where
     L::Peer: Drop + Send,
-    M::Door: Drop + Send,
+    M::Door: BesideDoor + Drop + Send,
     // The doors give back the bytes that were put.
     requires true_doors { M.is_true doors.old }
 

@@ -11,8 +11,8 @@ ghost use Rattle.blobseer_run.specs.Status.{code_of};
 use crate::laws::transcripts_are_legal;
 use crate::status::Status;
 use client_session::{Owner, Pass, Session, Shared};
-use page_fan::Doors;
-use page_store::{Door, DoorMaker};
+use page_fan::{BesideDoor, Doors};
+use page_store::DoorMaker;
 use ports::gate::Gate;
 use ports::pair::Pair;
 use ports::stream::{Sink, Source};
@@ -39,7 +39,7 @@ pub(crate) fn page_size(settings: &Settings) -> PageSize
 }
 
 // Serves the lines of a script by a session that works with that pass and those doors, and gives them back.
-fn serve_session<R: Wait + Threads + Sync, S: Source, K: Sink, D: Door, G: Gate>(
+fn serve_session<R: Wait + Threads + Sync, S: Source, K: Sink, D: BesideDoor, G: Gate>(
     rt: &R,
     alloc: Global,
     shared: &Shared,
@@ -78,7 +78,7 @@ fn serve_session<R: Wait + Threads + Sync, S: Source, K: Sink, D: Door, G: Gate>
 }
 
 // Serves the lines of a script by the first session of a new store, closes the store, and gives the doors back.
-fn serve_store<R: Wait + Threads + Sync, S: Source, K: Sink, D: Door, G: Gate>(
+fn serve_store<R: Wait + Threads + Sync, S: Source, K: Sink, D: BesideDoor, G: Gate>(
     rt: &R,
     alloc: Global,
     shared: Shared,
@@ -126,6 +126,8 @@ pub(crate) fn serve_script<R: Wait + Threads + Sync, S: Source, K: Sink, M: Door
     maker: &mut M,
     gate: &G,
 ) -> Status
+where
+    M::Door: BesideDoor,
     requires true_doors { M.is_true maker.old }
     ensures served { (files files' : ℕ) → ServedScript (fixed_of settings.now) (IsCalm M.Door.faults)
         (record {

@@ -11,6 +11,7 @@ ghost use Rattle.client_session.specs.Results.{create_reply, branch_reply, finis
 use crate::done::{Done, Started};
 use crate::session::Session;
 use blob_model::{Bytes, Place};
+use page_fan::BesideDoor;
 use page_store::Door;
 use ports::gate::Gate;
 use request_form::{Fault, Reply, Request, Service};
@@ -124,7 +125,7 @@ fn read_uncounted<D: Door, G: Gate, R: Wait, L: Ledger>(
     session.read(rt, blob, version, offset, count, &mut steps)
 }
 
-impl<'a, D: Door, G: Gate> Service for Session<'a, D, G> {
+impl<'a, D: BesideDoor, G: Gate> Service for Session<'a, D, G> {
     ghost session = { λ s. session_of s };
 
     ghost faults = { λ s. sum_by D.faults s.doors };

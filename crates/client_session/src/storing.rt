@@ -6,8 +6,8 @@ ghost use Rattle.page_store.specs.Stored.{joined, LieAmong};
 ghost use Rattle.page_fan.specs.Counts.{NoneFell};
 ghost use Rattle.page_fan.specs.Fault.{OnPageFault};
 
-use page_fan::{Doors, StoreFault, store};
-use page_store::{Door, Houses, Pages};
+use page_fan::{BesideDoor, Doors, StoreFault, store};
+use page_store::{Houses, Pages};
 use provider_manager::SharedLoads;
 use std::alloc::Global;
 use std::sync::{Arc, Wait};
@@ -19,7 +19,7 @@ use tree_geom::PageSize;
 /// It may wait for the lock of the loads and for another thread's push into a house. After a fault some pages may lie unused
 /// in their houses.
 #[tactic(auto, using(crate::proofs::PartsStoring::pages_enough))]
-pub(crate) fn store_bytes<D: Door, R: Threads + Wait + Sync>(
+pub(crate) fn store_bytes<D: BesideDoor, R: Threads + Wait + Sync>(
     rt: &R,
     alloc: Global,
     loads: &SharedLoads,

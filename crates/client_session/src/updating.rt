@@ -25,7 +25,7 @@ use crate::weaving::weave;
 use blob_model::Place;
 use border_hints::Ticket;
 use node_store::Row;
-use page_fan::StoreFault;
+use page_fan::{BesideDoor, StoreFault};
 use page_store::Door;
 use ports::gate::{Gate, Point};
 use request_form::{Fault, NoMemory};
@@ -92,7 +92,7 @@ fn report<R: Wait>(
     reported
 }
 
-impl<'a, D: Door, G: Gate> Session<'a, D, G> {
+impl<'a, D: BesideDoor, G: Gate> Session<'a, D, G> {
     // Stores the bytes, numbers the update and weaves its row, which every form of update begins with. The row is missing where
     // no memory was found for it. The gate is called between these acts.
     fn number<R: Threads + Wait + Sync>(
@@ -142,20 +142,6 @@ impl<'a, D: Door, G: Gate> Session<'a, D, G> {
             Err(_) => None,
         };
         Ok((ticket, row))
-    }
-
-    // Holds a numbered update under the next number, which it answers.
-    fn hold(&mut self, ticket: Ticket, row: Option<Arc<Row>>) -> u64
-        requires open_ { IsOpen self.old.store.fixed self.old.log record { number = self.old.next; ticket = ticket; row = option_map arc_value row } }
-        requires room { length self.old.held < 64 }
-        requires drawn { self.old.next ≤ length self.old.log }
-        ensures number { result ≡ self.old.next }
-        ensures held { self.new ≡ record self.old { held = self.old.held ++ record { number = self.old.next; ticket = ticket; row = option_map arc_value row } ∷ []; next = self.old.next + 1 } }
-    {
-        let number = self.next;
-        self.held.add(OpenTicket::new(number, ticket, row));
-        self.next += 1;
-        number
     }
 
     /// Stores and numbers an update of a blob, weaves its tree, and holds it under the session's next ticket number, until it is
@@ -261,6 +247,22 @@ impl<'a, D: Door, G: Gate> Session<'a, D, G> {
                 Err(Fault::NoMemoryTicket { ticket })
             }
         }
+    }
+}
+
+impl<'a, D: Door, G: Gate> Session<'a, D, G> {
+    // Holds a numbered update under the next number, which it answers.
+    fn hold(&mut self, ticket: Ticket, row: Option<Arc<Row>>) -> u64
+        requires open_ { IsOpen self.old.store.fixed self.old.log record { number = self.old.next; ticket = ticket; row = option_map arc_value row } }
+        requires room { length self.old.held < 64 }
+        requires drawn { self.old.next ≤ length self.old.log }
+        ensures number { result ≡ self.old.next }
+        ensures held { self.new ≡ record self.old { held = self.old.held ++ record { number = self.old.next; ticket = ticket; row = option_map arc_value row } ∷ []; next = self.old.next + 1 } }
+    {
+        let number = self.next;
+        self.held.add(OpenTicket::new(number, ticket, row));
+        self.next += 1;
+        number
     }
 
     /// Finishes the update of a ticket, and gives the greatest published version of its blob. Its tree is woven first where no

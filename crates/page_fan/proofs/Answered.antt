@@ -1,5 +1,5 @@
 -- A fact on a door's answer, from another.
-use Rattle.page_store.specs.Answers.{OnPutFailed, OnGetFailed}
+use Rattle.page_store.specs.Answers.{OnPutFailed, OnGot, OnGetFailed}
 use Rattle.page_store.specs.declared.door.PutAnswer.{PutAnswer}
 use Rattle.page_store.specs.declared.door.PutAnswer.TheVariants as put
 use Rattle.page_store.specs.declared.door.GetAnswer.{GetAnswer}
@@ -13,3 +13,7 @@ OnPutFailed-weaken P Q weaken put.NoMemory h = tt
 pub OnGetFailed-weaken : (P Q : Type 0) → (P → Q) → (answer : GetAnswer) → OnGetFailed answer P → OnGetFailed answer Q
 OnGetFailed-weaken P Q weaken get.Got h = tt
 OnGetFailed-weaken P Q weaken get.Failed h = weaken h
+
+pub OnGot-given : (P Q : Type 0) → P → (answer : GetAnswer) → OnGot answer (P → Q) → OnGot answer Q
+OnGot-given P Q p get.Got h = h p
+OnGot-given P Q p get.Failed h = tt

@@ -55,7 +55,7 @@ lengths_of houses page_size buffer placements before now answer some answered = 
       λ more. let next : (k + 1) * page_size < length buffer = answered.within (k + 1) more in omega (arith, long, next),
     )
 
-index_within : (page_size n m : ℕ) → n * page_size < m * page_size → n < m
+pub index_within : (page_size n m : ℕ) → n * page_size < m * page_size → n < m
 index_within page_size n zero h = let none : 0 * page_size ≡ 0 = omega arith in absurd (omega (arith, none, h))
 index_within page_size zero (suc m) h = omega arith
 index_within page_size (suc n) (suc m) h =

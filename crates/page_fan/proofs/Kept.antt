@@ -1,5 +1,5 @@
 -- The replicas of a page that are stored so far.
-use Rattle.std.proofs.Common.{◌≡◌, ℕ, ◌+◌, ◌≤◌, List, [], ◌∷◌, ◌++◌, length, arith, ◌∙◌, length-append}
+use Rattle.std.proofs.Common.{◌≡◌, ℕ, ◌+◌, ◌≤◌, List, [], ◌∷◌, ◌++◌, length, arith, sym, ◌∙◌, length-append}
 use Rattle.std.specs.Prelude.{Option, Some, None, IfSome, All}
 use Rattle.std.specs.Option.{option_map_or}
 use Rattle.std.proofs.lemmas.List.Elements.{All-push, All-nil}
@@ -34,3 +34,8 @@ kept_more houses bytes n None page new h a b nb np = record {
 pub kept_longer : (houses : List House) (bytes : List ℕ) (n : ℕ) (stored : Option Stored) → IfSome stored (KeptAs houses bytes n) → IfSome stored (KeptAs houses bytes (n + 1))
 kept_longer houses bytes n (Some s) h = record { bytes = h.bytes; here = h.here; few = omega (arith, h.few); some = h.some }
 kept_longer houses bytes n None h = tt
+
+-- what is kept so far stands for the same bytes
+pub same_bytes : (houses : List House) (bytes : List ℕ) (n : ℕ) (stored : Option Stored) (page : Page) → IfSome stored (KeptAs houses bytes n) → page.bytes ≡ bytes → IfSome stored (λ (s : Stored). s.bytes ≡ page.bytes)
+same_bytes houses bytes n (Some s) page h is = h.bytes ∙ sym is
+same_bytes houses bytes n None page h is = tt

@@ -2,6 +2,8 @@ pub mod Rises
 pub mod Standing
 pub mod Kept
 pub mod Answered
+pub mod Replies
+pub mod Trays
 pub mod Joined
 pub mod Gathered
 pub mod Answering

@@ -1,7 +1,7 @@
 -- Counts of several doors, where one is used.
-use Rattle.std.proofs.Common.{◌≡◌, ℕ, zero, suc, ◌+◌, ◌-◌, ◌<◌, ◌≤◌, ◌≢◌, List, [], ◌∷◌, ◌++◌, length, map, get_or, set, take, arith, length-set, sym, ap, ◌∙◌, refl}
-use Rattle.std.specs.Prelude.{sum_by, All}
-use Rattle.std.proofs.lemmas.List.{length-map, map-set, get_or-set_other, take_more}
+use Rattle.std.proofs.Common.{◌≡◌, ℕ, zero, suc, ◌+◌, ◌-◌, ◌<◌, ◌≤◌, ◌≢◌, List, [], ◌∷◌, ◌++◌, length, map, get_or, set, take, drop, arith, length-set, sym, ap, ◌∙◌, refl}
+use Rattle.std.specs.Prelude.{sum_by, All, Some, slice_get}
+use Rattle.std.proofs.lemmas.List.{length-map, map-set, get_or-set_other, take_more, take-append-le, take_all}
 use Rattle.std.proofs.lemmas.List.Elements.{All-nil}
 use Rattle.std.proofs.lemmas.List.Sums.{sum_by-cons}
 use Rattle.page_store.specs.Count.{HasRisen}
@@ -101,3 +101,43 @@ others_next places i d before mid now l so_far next = λ n other.
 pub sum_none : {D : Type 0} (f : D → ℕ) (xs : List D) → All (λ x. f x ≡ 0) xs → sum_by f xs ≡ 0
 sum_none f [] h = refl
 sum_none f (x ∷ xs) h = rw (sum_by-cons f x xs) (let first : f x ≡ 0 = h 0 x (omega arith) in let rest = sum_none f xs (λ k d l. h (suc k) d (omega arith)) in omega (arith, first, rest))
+
+-- what holds of all holds of all where one is replaced
+pub all_after_set : {X : Type 0} (P : X → Type 0) (xs : List X) (i : ℕ) (y : X) → All P xs → P y → All P (set xs i y)
+all_after_set P [] i y h new = h
+all_after_set P (x ∷ xs) zero y h new = all_cons P y xs new (λ k d l. h (suc k) d (omega arith))
+all_after_set P (x ∷ xs) (suc i) y h new = all_cons P x (set xs i y) (h 0 x (omega arith)) (all_after_set P xs i y (λ k d l. h (suc k) d (omega arith)) new)
+
+rises_each : {S : Type 0} (f : S → ℕ) (xs ys : List S) → length ys ≡ length xs → ((k : ℕ) (d : S) → k < length xs → f (get_or xs k d) ≤ f (get_or ys k d)) → (k : ℕ) → get_or (map f xs) k 0 ≤ get_or (map f ys) k 0
+rises_each f [] ys same h k = omega arith
+rises_each f (x ∷ xs) [] same h k = absurd (omega arith)
+rises_each f (x ∷ xs) (y ∷ ys) same h zero = h 0 x (omega arith)
+rises_each f (x ∷ xs) (y ∷ ys) same h (suc k) = rises_each f xs ys (omega arith) (λ j d l. h (suc j) d (omega arith)) k
+
+-- where the count of each fell not, none fell
+pub none_falls_each : {S : Type 0} (f : S → ℕ) (xs ys : List S) → length ys ≡ length xs → ((k : ℕ) (d : S) → k < length xs → f (get_or xs k d) ≤ f (get_or ys k d)) → NoneFell (map f xs) (map f ys)
+none_falls_each f xs ys same h = record {
+  same = length-map xs f ∙ (sym same ∙ sym (length-map ys f));
+  rises = rises_each f xs ys same h;
+}
+
+pub map_map : {X Y Z : Type 0} (f : Y → Z) (g : X → Y) (xs : List X) → map f (map g xs) ≡ map (λ x. f (g x)) xs
+map_map f g [] = refl
+map_map f g (x ∷ xs) = ap (λ l. f (g x) ∷ l) (map_map f g xs)
+
+-- a vector whose slice was written as a whole
+pub written_whole : {X : Type 0} (xs ys : List X) (n : ℕ) → length ys ≡ length xs → n ≡ length xs → take n (ys ++ drop (length ys) xs) ≡ ys
+written_whole xs ys n same len = take-append-le n ys (drop (length ys) xs) (omega (arith, same, len)) ∙ take_all n ys (omega (arith, same, len))
+
+pub all_of_map : {X Y : Type 0} (P : Y → Type 0) (f : X → Y) (xs : List X) → All (λ x. P (f x)) xs → All P (map f xs)
+all_of_map P f [] h = λ k d l. absurd (omega arith)
+all_of_map P f (x ∷ xs) h = all_cons P (f x) (map f xs) (h 0 x (omega arith)) (all_of_map P f xs (λ k d l. h (suc k) d (omega arith)))
+
+pub all_in_map : {X Y : Type 0} (P : Y → Type 0) (f : X → Y) (xs : List X) → All P (map f xs) → All (λ x. P (f x)) xs
+all_in_map P f [] h = λ k d l. absurd (omega arith)
+all_in_map P f (x ∷ xs) h = all_cons (λ z. P (f z)) x xs (h 0 (f x) (omega arith)) (all_in_map P f xs (λ k d l. h (suc k) d (omega arith)))
+
+pub get_within : {X : Type 0} (xs : List X) (i : ℕ) (x : X) → i < length xs → get_or xs i x ≡ x → slice_get xs i ≡ Some x
+get_within [] i x l e = absurd (omega arith)
+get_within (y ∷ ys) zero x l e = ap (λ z. Some z) e
+get_within (y ∷ ys) (suc i) x l e = get_within ys i x (omega arith) e

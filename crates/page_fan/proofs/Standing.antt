@@ -55,11 +55,11 @@ stands_at_next before mid now providers i places new place kept l at is h =
     rw (take_more providers i 0 l, e) (StandAt-here (RoseAt before now) (take i providers) (providers_of places) (get_or providers i 0) (StandAt-weaken (RoseAt before mid) (RoseAt before now) (still_risen before mid now kept) (take i providers) (providers_of places) h))
 
 -- the next provider's door failed
-pub stands_without_next : (before mid now : List ℕ) (providers : List ℕ) (i : ℕ) (places : List Place) → NoneFell before mid → NoneFell mid now → i < length providers
-    → RoseAt mid now (get_or providers i 0)
+pub stands_without_next : (before mid now : List ℕ) (providers : List ℕ) (i : ℕ) (places : List Place) → NoneFell mid now → i < length providers
+    → RoseAt before now (get_or providers i 0)
     → StandAt (RoseAt before mid) (take i providers) (providers_of places) → StandAt (RoseAt before now) (take (i + 1) providers) (providers_of places)
-stands_without_next before mid now providers i places so_far kept l rose h =
-    rw (take_more providers i 0 l) (StandAt-away (RoseAt before now) (take i providers) (providers_of places) (get_or providers i 0) (risen_since before mid now so_far (get_or providers i 0) rose)
+stands_without_next before mid now providers i places kept l rose h =
+    rw (take_more providers i 0 l) (StandAt-away (RoseAt before now) (take i providers) (providers_of places) (get_or providers i 0) rose
     (StandAt-weaken (RoseAt before mid) (RoseAt before now) (still_risen before mid now kept) (take i providers) (providers_of places) h))
 
 -- the pages that were stored before stay where they are

@@ -3,29 +3,29 @@ ghost use Rattle.std.specs.Prelude.{◌≡◌, ℕ, ◌+◌, ◌-◌, ◌^◌, �
 ghost use Rattle.std.specs.Borrow.{sem};
 ghost use Rattle.page_store.specs.House.{IsProvider};
 ghost use Rattle.page_store.specs.Page.{IsAmong};
-ghost use Rattle.page_store.specs.Answers.{IfStored, OnPutFailed, OnGot, OnGetFailed};
+ghost use Rattle.page_store.specs.Answers.{OnGot, OnGetFailed};
 ghost use Rattle.page_fan.specs.Counts.{NoneFell, RoseAt, OthersStay};
 
-use page_store::{Door, DoorMaker, GetAnswer, Houses, MAX_PAGE, NoMemory, PageRef, PutAnswer};
+use crate::stand::Stand;
+use page_store::{Door, DoorMaker, GetAnswer, Houses, NoMemory, PageRef};
 use std::alloc::Global;
 use std::marker::Model;
-use std::sync::Wait;
 
 /// One door to each of the providers, 1 to the number of doors.
 #[derive(Drop)]
 pub struct Doors<D> {
-    doors: Vec<D>,
+    pub(crate) stands: Vec<Stand<D>>,
 }
 
 impl<D> Model for Doors<D> {
-    ghost use Rattle.std.specs.Prelude.{List};
+    ghost use Rattle.std.specs.Prelude.{List, map};
     ghost use Rattle.std.specs.Coded.{coded_list};
 
     ghost Value = { List D };
 
     ghost coded = { coded_list D.code };
 
-    ghost view = { λ d. d.doors.items };
+    ghost view = { λ d. map (λ s. s.door) d.stands.items };
 }
 
 impl<D: Door> Doors<D> {
@@ -46,17 +46,17 @@ impl<D: Door> Doors<D> {
         ensures truth_stays { M.is_true maker.old ↔ M.is_true maker.new }
         ensures plan_stays { (n : ℕ) (door : _) → M.makes maker.old n door ↔ M.makes maker.new n door }
     {
-        let mut doors = Vec::with_capacity(alloc, providers as usize)?;
+        let mut stands = Vec::with_capacity(alloc, providers as usize)?;
         for before in 0..providers {
             match maker.make(before + 1) {
-                Ok(door) => doors.push_reserved(door),
+                Ok(door) => stands.push_reserved(Stand::new(alloc, door)),
                 Err(NoMemory) => {
-                    Doors { doors }.back(maker);
+                    Doors { stands }.back(maker);
                     return Err(NoMemory);
                 }
             }
         }
-        Ok(Doors { doors })
+        Ok(Doors { stands })
     }
 
     /// Hands each door back to the maker, which adds the doors' counts to its own. It takes no memory.
@@ -66,11 +66,11 @@ impl<D: Door> Doors<D> {
         ensures truth_stays { M.is_true maker.old ↔ M.is_true maker.new }
         ensures plan_stays { (n : ℕ) (door : _) → M.makes maker.old n door ↔ M.makes maker.new n door }
     {
-        let Doors { mut doors } = self;
-        while let Some(door) = doors.pop() {
-            maker.back(door);
+        let Doors { mut stands } = self;
+        while let Some(stand) = stands.pop() {
+            maker.back(stand.into_door());
         }
-        doors.destroy_empty();
+        stands.destroy_empty();
     }
 
     /// The door to the provider.
@@ -80,32 +80,7 @@ impl<D: Door> Doors<D> {
         ensures this { slice_get self.old (provider - 1) ≡ Some result.now }
     {
         let place = provider as usize - 1;
-        &mut self.doors[place]
-    }
-
-    // Puts the bytes at the provider, by its door.
-    pub(crate) fn put<R: Wait>(
-        &mut self,
-        rt: &R,
-        houses: &Houses,
-        provider: u32,
-        bytes: &[u8],
-    ) -> PutAnswer
-        requires door { IsProvider (length self.old) provider }
-        requires house { IsProvider (length houses.now) provider }
-        requires some { 1 ≤ length bytes.now }
-        requires small { length bytes.now ≤ MAX_PAGE }
-        ensures here { IfStored result (λ page. IsAmong houses.now page.place) }
-        ensures provider { IfStored result (λ page. page.place.provider ≡ provider) }
-        ensures bytes { IfStored result (λ page. page.bytes ≡ bytes.now) }
-        ensures failed { OnPutFailed result (RoseAt (map D.faults self.old) (map D.faults self.new) provider) }
-        ensures none_fell { NoneFell (map D.faults self.old) (map D.faults self.new) }
-        ensures count { length self.new ≡ length self.old }
-        ensures truth_stays { All D.is_true self.old → All D.is_true self.new }
-    {
-        let house = houses.house(provider);
-        let door = &mut self.doors[provider as usize - 1];
-        door.put(rt, house, bytes)
+        &mut self.stands[place].door
     }
 
     // Gets the page's bytes from byte `from` on, by the door to its provider.
@@ -128,7 +103,7 @@ impl<D: Door> Doors<D> {
     {
         let provider = page.provider();
         let house = houses.house(provider);
-        let door = &mut self.doors[provider as usize - 1];
-        door.get(house, page, from, out)
+        let stand = &mut self.stands[provider as usize - 1];
+        stand.door.get(house, page, from, out)
     }
 }

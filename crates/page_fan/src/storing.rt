@@ -1,5 +1,5 @@
 // A buffer is cut into pages, and each page is put at its placed providers.
-ghost use Rattle.std.specs.Prelude.{◌≡◌, ◌+◌, ◌*◌, ◌<◌, ◌≤◌, length, IfOk, IfErr, IfSome, MatchOption, IsSome, All, Some, None, map, sum_by, [], ◌∷◌, ◌++◌, slice_index_or};
+ghost use Rattle.std.specs.Prelude.{◌≡◌, ℕ, ◌+◌, ◌*◌, ◌<◌, ◌≤◌, List, length, IfOk, IfErr, IfSome, MatchOption, IsSome, All, Some, None, map, sum_by, [], ◌∷◌, ◌++◌, slice_index_or};
 ghost use Rattle.std.specs.Option.{option_map_or};
 ghost use Rattle.page_store.specs.Count.{HasRisen};
 ghost use Rattle.page_store.specs.House.{IsProvider};
@@ -10,11 +10,13 @@ ghost use Rattle.page_fan.specs.Counts.{NoneFell};
 ghost use Rattle.page_fan.specs.Replicas.{AreReplicated};
 ghost use Rattle.page_fan.specs.Fault.{OnPageFault, FirstFailed};
 
-use crate::cutting::page_bytes;
+use crate::beside::BesideDoor;
 use crate::doors::Doors;
-use page_store::{Door, Houses, MAX_PAGE, NoMemory, PageRef, Pages, PutAnswer, StoredPage};
+use crate::joining::join_pages;
+use crate::listing::list_puts;
+use crate::stand::Stand;
+use page_store::{Houses, NoMemory, Pages, StoredPage};
 use provider_manager::Placements;
-use replica_place::Placement;
 use std::alloc::Global;
 use std::collections::VecDeque;
 use std::sync::Wait;
@@ -37,7 +39,7 @@ pub enum StoreFault {
 ///
 /// A page that one or more of its doors took is stored. Each page is put, also where one before it was lost. It may wait for another
 /// thread's push into a house.
-pub fn store<D: Door, R: Threads + Wait + Sync>(
+pub fn store<D: BesideDoor, R: Threads + Wait + Sync>(
     rt: &R,
     alloc: Global,
     doors: &mut Doors<D>,
@@ -112,7 +114,7 @@ fn gather(mut pages: Pages, answer: Vec<Option<StoredPage>>) -> Pages
 }
 
 // Puts each page at the providers of its placement, and answers which of them were stored.
-fn put_pages<D: Door, R: Wait>(
+fn put_pages<D: BesideDoor, R: Threads + Wait + Sync>(
     rt: &R,
     alloc: Global,
     doors: &mut Doors<D>,
@@ -129,60 +131,31 @@ fn put_pages<D: Door, R: Wait>(
     ensures count { length doors.new ≡ length doors.old }
     ensures truth_stays { All D.is_true doors.old → All D.is_true doors.new }
 {
-    let page_size = p.bytes() as usize;
-    let mut answer = Vec::with_capacity(alloc, placements.count() as usize)?;
-    let mut at = 0;
-    let mut i = 0;
-    while at < buffer.len() {
-        let bytes = page_bytes(buffer, at, page_size);
-        answer.push_reserved(put_page(rt, doors, houses, placements.of(i), bytes)?);
-        at += page_size;
-        i += 1;
-    }
-    Ok(answer)
+    let stands = doors.stands.as_mut_slice();
+    put_in_groups(rt, alloc, stands, houses, p, buffer, placements)
 }
 
-// Puts one page at each of the providers that were chosen for it, in order.
-fn put_page<D: Door, R: Wait>(
+// The same, where the groups of the providers are put beside each other. What takes memory comes before the first put.
+fn put_in_groups<D: BesideDoor, R: Threads + Wait + Sync>(
     rt: &R,
-    doors: &mut Doors<D>,
+    alloc: Global,
+    stands: &mut [Stand<D>],
     houses: &Houses,
-    placement: &Placement,
-    bytes: &[u8],
-) -> Result<Option<StoredPage>, NoMemory>
-    requires housed { length doors.old ≤ length houses.now }
-    requires served { All (IsProvider (length doors.old)) (chosen placement.now) }
-    requires some { 1 ≤ length bytes.now }
-    requires small { length bytes.now ≤ MAX_PAGE }
-    ensures answered { IfOk result (IsPageAnswer houses.now bytes.now (chosen placement.now) (map D.faults doors.old) (map D.faults doors.new)) }
-    ensures none_fell { NoneFell (map D.faults doors.old) (map D.faults doors.new) }
-    ensures count { length doors.new ≡ length doors.old }
-    ensures truth_stays { All D.is_true doors.old → All D.is_true doors.new }
+    p: PageSize,
+    buffer: &[u8],
+    placements: &Placements,
+) -> Result<Vec<Option<StoredPage>>, NoMemory>
+    ghost before: { List ℕ }
+    requires before { before ≡ map (λ s. D.faults s.door) stands.old }
+    requires enough { length buffer.now ≤ length placements.now * p }
+    requires housed { length stands.old ≤ length houses.now }
+    requires served { All (All (IsProvider (length stands.old))) placements.now }
+    ensures answered { IfOk result (λ answer. AreAnswered houses.now p buffer.now placements.now before (map (λ s. D.faults s.door) stands.new) answer.items) }
+    ensures none_fell { NoneFell (map (λ s. D.faults s.door) stands.old) (map (λ s. D.faults s.door) stands.new) }
+    ensures truth_stays { All (λ s. D.is_true s.door) stands.old → All (λ s. D.is_true s.door) stands.new }
 {
-    let mut stored: Option<StoredPage> = None;
-    let providers = &placement.providers[..placement.count as usize];
-    for provider in providers {
-        match doors.put(rt, houses, *provider, bytes) {
-            PutAnswer::Stored(page) => stored = Some(with_replica(stored, page)),
-            PutAnswer::Failed => {}
-            PutAnswer::NoMemory => return Err(NoMemory),
-        }
-    }
-    Ok(stored)
-}
-
-// The page with one replica more.
-fn with_replica(stored: Option<StoredPage>, page: PageRef) -> StoredPage
-    requires same { IfSome stored (λ s. s.bytes ≡ page.bytes) }
-    requires room { IfSome stored (λ s. length s.places < 8) }
-    ensures bytes { result.bytes ≡ page.bytes }
-    ensures places { result.places ≡ option_map_or (λ s. s.places) stored [] ++ page.place ∷ [] }
-{
-    match stored {
-        None => StoredPage::of(page),
-        Some(mut replicas) => {
-            replicas.add(page);
-            replicas
-        }
-    }
+    let puts = list_puts(alloc, p, buffer, placements)?;
+    let answer = Vec::with_capacity(alloc, placements.count() as usize)?;
+    D::put_groups(rt, stands, houses, p, buffer, puts.as_slice());
+    join_pages(rt, stands, houses, p, buffer, placements, answer)
 }

@@ -3,7 +3,7 @@ ghost use Rattle.std.specs.Prelude.{◌≡◌, ◌*◌, ◌≤◌, ◌<◌, leng
 ghost use Rattle.page_store.specs.House.{IsProvider};
 ghost use Rattle.page_store.specs.Stored.{LieAmong};
 
-use page_fan::{Doors, StoreFault, fetch, store};
+use page_fan::{BesideDoor, Doors, StoreFault, fetch, store};
 use page_store::{Door, DoorMaker, FlakyMaker, Houses, NoMemory, Pages, PlainMaker, StoredPage};
 use provider_manager::{LoadBook, Placements};
 use std::alloc::Global;
@@ -42,7 +42,7 @@ fn placed(alloc: Global, pages: u32) -> Result<Placements, Fail>
     Ok(placed)
 }
 
-fn store_at<D: Door, R: Threads + Wait + Sync>(
+fn store_at<D: BesideDoor, R: Threads + Wait + Sync>(
     rt: &R,
     alloc: Global,
     doors: &mut Doors<D>,
@@ -64,7 +64,7 @@ fn store_at<D: Door, R: Threads + Wait + Sync>(
 }
 
 // The pages of a buffer that must be stored.
-fn store_whole<D: Door, R: Threads + Wait + Sync>(
+fn store_whole<D: BesideDoor, R: Threads + Wait + Sync>(
     rt: &R,
     alloc: Global,
     doors: &mut Doors<D>,
@@ -87,7 +87,7 @@ fn store_whole<D: Door, R: Threads + Wait + Sync>(
 }
 
 // Stores six bytes in pages of four: the first goes to the providers 1 and 2, the second to 3 and 1.
-fn store_six<D: Door, R: Threads + Wait + Sync>(
+fn store_six<D: BesideDoor, R: Threads + Wait + Sync>(
     rt: &R,
     alloc: Global,
     doors: &mut Doors<D>,

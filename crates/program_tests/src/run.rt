@@ -1,6 +1,7 @@
 ghost use Rattle.std.specs.Prelude.{◌≡◌, ◌≤◌, length};
 
 use blobseer_run::run;
+use page_fan::BesideDoor;
 use page_store::{DoorMaker, FlakyMaker, PlainMaker};
 use ports::gate::FreeGate;
 use ports::mem_files::MemFiles;
@@ -126,7 +127,7 @@ fn run_words<R: Wait + Threads + Sync, M: DoorMaker>(
     doors: &mut M,
 ) -> Result<Ran, Fail>
 where
-    M::Door: Drop + Send,
+    M::Door: BesideDoor + Drop + Send,
     requires { M.is_true doors.old }
 {
     let words = words_of(alloc, line)?;

@@ -4,8 +4,8 @@ ghost use Rattle.client_session.specs.Sessions.{IsOwnerOf};
 
 use blob_model::Limits;
 use client_session::{Owner, Session, Shared};
-use page_fan::Doors;
-use page_store::{Door, DoorMaker};
+use page_fan::{BesideDoor, Doors};
+use page_store::DoorMaker;
 use ports::gate::{FreeGate, Gate};
 use ports::memory::{MemSink, MemSource};
 use ports::pair::Pair;
@@ -36,7 +36,7 @@ pub(crate) fn store_of(alloc: Global, page_size: u64) -> Result<(Shared, Owner),
 }
 
 // A new session of a store, with the next pass of its owner.
-pub(crate) fn session_of<'a, D: Door + Drop, M: DoorMaker<Door = D>, G: Gate>(
+pub(crate) fn session_of<'a, D: BesideDoor + Drop, M: DoorMaker<Door = D>, G: Gate>(
     alloc: Global,
     shared: &'a Shared,
     owner: &mut Owner,
@@ -57,13 +57,11 @@ pub(crate) fn session_of<'a, D: Door + Drop, M: DoorMaker<Door = D>, G: Gate>(
 }
 
 // The replies of the only session of a new store to a script.
-pub(crate) fn said_to_script<D: Door + Drop, M: DoorMaker<Door = D>, R: Wait + Threads + Sync>(
-    rt: &R,
-    alloc: Global,
-    page_size: u64,
-    maker: &mut M,
-    script: &str,
-) -> Result<Vec<u8>, Fail>
+pub(crate) fn said_to_script<
+    D: BesideDoor + Drop,
+    M: DoorMaker<Door = D>,
+    R: Wait + Threads + Sync,
+>(rt: &R, alloc: Global, page_size: u64, maker: &mut M, script: &str) -> Result<Vec<u8>, Fail>
     requires { M.is_true maker.old }
 {
     let (shared, mut owner) = store_of(alloc, page_size)?;

@@ -4,6 +4,7 @@ ghost use Rattle.std.specs.Prelude.{◌≡◌};
 
 use blob_model::Bytes;
 use blobseer_run::run;
+use page_fan::BesideDoor;
 use page_store::{DoorMaker, PlainMaker};
 use ports::gate::FreeGate;
 use ports::mem_files::MemFiles;
@@ -60,7 +61,7 @@ pub fn run_over<R: Wait + Threads + Sync, M: DoorMaker>(
     doors: &mut M,
 ) -> Result<Ran, Fail>
 where
-    M::Door: Drop + Send,
+    M::Door: BesideDoor + Drop + Send,
     requires { M.is_true doors.old }
 {
     let words = words_of(alloc, line)?;

@@ -12,6 +12,7 @@ ghost use Rattle.workload_run.specs.Workers.{IsWorkable, AreWorkable, AreReady, 
 
 use crate::working::work;
 use client_session::{Owner, Session, Shared};
+use page_fan::BesideDoor;
 use page_store::{Door, DoorMaker};
 use ports::gate::Gate;
 use request_form::{Fault, NoMemory};
@@ -41,7 +42,7 @@ impl<'a, D: Door, G: Gate> Model for Worker<'a, D, G> {
 }
 
 // A worker does its work, and keeps how it ended.
-fn run_worker<R: Threads + Wait + Sync, D: Door, G: Gate>(
+fn run_worker<R: Threads + Wait + Sync, D: BesideDoor, G: Gate>(
     rt: &R,
     plan: &LoadPlan,
     worker: &mut Worker<'_, D, G>,
@@ -54,7 +55,7 @@ fn run_worker<R: Threads + Wait + Sync, D: Door, G: Gate>(
 }
 
 // All workers, each in a thread of its own where one can be made.
-fn run_beside<R: Threads + Wait + Sync, D: Door + Send, G: Gate + Sync>(
+fn run_beside<R: Threads + Wait + Sync, D: BesideDoor + Send, G: Gate + Sync>(
     rt: &R,
     plan: &LoadPlan,
     workers: &mut [Worker<'_, D, G>],
@@ -75,7 +76,7 @@ fn run_beside<R: Threads + Wait + Sync, D: Door + Send, G: Gate + Sync>(
 }
 
 // The same of workers that are handed over and come back.
-fn run_all<'a, R: Threads + Wait + Sync, D: Door + Send, G: Gate + Sync>(
+fn run_all<'a, R: Threads + Wait + Sync, D: BesideDoor + Send, G: Gate + Sync>(
     rt: &R,
     plan: &LoadPlan,
     mut workers: Vec<Worker<'a, D, G>>,
@@ -178,7 +179,7 @@ pub(crate) fn work_all<R: Threads + Wait + Sync, M: DoorMaker, G: Gate + Sync>(
     plan: &LoadPlan,
 ) -> Result<(), Fault>
 where
-    M::Door: Drop + Send,
+    M::Door: BesideDoor + Drop + Send,
     requires sized { IsSized plan.now }
     requires owner { IsOwnerOf shared.now owner.old }
     requires limits { shared.now.fixed.limits ≡ greatest }

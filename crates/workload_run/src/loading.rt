@@ -15,6 +15,7 @@ use crate::crew::work_all;
 use crate::looking::look_back;
 use crate::starting::open_store;
 use client_session::{Owner, Shared};
+use page_fan::BesideDoor;
 use page_store::DoorMaker;
 use ports::gate::Gate;
 use request_form::Fault;
@@ -56,7 +57,7 @@ fn run_load<R: Threads + Wait + Sync, M: DoorMaker, G: Gate + Sync>(
     plan: &LoadPlan,
 ) -> Result<Summary, Fault>
 where
-    M::Door: Drop + Send,
+    M::Door: BesideDoor + Drop + Send,
     requires sized { IsSized plan.now }
     requires owner { IsOwnerOf shared.now owner.old }
     requires limits { shared.now.fixed.limits ≡ greatest }
@@ -108,7 +109,7 @@ pub fn load<R: Threads + Wait + Sync, M: DoorMaker, G: Gate + Sync>(
     plan: LoadPlan,
 ) -> Result<(Summary, Desk), LoadFault>
 where
-    M::Door: Drop + Send,
+    M::Door: BesideDoor + Drop + Send,
     requires sized { IsSized plan }
     requires owner { IsOwnerOf shared owner }
     requires limits { shared.fixed.limits ≡ greatest }

@@ -12,6 +12,7 @@ use crate::updating::update;
 use crate::working::GRID;
 use blob_model::Place;
 use client_session::Session;
+use page_fan::BesideDoor;
 use page_store::Door;
 use ports::gate::Gate;
 use request_form::Fault;
@@ -39,7 +40,7 @@ fn make_blob<R: Wait, D: Door, G: Gate>(
 
 /// Makes the log and the grid, and fills the grid with zeros, by the first session of a store. Where one of these isn't done the
 /// session hangs up.
-pub(crate) fn open_blobs<R: Threads + Wait + Sync, D: Door, G: Gate>(
+pub(crate) fn open_blobs<R: Threads + Wait + Sync, D: BesideDoor, G: Gate>(
     rt: &R,
     session: &mut Session<'_, D, G>,
     plan: &LoadPlan,

@@ -9,6 +9,7 @@ ghost use Rattle.workload_run.specs.Stages.{OpensAs};
 
 use crate::opening::open_blobs;
 use client_session::{Owner, Shared};
+use page_fan::BesideDoor;
 use page_store::DoorMaker;
 use ports::gate::Gate;
 use request_form::Fault;
@@ -30,6 +31,8 @@ pub(crate) fn open_store<R: Threads + Wait + Sync, M: DoorMaker, G: Gate>(
     gate: &G,
     plan: &LoadPlan,
 ) -> Result<(), Fault>
+where
+    M::Door: BesideDoor,
     requires sync { IsSync R.row }
     requires sized { IsSized plan.now }
     requires owner { IsOwnerOf shared.now owner.old }

@@ -11,6 +11,7 @@ ghost use Rattle.workload_run.specs.Updates.{is_full as is_full_of, IsOneUpdate,
 
 use blob_model::{Outcome, Place};
 use client_session::{Done, Session};
+use page_fan::BesideDoor;
 use page_store::Door;
 use ports::gate::Gate;
 use request_form::Fault;
@@ -26,7 +27,7 @@ fn is_full(told: &Result<Done, Fault>) -> bool
 }
 
 // Does an update once.
-fn update_once<R: Threads + Wait + Sync, D: Door, G: Gate>(
+fn update_once<R: Threads + Wait + Sync, D: BesideDoor, G: Gate>(
     rt: &R,
     session: &mut Session<'_, D, G>,
     blob: u64,
@@ -64,7 +65,7 @@ fn wait_for_room<R: Wait, D: Door, G: Gate>(rt: &R, session: &mut Session<'_, D,
 }
 
 // Does an update, again and again while too many updates of its blob wait.
-fn update_when_room<R: Threads + Wait + Sync, D: Door, G: Gate>(
+fn update_when_room<R: Threads + Wait + Sync, D: BesideDoor, G: Gate>(
     rt: &R,
     session: &mut Session<'_, D, G>,
     blob: u64,
@@ -91,7 +92,7 @@ fn update_when_room<R: Threads + Wait + Sync, D: Door, G: Gate>(
 
 /// Does an update, again and again while too many updates of its blob wait. Where it is refused otherwise, or finds no memory,
 /// the session hangs up.
-pub(crate) fn update<R: Threads + Wait + Sync, D: Door, G: Gate>(
+pub(crate) fn update<R: Threads + Wait + Sync, D: BesideDoor, G: Gate>(
     rt: &R,
     session: &mut Session<'_, D, G>,
     blob: u64,

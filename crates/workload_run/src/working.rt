@@ -11,7 +11,7 @@ ghost use Rattle.workload_run.specs.Work.{IsOperation, Operated, IsFresh, WorkEn
 use crate::updating::update;
 use blob_model::Place;
 use client_session::Session;
-use page_store::Door;
+use page_fan::BesideDoor;
 use ports::gate::Gate;
 use request_form::Fault;
 use std::sync::Wait;
@@ -26,7 +26,7 @@ pub(crate) const LOG: u64 = 1;
 pub(crate) const GRID: u64 = 2;
 
 // Does an operation: appends its record, and then writes its cell. Where one of these isn't done, the session hangs up.
-fn operate<R: Threads + Wait + Sync, D: Door, G: Gate>(
+fn operate<R: Threads + Wait + Sync, D: BesideDoor, G: Gate>(
     rt: &R,
     session: &mut Session<'_, D, G>,
     plan: &LoadPlan,
@@ -58,7 +58,7 @@ fn operate<R: Threads + Wait + Sync, D: Door, G: Gate>(
 
 /// Does all operations of a worker, one after another, by a session that hasn't done anything yet. Where an update isn't done,
 /// and not as too many updates wait, the session hangs up and the worker stops.
-pub fn work<R: Threads + Wait + Sync, D: Door, G: Gate>(
+pub fn work<R: Threads + Wait + Sync, D: BesideDoor, G: Gate>(
     rt: &R,
     session: &mut Session<'_, D, G>,
     plan: &LoadPlan,

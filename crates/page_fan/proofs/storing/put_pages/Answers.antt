@@ -1,33 +1,59 @@
-use Rattle.std.proofs.Common.{arith, ℕ, ◌<◌, ◌*◌, length, map, ◌∙◌, []}
-use Rattle.std.specs.Prelude.{None, slice_index_or}
-use borrow.Author.Count.{below_more}
-use Rattle.page_fan.specs.Answer.{page_of, IsPageAnswer}
-use Rattle.page_fan.proofs.Answering.{answer_later, answer_since, each_more}
-use Rattle.page_fan.proofs.Rises.{none_fell_since}
+use Rattle.std.proofs.Common.{◌≡◌, ◌≤◌, ◌++◌, ℕ, arith, rules, ap, sym, ◌∙◌, length, map, take, drop}
+use Rattle.std.specs.Prelude.{All, IfOk}
+use Rattle.std.proofs.lemmas.List.{length-map}
+use Rattle.page_store.specs.House.{IsProvider}
+use Rattle.page_fan.specs.Answer.{AreAnswered}
+use Rattle.page_fan.specs.Counts.{NoneFell}
+use Rattle.page_fan.specs.declared.stand.Stand.{Stand}
+use Rattle.page_fan.proofs.Rises.{all_in_map, all_of_map, map_map, written_whole}
 use Rattle.page_fan.proofs.storing.put_pages.Goals as goal
 
-pub loop-at-preserved : goal.loop-at-preserved
-loop-at-preserved g c =
-    let counts = map g.D.Door.faults in
-    let before = counts c.args.doors.now in
-    let mid = counts c.loop-at.doors in
-    let now = counts c.put_page.new.doors in
-    let i = c.loop-at.invariant in
-    let p = c.put_page.ensures in
-    let size = c.bytes-page_size.result in
-    let houses = c.args.houses.now in
-    let buffer = c.args.buffer.now in
-    let answers = c.loop-at.answer.items in
-    let chosen = λ (k : ℕ). slice_index_or c.args.placements.now k [] in
-    let one = answer_since houses (page_of size buffer c.loop-at.i) (chosen c.loop-at.i) before mid now _ i.kept (rw (← i.place, ← c.of.ensures, ← c.page_bytes-bytes.ensures.bytes) c.in_ok-put_page.ensures.answered) in
-    record {
-      room = omega (arith, i.room, c.push_reserved.ensures.capacity);
-      counted = omega (arith, i.counted, c.push_reserved.ensures.len, c.loop-at.answer.ok.0);
-      place = omega (arith, i.place);
-      within = below_more (λ (k : ℕ). k * size < length buffer) c.loop-at.i i.within (rw (← i.place) c.loop-at-test.true);
-      each = rw c.push_reserved.ensures.items (each_more (λ k r. IsPageAnswer houses (page_of size buffer k) (chosen k) before now r) None answers c.in_ok-put_page.field-0
-          (λ k l. answer_later houses (page_of size buffer k) (chosen k) before mid now _ p.none_fell (i.each k l)) (rw i.counted one));
-      kept = none_fell_since before mid now i.kept p.none_fell;
-      truth = λ t. p.truth_stays (i.truth t);
-      count = p.count ∙ i.count;
-    }
+pub put_in_groups-requires-sync-R : goal.put_in_groups-requires-sync-R
+put_in_groups-requires-sync-R g c κs within =
+    let door : Stand g.row.D.Denot → g.row.D.Denot = λ s. s.door in
+    let was = c.as_mut_slice-stands.result.now in
+    let same : length was ≡ length c.args.doors.now = ap length c.as_mut_slice-stands.ensures.value ∙ (sym (length-map c.doors.inside.stands.items door) ∙ ap length c.doors.view_is) in
+    let housed : length was ≤ length c.args.houses.now = omega (arith, same, c.requires.housed) in
+    let served : All (All (IsProvider (length was))) c.args.placements.now = rw same c.requires.served in
+    search rules
+
+pub returns-clause-answered : goal.returns-clause-answered
+returns-clause-answered g c =
+    let door : Stand g.row.D.Denot → g.row.D.Denot = λ s. s.door in
+    let faults : Stand g.row.D.Denot → ℕ = λ s. g.D.Door.faults s.door in
+    let items = c.doors.inside.stands.items in
+    let was = c.as_mut_slice-stands.result.now in
+    let now = c.put_in_groups.new.stands in
+    let value : was ≡ items = c.as_mut_slice-stands.ensures.value in
+    let written : take c.doors.inside.stands.len (now ++ drop (length now) items) ≡ now = written_whole items now c.doors.inside.stands.len (c.put_in_groups.auto.stands ∙ ap length value) c.doors.inside.stands.ok.0 in
+    let old_counts : map g.D.Door.faults c.args.doors.now ≡ map faults was = ap (map g.D.Door.faults) (sym c.doors.view_is) ∙ (map_map g.D.Door.faults door items ∙ ap (map faults) (sym value)) in
+    let answered : IfOk c.put_in_groups.result (λ answer. AreAnswered c.args.houses.now c.args.p c.args.buffer.now c.args.placements.now (map g.D.Door.faults c.args.doors.now) (map g.D.Door.faults (map door (take c.doors.inside.stands.len (now ++ drop (length now) items)))) answer.items) =
+    rw (old_counts, written, map_map g.D.Door.faults door now) c.put_in_groups.ensures.answered in
+    answered
+
+pub returns-clause-none_fell : goal.returns-clause-none_fell
+returns-clause-none_fell g c =
+    let door : Stand g.row.D.Denot → g.row.D.Denot = λ s. s.door in
+    let faults : Stand g.row.D.Denot → ℕ = λ s. g.D.Door.faults s.door in
+    let items = c.doors.inside.stands.items in
+    let was = c.as_mut_slice-stands.result.now in
+    let now = c.put_in_groups.new.stands in
+    let value : was ≡ items = c.as_mut_slice-stands.ensures.value in
+    let written : take c.doors.inside.stands.len (now ++ drop (length now) items) ≡ now = written_whole items now c.doors.inside.stands.len (c.put_in_groups.auto.stands ∙ ap length value) c.doors.inside.stands.ok.0 in
+    let old_counts : map g.D.Door.faults c.args.doors.now ≡ map faults was = ap (map g.D.Door.faults) (sym c.doors.view_is) ∙ (map_map g.D.Door.faults door items ∙ ap (map faults) (sym value)) in
+    let fell : NoneFell (map g.D.Door.faults c.args.doors.now) (map g.D.Door.faults (map door (take c.doors.inside.stands.len (now ++ drop (length now) items)))) =
+    rw (old_counts, written, map_map g.D.Door.faults door now) c.put_in_groups.ensures.none_fell in
+    fell
+
+pub returns-clause-truth_stays : goal.returns-clause-truth_stays
+returns-clause-truth_stays g c = λ t.
+    let door : Stand g.row.D.Denot → g.row.D.Denot = λ s. s.door in
+    let items = c.doors.inside.stands.items in
+    let was = c.as_mut_slice-stands.result.now in
+    let now = c.put_in_groups.new.stands in
+    let value : was ≡ items = c.as_mut_slice-stands.ensures.value in
+    let written : take c.doors.inside.stands.len (now ++ drop (length now) items) ≡ now = written_whole items now c.doors.inside.stands.len (c.put_in_groups.auto.stands ∙ ap length value) c.doors.inside.stands.ok.0 in
+    let old : All g.D.Door.is_true (map door was) = rw (value, c.doors.view_is) t in
+    let new : All g.D.Door.is_true (map door (take c.doors.inside.stands.len (now ++ drop (length now) items))) =
+    rw written (all_of_map g.D.Door.is_true door now (c.put_in_groups.ensures.truth_stays (all_in_map g.D.Door.is_true door was old))) in
+    new

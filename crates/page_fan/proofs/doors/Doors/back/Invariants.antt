@@ -1,19 +1,19 @@
-use Rattle.std.proofs.Common.{◌≡◌, ◌+◌, ◌-◌, ◌^◌, ◌≤◌, ℕ, vec_len}
+use Rattle.std.proofs.Common.{◌≡◌, ◌+◌, ◌-◌, ◌^◌, ◌≤◌, ℕ, vec_len, map}
 use Rattle.std.specs.Prelude.{min, sum_by, ◌↔◌}
 use Rattle.page_fan.proofs.doors.Doors.back.Given as goal
 
-abbrev pub invariant-loop-door : goal.invariant-loop-door
-invariant-loop-door g l =
+abbrev pub invariant-loop-stand : goal.invariant-loop-stand
+invariant-loop-stand g l =
     let faults = g.M.DoorMaker.faults in
     let each = g.D.Door.faults in
     let is_true = g.M.DoorMaker.is_true in
     record {
-      adds : faults l.fn.maker ≤ 2 ^ 64 - 1 → min (faults l.maker + sum_by each l.doors.items) (2 ^ 64 - 1) ≡ min (faults l.fn.maker + sum_by each l.initial.doors.items) (2 ^ 64 - 1);
+      adds : faults l.fn.maker ≤ 2 ^ 64 - 1 → min (faults l.maker + sum_by each (map (λ s. s.door) l.stands.items)) (2 ^ 64 - 1) ≡ min (faults l.fn.maker + sum_by each (map (λ s. s.door) l.initial.stands.items)) (2 ^ 64 - 1);
       bounded : faults l.fn.maker ≤ 2 ^ 64 - 1 → faults l.maker ≤ 2 ^ 64 - 1;
-      rises : min (faults l.fn.maker + sum_by each l.initial.doors.items) (2 ^ 64 - 1) ≤ faults l.maker + sum_by each l.doors.items;
+      rises : min (faults l.fn.maker + sum_by each (map (λ s. s.door) l.initial.stands.items)) (2 ^ 64 - 1) ≤ faults l.maker + sum_by each (map (λ s. s.door) l.stands.items);
       plan_stays : (n : ℕ) (door : _) → g.M.DoorMaker.makes l.fn.maker n door ↔ g.M.DoorMaker.makes l.maker n door;
       truth_stays : is_true l.fn.maker ↔ is_true l.maker;
     }
 
-abbrev pub decreases-loop-door : goal.decreases-loop-door
-decreases-loop-door g l = vec_len l.doors
+abbrev pub decreases-loop-stand : goal.decreases-loop-stand
+decreases-loop-stand g l = vec_len l.stands

@@ -1,20 +1,62 @@
-use Rattle.std.proofs.Common.{◌-◌, arith, length, ◌<◌}
-use Rattle.page_fan.proofs.Answered.{OnGetFailed-weaken}
-use Rattle.page_fan.proofs.Rises.{none_falls, others_stay, rises_at}
+use Rattle.std.proofs.Common.{◌≡◌, ◌-◌, ◌<◌, arith, length, map, get_or, ap, sym, ◌∙◌}
+use Rattle.std.proofs.lemmas.List.{get_or-map, length-map, map-set}
+use Rattle.page_fan.specs.declared.stand.Stand.{Stand}
+use Rattle.page_fan.proofs.Answered.{OnGetFailed-weaken, OnGot-given}
+use Rattle.page_fan.proofs.Rises.{all_after_set, none_falls, others_stay, rises_at}
 use Rattle.page_fan.proofs.doors.Doors.get.Goals as goal
 
 pub returns-clause-none_fell : goal.returns-clause-none_fell
-returns-clause-none_fell g c = rw (← c.self.view_is) (none_falls g.D.Door.faults c.self.inside.doors.items (c.provider-provider.result - 1) _ c.get.new.self c.index_mut-door.ensures.value c.get.ensures.never_falls)
+returns-clause-none_fell g c =
+    let door : Stand g.row.D.Denot → g.row.D.Denot = λ s. s.door in
+    let stands = c.self.inside.stands.items in
+    let served = rw (← c.self.view_is) at c.requires.served in
+    let same = c.provider-provider.ensures in
+    let place = c.provider-provider.result - 1 in
+    let within : place < length stands = omega (arith, same, served.0, served.1, length-map stands door) in
+    let here : c.index_mut-stand.result.now.door ≡ get_or (map door stands) place c.index_mut-stand.result.now.door = ap door c.index_mut-stand.ensures.value ∙ sym (get_or-map door stands place c.index_mut-stand.result.now _ within) in
+    rw (← c.self.view_is, map-set door stands place _) (none_falls g.D.Door.faults (map door stands) place _ c.get.new.self here c.get.ensures.never_falls)
 
 pub returns-clause-failed : goal.returns-clause-failed
 returns-clause-failed g c =
+    let door : Stand g.row.D.Denot → g.row.D.Denot = λ s. s.door in
+    let stands = c.self.inside.stands.items in
     let served = rw (← c.self.view_is) at c.requires.served in
     let same = c.provider-provider.ensures in
-    let within : c.provider-provider.result - 1 < length c.self.inside.doors.items = omega (arith, same, served.0, served.1) in
-    rw (← c.self.view_is, ← same) (OnGetFailed-weaken _ _ (rises_at g.D.Door.faults c.self.inside.doors.items (c.provider-provider.result - 1) _ c.get.new.self within c.index_mut-door.ensures.value) c.get.result c.get.ensures.failed)
+    let place = c.provider-provider.result - 1 in
+    let within : place < length stands = omega (arith, same, served.0, served.1, length-map stands door) in
+    let here : c.index_mut-stand.result.now.door ≡ get_or (map door stands) place c.index_mut-stand.result.now.door = ap door c.index_mut-stand.ensures.value ∙ sym (get_or-map door stands place c.index_mut-stand.result.now _ within) in
+    rw (← c.self.view_is, ← same, map-set door stands place _) (OnGetFailed-weaken _ _ (rises_at g.D.Door.faults (map door stands) place _ c.get.new.self (omega (arith, within, length-map stands door)) here) c.get.result c.get.ensures.failed)
 
 pub returns-clause-others : goal.returns-clause-others
 returns-clause-others g c =
+    let door : Stand g.row.D.Denot → g.row.D.Denot = λ s. s.door in
+    let stands = c.self.inside.stands.items in
     let served = rw (← c.self.view_is) at c.requires.served in
     let same = c.provider-provider.ensures in
-    rw (← c.self.view_is, same) (others_stay g.D.Door.faults c.self.inside.doors.items c.args.page.now.place c.get.new.self served.0)
+    rw (← c.self.view_is, same, map-set door stands (c.args.page.now.place.provider - 1) _) (others_stay g.D.Door.faults (map door stands) c.args.page.now.place c.get.new.self served.0)
+
+pub returns-clause-got : goal.returns-clause-got
+returns-clause-got g c = λ t.
+    let door : Stand g.row.D.Denot → g.row.D.Denot = λ s. s.door in
+    let stands = c.self.inside.stands.items in
+    let served = rw (← c.self.view_is) at c.requires.served in
+    let same = c.provider-provider.ensures in
+    let place = c.provider-provider.result - 1 in
+    let within : place < length stands = omega (arith, same, served.0, served.1, length-map stands door) in
+    let here : c.index_mut-stand.result.now.door ≡ get_or (map door stands) place c.index_mut-stand.result.now.door = ap door c.index_mut-stand.ensures.value ∙ sym (get_or-map door stands place c.index_mut-stand.result.now _ within) in
+    let all = rw (← c.self.view_is) at t in
+    let true_door : g.D.Door.is_true c.index_mut-stand.result.now.door = rw here (all place c.index_mut-stand.result.now.door (omega (arith, within, length-map stands door))) in
+    OnGot-given _ _ true_door c.get.result c.get.ensures.got
+
+pub returns-clause-truth_stays : goal.returns-clause-truth_stays
+returns-clause-truth_stays g c = λ t.
+    let door : Stand g.row.D.Denot → g.row.D.Denot = λ s. s.door in
+    let stands = c.self.inside.stands.items in
+    let served = rw (← c.self.view_is) at c.requires.served in
+    let same = c.provider-provider.ensures in
+    let place = c.provider-provider.result - 1 in
+    let within : place < length stands = omega (arith, same, served.0, served.1, length-map stands door) in
+    let here : c.index_mut-stand.result.now.door ≡ get_or (map door stands) place c.index_mut-stand.result.now.door = ap door c.index_mut-stand.ensures.value ∙ sym (get_or-map door stands place c.index_mut-stand.result.now _ within) in
+    let all = rw (← c.self.view_is) at t in
+    let true_door : g.D.Door.is_true c.index_mut-stand.result.now.door = rw here (all place c.index_mut-stand.result.now.door (omega (arith, within, length-map stands door))) in
+    rw (map-set door stands place _) (all_after_set g.D.Door.is_true (map door stands) place c.get.new.self all (c.get.ensures.truth_stays.0 true_door))

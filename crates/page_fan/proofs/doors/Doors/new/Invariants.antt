@@ -1,4 +1,4 @@
-use Rattle.std.proofs.Common.{◌≡◌, ℕ, ◌≤◌, vec_len}
+use Rattle.std.proofs.Common.{◌≡◌, ℕ, ◌≤◌, vec_len, map}
 use Rattle.std.specs.Prelude.{All, vec_capacity, ◌↔◌}
 use Rattle.page_fan.specs.Made.{AreMade}
 use Rattle.page_fan.proofs.doors.Doors.new.Given as goal
@@ -8,12 +8,12 @@ invariant-loop-before g l =
     let is_true = g.M.DoorMaker.is_true in
     let faults = g.M.DoorMaker.faults in
     record {
-      count : vec_len l.doors ≡ l.before;
-      room : l.providers ≤ vec_capacity l.doors;
-      true_doors : is_true l.fn.maker → All g.D.Door.is_true l.doors.items;
-      fresh : All (λ x. g.D.Door.faults x ≡ 0) l.doors.items;
+      count : vec_len l.stands ≡ l.before;
+      room : l.providers ≤ vec_capacity l.stands;
+      true_doors : is_true l.fn.maker → All g.D.Door.is_true (map (λ s. s.door) l.stands.items);
+      fresh : All (λ x. g.D.Door.faults x ≡ 0) (map (λ s. s.door) l.stands.items);
       count_stays : faults l.maker ≡ faults l.fn.maker;
-      each : AreMade (g.M.DoorMaker.makes l.fn.maker) l.doors.items;
+      each : AreMade (g.M.DoorMaker.makes l.fn.maker) (map (λ s. s.door) l.stands.items);
       plan_stays : (n : ℕ) (door : _) → g.M.DoorMaker.makes l.fn.maker n door ↔ g.M.DoorMaker.makes l.maker n door;
       truth_stays : is_true l.fn.maker ↔ is_true l.maker;
     }

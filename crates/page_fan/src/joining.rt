@@ -1,0 +1,121 @@
+// What the doors answered is joined, in the order of the pages and of their placements.
+ghost use Rattle.std.specs.Prelude.{◌≡◌, ℕ, ◌+◌, ◌-◌, ◌*◌, ◌^◌, ◌<◌, ◌≤◌, List, length, IfOk, IfSome, All, map, [], ◌∷◌, ◌++◌, take, drop, slice_index, slice_index_or, vec_capacity};
+ghost use Rattle.std.specs.Option.{option_map_or};
+ghost use Rattle.page_store.specs.House.{IsProvider};
+ghost use Rattle.replica_place.specs.Chosen.{chosen};
+ghost use Rattle.page_fan.specs.Answer.{AreAnswered, IsPageAnswer};
+ghost use Rattle.page_fan.specs.Counts.{NoneFell};
+ghost use Rattle.page_fan.specs.Groups.{CanBePut, IsAnswer, AllReplied};
+
+use crate::stand::{Put, Stand};
+use page_store::{Door, Houses, NoMemory, PageRef, PutAnswer, StoredPage};
+use provider_manager::Placements;
+use replica_place::Placement;
+use std::sync::Wait;
+use tree_geom::PageSize;
+
+// The answers to all pages of the buffer, in order. There is room for them.
+pub(crate) fn join_pages<D: Door, R: Wait>(
+    rt: &R,
+    stands: &mut [Stand<D>],
+    houses: &Houses,
+    p: PageSize,
+    buffer: &[u8],
+    placements: &Placements,
+    mut answer: Vec<Option<StoredPage>>,
+) -> Result<Vec<Option<StoredPage>>, NoMemory>
+    ghost before: { List ℕ }
+    requires fresh { answer.items ≡ [] }
+    requires room { length placements.now ≤ vec_capacity answer }
+    requires few { length placements.now < 2 ^ 32 }
+    requires enough { length buffer.now ≤ length placements.now * p }
+    requires housed { length stands.old ≤ length houses.now }
+    requires served { All (All (IsProvider (length stands.old))) placements.now }
+    requires replies { AllReplied houses.now p buffer.now before (map (λ s. D.faults s.door) stands.old) (map (λ s. s.tray.items) stands.old) }
+    ensures answered { IfOk result (λ answer. AreAnswered houses.now p buffer.now placements.now before (map (λ s. D.faults s.door) stands.new) answer.items) }
+    ensures none_fell { NoneFell (map (λ s. D.faults s.door) stands.old) (map (λ s. D.faults s.door) stands.new) }
+    ensures truth_stays { All (λ s. D.is_true s.door) stands.old → All (λ s. D.is_true s.door) stands.new }
+{
+    let page_size = p.bytes() as usize;
+    let mut at = 0;
+    let mut i = 0;
+    while at < buffer.len() {
+        answer.push_reserved(join_page(rt, stands, houses, p, buffer, placements.of(i), at)?);
+        at += page_size;
+        i += 1;
+    }
+    Ok(answer)
+}
+
+// The answer to the page that begins at byte `at`, by those of its doors, in the order of its placement.
+fn join_page<D: Door, R: Wait>(
+    rt: &R,
+    stands: &mut [Stand<D>],
+    houses: &Houses,
+    p: PageSize,
+    buffer: &[u8],
+    placement: &Placement,
+    at: usize,
+) -> Result<Option<StoredPage>, NoMemory>
+    ghost before: { List ℕ }
+    requires within { at < length buffer.now }
+    requires housed { length stands.old ≤ length houses.now }
+    requires served { All (IsProvider (length stands.old)) (chosen placement.now) }
+    requires replies { AllReplied houses.now p buffer.now before (map (λ s. D.faults s.door) stands.old) (map (λ s. s.tray.items) stands.old) }
+    ensures answered { IfOk result (IsPageAnswer houses.now (take p (drop at buffer.now)) (chosen placement.now) before (map (λ s. D.faults s.door) stands.new)) }
+    ensures replies { AllReplied houses.now p buffer.now before (map (λ s. D.faults s.door) stands.new) (map (λ s. s.tray.items) stands.new) }
+    ensures none_fell { NoneFell (map (λ s. D.faults s.door) stands.old) (map (λ s. D.faults s.door) stands.new) }
+    ensures truth_stays { All (λ s. D.is_true s.door) stands.old → All (λ s. D.is_true s.door) stands.new }
+{
+    let mut stored: Option<StoredPage> = None;
+    let providers = &placement.providers[..placement.count as usize];
+    for provider in providers {
+        let put = Put {
+            provider: *provider,
+            at,
+        };
+        match answer_at(rt, stands, houses, p, buffer, put) {
+            PutAnswer::Stored(page) => stored = Some(with_replica(stored, page)),
+            PutAnswer::Failed => {}
+            PutAnswer::NoMemory => return Err(NoMemory),
+        }
+    }
+    Ok(stored)
+}
+
+// The answer of the put's own door to it.
+fn answer_at<D: Door, R: Wait>(
+    rt: &R,
+    stands: &mut [Stand<D>],
+    houses: &Houses,
+    p: PageSize,
+    buffer: &[u8],
+    put: Put,
+) -> PutAnswer
+    requires within { put.at < length buffer.now }
+    requires housed { length stands.old ≤ length houses.now }
+    requires served { IsProvider (length stands.old) put.provider }
+    ensures answer { (before : List ℕ) → AllReplied houses.now p buffer.now before (map (λ s. D.faults s.door) stands.old) (map (λ s. s.tray.items) stands.old) → IsAnswer houses.now put.provider (take p (drop put.at buffer.now)) (slice_index before (put.provider - 1)) (slice_index (map (λ s. D.faults s.door) stands.new) (put.provider - 1)) result }
+    ensures replies { (before : List ℕ) → AllReplied houses.now p buffer.now before (map (λ s. D.faults s.door) stands.old) (map (λ s. s.tray.items) stands.old) → AllReplied houses.now p buffer.now before (map (λ s. D.faults s.door) stands.new) (map (λ s. s.tray.items) stands.new) }
+    ensures none_fell { NoneFell (map (λ s. D.faults s.door) stands.old) (map (λ s. D.faults s.door) stands.new) }
+    ensures truth_stays { All (λ s. D.is_true s.door) stands.old → All (λ s. D.is_true s.door) stands.new }
+{
+    let stand = &mut stands[put.provider as usize - 1];
+    stand.answer(rt, houses, p, buffer, put)
+}
+
+// The page with one replica more.
+fn with_replica(stored: Option<StoredPage>, page: PageRef) -> StoredPage
+    requires same { IfSome stored (λ s. s.bytes ≡ page.bytes) }
+    requires room { IfSome stored (λ s. length s.places < 8) }
+    ensures bytes { result.bytes ≡ page.bytes }
+    ensures places { result.places ≡ option_map_or (λ s. s.places) stored [] ++ page.place ∷ [] }
+{
+    match stored {
+        None => StoredPage::of(page),
+        Some(mut replicas) => {
+            replicas.add(page);
+            replicas
+        }
+    }
+}

@@ -1,0 +1,123 @@
+// A door beside what it answered to the puts of its own group.
+ghost use Rattle.std.specs.Prelude.{◌≡◌, ℕ, ◌+◌, ◌-◌, ◌≤◌, ◌↔◌, All, length, take, drop, [], slice_get};
+ghost use Rattle.page_store.specs.Answers.{IfStored, OnPutFailed};
+ghost use Rattle.page_store.specs.Count.{HasRisen};
+ghost use Rattle.page_store.specs.House.{IsProvider};
+ghost use Rattle.page_store.specs.Page.{IsAmong};
+ghost use Rattle.page_fan.specs.Groups.{CanBePut, IsAnswer, HasReplies};
+
+use crate::cutting::page_bytes;
+use page_store::{Door, Houses, MAX_PAGE, PutAnswer};
+use std::alloc::Global;
+use std::collections::VecDeque;
+use std::sync::Wait;
+use tree_geom::PageSize;
+
+/// A page of a buffer that is to be put at a provider. It begins at byte `at` of the buffer.
+#[derive(Clone, Copy, Debug, PartialEq, Eq)]
+pub struct Put {
+    pub provider: u32,
+    pub at: usize,
+}
+
+/// What a door answered to the put of the page that begins at byte `at` of the buffer.
+#[derive(Drop)]
+pub struct Reply {
+    pub at: usize,
+    pub answer: PutAnswer,
+}
+
+/// A door to one provider, and a tray for its replies. Each stand goes to one thread, with all that is written there.
+#[derive(Drop)]
+pub struct Stand<D> {
+    pub door: D,
+    pub tray: VecDeque<Reply>,
+}
+
+impl<D: Door> Stand<D> {
+    // A door with an empty tray.
+    pub(crate) fn new(alloc: Global, door: D) -> Stand<D>
+        ensures { result.door ≡ door }
+    {
+        Stand {
+            door,
+            tray: VecDeque::new(alloc),
+        }
+    }
+
+    // The door alone.
+    pub(crate) fn into_door(self) -> D
+        ensures { result ≡ self.door }
+    {
+        let Stand { door, tray: _tray } = self;
+        door
+    }
+
+    // Puts the pages of the door's own provider, in order, and leaves its replies in the tray: fewer where memory is refused.
+    // The stand's place, from 0, is one below the number of its provider.
+    pub(crate) fn put_group<R: Wait>(
+        &mut self,
+        rt: &R,
+        place: usize,
+        houses: &Houses,
+        p: PageSize,
+        buffer: &[u8],
+        puts: &[Put],
+    )
+        requires { All (CanBePut (length houses.now) buffer.now) puts.now }
+        ensures replies { HasReplies houses.now p buffer.now (place + 1) (D.faults self.old.door) (D.faults self.new.door) self.new.tray.items }
+        ensures truth_stays { D.is_true self.old.door ↔ D.is_true self.new.door }
+    {
+        self.tray.clear();
+        for put in puts {
+            if put.provider as usize - 1 == place {
+                let bytes = page_bytes(buffer, put.at, p.bytes() as usize);
+                let answer = self.put(rt, houses, put.provider, bytes);
+                if self.tray.push_back(Reply { at: put.at, answer }).is_err() {
+                    return;
+                }
+            }
+        }
+    }
+
+    // The answer to this put: the reply that waits for it in the tray, or, where there is none for want of memory, what the door
+    // answers now.
+    pub(crate) fn answer<R: Wait>(
+        &mut self,
+        rt: &R,
+        houses: &Houses,
+        p: PageSize,
+        buffer: &[u8],
+        put: Put,
+    ) -> PutAnswer
+        requires put { CanBePut (length houses.now) buffer.now put }
+        ensures answer { (before : ℕ) → HasReplies houses.now p buffer.now put.provider before (D.faults self.old.door) self.old.tray.items → IsAnswer houses.now put.provider (take p (drop put.at buffer.now)) before (D.faults self.new.door) result }
+        ensures replies { (before : ℕ) → HasReplies houses.now p buffer.now put.provider before (D.faults self.old.door) self.old.tray.items → HasReplies houses.now p buffer.now put.provider before (D.faults self.new.door) self.new.tray.items }
+        ensures never_falls { D.faults self.old.door ≤ D.faults self.new.door }
+        ensures truth_stays { D.is_true self.old.door ↔ D.is_true self.new.door }
+    {
+        match self.tray.pop_front() {
+            Some(reply) if reply.at == put.at => reply.answer,
+            _ => {
+                let bytes = page_bytes(buffer, put.at, p.bytes() as usize);
+                self.put(rt, houses, put.provider, bytes)
+            }
+        }
+    }
+
+    // Puts the bytes at the provider.
+    fn put<R: Wait>(&mut self, rt: &R, houses: &Houses, provider: u32, bytes: &[u8]) -> PutAnswer
+        requires house { IsProvider (length houses.now) provider }
+        requires some { 1 ≤ length bytes.now }
+        requires small { length bytes.now ≤ MAX_PAGE }
+        ensures here { IfStored result (λ page. IsAmong houses.now page.place) }
+        ensures there { IfStored result (λ page. page.place.provider ≡ provider) }
+        ensures bytes { IfStored result (λ page. page.bytes ≡ bytes.now) }
+        ensures failed { OnPutFailed result (HasRisen (D.faults self.old.door) (D.faults self.new.door)) }
+        ensures never_falls { D.faults self.old.door ≤ D.faults self.new.door }
+        ensures truth_stays { D.is_true self.old.door ↔ D.is_true self.new.door }
+        ensures tray { self.new.tray ≡ self.old.tray }
+    {
+        self.door.put(rt, houses.house(provider), bytes)
+    }
+}
