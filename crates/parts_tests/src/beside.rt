@@ -1,0 +1,121 @@
+//! Doors that are asked beside each other.
+use page_fan::{BesideDoor, Doors, Put, Stand, put_all_groups, store};
+use page_store::{Door, DoorMaker, GetAnswer, Houses, NoMemory, PageHouse, PageRef, PutAnswer};
+use provider_manager::LoadBook;
+use std::alloc::Global;
+use std::sync::Wait;
+use std::sync::atomic::{AtomicBool, Ordering};
+use std::test::Fail;
+use std::thread;
+use std::thread::Threads;
+use tree_geom::PageSize;
+
+// A door that raises its own flag in a put, and waits for the other's, for at most 1,000,000 turns.
+#[derive(Drop)]
+struct MeetingDoor<'a> {
+    own: &'a AtomicBool,
+    other: &'a AtomicBool,
+    faults: u64,
+}
+
+impl<'a> Door for MeetingDoor<'a> {
+    ghost use Rattle.std.specs.Prelude.{⊤};
+
+    ghost is_true = { λ _. ⊤ };
+
+    ghost faults = { λ d. d.faults };
+
+    fn put<R: Wait>(&mut self, rt: &R, house: &PageHouse, bytes: &[u8]) -> PutAnswer {
+        self.own.store(true, Ordering::SeqCst);
+        for _ in 0..1_000_000 {
+            if self.other.load(Ordering::SeqCst) {
+                return match house.put(rt, bytes) {
+                    Ok(page) => PutAnswer::Stored(page),
+                    Err(NoMemory) => PutAnswer::NoMemory,
+                };
+            }
+            thread::yield_now();
+        }
+        self.faults = self.faults.saturating_add(1);
+        PutAnswer::Failed
+    }
+
+    fn get(&mut self, house: &PageHouse, page: &PageRef, from: u32, out: &mut [u8]) -> GetAnswer {
+        house.copy_to(page, from, out);
+        GetAnswer::Got
+    }
+}
+
+impl<'a> BesideDoor for MeetingDoor<'a> {
+    fn put_groups<R: Threads + Wait + Sync>(
+        rt: &R,
+        stands: &mut [Stand<MeetingDoor<'a>>],
+        houses: &Houses,
+        p: PageSize,
+        buffer: &[u8],
+        puts: &[Put],
+    ) {
+        put_all_groups(rt, stands, houses, p, buffer, puts);
+    }
+}
+
+// Makes the two doors.
+#[derive(Drop)]
+struct MeetingMaker<'a> {
+    first: &'a AtomicBool,
+    second: &'a AtomicBool,
+    faults: u64,
+}
+
+impl<'a> DoorMaker for MeetingMaker<'a> {
+    ghost use Rattle.std.specs.Prelude.{⊤};
+
+    type Door = MeetingDoor<'a>;
+
+    ghost is_true = { λ _. ⊤ };
+
+    ghost faults = { λ m. m.faults };
+
+    ghost makes = { λ _ _ _. ⊤ };
+
+    fn make(&mut self, provider: u32) -> Result<MeetingDoor<'a>, NoMemory> {
+        let _faults = self.faults;
+        let (own, other) = if provider == 1 {
+            (self.first, self.second)
+        } else {
+            (self.second, self.first)
+        };
+        Ok(MeetingDoor {
+            own,
+            other,
+            faults: 0,
+        })
+    }
+
+    fn back(&mut self, door: MeetingDoor<'a>) {
+        self.faults = self.faults.saturating_add(door.faults);
+    }
+}
+
+#[test]
+fn two_doors_see_each_other(rt: HostRuntime) -> Result<(), Fail> {
+    let alloc: Global = rt.alloc();
+    let first = AtomicBool::new(false);
+    let second = AtomicBool::new(false);
+    let mut maker = MeetingMaker {
+        first: &first,
+        second: &second,
+        faults: 0,
+    };
+    let houses = Houses::new(alloc, 2)?;
+    let mut doors = Doors::new(alloc, &mut maker, 2)?;
+    let mut book = LoadBook::new(alloc, 2, 1)?;
+    let placements = book.place(alloc, 2)?;
+    let p = PageSize::new(65_536).ok_or("page size")?;
+    let bytes = vec![in alloc; 7u8; 131_072]?;
+    let stored = store(&rt, alloc, &mut doors, &houses, p, bytes.as_slice(), &placements);
+    assert_eq!(rt; stored.map(|pages| pages.count()).ok(), Some(2));
+    doors.back(&mut maker);
+    assert_eq!(rt; maker.faults, 0);
+    Ok(())
+}
