@@ -1,10 +1,9 @@
--- Lists of sessions that wait for a peer, what their doors have counted, and histories that go on.
-use Rattle.std.proofs.Common.{◌≡◌, ◌∙◌, ℕ, ◌+◌, ◌-◌, ◌^◌, ◌<◌, ◌≤◌, suc, min, List, [], ◌∷◌, ◌++◌, length, refl, ap, subst, arith, length-append, append_assoc}
+-- Lists of sessions that wait for a peer, and what their doors have counted.
+use Rattle.std.proofs.Common.{◌≡◌, ◌∙◌, ℕ, ◌+◌, ◌-◌, ◌^◌, ◌<◌, ◌≤◌, suc, min, List, [], ◌∷◌, ◌++◌, length, refl, subst, arith, length-append}
 use Rattle.std.specs.List.{All}
 use Rattle.std.specs.Prelude.{sum_by, slice_index_or}
 use Rattle.std.proofs.Math.ListN.{get_or-append}
 use Rattle.std.proofs.lemmas.List.Sums.{sum_by-append, sum_by-cons}
-use Rattle.turn_lock.specs.History.{Log, Begins}
 use Rattle.client_session.specs.Sessions.{StoreState, SessionState}
 use Rattle.blob_server.specs.Peers.{IsIdle}
 
@@ -49,9 +48,3 @@ module _ {D : Type 0} where
 -- the doors of one more session have gone back
 pub gave_back : (first before now whole front one : ℕ) → min (first + whole) (2 ^ 64 - 1) ≤ before + (front + one) → min (before + one) (2 ^ 64 - 1) ≤ now → min (first + whole) (2 ^ 64 - 1) ≤ now + front
 gave_back first before now whole front one had back = omega (arith, had, back)
-
--- ---- histories
-
-module _ {E : Type 0} where
-  pub begins_on : (xs ys zs : Log E) → Begins xs ys → Begins ys zs → Begins xs zs
-  begins_on xs ys zs a b = (a.0 ++ b.0, b.1 ∙ (ap (λ (l : Log E). l ++ b.0) a.1 ∙ append_assoc xs a.0 b.0))

@@ -143,7 +143,7 @@ module _ {D : Type 0} (faults : D → ℕ) where
     no_memory_is = counted_by (not done) no_memory (dropped_count g.replies) (tells_no_memory one.reply) one.memory g.no_memory_is ∙ sym (dropped_more g.replies one.reply);
     counts = by_done done (omega (arith, g.counts, fewer)) (omega (arith, g.counts, fewer));
     doors = doors ∙ g.doors;
-    goes_on = goes_both faults a b d g.goes_on goes;
+    goes_on = goes_both a b d g.goes_on goes;
   }
     where
       by_done : (x : Bool) → finished + 1 + no_memory + length d.held ≡ length a.held → finished + (no_memory + 1) + length d.held ≡ length a.held → finished + cond x 1 0 + (no_memory + cond (not x) 1 0) + length d.held ≡ length a.held

@@ -1,5 +1,5 @@
 -- What a session keeps, from call to call.
-use Rattle.std.proofs.Common.{◌≡◌, sym, ◌∙◌, ap, subst, ℕ, ◌≤◌, List, ◌++◌, append_assoc, length, length-append, get_or, arith}
+use Rattle.std.proofs.Common.{◌≡◌, sym, ◌∙◌, ap, subst, ℕ, ◌≤◌, List, length, length-append, get_or, arith}
 use Rattle.std.specs.Prelude.{All, Bool}
 use Rattle.blob_model.specs.declared.call.Event.{Event}
 use Rattle.turn_lock.specs.History.{Begins}
@@ -11,13 +11,6 @@ use Rattle.version_manager.specs.declared.journal.DeskFixed.{DeskFixed}
 use Rattle.client_session.specs.Tickets.{OpenUpdate}
 use Rattle.client_session.specs.Kept.{IsOpen, IsHolding, IsSession}
 use Rattle.client_session.specs.Sessions.{StoreState, IsPassOf, Went}
-
--- a beginning of a beginning
-pub begins_both : (a b c : List (ℕ × Event)) → Begins a b → Begins b c → Begins a c
-begins_both a b c ab bc =
-    let (x, is) = ab in
-    let (y, is') = bc in
-    (x ++ y, is' ∙ (ap (λ (l : List (ℕ × Event)). l ++ y) is ∙ append_assoc a x y))
 
 -- a held update stays one as the history goes on
 pub open_stays : (f : DeskFixed) (log log' : List (ℕ × Event)) (o : OpenUpdate) → Begins log log' → IsOpen f log o → IsOpen f log' o

@@ -13,7 +13,7 @@ use Rattle.request_form.specs.declared.form.Reply.{Reply}
 use Rattle.client_session.specs.Sessions.{SessionState, Continues, session_of}
 use Rattle.client_session.specs.Waiting.{Waits}
 use Rattle.client_session.proofs.Answering.{sees-nothing}
-use Rattle.client_session.proofs.Standing.{begins_both}
+use Rattle.turn_lock.proofs.Histories.{begins_both}
 
 all_other_both : (caller : ℕ) (a b : List Event) → AllOther caller a → AllOther caller b → AllOther caller (a ++ b)
 all_other_both caller [] b x y = y
@@ -21,6 +21,9 @@ all_other_both caller (e ∷ a) b x y = (x.0, all_other_both caller a b x.1 y)
 
 sees_both : (x : Session) (a b : List Event) → sees (sees x a) b ≡ sees x (a ++ b)
 sees_both x a b = ap (λ (h : List Event). record { fixed = x.fixed; caller = x.caller; seen = h; tickets = x.tickets; next = x.next }) (append_assoc x.seen a b)
+
+pub goes_both : {D : Type 0} (a b d : SessionState D) → Continues a b → Continues b d → Continues a d
+goes_both a b d x y = record { store = y.store ∙ x.store; caller = y.caller ∙ x.caller; begins = begins_both a.log b.log d.log x.begins y.begins }
 
 module _ {D : Type 0} (faults : D → ℕ) where
   pub waits_start : (s : SessionState D) → Waits faults s s
@@ -31,9 +34,6 @@ module _ {D : Type 0} (faults : D → ℕ) where
     never_falls = omega arith;
     goes_on = record { store = refl; caller = refl; begins = ([], sym (append-nil s.log)) };
   }
-
-  pub goes_both : (a b d : SessionState D) → Continues a b → Continues b d → Continues a d
-  goes_both a b d x y = record { store = y.store ∙ x.store; caller = y.caller ∙ x.caller; begins = begins_both a.log b.log d.log x.begins y.begins }
 
   -- one look more
   pub looks_on : (a b d : SessionState D) (call : Call) (reply : Reply) → Waits faults a b → LookAnswer AllOther (session_of b) call reply (session_of d) → LookAnswer AllOther (session_of a) call reply (session_of d)

@@ -1,4 +1,28 @@
 //! Sessions of a shared store: what a client's calls do, and what they are answered, while other clients go on.
+//!
+//! A client wants to append, write, read and branch as if it were alone, and many do so at once. The session puts an act
+//! together from steps of the layers below, and keeps what must not be lost in between.
+//!
+//! - A [`Shared`] store is what all sessions have in common: the houses of pages and of nodes, the loads of the providers,
+//!   and the version manager's desk. Its [`Owner`] gives a [`Pass`] for each session, and closes the store in the end.
+//! - A [`Session`] works with one pass and with doors of its own. An update is made in four steps: its pages are stored; it
+//!   is numbered, in one turn of the desk; its tree nodes are stored; it is finished, in a second turn. A read takes one
+//!   turn, in which it gets the version's snapshot, and then goes through the tree without any lock.
+//! - A *ticket* is the session's hold on an update that is numbered and not finished. [`Session::start`] gives it to the
+//!   client, and `append` and `write` keep it where memory is refused halfway: [`Session::finish`] does what is left. A
+//!   session that ends hangs up, and finishes what it holds, since an unfinished version keeps those above it unpublished.
+//! - A *gap* is what others did between two of the session's turns. Each answer is the definition's answer on what the
+//!   session had seen, then a gap of others' events, and then its own.
+//!
+//! ```text
+//! let (shared, owner) = Shared::new(alloc, limits, page_size, providers, replicas)?;
+//! let mut session = Session::new(alloc, &shared, &gate, pass, doors)?; // or pass and doors back
+//! let blob = session.create(rt)?;
+//! let done = session.append(rt, blob, bytes)?;           // done tells the version, where the bytes fell, and the size
+//! let held = session.start(rt, blob, Place::Append, more)?;
+//! let published = session.finish(rt, held.ticket)?;      // published, once the versions below are finished too
+//! session.hang_up(rt);
+//! ```
 #![tactic(auto)]
 
 mod done;

@@ -1,5 +1,6 @@
 // The updates of a session: started, finished, or both at once.
-ghost use Rattle.std.specs.Prelude.{◌≡◌, ◌≢◌, ℕ, ◌+◌, ◌<◌, ◌≤◌, [], ◌∷◌, ◌++◌, option_map, length, sum_by, IfOk, IfErr, IfNone, IfSome, OnErr, Some, slice_get, slice_set};
+ghost use Rattle.std.specs.Prelude.{◌≡◌, ◌≢◌, ℕ, ◌+◌, ◌<◌, ◌≤◌, [], ◌∷◌, ◌++◌, length, sum_by, slice_get, slice_set};
+ghost use Rattle.std.specs.Prelude.{IfOk, IfErr, IfNone, IfSome, OnErr, Some, option_map};
 ghost use Rattle.std.specs.Arc.{arc_value};
 ghost use denote.Param.Send.{IsSync};
 ghost use Rattle.ports.specs.Counts.{RoseBy};
@@ -303,7 +304,8 @@ impl<'a, D: Door, G: Gate> Session<'a, D, G> {
     // The row of the held update at that place, woven where it isn't yet. It is kept beside the update.
     fn row_at<R: Wait>(&mut self, rt: &R, place: usize) -> Result<Arc<Row>, NoMemory>
         requires within { place < length self.old.held }
-        ensures woven { IfOk result (λ row. (o : OpenUpdate) → slice_get self.old.held place ≡ Some o → IsWoven self.old.store.fixed.nodes self.old.store.fixed.houses o.ticket (arc_value row)) }
+        ensures woven { IfOk result (λ row. (o : OpenUpdate) → slice_get self.old.held place ≡ Some o
+            → IsWoven self.old.store.fixed.nodes self.old.store.fixed.houses o.ticket (arc_value row)) }
         ensures kept { IfOk result (λ row. (o : OpenUpdate) → slice_get self.old.held place ≡ Some o
             → self.new ≡ record self.old { held = slice_set self.old.held place (with_row o (arc_value row)) }) }
         ensures same { OnErr result (self.new ≡ self.old) }

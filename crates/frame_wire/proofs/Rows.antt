@@ -1,4 +1,4 @@
--- Worked rows, computed from the definitions alone. What they say is what the product's tables give.
+-- Worked rows, computed from the definitions alone: frames, with the requests and the replies that docs/FORMATS.md gives for them.
 use Rattle.std.specs.Prelude.{◌≡◌, ℕ, List, [], ◌∷◌, ◌++◌, true, false, refl, codes}
 use Rattle.request_form.specs.Stream.{Stream}
 use Rattle.request_form.specs.declared.form.Request.TheVariants as Requests

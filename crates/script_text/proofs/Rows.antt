@@ -1,4 +1,4 @@
--- Worked rows, computed from the definitions alone. What they say is what the product's tables give.
+-- Worked rows, computed from the definitions alone: lines, with the requests and the replies that docs/FORMATS.md gives for them.
 use Rattle.std.specs.Prelude.{◌≡◌, ℕ, List, [], ◌∷◌, ◌++◌, false, flat_map, refl, codes}
 use Rattle.std.specs.Fmt.{digits}
 use Rattle.request_form.specs.Stream.{Stream}

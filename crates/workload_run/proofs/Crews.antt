@@ -8,20 +8,18 @@ use Rattle.std.proofs.lemmas.List.Elements.{Contains-append_left, Contains-push}
 use Rattle.blob_model.specs.declared.call.Event.{Event}
 use Rattle.turn_lock.specs.History.{entries_by, Begins}
 use Rattle.turn_lock.specs.Shown.{Owned}
+use Rattle.turn_lock.proofs.Histories.{begins_both}
 use Rattle.version_manager.specs.declared.journal.DeskFixed.{DeskFixed}
 use Rattle.request_form.specs.declared.form.Fault.{Fault}
-use Rattle.client_session.specs.Sessions.{StoreState, SessionState}
+use Rattle.client_session.specs.Sessions.{StoreState}
 use Rattle.workload_run.specs.Workers.{Told, WorkerState, IsBack, stop_or, IsReadyAt, AreReady, IsOfStore, AreOfStore, AreBack, AreKept, first_stop, counted_by}
 
 abbrev Entries : Type 0
 Entries = List (ℕ × Event)
 
-begins_on : (xs ys zs : Entries) → Begins xs ys → Begins ys zs → Begins xs zs
-begins_on xs ys zs a b = (a.0 ++ b.0, b.1 ∙ (ap (λ (l : Entries). l ++ b.0) a.1 ∙ append_assoc xs a.0 b.0))
-
 -- what came back stays, as more comes back of other callers
 pub back_on : (caller : ℕ) (log one two : Entries) → IsBack caller log one → Begins one two → entries_by caller two ≡ entries_by caller one → IsBack caller log two
-back_on caller log one two back more same = (begins_on log one two back.0 more, same ∙ back.1)
+back_on caller log one two back more same = (begins_both log one two back.0 more, same ∙ back.1)
 
 pub stopped_by : (told : Told) (fault : Fault) (later : Option Fault) → told ≡ Err fault → Some fault ≡ stop_or told later
 stopped_by told fault later is = ap (λ (t : Told). stop_or t later) (sym is)
@@ -75,6 +73,12 @@ module _ {D : Type 0} where
         → P place (slice_index_or (x ∷ xs) place d)
     each_cons first each zero d within = first
     each_cons first each (suc place) d within = each place d (omega (arith, within))
+
+  -- where all are ready and the next one is, all are with that one
+  pub ready_push : (faults : D → ℕ) (store : StoreState) (log : Entries) (xs ys : List (WorkerState D)) (x : WorkerState D) → ((n m : ℕ) → (n < m) ⊎ (m ≤ n)) → ys ≡ xs ++ x ∷ []
+      → AreReady faults store log xs → IsReadyAt faults store log (length xs) x → AreReady faults store log ys
+  ready_push faults store log xs ys x tells more each last =
+      subst (λ (l : List (WorkerState D)). AreReady faults store log l) (sym more) (each_push (λ place w. IsReadyAt faults store log place w) xs x tells each last)
 
   -- ---- one more ends
 
@@ -152,7 +156,7 @@ module _ {D : Type 0} where
       stays = λ c k. others c (ending.kept_before c k) ∙ ending.stays c k;
       made = ap (λ (o : Owned Event DeskFixed). o.made) counts.1 ∙ ending.made;
       out = omega (arith, ending.out, counts.0);
-      seen = begins_on old.seen mid.seen new.seen ending.seen begins.0;
+      seen = begins_both old.seen mid.seen new.seen ending.seen begins.0;
       stop_is = stopped ∙ ap (λ (s : Option Fault). stop_or worker.told s) ending.stop_is;
       counted = omega (arith, ending.counted, sum_left, doors);
     }

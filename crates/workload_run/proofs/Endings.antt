@@ -1,10 +1,10 @@
 -- How a load ends, once its store is closed.
-use Rattle.std.proofs.Common.{◌≡◌, ◌≢◌, ◌⊎◌, inl, inr, ℕ, zero, suc, ◌+◌, ◌<◌, ◌≤◌, ◌^◌, List, [], ◌∷◌, ◌++◌, refl, sym, ap, subst, ◌∙◌, append_assoc, append-nil, ◌==◌, leb, true, false, arith}
+use Rattle.std.proofs.Common.{◌≡◌, ◌≢◌, ◌⊎◌, inl, inr, ℕ, zero, suc, ◌+◌, ◌<◌, ◌≤◌, List, [], ◌++◌, refl, sym, ap, subst, ◌∙◌, append-nil, ◌==◌, leb, true, false, arith}
 use Rattle.std.proofs.lemmas.List.Elements.{filter-append}
 use Rattle.std.proofs.lemmas.Bool.Decides.{leb_tells}
-use Rattle.std.specs.Prelude.{Contains, Result, Ok, Err}
+use Rattle.std.specs.Prelude.{Result, Ok, Err}
 use Rattle.blob_model.specs.Limits.{greatest}
-use Rattle.blob_model.specs.History.{store_of, IsLegal, events_by, caller_of}
+use Rattle.blob_model.specs.History.{IsLegal, events_by, caller_of}
 use Rattle.blob_model.specs.declared.call.Event.{Event}
 use Rattle.turn_lock.specs.History.{IsUngiven, LacksUngiven}
 use Rattle.turn_lock.specs.Shown.{Owned}
@@ -19,8 +19,8 @@ use Rattle.workload_law.specs.Laws.{LoadsReadBack}
 use Rattle.workload_law.specs.Sessions.{FinishesItsOwn}
 use Rattle.workload_law.specs.Ends.{IsOutside}
 use Rattle.workload_law.specs.Closing.{SeenAlone, NobodysAreNone, OpeningsAreFirst, OwnsStay, IdleOwnsAll, NothingElseHindersOpenings, NothingElseHinders, OperationHindered}
-use Rattle.workload_run.specs.Stages.{CameBack, IsOpened, IsHalfOpened, HaveCome, HaveDone, HaveStopped, HasLooked, TellsSummary, TellsLoad, ClosesAs}
-use Rattle.workload_run.proofs.Returns.{none_by, owns_back}
+use Rattle.workload_run.specs.Stages.{IsOpened, IsHalfOpened, HaveCome, HaveDone, HaveStopped, HasLooked, TellsSummary, ClosesAs}
+use Rattle.workload_run.proofs.Returns.{no_front, none_by, owns_back}
 
 -- ---- callers
 
@@ -34,7 +34,7 @@ split_of : (m n : ℕ) → ((leb m n ≡ true) × (m ≤ n)) ⊎ ((leb m n ≡ f
 split_of m n (inl x) = inl x.1
 split_of m n (inr x) = inr x.1
 
-less_or_not : (m n : ℕ) → (m ≤ n) ⊎ (n < m)
+pub less_or_not : (m n : ℕ) → (m ≤ n) ⊎ (n < m)
 less_or_not m n = split_of m n (leb_tells m n)
 
 whose_later : (workers worker : ℕ) → (worker + 1 ≤ workers) ⊎ (workers < worker + 1) → Whose workers (suc (suc worker))
@@ -47,10 +47,6 @@ whose workers (suc zero) = Whose.the_first refl
 whose workers (suc (suc n)) = whose_later workers n (less_or_not (n + 1) workers)
 
 -- ---- events of a beginning
-
-no_front : (xs ys : List Event) → xs ++ ys ≡ [] → xs ≡ []
-no_front [] ys e = refl
-no_front (x ∷ xs) ys e = absurd (let no : (x ∷ (xs ++ ys)) ≡ [] = e in cc)
 
 by_front : (caller : ℕ) (xs ys : List Event) → events_by caller (xs ++ ys) ≡ [] → events_by caller xs ≡ []
 by_front caller xs ys none = no_front (events_by caller xs) (events_by caller ys) (sym (filter-append (λ e. caller_of e == caller) xs ys) ∙ none)

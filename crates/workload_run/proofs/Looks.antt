@@ -1,11 +1,10 @@
 -- The last session's look at the log and at the grid.
-use Rattle.std.proofs.Common.{◌≡◌, ℕ, ◌<◌, ◌≤◌, ◌==◌, nat_lt, if◌then◌else◌, Bool, true, false, List, [], ◌∷◌, ◌++◌, length, sum, refl, sym, ap, subst, ◌∙◌, append_assoc, append-nil, arith}
+use Rattle.std.proofs.Common.{◌≡◌, ℕ, ◌≤◌, nat_lt, if◌then◌else◌, Bool, true, false, List, [], ◌++◌, length, refl, sym, ap, subst, ◌∙◌, append_assoc, append-nil, arith}
 use Rattle.std.specs.Prelude.{Option, Some, None, Result, Ok, Err}
 use Rattle.std.proofs.lemmas.List.{append_cancel_left}
 use Rattle.std.proofs.lemmas.Bool.Decides.{nat_tests}
-use Rattle.blob_model.specs.Limits.{Bounds}
 use Rattle.blob_model.specs.Answer.{answer}
-use Rattle.blob_model.specs.History.{store_of, AllOther, events_by}
+use Rattle.blob_model.specs.History.{store_of, AllOther}
 use Rattle.blob_model.specs.declared.call.Call.{Call}
 use Rattle.blob_model.specs.declared.call.Call.TheVariants as Calls
 use Rattle.blob_model.specs.declared.call.Event.{Event}
@@ -19,36 +18,24 @@ use Rattle.request_form.specs.declared.form.Reply.{Reply}
 use Rattle.request_form.specs.declared.form.Reply.TheVariants as Replies
 use Rattle.request_form.specs.declared.form.Fault.{Fault}
 use Rattle.request_form.specs.declared.form.Fault.TheVariants as Faults
-use Rattle.client_session.specs.Results.{read_reply}
-use Rattle.workload_law.specs.declared.plan.LoadPlan.{LoadPlan}
-use Rattle.workload_law.specs.declared.plan.Summary.{Summary}
-use Rattle.workload_law.specs.Load.{IsSized, all_ops}
-use Rattle.workload_law.specs.Laws.{IsReadBack}
-use Rattle.workload_law.specs.Pieces.{in_order_of}
-use Rattle.workload_law.specs.Summed.{summary_of, cells_sum}
-use Rattle.workload_law.specs.Ends.{Leaves, LeavesAdd, LooksLeaveNone, IsOutside}
+use Rattle.workload_law.specs.Ends.{LooksLeaveNone, IsOutside}
 use Rattle.workload_law.specs.Closing.{ReadsAreShort}
-use Rattle.workload_run.specs.declared.looking.Last.{Last}
 use Rattle.workload_run.specs.Opening.{HasDoneOwn}
-use Rattle.workload_run.specs.Stages.{TellsSummary}
-use Rattle.workload_run.specs.Look.{recent_told, IsTold, IsUntold, LookEnds, summed_up, SummaryEnds}
-use Rattle.workload_run.proofs.Updates.{leaves_same}
+use Rattle.workload_run.specs.Look.{recent_told, IsUntold}
+use Rattle.workload_run.proofs.Returns.{no_front}
+use Rattle.workload_run.proofs.Updates.{leaves_same, same_fault}
 
 -- ---- nothing more was seen
 
 no_more : (xs ys : List Event) → xs ++ ys ≡ xs → ys ≡ []
 no_more xs ys e = append_cancel_left xs ys [] (e ∙ sym (append-nil xs))
 
-first_none : (xs ys : List Event) → xs ++ ys ≡ [] → xs ≡ []
-first_none [] ys e = refl
-first_none (x ∷ xs) ys e = absurd (let no : (x ∷ (xs ++ ys)) ≡ [] = e in cc)
-
 module _ (xs mid ys a b : List Event) (one : mid ≡ xs ++ a) (two : ys ≡ mid ++ b) (same : ys ≡ xs) where
   all_none : a ++ b ≡ []
   all_none = no_more xs (a ++ b) (sym (append_assoc xs a b) ∙ (ap (λ (l : List Event). l ++ b) (sym one) ∙ (sym two ∙ same)))
 
   pub mid_same : mid ≡ xs
-  mid_same = one ∙ (ap (λ (l : List Event). xs ++ l) (first_none a b all_none) ∙ append-nil xs)
+  mid_same = one ∙ (ap (λ (l : List Event). xs ++ l) (no_front a b all_none) ∙ append-nil xs)
 
   pub end_same : ys ≡ mid
   end_same = same ∙ sym mid_same
@@ -126,9 +113,6 @@ module _ (s mid : Session) (blob : ℕ) (outcome : Outcome) (look : LookAnswer A
 
 -- ---- its bytes
 
-said_fault : (a b : Fault) → Replies.Refused a ≡ Replies.Refused b → a ≡ b
-said_fault a b e = cc
-
 module _ (s s' : Session) (blob version size : ℕ) where
   abbrev read_call : Call
   read_call = Calls.Read blob version 0 size
@@ -184,8 +168,8 @@ module _ (s s' : Session) (blob version size : ℕ) where
     unread_in true is x same = IsUntold.too_long version size recent (grind (arith, nat_tests))
     unread_in false is (ReadAnswer.content x) same = absurd (let no : Replies.Refused fault ≡ Replies.Content x.bytes = x.said in cc)
     unread_in false is (ReadAnswer.refused x) same = IsUntold.refused version size x.refusal recent (sym (alone x.others x.seen same) ∙ x.refused)
-    unread_in false is (ReadAnswer.out_of_memory x) same = IsUntold.outside (IsOutside.starved (said_fault fault Faults.NoMemory x.said))
-    unread_in false is (ReadAnswer.not_read x) same = IsUntold.outside (IsOutside.lost x.page (said_fault fault (Faults.PageFault x.page) x.said))
+    unread_in false is (ReadAnswer.out_of_memory x) same = IsUntold.outside (IsOutside.starved (same_fault fault Faults.NoMemory x.said))
+    unread_in false is (ReadAnswer.not_read x) same = IsUntold.outside (IsOutside.lost x.page (same_fault fault (Faults.PageFault x.page) x.said))
 
     pub unread : Answers AllOther s (Requests.Read blob version 0 size) (Replies.Refused fault) s' → s'.seen ≡ s.seen → IsUntold s blob fault
     unread answers same = unread_in (nat_lt max_read size) refl answers same

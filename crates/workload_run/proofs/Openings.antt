@@ -1,5 +1,5 @@
 -- The opening of a load, step by step.
-use Rattle.std.proofs.Common.{◌≡◌, ◌⊎◌, inl, inr, ℕ, List, [], ◌∷◌, ◌++◌, refl, sym, ap, subst, ◌∙◌, append-nil}
+use Rattle.std.proofs.Common.{◌≡◌, ℕ, List, [], ◌∷◌, ◌++◌, refl, sym, ap, subst, ◌∙◌, append-nil}
 use Rattle.blob_model.specs.Limits.{Bounds, greatest}
 use Rattle.blob_model.specs.History.{events_by}
 use Rattle.blob_model.specs.declared.call.Event.{Event}
@@ -8,7 +8,7 @@ use Rattle.blob_model.specs.declared.call.Place.TheVariants.{Append}
 use Rattle.request_form.specs.Session.{Fixed, Session}
 use Rattle.request_form.specs.declared.form.Fault.{Fault}
 use Rattle.workload_law.specs.declared.plan.LoadPlan.{LoadPlan}
-use Rattle.workload_law.specs.Load.{zeros_of, opened_with}
+use Rattle.workload_law.specs.Load.{zeros_of}
 use Rattle.workload_law.specs.Ends.{CreateHindered, UpdateHindered, Leaves, LeavesAdd}
 use Rattle.workload_law.specs.Closing.{OpeningHindered}
 use Rattle.workload_run.specs.Updates.{update_events, IsUpdated, IsStopped}

@@ -1,7 +1,7 @@
 -- Passes that come back: what their owner has then seen.
-use Rattle.std.proofs.Common.{◌≡◌, ℕ, List, [], ◌∷◌, ◌++◌, refl, sym, ap, subst, ◌∙◌, append_assoc, append-nil, map}
+use Rattle.std.proofs.Common.{◌≡◌, ℕ, List, [], ◌∷◌, ◌++◌, refl, sym, ap, subst, ◌∙◌}
 use Rattle.blob_model.specs.Limits.{Bounds}
-use Rattle.blob_model.specs.History.{caller_of, events_by}
+use Rattle.blob_model.specs.History.{events_by}
 use Rattle.blob_model.specs.declared.call.Event.{Event}
 use Rattle.turn_lock.specs.History.{entries_by, Begins}
 use Rattle.version_manager.specs.Log.{tag, tagged, events}
@@ -14,6 +14,10 @@ abbrev Entries : Type 0
 Entries = List (ℕ × Event)
 
 -- ---- entries and events
+
+pub no_front : (xs ys : List Event) → xs ++ ys ≡ [] → xs ≡ []
+no_front [] ys e = refl
+no_front (x ∷ xs) ys e = absurd (let no : (x ∷ (xs ++ ys)) ≡ [] = e in cc)
 
 pub events_tagged : (es : List Event) → events (tagged es) ≡ es
 events_tagged [] = refl

@@ -1,5 +1,5 @@
 -- A load's stages, by what its sessions did and what came back of them.
-use Rattle.std.proofs.Common.{◌≡◌, ◌⊎◌, inl, inr, ℕ, zero, suc, ◌+◌, ◌-◌, ◌^◌, ◌<◌, ◌≤◌, min, List, [], ◌∷◌, ◌++◌, length, refl, sym, ap, subst, ◌∙◌, append-nil, arith}
+use Rattle.std.proofs.Common.{◌≡◌, ◌⊎◌, inr, ℕ, zero, suc, ◌+◌, ◌-◌, ◌^◌, ◌<◌, ◌≤◌, min, List, [], ◌∷◌, ◌++◌, length, refl, sym, ap, subst, ◌∙◌, append-nil, arith}
 use Rattle.std.specs.Prelude.{Contains, Result, Ok, Err, Option, Some, None, slice_index_or, sum_by}
 use Rattle.std.proofs.lemmas.List.Elements.{Contains-push}
 use Rattle.blob_model.specs.Limits.{Bounds, greatest}
@@ -11,10 +11,10 @@ use Rattle.turn_lock.specs.Shown.{Owned}
 use Rattle.version_manager.specs.declared.journal.DeskFixed.{DeskFixed}
 use Rattle.version_manager.specs.Log.{tagged, events}
 use Rattle.version_manager.specs.Laws.{EntriesAreEvents}
-use Rattle.request_form.specs.Session.{Fixed, Session, Held}
+use Rattle.request_form.specs.Session.{Session}
 use Rattle.request_form.specs.Replies.{page_faults}
 use Rattle.request_form.specs.declared.form.Fault.{Fault}
-use Rattle.client_session.specs.Sessions.{StoreState, SessionState, IsPassOf, session_of}
+use Rattle.client_session.specs.Sessions.{StoreState, SessionState, session_of}
 use Rattle.client_session.specs.Tickets.{OpenUpdate, all_held}
 use Rattle.store_sessions.specs.Made.{IsNewSession}
 use Rattle.workload_law.specs.declared.plan.LoadPlan.{LoadPlan}
@@ -22,15 +22,15 @@ use Rattle.workload_law.specs.declared.plan.Summary.{Summary}
 use Rattle.workload_law.specs.Load.{IsSized, opened_with, HasDone, HasBegun}
 use Rattle.workload_law.specs.Laws.{IsReadBack}
 use Rattle.workload_law.specs.Sessions.{FinishesItsOwn}
-use Rattle.workload_law.specs.Ends.{Leaves, IsOutside}
-use Rattle.workload_law.specs.Closing.{OwnsStay, IdleOwnsAll, OpeningHindered, OperationHindered}
+use Rattle.workload_law.specs.Ends.{IsOutside}
+use Rattle.workload_law.specs.Closing.{OwnsStay, IdleOwnsAll, OperationHindered}
 use Rattle.workload_run.specs.Updates.{told_faults}
-use Rattle.workload_run.specs.Work.{IsFresh, HasWorked, HasEndedEarly, WorkEnds}
+use Rattle.workload_run.specs.Work.{IsFresh, HasEndedEarly, WorkEnds}
 use Rattle.workload_run.specs.Opening.{HasDoneOwn, HasOpened, HasNotOpened, OpeningEnds}
 use Rattle.workload_run.specs.Stages.{CameBack, IsOpened, IsHalfOpened, OpensAs, HaveCome, HaveDone, HaveStopped, HasLooked, LooksAs}
 use Rattle.workload_run.specs.Look.{SummaryEnds}
 use Rattle.std.proofs.lemmas.List.Sums.{get_or-le-sum_by}
-use Rattle.workload_run.specs.Workers.{Told, WorkerState, IsBack, AreKept, counted_by, stop_or, IsReadyAt, AreReady, IsWorkable, AreWorkable, HasRun, HaveRun, IsOfStore, AreOfStore, AreBack, first_stop}
+use Rattle.workload_run.specs.Workers.{Told, WorkerState, AreKept, counted_by, stop_or, AreReady, AreWorkable, HaveRun, AreOfStore, AreBack, first_stop}
 use Rattle.workload_run.proofs.Looks.{mid_same}
 use Rattle.workload_run.proofs.Returns.{none_by, same_by, came_back, owns_back, tags_of_front, events_append}
 

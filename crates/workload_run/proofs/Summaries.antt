@@ -1,6 +1,6 @@
 -- What the last session's looks come to.
-use Rattle.std.proofs.Common.{◌≡◌, ℕ, ◌+◌, ◌*◌, ◌<◌, ◌≤◌, List, [], ◌∷◌, ◌++◌, length, sum, refl, sym, ap, subst, ◌∙◌, append-nil, arith}
-use Rattle.std.specs.Prelude.{Result, Ok, Err}
+use Rattle.std.proofs.Common.{◌≡◌, ℕ, ◌+◌, ◌*◌, ◌≤◌, List, [], ◌++◌, sum, refl, sym, ap, subst, ◌∙◌, append-nil, arith}
+use Rattle.std.specs.Prelude.{Ok, Err}
 use Rattle.blob_model.specs.History.{store_of, AllOther}
 use Rattle.blob_model.specs.declared.call.Call.{Call}
 use Rattle.blob_model.specs.declared.call.Call.TheVariants as Calls
@@ -14,7 +14,6 @@ use Rattle.request_form.specs.declared.form.Request.TheVariants as Requests
 use Rattle.request_form.specs.declared.form.Reply.TheVariants as Replies
 use Rattle.request_form.specs.declared.form.Fault.{Fault}
 use Rattle.workload_law.specs.declared.plan.LoadPlan.{LoadPlan}
-use Rattle.workload_law.specs.declared.plan.Summary.{Summary}
 use Rattle.workload_law.specs.Load.{IsSized, all_ops}
 use Rattle.workload_law.specs.Laws.{IsReadBack}
 use Rattle.workload_law.specs.Pieces.{in_order_of}
@@ -23,8 +22,7 @@ use Rattle.workload_law.specs.Ends.{LeavesAdd, LooksLeaveNone, IsOutside}
 use Rattle.workload_law.specs.Closing.{ReadsAreShort}
 use Rattle.workload_run.specs.declared.looking.Last.{Last}
 use Rattle.workload_run.specs.Opening.{HasDoneOwn}
-use Rattle.workload_run.specs.Stages.{TellsSummary}
-use Rattle.workload_run.specs.Look.{recent_told, IsTold, IsUntold, TellsLast, LookEnds, summed_up, SummaryEnds}
+use Rattle.workload_run.specs.Look.{recent_told, IsTold, IsUntold, LookEnds, summed_up, SummaryEnds}
 use Rattle.workload_run.proofs.Looks.{mid_same, end_same, outcome_same, saw_left, recent_saw, told_recent, told_none, read_left, read_bytes, read_short, unread}
 
 -- ---- one blob

@@ -1,5 +1,5 @@
 -- An update of a load's session, try by try.
-use Rattle.std.proofs.Common.{◌≡◌, ◌⊎◌, inl, inr, ℕ, ◌==◌, nat_lt, true, false, List, [], ◌∷◌, ◌++◌, length, refl, sym, ap, subst, ◌∙◌, append_assoc, append-nil, arith}
+use Rattle.std.proofs.Common.{◌≡◌, ◌⊎◌, inl, inr, ℕ, ◌==◌, nat_lt, true, false, List, [], ◌∷◌, ◌++◌, length, refl, sym, ap, subst, ◌∙◌, append-nil, arith}
 use Rattle.std.proofs.lemmas.Bool.Decides.{nat_tests}
 use Rattle.std.specs.Prelude.{Option, None, Result, Ok, Err}
 use Rattle.blob_model.specs.History.{events_by, AllOther}
@@ -20,8 +20,6 @@ use Rattle.request_form.specs.declared.form.Fault.TheVariants as Faults
 use Rattle.client_session.specs.declared.done.Done.{Done}
 use Rattle.client_session.specs.Results.{done_reply}
 use Rattle.client_session.specs.Updates.{update_reply}
-use Rattle.client_session.specs.Sessions.{SessionState, Continues}
-use Rattle.turn_lock.specs.History.{Log, Begins}
 use Rattle.workload_law.specs.Numbered.{IsNumberedBy}
 use Rattle.workload_law.specs.Sessions.{FinishesItsOwn}
 use Rattle.workload_law.specs.Ends.{Leaves, StopsAt, UpdateHindered, UpdateEnds, UpdatesEnd, LeavesAdd, StopsLater, LooksLeaveNone, ReportsLeave, HindrancesStay}
@@ -73,12 +71,6 @@ rose_both n m a b d x y = record { later = omega (arith, x.later, y.later); by =
 pub rose_none : (n a b : ℕ) → RoseBy n a b → RoseBy 0 a b
 rose_none n a b x = record { later = x.later; by = λ less. omega (arith, x.later) }
 
-begins_both : (a b d : Log Event) → Begins a b → Begins b d → Begins a d
-begins_both a b d x y = (x.0 ++ y.0, y.1 ∙ (ap (λ (l : Log Event). l ++ y.0) x.1 ∙ append_assoc a x.0 y.0))
-
-pub goes_both : {D : Type 0} (a b d : SessionState D) → Continues a b → Continues b d → Continues a d
-goes_both a b d x y = record { store = y.store ∙ x.store; caller = y.caller ∙ x.caller; begins = begins_both a.log b.log d.log x.begins y.begins }
-
 -- ---- the end of a try
 
 no_reply : (place : Place) (version at size : ℕ) (fault : Fault) → Replies.Refused fault ≡ update_reply place version at size → ⊥
@@ -108,7 +100,7 @@ full_is Faults.BadFrame e = let no : false ≡ true = e in cc
 full_is (Faults.ReadTooLong x) e = let no : false ≡ true = e in cc
 full_is (Faults.NoMemoryTicket x) e = let no : false ≡ true = e in cc
 
-same_fault : (a b : Fault) → Replies.Refused a ≡ Replies.Refused b → a ≡ b
+pub same_fault : (a b : Fault) → Replies.Refused a ≡ Replies.Refused b → a ≡ b
 same_fault a b e = cc
 
 module _ (s : Session) (blob : ℕ) (place : Place) (bytes : List ℕ) (s' : Session) where

@@ -14,7 +14,8 @@ ghost use Rattle.workload_run.specs.Look.{recent_told, is_read_reply, LookEnds, 
 use crate::working::{GRID, LOG};
 use blob_model::{Bytes, Outcome};
 use client_session::{Owner, Session, Shared};
-use page_store::{Door, DoorMaker};
+use page_fan::BesideDoor;
+use page_store::DoorMaker;
 use ports::gate::Gate;
 use request_form::{Fault, Reply, Request, Service};
 use std::alloc::Global;
@@ -55,7 +56,7 @@ fn content_of(reply: Reply) -> Result<Bytes, Fault>
 }
 
 // Reads the most recent version of a blob from its beginning to its end.
-fn look<R: Threads + Wait + Sync, D: Door, G: Gate>(
+fn look<R: Threads + Wait + Sync, D: BesideDoor, G: Gate>(
     rt: &R,
     session: &mut Session<'_, D, G>,
     blob: u64,
@@ -105,7 +106,7 @@ fn sum_up(plan: &LoadPlan, log: &Last, grid: &Last) -> Summary
 }
 
 // Reads the log and the grid, and sums them up.
-fn read_summary<R: Threads + Wait + Sync, D: Door, G: Gate>(
+fn read_summary<R: Threads + Wait + Sync, D: BesideDoor, G: Gate>(
     rt: &R,
     session: &mut Session<'_, D, G>,
     plan: &LoadPlan,
@@ -139,6 +140,8 @@ pub(crate) fn look_back<R: Threads + Wait + Sync, M: DoorMaker, G: Gate>(
     gate: &G,
     plan: &LoadPlan,
 ) -> Result<Summary, Fault>
+where
+    M::Door: BesideDoor,
     requires sync { IsSync R.row }
     requires sized { IsSized plan.now }
     requires owner { IsOwnerOf shared.now owner.old }

@@ -5,7 +5,8 @@ use Rattle.blob_model.specs.declared.call.Event.{Event}
 use Rattle.turn_lock.specs.Shown.{Owned}
 use Rattle.client_session.specs.Sessions.{SessionState}
 use Rattle.blob_server.specs.Peers.{IsIdle, faults_of_doors}
-use Rattle.blob_server.proofs.Idling.{all_front, sum_more, gave_back, begins_on}
+use Rattle.turn_lock.proofs.Histories.{begins_both}
+use Rattle.blob_server.proofs.Idling.{all_front, sum_more, gave_back}
 use Rattle.blob_server.proofs.sessions.end_sessions.Goals as goal
 
 pub loop-session-preserved : goal.loop-session-preserved
@@ -24,7 +25,7 @@ loop-session-preserved g c =
       owner = e.owner;
       made = ap (λ (o : Owned _ _). o.made) e.counts.1 ∙ i.made;
       out = omega (arith, e.counts.0, i.out, c.in-Some.ensures.cases);
-      seen = begins_on _ _ _ i.seen e.begins.0;
+      seen = begins_both _ _ _ i.seen e.begins.0;
       doors = gave_back (faults c.args.maker.now) (faults c.loop-session.maker) (faults c.end_session.new.maker) (sum_by counted c.args.sessions.items) (sum_by counted front) (counted one) (omega (arith, i.doors, more)) e.doors;
       plan_stays = λ n door. (λ h. (e.plan_stays n door).0 ((i.plan_stays n door).0 h), λ h. (i.plan_stays n door).1 ((e.plan_stays n door).1 h));
       truth_stays = (λ t. e.truth_stays.0 (i.truth_stays.0 t), λ t. i.truth_stays.1 (e.truth_stays.1 t));

@@ -4,7 +4,8 @@ use Rattle.request_form.specs.Replies.{fault_count}
 use Rattle.client_session.specs.Results.{done_reply}
 use Rattle.client_session.specs.Sessions.{session_of}
 use Rattle.workload_run.specs.Updates.{is_full}
-use Rattle.workload_run.proofs.Updates.{waited_start, waited_both, full_waited, tried, rose_none, rose_both, goes_both}
+use Rattle.client_session.proofs.Waiting.{goes_both}
+use Rattle.workload_run.proofs.Updates.{waited_start, waited_both, full_waited, tried, rose_none, rose_both}
 use Rattle.workload_run.proofs.updating.update_when_room.Goals as goal
 
 pub tries-init : goal.tries-init

@@ -20,4 +20,4 @@ returns-then-not-matches-clause-faults g c =
     rose_since g.D.Door.faults c.args.self.now c.loop.self c.sync-outcome.new.self (fault_count (reply_of c.sync-outcome.result)) c.loop.invariant c.sync-outcome.ensures.faults
 
 pub returns-then-not-matches-clause-goes_on : goal.returns-then-not-matches-clause-goes_on
-returns-then-not-matches-clause-goes_on g c = goes_both g.D.Door.faults c.args.self.now c.loop.self c.sync-outcome.new.self c.loop.invariant.goes_on c.sync-outcome.ensures.goes_on
+returns-then-not-matches-clause-goes_on g c = goes_both c.args.self.now c.loop.self c.sync-outcome.new.self c.loop.invariant.goes_on c.sync-outcome.ensures.goes_on

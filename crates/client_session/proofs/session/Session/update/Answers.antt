@@ -15,7 +15,8 @@ use Rattle.turn_lock.specs.History.{Begins}
 use Rattle.client_session.specs.Sessions.{SessionState, Continues, session_at, session_of}
 use Rattle.client_session.specs.Updates.{IsNumbered, update_reply}
 use Rattle.client_session.proofs.Opened.{may_finish}
-use Rattle.client_session.proofs.Standing.{session_after, open_stays, begins_both}
+use Rattle.turn_lock.proofs.Histories.{begins_both}
+use Rattle.client_session.proofs.Standing.{session_after, open_stays}
 use Rattle.client_session.proofs.Reports.{held_more, update_done, update_not_numbered, updated, found_finished, kept_held, kept_later}
 use Rattle.client_session.proofs.session.Session.update.Goals as goal
 
