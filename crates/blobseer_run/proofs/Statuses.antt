@@ -1,5 +1,5 @@
 -- What follows of a run for its status.
-use Rattle.std.proofs.Common.{◌≡◌, ◌≢◌, ℕ, List, refl, sym, ◌∙◌, subst, inl, inr, arith}
+use Rattle.std.proofs.Common.{◌≡◌, ◌≢◌, ℕ, List, refl, sym, ◌∙◌, subst, arith}
 use Rattle.std.proofs.lemmas.Option.{none-some}
 use Rattle.std.specs.Prelude.{Option, Some, None, ◌↔◌, ◌⊎◌}
 use Rattle.ports.specs.Counts.{RoseBy}
@@ -11,7 +11,7 @@ use Rattle.settings.specs.declared.table.Command.TheVariants as Commands
 use Rattle.settings.specs.Values.{SettingsValues}
 use Rattle.settings.specs.Words.{Bytes}
 use Rattle.blobseer_run.specs.Status.{done, words_refused, settings_refused, read_fault, write_fault, out_of_memory, listener_fault, input_too_long, load_ended_early}
-use Rattle.blobseer_run.specs.Told.{Order, asked, Settled, SettingsRefused, IsFileKnown, Stopped}
+use Rattle.blobseer_run.specs.Told.{Order, asked, AsksFor, Settled, SettingsRefused, IsFileKnown, Stopped}
 use Rattle.blobseer_run.specs.Hosting.{Net, Hosted, served_line}
 use Rattle.blobseer_run.specs.Writing.{WritesLine}
 use Rattle.blobseer_run.specs.Loading.{Loaded, load_lines, plan_of}
@@ -54,39 +54,42 @@ module _ (old new : Outside) (status : ℕ) where
   did_own Commands.Serve settings calm net net' d = hosted_own settings.connections net net' d.0.text d.0.ended
   did_own Commands.Load settings calm net net' d = loaded_own (plan_of settings) d.0.text d.0.ended
 
-  -- it came to its end, as far as the command's own work goes
-  abbrev Complete : Type 0
-  Complete = IsComplete status old.doors new.doors
+  module _ (words : List Bytes) where
+    -- it came to its end, as far as the command's own work goes
+    abbrev Complete : Type 0
+    Complete = IsComplete words old.doors new.doors status
 
-  ended_complete : (fixed : Fixed) (calm : Type 0) (taken text rest : List ℕ) → ¬ RoseBy 1 old.reads new.reads → ¬ RoseBy 1 old.writes new.writes → Ended fixed calm taken text rest old new status → Complete
-  ended_complete fixed calm taken text rest reads writes (Ended.finished e less rose r x) = inl e
-  ended_complete fixed calm taken text rest reads writes (Ended.quit e due is quits r x) = inl e
-  ended_complete fixed calm taken text rest reads writes (Ended.unread e less rose quit r x) = absurd (reads rose)
-  ended_complete fixed calm taken text rest reads writes (Ended.unwritten e rose due is some x) = absurd (writes rose)
-  ended_complete fixed calm taken text rest reads writes (Ended.starved e due is x) = inr (inl e)
-  ended_complete fixed calm taken text rest reads writes (Ended.too_long e at quit r x) = inr (inr (inl e))
+    ended_complete : (fixed : Fixed) (calm : Type 0) (taken text rest : List ℕ) → AsksFor words Commands.Run → ¬ RoseBy 1 old.reads new.reads → ¬ RoseBy 1 old.writes new.writes
+        → Ended fixed calm taken text rest old new status → Complete
+    ended_complete fixed calm taken text rest asks reads writes (Ended.finished e less rose r x) = IsComplete.ended e
+    ended_complete fixed calm taken text rest asks reads writes (Ended.quit e due is quits r x) = IsComplete.ended e
+    ended_complete fixed calm taken text rest asks reads writes (Ended.unread e less rose quit r x) = absurd (reads rose)
+    ended_complete fixed calm taken text rest asks reads writes (Ended.unwritten e rose due is some x) = absurd (writes rose)
+    ended_complete fixed calm taken text rest asks reads writes (Ended.starved e due is x) = IsComplete.starved e
+    ended_complete fixed calm taken text rest asks reads writes (Ended.too_long e at quit r x) = IsComplete.too_long e asks
 
-  line_complete : (line text : List ℕ) → ¬ RoseBy 1 old.writes new.writes → WritesLine line text old.writes new.writes status → Complete
-  line_complete line text writes (WritesLine.whole e is) = inl e
-  line_complete line text writes (WritesLine.part e rest is some rose) = absurd (writes rose)
-  line_complete line text writes (WritesLine.nothing e is) = inr (inl e)
+    line_complete : (line text : List ℕ) → ¬ RoseBy 1 old.writes new.writes → WritesLine line text old.writes new.writes status → Complete
+    line_complete line text writes (WritesLine.whole e is) = IsComplete.ended e
+    line_complete line text writes (WritesLine.part e rest is some rose) = absurd (writes rose)
+    line_complete line text writes (WritesLine.nothing e is) = IsComplete.starved e
 
-  hosted_complete : (connections : ℕ) (net net' : Net) (text : List ℕ) → ¬ RoseBy 1 old.writes new.writes → ¬ RoseBy 1 net.handing.faults net'.handing.faults
-      → Hosted connections net net' text old.writes new.writes status → Complete
-  hosted_complete connections net net' text writes peers (Hosted.served n listens took line) = line_complete (served_line n) text writes line
-  hosted_complete connections net net' text writes peers (Hosted.unserved e rose is) = absurd (peers rose)
-  hosted_complete connections net net' text writes peers (Hosted.starved e is) = inr (inl e)
+    hosted_complete : (connections : ℕ) (net net' : Net) (text : List ℕ) → ¬ RoseBy 1 old.writes new.writes → ¬ RoseBy 1 net.handing.faults net'.handing.faults
+        → Hosted connections net net' text old.writes new.writes status → Complete
+    hosted_complete connections net net' text writes peers (Hosted.served n listens took line) = line_complete (served_line n) text writes line
+    hosted_complete connections net net' text writes peers (Hosted.unserved e rose is) = absurd (peers rose)
+    hosted_complete connections net net' text writes peers (Hosted.starved e is) = IsComplete.starved e
 
-  loaded_complete : (plan : LoadPlan) (text : List ℕ) → ¬ RoseBy 1 old.writes new.writes → Loaded plan text old.doors new.doors old.writes new.writes status → Complete
-  loaded_complete plan text writes (Loaded.whole line) = line_complete (load_lines plan) text writes line
-  loaded_complete plan text writes (Loaded.early e rose is) = inr (inr (inr (e, rose)))
-  loaded_complete plan text writes (Loaded.starved e is) = inr (inl e)
+    loaded_complete : (plan : LoadPlan) (text : List ℕ) → AsksFor words Commands.Load → ¬ RoseBy 1 old.writes new.writes
+        → Loaded plan text old.doors new.doors old.writes new.writes status → Complete
+    loaded_complete plan text asks writes (Loaded.whole line) = line_complete (load_lines plan) text writes line
+    loaded_complete plan text asks writes (Loaded.early e rose is) = IsComplete.early e asks rose
+    loaded_complete plan text asks writes (Loaded.starved e is) = IsComplete.starved e
 
-  did_complete : (command : Command) (settings : SettingsValues) (calm : Type 0) (net net' : Net) → ¬ RoseBy 1 old.reads new.reads → ¬ RoseBy 1 old.writes new.writes
-      → ¬ RoseBy 1 net.handing.faults net'.handing.faults → Did command settings calm net net' old new status → Complete
-  did_complete Commands.Run settings calm net net' reads writes peers d = ended_complete _ calm d.0.taken d.0.text d.0.rest reads writes d.0.ended
-  did_complete Commands.Serve settings calm net net' reads writes peers d = hosted_complete settings.connections net net' d.0.text writes peers d.0.ended
-  did_complete Commands.Load settings calm net net' reads writes peers d = loaded_complete (plan_of settings) d.0.text writes d.0.ended
+    did_complete : (command : Command) (settings : SettingsValues) (calm : Type 0) (net net' : Net) → AsksFor words command → ¬ RoseBy 1 old.reads new.reads
+        → ¬ RoseBy 1 old.writes new.writes → ¬ RoseBy 1 net.handing.faults net'.handing.faults → Did command settings calm net net' old new status → Complete
+    did_complete Commands.Run settings calm net net' asks reads writes peers d = ended_complete _ calm d.0.taken d.0.text d.0.rest asks reads writes d.0.ended
+    did_complete Commands.Serve settings calm net net' asks reads writes peers d = hosted_complete settings.connections net net' d.0.text writes peers d.0.ended
+    did_complete Commands.Load settings calm net net' asks reads writes peers d = loaded_complete (plan_of settings) d.0.text asks writes d.0.ended
 
 some_none : (o : Option Order) (order : Order) → o ≡ Some order → o ≡ None → ⊥
 some_none o order e f = none-some order (sym f ∙ e)
@@ -125,15 +128,17 @@ module _ (words : List Bytes) (known : Files) (calm : Type 0) (net net' : Net) (
     λ refused. absurd (settled_not_refused words known told command settings settled refused),
   )
 
-  stopped_complete : Stopped words known old.files new.files status → IsTaken words known → ¬ RoseBy 1 old.files new.files → IsComplete status old.doors new.doors
+  stopped_complete : Stopped words known old.files new.files status → IsTaken words known → ¬ RoseBy 1 old.files new.files → IsComplete words old.doors new.doors status
   stopped_complete (Stopped.unasked e none same) taken files = absurd (taken.0 none)
   stopped_complete (Stopped.unread e names rose) taken files = absurd (files rose)
   stopped_complete (Stopped.unsettled e refused) taken files = absurd (taken.1 refused)
-  stopped_complete (Stopped.starved e) taken files = inr (inl e)
+  stopped_complete (Stopped.starved e) taken files = IsComplete.starved e
 
-  pub complete : Ran words known calm net net' old new status → IsTaken words known → ¬ RoseBy 1 old.reads new.reads → ¬ RoseBy 1 old.writes new.writes → ¬ RoseBy 1 net.handing.faults net'.handing.faults → ¬ RoseBy 1 old.files new.files → IsComplete status old.doors new.doors
+  pub complete : Ran words known calm net net' old new status → IsTaken words known → ¬ RoseBy 1 old.reads new.reads → ¬ RoseBy 1 old.writes new.writes
+      → ¬ RoseBy 1 net.handing.faults net'.handing.faults → ¬ RoseBy 1 old.files new.files → IsComplete words old.doors new.doors status
   complete (Ran.stopped s quiet idle) taken reads writes peers files = stopped_complete s taken files
-  complete (Ran.did command settings settled did) taken reads writes peers files = did_complete old new status command settings calm net net' reads writes peers did
+  complete (Ran.did command settings settled did) taken reads writes peers files =
+      did_complete old new status words command settings calm net net' (settled.given, settled.asks) reads writes peers did
 
 -- ---- how a run went, at the status that its line gave
 

@@ -1,19 +1,16 @@
 -- What a run's session was served, from what its store says.
-use Rattle.std.proofs.Common.{◌≡◌, ℕ, List, [], ◌∷◌, ◌++◌, All, sum_by, inl, refl, sym, ◌∙◌, ap, subst, arith}
-use Rattle.std.proofs.KnownBytes.{Appends-nil, Consumes-nil}
+use Rattle.std.proofs.Common.{◌≡◌, ℕ, List, [], ◌++◌, sum_by, refl, sym, ◌∙◌, ap, subst}
 use Rattle.std.specs.Prelude.{Option}
-use Rattle.std.specs.List.{AllByRecursion}
-use Rattle.std.proofs.lemmas.List.Elements.{recursion_from_All}
-use Rattle.std.proofs.lemmas.List.Sums.{sum_by-cons}
 use Rattle.blob_model.specs.declared.call.Event.{Event}
 use Rattle.request_form.specs.Session.{Session, AllOwn}
-use Rattle.request_form.specs.Transcript.{until_quit, first_session}
+use Rattle.request_form.specs.Transcript.{first_session}
 use Rattle.script_text.specs.Lines.{heard}
 use Rattle.script_text.specs.Said.{said}
 use Rattle.server_core.specs.declared.step.End.{End}
 use Rattle.server_core.specs.declared.step.End.TheVariants as Ends
 use Rattle.server_core.specs.Progress.{Point}
 use Rattle.server_core.specs.Served.{Input, Served}
+use Rattle.server_core.proofs.Served.{Served-none}
 use Rattle.turn_lock.specs.History.{Log, Begins, LacksUngiven}
 use Rattle.turn_lock.specs.Shown.{Held}
 use Rattle.version_manager.specs.Log.{tagged, events}
@@ -27,33 +24,7 @@ use Rattle.blobseer_run.proofs.Alone.{own_of}
 -- ---- nothing was served for want of memory
 
 served_none : (old : Point) (input : Input) → Served said old heard input input input_limit old Ends.NoMemory
-served_none old input = record {
-  taken = [];
-  takes = record { given = Appends-nil input.given; left = Consumes-nil input.left };
-  within = omega arith;
-  items = [];
-  rest = [];
-  progress = record { replies = []; out = []; run = refl; faults = record { later = omega arith; by = λ less. omega arith }; adds = Appends-nil old.written; says = refl };
-  pieces = record {
-    earlier = [];
-    piece = [];
-    joins = refl;
-    short = omega arith;
-    no_quit = refl;
-    later = [];
-    answered = refl;
-    first = [];
-    others = [];
-    replied = refl;
-    one_each = refl;
-    text = [];
-    wrote = refl;
-  };
-  ended = (until_quit (heard []).items, refl);
-  closing = tt;
-  reaches = inl (until_quit (heard []).whole, refl);
-  stays = inl (λ more. (until_quit (heard more).items, refl));
-}
+served_none old input = Served-none said old heard input input_limit refl
 
 pub lines_none : (session : Session) (faults : ℕ) (input : Input) (written : Option (List ℕ)) → ServedLines (record { session = session; faults = faults; written = written }) input input session.seen faults written Ends.NoMemory
 lines_none session faults input written = record { last = session; sees = refl; served = served_none (record { session = session; faults = faults; written = written }) input }
@@ -86,15 +57,6 @@ module _ {D : Type 0} (faults : D → ℕ) (store : StoreState) (pass back : Hel
         sees = ap (λ (p : Held Event DeskFixed). events p.seen) (sym gave);
         served = subst F (sym same) first;
       }
-
--- ---- new doors have never failed
-
-sum_each : {D : Type 0} (faults : D → ℕ) (doors : List D) → AllByRecursion (λ door. faults door ≡ 0) doors → sum_by faults doors ≡ 0
-sum_each faults [] h = refl
-sum_each faults (door ∷ doors) h = sum_by-cons faults door doors ∙ omega (arith, h.0, sum_each faults doors h.1)
-
-pub sum_fresh : {D : Type 0} (faults : D → ℕ) (doors : List D) → All (λ door. faults door ≡ 0) doors → sum_by faults doors ≡ 0
-sum_fresh faults doors h = sum_each faults doors (recursion_from_All (λ door. faults door ≡ 0) doors h)
 
 -- ---- the first session of a new store, alone in it
 

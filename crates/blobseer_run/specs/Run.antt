@@ -15,7 +15,7 @@ use Rattle.settings.specs.Values.{SettingsValues}
 use Rattle.settings.specs.Words.{Bytes}
 use Rattle.blobseer_run.specs.Hosting.{Net, ServedPeers}
 use Rattle.blobseer_run.specs.Loading.{plan_of, Rises, RanLoad}
-use Rattle.blobseer_run.specs.Told.{asked, Settled, SettingsRefused, IsFileKnown, Stopped}
+use Rattle.blobseer_run.specs.Told.{asked, AsksFor, Settled, SettingsRefused, IsFileKnown, Stopped}
 use Rattle.blobseer_run.specs.Status.{done, words_refused, settings_refused, read_fault, write_fault, out_of_memory, input_too_long, load_ended_early}
 
 -- the most bytes that a run takes of its input
@@ -144,6 +144,10 @@ RefusesSettings words known files files' status =
 abbrev pub IsTaken : List Bytes → Files → Type 0
 IsTaken words known = (asked words ≢ None) × (¬ SettingsRefused words known)
 
--- it came to its end, or no memory was found, or the input was too long, or a load ended early, and then the doors' count rose
-abbrev pub IsComplete : ℕ → ℕ → ℕ → Type 0
-IsComplete status doors doors' = (status ≡ done) ⊎ (status ≡ out_of_memory) ⊎ (status ≡ input_too_long) ⊎ ((status ≡ load_ended_early) × Rises doors doors')
+-- How a run ends where the words and the settings are taken, and no count of the script, the output, the listener and the files rose; with the doors' count
+-- before and after. Only `run` finds an input too long, and only a load ends early, and then the doors' count rose.
+pub data IsComplete (words : List Bytes) (doors doors' status : ℕ) : Type 0 where
+  ended : (status ≡ done) → IsComplete words doors doors' status
+  starved : (status ≡ out_of_memory) → IsComplete words doors doors' status
+  too_long : (status ≡ input_too_long) → AsksFor words Commands.Run → IsComplete words doors doors' status
+  early : (status ≡ load_ended_early) → AsksFor words Commands.Load → Rises doors doors' → IsComplete words doors doors' status

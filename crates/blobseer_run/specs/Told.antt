@@ -24,6 +24,10 @@ Order = Command × GivenValues
 abbrev pub asked : List Bytes → Option Order
 asked words = given_by_words words
 
+-- the words are taken, and ask for that command
+abbrev pub AsksFor : List Bytes → Command → Type 0
+AsksFor words command = (given : GivenValues) × (asked words ≡ Some (command, given))
+
 -- ---- the settings file, by what is known of files
 
 -- What the file of that name gives. Without a name nothing is given. Of a file of which nothing is known it may be what any text gives.

@@ -1,5 +1,5 @@
 // Connections are served over a new store.
-ghost use Rattle.std.specs.Prelude.{◌≡◌, ◌↔◌, ℕ};
+ghost use Rattle.std.specs.Prelude.{◌≡◌, ◌↔◌, ℕ, ◌-◌, ◌^◌, ◌<◌, ◌≤◌};
 ghost use Rattle.ports.specs.Counts.{RoseBy};
 ghost use Rattle.blobseer_run.specs.Hosting.{served_line, status_of, ServedPeers};
 ghost use Rattle.blobseer_run.specs.Writing.{ToldLine};
@@ -68,6 +68,7 @@ where
         (K.written out.old) (K.written out.new) (K.write_faults out.old) (K.write_faults out.new) (code_of result) }
     ensures write_faults { RoseBy 0 (K.write_faults out.old) (K.write_faults out.new) }
     ensures listener_faults { RoseBy 0 (L.faults net.old) (L.faults net.new) }
+    ensures door_faults { M.faults maker.new < 2 ^ 64 - 1 → M.faults maker.old ≤ M.faults maker.new }
     ensures truth_stays { M.is_true maker.old ↔ M.is_true maker.new }
 {
     let Ok((shared, mut owner)) = Shared::new(

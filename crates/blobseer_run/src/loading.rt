@@ -1,5 +1,5 @@
 // A load is run over a new store.
-ghost use Rattle.std.specs.Prelude.{◌≡◌, ◌↔◌};
+ghost use Rattle.std.specs.Prelude.{◌≡◌, ◌↔◌, ◌-◌, ◌^◌, ◌<◌, ◌≤◌};
 ghost use Rattle.ports.specs.Counts.{RoseBy};
 ghost use Rattle.workload_law.specs.Said.{said};
 ghost use Rattle.blobseer_run.specs.Loading.{plan_of, status_of, RanLoad};
@@ -59,6 +59,7 @@ where
     ensures loaded { RanLoad (plan_of settings.now) (K.written out.old) (K.written out.new) (M.faults maker.old) (M.faults maker.new)
         (K.write_faults out.old) (K.write_faults out.new) (code_of result) }
     ensures write_faults { RoseBy 0 (K.write_faults out.old) (K.write_faults out.new) }
+    ensures door_faults { M.faults maker.new < 2 ^ 64 - 1 → M.faults maker.old ≤ M.faults maker.new }
     ensures truth_stays { M.is_true maker.old ↔ M.is_true maker.new }
 {
     let Ok((shared, owner)) = Shared::new(

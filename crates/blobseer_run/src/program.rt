@@ -1,4 +1,4 @@
-ghost use Rattle.std.specs.Prelude.{◌≡◌, ◌↔◌, ℕ, List, map};
+ghost use Rattle.std.specs.Prelude.{◌≡◌, ◌↔◌, ℕ, ◌-◌, ◌^◌, ◌<◌, ◌≤◌, List, map};
 ghost use Rattle.std.specs.String.{string_bytes};
 ghost use Rattle.ports.specs.Counts.{RoseBy};
 ghost use Rattle.blobseer_run.specs.Run.{Ran, Did, RefusesWords, RefusesSettings, IsTaken, IsComplete, IsCalm};
@@ -63,6 +63,7 @@ where
     ensures read_faults { RoseBy 0 (S.read_faults script.old) (S.read_faults script.new) }
     ensures write_faults { RoseBy 0 (K.write_faults out.old) (K.write_faults out.new) }
     ensures listener_faults { RoseBy 0 (L.faults net.old) (L.faults net.new) }
+    ensures door_faults { M.faults doors.new < 2 ^ 64 - 1 → M.faults doors.old ≤ M.faults doors.new }
     ensures truth_stays { M.is_true doors.old ↔ M.is_true doors.new }
 {
     match command {
@@ -152,14 +153,14 @@ where
     ensures words_refused { RefusesWords (map string_bytes words.now) result }
     ensures settings_refused { RefusesSettings (map string_bytes words.now) (F.known files.old) (F.faults files.old) (F.faults files.new) result }
 
-    // Where words and settings are taken and nothing outside fails, it comes to its end, unless no memory is found or the input is too long; a load also
-    // ends early where a door failed.
+    // Where words and settings are taken and nothing outside fails, it comes to its end, unless no memory is found. With `run` the input may also be too
+    // long, and a load may end early where a door failed.
     ensures complete { IsTaken (map string_bytes words.now) (F.known files.old)
         → ¬ RoseBy 1 (S.read_faults script.old) (S.read_faults script.new)
         → ¬ RoseBy 1 (K.write_faults out.old) (K.write_faults out.new)
         → ¬ RoseBy 1 (L.faults net.old) (L.faults net.new)
         → ¬ RoseBy 1 (F.faults files.old) (F.faults files.new)
-        → IsComplete result (M.faults doors.old) (M.faults doors.new) }
+        → IsComplete (map string_bytes words.now) (M.faults doors.old) (M.faults doors.new) result }
 
     // What it put on the error output.
     ensures tells { Tells result (E.written err.old) (E.written err.new) (E.write_faults err.old) (E.write_faults err.new) }
@@ -170,6 +171,7 @@ where
     ensures error_faults { RoseBy 0 (E.write_faults err.old) (E.write_faults err.new) }
     ensures listener_faults { RoseBy 0 (L.faults net.old) (L.faults net.new) }
     ensures file_faults { RoseBy 0 (F.faults files.old) (F.faults files.new) }
+    ensures door_faults { M.faults doors.new < 2 ^ 64 - 1 → M.faults doors.old ≤ M.faults doors.new }
 
     // Its doors stay true, and its files stay as they are.
     ensures truth_stays { M.is_true doors.old ↔ M.is_true doors.new }

@@ -1,5 +1,5 @@
 // A script is served by the one session of a new store.
-ghost use Rattle.std.specs.Prelude.{◌≡◌, ◌↔◌, ◌≤◌, ℕ, [], length, sum_by, All};
+ghost use Rattle.std.specs.Prelude.{◌≡◌, ◌↔◌, ◌-◌, ◌^◌, ◌<◌, ◌≤◌, ℕ, [], length, sum_by, All};
 ghost use Rattle.ports.specs.Counts.{RoseBy};
 ghost use Rattle.client_session.specs.Sessions.{IsPassOf, IsOwnerOf, session_at};
 ghost use Rattle.version_manager.specs.Log.{events};
@@ -153,6 +153,7 @@ where
         (code_of result) }
     ensures read_faults { RoseBy 0 (S.read_faults script.old) (S.read_faults script.new) }
     ensures write_faults { RoseBy 0 (K.write_faults out.old) (K.write_faults out.new) }
+    ensures door_faults { M.faults maker.new < 2 ^ 64 - 1 → M.faults maker.old ≤ M.faults maker.new }
     ensures truth_stays { M.is_true maker.old ↔ M.is_true maker.new }
 {
     // Laws that tell what was written, by the stream's end.
