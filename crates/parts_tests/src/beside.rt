@@ -113,7 +113,15 @@ fn two_doors_see_each_other(rt: HostRuntime) -> Result<(), Fail> {
     let placements = book.place(alloc, 2)?;
     let p = PageSize::new(65_536).ok_or("page size")?;
     let bytes = vec![in alloc; 7u8; 131_072]?;
-    let stored = store(&rt, alloc, &mut doors, &houses, p, bytes.as_slice(), &placements);
+    let stored = store(
+        &rt,
+        alloc,
+        &mut doors,
+        &houses,
+        p,
+        bytes.as_slice(),
+        &placements,
+    );
     assert_eq!(rt; stored.map(|pages| pages.count()).ok(), Some(2));
     doors.back(&mut maker);
     assert_eq!(rt; maker.faults, 0);

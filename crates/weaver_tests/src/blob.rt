@@ -12,7 +12,7 @@ use border_hints::{Hints, Ticket};
 use node_store::{NodeHouse, Row};
 use page_store::{PageHouse, Pages};
 use publisher::{FinishFault, Window};
-use range_log::{OpenList, OpenTouch};
+use range_log::{OpenCopy, OpenList, OpenTouch};
 use snapshot::Snapshot;
 use std::alloc::Global;
 use std::marker::{Brand, Model};
@@ -69,7 +69,7 @@ fn open_between(
     touches: &[Touch],
     from: usize,
     upto: usize,
-) -> Result<OpenList, Fail>
+) -> Result<OpenCopy, Fail>
     requires order { from ≤ upto }
     requires within { upto ≤ length touches.now }
     requires few { upto - from ≤ 64 }
@@ -82,7 +82,7 @@ fn open_between(
             touch: touches[i],
         });
     }
-    Ok(list)
+    Ok(list.copied(alloc)?)
 }
 
 impl Blob {
@@ -182,7 +182,6 @@ impl Blob {
         let pages = Arc::try_clone(&begun.pages)?;
         let len = pages.len();
         let size = self.touches[place].size;
-        let waiting = waiting.copied(alloc)?;
         let hints = Hints { snapshot, waiting };
         Ok(Ticket::of(1, 1, version, begun.at, len, size, hints, pages))
     }

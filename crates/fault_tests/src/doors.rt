@@ -1,0 +1,372 @@
+//! Calls of doors that fail once.
+//!
+//! A door's puts and gets are numbered together, from 1. Of three providers, each page has two, so that it is lost only where both
+//! of its doors fail.
+
+use crate::program::run_script;
+use crate::rows::{ROWS, Row, count_lines, split_lines};
+use page_store::FlakyMaker;
+use ports::memory::MemSource;
+use std::alloc::{AllocError, Global};
+use std::sync::Wait;
+use std::test::Fail;
+use std::thread::Threads;
+
+// Past the calls of any door here.
+const CALLS: u64 = 14;
+
+// Past the bytes of any replies here.
+const ROOM: usize = 4096;
+
+// Doors 1 to 3 that fail at calls of these two numbers: the door of that place alone, or all three. 0 is no call.
+fn maker_of(
+    alloc: Global,
+    alone: Option<usize>,
+    calls: &[u64; 2],
+) -> Result<FlakyMaker, AllocError> {
+    let mut lists = Vec::new(alloc);
+    for place in 0..3usize {
+        let fails = match alone {
+            Some(door) => door == place,
+            None => true,
+        };
+        lists.push(if fails {
+            calls.to_vec(alloc)?
+        } else {
+            Vec::new(alloc)
+        })?;
+    }
+    Ok(FlakyMaker::new(alloc, lists))
+}
+
+// What the program says to a row's script over those doors, where it ends with status 0, and how many calls failed.
+fn said_to<R: Wait + Threads + Sync>(
+    rt: &R,
+    alloc: Global,
+    row: &Row,
+    doors: FlakyMaker,
+) -> Result<(Vec<u8>, u64), Fail> {
+    let mut doors = doors;
+    let bytes = row.script.as_bytes().to_vec(alloc)?;
+    let source = MemSource::new(bytes, ROOM, Vec::new(alloc));
+    let ran = run_script(rt, alloc, source, ROOM, &mut doors)?;
+    if ran.status != 0 || !ran.err.is_empty() {
+        return Err("another status".into());
+    }
+    Ok((ran.out, doors.faults()))
+}
+
+// Where one door fails, once or at two calls in a row, the other replica of each page is there and nothing is seen of it. A failing
+// call is counted once.
+fn check_alone<R: Wait + Threads + Sync>(
+    rt: &R,
+    alloc: Global,
+    row: &Row,
+    door: usize,
+    calls: [u64; 2],
+) -> Result<(), Fail> {
+    let doors = maker_of(alloc, Some(door), &calls)?;
+    let (said, faults) = said_to(rt, alloc, row, doors)?;
+    if said.as_slice() != row.replies.as_bytes() || faults > 2 {
+        return Err(row.script.into());
+    }
+    Ok(())
+}
+
+fn check_door<R: Wait + Threads + Sync>(
+    rt: &R,
+    alloc: Global,
+    row: &Row,
+    door: usize,
+) -> Result<(), Fail> {
+    for before in 0..CALLS {
+        check_alone(rt, alloc, row, door, [before + 1, 0])?;
+        check_alone(rt, alloc, row, door, [before + 1, before + 2])?;
+    }
+    Ok(())
+}
+
+fn check_doors<R: Wait + Threads + Sync>(rt: &R, alloc: Global, row: &Row) -> Result<(), Fail> {
+    for door in 0..3 {
+        check_door(rt, alloc, row, door)?;
+    }
+    Ok(())
+}
+
+#[test]
+fn each_call_of_each_door_fails_once(rt: HostRuntime) -> Result<(), Fail> {
+    for row in ROWS.as_slice() {
+        check_doors(&rt, rt.alloc(), row)?;
+    }
+    Ok(())
+}
+
+// A row's place, the two calls at which all three doors fail, how many calls fail then at least, how many lines of the replies are as
+// ever, and the lines that stand in place of as many of the next ones. The last calls of each row are past those of its doors.
+static CASES: [(usize, [u64; 2], u64, usize, &str); 64] = [
+    // Pages with replicas.
+    (
+        0,
+        [1, 0],
+        3,
+        1,
+        "error page-fault 0\nversion 1 at 0 size 2\nerror not-published 2 1\nerror range-past-size 6 2\n",
+    ),
+    (
+        0,
+        [1, 2],
+        4,
+        1,
+        "error page-fault 0\nerror page-fault 0\nerror not-published 2 0\nerror not-published 1 0\n",
+    ),
+    (
+        0,
+        [2, 0],
+        3,
+        2,
+        "error page-fault 0\nerror not-published 2 1\n",
+    ),
+    (
+        0,
+        [2, 3],
+        5,
+        2,
+        "error page-fault 0\nerror not-published 2 1\nerror page-fault 0\n",
+    ),
+    (0, [3, 0], 3, 3, "error page-fault 1\n"),
+    (0, [3, 4], 4, 3, "error page-fault 1\nerror page-fault 0\n"),
+    (0, [4, 0], 2, 4, "error page-fault 1\n"),
+    (0, [4, 5], 2, 4, "error page-fault 1\n"),
+    (0, [5, 0], 0, 5, ""),
+    (0, [5, 6], 0, 5, ""),
+    // Tickets that finish in any order.
+    (
+        1,
+        [1, 0],
+        3,
+        1,
+        "error page-fault 0\nticket 1 version 1 at 0 size 1\nerror no-ticket 2\nstatus assigned 1 published 0 held 1\nerror not-published 2 0\npublished 1\nerror not-published 2 1\n",
+    ),
+    (
+        1,
+        [1, 2],
+        4,
+        1,
+        "error page-fault 0\nerror page-fault 0\nerror no-ticket 2\nstatus assigned 0 published 0 held 0\nerror not-published 2 0\nerror no-ticket 1\nerror not-published 2 0\n",
+    ),
+    (1, [2, 0], 2, 7, "error page-fault 0\n"),
+    (1, [2, 3], 2, 7, "error page-fault 0\n"),
+    (1, [3, 0], 1, 8, ""),
+    (1, [3, 4], 1, 8, ""),
+    (1, [4, 0], 0, 8, ""),
+    (1, [4, 5], 0, 8, ""),
+    // Tickets over many pages.
+    (
+        2,
+        [1, 0],
+        3,
+        1,
+        "error page-fault 0\nticket 1 version 1 at 0 size 31\nerror no-ticket 2\npublished 1\nerror not-published 2 1\n",
+    ),
+    (
+        2,
+        [1, 2],
+        4,
+        1,
+        "error page-fault 0\nerror page-fault 0\nerror no-ticket 2\nerror no-ticket 1\nerror not-published 2 0\n",
+    ),
+    (
+        2,
+        [2, 0],
+        3,
+        2,
+        "error page-fault 1\nerror no-ticket 2\npublished 1\nerror not-published 2 1\n",
+    ),
+    (
+        2,
+        [2, 3],
+        3,
+        2,
+        "error page-fault 1\nerror no-ticket 2\npublished 1\nerror not-published 2 1\n",
+    ),
+    (
+        2,
+        [3, 0],
+        2,
+        2,
+        "error page-fault 2\nerror no-ticket 2\npublished 1\nerror not-published 2 1\n",
+    ),
+    (
+        2,
+        [3, 4],
+        2,
+        2,
+        "error page-fault 2\nerror no-ticket 2\npublished 1\nerror not-published 2 1\n",
+    ),
+    (
+        2,
+        [4, 0],
+        3,
+        2,
+        "error page-fault 4\nerror no-ticket 2\npublished 1\nerror not-published 2 1\n",
+    ),
+    (
+        2,
+        [4, 5],
+        3,
+        2,
+        "error page-fault 4\nerror no-ticket 2\npublished 1\nerror not-published 2 1\n",
+    ),
+    (
+        2,
+        [5, 0],
+        2,
+        2,
+        "error page-fault 5\nerror no-ticket 2\npublished 1\nerror not-published 2 1\n",
+    ),
+    (
+        2,
+        [5, 6],
+        2,
+        2,
+        "error page-fault 5\nerror no-ticket 2\npublished 1\nerror not-published 2 1\n",
+    ),
+    (
+        2,
+        [6, 0],
+        3,
+        2,
+        "error page-fault 7\nerror no-ticket 2\npublished 1\nerror not-published 2 1\n",
+    ),
+    (
+        2,
+        [6, 7],
+        3,
+        2,
+        "error page-fault 7\nerror no-ticket 2\npublished 1\nerror not-published 2 1\n",
+    ),
+    (2, [7, 0], 2, 5, "error page-fault 0\n"),
+    (2, [7, 8], 2, 5, "error page-fault 0\n"),
+    (2, [8, 0], 2, 5, "error page-fault 1\n"),
+    (2, [8, 9], 2, 5, "error page-fault 1\n"),
+    (2, [9, 0], 2, 5, "error page-fault 3\n"),
+    (2, [9, 10], 2, 5, "error page-fault 3\n"),
+    (2, [10, 0], 2, 5, "error page-fault 4\n"),
+    (2, [10, 11], 2, 5, "error page-fault 4\n"),
+    (2, [11, 0], 2, 5, "error page-fault 6\n"),
+    (2, [11, 12], 2, 5, "error page-fault 6\n"),
+    (2, [12, 0], 2, 5, "error page-fault 7\n"),
+    (2, [12, 13], 2, 5, "error page-fault 7\n"),
+    (2, [13, 0], 0, 6, ""),
+    (2, [13, 14], 0, 6, ""),
+    // A branch.
+    (
+        3,
+        [1, 0],
+        3,
+        1,
+        "error page-fault 0\nversion 1 at 0 size 2\nblob 2\nversion 2 at 2 size 3\nerror not-published 2 1\nerror range-past-size 7 3\n",
+    ),
+    (
+        3,
+        [1, 2],
+        5,
+        1,
+        "error page-fault 0\nerror page-fault 0\nerror not-published 1 0\nerror no-blob 2\nerror not-published 2 0\nerror no-blob 2\n",
+    ),
+    (
+        3,
+        [2, 0],
+        3,
+        2,
+        "error page-fault 0\nblob 2\nversion 2 at 6 size 7\nerror not-published 2 1\n",
+    ),
+    (
+        3,
+        [2, 3],
+        5,
+        2,
+        "error page-fault 0\nblob 2\nerror page-fault 0\nerror not-published 2 1\nerror not-published 2 1\n",
+    ),
+    (
+        3,
+        [3, 0],
+        3,
+        4,
+        "error page-fault 0\ndata 6162636465665859\nerror not-published 2 1\n",
+    ),
+    (
+        3,
+        [3, 4],
+        4,
+        4,
+        "error page-fault 0\nerror page-fault 0\nerror not-published 2 1\n",
+    ),
+    (3, [4, 0], 2, 5, "error page-fault 0\n"),
+    (3, [4, 5], 4, 5, "error page-fault 0\nerror page-fault 0\n"),
+    (3, [5, 0], 2, 6, "error page-fault 0\n"),
+    (3, [5, 6], 2, 6, "error page-fault 0\n"),
+    (3, [6, 0], 1, 7, ""),
+    (3, [6, 7], 1, 7, ""),
+    (3, [7, 0], 0, 7, ""),
+    (3, [7, 8], 0, 7, ""),
+    // Sync.
+    (
+        4,
+        [1, 0],
+        3,
+        1,
+        "error page-fault 0\nticket 1 version 1 at 0 size 1\nerror no-ticket 2\nerror not-published 2 0\nerror not-published 3 0\npublished 1\nerror not-published 2 1\n",
+    ),
+    (
+        4,
+        [1, 2],
+        4,
+        1,
+        "error page-fault 0\nerror page-fault 0\nerror no-ticket 2\nerror not-published 2 0\nerror not-published 3 0\nerror no-ticket 1\nerror not-published 2 0\n",
+    ),
+    (4, [2, 0], 1, 9, ""),
+    (4, [2, 3], 1, 9, ""),
+    (4, [3, 0], 0, 9, ""),
+    (4, [3, 4], 0, 9, ""),
+];
+
+// The lines that are as ever are followed by those in place of others, and then by the rest as ever.
+fn is_said(said: &[u8], replies: &[u8], kept: usize, instead: &[u8]) -> bool {
+    let (front, back) = split_lines(replies, kept);
+    let (_, rest) = split_lines(back, count_lines(instead));
+    match said.strip_prefix(front) {
+        Some(behind) => match behind.strip_prefix(instead) {
+            Some(last) => last == rest,
+            None => false,
+        },
+        None => false,
+    }
+}
+
+fn check_case<R: Wait + Threads + Sync>(
+    rt: &R,
+    alloc: Global,
+    row: &Row,
+    calls: &[u64; 2],
+    failed: u64,
+    kept: usize,
+    instead: &str,
+) -> Result<(), Fail> {
+    let doors = maker_of(alloc, None, calls)?;
+    let (said, faults) = said_to(rt, alloc, row, doors)?;
+    let replies = row.replies.as_bytes();
+    if faults < failed || !is_said(said.as_slice(), replies, kept, instead.as_bytes()) {
+        return Err(row.script.into());
+    }
+    Ok(())
+}
+
+#[test]
+fn a_call_of_all_doors_fails_at_once(rt: HostRuntime) -> Result<(), Fail> {
+    for (place, calls, failed, kept, instead) in CASES.as_slice() {
+        let row = ROWS.get(*place).ok_or("a row")?;
+        check_case(&rt, rt.alloc(), row, calls, *failed, *kept, instead)?;
+    }
+    Ok(())
+}
