@@ -12,6 +12,7 @@ What a run may come to, where the right replies are those of a run in which noth
 Anything else is wrong: another status, another reply, a run that doesn't end.
 """
 import os
+import random
 import select
 import socket
 import struct
@@ -129,13 +130,24 @@ class Lines:
     right_end = ""
 
 
+def free_port():
+    """A port that nobody has, below those that the system gives to clients: a client that asks for one of those again and again
+    may be given the very port that it asks for, and then the server finds it taken."""
+    while True:
+        port = random.randrange(10_000, 30_000)
+        with socket.socket() as free:
+            try:
+                free.bind(("127.0.0.1", port))
+                return port
+            except OSError:
+                pass
+
+
 class Frames:
     """The same requests as frames to a server that serves one connection."""
 
     def __init__(self, tried, refused):
-        with socket.socket() as free:
-            free.bind(("127.0.0.1", 0))
-            port = free.getsockname()[1]
+        port = free_port()
         self.run = Run(tried, ["serve", *WORDS, "--listen", "127.0.0.1:%d" % port, "--workers", "2", "--connections", "1"], refused)
         self.socket = None
         while self.socket is None and self.run.process.poll() is None:
@@ -256,12 +268,12 @@ class Script:
         return kind
 
     def one(self, refused):
-        talk = self.talk(self.tried, refused)
-        told, end = converse(talk, self.lines)
-        if self.talk is Frames and not told and end[0] == 6:
-            # Somebody else may have taken the port meanwhile. What comes of the refused allocation comes again.
+        for _ in range(5):
             talk = self.talk(self.tried, refused)
             told, end = converse(talk, self.lines)
+            # Somebody else may have taken the port meanwhile. What comes of the refused allocation comes again.
+            if self.talk is not Frames or told or end[0] != 6:
+                break
         return judged(lambda: self.check(told, end), refused), talk.run.refused()
 
 
