@@ -1,4 +1,4 @@
--- Worked rows, computed from the definitions alone. Outcomes are those that the product's tables give.
+-- Worked rows, computed from the definitions alone. The tests of lines, frames and sessions go through the same rows.
 use Rattle.std.specs.Prelude.{◌≡◌, List, [], ◌∷◌, refl}
 use Rattle.blob_model.specs.Limits.{Bounds, greatest}
 use Rattle.blob_model.specs.Store.{Store, empty_store}

@@ -1,5 +1,6 @@
 // What the doors answered is joined, in the order of the pages and of their placements.
-ghost use Rattle.std.specs.Prelude.{◌≡◌, ℕ, ◌+◌, ◌-◌, ◌*◌, ◌^◌, ◌<◌, ◌≤◌, List, length, IfOk, IfSome, All, map, [], ◌∷◌, ◌++◌, take, drop, slice_index, slice_index_or, vec_capacity};
+ghost use Rattle.std.specs.Prelude.{◌≡◌, ℕ, ◌+◌, ◌-◌, ◌*◌, ◌^◌, ◌<◌, ◌≤◌, List, length, IfOk, IfSome, All};
+ghost use Rattle.std.specs.Prelude.{map, [], ◌∷◌, ◌++◌, take, drop, slice_index, slice_index_or, vec_capacity};
 ghost use Rattle.std.specs.Option.{option_map_or};
 ghost use Rattle.page_store.specs.House.{IsProvider};
 ghost use Rattle.replica_place.specs.Chosen.{chosen};

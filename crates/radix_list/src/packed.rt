@@ -61,8 +61,8 @@ impl<T> PackedList<T> {
         self.len
     }
 
-    /// Item `i` from 0. None exactly where `i` isn't below the length. It takes a node step for each node on the way: four
-    /// to an item, and no more where there is none.
+    /// Item `i`, counted from 0, or None past the last one. It takes a node step for each node on the way: four to an item, and
+    /// no more where there is none.
     pub(crate) fn get<L: Ledger>(&self, i: u64, steps: &mut Steps<L>) -> Option<&T>
         ensures item { option_copied result ≡ slice_get self.now i }
         ensures few { steps.new ≤ steps.old + 4 }

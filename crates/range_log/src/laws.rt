@@ -1,6 +1,11 @@
 //! The laws of the rows of a blob's versions, over every list of updates in which each begins at the size before it at the
 //! latest. Each is the contract of a function that does nothing.
-ghost use Rattle.range_log.specs.Laws.{LinksNameNodes, LinksLead, BacksLead, NoHoles, LinksHaveNoHoles, BacksHaveNoHoles, PageBytesStay, ExtentsStand, LeavesFill, LeavesFit, PiecesJoin, PiecesFit, NewestIsGreatest, LinksAgree, NewestAbove, NewestOfNone, NewestHits, NewestMisses, NewestHasNode, NewestIsSome, NewestIsNone, TouchesAre, EachTouchIs, SizesAre, LogsAreGrown, RowKeysExact, RowKeysInOrder, LevelsAreFew, BacksStep, DepthsStep, DepthOfNewest, DepthCountsBacks, DepthsStay, LogsGrow, RowsStay, ExtentsGrow, SizesStay, PlacesStay, ExtentsAre, EachExtentIs, ContentsGrow};
+ghost use Rattle.range_log.specs.Laws.{LinksNameNodes, LinksLead, BacksLead, NoHoles, LinksHaveNoHoles, BacksHaveNoHoles, PageBytesStay};
+ghost use Rattle.range_log.specs.Laws.{ExtentsStand, LeavesFill, LeavesFit, PiecesJoin, PiecesFit, NewestIsGreatest, LinksAgree, NewestAbove};
+ghost use Rattle.range_log.specs.Laws.{NewestOfNone, NewestHits, NewestMisses, NewestHasNode, NewestIsSome, NewestIsNone, TouchesAre, EachTouchIs};
+ghost use Rattle.range_log.specs.Laws.{SizesAre, LogsAreGrown, RowKeysExact, RowKeysInOrder, LevelsAreFew, BacksStep, DepthsStep, DepthOfNewest};
+ghost use Rattle.range_log.specs.Laws.{DepthCountsBacks, DepthsStay, LogsGrow, RowsStay, ExtentsGrow, SizesStay, PlacesStay, ExtentsAre};
+ghost use Rattle.range_log.specs.Laws.{EachExtentIs, ContentsGrow};
 
 /// Each link or back of a row that isn't 0 names a version whose row has a node for the link's range.
 pub fn links_name_nodes()

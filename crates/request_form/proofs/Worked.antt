@@ -1,4 +1,4 @@
--- Worked rows, computed from the definitions. Replies are those that the product's tables give.
+-- Worked rows, computed from the definitions alone. The tests of lines, frames and sessions go through the same rows.
 use Rattle.std.specs.Prelude.{◌≡◌, ◌≢◌, ℕ, ◌+◌, List, [], ◌∷◌, ◌++◌, replicate, Some, None, refl}
 use Rattle.std.proofs.Common.{arith}
 use Rattle.blob_model.specs.Limits.{Bounds, greatest}

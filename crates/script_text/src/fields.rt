@@ -1,4 +1,5 @@
-ghost use Rattle.std.specs.Prelude.{◌≡◌, ◌≤◌, ◌<◌, ◌+◌, ◌-◌, ◌*◌, ◌%◌, ◌^◌, ◌==◌, ◌∷◌, ◌++◌, [], length, take, true, false, IfOk, OnOk, OnErr, MatchOption};
+ghost use Rattle.std.specs.Prelude.{◌≡◌, ◌≤◌, ◌<◌, ◌+◌, ◌-◌, ◌*◌, ◌%◌, ◌^◌, ◌==◌, ◌∷◌, ◌++◌, []};
+ghost use Rattle.std.specs.Prelude.{length, take, true, false, IfOk, OnOk, OnErr, MatchOption};
 ghost use Rattle.std.specs.Bool.{MatchBool};
 ghost use Rattle.std.specs.List.{AllPass};
 ghost use Rattle.std.specs.Fmt.{decimal};
@@ -9,7 +10,8 @@ ghost use Rattle.script_text.specs.Requests.{request_of};
 ghost use Rattle.script_text.specs.Lines.{fields_of};
 ghost use Rattle.script_text.specs.Begun.{IsPlain};
 ghost use Rattle.script_text.specs.Commands.{command_of};
-ghost use Rattle.script_text.specs.Decoded.{digits_of, SpellsNoNumber, IsDecoded, IsFieldBehind, BeginsPair, EndsNumber, Adds, AddsByte, AsksNothing, Decodes, TakesPairs};
+ghost use Rattle.script_text.specs.Decoded.{digits_of, SpellsNoNumber, IsDecoded, IsFieldBehind, BeginsPair};
+ghost use Rattle.script_text.specs.Decoded.{EndsNumber, Adds, AddsByte, AsksNothing, Decodes, TakesPairs};
 
 use arrayvec::ArrayVec;
 use blob_model::Bytes;

@@ -4,7 +4,8 @@ ghost use Rattle.std.specs.List.{All};
 ghost use Rattle.script_text.specs.Requests.{forms, request_in, request_of};
 ghost use Rattle.script_text.specs.Commands.{command_of};
 ghost use Rattle.script_text.specs.Lines.{fields_of, heard_as, item_of_text, item_of};
-ghost use Rattle.script_text.specs.Begun.{IsWithout, GoesOnAs, SaysAs, IsLetter, begun_text, IsBegun, Counts, IsTooLong, AddsShort, TakesSolid, IsDropped, TakesSome, TakesFront};
+ghost use Rattle.script_text.specs.Begun.{IsWithout, GoesOnAs, SaysAs, IsLetter, begun_text, IsBegun, Counts};
+ghost use Rattle.script_text.specs.Begun.{IsTooLong, AddsShort, TakesSolid, IsDropped, TakesSome, TakesFront};
 ghost use Rattle.script_text.specs.Begun as spec;
 
 use crate::command::operation_of;

@@ -1,5 +1,7 @@
 //! The laws of pages and ranges that the crates above rest on. Each is the contract of a function that does nothing.
-ghost use Rattle.tree_geom.specs.Laws.{PagesHaveBytes, HeightsHold, SpanOfNone, SpanOfSome, SpansHold, WithinSpan, PageWithin, RangesHaveBytes, HeightsHalve, PagesAlign, LowHalvesAlign, HighHalvesAlign, RangesNest, MeetsIsTrue, MeetsIsFalse, MeetsOrNot, TouchesTellCover};
+ghost use Rattle.tree_geom.specs.Laws.{PagesHaveBytes, HeightsHold, SpanOfNone, SpanOfSome, SpansHold, WithinSpan, PageWithin, RangesHaveBytes};
+ghost use Rattle.tree_geom.specs.Laws.{HeightsHalve, PagesAlign, LowHalvesAlign, HighHalvesAlign, RangesNest, MeetsIsTrue, MeetsIsFalse, MeetsOrNot};
+ghost use Rattle.tree_geom.specs.Laws.{TouchesTellCover};
 
 /// What the height and the span of a size are, and which ranges are within the span.
 pub fn spans_hold()

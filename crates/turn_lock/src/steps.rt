@@ -59,7 +59,8 @@ fn run<S: Journaled, A: Act<S>>(
     requires table { (place.old.table_id ≡ board.now.table_id) × (caller ≡ place.old.me.0.caller) }
     requires held { (x : S) × (place.old.me.1 ≡ (0, x) ∷ []) × A.ready act (S.history x) (S.fixed x) }
     ensures seat { Stays place.old place.new }
-    ensures ran { (x : S) × (y : S) × (length (S.history y) < 2 ^ 38) × Ran S.history S.fixed (λ before f after. A.gives act before f caller result.0 after) place.old.me place.new.me result.1 x y }
+    ensures ran { (x : S) × (y : S) × (length (S.history y) < 2 ^ 38)
+        × Ran S.history S.fixed (λ before f after. A.gives act before f caller result.0 after) place.old.me place.new.me result.1 x y }
 {
     let state = place.slot_mut(board, STATE);
     let before = state.count();
@@ -72,14 +73,17 @@ fn run<S: Journaled, A: Act<S>>(
 fn book<S: Journaled>(board: &Board<S>, place: &mut Place<S>, added: u64)
     requires table { (place.old.table_id ≡ board.now.table_id) × (board.now.table_id.words ≡ 3) }
     requires inside { place.old.me.0.stage ≡ Inside (number_of place.old.me.0.stage) }
-    requires held { (x : S) × (place.old.me.1 ≡ (0, x) ∷ []) × Adds place.old.me.0.caller place.old.me.0.seen (S.history x) × (length (S.history x) ≡ length place.old.me.0.seen + added) × (length (S.history x) < 2 ^ 38) }
+    requires held { (x : S) × (place.old.me.1 ≡ (0, x) ∷ []) × Adds place.old.me.0.caller place.old.me.0.seen (S.history x)
+        × (length (S.history x) ≡ length place.old.me.0.seen + added) × (length (S.history x) < 2 ^ 38) }
     ensures seat { Stays place.old place.new }
-    ensures booked { (x : S) → place.old.me.1 ≡ (0, x) ∷ [] → place.new.me ≡ (record { caller = place.old.me.0.caller; seen = S.history x; fixed = place.old.me.0.fixed; stage = place.old.me.0.stage }, place.old.me.1) }
+    ensures booked { (x : S) → place.old.me.1 ≡ (0, x) ∷ []
+        → place.new.me ≡ (record { caller = place.old.me.0.caller; seen = S.history x; fixed = place.old.me.0.fixed; stage = place.old.me.0.stage }, place.old.me.1) }
 {
     board.fetch_add::<Book>(place, ENTRIES, added);
 }
 
-// Gives the state back with the turn, and wakes those that sleep. Where no seat has a number none sleeps: a seat draws before it looks.
+// Gives the state back with the turn, and wakes those that sleep. Where no seat has a number none sleeps: a seat draws before
+// it looks.
 fn pass_on<S: Journaled>(board: &Board<S>, place: &mut Place<S>)
     requires table { (place.old.table_id ≡ board.now.table_id) × (board.now.table_id.words ≡ 3) }
     requires inside { place.old.me.0.stage ≡ Inside (number_of place.old.me.0.stage) }

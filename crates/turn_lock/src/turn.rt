@@ -58,7 +58,10 @@ impl<S: Journaled> Model for Pass<S> {
     ghost invariant = { λ p. IsIdle p.seat.me p.caller };
 }
 
-/// Makes the passes of a lock, takes them back, and ends the lock. Contracts see its lock, how many passes it made and how many of them are out, the prefix of the history that it has seen, the fixed data, and the callers of the passes that it took back.
+/// Makes the passes of a lock, takes them back, and ends the lock.
+///
+/// Contracts see its lock, how many passes it made and how many of them are out, the prefix of the history that it has seen,
+/// the fixed data, and the callers of the passes that it took back.
 #[derive(Drop)]
 pub struct Owner<S: Journaled> {
     seat: Place<S>,
@@ -120,7 +123,9 @@ impl<S: Journaled + Drop> Turn<S> {
 }
 
 impl<S: Journaled> Turn<S> {
-    /// Waits until all turns that were drawn before are passed on, lets the act change the state, and answers what it answers. The pass has then seen the whole history, at whose end the act's entry stands where it added one.
+    /// Waits until all turns that were drawn before are passed on, lets the act change the state, and answers what it answers.
+    ///
+    /// The pass has then seen the whole history, at whose end the act's entry stands where it added one.
     pub fn with_turn<A: Act<S>, R: Wait>(&self, rt: &R, pass: &mut Pass<S>, act: A) -> A::Answer
         requires turn { pass.old.lock ≡ self.now }
         requires ready { IfSome pass.old.fixed (λ f. A.ready act pass.old.seen f) }

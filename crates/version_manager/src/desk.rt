@@ -1,5 +1,6 @@
 // The blobs of a store and its history.
-ghost use Rattle.std.specs.Prelude.{◌≡◌, ℕ, ◌-◌, ◌^◌, ◌<◌, ◌≤◌, true, false, List, [], ◌∷◌, ◌++◌, length, map, MatchOption, IfOk, IfErr, OnOk, OnErr, vec_len};
+ghost use Rattle.std.specs.Prelude.{◌≡◌, ℕ, ◌-◌, ◌^◌, ◌<◌, ◌≤◌, true, false, List, [], ◌∷◌, ◌++◌};
+ghost use Rattle.std.specs.Prelude.{length, map, MatchOption, IfOk, IfErr, OnOk, OnErr, vec_len};
 ghost use Rattle.std.specs.Arc.{arc_value};
 ghost use Rattle.page_store.specs.Stored.{joined, LieAmong};
 ghost use Rattle.node_store.specs.Rows.{IsRowIn};
@@ -11,7 +12,8 @@ ghost use Rattle.blob_model.specs.History.{IsLegal};
 ghost use Rattle.blob_model.specs.declared.call.Call.TheVariants as Calls;
 ghost use Rattle.blob_model.specs.declared.call.Event.TheVariants as Events;
 ghost use Rattle.blob_model.specs.declared.call.Outcome.TheVariants as Outcomes;
-ghost use Rattle.version_manager.specs.Desks.{empty_desk, outcome_now, updates_in, window_in, with_event, windows_with, windows_and, is_finished_in, OnRefused, IsUnfinished, IsNumbering, IsTicketOf, IsRowFor, HasHints};
+ghost use Rattle.version_manager.specs.Desks.{empty_desk, outcome_now, updates_in, window_in, with_event, windows_with, windows_and};
+ghost use Rattle.version_manager.specs.Desks.{is_finished_in, OnRefused, IsUnfinished, IsNumbering, IsTicketOf, IsRowFor, HasHints};
 ghost use Rattle.version_manager.specs.Origins.{LieUnderOrigins};
 
 use crate::blob::{branch_in, first_in, ticket_over};
