@@ -1,6 +1,6 @@
 -- The depth of a leaf, and how many backs lead from it.
 use Rattle.std.proofs.Common.{◌≡◌, ℕ, ◌+◌, ◌-◌, ◌*◌, ◌/◌, ◌<◌, ◌≤◌, zero, suc, List, ◌++◌, length, arith, inl, inr, refl, ap, sym, subst, ◌∙◌, true, false}
-use Rattle.std.specs.Prelude.{not, if◌then◌else◌}
+use Rattle.std.specs.Prelude.{Bool, not, if◌then◌else◌}
 use Rattle.std.proofs.lemmas.Bool.{cases_lt}
 use Rattle.std.proofs.lemmas.List.{get_or_append_left}
 use Rattle.std.proofs.lemmas.Nat.{mul-le}
@@ -15,7 +15,7 @@ use Rattle.range_log.specs.Extents.{Extent, InBounds, extent_at, size_after, tou
 use Rattle.range_log.specs.Rows.{back_of, covered}
 use Rattle.range_log.specs.Visits.{backs_of}
 use Rattle.range_log.specs.Depths.{depth_of, depth_after}
-use Rattle.range_log.specs.Laws.{DepthsStep, DepthOfNewest, DepthCountsBacks, DepthsStay}
+use Rattle.range_log.specs.Laws.{DepthsStep, DepthOfNewest, DepthCountsBacks, DepthsAreFew, DepthsStay}
 use Rattle.range_log.proofs.Counts.{backs_step, backs_zero, backs_newest, backs_above}
 use Rattle.range_log.proofs.Greatest.{bool_cases, newest_hit, newest_miss, newest_none}
 use Rattle.range_log.proofs.Grown.{grown_updates, length-touches, touch-touches}
@@ -48,6 +48,20 @@ depth_of_newest p (suc k) i log =
           ap (λ n. depth_of p log n i) (newest_miss p log k (page_range p i) miss)
           ∙ depth_of_newest p k i log
           ∙ sym (depth_miss p log k i miss)
+    ]
+
+-- one update more makes a leaf deeper by one at most
+step_few : (b : Bool) (d k : ℕ) → d ≤ k → (if b then suc d else 0) ≤ suc k
+step_few true d k le = omega (arith, le)
+step_few false d k le = omega arith
+
+pub depths_are_few : DepthsAreFew
+depths_are_few p zero i log = omega (arith, depth_none p log i)
+depths_are_few p (suc k) i log =
+    let before : depth_of p log k i ≤ k = depths_are_few p k i log in
+    elim (meets_cases p (touch_at log (suc k)) (page_range p i)) [
+      | inl hit ↦ omega (arith, depth_hit p log k i hit, step_few (leaves_open (touch_at log (suc k)) i) (depth_of p log k i) k before)
+      | inr miss ↦ omega (arith, depth_miss p log k i miss, before)
     ]
 
 -- ---- whether the update covers the page
@@ -134,11 +148,14 @@ pub depth_counts_backs : DepthCountsBacks
 depth_counts_backs p v i us pos bounds le = backs_deep p v i us pos bounds le ∙ sym (depth_of_newest p v i (touches p us))
 
 -- ---- later updates
-pub depths_stay : DepthsStay
-depths_stay p zero i log more le = depth_none p (log ++ more) i ∙ sym (depth_none p log i)
-depths_stay p (suc k) i log more le =
-    let t : touch_at (log ++ more) (suc k) ≡ touch_at log (suc k) = get_or_append_left log more no_touch k (omega arith) in
-    depth_next p (log ++ more) k i
-    ∙ ap (λ u. depth_after p u i (depth_of p (log ++ more) k i)) t
-    ∙ ap (depth_after p (touch_at log (suc k)) i) (depths_stay p k i log more (omega arith))
+-- two logs that say the same of the versions up to k have leaves as deep up to k
+pub same_depth : (p k i : ℕ) (log other : List Touch) → ((j : ℕ) → j < k → touch_at other (suc j) ≡ touch_at log (suc j)) → depth_of p other k i ≡ depth_of p log k i
+same_depth p zero i log other same = depth_none p other i ∙ sym (depth_none p log i)
+same_depth p (suc k) i log other same =
+    depth_next p other k i
+    ∙ ap (λ u. depth_after p u i (depth_of p other k i)) (same k (omega arith))
+    ∙ ap (depth_after p (touch_at log (suc k)) i) (same_depth p k i log other (λ j lt. same j (omega arith)))
     ∙ sym (depth_next p log k i)
+
+pub depths_stay : DepthsStay
+depths_stay p k i log more le = same_depth p k i log (log ++ more) (λ j lt. get_or_append_left log more no_touch j (omega arith))

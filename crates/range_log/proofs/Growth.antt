@@ -14,11 +14,13 @@ use Rattle.tree_geom.proofs.Touches.{meets_cases}
 use Rattle.range_log.specs.Log.{touch_at, newest_of, IsNewest, HasNode}
 use Rattle.range_log.specs.Extents.{Extent, no_extent, extent_at, size_after, touches}
 use Rattle.range_log.specs.Updates.{update_at, no_update, extents}
+use Rattle.range_log.specs.Depths.{depth_of}
 use Rattle.range_log.specs.Rows.{row_keys_of, levels_of, back_of, node_of, leaf_at, leaf_of, inner_of}
 use Rattle.range_log.specs.Visits.{backs_from, backs_of, pages_met, visits}
 use Rattle.range_log.specs.Laws.{NewestAbove, LogsGrow, RowsStay, ExtentsGrow, SizesStay, PlacesStay}
 use Rattle.range_log.proofs.Bytes.{extent_is, length-extents}
 use Rattle.range_log.proofs.Counts.{back_falls}
+use Rattle.range_log.proofs.Depths.{same_depth}
 use Rattle.range_log.proofs.Greatest.{newest_is, only_one, newest_hit, newest_miss, newest_none}
 use Rattle.range_log.proofs.Grown.{length-touches, touch-touches}
 
@@ -70,6 +72,9 @@ same_touch p us more (suc k) le =
 newest_same : (p : ℕ) (us more : List Extent) (k : ℕ) (r : Range) → k ≤ length us → newest_of p (touches p (us ++ more)) k r ≡ newest_of p (touches p us) k r
 newest_same p us more k r le = same_newest p k (touches p us) (touches p (us ++ more)) r (λ j lt. same_touch p us more (suc j) (omega arith))
 
+depth_same : (p : ℕ) (us more : List Extent) (k i : ℕ) → k ≤ length us → depth_of p (touches p (us ++ more)) k i ≡ depth_of p (touches p us) k i
+depth_same p us more k i le = same_depth p k i (touches p us) (touches p (us ++ more)) (λ j lt. same_touch p us more (suc j) (omega arith))
+
 -- ---- the row of a longer list
 -- the ranges of a row, of its version's touch
 keys_at : ℕ → Touch → List Range
@@ -102,8 +107,9 @@ same_back p us more k i le =
 same_node : (p : ℕ) (us more : List Extent) (k : ℕ) (r : Range) → k ≤ length us → node_of p (us ++ more) k r ≡ node_of p us k r
 same_node p us more k r le =
     let leaf : leaf_of p (us ++ more) k (r.offset / p) ≡ leaf_of p us k (r.offset / p) =
-    ap (λ x. leaf_at p x (r.offset / p) (back_of p (us ++ more) k (r.offset / p))) (same_extent us more k le)
-    ∙ ap (leaf_at p (extent_at us k) (r.offset / p)) (same_back p us more k (r.offset / p) le) in
+    ap (λ x. leaf_at p x (r.offset / p) (back_of p (us ++ more) k (r.offset / p)) (depth_of p (touches p (us ++ more)) k (r.offset / p))) (same_extent us more k le)
+    ∙ ap (λ b. leaf_at p (extent_at us k) (r.offset / p) b (depth_of p (touches p (us ++ more)) k (r.offset / p))) (same_back p us more k (r.offset / p) le)
+    ∙ ap (leaf_at p (extent_at us k) (r.offset / p) (back_of p us k (r.offset / p))) (depth_same p us more k (r.offset / p) le) in
     let inner : inner_of p (us ++ more) k r ≡ inner_of p us k r =
     ap (λ j. Inner j (newest_of p (touches p (us ++ more)) k (right_half r))) (newest_same p us more k (left_half r) le)
     ∙ ap (Inner (newest_of p (touches p us) k (left_half r))) (newest_same p us more k (right_half r) le) in

@@ -23,19 +23,19 @@ at_range o s = record { offset = o; size = s }
 abbrev piece : ℕ → ℕ → ℕ → Piece
 piece page from n = record { page = page; from = from; len = n }
 
-abbrev one_piece : ℕ → Piece → ℕ → Node
-one_piece start first back = Leaf start 1 first no_piece back
+abbrev one_piece : ℕ → Piece → ℕ → ℕ → Node
+one_piece start first back depth = Leaf start 1 first no_piece back depth
 
-abbrev two_pieces : ℕ → Piece → Piece → ℕ → Node
-two_pieces start first second back = Leaf start 2 first second back
+abbrev two_pieces : ℕ → Piece → Piece → ℕ → ℕ → Node
+two_pieces start first second back depth = Leaf start 2 first second back depth
 
 -- 6 bytes, and then 2 bytes at 3
 abbrev joined : List Extent
 joined = w 0 6 ∷ w 3 2 ∷ []
 
 row-joined : row_of 4 joined 2
-    ≡ (at_range 0 8, Inner 2 2) ∷ (at_range 0 4, one_piece 3 (piece 0 0 1) 1) ∷ (at_range 4 4, one_piece 0 (piece 0 1 1) 1) ∷ []
-unfolding newest_of touches row_keys_of levels_of level_of back_of height_of doublings
+    ≡ (at_range 0 8, Inner 2 2) ∷ (at_range 0 4, one_piece 3 (piece 0 0 1) 1 1) ∷ (at_range 4 4, one_piece 0 (piece 0 1 1) 1 1) ∷ []
+unfolding newest_of touches row_keys_of levels_of level_of back_of depth_of height_of doublings
 row-joined = refl
 
 -- three appends of 4, 4 and 1 bytes
@@ -43,8 +43,8 @@ abbrev appended : List Extent
 appended = w 0 4 ∷ w 4 4 ∷ w 8 1 ∷ []
 
 row-appended : row_of 4 appended 3
-    ≡ (at_range 0 16, Inner 2 3) ∷ (at_range 8 8, Inner 3 0) ∷ (at_range 8 4, one_piece 0 (piece 0 0 1) 0) ∷ []
-unfolding newest_of touches row_keys_of levels_of level_of back_of height_of doublings
+    ≡ (at_range 0 16, Inner 2 3) ∷ (at_range 8 8, Inner 3 0) ∷ (at_range 8 4, one_piece 0 (piece 0 0 1) 0 0) ∷ []
+unfolding newest_of touches row_keys_of levels_of level_of back_of depth_of height_of doublings
 row-appended = refl
 
 -- one byte, and then 31
@@ -52,12 +52,12 @@ abbrev grown : List Extent
 grown = w 0 1 ∷ w 1 31 ∷ []
 
 leaves-grown : map (λ i. leaf_of 4 grown 2 i) (range_with_len 0 3)
-    ≡ one_piece 1 (piece 0 0 3) 1 ∷ two_pieces 0 (piece 0 3 1) (piece 1 0 3) 0 ∷ two_pieces 0 (piece 1 3 1) (piece 2 0 3) 0 ∷ []
-unfolding newest_of touches back_of
+    ≡ one_piece 1 (piece 0 0 3) 1 1 ∷ two_pieces 0 (piece 0 3 1) (piece 1 0 3) 0 0 ∷ two_pieces 0 (piece 1 3 1) (piece 2 0 3) 0 0 ∷ []
+unfolding newest_of touches back_of depth_of
 leaves-grown = refl
 
 nodes-grown : length (row_of 4 grown 2) ≡ 15
-unfolding newest_of touches row_keys_of levels_of level_of back_of height_of doublings
+unfolding newest_of touches row_keys_of levels_of level_of back_of depth_of height_of doublings
 nodes-grown = refl
 
 -- the pages, the height, the backs and the visit bound, of n bytes from o on at version v

@@ -217,6 +217,10 @@ abbrev pub DepthCountsBacks : Type 0
 DepthCountsBacks = (p v i : ℕ) (us : List Extent) → 1 ≤ p → InBounds us → v ≤ length us
     → backs_of p us v i ≡ depth_of p (touches p us) (newest_of p (touches p us) v (page_range p i)) i
 
+-- no leaf is deeper than there are versions up to its own
+abbrev pub DepthsAreFew : Type 0
+DepthsAreFew = (p k i : ℕ) (log : List Touch) → depth_of p log k i ≤ k
+
 -- a longer log says the same of the versions of the shorter one
 abbrev pub DepthsStay : Type 0
 DepthsStay = (p k i : ℕ) (log more : List Touch) → k ≤ length log → depth_of p (log ++ more) k i ≡ depth_of p log k i

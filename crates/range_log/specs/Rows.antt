@@ -9,6 +9,7 @@ use Rattle.tree_geom.specs.Geometry.{tree_range, page_range, left_half, right_ha
 use Rattle.tree_geom.specs.Nodes.{no_piece}
 use Rattle.range_log.specs.Log.{touch_at, size_at, newest_of}
 use Rattle.range_log.specs.Extents.{Extent, extent_at, size_after, touches}
+use Rattle.range_log.specs.Depths.{depth_of}
 
 -- ---- the ranges of a row
 -- the ranges of p * 2^h bytes that the touched pages meet, by offset
@@ -66,15 +67,15 @@ abbrev pub piece_count : ℕ → ℕ → ℕ → ℕ
 piece_count p b n = if nat_lt (p - b % p) n then 2 else 1
 
 -- ---- the nodes
--- the leaf of page i of an update that falls at x, with that back
-abbrev pub leaf_at : ℕ → Extent → ℕ → ℕ → Node
-leaf_at p x i back =
+-- the leaf of page i of an update that falls at x, with that back and that depth
+abbrev pub leaf_at : ℕ → Extent → ℕ → ℕ → ℕ → Node
+leaf_at p x i back depth =
     Leaf (leaf_start p x i) (piece_count p (leaf_from p x i) (leaf_len p x i)) (first_piece p (leaf_from p x i) (leaf_len p x i))
-    (second_piece p (leaf_from p x i) (leaf_len p x i)) back
+    (second_piece p (leaf_from p x i) (leaf_len p x i)) back depth
 
 -- the leaf of page i in the row of version k
 abbrev pub leaf_of : ℕ → List Extent → ℕ → ℕ → Node
-leaf_of p us k i = leaf_at p (extent_at us k) i (back_of p us k i)
+leaf_of p us k i = leaf_at p (extent_at us k) i (back_of p us k i) (depth_of p (touches p us) k i)
 
 -- the inner node of the range in the row of version k
 abbrev pub inner_of : ℕ → List Extent → ℕ → Range → Node

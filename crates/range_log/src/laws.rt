@@ -4,7 +4,7 @@ ghost use Rattle.range_log.specs.Laws.{LinksNameNodes, LinksLead, BacksLead, NoH
 ghost use Rattle.range_log.specs.Laws.{ExtentsStand, LeavesFill, LeavesFit, PiecesJoin, PiecesFit, NewestIsGreatest, LinksAgree, NewestAbove};
 ghost use Rattle.range_log.specs.Laws.{NewestOfNone, NewestHits, NewestMisses, NewestHasNode, NewestIsSome, NewestIsNone, TouchesAre, EachTouchIs};
 ghost use Rattle.range_log.specs.Laws.{SizesAre, LogsAreGrown, RowKeysExact, RowKeysInOrder, LevelsAreFew, BacksStep, DepthsStep, DepthOfNewest};
-ghost use Rattle.range_log.specs.Laws.{DepthCountsBacks, DepthsStay, LogsGrow, RowsStay, ExtentsGrow, SizesStay, PlacesStay, ExtentsAre};
+ghost use Rattle.range_log.specs.Laws.{DepthCountsBacks, DepthsAreFew, DepthsStay, LogsGrow, RowsStay, ExtentsGrow, SizesStay, PlacesStay, ExtentsAre};
 ghost use Rattle.range_log.specs.Laws.{EachExtentIs, ContentsGrow};
 
 /// Each link or back of a row that isn't 0 names a version whose row has a node for the link's range.
@@ -86,6 +86,7 @@ pub fn depth_counts_backs()
     ensures backs { DepthCountsBacks }
     ensures step { DepthsStep }
     ensures newest { DepthOfNewest }
+    ensures few { DepthsAreFew }
     ensures stay { DepthsStay }
 {}
 
