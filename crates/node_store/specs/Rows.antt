@@ -5,23 +5,29 @@ use Rattle.boxcar.specs.Table.{Shelves}
 use Rattle.tree_geom.specs.declared.range.Range.{Range}
 use Rattle.tree_geom.specs.declared.touch.Touch.{Touch}
 use Rattle.page_store.specs.House.{House}
-use Rattle.page_store.specs.Stored.{Cut, LieAmong}
+use Rattle.page_store.specs.Stored.{Stored, Cut, LieAmong}
 use Rattle.node_store.specs.House.{IsIn}
 use Rattle.node_store.specs.Placed.{PlacedNode}
 
--- the row: the blob and the version of its nodes, what the update touches, how many nodes there is room for, the nodes,
--- and the update's stored pages
+-- the row: the blob and the version of its nodes, the byte of the blob at which the update begins, what it touches, how many
+-- nodes there is room for, the nodes, and the pages that were stored for the update
 pub record UpdateRow : Type 0 where
   pub blob : ℕ
   pub version : ℕ
+  pub offset : ℕ
   pub touch : Touch
   pub room : ℕ
   pub nodes : List PlacedNode
   pub pages : Cut
 
 -- a row without nodes
-abbrev pub empty_row : ℕ → ℕ → Touch → ℕ → Cut → UpdateRow
-empty_row blob version touch room pages = record { blob = blob; version = version; touch = touch; room = room; nodes = []; pages = pages }
+abbrev pub empty_row : ℕ → ℕ → ℕ → Touch → ℕ → Cut → UpdateRow
+empty_row blob version offset touch room pages =
+    record { blob = blob; version = version; offset = offset; touch = touch; room = room; nodes = []; pages = pages }
+
+-- the stored pages of the row, page 0 first: those to which the pieces of its leaves lead
+abbrev pub stored_of : UpdateRow → List Stored
+stored_of row = row.pages.pages
 
 -- the row with one node more at its end
 abbrev pub with_node : UpdateRow → PlacedNode → UpdateRow
@@ -47,4 +53,4 @@ pub record IsNodeFor (row : UpdateRow) (range : Range) (placed : PlacedNode) : T
 -- the row's nodes lie in this house, and its pages in these houses
 pub record IsRowIn (nodes : List Shelves) (houses : List House) (row : UpdateRow) : Type 0 where
   pub nodes_here : All (IsIn nodes) row.nodes
-  pub pages_here : LieAmong houses row.pages.pages
+  pub pages_here : LieAmong houses (stored_of row)

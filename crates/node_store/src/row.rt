@@ -3,7 +3,7 @@ ghost use Rattle.std.specs.Prelude.{◌≡◌, ◌<◌, length, IfOk, IfSome, Ma
 ghost use Rattle.std.specs.Arc.{arc_value};
 ghost use Rattle.std.specs.Ordering.{MatchOrdering};
 ghost use Rattle.node_store.specs.Order.{Before};
-ghost use Rattle.node_store.specs.Rows.{cut_at, empty_row, with_node, last_node, IsNodeFor, HasNoNodeFor};
+ghost use Rattle.node_store.specs.Rows.{cut_at, empty_row, stored_of, with_node, last_node, IsNodeFor, HasNoNodeFor};
 ghost use Rattle.page_store.specs.Stored.{joined};
 
 use crate::NoMemory;
@@ -23,6 +23,7 @@ use tree_geom::{Range, Touch};
 pub struct Row {
     blob: u64,
     version: u64,
+    offset: u64,
     touch: Touch,
     room: u32,
     // the logarithms of the sizes of the first node's range and of the last one's, by which the place of a range is guessed
@@ -40,26 +41,30 @@ impl Model for Row {
 
     ghost use Rattle.node_store.specs.RowKept.{KeepsRow};
 
-    ghost view = { λ r. record { blob = r.blob; version = r.version; touch = r.touch; room = r.room; nodes = r.nodes.items; pages = arc_value r.pages } };
+    ghost view = { λ r.
+        record { blob = r.blob; version = r.version; offset = r.offset; touch = r.touch; room = r.room; nodes = r.nodes.items; pages = arc_value r.pages } };
 
     ghost invariant = { KeepsRow };
 }
 
 impl Row {
-    /// A row without nodes, with room for `room` nodes, of an update that touches `touch` and has these pages.
+    /// A row without nodes, with room for `room` nodes, of an update that begins at byte `offset` of the blob, touches `touch`
+    /// and has these pages.
     pub fn start(
         alloc: Global,
         blob: u64,
         version: u64,
+        offset: u64,
         touch: Touch,
         pages: Arc<Pages>,
         room: u32,
     ) -> Result<Row, NoMemory>
-        ensures { IfOk result (λ row. row ≡ empty_row blob version touch room (arc_value pages)) }
+        ensures { IfOk result (λ row. row ≡ empty_row blob version offset touch room (arc_value pages)) }
     {
         Ok(Row {
             blob,
             version,
+            offset,
             touch,
             room,
             top: 0,
@@ -94,6 +99,13 @@ impl Row {
         ensures { result ≡ self.now.version }
     {
         self.version
+    }
+
+    /// The byte of the blob at which the update begins.
+    pub fn offset(&self) -> u64
+        ensures { result ≡ self.now.offset }
+    {
+        self.offset
     }
 
     /// What the update touches, and the blob's size after it.
@@ -148,9 +160,9 @@ impl Row {
     /// The stored page `q` of the update, counted from 0, to which a piece of that number leads. It begins `q` page sizes after
     /// the update's first byte. `q` is below the number of the row's stored pages.
     pub fn page(&self, q: u32) -> &StoredPage
-        requires { q < length self.now.pages.pages }
-        ensures this { slice_get self.now.pages.pages q ≡ Some result.now }
-        ensures bytes { result.now.bytes ≡ cut_at self.now.pages.page_size (joined self.now.pages.pages) q }
+        requires { q < length (stored_of self.now) }
+        ensures this { slice_get (stored_of self.now) q ≡ Some result.now }
+        ensures bytes { result.now.bytes ≡ cut_at self.now.pages.page_size (joined (stored_of self.now)) q }
     {
         self.pages.page(q)
     }

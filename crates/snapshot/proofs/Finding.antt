@@ -94,7 +94,7 @@ version_finds exact stand s j range row placed is same some le found =
     let own : IsRowOf s.page_size us j (row_at s.rows j) = is.rows j some le in
     let P : UpdateRow → Type 0 = λ r. IsNodeFor r range placed in
     let at : IsNodeFor (row_at s.rows j) range placed = subst P same found in
-    let in_list : j ≤ length (extents us) = omega (arith, length-extents us, length-updates s.page_size s.rows) in
+    let in_list : j ≤ length (extents us) = omega (arith, length-extents us, length-updates s.rows) in
     let node = found_node exact s.page_size j (extents us) (row_at s.rows j) range placed (page_pos s.page_size is.page_size) (stand us is.replayable).0 some in_list own.nodes at in
     let named : ℕ → NodeKey = λ v. record { blob = (row_at s.rows j).blob; version = v; range = range } in
     record {
@@ -110,7 +110,7 @@ version_finds_none exact stand s j range row is same some le none has =
     let us : List Update = updates_of s in
     let own : IsRowOf s.page_size us j (row_at s.rows j) = is.rows j some le in
     let P : UpdateRow → Type 0 = λ r. HasNoNodeFor r range in
-    let in_list : j ≤ length (extents us) = omega (arith, length-extents us, length-updates s.page_size s.rows) in
+    let in_list : j ≤ length (extents us) = omega (arith, length-extents us, length-updates s.rows) in
     found_none exact s.page_size j (extents us) (row_at s.rows j) range (page_pos s.page_size is.page_size) (stand us is.replayable).0 some in_list own.nodes (subst P same none) has
 
 pub none_then : {A : Type 0} (o : Option A) (P R : Type 0) (Q : A → Type 0) → (P → R) → MatchOption o P Q → IfNone o R

@@ -1,18 +1,18 @@
 -- A version with one more row, and an older version.
-use Rattle.std.proofs.Common.{◌≡◌, ℕ, suc, ◌+◌, ◌*◌, ◌^◌, ◌<◌, ◌≤◌, List, [], ◌∷◌, ◌++◌, length, map, arith, ap, sym, ◌∙◌, subst, inl, inr, length-append}
+use Rattle.std.proofs.Common.{◌≡◌, ℕ, zero, suc, ◌+◌, ◌*◌, ◌^◌, ◌<◌, ◌≤◌, List, [], ◌∷◌, ◌++◌, length, map, arith, refl, ap, sym, ◌∙◌, subst, inl, inr, length-append}
 use Rattle.std.proofs.lemmas.Bool.{cases_lt}
 use Rattle.std.proofs.lemmas.List.{map-append}
 use Rattle.blob_model.specs.Content.{Update, size_of}
 use Rattle.tree_geom.specs.declared.range.Range.{Range}
 use Rattle.tree_geom.specs.declared.node.Node.{Node}
 use Rattle.range_log.specs.Log.{touch_at}
-use Rattle.range_log.specs.Extents.{Extent, touches}
+use Rattle.range_log.specs.Extents.{Extent, extent_at, touches}
 use Rattle.range_log.specs.Updates.{extents, extent_of, Replayable}
 use Rattle.range_log.specs.Rows.{node_of, row_of, row_keys_of}
 use Rattle.range_log.specs.Laws.{RowsStay, ExtentsGrow}
 use Rattle.page_store.specs.Stored.{Cut, joined}
-use Rattle.node_store.specs.Rows.{UpdateRow}
-use Rattle.range_log.proofs.Bytes.{length-extents}
+use Rattle.node_store.specs.Rows.{UpdateRow, stored_of}
+use Rattle.range_log.proofs.Bytes.{length-extents, extent_is}
 use Rattle.range_log.proofs.Growth.{size_front, extent_of_front}
 use Rattle.snapshot.specs.Versions.{Version, row_at, written, updates, bytes_of, IsRowOf, IsVersion}
 use Rattle.snapshot.proofs.Lists.{row_at_front, row_at_new, length-updates, update_at_front, map_same}
@@ -35,6 +35,11 @@ module _ (stay : RowsStay) (grow : ExtentsGrow) where
       let rest = grow us more in
       ap (λ xs. touch_at (touches p xs) k) rest.1 ∙ touch_stays stay p k (extents us) rest.0 (omega (arith, length-extents us))
 
+  place_front : (k : ℕ) (us more : List Update) → k ≤ length us → extent_at (extents (us ++ more)) k ≡ extent_at (extents us) k
+  place_front zero us more le = refl
+  place_front (suc k) us more le =
+      extent_is (us ++ more) k (omega (arith, length-append us more)) ∙ extent_of_front us more k le ∙ sym (extent_is us k le)
+
   row_front : (p k : ℕ) (us more : List Update) → k ≤ length us → row_of p (extents (us ++ more)) k ≡ row_of p (extents us) k
   row_front p k us more le =
       let rest = grow us more in
@@ -43,6 +48,7 @@ module _ (stay : RowsStay) (grow : ExtentsGrow) where
   pub IsRowOf-longer : (p k : ℕ) (us more : List Update) (row : UpdateRow) → k ≤ length us → IsRowOf p us k row → IsRowOf p (us ++ more) k row
   IsRowOf-longer p k us more row le is = record {
     version = is.version;
+    offset = is.offset ∙ ap (λ (x : Extent). x.at) (sym (place_front k us more le));
     touch = is.touch ∙ sym (touch_front p k us more le);
     nodes = is.nodes ∙ sym (row_front p k us more le);
     bytes = is.bytes ∙ ap (λ (u : Update). u.bytes) (sym (update_at_front us more k le));
@@ -52,6 +58,7 @@ module _ (stay : RowsStay) (grow : ExtentsGrow) where
   pub IsRowOf-shorter : (p k : ℕ) (us more : List Update) (row : UpdateRow) → k ≤ length us → IsRowOf p (us ++ more) k row → IsRowOf p us k row
   IsRowOf-shorter p k us more row le is = record {
     version = is.version;
+    offset = is.offset ∙ ap (λ (x : Extent). x.at) (place_front k us more le);
     touch = is.touch ∙ touch_front p k us more le;
     nodes = is.nodes ∙ row_front p k us more le;
     bytes = is.bytes ∙ ap (λ (u : Update). u.bytes) (update_at_front us more k le);
@@ -68,8 +75,8 @@ Replayable-shorter us more ok k lt =
     let Q : ℕ → Type 0 = λ n. ((extent_of us (suc k)).at ≤ n) × (1 ≤ (extent_of us (suc k)).len) in
     subst Q s (subst P e was)
 
-updates-append : (p : ℕ) (rows more : List UpdateRow) → updates p (rows ++ more) ≡ updates p rows ++ updates p more
-updates-append p rows more = map-append (written p) rows more
+updates-append : (rows more : List UpdateRow) → updates (rows ++ more) ≡ updates rows ++ updates more
+updates-append rows more = map-append written rows more
 
 -- the version of the first rows
 abbrev pub of_rows : ℕ → ℕ → List UpdateRow → Version
@@ -77,11 +84,11 @@ of_rows blob p rows = record { blob = blob; page_size = p; rows = rows }
 
 pub IsVersion-front : RowsStay → ExtentsGrow → (blob p : ℕ) (rows more : List UpdateRow) → IsVersion (of_rows blob p (rows ++ more)) → IsVersion (of_rows blob p rows)
 IsVersion-front stay grow blob p rows more is =
-    let us : List Update = updates p rows in
-    let rest : List Update = updates p more in
-    let join : updates p (rows ++ more) ≡ us ++ rest = updates-append p rows more in
+    let us : List Update = updates rows in
+    let rest : List Update = updates more in
+    let join : updates (rows ++ more) ≡ us ++ rest = updates-append rows more in
     let count : length (rows ++ more) ≡ length rows + length more = length-append rows more in
-    let told : length us ≡ length rows = length-updates p rows in
+    let told : length us ≡ length rows = length-updates rows in
     record {
       page_size = is.page_size;
       counted = omega (arith, is.counted);
@@ -93,7 +100,7 @@ IsVersion-front stay grow blob p rows more is =
           subst R (row_at_front rows more k le) (IsRowOf-shorter stay grow p k us rest (row_at (rows ++ more) k) (omega arith) (subst P join (is.rows k some long)));
       paged = λ k some le.
           let long : k ≤ length (rows ++ more) = omega arith in
-          let R : UpdateRow → Type 0 = λ row. length (bytes_of row) ≤ length row.pages.pages * p in
+          let R : UpdateRow → Type 0 = λ row. length (bytes_of row) ≤ length (stored_of row) * p in
           subst R (row_at_front rows more k le) (is.paged k some long);
       fits = λ v le.
           let long : v ≤ length (rows ++ more) = omega arith in
@@ -103,16 +110,16 @@ IsVersion-front stay grow blob p rows more is =
     }
 
 pub IsVersion-push : RowsStay → ExtentsGrow → (blob p : ℕ) (rows : List UpdateRow) (row : UpdateRow) → IsVersion (of_rows blob p rows) → length rows < 1048576
-    → IsRowOf p (updates p (rows ++ row ∷ [])) (length rows + 1) row → Replayable (updates p (rows ++ row ∷ []))
-    → length (bytes_of row) ≤ length row.pages.pages * p → size_of (updates p (rows ++ row ∷ [])) (length rows + 1) ≤ 2 ^ 40
+    → IsRowOf p (updates (rows ++ row ∷ [])) (length rows + 1) row → Replayable (updates (rows ++ row ∷ []))
+    → length (bytes_of row) ≤ length (stored_of row) * p → size_of (updates (rows ++ row ∷ [])) (length rows + 1) ≤ 2 ^ 40
     → IsVersion (of_rows blob p (rows ++ row ∷ []))
 IsVersion-push stay grow blob p rows row is room new ok paged fits =
-    let us : List Update = updates p rows in
-    let rest : List Update = written p row ∷ [] in
+    let us : List Update = updates rows in
+    let rest : List Update = written row ∷ [] in
     let all : List UpdateRow = rows ++ row ∷ [] in
-    let join : updates p all ≡ us ++ rest = updates-append p rows (row ∷ []) in
+    let join : updates all ≡ us ++ rest = updates-append rows (row ∷ []) in
     let count : length all ≡ length rows + 1 = length-append rows (row ∷ []) in
-    let told : length us ≡ length rows = length-updates p rows in
+    let told : length us ≡ length rows = length-updates rows in
     let next : length rows + 1 ≡ suc (length rows) = omega arith in
     let newest : row_at all (length rows + 1) ≡ row = ap (row_at all) next ∙ row_at_new rows row in
     let last : (k : ℕ) → length rows < k → k ≤ length all → k ≡ length rows + 1 = λ k lt le. omega arith in
@@ -122,8 +129,8 @@ IsVersion-push stay grow blob p rows row is room new ok paged fits =
       replayable = ok;
       rows = λ k some le. elim (cases_lt (length rows) k) [
         | inl past ↦
-            let P : ℕ → Type 0 = λ n. IsRowOf p (updates p all) n (row_at all n) in
-            let R : UpdateRow → Type 0 = λ r. IsRowOf p (updates p all) (length rows + 1) r in
+            let P : ℕ → Type 0 = λ n. IsRowOf p (updates all) n (row_at all n) in
+            let R : UpdateRow → Type 0 = λ r. IsRowOf p (updates all) (length rows + 1) r in
             subst P (sym (last k past le)) (subst R (sym newest) new)
         | inr old ↦
             let P : List Update → Type 0 = λ l. IsRowOf p l k (row_at all k) in
@@ -132,16 +139,16 @@ IsVersion-push stay grow blob p rows row is room new ok paged fits =
       ];
       paged = λ k some le. elim (cases_lt (length rows) k) [
         | inl past ↦
-            let P : ℕ → Type 0 = λ n. length (bytes_of (row_at all n)) ≤ length (row_at all n).pages.pages * p in
-            let R : UpdateRow → Type 0 = λ r. length (bytes_of r) ≤ length r.pages.pages * p in
+            let P : ℕ → Type 0 = λ n. length (bytes_of (row_at all n)) ≤ length (stored_of (row_at all n)) * p in
+            let R : UpdateRow → Type 0 = λ r. length (bytes_of r) ≤ length (stored_of r) * p in
             subst P (sym (last k past le)) (subst R (sym newest) paged)
         | inr old ↦
-            let R : UpdateRow → Type 0 = λ r. length (bytes_of r) ≤ length r.pages.pages * p in
+            let R : UpdateRow → Type 0 = λ r. length (bytes_of r) ≤ length (stored_of r) * p in
             subst R (sym (row_at_front rows (row ∷ []) k old)) (is.paged k some old)
       ];
       fits = λ v le. elim (cases_lt (length rows) v) [
         | inl past ↦
-            let P : ℕ → Type 0 = λ n. size_of (updates p all) n ≤ 2 ^ 40 in
+            let P : ℕ → Type 0 = λ n. size_of (updates all) n ≤ 2 ^ 40 in
             subst P (sym (last v past le)) fits
         | inr old ↦
             let P : List Update → Type 0 = λ l. size_of l v ≤ 2 ^ 40 in

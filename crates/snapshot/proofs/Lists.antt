@@ -16,11 +16,11 @@ pub row_at_new : (rows : List UpdateRow) (row : UpdateRow) → row_at (rows ++ r
 row_at_new rows row = get_or-append_seam rows row [] no_row
 
 -- ---- updates
-pub length-updates : (p : ℕ) (rows : List UpdateRow) → length (updates p rows) ≡ length rows
-length-updates p rows = length-map rows (written p)
+pub length-updates : (rows : List UpdateRow) → length (updates rows) ≡ length rows
+length-updates rows = length-map rows written
 
-pub update_told : (p : ℕ) (rows : List UpdateRow) (k : ℕ) → k < length rows → update_at (updates p rows) (suc k) ≡ written p (row_at rows (suc k))
-update_told p rows k lt = get_or-map (written p) rows k no_row no_update lt
+pub update_told : (rows : List UpdateRow) (k : ℕ) → k < length rows → update_at (updates rows) (suc k) ≡ written (row_at rows (suc k))
+update_told rows k lt = get_or-map written rows k no_row no_update lt
 
 pub update_at_front : (us more : List Update) (k : ℕ) → k ≤ length us → update_at (us ++ more) k ≡ update_at us k
 update_at_front us more zero le = refl

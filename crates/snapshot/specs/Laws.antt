@@ -13,11 +13,11 @@ pub record AreRowsOf (p : ℕ) (us : List Update) (rows : List UpdateRow) : Type
 -- what the rows tell is as good as those updates: each falls in the same place with the same bytes, and leaves the same
 -- content, and the rows are those of what they tell
 pub record TellUpdates (p : ℕ) (us : List Update) (rows : List UpdateRow) : Type 0 where
-  pub fall : extents (updates p rows) ≡ take (length rows) (extents us)
-  pub bytes : (k : ℕ) → k ≤ length rows → (update_at (updates p rows) k).bytes ≡ (update_at us k).bytes
-  pub leave : (v : ℕ) → v ≤ length rows → content (updates p rows) v ≡ content us v
-  pub replayable : Replayable (updates p rows)
-  pub own : AreRowsOf p (updates p rows) rows
+  pub fall : extents (updates rows) ≡ take (length rows) (extents us)
+  pub bytes : (k : ℕ) → k ≤ length rows → (update_at (updates rows) k).bytes ≡ (update_at us k).bytes
+  pub leave : (v : ℕ) → v ≤ length rows → content (updates rows) v ≡ content us v
+  pub replayable : Replayable (updates rows)
+  pub own : AreRowsOf p (updates rows) rows
 
 abbrev pub RowsTell : Type 0
 RowsTell = (p : ℕ) (us : List Update) (rows : List UpdateRow) → 1 ≤ p → Replayable us → AreRowsOf p us rows → TellUpdates p us rows

@@ -1,5 +1,5 @@
 -- What a clause sees of a snapshot, and the updates that its rows tell.
-use Rattle.std.specs.Prelude.{◌≡◌, ℕ, ◌+◌, ◌*◌, ◌^◌, ◌≤◌, ◌==◌, ◌&&◌, zero, suc, Bool, if◌then◌else◌, List, [], ◌∷◌, ◌++◌, length, take, map, slice_index_or, All}
+use Rattle.std.specs.Prelude.{◌≡◌, ℕ, ◌*◌, ◌^◌, ◌≤◌, zero, suc, List, [], ◌∷◌, ◌++◌, length, take, map, slice_index_or, All}
 use Rattle.std.specs.List.{Contains}
 use Rattle.boxcar.specs.Table.{Shelves}
 use Rattle.blob_model.specs.Content.{Update, size_of}
@@ -7,16 +7,16 @@ use Rattle.blob_model.specs.declared.call.Place.TheVariants.{WriteAt}
 use Rattle.tree_geom.specs.declared.range.Range.{Range}
 use Rattle.tree_geom.specs.declared.node.Node.{Node}
 use Rattle.tree_geom.specs.declared.node.NodeKey.{NodeKey}
-use Rattle.tree_geom.specs.Geometry.{page_range, no_touch, span_of, IsPageSize}
-use Rattle.tree_geom.specs.Nodes.{start_of}
+use Rattle.tree_geom.specs.Geometry.{no_touch, span_of, IsPageSize}
 use Rattle.range_log.specs.Log.{HasNode, touch_at}
-use Rattle.range_log.specs.Extents.{touches}
+use Rattle.range_log.specs.Extents.{extent_at, touches}
 use Rattle.range_log.specs.Updates.{update_at, extents, Replayable}
 use Rattle.range_log.specs.Rows.{node_of, row_of}
 use Rattle.page_store.specs.House.{House}
-use Rattle.page_store.specs.Stored.{joined}
+use Rattle.page_store.specs.Stored.{joined, LieAmong}
 use Rattle.node_store.specs.Placed.{PlacedNode}
-use Rattle.node_store.specs.Rows.{UpdateRow, empty_row, IsRowIn}
+use Rattle.node_store.specs.House.{IsIn}
+use Rattle.node_store.specs.Rows.{UpdateRow, empty_row, stored_of}
 
 -- a version: the blob under whose id it is read, its page size, and the rows of its updates, update 1 first
 pub record Version : Type 0 where
@@ -26,7 +26,7 @@ pub record Version : Type 0 where
 
 -- what stands in place of row 0, which there is none of
 abbrev pub no_row : UpdateRow
-no_row = empty_row 0 0 no_touch 0 record { page_size = 0; room = 0; pages = [] }
+no_row = empty_row 0 0 0 no_touch 0 record { page_size = 0; room = 0; pages = [] }
 
 -- the row of update j, from 1
 abbrev pub row_at : List UpdateRow → ℕ → UpdateRow
@@ -52,31 +52,19 @@ pairs_of row = map (λ (n : PlacedNode). (n.key.range, n.node)) row.nodes
 
 -- the bytes of the row's pages
 abbrev pub bytes_of : UpdateRow → List ℕ
-bytes_of row = joined row.pages.pages
+bytes_of row = joined (stored_of row)
 
-abbrev pub same_range : Range → Range → Bool
-same_range a b = a.offset == b.offset && a.size == b.size
-
--- where the own bytes of the leaf of that range begin in it
-abbrev pub start_in : List (Range × Node) → Range → ℕ
-start_in [] range = 0
-start_in (pair ∷ pairs) range = if same_range pair.0 range then start_of pair.1 else start_in pairs range
-
--- the update that the row tells: its bytes, written at the first touched page and the start of that page's leaf
-abbrev pub written : ℕ → UpdateRow → Update
-written p row = record {
-  caller = 0;
-  place = WriteAt (row.touch.first * p + start_in (pairs_of row) (page_range p row.touch.first));
-  bytes = bytes_of row;
-}
+-- the update that the row tells: its bytes, written where the row says that it begins
+abbrev pub written : UpdateRow → Update
+written row = record { caller = 0; place = WriteAt row.offset; bytes = bytes_of row }
 
 -- the updates that rows tell
-abbrev pub updates : ℕ → List UpdateRow → List Update
-updates p rows = map (written p) rows
+abbrev pub updates : List UpdateRow → List Update
+updates rows = map written rows
 
 -- the updates 1 to the version
 abbrev pub updates_of : Version → List Update
-updates_of s = updates s.page_size s.rows
+updates_of s = updates s.rows
 
 -- the size of the version
 abbrev pub size_now : Version → ℕ
@@ -86,6 +74,7 @@ size_now s = size_of (updates_of s) (length s.rows)
 -- the row is that of update k of these, and its pages are that update's bytes, cut at the page size
 pub record IsRowOf (p : ℕ) (us : List Update) (k : ℕ) (row : UpdateRow) : Type 0 where
   pub version : row.version ≡ k
+  pub offset : row.offset ≡ (extent_at (extents us) k).at
   pub touch : row.touch ≡ touch_at (touches p (extents us)) k
   pub nodes : pairs_of row ≡ row_of p (extents us) k
   pub bytes : bytes_of row ≡ (update_at us k).bytes
@@ -97,7 +86,7 @@ pub record IsVersion (s : Version) : Type 0 where
   pub counted : length s.rows ≤ 1048576
   pub replayable : Replayable (updates_of s)
   pub rows : (k : ℕ) → 1 ≤ k → k ≤ length s.rows → IsRowOf s.page_size (updates_of s) k (row_at s.rows k)
-  pub paged : (k : ℕ) → 1 ≤ k → k ≤ length s.rows → length (bytes_of (row_at s.rows k)) ≤ length (row_at s.rows k).pages.pages * s.page_size
+  pub paged : (k : ℕ) → 1 ≤ k → k ≤ length s.rows → length (bytes_of (row_at s.rows k)) ≤ length (stored_of (row_at s.rows k)) * s.page_size
   pub fits : (v : ℕ) → v ≤ length s.rows → size_of (updates_of s) v ≤ 2 ^ 40
 
 -- ---- nodes
@@ -120,6 +109,15 @@ root_key s = record {
   range = record { offset = 0; size = span_of s.page_size (size_now s) };
 }
 
--- the snapshot's nodes lie in this house, and its pages in these houses
+-- ---- where nodes and pages lie
+-- the nodes of the version's rows lie in this house
+abbrev pub NodesLieIn : List Shelves → Version → Type 0
+NodesLieIn nodes s = All (λ (row : UpdateRow). All (IsIn nodes) row.nodes) s.rows
+
+-- the stored pages of its rows lie in these houses
+abbrev pub PagesLieIn : List House → Version → Type 0
+PagesLieIn houses s = All (λ (row : UpdateRow). LieAmong houses (stored_of row)) s.rows
+
+-- both
 abbrev pub IsVersionIn : List Shelves → List House → Version → Type 0
-IsVersionIn nodes houses s = All (IsRowIn nodes houses) s.rows
+IsVersionIn nodes houses s = NodesLieIn nodes s × PagesLieIn houses s

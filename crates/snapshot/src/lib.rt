@@ -1,7 +1,7 @@
 //! One published version of a blob: the rows of its updates, each proved to be the row of its update.
 //!
-//! What a snapshot means is a list of updates, from the first up to that of its version. Each of its rows tells one: a write of the bytes of
-//! the row's pages, at the first touched page and the byte of that page's leaf.
+//! What a snapshot means is a list of updates, from the first up to that of its version. Each of its rows tells one: a write
+//! of the bytes of the row's pages, at the byte that the row keeps.
 #![tactic(auto)]
 
 pub mod laws;

@@ -6,7 +6,7 @@ ghost use Rattle.std.specs.Arc.{arc_value};
 ghost use Rattle.blob_model.specs.Content.{size_of};
 ghost use Rattle.range_log.specs.Updates.{Replayable};
 ghost use Rattle.page_store.specs.Stored.{joined};
-ghost use Rattle.node_store.specs.Rows.{cut_at};
+ghost use Rattle.node_store.specs.Rows.{cut_at, stored_of};
 ghost use Rattle.snapshot.specs.Versions.{row_at, bytes_of, updates_of, next_version, older_version};
 ghost use Rattle.snapshot.specs.Versions.{under_blob, size_now, HasNodeFor, IsFound, root_key, IsRowOf};
 ghost use Rattle.snapshot.specs.Versions.{IsVersion};
@@ -187,11 +187,19 @@ impl Snapshot {
     /// the page size on.
     pub fn page(&self, j: u64, q: u32) -> &StoredPage
         requires version { (1 ≤ j) × (j ≤ length self.now.rows) }
-        requires number { q < length (row_at self.now.rows j).pages.pages }
-        ensures this { slice_get (row_at self.now.rows j).pages.pages q ≡ Some result.now }
+        requires number { q < length (stored_of (row_at self.now.rows j)) }
+        ensures this { slice_get (stored_of (row_at self.now.rows j)) q ≡ Some result.now }
         ensures bytes { result.now.bytes ≡ cut_at self.now.page_size (bytes_of (row_at self.now.rows j)) q }
     {
         self.row(j).page(q)
+    }
+
+    /// The rows of updates 1 to the version, in the list that the snapshot keeps: item `j - 1` is the row of update `j`. It copies
+    /// nothing and takes no memory. A reader that is lent a snapshot can't come to its rows by this.
+    pub fn into_rows(self) -> RadixList<Row>
+        ensures { result ≡ self.rows }
+    {
+        self.rows
     }
 
     // The row of update `j`.

@@ -11,7 +11,7 @@ returns-clause-size c =
     let s = c.args.self.now in
     let is = c.row.ensures.stands in
     let some : 1 ≤ c.args.j = omega (arith, c.if-j-eq0.false) in
-    let le : c.args.j ≤ length (updates_of s) = omega (arith, length-updates s.page_size s.rows, c.requires) in
+    let le : c.args.j ≤ length (updates_of s) = omega (arith, length-updates s.rows, c.requires) in
     ap (λ (t : Touch). t.size) c.touch.ensures
     ∙ ap (λ (r : UpdateRow). r.touch.size) c.row.ensures.this
     ∙ touch_size c.page_bytes_stay.ensures.extents s.page_size c.args.j (updates_of s) (row_at s.rows c.args.j) is.replayable some le (is.rows c.args.j some c.requires)
