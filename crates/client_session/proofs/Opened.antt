@@ -2,11 +2,7 @@
 use Rattle.std.proofs.Common.{◌≡◌, sym, ◌∙◌, ap, subst, ℕ, List, Option, Some}
 use Rattle.std.specs.Prelude.{IfSome, slice_set, remove}
 use Rattle.blob_model.specs.declared.call.Event.{Event}
-use Rattle.boxcar.specs.Table.{Shelves}
-use Rattle.page_store.specs.House.{House}
 use Rattle.node_store.specs.Rows.{UpdateRow}
-use Rattle.snapshot.specs.Versions.{Version, IsVersionIn}
-use Rattle.border_hints.specs.Borders.{NodesLieIn}
 use Rattle.version_manager.specs.Log.{MayFinish, desk_at}
 use Rattle.version_manager.specs.declared.journal.DeskFixed.{DeskFixed}
 use Rattle.request_form.specs.Session.{Held}
@@ -14,10 +10,6 @@ use Rattle.client_session.specs.Tickets.{OpenUpdate, all_held, with_row, IsHeldA
 use Rattle.client_session.specs.Kept.{IsOpen, IsWoven}
 use Rattle.client_session.proofs.Rows.{all_held-with_row, all_held-remove}
 use Rattle.client_session.proofs.Reports.{IsTaken}
-
--- the nodes of a version that lies in these houses
-pub nodes_of : (nodes : List Shelves) (houses : List House) (s : Version) → IsVersionIn nodes houses s → NodesLieIn nodes s
-nodes_of nodes houses s h = λ k row lt. (h k row lt).nodes_here
 
 -- an open update with its row may be finished
 pub may_finish : (f : DeskFixed) (log : List (ℕ × Event)) (o : OpenUpdate) (row : UpdateRow) → IsOpen f log o → o.row ≡ Some row → MayFinish o.ticket row log f

@@ -5,7 +5,7 @@ use Rattle.page_store.specs.House.{House}
 use Rattle.page_store.specs.Stored.{LieAmong}
 use Rattle.blob_model.specs.declared.call.Event.{Event}
 use Rattle.node_store.specs.Rows.{UpdateRow, IsRowIn}
-use Rattle.border_hints.specs.Borders.{NodesLieIn}
+use Rattle.snapshot.specs.Versions.{NodesLieIn}
 use Rattle.border_hints.specs.Numbered.{NumberedUpdate}
 use Rattle.turn_lock.specs.Shown.{Held}
 use Rattle.version_manager.specs.Desks.{DeskState, IsTicketOf, IsRowFor}

@@ -7,7 +7,7 @@ ghost use Rattle.node_store.specs.Rows.{IsRowIn};
 ghost use Rattle.range_log.specs.Extents.{Extent};
 ghost use Rattle.range_log.specs.Rows.{row_of};
 ghost use Rattle.border_hints.specs.Numbered.{StandsFor};
-ghost use Rattle.border_hints.specs.Borders.{NodesLieIn};
+ghost use Rattle.snapshot.specs.Versions.{NodesLieIn};
 ghost use Rattle.version_manager.specs.Desks.{DeskState, IsTicketOf, IsRowFor};
 
 use border_hints::Ticket;

@@ -14,6 +14,7 @@ use Rattle.node_store.specs.Order.{Before as StandsBefore}
 use Rattle.node_store.specs.Placed.{PlacedNode}
 use Rattle.node_store.specs.Rows.{UpdateRow, last_node, with_node}
 use Rattle.range_log.specs.Laws.{EachTouchIs, SizesAre}
+use Rattle.range_log.specs.Extents.{Extent}
 use Rattle.range_log.specs.Updates.{extents}
 use Rattle.page_store.specs.Stored.{Cut, joined}
 use Rattle.snapshot.specs.Versions.{pairs_of}
@@ -78,8 +79,9 @@ pair_is a n x e f = let made : Range → Node → Range × Node = λ r m. (r, m)
 
 -- the stored row is that of the update
 pub row_is : EachTouchIs → SizesAre → StoredRowsAreRows
-row_is each sizes t row us is version touch pages st nodes bytes = record {
+row_is each sizes t row us is version offset touch pages st nodes bytes = record {
   version = version;
+  offset = offset ∙ ap (λ (x : Extent). x.at) (sym st.own);
   touch = touch ∙ sym (own_touch_in each sizes t is (extents us) st);
   nodes = nodes;
   bytes = ap (λ (c : Cut). joined c.pages) pages ∙ bytes;

@@ -8,8 +8,9 @@ use Rattle.node_store.specs.Rows.{UpdateRow}
 use Rattle.snapshot.specs.Versions.{pairs_of, IsRowOf}
 use Rattle.border_hints.specs.Numbered.{NumberedUpdate, own_touch, StandsFor, IsNumbered}
 
--- a row that has the ticket's version, touch and pages and the planned nodes is that of the update
+-- a row that has the ticket's version, offset, touch and pages and the planned nodes is that of the update
 abbrev pub StoredRowsAreRows : Type 0
-StoredRowsAreRows = (t : NumberedUpdate) (row : UpdateRow) (us : List Update) → IsNumbered t → row.version ≡ t.version → row.touch ≡ own_touch t → row.pages ≡ t.pages
+StoredRowsAreRows = (t : NumberedUpdate) (row : UpdateRow) (us : List Update) → IsNumbered t
+    → row.version ≡ t.version → row.offset ≡ t.at → row.touch ≡ own_touch t → row.pages ≡ t.pages
     → StandsFor t (extents us) → pairs_of row ≡ row_of t.snapshot.page_size (extents us) t.version → joined t.pages.pages ≡ (update_at us t.version).bytes
     → IsRowOf t.snapshot.page_size us t.version row

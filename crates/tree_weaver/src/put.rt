@@ -24,6 +24,7 @@ pub fn put_row<R: Wait>(
 ) -> Result<Arc<Row>, NoMemory>
     ensures blob { IfOk result (λ row. (arc_value row).blob ≡ ticket.now.blob) }
     ensures version { IfOk result (λ row. (arc_value row).version ≡ ticket.now.version) }
+    ensures offset { IfOk result (λ row. (arc_value row).offset ≡ ticket.now.at) }
     ensures touch { IfOk result (λ row. (arc_value row).touch ≡ own_touch ticket.now) }
     ensures nodes { IfOk result (λ row. pairs_of (arc_value row) ≡ planned.now) }
     ensures here { IfOk result (λ row. All (IsIn nodes.now) (arc_value row).nodes) }
@@ -36,7 +37,8 @@ pub fn put_row<R: Wait>(
         return Err(NoMemory);
     };
     let pages = Arc::try_clone(ticket.pages())?;
-    let mut row = Row::start(alloc, blob, version, ticket.touch(), pages, room)?;
+    let (offset, touch) = (ticket.at(), ticket.touch());
+    let mut row = Row::start(alloc, blob, version, offset, touch, pages, room)?;
     for i in 0..list.len() {
         let (range, node) = list[i];
         let key = NodeKey {

@@ -38,8 +38,13 @@ module _ (nodes : List Shelves) (houses : List House) where
   leading_at (Some row ∷ rest) h zero d lt = h 0 None (omega arith)
   leading_at (Some row ∷ rest) h (suc k) d lt = leading_at rest (λ i o l. h (suc i) o (omega arith)) k d (omega arith)
 
+  older_rows_in : (w : Numbered) (version : ℕ) → AreRowsIn w → All (IsRowIn nodes houses) (take version (leading w.rows))
+  older_rows_in w version h = All-take (IsRowIn nodes houses) version (leading w.rows) (leading_at w.rows h)
+
   pub older_in : (w : Numbered) (version : ℕ) → AreRowsIn w → IsVersionIn nodes houses (older_version (version_of w) version)
-  older_in w version h = All-take (IsRowIn nodes houses) version (leading w.rows) (leading_at w.rows h)
+  older_in w version h =
+      let rows = older_rows_in w version h in
+      (λ k row lt. (rows k row lt).nodes_here, λ k row lt. (rows k row lt).pages_here)
 
   pub branch_in_houses : (w : Numbered) (version id : ℕ) → AreRowsIn w → AreRowsIn (window_on (under_blob (older_version (version_of w) version) id))
-  branch_in_houses w version id h = All-map (IsRowIfAnyIn nodes houses) (λ (row : UpdateRow). Some row) (take version (leading w.rows)) (older_in w version h)
+  branch_in_houses w version id h = All-map (IsRowIfAnyIn nodes houses) (λ (row : UpdateRow). Some row) (take version (leading w.rows)) (older_rows_in w version h)

@@ -19,7 +19,7 @@ use Rattle.node_store.specs.House.{IsIn}
 use Rattle.node_store.specs.Rows.{UpdateRow}
 use Rattle.snapshot.specs.Versions.{Version, older_version}
 use Rattle.border_hints.specs.Numbered.{log_of, log_with, numbered}
-use Rattle.border_hints.specs.Borders.{NodesLieIn}
+use Rattle.snapshot.specs.Versions.{NodesLieIn}
 use Rattle.publisher.specs.Windows.{version_of, opens_from}
 use Rattle.publisher.specs.Laws.{PublishedLogIs}
 use Rattle.weaver_tests.specs.Blobs.{OneBlob, IsOneBlob, Start, update_of, updates_in, IsTicketOf}

@@ -10,7 +10,7 @@ use Rattle.page_store.specs.Stored.{Cut, joined}
 use Rattle.node_store.specs.House.{IsIn}
 use Rattle.node_store.specs.Rows.{UpdateRow}
 use Rattle.border_hints.specs.Numbered.{NumberedUpdate, StandsFor as TicketStandsFor}
-use Rattle.border_hints.specs.Borders.{NodesLieIn}
+use Rattle.snapshot.specs.Versions.{NodesLieIn}
 use Rattle.publisher.specs.Windows.{Numbered, StandsFor}
 
 -- where an update begins, and its pages

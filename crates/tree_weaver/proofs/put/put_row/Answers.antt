@@ -24,6 +24,7 @@ loop-i-preserved g c =
     record {
       blob = ap (λ (r : UpdateRow). r.blob) e ∙ inv.blob;
       version = ap (λ (r : UpdateRow). r.version) e ∙ inv.version;
+      offset = ap (λ (r : UpdateRow). r.offset) e ∙ inv.offset;
       touch = ap (λ (r : UpdateRow). r.touch) e ∙ inv.touch;
       room = ap (λ (r : UpdateRow). r.room) e ∙ inv.room;
       pages = ap (λ (r : UpdateRow). r.pages) e ∙ inv.pages;

@@ -8,6 +8,7 @@ abbrev pub invariant-loop-i : goal.invariant-loop-i
 invariant-loop-i g l = record {
   blob : l.row.blob ≡ l.blob;
   version : l.row.version ≡ l.version;
+  offset : l.row.offset ≡ l.initial.row.offset;
   touch : l.row.touch ≡ l.initial.row.touch;
   room : l.row.room ≡ l.initial.row.room;
   pages : l.row.pages ≡ l.initial.row.pages;

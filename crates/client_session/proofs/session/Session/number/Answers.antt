@@ -11,7 +11,7 @@ use Rattle.blob_model.specs.declared.call.Outcome.TheVariants as Outcomes
 use Rattle.page_store.specs.House.{House}
 use Rattle.page_store.specs.Stored.{Cut, joined, LieAmong}
 use Rattle.node_store.specs.Rows.{UpdateRow}
-use Rattle.border_hints.specs.Borders.{NodesLieIn}
+use Rattle.snapshot.specs.Versions.{NodesLieIn}
 use Rattle.border_hints.specs.Numbered.{NumberedUpdate}
 use Rattle.turn_lock.specs.Shown.{Held}
 use Rattle.version_manager.specs.Desks.{IsUnfinished}
@@ -31,7 +31,6 @@ use Rattle.client_session.specs.Updates.{IsNumbered}
 use Rattle.client_session.proofs.Turns.{Took, took, went_changed, outcome_of_gap, seen_event}
 use Rattle.client_session.proofs.Standing.{session_after, session_doors}
 use Rattle.client_session.proofs.Answering.{not_assigned}
-use Rattle.client_session.proofs.Opened.{nodes_of}
 use Rattle.client_session.proofs.session.Session.number.Goals.{in-Ok-weave, in-Err-weave}
 use Rattle.client_session.proofs.session.Session.number.Goals as goal
 
@@ -117,7 +116,7 @@ weave-requires g c =
     let t0 : Took by i.pass.seen new.seen (λ before after. Changed fixed (Calls.Assign c.args.blob c.args.place bytes) (Events.Assign by c.args.blob c.args.place bytes) (λ (t : NumberedUpdate). Outcomes.Assigned t.version t.at t.size) (λ (x : DeskFault). x) before by r after) =
     record { gap = t.gap; others = t.others; gives = t.gives.0 }
     in
-    let here : NodesLieIn fixed.nodes c.in-Ok-assign.ticket.snapshot = nodes_of fixed.nodes fixed.houses c.in-Ok-assign.ticket.snapshot t.gives.1.hints.here in
+    let here : NodesLieIn fixed.nodes c.in-Ok-assign.ticket.snapshot = t.gives.1.hints.here.0 in
     subst (λ (n : List Shelves). NodesLieIn n c.in-Ok-assign.ticket.snapshot) (sym c.nodes.ensures) here
 
 pub invariant_of-self-2 : goal.invariant_of-self-2
@@ -182,7 +181,7 @@ returns-clause-numbered g c =
       blob_is = n.blob_is;
       open_ = record {
         ticket = n.ticket;
-        here = record { snapshot = nodes_of fixed.nodes fixed.houses ticket.snapshot n.hints.here; pages = pages };
+        here = record { snapshot = n.hints.here.0; pages = pages };
         row = woven;
       };
       unfinished = subst (λ (b : ℕ). IsUnfinished (desk_at fixed new.seen) b ticket.version) (sym n.blob_is) n.unfinished;

@@ -3,7 +3,7 @@ use Rattle.std.specs.Prelude.{option_map, slice_get, slice_set}
 use Rattle.std.specs.Arc.{arc_value}
 use Rattle.boxcar.specs.Table.{Shelves}
 use Rattle.page_store.specs.Stored.{LieAmong}
-use Rattle.border_hints.specs.Borders.{NodesLieIn}
+use Rattle.snapshot.specs.Versions.{NodesLieIn}
 use Rattle.border_hints.specs.Numbered.{NumberedUpdate}
 use Rattle.node_store.specs.Rows.{UpdateRow}
 use Rattle.client_session.specs.Tickets.{OpenUpdate, with_row}
