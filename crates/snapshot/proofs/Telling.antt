@@ -14,7 +14,7 @@ use Rattle.range_log.specs.Rows.{row_of}
 use Rattle.range_log.specs.Laws.{RowsStay}
 use Rattle.node_store.specs.Rows.{UpdateRow}
 use Rattle.range_log.proofs.Bytes.{content_next, length-extents, extent_is}
-use Rattle.snapshot.specs.Versions.{row_at, written, updates, IsRowOf}
+use Rattle.snapshot.specs.Versions.{row_at, written, updates}
 use Rattle.snapshot.specs.Laws.{AreRowsOf, TellUpdates}
 use Rattle.snapshot.proofs.Lists.{length-updates, update_told, map_range}
 use Rattle.snapshot.proofs.Growing.{touch_stays, row_stays}

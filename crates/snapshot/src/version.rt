@@ -1,11 +1,8 @@
 // A published version and its rows.
-ghost use Rattle.std.specs.Prelude.{◌≡◌, ℕ, ◌+◌, ◌*◌, ◌^◌, ◌<◌, ◌≤◌, ◌↔◌, length, take, map, min, IfOk};
-ghost use Rattle.std.specs.Prelude.{IfErr, IfNone, IfSome, IsNone, Some, slice_get, slice_range, [], ◌∷◌};
-ghost use Rattle.std.specs.Prelude.{◌++◌};
+ghost use Rattle.std.specs.Prelude.{◌≡◌, ◌+◌, ◌^◌, ◌<◌, ◌≤◌, ◌↔◌, length, take, IfOk, IfErr, IfNone, IfSome, IsNone, Some, slice_get, []};
 ghost use Rattle.std.specs.Arc.{arc_value};
 ghost use Rattle.blob_model.specs.Content.{size_of};
 ghost use Rattle.range_log.specs.Updates.{Replayable};
-ghost use Rattle.page_store.specs.Stored.{joined};
 ghost use Rattle.node_store.specs.Rows.{cut_at, stored_of};
 ghost use Rattle.snapshot.specs.Versions.{row_at, bytes_of, updates_of, next_version, older_version};
 ghost use Rattle.snapshot.specs.Versions.{under_blob, size_now, HasNodeFor, IsFound, root_key, IsRowOf};
