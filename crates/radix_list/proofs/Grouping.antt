@@ -4,7 +4,7 @@ use Rattle.std.specs.Prelude.{slice_get, unwrap_or}
 use Rattle.std.specs.Option.{option_map, option_and_then}
 use Rattle.std.specs.List.{range_with_len}
 use Rattle.std.proofs.lemmas.Bool.{cases_lt}
-use Rattle.std.proofs.lemmas.Option.{slice_get-map, slice_get-get_or, slice_get_past, none-some, same_Some}
+use Rattle.std.proofs.lemmas.Option.{slice_get-map, slice_get-get_or, slice_get_past}
 use Rattle.std.proofs.lemmas.List.{take_all, take-take, take-append-le, drop-append-le, drop-take, length-take-le, length-drop, length-append}
 use Rattle.std.proofs.Math.Seq.{take-add}
 use Rattle.std.proofs.lemmas.List.Concat.{flat_map-append}
@@ -137,9 +137,3 @@ groups-ending {X} xs q y within =
 pub groups-nil : {X : Type 0} → groups {X = X} [] ≡ []
 unfolding groups
 groups-nil = refl
-
--- ---- one element more of a front
-pub take_next : {X : Type 0} (xs : List X) (m : ℕ) (x : X) → slice_get xs m ≡ Some x → take m xs ++ x ∷ [] ≡ take (suc m) xs
-take_next [] m x some = absurd (none-some x some)
-take_next (y ∷ ys) zero x some = ap (λ z. z ∷ []) (sym (same_Some y x some))
-take_next (y ∷ ys) (suc m) x some = ap (λ l. y ∷ l) (take_next ys m x some)
