@@ -14,10 +14,10 @@ use Rattle.tree_geom.specs.declared.node.Node.{Node}
 use Rattle.tree_geom.specs.declared.node.NodeKey.{NodeKey}
 use Rattle.range_log.specs.Log.{HasNode}
 use Rattle.range_log.specs.Updates.{extents}
-use Rattle.range_log.specs.Rows.{row_keys_of, node_of}
+use Rattle.range_log.specs.Rows.{row_keys_of}
 use Rattle.range_log.specs.Laws.{ExtentsStand, RowKeysExact}
 use Rattle.range_log.proofs.Bytes.{length-extents}
-use Rattle.blob_core.specs.World.{World, Kept, joined, AreCut, node_at, log_of}
+use Rattle.blob_core.specs.World.{World, Kept, joined, AreCut, node_at, log_of, world_node}
 use Rattle.blob_core.specs.Woven.{woven}
 use Rattle.blob_core.specs.Steps.{IsAllowed, IsNumberedIn, RowIsThere, next_kept, with_update, with_node}
 use Rattle.blob_core.specs.Standing.{IsSound, WeavesRow}
@@ -94,7 +94,7 @@ node_kept p w key b n own has is =
     record { allowed = (b, own, has); is = ap (λ (l : List (NodeKey × Node)). with_nodes w l) (sym e) }
 
 pub node_done : (p : ℕ) (w : World) (key : NodeKey) (b : Blob) (n : Node) (nodes : List (NodeKey × Node)) → IsSound p w key.blob b → IsNumberedIn w key.blob key.version b
-    → HasNode p (log_of p b.updates) key.version key.range → node_at w.nodes key ≡ None → n ≡ node_of p (extents b.updates) key.version key.range → nodes ≡ (key, n) ∷ w.nodes
+    → HasNode p (log_of p b.updates) key.version key.range → node_at w.nodes key ≡ None → n ≡ world_node p (extents b.updates) key.version key.range → nodes ≡ (key, n) ∷ w.nodes
     → IsDone p w (Moves.NodePut key) (with_nodes w nodes)
 node_done p w key b n nodes sound own has none is more =
     let woven_as : WeavesRow p w key.blob b key.version key.range = sound.weaves key.version key.range own.own has in

@@ -13,8 +13,7 @@ use Rattle.tree_geom.specs.declared.node.NodeKey.{NodeKey}
 use Rattle.range_log.specs.Log.{HasNode}
 use Rattle.range_log.specs.Extents.{InBounds}
 use Rattle.range_log.specs.Updates.{update_at, extents, Replayable}
-use Rattle.range_log.specs.Rows.{node_of}
-use Rattle.blob_core.specs.World.{World, empty_world, Kept, same_number, same_update, same_key, page_at, node_at, kept_at, origin, key_in, node_in, joined, AreCut, log_of, waiting_after}
+use Rattle.blob_core.specs.World.{World, empty_world, Kept, same_number, same_update, same_key, page_at, node_at, kept_at, origin, key_in, node_in, joined, AreCut, log_of, waiting_after, world_node}
 use Rattle.branching.specs.Parents.{origin_of}
 use Rattle.branching.specs.declared.Parent.{Parent}
 use Rattle.blob_core.specs.declared.world.UpdateKey.{UpdateKey}
@@ -43,7 +42,7 @@ pub record BlobStands (p : ℕ) (w : World) (blob : ℕ) (b : Blob) : Type 0 whe
   pub marks : length b.finished ≡ length b.updates
   pub own : (j : ℕ) → assigned b < j → origin w blob j ≡ blob
   pub updates : (j : ℕ) → 1 ≤ j → j ≤ assigned b → UpdateStands p w blob b j
-  pub rows : (j : ℕ) (r : Range) → is_finished b j ≡ true → HasNode p (log_of p b.updates) j r → node_in w blob j r ≡ Some (node_of p (extents b.updates) j r)
+  pub rows : (j : ℕ) (r : Range) → is_finished b j ≡ true → HasNode p (log_of p b.updates) j r → node_in w blob j r ≡ Some (world_node p (extents b.updates) j r)
 
 abbrev pub IsOfBlob : World → ℕ → ℕ → Type 0
 IsOfBlob w blob version = (b : Blob) × (blob_at w.store blob ≡ Some b) × (version ≤ assigned b)
@@ -124,12 +123,12 @@ update_moved p a b blob blob' old new n j wide agrees some le same s front =
     }
 
 rows_moved : (p : ℕ) (a b : World) (blob blob' : ℕ) (old new : Blob) (n j : ℕ) (r : Range) → Wider a b → Agrees p old.updates new.updates n → j ≤ n
-    → origin b blob' j ≡ origin a blob j → node_in a blob j r ≡ Some (node_of p (extents old.updates) j r)
-    → node_in b blob' j r ≡ Some (node_of p (extents new.updates) j r)
+    → origin b blob' j ≡ origin a blob j → node_in a blob j r ≡ Some (world_node p (extents old.updates) j r)
+    → node_in b blob' j r ≡ Some (world_node p (extents new.updates) j r)
 rows_moved p a b blob blob' old new n j r wide agrees le same is =
-    let At : ℕ → Type 0 = λ o. node_at b.nodes (record { blob = o; version = j; range = r }) ≡ Some (node_of p (extents old.updates) j r) in
+    let At : ℕ → Type 0 = λ o. node_at b.nodes (record { blob = o; version = j; range = r }) ≡ Some (world_node p (extents old.updates) j r) in
     let some : Node → Option Node = λ x. Some x in
-    subst At (sym same) (wide.nodes (key_in a blob j r) (node_of p (extents old.updates) j r) is) ∙ ap some (sym (agrees.node j r le))
+    subst At (sym same) (wide.nodes (key_in a blob j r) (world_node p (extents old.updates) j r) is) ∙ ap some (sym (agrees.node j r le))
 
 -- a blob that a step leaves alone
 blob_kept : (p : ℕ) (a b : World) (blob : ℕ) (x : Blob) → Wider a b → ((j : ℕ) → origin b blob j ≡ origin a blob j) → BlobStands p a blob x → BlobStands p b blob x
@@ -290,14 +289,14 @@ finished c p w t blob version b pos s numbered row store =
     let wide : Wider w v = wider_same w v refl refl refl in
     let ok : InBounds (extents b.updates) = in_bounds c b.updates old.replay in
     let grown : published b ≤ published (finish b version) = prefix_set b.finished (version - 1) in
-    let here : (r : Range) → HasNode p (log_of p b.updates) version r → node_in v blob version r ≡ Some (node_of p (extents b.updates) version r) = λ r has.
+    let here : (r : Range) → HasNode p (log_of p b.updates) version r → node_in v blob version r ≡ Some (world_node p (extents b.updates) version r) = λ r has.
     (let in_list : version ≤ length (extents b.updates) = omega (arith, numbered.upto, (c.stand b.updates old.replay).1) in
     let (n, is) = row r ((c.exact p version (extents b.updates) r pos ok numbered.some in_list).1 has) in
     let r' : IsRowNode p w (record { blob = blob; version = version; range = r }) n = s.nodes (record { blob = blob; version = version; range = r }) n is in
     let same : r'.b ≡ b = one_value (blob_at w.store blob) r'.b b r'.there numbered.there in
     let some : Node → Option Node = λ x. Some x in
-    let At : ℕ → Type 0 = λ o. node_at w.nodes (record { blob = o; version = version; range = r }) ≡ Some (node_of p (extents b.updates) version r) in
-    subst At (sym numbered.own) (is ∙ ap some (r'.is ∙ ap (λ (x : Blob). node_of p (extents x.updates) version r) same))) in
+    let At : ℕ → Type 0 = λ o. node_at w.nodes (record { blob = o; version = version; range = r }) ≡ Some (world_node p (extents b.updates) version r) in
+    subst At (sym numbered.own) (is ∙ ap some (r'.is ∙ ap (λ (x : Blob). world_node p (extents x.updates) version r) same))) in
     blob_set p w v blob b (finish b version) s wide refl refl refl numbered.there store (agree_same p b.updates (assigned b)) (omega arith) (λ id ver kept e. inr e)
     (record {
       replay = old.replay;
@@ -308,7 +307,7 @@ finished c p w t blob version b pos s numbered row store =
       rows = λ j r fin has.
           elim (finished_set b version j numbered.some fin) [
             | inl same ↦
-                (let P : ℕ → Type 0 = λ i. HasNode p (log_of p b.updates) i r → node_in v blob i r ≡ Some (node_of p (extents b.updates) i r) in
+                (let P : ℕ → Type 0 = λ i. HasNode p (log_of p b.updates) i r → node_in v blob i r ≡ Some (world_node p (extents b.updates) i r) in
                 subst P (sym same) (here r) has)
             | inr was ↦ old.rows j r was has
           ];
