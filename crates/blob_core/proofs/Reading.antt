@@ -19,7 +19,7 @@ use Rattle.tree_geom.specs.Geometry.{tree_range, page_range, left_half, right_ha
 use Rattle.range_log.specs.Log.{newest_of, size_at, IsNewest, HasNode}
 use Rattle.range_log.specs.Extents.{Extent, extent_at, size_after, InBounds}
 use Rattle.range_log.specs.Updates.{update_at, extent_of, extents, page_bytes, own_bytes, piece_bytes}
-use Rattle.range_log.specs.Rows.{leaf_of, inner_of, back_of, covered, leaf_start, leaf_from, leaf_len, first_piece, second_piece, piece_count}
+use Rattle.range_log.specs.Rows.{leaf_of, inner_of, back_of, covered, leaf_start, leaf_from, leaf_len, first_piece, second_piece}
 use Rattle.range_log.specs.Visits.{backs_of, visits}
 use Rattle.tree_walk.specs.Walk.{visited, root_of}
 use Rattle.range_log.proofs.Bytes.{extent_is, length-extents}
