@@ -14,10 +14,10 @@ use Rattle.tree_geom.specs.declared.node.Node.{Node}
 use Rattle.tree_geom.specs.declared.node.NodeKey.{NodeKey}
 use Rattle.range_log.specs.Log.{HasNode}
 use Rattle.range_log.specs.Updates.{extents}
-use Rattle.range_log.specs.Rows.{row_keys_of, node_of}
+use Rattle.range_log.specs.Rows.{row_keys_of}
 use Rattle.range_log.specs.Laws.{ExtentsStand, RowKeysExact}
 use Rattle.range_log.proofs.Bytes.{length-extents}
-use Rattle.blob_core.specs.World.{World, Kept, joined, AreCut, node_at, log_of}
+use Rattle.blob_core.specs.World.{World, Kept, joined, AreCut, node_at, log_of, world_node}
 use Rattle.blob_core.specs.Woven.{woven}
 use Rattle.blob_core.specs.Steps.{IsAllowed, IsNumberedIn, RowIsThere, next_kept, with_update, with_node}
 use Rattle.blob_core.specs.Standing.{IsSound, WeavesRow}
@@ -35,7 +35,7 @@ pub number_done : (p : ℕ) (w : World) (blob : ℕ) (pages : List ℕ) (b : Blo
     → blobs ≡ slice_set w.store.blobs (blob - 1) (and_update b u)
     → key ≡ record { blob = blob; version = assigned b + 1 } → kept ≡ next_kept p b pages → updates ≡ (key, kept) ∷ w.updates
     → IsDone p w (Moves.Assign u.caller blob u.place pages)
-    (record { store = record { limits = w.store.limits; blobs = blobs }; lineage = w.lineage; pages = w.pages; updates = updates; nodes = w.nodes })
+    (record w { store = record { limits = w.store.limits; blobs = blobs }; updates = updates })
 number_done p w blob pages b u key kept blobs updates there cut bytes taken set number beside more =
     let R : List ℕ → Type 0 = λ l. is_refused (answer w.store u.caller (Calls.Assign blob u.place l)).1 ≡ false in
     let ok : R (joined w.pages pages) = subst R bytes taken in
@@ -51,7 +51,7 @@ number_done p w blob pages b u key kept blobs updates there cut bytes taken set 
     let entry : UpdateKey → Kept → List (UpdateKey × Kept) = λ k x. (k, x) ∷ w.updates in
     let kepts : updates ≡ with_update p w blob pages =
     more ∙ ap (λ (k : UpdateKey). entry k kept) number ∙ ap (λ (k : Kept). entry (record { blob = blob; version = assigned b + 1 }) k) beside ∙ sym (with_update_is p w blob pages b there) in
-    let W : Store → List (UpdateKey × Kept) → World = λ s l. record { store = s; lineage = w.lineage; pages = w.pages; updates = l; nodes = w.nodes } in
+    let W : Store → List (UpdateKey × Kept) → World = λ s l. record w { store = s; updates = l } in
     record {
       allowed = (cut, ok);
       is = ap (λ (s : Store). W s updates) stored ∙ ap (λ (l : List (UpdateKey × Kept)). W (store_from w.store (Events.Assign u.caller blob u.place (joined w.pages pages) ∷ [])) l) kepts;
@@ -85,7 +85,7 @@ not_of_row p w key b there apart (x, own, has) =
     apart (subst H same has)
 
 abbrev with_nodes : World → List (NodeKey × Node) → World
-with_nodes w nodes = record { store = w.store; lineage = w.lineage; pages = w.pages; updates = w.updates; nodes = nodes }
+with_nodes w nodes = record w { nodes = nodes }
 
 pub node_kept : (p : ℕ) (w : World) (key : NodeKey) (b : Blob) (n : Node) → IsNumberedIn w key.blob key.version b → HasNode p (log_of p b.updates) key.version key.range
     → node_at w.nodes key ≡ Some n → IsDone p w (Moves.NodePut key) w
@@ -94,7 +94,7 @@ node_kept p w key b n own has is =
     record { allowed = (b, own, has); is = ap (λ (l : List (NodeKey × Node)). with_nodes w l) (sym e) }
 
 pub node_done : (p : ℕ) (w : World) (key : NodeKey) (b : Blob) (n : Node) (nodes : List (NodeKey × Node)) → IsSound p w key.blob b → IsNumberedIn w key.blob key.version b
-    → HasNode p (log_of p b.updates) key.version key.range → node_at w.nodes key ≡ None → n ≡ node_of p (extents b.updates) key.version key.range → nodes ≡ (key, n) ∷ w.nodes
+    → HasNode p (log_of p b.updates) key.version key.range → node_at w.nodes key ≡ None → n ≡ world_node p (extents b.updates) key.version key.range → nodes ≡ (key, n) ∷ w.nodes
     → IsDone p w (Moves.NodePut key) (with_nodes w nodes)
 node_done p w key b n nodes sound own has none is more =
     let woven_as : WeavesRow p w key.blob b key.version key.range = sound.weaves key.version key.range own.own has in
@@ -110,7 +110,7 @@ or_false false = refl
 pub finish_is_done : (p : ℕ) (w : World) (caller blob version : ℕ) (b : Blob) (blobs : List Blob) → IsNumberedIn w blob version b → RowIsThere p w blob version b
     → is_finished b version ≡ false → blobs ≡ slice_set w.store.blobs (blob - 1) (finish b version)
     → IsDone p w (Moves.Finish caller blob version)
-    (record { store = record { limits = w.store.limits; blobs = blobs }; lineage = w.lineage; pages = w.pages; updates = w.updates; nodes = w.nodes })
+    (record w { store = record { limits = w.store.limits; blobs = blobs } })
 finish_is_done p w caller blob version b blobs own row fresh set =
     let ok : is_refused (answer w.store caller (Calls.Finish blob version)).1 ≡ false = finish_refused w.store caller blob version b own.there ∙ or_false (is_finished b version) ∙ fresh in
     let (x, is, store) = finish_done w.store caller blob version ok in
@@ -118,7 +118,7 @@ finish_is_done p w caller blob version b blobs own row fresh set =
     let leaves : List Blob → Store = λ l. record { limits = w.store.limits; blobs = l } in
     let stored : leaves blobs ≡ store_from w.store (Events.Finish caller blob version ∷ []) =
     ap leaves set ∙ ap (λ (y : Blob). with_blob w.store blob (finish y version)) (sym same) ∙ sym store in
-    let W : Store → World = λ s. record { store = s; lineage = w.lineage; pages = w.pages; updates = w.updates; nodes = w.nodes } in
+    let W : Store → World = λ s. record w { store = s } in
     record { allowed = (ok, (b, own, row)); is = ap W stored }
 
 -- an update that is finished, or of whose row a node isn't there, may not be finished

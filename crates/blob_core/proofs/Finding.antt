@@ -16,10 +16,10 @@ use Rattle.range_log.specs.declared.«open».OpenTouch.{OpenTouch}
 use Rattle.range_log.specs.Log.{touch_at, size_at, newest_of, HasNode}
 use Rattle.range_log.specs.Extents.{Extent, extent_at, InBounds}
 use Rattle.range_log.specs.Updates.{extents}
-use Rattle.range_log.specs.Rows.{node_of, inner_of, leaf_at, covered, back_of}
+use Rattle.range_log.specs.Rows.{inner_of, leaf_at, covered, back_of}
 use Rattle.tree_walk.specs.Walk.{half_toward, descend, root_of, found, waiting_of}
 use Rattle.range_log.proofs.Bytes.{length-extents}
-use Rattle.blob_core.specs.World.{World, Kept, node_in, log_of, waiting_after}
+use Rattle.blob_core.specs.World.{World, Kept, node_in, log_of, waiting_after, world_node}
 use Rattle.blob_core.specs.Woven.{link_toward, followed, found_in, greatest_open, older_link, link_of, woven}
 use Rattle.blob_core.proofs.Growing.{Cited}
 
@@ -109,9 +109,9 @@ descend_on most p log j r target t f = rw (t, f, descend)
 
 -- the rows of the versions up to n are there
 abbrev pub RowsKnown : ℕ → World → ℕ → List Update → ℕ → Type 0
-RowsKnown p w blob us n = (j : ℕ) (r : Range) → j ≤ n → HasNode p (log_of p us) j r → node_in w blob j r ≡ Some (node_of p (extents us) j r)
+RowsKnown p w blob us n = (j : ℕ) (r : Range) → j ≤ n → HasNode p (log_of p us) j r → node_in w blob j r ≡ Some (world_node p (extents us) j r)
 
-pub inner_is : (p : ℕ) (us : List Extent) (j : ℕ) (r : Range) → p < r.size → node_of p us j r ≡ inner_of p us j r
+pub inner_is : (p : ℕ) (us : List Extent) (j : ℕ) (r : Range) → p < r.size → world_node p us j r ≡ inner_of p us j r
 inner_is p us j r large = let t : (r.size == p) ≡ false = test_apart r.size p large in rw t refl
 
 followed_is : (c : Cited) (p : ℕ) (w : World) (blob : ℕ) (us : List Update) (n : ℕ) → 1 ≤ p → InBounds (extents us) → RowsKnown p w blob us n
@@ -126,26 +126,26 @@ followed_is c p w blob us n pos ok known (suc most) j r target le has large =
           followed_stop most w blob j r target t ∙ sym (descend_stop most p log j r target t))
       | inl on ↦
           (let t : nat_le r.size target.size ≡ false = test_above r.size target.size on in
-          let is : node_in w blob j r ≡ Some (node_of p (extents us) j r) = known j r le has in
+          let is : node_in w blob j r ≡ Some (world_node p (extents us) j r) = known j r le has in
           let wide : p < r.size = omega arith in
           let half : Range = half_toward r target in
           let m : ℕ = newest_of p log j half in
-          let link : link_toward (node_of p (extents us) j r) r target ≡ m =
+          let link : link_toward (world_node p (extents us) j r) r target ≡ m =
           ap (λ (x : Node). link_toward x r target) (inner_is p (extents us) j r wide)
           ∙ choose_number (nat_lt target.offset (r.offset + r.size / 2)) (λ (x : Range). newest_of p log j x) (left_half r) (right_half r) in
           elim (cases_lt 0 m) [
             | inr none ↦
                 (let f : (m == 0) ≡ true = test_none m none in
-                let g : (link_toward (node_of p (extents us) j r) r target == 0) ≡ true = ap (λ (k : ℕ). k == 0) link ∙ f in
-                followed_none most w blob j r target (node_of p (extents us) j r) t is g ∙ sym (descend_none most p log j r target t f))
+                let g : (link_toward (world_node p (extents us) j r) r target == 0) ≡ true = ap (λ (k : ℕ). k == 0) link ∙ f in
+                followed_none most w blob j r target (world_node p (extents us) j r) t is g ∙ sym (descend_none most p log j r target t f))
             | inl some ↦
                 (let f : (m == 0) ≡ false = test_some m some in
-                let g : (link_toward (node_of p (extents us) j r) r target == 0) ≡ false = ap (λ (k : ℕ). k == 0) link ∙ f in
+                let g : (link_toward (world_node p (extents us) j r) r target == 0) ≡ false = ap (λ (k : ℕ). k == 0) link ∙ f in
                 let upto : m ≤ j = (c.greatest p j log half).0.upto in
                 let leads = c.lead p j (extents us) r pos ok has wide in
                 let P : Range → Type 0 = λ x. 1 ≤ newest_of p log j x → HasNode p log (newest_of p log j x) x in
                 let next : HasNode p log m half = choose_fact P (nat_lt target.offset (r.offset + r.size / 2)) (left_half r) (right_half r) leads.0 leads.1 some in
-                followed_on most w blob j r target (node_of p (extents us) j r) t is g
+                followed_on most w blob j r target (world_node p (extents us) j r) t is g
                 ∙ ap (λ (k : ℕ). followed most w blob k half target) link
                 ∙ followed_is c p w blob us n pos ok known most m half target (omega arith) next large
                 ∙ sym (descend_on most p log j r target t f))
@@ -229,12 +229,12 @@ older_is c p w blob b kept n pos ok known hints in_list r (h, q, e) =
 
 woven_leaf : (p : ℕ) (w : World) (blob : ℕ) (b : Blob) (kept : Kept) (k : ℕ) (r : Range) → r.size ≡ p
     → older_link p w blob b kept (page_range p (r.offset / p)) ≡ newest_of p (log_of p b.updates) (k - 1) (page_range p (r.offset / p))
-    → woven p w blob b kept k r ≡ node_of p (extents b.updates) k r
+    → woven p w blob b kept k r ≡ world_node p (extents b.updates) k r
 unfolding back_of
 woven_leaf p w blob b kept k r s e =
     let t : (r.size == p) ≡ true = test_same r.size p s in
     let i : ℕ = r.offset / p in
-    rw t (ap (λ (x : ℕ). leaf_at p (extent_at (extents b.updates) k) i (if covered p (extents b.updates) k i then 0 else x)) e)
+    rw t (ap (λ (x : ℕ). leaf_at p (extent_at (extents b.updates) k) i (if covered p (extents b.updates) k i then 0 else x) 0) e)
 
 abbrev both_links : ℕ → ℕ → Node
 both_links a b = Inner a b
@@ -247,14 +247,14 @@ link_is p w blob b kept k r e = ap (λ (x : ℕ). if meets_of p (touch_at (log_o
 woven_inner : (p : ℕ) (w : World) (blob : ℕ) (b : Blob) (kept : Kept) (k : ℕ) (r : Range) → p < r.size
     → link_of p w blob b kept k (left_half r) ≡ newest_of p (log_of p b.updates) k (left_half r)
     → link_of p w blob b kept k (right_half r) ≡ newest_of p (log_of p b.updates) k (right_half r)
-    → woven p w blob b kept k r ≡ node_of p (extents b.updates) k r
+    → woven p w blob b kept k r ≡ world_node p (extents b.updates) k r
 woven_inner p w blob b kept k r large x y =
     let t : (r.size == p) ≡ false = test_apart r.size p large in
     rw t (ap (λ (a : ℕ). both_links a (link_of p w blob b kept k (right_half r))) x ∙ ap (λ (a : ℕ). both_links (newest_of p (log_of p b.updates) k (left_half r)) a) y)
 
 woven_tree : (c : Cited) (p : ℕ) (w : World) (blob : ℕ) (b : Blob) (kept : Kept) (k n : ℕ) → 1 ≤ p → InBounds (extents b.updates)
     → RowsKnown p w blob b.updates kept.published → kept.waiting ≡ waiting_after (log_of p b.updates) kept.published n → kept.published + n ≡ k → k ≤ length b.updates
-    → (h q : ℕ) → woven p w blob b kept (suc k) (tree_range p h q) ≡ node_of p (extents b.updates) (suc k) (tree_range p h q)
+    → (h q : ℕ) → woven p w blob b kept (suc k) (tree_range p h q) ≡ world_node p (extents b.updates) (suc k) (tree_range p h q)
 woven_tree c p w blob b kept k n pos ok known hints sum in_list zero q =
     let log : List Touch = log_of p b.updates in
     let r : Range = tree_range p 0 q in
@@ -276,10 +276,10 @@ woven_tree c p w blob b kept k n pos ok known hints sum in_list (suc h) q =
 -- the node that an update's writer weaves is that of its row
 pub woven_is : (c : Cited) (p : ℕ) (w : World) (blob : ℕ) (b : Blob) (kept : Kept) (k : ℕ) (r : Range) → 1 ≤ p → InBounds (extents b.updates)
     → RowsKnown p w blob b.updates kept.published → kept.published < k → kept.waiting ≡ waiting_after (log_of p b.updates) kept.published (k - 1 - kept.published)
-    → k ≤ length b.updates → Aligned p r → woven p w blob b kept k r ≡ node_of p (extents b.updates) k r
+    → k ≤ length b.updates → Aligned p r → woven p w blob b kept k r ≡ world_node p (extents b.updates) k r
 woven_is c p w blob b kept zero r pos ok known before hints in_list al = absurd (omega arith)
 woven_is c p w blob b kept (suc k) r pos ok known before hints in_list (h, q, e) =
     let n : ℕ = suc k - 1 - kept.published in
     let sum : kept.published + n ≡ k = omega arith in
-    let P : Range → Type 0 = λ x. woven p w blob b kept (suc k) x ≡ node_of p (extents b.updates) (suc k) x in
+    let P : Range → Type 0 = λ x. woven p w blob b kept (suc k) x ≡ world_node p (extents b.updates) (suc k) x in
     subst P (sym e) (woven_tree c p w blob b kept k n pos ok known hints sum (omega arith) h q)

@@ -6,14 +6,14 @@ use Rattle.std.proofs.Math.Seq.{get_or-append_seam}
 use Rattle.blob_model.specs.Content.{Update, content_from, size_of, offset_of}
 use Rattle.tree_geom.specs.declared.range.Range.{Range}
 use Rattle.tree_geom.specs.declared.touch.Touch.{Touch}
+use Rattle.tree_geom.specs.Nodes.{with_depth}
 use Rattle.range_log.specs.Log.{touch_at, size_at, HasNode}
 use Rattle.range_log.specs.Extents.{Extent, size_after, touches}
 use Rattle.range_log.specs.Updates.{update_at, no_update, extent_of, extents, Replayable}
-use Rattle.range_log.specs.Rows.{node_of}
 use Rattle.range_log.specs.Laws.{LinksNameNodes, LinksLead, BacksLead, BacksHaveNoHoles, ExtentsStand, LeavesFill, LeavesFit, PiecesJoin, PageBytesStay, NewestIsGreatest, RowKeysExact, BacksStep, RowsStay, ExtentsGrow}
 use Rattle.tree_walk.specs.Walk.{RootsStand, LinksFind, ChildStands, WeaverFinds, VisitedNone, VisitedLeaf, VisitedInner, WalksAreBounded}
 use Rattle.range_log.specs.declared.«open».OpenTouch.{OpenTouch}
-use Rattle.blob_core.specs.World.{log_of, waiting_after}
+use Rattle.blob_core.specs.World.{log_of, waiting_after, world_node}
 use Rattle.range_log.proofs.Bytes.{length-extents}
 use Rattle.range_log.proofs.Grown.{length-touches, size-touches}
 
@@ -104,7 +104,7 @@ pub record Agrees (p : ℕ) (old new : List Update) (n : ℕ) : Type 0 where
   pub touch : (j : ℕ) → j ≤ n → touch_at (log_of p new) j ≡ touch_at (log_of p old) j
   pub there : (j : ℕ) (r : Range) → j ≤ n → HasNode p (log_of p old) j r → HasNode p (log_of p new) j r
   pub back : (j : ℕ) (r : Range) → j ≤ n → HasNode p (log_of p new) j r → HasNode p (log_of p old) j r
-  pub node : (j : ℕ) (r : Range) → j ≤ n → node_of p (extents new) j r ≡ node_of p (extents old) j r
+  pub node : (j : ℕ) (r : Range) → j ≤ n → world_node p (extents new) j r ≡ world_node p (extents old) j r
 
 pub agree_same : (p : ℕ) (us : List Update) (n : ℕ) → Agrees p us us n
 agree_same p us n = record {
@@ -142,7 +142,7 @@ agree_more c p us more =
       back = λ j r le h.
           let P : List Extent → Type 0 = λ x. HasNode p (touches p x) j r in
           ((c.rows p j xs rest (in_list j le)).2 r).1 (subst P e h);
-      node = λ j r le. ap (λ (x : List Extent). node_of p x j r) e ∙ (c.rows p j xs rest (in_list j le)).3 r;
+      node = λ j r le. ap (λ (x : List Extent). world_node p x j r) e ∙ ap (λ n. with_depth 0 n) ((c.rows p j xs rest (in_list j le)).3 r);
     }
 
 -- the first n updates agree with all

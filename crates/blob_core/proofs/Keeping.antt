@@ -13,8 +13,7 @@ use Rattle.tree_geom.specs.declared.node.NodeKey.{NodeKey}
 use Rattle.range_log.specs.Log.{HasNode}
 use Rattle.range_log.specs.Extents.{InBounds}
 use Rattle.range_log.specs.Updates.{update_at, extents, Replayable}
-use Rattle.range_log.specs.Rows.{node_of}
-use Rattle.blob_core.specs.World.{World, empty_world, Kept, same_number, same_update, same_key, page_at, node_at, kept_at, origin, key_in, node_in, joined, AreCut, log_of, waiting_after}
+use Rattle.blob_core.specs.World.{World, empty_world, Kept, same_number, same_update, same_key, page_at, node_at, kept_at, origin, key_in, node_in, joined, AreCut, log_of, waiting_after, world_node}
 use Rattle.branching.specs.Parents.{origin_of}
 use Rattle.branching.specs.declared.Parent.{Parent}
 use Rattle.blob_core.specs.declared.world.UpdateKey.{UpdateKey}
@@ -43,7 +42,7 @@ pub record BlobStands (p : ℕ) (w : World) (blob : ℕ) (b : Blob) : Type 0 whe
   pub marks : length b.finished ≡ length b.updates
   pub own : (j : ℕ) → assigned b < j → origin w blob j ≡ blob
   pub updates : (j : ℕ) → 1 ≤ j → j ≤ assigned b → UpdateStands p w blob b j
-  pub rows : (j : ℕ) (r : Range) → is_finished b j ≡ true → HasNode p (log_of p b.updates) j r → node_in w blob j r ≡ Some (node_of p (extents b.updates) j r)
+  pub rows : (j : ℕ) (r : Range) → is_finished b j ≡ true → HasNode p (log_of p b.updates) j r → node_in w blob j r ≡ Some (world_node p (extents b.updates) j r)
 
 abbrev pub IsOfBlob : World → ℕ → ℕ → Type 0
 IsOfBlob w blob version = (b : Blob) × (blob_at w.store blob ≡ Some b) × (version ≤ assigned b)
@@ -124,12 +123,12 @@ update_moved p a b blob blob' old new n j wide agrees some le same s front =
     }
 
 rows_moved : (p : ℕ) (a b : World) (blob blob' : ℕ) (old new : Blob) (n j : ℕ) (r : Range) → Wider a b → Agrees p old.updates new.updates n → j ≤ n
-    → origin b blob' j ≡ origin a blob j → node_in a blob j r ≡ Some (node_of p (extents old.updates) j r)
-    → node_in b blob' j r ≡ Some (node_of p (extents new.updates) j r)
+    → origin b blob' j ≡ origin a blob j → node_in a blob j r ≡ Some (world_node p (extents old.updates) j r)
+    → node_in b blob' j r ≡ Some (world_node p (extents new.updates) j r)
 rows_moved p a b blob blob' old new n j r wide agrees le same is =
-    let At : ℕ → Type 0 = λ o. node_at b.nodes (record { blob = o; version = j; range = r }) ≡ Some (node_of p (extents old.updates) j r) in
+    let At : ℕ → Type 0 = λ o. node_at b.nodes (record { blob = o; version = j; range = r }) ≡ Some (world_node p (extents old.updates) j r) in
     let some : Node → Option Node = λ x. Some x in
-    subst At (sym same) (wide.nodes (key_in a blob j r) (node_of p (extents old.updates) j r) is) ∙ ap some (sym (agrees.node j r le))
+    subst At (sym same) (wide.nodes (key_in a blob j r) (world_node p (extents old.updates) j r) is) ∙ ap some (sym (agrees.node j r le))
 
 -- a blob that a step leaves alone
 blob_kept : (p : ℕ) (a b : World) (blob : ℕ) (x : Blob) → Wider a b → ((j : ℕ) → origin b blob j ≡ origin a blob j) → BlobStands p a blob x → BlobStands p b blob x
@@ -154,9 +153,9 @@ wider_page p w v page bytes none e f g =
     }
 
 pub page_put : (p : ℕ) (w : World) (page : ℕ) (bytes : List ℕ) → Stands p w → page_at w.pages page ≡ None → 1 ≤ length bytes → length bytes ≤ p
-    → Stands p (record { store = w.store; lineage = w.lineage; pages = (page, bytes) ∷ w.pages; updates = w.updates; nodes = w.nodes })
+    → Stands p (record w { pages = (page, bytes) ∷ w.pages })
 page_put p w page bytes s none some small =
-    let v : World = record { store = w.store; lineage = w.lineage; pages = (page, bytes) ∷ w.pages; updates = w.updates; nodes = w.nodes } in
+    let v : World = record w { pages = (page, bytes) ∷ w.pages } in
     let wide : Wider w v = wider_page p w v page bytes none refl refl refl in
     let on : Forward p w v = forward_same p w v (λ blob old e. e) in
     let P : List ℕ → Type 0 = λ l. (1 ≤ length l) × (length l ≤ p) in
@@ -170,9 +169,9 @@ page_put p w page bytes s none some small =
 
 -- ---- a node
 pub put_node : (p : ℕ) (w : World) (key : NodeKey) (n : Node) → Stands p w → node_at w.nodes key ≡ None → IsRowNode p w key n
-    → Stands p (record { store = w.store; lineage = w.lineage; pages = w.pages; updates = w.updates; nodes = (key, n) ∷ w.nodes })
+    → Stands p (record w { nodes = (key, n) ∷ w.nodes })
 put_node p w key n s none row =
-    let v : World = record { store = w.store; lineage = w.lineage; pages = w.pages; updates = w.updates; nodes = (key, n) ∷ w.nodes } in
+    let v : World = record w { nodes = (key, n) ∷ w.nodes } in
     let wide : Wider w v = record {
       pages = λ m b is. is;
       updates = λ blob version kept is. is;
@@ -207,14 +206,14 @@ with_node_is p w key b kept there has None e = inr (e, rw (e, there, has, with_n
 
 pub node_put : (c : Cited) (p : ℕ) (w : World) (key : NodeKey) (b : Blob) → 1 ≤ p → Stands p w → IsNumberedIn w key.blob key.version b
     → HasNode p (log_of p b.updates) key.version key.range
-    → Stands p (record { store = w.store; lineage = w.lineage; pages = w.pages; updates = w.updates; nodes = with_node p w key })
+    → Stands p (record w { nodes = with_node p w key })
 node_put c p w key b pos s numbered has =
     let blob_s : BlobStands p w key.blob b = s.blobs key.blob b numbered.there in
     let u : UpdateStands p w key.blob b key.version = blob_s.updates key.version numbered.some numbered.upto in
     let At : ℕ → Type 0 = λ o. kept_at w.updates o key.version ≡ Some u.kept in
     let there : kept_at w.updates key.blob key.version ≡ Some u.kept = subst At numbered.own u.there in
     let new : Node = woven p w key.blob b u.kept key.version key.range in
-    let W : List (NodeKey × Node) → Type 0 = λ l. Stands p (record { store = w.store; lineage = w.lineage; pages = w.pages; updates = w.updates; nodes = l }) in
+    let W : List (NodeKey × Node) → Type 0 = λ l. Stands p (record w { nodes = l }) in
     elim (with_node_is p w key b u.kept numbered.there there (node_at w.nodes key) refl) [
       | inl same ↦ subst W (sym same) s
       | inr put ↦
@@ -283,21 +282,21 @@ wider_same w v e f g =
 -- ---- a finish
 pub finished : (c : Cited) (p : ℕ) (w : World) (t : Store) (blob version : ℕ) (b : Blob) → 1 ≤ p → Stands p w → IsNumberedIn w blob version b → RowIsThere p w blob version b
     → t ≡ with_blob w.store blob (finish b version)
-    → Stands p (record { store = t; lineage = w.lineage; pages = w.pages; updates = w.updates; nodes = w.nodes })
+    → Stands p (record w { store = t })
 finished c p w t blob version b pos s numbered row store =
-    let v : World = record { store = t; lineage = w.lineage; pages = w.pages; updates = w.updates; nodes = w.nodes } in
+    let v : World = record w { store = t } in
     let old : BlobStands p w blob b = s.blobs blob b numbered.there in
     let wide : Wider w v = wider_same w v refl refl refl in
     let ok : InBounds (extents b.updates) = in_bounds c b.updates old.replay in
     let grown : published b ≤ published (finish b version) = prefix_set b.finished (version - 1) in
-    let here : (r : Range) → HasNode p (log_of p b.updates) version r → node_in v blob version r ≡ Some (node_of p (extents b.updates) version r) = λ r has.
+    let here : (r : Range) → HasNode p (log_of p b.updates) version r → node_in v blob version r ≡ Some (world_node p (extents b.updates) version r) = λ r has.
     (let in_list : version ≤ length (extents b.updates) = omega (arith, numbered.upto, (c.stand b.updates old.replay).1) in
     let (n, is) = row r ((c.exact p version (extents b.updates) r pos ok numbered.some in_list).1 has) in
     let r' : IsRowNode p w (record { blob = blob; version = version; range = r }) n = s.nodes (record { blob = blob; version = version; range = r }) n is in
     let same : r'.b ≡ b = one_value (blob_at w.store blob) r'.b b r'.there numbered.there in
     let some : Node → Option Node = λ x. Some x in
-    let At : ℕ → Type 0 = λ o. node_at w.nodes (record { blob = o; version = version; range = r }) ≡ Some (node_of p (extents b.updates) version r) in
-    subst At (sym numbered.own) (is ∙ ap some (r'.is ∙ ap (λ (x : Blob). node_of p (extents x.updates) version r) same))) in
+    let At : ℕ → Type 0 = λ o. node_at w.nodes (record { blob = o; version = version; range = r }) ≡ Some (world_node p (extents b.updates) version r) in
+    subst At (sym numbered.own) (is ∙ ap some (r'.is ∙ ap (λ (x : Blob). world_node p (extents x.updates) version r) same))) in
     blob_set p w v blob b (finish b version) s wide refl refl refl numbered.there store (agree_same p b.updates (assigned b)) (omega arith) (λ id ver kept e. inr e)
     (record {
       replay = old.replay;
@@ -308,7 +307,7 @@ finished c p w t blob version b pos s numbered row store =
       rows = λ j r fin has.
           elim (finished_set b version j numbered.some fin) [
             | inl same ↦
-                (let P : ℕ → Type 0 = λ i. HasNode p (log_of p b.updates) i r → node_in v blob i r ≡ Some (node_of p (extents b.updates) i r) in
+                (let P : ℕ → Type 0 = λ i. HasNode p (log_of p b.updates) i r → node_in v blob i r ≡ Some (world_node p (extents b.updates) i r) in
                 subst P (sym same) (here r) has)
             | inr was ↦ old.rows j r was has
           ];
@@ -341,14 +340,14 @@ not_marked b (suc j) marks lt e = past_marks b.finished j (omega arith) (sym (fi
 pub numbered : (c : Cited) (p : ℕ) (w : World) (t : Store) (blob : ℕ) (b : Blob) (u : Update) (pages : List ℕ) → Stands p w → blob_at w.store blob ≡ Some b
     → AreCut p w.pages pages → joined w.pages pages ≡ u.bytes → 1 ≤ length u.bytes → offset_of u.place (size_now b) ≤ size_now b
     → t ≡ with_blob w.store blob (and_update b u)
-    → Stands p (record { store = t; lineage = w.lineage; pages = w.pages; updates = with_update p w blob pages; nodes = w.nodes })
+    → Stands p (record w { store = t; updates = with_update p w blob pages })
 numbered c p w t blob b u pages s is cut bytes some fits store =
     let n : ℕ = assigned b in
     let new : Blob = and_update b u in
     let key : UpdateKey = record { blob = blob; version = n + 1 } in
     let kept : Kept = next_kept p b pages in
     let updates : List (UpdateKey × Kept) = (key, kept) ∷ w.updates in
-    let v : World = record { store = t; lineage = w.lineage; pages = w.pages; updates = updates; nodes = w.nodes } in
+    let v : World = record w { store = t; updates = updates } in
     let old : BlobStands p w blob b = s.blobs blob b is in
     let free : kept_at w.updates blob (n + 1) ≡ None = next_free p w blob b s is (kept_at w.updates blob (n + 1)) refl in
     let wide : Wider w v = record {
@@ -379,7 +378,7 @@ numbered c p w t blob b u pages s is cut bytes some fits store =
       waiting = sym (waiting_same (log_of p b.updates) (log_of p new.updates) (published b) (n - published b) n (omega arith) agrees.touch)
           ∙ ap (λ (m : ℕ). waiting_after (log_of p new.updates) (published b) m) (sym less);
     })) in
-    let W : List (UpdateKey × Kept) → Type 0 = λ l. Stands p (record { store = t; lineage = w.lineage; pages = w.pages; updates = l; nodes = w.nodes }) in
+    let W : List (UpdateKey × Kept) → Type 0 = λ l. Stands p (record w { store = t; updates = l }) in
     subst W (sym (with_update_is p w blob pages b is))
     (blob_set p w v blob b new s wide refl refl refl is store agrees (omega arith)
     (λ id version k e.
@@ -408,10 +407,10 @@ numbered c p w t blob b u pages s is cut bytes some fits store =
 
 -- ---- a new blob
 pub blob_added : (p : ℕ) (w : World) (t : Store) (parent : Option Parent) (new : Blob) → Stands p w → t ≡ and_blob w.store new
-    → BlobStands p (record { store = t; lineage = parent ∷ w.lineage; pages = w.pages; updates = w.updates; nodes = w.nodes }) (suc (length w.lineage)) new
-    → Stands p (record { store = t; lineage = parent ∷ w.lineage; pages = w.pages; updates = w.updates; nodes = w.nodes })
+    → BlobStands p (record w { store = t; lineage = parent ∷ w.lineage }) (suc (length w.lineage)) new
+    → Stands p (record w { store = t; lineage = parent ∷ w.lineage })
 blob_added p w t parent new s store stands =
-    let v : World = record { store = t; lineage = parent ∷ w.lineage; pages = w.pages; updates = w.updates; nodes = w.nodes } in
+    let v : World = record w { store = t; lineage = parent ∷ w.lineage } in
     let wide : Wider w v = wider_same w v refl refl refl in
     let out : (id : ℕ) (b : Blob) → blob_at t id ≡ Some b → blob_at (and_blob w.store new) id ≡ Some b = λ id b e. (let P : Store → Type 0 = λ x. blob_at x id ≡ Some b in subst P store e) in
     let back : (id : ℕ) (b : Blob) → blob_at (and_blob w.store new) id ≡ Some b → blob_at t id ≡ Some b = λ id b e. (let P : Store → Type 0 = λ x. blob_at x id ≡ Some b in subst P (sym store) e) in
@@ -434,7 +433,7 @@ blob_added p w t parent new s store stands =
     }
 
 pub created : (p : ℕ) (w : World) (t : Store) → Stands p w → t ≡ and_blob w.store (record { updates = []; finished = [] })
-    → Stands p (record { store = t; lineage = None ∷ w.lineage; pages = w.pages; updates = w.updates; nodes = w.nodes })
+    → Stands p (record w { store = t; lineage = None ∷ w.lineage })
 created p w t s store =
     blob_added p w t None (record { updates = []; finished = [] }) s store
     (record {
@@ -447,10 +446,10 @@ created p w t s store =
 
 pub branched : (c : Cited) (p : ℕ) (w : World) (t : Store) (blob version : ℕ) (b : Blob) → Stands p w → blob_at w.store blob ≡ Some b → version ≤ published b
     → t ≡ and_blob w.store (branch_of b version)
-    → Stands p (record { store = t; lineage = Some (record { blob = blob; version = version }) ∷ w.lineage; pages = w.pages; updates = w.updates; nodes = w.nodes })
+    → Stands p (record w { store = t; lineage = Some (record { blob = blob; version = version }) ∷ w.lineage })
 branched c p w t blob version b s is le store =
     let q : Parent = record { blob = blob; version = version } in
-    let v : World = record { store = t; lineage = Some q ∷ w.lineage; pages = w.pages; updates = w.updates; nodes = w.nodes } in
+    let v : World = record w { store = t; lineage = Some q ∷ w.lineage } in
     let wide : Wider w v = wider_same w v refl refl refl in
     let old : BlobStands p w blob b = s.blobs blob b is in
     let within : version ≤ length b.updates = omega (arith, published_within p w blob b old) in

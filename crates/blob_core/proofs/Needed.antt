@@ -9,8 +9,8 @@ use Rattle.tree_geom.specs.Geometry.{height_of, doublings, span_of}
 use Rattle.range_log.specs.Log.{newest_of}
 use Rattle.range_log.specs.Extents.{touches}
 use Rattle.range_log.specs.Updates.{extents}
-use Rattle.range_log.specs.Rows.{row_keys_of, levels_of, level_of, node_of, back_of}
-use Rattle.blob_core.specs.World.{World, Kept, node_at, node_in, log_of}
+use Rattle.range_log.specs.Rows.{row_keys_of, levels_of, level_of, back_of}
+use Rattle.blob_core.specs.World.{World, Kept, node_at, node_in, log_of, world_node}
 use Rattle.blob_core.specs.Woven.{followed, found_in, woven}
 use Rattle.blob_core.specs.Walk.{leaf_walk, tree_walk_from, read_walk}
 use Rattle.blob_core.specs.declared.step.Step.{Step}
@@ -54,7 +54,7 @@ woven_without_hints : woven 4 (world_of two_appends) 1 (the_blob (world_of two_a
 unfolding touches extents newest_of found_in followed span_of height_of doublings
 woven_without_hints = refl
 
-row_node_of_it : node_of 4 (extents (the_blob (world_of two_appends)).updates) 2 (range_at 0 4) ≡ one_piece 1 1 1
+row_node_of_it : world_node 4 (extents (the_blob (world_of two_appends)).updates) 2 (range_at 0 4) ≡ one_piece 1 1 1
 unfolding touches extents newest_of back_of
 row_node_of_it = refl
 

@@ -14,16 +14,16 @@ use Rattle.tree_geom.specs.declared.range.Range.{Range}
 use Rattle.tree_geom.specs.declared.touch.Touch.{Touch}
 use Rattle.tree_geom.specs.declared.node.Node.{Node}
 use Rattle.tree_geom.specs.declared.node.Piece.{Piece}
-use Rattle.tree_geom.specs.Nodes.{left_link, right_link, back_link, is_leaf, start_of, first_of, second_of}
+use Rattle.tree_geom.specs.Nodes.{with_depth, left_link, right_link, back_link, is_leaf, start_of, first_of, second_of}
 use Rattle.tree_geom.specs.Geometry.{tree_range, page_range, left_half, right_half, height_of, span_of, doublings}
 use Rattle.range_log.specs.Log.{newest_of, size_at, IsNewest, HasNode}
 use Rattle.range_log.specs.Extents.{Extent, extent_at, size_after, InBounds}
 use Rattle.range_log.specs.Updates.{update_at, extent_of, extents, page_bytes, own_bytes, piece_bytes}
-use Rattle.range_log.specs.Rows.{node_of, leaf_of, inner_of, back_of, covered, leaf_start, leaf_from, leaf_len, first_piece, second_piece, piece_count}
+use Rattle.range_log.specs.Rows.{leaf_of, inner_of, back_of, covered, leaf_start, leaf_from, leaf_len, first_piece, second_piece}
 use Rattle.range_log.specs.Visits.{backs_of, visits}
 use Rattle.tree_walk.specs.Walk.{visited, root_of}
 use Rattle.range_log.proofs.Bytes.{extent_is, length-extents}
-use Rattle.blob_core.specs.World.{World, Kept, node_in, kept_at, origin, log_of}
+use Rattle.blob_core.specs.World.{World, Kept, node_in, kept_at, origin, log_of, world_node}
 use Rattle.blob_core.specs.Walk.{Walked, nothing, both, over, bytes_of_piece, leaf_walk, tree_walk_from, cut_out, read_walk}
 use Rattle.blob_core.proofs.Lists.{nth_is}
 use Rattle.blob_core.proofs.Growing.{Cited, length_log, size_in_log}
@@ -64,11 +64,11 @@ older_none most p w blob back i e = rw (e, older_walk) refl
 pub older_on : (most p : ℕ) (w : World) (blob back i : ℕ) → (back == 0) ≡ false → older_walk most p w blob back i ≡ leaf_walk most p w blob back i
 older_on most p w blob back i e = rw (e, older_walk) refl
 
-leaf_is : (p : ℕ) (us : List Extent) (j i : ℕ) → 1 ≤ p → node_of p us j (page_range p i) ≡ leaf_of p us j i
+leaf_is : (p : ℕ) (us : List Extent) (j i : ℕ) → 1 ≤ p → world_node p us j (page_range p i) ≡ with_depth 0 (leaf_of p us j i)
 leaf_is p us j i pos =
     let t : (p == p) ≡ true = test_same p p refl in
     let f : i * p / p ≡ i = mul-div_cancel i pos in
-    rw t (ap (λ (k : ℕ). leaf_of p us j k) f)
+    rw t (ap (λ (k : ℕ). with_depth 0 (leaf_of p us j k)) f)
 
 piece_is : (p : ℕ) (w : World) (blob : ℕ) (b : Blob) (j : ℕ) → Stands p w → (u : UpdateStands p w blob b j) → (piece : Piece)
     → bytes_of_piece w u.kept.pages piece ≡ piece_bytes p (update_at b.updates j).bytes piece
@@ -138,7 +138,7 @@ leaf_walk_is c p w blob b pos s bs (suc most) j i v fuel upto has newest =
     let in_list : j ≤ length us = omega (arith, has.version.1, length_log p us) in
     let u : UpdateStands p w blob b j = bs.updates j has.version.0 in_list in
     let some_node : Node → Option Node = λ n. Some n in
-    let node : node_in w blob j (page_range p i) ≡ Some (leaf_of p xs j i) = rows_known p w blob b j bs upto j (page_range p i) (omega arith) has ∙ ap some_node (leaf_is p xs j i pos) in
+    let node : node_in w blob j (page_range p i) ≡ Some (with_depth 0 (leaf_of p xs j i)) = rows_known p w blob b j bs upto j (page_range p i) (omega arith) has ∙ ap some_node (leaf_is p xs j i pos) in
     let back : ℕ = back_of p xs j i in
     let start : ℕ = leaf_start p x i in
     let first : Piece = first_piece p (leaf_from p x i) (leaf_len p x i) in
@@ -146,7 +146,7 @@ leaf_walk_is c p w blob b pos s bs (suc most) j i v fuel upto has newest =
     let own : List ℕ = bytes_of_piece w u.kept.pages first ++ bytes_of_piece w u.kept.pages second in
     let own_bytes_are : own ≡ own_bytes p us j i = own_is c p w blob b j i pos s ok u has in
     let on : leaf_walk (suc most) p w blob j i ≡ over (older_walk most p w blob back i) start own =
-    leaf_walk_on most p w blob j i (leaf_of p xs j i) u.kept refl node u.there in
+    leaf_walk_on most p w blob j i (with_depth 0 (leaf_of p xs j i)) u.kept refl node u.there in
     let fill = c.fill p j i us pos bs.replay has in
     let e : x ≡ extent_of us j = extent_at_is us j has.version.0 in_list in
     let step = c.backs p v i xs in

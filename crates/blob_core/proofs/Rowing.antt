@@ -14,10 +14,10 @@ use Rattle.tree_geom.specs.Geometry.{Aligned, tree_range, page_range}
 use Rattle.range_log.specs.Log.{HasNode, size_at, newest_of}
 use Rattle.range_log.specs.Extents.{Extent, extent_at, size_after, touches}
 use Rattle.range_log.specs.Updates.{Replayable, extents, update_at, no_update}
-use Rattle.range_log.specs.Rows.{leaf_len, leaf_start, leaf_at, covered, back_of, node_of}
+use Rattle.range_log.specs.Rows.{leaf_len, leaf_start, leaf_at, covered, back_of}
 use Rattle.range_log.specs.Laws.{ExtentsStand, LeavesFit}
 use Rattle.range_log.proofs.Bytes.{extent_is}
-use Rattle.blob_core.specs.World.{IsKnown, node_at, log_of}
+use Rattle.blob_core.specs.World.{IsKnown, node_at, log_of, world_node}
 use Rattle.blob_core.specs.Acts.{AreThere}
 use Rattle.blob_core.proofs.Lists.{none_some}
 use Rattle.blob_core.proofs.Growing.{length_log}
@@ -133,10 +133,10 @@ back_is p us k i true b e one other = one refl ∙ ap (λ (c : Bool). if c then 
 back_is p us k i false b e one other = other refl ∙ ap (λ (c : Bool). if c then 0 else newest_of p (touches p us) (k - 1) (page_range p i)) e
 
 pub leaf_is : (p : ℕ) (us : List Extent) (k : ℕ) (r : Range) (x : Extent) (q back : ℕ) → r.size ≡ p → x ≡ extent_at us k → q ≡ p → back ≡ back_of p us k (r.offset / p)
-    → leaf_at p x (r.offset / q) back ≡ node_of p us k r
+    → leaf_at p x (r.offset / q) back 0 ≡ world_node p us k r
 leaf_is p us k r x q back size same page is =
     let t : (r.size == p) ≡ true = test_same r.size p size in
-    ap (λ (y : Extent). leaf_at p y (r.offset / q) back) same
-    ∙ ap (λ (n : ℕ). leaf_at p (extent_at us k) (r.offset / n) back) page
-    ∙ ap (λ (b : ℕ). leaf_at p (extent_at us k) (r.offset / p) b) is
+    ap (λ (y : Extent). leaf_at p y (r.offset / q) back 0) same
+    ∙ ap (λ (n : ℕ). leaf_at p (extent_at us k) (r.offset / n) back 0) page
+    ∙ ap (λ (b : ℕ). leaf_at p (extent_at us k) (r.offset / p) b 0) is
     ∙ rw t refl

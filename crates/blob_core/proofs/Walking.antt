@@ -9,8 +9,6 @@ use Rattle.blob_model.specs.Answer.{answer}
 use Rattle.blob_model.specs.History.{is_refused}
 use Rattle.blob_model.specs.declared.call.Call.TheVariants as Calls
 use Rattle.tree_geom.specs.declared.node.Node.{Node}
-use Rattle.tree_geom.specs.declared.node.Node.TheVariants.{Inner, Leaf}
-use Rattle.tree_geom.specs.declared.node.Piece.{Piece}
 use Rattle.tree_geom.specs.Geometry.{tree_range, page_range, height_of}
 use Rattle.range_log.specs.Extents.{size_after}
 use Rattle.range_log.specs.Updates.{extents}

@@ -12,24 +12,24 @@ use Rattle.tree_geom.specs.declared.node.NodeKey.{NodeKey}
 use Rattle.tree_geom.specs.Geometry.{Aligned}
 use Rattle.range_log.specs.Log.{HasNode, newest_of}
 use Rattle.range_log.specs.Updates.{extents}
-use Rattle.range_log.specs.Rows.{node_of, row_keys_of}
+use Rattle.range_log.specs.Rows.{row_keys_of}
 use Rattle.range_log.specs.Visits.{visits}
 use Rattle.tree_walk.specs.Walk.{root_of}
-use Rattle.blob_core.specs.World.{World, IsKnown, empty_world, node_at, node_in, log_of}
+use Rattle.blob_core.specs.World.{World, IsKnown, empty_world, node_at, node_in, log_of, world_node}
 use Rattle.blob_core.specs.Woven.{found_in}
 use Rattle.blob_core.specs.Steps.{world_after, AllAllowed, IsAllowed, events_from}
 use Rattle.blob_core.specs.Walk.{Way, reached, read_walk}
 use Rattle.blob_core.specs.declared.step.Step.{Step}
 use Rattle.blob_core.specs.declared.step.Step.TheVariants as Moves
 
--- the node under a key is that of the key's version in the row of its blob's updates
+-- the node under a key is that of the key's version in the row of its blob's updates, but for its depth
 pub record IsRowNode (p : ℕ) (w : World) (key : NodeKey) (n : Node) : Type 0 where
   pub b : Blob
   pub there : blob_at w.store key.blob ≡ Some b
   pub has : HasNode p (log_of p b.updates) key.version key.range
-  pub is : n ≡ node_of p (extents b.updates) key.version key.range
+  pub is : n ≡ world_node p (extents b.updates) key.version key.range
 
--- every node that is there is the row's node for its key
+-- every node that is there is the row's node for its key, but for its depth
 abbrev pub NodesAreRows : ℕ → World → Type 0
 NodesAreRows p w = (key : NodeKey) (n : Node) → node_at w.nodes key ≡ Some n → IsRowNode p w key n
 

@@ -5,8 +5,7 @@ use Rattle.blob_model.specs.Store.{Blob, blob_at, assigned, published}
 use Rattle.tree_geom.specs.declared.range.Range.{Range}
 use Rattle.range_log.specs.Log.{HasNode}
 use Rattle.range_log.specs.Updates.{extents, Replayable}
-use Rattle.range_log.specs.Rows.{node_of}
-use Rattle.blob_core.specs.World.{World, Kept, empty_world, kept_at, origin, log_of}
+use Rattle.blob_core.specs.World.{World, Kept, empty_world, kept_at, origin, log_of, world_node}
 use Rattle.blob_core.specs.Woven.{woven}
 use Rattle.blob_core.specs.Steps.{AllAllowed, world_after}
 use Rattle.blob_core.specs.Promises.{ReadsAreContent}
@@ -26,11 +25,11 @@ pub record IsReached (p : ℕ) (w : World) : Type 0 where
   pub allowed : AllAllowed p (empty_world limits) steps
   pub is : w ≡ world_after p (empty_world limits) steps
 
--- what a writer weaves for a range of the row of version k, is the row's node
+-- what a writer weaves for a range of the row of version k, is the row's node but for its depth
 pub record WeavesRow (p : ℕ) (w : World) (blob : ℕ) (b : Blob) (k : ℕ) (r : Range) : Type 0 where
   pub kept : Kept
   pub there : kept_at w.updates blob k ≡ Some kept
-  pub is : woven p w blob b kept k r ≡ node_of p (extents b.updates) k r
+  pub is : woven p w blob b kept k r ≡ world_node p (extents b.updates) k r
 
 -- what the acts rest on in a blob of such a world
 pub record IsSound (p : ℕ) (w : World) (blob : ℕ) (b : Blob) : Type 0 where

@@ -81,28 +81,16 @@ with_node p w key =
     ]
 
 abbrev pub after : ℕ → World → Step → World
-after p w (Moves.PagePut page bytes) = record { store = w.store; lineage = w.lineage; pages = (page, bytes) ∷ w.pages; updates = w.updates; nodes = w.nodes }
+after p w (Moves.PagePut page bytes) = record w { pages = (page, bytes) ∷ w.pages }
 after p w (Moves.Create caller) =
-    record { store = store_from w.store (Events.Create caller ∷ []); lineage = None ∷ w.lineage; pages = w.pages; updates = w.updates; nodes = w.nodes }
+    record w { store = store_from w.store (Events.Create caller ∷ []); lineage = None ∷ w.lineage }
 after p w (Moves.Assign caller blob place pages) =
-    record {
-      store = store_from w.store (Events.Assign caller blob place (joined w.pages pages) ∷ []);
-      lineage = w.lineage;
-      pages = w.pages;
-      updates = with_update p w blob pages;
-      nodes = w.nodes;
-    }
-after p w (Moves.NodePut key) = record { store = w.store; lineage = w.lineage; pages = w.pages; updates = w.updates; nodes = with_node p w key }
+    record w { store = store_from w.store (Events.Assign caller blob place (joined w.pages pages) ∷ []); updates = with_update p w blob pages }
+after p w (Moves.NodePut key) = record w { nodes = with_node p w key }
 after p w (Moves.Finish caller blob version) =
-    record { store = store_from w.store (Events.Finish caller blob version ∷ []); lineage = w.lineage; pages = w.pages; updates = w.updates; nodes = w.nodes }
+    record w { store = store_from w.store (Events.Finish caller blob version ∷ []) }
 after p w (Moves.Branch caller blob version) =
-    record {
-      store = store_from w.store (Events.Branch caller blob version ∷ []);
-      lineage = Some (record { blob = blob; version = version }) ∷ w.lineage;
-      pages = w.pages;
-      updates = w.updates;
-      nodes = w.nodes;
-    }
+    record w { store = store_from w.store (Events.Branch caller blob version ∷ []); lineage = Some (record { blob = blob; version = version }) ∷ w.lineage }
 after p w (Moves.Read blob version offset count) = w
 
 -- ---- lists of steps

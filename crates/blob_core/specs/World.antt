@@ -1,4 +1,4 @@
-use Rattle.std.specs.Prelude.{◌≡◌, ℕ, ◌+◌, ◌==◌, ◌&&◌, nat_le, zero, suc, Bool, if◌then◌else◌, List, [], ◌∷◌, ◌++◌, length, slice_get, Option, Some, None}
+use Rattle.std.specs.Prelude.{◌≡◌, ℕ, ◌+◌, ◌==◌, ◌&&◌, zero, suc, Bool, if◌then◌else◌, List, [], ◌∷◌, ◌++◌, length, slice_get, Option, Some, None}
 use Rattle.blob_model.specs.Limits.{Bounds}
 use Rattle.blob_model.specs.Content.{Update}
 use Rattle.blob_model.specs.Store.{Store, empty_store}
@@ -6,13 +6,15 @@ use Rattle.tree_geom.specs.declared.range.Range.{Range}
 use Rattle.tree_geom.specs.declared.touch.Touch.{Touch}
 use Rattle.tree_geom.specs.declared.node.Node.{Node}
 use Rattle.tree_geom.specs.declared.node.NodeKey.{NodeKey}
+use Rattle.tree_geom.specs.Nodes.{with_depth}
 use Rattle.range_log.specs.declared.«open».OpenTouch.{OpenTouch}
 use Rattle.branching.specs.declared.Parent.{Parent}
 use Rattle.branching.specs.Parents.{origin_of}
 use Rattle.blob_core.specs.declared.world.UpdateKey.{UpdateKey}
 use Rattle.range_log.specs.Log.{touch_at}
-use Rattle.range_log.specs.Extents.{touches}
+use Rattle.range_log.specs.Extents.{Extent, touches}
 use Rattle.range_log.specs.Updates.{extents}
+use Rattle.range_log.specs.Rows.{node_of}
 
 -- ---- finite maps, as lists of keys with their values
 -- the value of a key: that of the first entry whose key is the same
@@ -78,6 +80,12 @@ key_in w blob version r = record { blob = origin w blob version; version = versi
 -- the node of a blob's version for a range
 abbrev pub node_in : World → ℕ → ℕ → Range → Option Node
 node_in w blob version r = node_at w.nodes (key_in w blob version r)
+
+-- ---- nodes
+-- The node that a world has for the range in the row of version k. A world keeps no depths, since neither reads nor weaving
+-- need them: the depth is 0 in each leaf. The links, the start, the pieces and the back are those of the row's node.
+abbrev pub world_node : ℕ → List Extent → ℕ → Range → Node
+world_node p us k r = with_depth 0 (node_of p us k r)
 
 -- ---- pages
 -- the bytes of a page, none where it isn't there

@@ -57,9 +57,9 @@ older_link p w blob b kept r =
 abbrev pub link_of : ℕ → World → ℕ → Blob → Kept → ℕ → Range → ℕ
 link_of p w blob b kept k r = if meets_of p (touch_at (log_of p b.updates) k) r then k else older_link p w blob b kept r
 
--- the node of update k for the range, as its writer weaves it
+-- the node of update k for the range, as its writer weaves it; a world keeps no depths
 abbrev pub woven : ℕ → World → ℕ → Blob → Kept → ℕ → Range → Node
 woven p w blob b kept k r =
     if r.size == p then leaf_at p (extent_at (extents b.updates) k) (r.offset / p)
-    (if covered p (extents b.updates) k (r.offset / p) then 0 else older_link p w blob b kept (page_range p (r.offset / p)))
+    (if covered p (extents b.updates) k (r.offset / p) then 0 else older_link p w blob b kept (page_range p (r.offset / p))) 0
     else Inner (link_of p w blob b kept k (left_half r)) (link_of p w blob b kept k (right_half r))

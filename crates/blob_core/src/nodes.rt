@@ -6,8 +6,8 @@ ghost use Rattle.blob_model.specs.Store.{assigned, finish, is_finished};
 ghost use Rattle.range_log.specs.Log.{HasNode, size_at as size_in};
 ghost use Rattle.range_log.specs.Extents.{Extent, extent_at};
 ghost use Rattle.range_log.specs.Updates.{Replayable, extents};
-ghost use Rattle.range_log.specs.Rows.{leaf_at, node_of, leaf_start, leaf_len, first_piece, second_piece, piece_count};
-ghost use Rattle.blob_core.specs.World.{log_of};
+ghost use Rattle.range_log.specs.Rows.{leaf_at, leaf_start, leaf_len, first_piece, second_piece, piece_count};
+ghost use Rattle.blob_core.specs.World.{log_of, world_node};
 ghost use Rattle.blob_core.specs.Steps.{IsAllowed};
 ghost use Rattle.blob_core.specs.Standing.{IsReached};
 ghost use Rattle.blob_core.specs.Acts.{IsDone, IsRowOf, NotNumberedIn, AreThere};
@@ -62,13 +62,13 @@ fn pieces(p: PageSize, from: u64, len: u64) -> Result<(u32, Piece, Piece), NoMem
     Ok((2, first, second))
 }
 
-/// The leaf of a page of an update of `len` bytes at `at`, some of which lie in the page.
+/// The leaf of a page of an update of `len` bytes at `at`, some of which lie in the page. A world keeps no depths.
 fn leaf(p: PageSize, at: u64, len: u64, page: u64, back: u64) -> Result<Node, NoMemory>
     requires end { at + len ≤ 2 ^ 40 }
     requires page { page * p ≤ 2 ^ 40 }
     requires some { 1 ≤ leaf_len p (record { at = at; len = len }) page }
     requires small { leaf_start p (record { at = at; len = len }) page + leaf_len p (record { at = at; len = len }) page ≤ p }
-    ensures { IfOk result (λ node. node ≡ leaf_at p (record { at = at; len = len }) page back) }
+    ensures { IfOk result (λ node. node ≡ leaf_at p (record { at = at; len = len }) page back 0) }
 {
     let size = p.bytes();
     let begin = page * size;
@@ -81,6 +81,7 @@ fn leaf(p: PageSize, at: u64, len: u64, page: u64, back: u64) -> Result<Node, No
         first,
         second,
         back,
+        depth: 0,
     })
 }
 
@@ -97,7 +98,7 @@ fn extent(blob: &StoredBlob, log: &[Touch], version: usize) -> (u64, u64)
     (offset_in(update.place, before), update.bytes.len() as u64)
 }
 
-/// The node of a version's row for a range.
+/// The node of a version's row for a range, without its depth.
 fn row_node(
     p: PageSize,
     blob: &StoredBlob,
@@ -109,7 +110,7 @@ fn row_node(
     requires fits { (v : ℕ) → v ≤ assigned blob.now → size_of blob.now.updates v ≤ 2 ^ 40 }
     requires log { log.now ≡ log_of p blob.now.updates }
     requires has { HasNode p (log_of p blob.now.updates) version range }
-    ensures { IfOk result (λ node. node ≡ node_of p (extents blob.now.updates) version range) }
+    ensures { IfOk result (λ node. node ≡ world_node p (extents blob.now.updates) version range) }
 {
     laws::page_bytes_stay();
     laws::leaves_fill();

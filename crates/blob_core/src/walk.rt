@@ -124,6 +124,7 @@ impl State {
             first,
             second,
             back,
+            depth: _,
         } = node
         else {
             return Ok(own);

@@ -58,6 +58,7 @@ fn a_leaf_leads_back_to_the_version_that_waits(rt: HostRuntime) -> Result<(), Fa
             len: 0,
         },
         back: 1,
+        depth: 0,
     };
     assert_eq!(rt; world.node(key(1, 2, 0, 4)), Some(leaf));
     assert!(rt; world.node(key(1, 1, 0, 4)).is_none());

@@ -83,6 +83,6 @@ returns-clause-done c =
     same_there c.as_slice.result.now v.nodes c.args.blob c.args.version c.as_slice-else-is_marked.result.now (row_keys_of c.args.p (log_of c.args.p b.updates) c.args.version) c.as_slice.ensures.value
     (c.as_slice-else-is_marked.ensures.value ∙ num.2) (c.are_there.ensures.all c.if-not-are_there.false) in
     let Done : World → Type 0 = λ x. IsDone c.args.p x (Moves.Finish c.args.caller c.args.blob c.args.version)
-    (record { store = record { limits = v.store.limits; blobs = put c.mark.new.blob }; lineage = v.lineage; pages = v.pages; updates = v.updates; nodes = v.nodes }) in
+    (record v { store = record { limits = v.store.limits; blobs = put c.mark.new.blob } }) in
     subst Done to
     (finish_is_done c.args.p v c.args.caller c.args.blob c.args.version b (put c.mark.new.blob) (subst Own (sym to) num.0) all (sym c.is_marked.ensures ∙ c.if-is_marked.false) set)

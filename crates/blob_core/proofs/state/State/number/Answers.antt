@@ -96,7 +96,7 @@ returns-clause-done c =
     let more : c.insert.new.self.items ≡ entry ∷ v.updates =
     c.insert.ensures.items ∙ ap pick (c.insert.ensures.succeeds room) ∙ ap (λ (l : List (UpdateKey × Kept)). entry ∷ l) c.in_ok-try_reserve.ensures.items in
     let Done : World → Type 0 = λ x. IsDone c.args.p x (Moves.Assign c.args.caller c.args.blob c.args.place c.args.pages.now)
-    (record { store = record { limits = v.store.limits; blobs = put c.add_update.new.blob }; lineage = v.lineage; pages = v.pages; updates = c.insert.new.self.items; nodes = v.nodes }) in
+    (record v { store = record { limits = v.store.limits; blobs = put c.add_update.new.blob }; updates = c.insert.new.self.items }) in
     subst Done to
     (number_done c.args.p v c.args.blob c.args.pages.now b u (numbered c.len-2.result) kept (put c.add_update.new.blob) c.insert.new.self.items there joins.0 joins.1 taken set
     (ap numbered count) beside more)

@@ -98,6 +98,6 @@ returns-clause-done c =
     let none : node_at v.nodes c.args.key ≡ None =
     ap (λ (l : List (NodeKey × Node)). node_at l c.args.key) (sym c.as_slice-2.ensures.value) ∙ sym c.find_node.ensures ∙ none_of c.find_node.result (sym c.is_some.ensures ∙ c.if-is_some.false) in
     let Done : World → Type 0 = λ x. IsDone c.args.p x (Moves.NodePut c.args.key)
-    (record { store = v.store; lineage = v.lineage; pages = v.pages; updates = v.updates; nodes = c.insert.new.self.items }) in
+    (record v { nodes = c.insert.new.self.items }) in
     subst Done to
     (node_done c.args.p v c.args.key b c.in_ok-node.node c.insert.new.self.items (subst Sound (sym to) s) (subst Own (sym to) num.0) has none c.in_ok-node.ensures c.in_ok-insert.ensures.items)
