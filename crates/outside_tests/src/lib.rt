@@ -1,12 +1,18 @@
-//! Tests of the outside: gates, listeners, files, and the adapters over std.
+//! Tests of the outside: streams in memory and over std, gates, listeners, files, and ports over a network.
 #![tactic(auto)]
 
+#[cfg(test)]
+mod adapters;
+#[cfg(test)]
+mod drained;
 #[cfg(test)]
 mod files;
 #[cfg(test)]
 mod gate;
 #[cfg(test)]
 mod listener;
+#[cfg(test)]
+mod memory;
 #[cfg(test)]
 mod tally;
 #[cfg(test)]

@@ -1,9 +1,5 @@
-//! Tests of the program's crates: the outside, the forms of requests and replies, and the program itself.
+//! Tests of `run`: whole scripts with their replies, outputs and inputs that fail, and doors that do.
 #![tactic(auto)]
 
 #[cfg(test)]
-mod outside;
-#[cfg(test)]
 mod run;
-#[cfg(test)]
-mod script;

@@ -1,3 +1,4 @@
+//! Whole scripts with their replies, and how a run ends.
 ghost use Rattle.std.specs.Prelude.{◌≡◌, ◌≤◌, length};
 
 use blobseer_run::run;
@@ -37,7 +38,8 @@ static ROWS: [(&str, &str); 21] = [
     ),
     (
         "create\nappend 1 00\nappend 1 0102030405060708090a0b0c0d0e0f101112131415161718191a1b1c1d1e1f\nread 1 2 0 32\n",
-        "blob 1\nversion 1 at 0 size 1\nversion 2 at 1 size 32\ndata 000102030405060708090a0b0c0d0e0f101112131415161718191a1b1c1d1e1f\n",
+        "blob 1\nversion 1 at 0 size 1\nversion 2 at 1 size 32\n\
+         data 000102030405060708090a0b0c0d0e0f101112131415161718191a1b1c1d1e1f\n",
     ),
     (
         "create\nappend 1 61626364\nappend 1 65666768\nappend 1 69\nread 1 3 0 9\n",
@@ -45,12 +47,15 @@ static ROWS: [(&str, &str); 21] = [
     ),
     ("read 1 0 0 0\n", "error no-blob 1\n"),
     (
-        "create\nappend 1 616263646566\nread 1 1 0 7\nread 1 1 18446744073709551615 1\nread 1 1 6 0\nread 1 1 7 0\nread 1 1 0 16777217\n",
-        "blob 1\nversion 1 at 0 size 6\nerror range-past-size 7 6\nerror range-past-size 18446744073709551616 6\ndata -\nerror range-past-size 7 6\nerror read-too-long 16777217\n",
+        "create\nappend 1 616263646566\nread 1 1 0 7\nread 1 1 18446744073709551615 1\nread 1 1 6 0\nread 1 1 7 0\n\
+         read 1 1 0 16777217\n",
+        "blob 1\nversion 1 at 0 size 6\nerror range-past-size 7 6\nerror range-past-size 18446744073709551616 6\n\
+         data -\nerror range-past-size 7 6\nerror read-too-long 16777217\n",
     ),
     (
         "create\nappend 1 abc\nappend 1 -\nCreate\nappend 1 FF\nread 1 01 0 1\n# note\n\nread 1 1 0 1\nquit\ncreate\n",
-        "blob 1\nerror malformed\nerror empty-update\nerror malformed\nversion 1 at 0 size 1\nerror malformed\ndata ff\nbye\n",
+        "blob 1\nerror malformed\nerror empty-update\nerror malformed\nversion 1 at 0 size 1\nerror malformed\n\
+         data ff\nbye\n",
     ),
     ("create\r\nappend 1 aa\r", "blob 1\nversion 1 at 0 size 1\n"),
     (
@@ -63,19 +68,23 @@ static ROWS: [(&str, &str); 21] = [
     ),
     (
         "create\nstart-append 1 aa\nstart-append 1 bb\nfinish 2\nstatus 1\nread 1 2 0 2\nfinish 1\nread 1 2 0 2\n",
-        "blob 1\nticket 1 version 1 at 0 size 1\nticket 2 version 2 at 1 size 2\npublished 0\nstatus assigned 2 published 0 held 1\nerror not-published 2 0\npublished 2\ndata aabb\n",
+        "blob 1\nticket 1 version 1 at 0 size 1\nticket 2 version 2 at 1 size 2\npublished 0\n\
+         status assigned 2 published 0 held 1\nerror not-published 2 0\npublished 2\ndata aabb\n",
     ),
     (
         "create\nappend 1 616263646566\nwrite 1 7 ff\nwrite 1 6 ff\nwrite 1 8 ff\n",
-        "blob 1\nversion 1 at 0 size 6\nerror offset-past-size 7 6\nversion 2 at 6 size 7\nerror offset-past-size 8 7\n",
+        "blob 1\nversion 1 at 0 size 6\nerror offset-past-size 7 6\nversion 2 at 6 size 7\n\
+         error offset-past-size 8 7\n",
     ),
     (
         "create\nread 1 0 0 0\nsize 1 0\nrecent 1\nstatus 1\n",
         "blob 1\ndata -\nsize 0\nrecent 0 size 0\nstatus assigned 0 published 0 held 0\n",
     ),
     (
-        "create\nstart-append 1 00\nstart-append 1 0102030405060708090a0b0c0d0e0f101112131415161718191a1b1c1d1e1f\nfinish 2\nfinish 1\nread 1 2 0 32\n",
-        "blob 1\nticket 1 version 1 at 0 size 1\nticket 2 version 2 at 1 size 32\npublished 0\npublished 2\ndata 000102030405060708090a0b0c0d0e0f101112131415161718191a1b1c1d1e1f\n",
+        "create\nstart-append 1 00\nstart-append 1 0102030405060708090a0b0c0d0e0f101112131415161718191a1b1c1d1e1f\n\
+         finish 2\nfinish 1\nread 1 2 0 32\n",
+        "blob 1\nticket 1 version 1 at 0 size 1\nticket 2 version 2 at 1 size 32\npublished 0\npublished 2\n\
+         data 000102030405060708090a0b0c0d0e0f101112131415161718191a1b1c1d1e1f\n",
     ),
     (
         "create\nappend 1 61626364\nwrite 1 0 ff\nwrite 1 1 fe\nread 1 3 0 4\n",
@@ -87,19 +96,23 @@ static ROWS: [(&str, &str); 21] = [
     ),
     (
         "create\nstart-append 1 aa\nstart-append 1 bb\nfinish 2\nsync 1 2\nsync 1 3\nfinish 1\nsync 1 2\nfinish 1\n",
-        "blob 1\nticket 1 version 1 at 0 size 1\nticket 2 version 2 at 1 size 2\npublished 0\nerror pending 2 held 1\nerror not-published 3 0\npublished 2\nsynced 2\nerror no-ticket 1\n",
+        "blob 1\nticket 1 version 1 at 0 size 1\nticket 2 version 2 at 1 size 2\npublished 0\nerror pending 2 held 1\n\
+         error not-published 3 0\npublished 2\nsynced 2\nerror no-ticket 1\n",
     ),
     (
         "create\nappend 1 616263646566\nappend 1 5859\nbranch 1 1\nappend 2 5a\nread 1 2 0 8\nread 2 2 0 7\n",
-        "blob 1\nversion 1 at 0 size 6\nversion 2 at 6 size 8\nblob 2\nversion 2 at 6 size 7\ndata 6162636465665859\ndata 6162636465665a\n",
+        "blob 1\nversion 1 at 0 size 6\nversion 2 at 6 size 8\nblob 2\nversion 2 at 6 size 7\ndata 6162636465665859\n\
+         data 6162636465665a\n",
     ),
     (
         "create\nappend 1 616263646566\nstart-append 1 5859\nbranch 1 2\nbranch 9 0\n",
         "blob 1\nversion 1 at 0 size 6\nticket 1 version 2 at 6 size 8\nerror not-published 2 1\nerror no-blob 9\n",
     ),
     (
-        "create\nappend 1 aa\nbranch 1 1\nbranch 2 0\nwrite 2 0 bb\nappend 3 cc\nread 2 2 0 1\nread 3 1 0 1\nread 1 1 0 1\nstatus 3\n",
-        "blob 1\nversion 1 at 0 size 1\nblob 2\nblob 3\nversion 2 at 0 size 1\nversion 1 at 0 size 1\ndata bb\ndata cc\ndata aa\nstatus assigned 1 published 1 held 0\n",
+        "create\nappend 1 aa\nbranch 1 1\nbranch 2 0\nwrite 2 0 bb\nappend 3 cc\nread 2 2 0 1\nread 3 1 0 1\n\
+         read 1 1 0 1\nstatus 3\n",
+        "blob 1\nversion 1 at 0 size 1\nblob 2\nblob 3\nversion 2 at 0 size 1\nversion 1 at 0 size 1\ndata bb\n\
+         data cc\ndata aa\nstatus assigned 1 published 1 held 0\n",
     ),
 ];
 
@@ -116,8 +129,28 @@ fn nobody<'a>(alloc: Global) -> MemListener<Pair<'a, MemSource, MemSink>> {
     MemListener::new(String::new(alloc), VecDeque::new(alloc), Vec::new(alloc))
 }
 
-// A run with the words of a line, over an input in pieces whose calls fail as told, an output that takes so many bytes, and
-// doors of that maker.
+// The status of a run. Nothing is said of it here, so that what `run` ensures stands in no goal of the tests.
+fn status_of<R: Wait + Threads + Sync, M: DoorMaker>(
+    rt: &R,
+    alloc: Global,
+    words: &[String],
+    source: &mut MemSource,
+    out: &mut MemSink,
+    err: &mut MemSink,
+    doors: &mut M,
+) -> u8
+where
+    M::Door: BesideDoor + Drop + Send,
+    requires { M.is_true doors.old }
+{
+    let mut files = MemFiles::new(alloc, BTreeMap::new(alloc));
+    let mut net = nobody(alloc);
+    run(
+        rt, alloc, words, source, out, err, &mut net, &mut files, doors, &FreeGate,
+    )
+}
+
+// A run with the words of a line, over an input, an output that takes so many bytes, and doors of that maker.
 fn run_words<R: Wait + Threads + Sync, M: DoorMaker>(
     rt: &R,
     alloc: Global,
@@ -134,19 +167,14 @@ where
     let mut source = source;
     let mut out = MemSink::new(alloc, room)?;
     let mut err = MemSink::new(alloc, ROOM)?;
-    let mut files = MemFiles::new(alloc, BTreeMap::new(alloc));
-    let mut net = nobody(alloc);
-    let status = run(
+    let status = status_of(
         rt,
         alloc,
         words.as_slice(),
         &mut source,
         &mut out,
         &mut err,
-        &mut net,
-        &mut files,
         doors,
-        &FreeGate,
     );
     Ok(Ran {
         out: out.bytes().to_vec(alloc)?,
@@ -155,6 +183,7 @@ where
     })
 }
 
+// An input in pieces of that length, whose reads fail as told.
 fn memory_of(
     alloc: Global,
     script: &str,
@@ -224,30 +253,36 @@ fn scripts_are_answered_in_pieces_of_any_length(rt: HostRuntime) -> Result<(), F
     Ok(())
 }
 
-#[test]
-fn a_read_fault_leaves_the_ended_lines_answered(rt: HostRuntime) -> Result<(), Fail> {
-    let failing = vec![in rt.alloc(); false, true]?;
-    let source = memory_of(rt.alloc(), "create\n", 7, failing)?;
-    let ran = run_script(&rt, rt.alloc(), source, ROOM)?;
-    assert_eq!(rt; ran.out.as_slice(), b"blob 1\n".as_slice());
+// A script, the length of its pieces, which reads fail, and the replies that are written before the fault.
+static READ_FAULTS: [(&str, usize, &[bool], &str); 3] = [
+    ("create\n", 7, &[false, true], "blob 1\n"),
+    // The last line isn't ended.
+    ("create\ncreate", 13, &[false, true], "blob 1\n"),
+    // Nothing was taken.
+    ("create\n", 7, &[true], ""),
+];
+
+fn check_read_fault<R: Wait + Threads + Sync + Abort>(
+    rt: &R,
+    alloc: Global,
+    script: &str,
+    piece: usize,
+    failing: &[bool],
+    replies: &str,
+) -> Result<(), Fail> {
+    let source = memory_of(alloc, script, piece, failing.to_vec(alloc)?)?;
+    let ran = run_script(rt, alloc, source, ROOM)?;
+    assert_eq!(rt; ran.out.as_slice(), replies.as_bytes(), "{script}");
     assert_eq!(rt; ran.err.as_slice(), b"blobseer: read fault\n".as_slice());
     assert_eq!(rt; ran.status, 3);
+    Ok(())
+}
 
-    let failing = vec![in rt.alloc(); false, true]?;
-    let source = memory_of(rt.alloc(), "create\ncreate", 13, failing)?;
-    let ran = run_script(&rt, rt.alloc(), source, ROOM)?;
-    assert_eq!(rt;
-        ran.out.as_slice(),
-        b"blob 1\n".as_slice(),
-        "the last line isn't ended"
-    );
-    assert_eq!(rt; ran.status, 3);
-
-    let failing = vec![in rt.alloc(); true]?;
-    let source = memory_of(rt.alloc(), "create\n", 7, failing)?;
-    let ran = run_script(&rt, rt.alloc(), source, ROOM)?;
-    assert_eq!(rt; ran.out.len(), 0, "nothing was taken");
-    assert_eq!(rt; ran.status, 3);
+#[test]
+fn a_read_fault_leaves_the_ended_lines_answered(rt: HostRuntime) -> Result<(), Fail> {
+    for (script, piece, failing, replies) in READ_FAULTS.as_slice() {
+        check_read_fault(&rt, rt.alloc(), script, *piece, failing, replies)?;
+    }
     Ok(())
 }
 
@@ -331,37 +366,57 @@ fn nothing_behind_a_quit_is_answered(rt: HostRuntime) -> Result<(), Fail> {
     check_quits(&rt, rt.alloc(), QUITS.as_slice())
 }
 
-// A script that appends so many bytes, all of them 5a, and then more lines.
-fn long_append(alloc: Global, count: usize, more: &str) -> Result<String, AllocError> {
-    let mut script = String::from_str(alloc, "create\nappend 1 ")?;
+// Adds so many bytes to a text, all of them 5a.
+fn add_bytes(text: &mut String, count: usize) -> Result<(), AllocError> {
     for _ in 0..count {
-        script.push_str("5a")?;
+        text.push_str("5a")?;
     }
-    script.push_str("\n")?;
-    script.push_str(more)?;
-    Ok(script)
+    Ok(())
+}
+
+// Two texts around so many bytes, all of them 5a.
+fn around_bytes(
+    alloc: Global,
+    before: &str,
+    count: usize,
+    after: &str,
+) -> Result<String, AllocError> {
+    let mut text = String::from_str(alloc, before)?;
+    add_bytes(&mut text, count)?;
+    text.push_str(after)?;
+    Ok(text)
+}
+
+// Appends so many bytes, and then has these lines.
+fn check_long_append<R: Wait + Threads + Sync + Abort>(
+    rt: &R,
+    alloc: Global,
+    count: usize,
+    more: &str,
+    replies: &str,
+) -> Result<(), Fail> {
+    let script = around_bytes(alloc, "create\nappend 1 ", count, more)?;
+    let source = memory_of(alloc, script.as_str(), 65_536, Vec::new(alloc))?;
+    let ran = run_script(rt, alloc, source, 4_194_304)?;
+    assert!(rt; ran.out.as_slice() == replies.as_bytes());
+    assert_eq!(rt; ran.status, 0);
+    Ok(())
 }
 
 #[test]
 fn an_update_has_at_most_a_mebibyte(rt: HostRuntime) -> Result<(), Fail> {
-    let mut want = String::from_str(rt.alloc(), "blob 1\nversion 1 at 0 size 1048576\ndata ")?;
-    for _ in 0..1_048_576u32 {
-        want.push_str("5a")?;
-    }
-    want.push_str("\n")?;
-    let script = long_append(rt.alloc(), 1_048_576, "read 1 1 0 1048576\n")?;
-    let source = memory_of(rt.alloc(), script.as_str(), 65_536, Vec::new(rt.alloc()))?;
-    let ran = run_script(&rt, rt.alloc(), source, 4_194_304)?;
-    assert!(rt; ran.out.as_slice() == want.as_bytes());
-    assert_eq!(rt; ran.status, 0);
-
-    let script = long_append(rt.alloc(), 1_048_577, "status 1\n")?;
-    let source = memory_of(rt.alloc(), script.as_str(), 65_536, Vec::new(rt.alloc()))?;
-    let ran = run_script(&rt, rt.alloc(), source, ROOM)?;
+    let alloc = rt.alloc();
+    let first = "blob 1\nversion 1 at 0 size 1048576\ndata ";
+    let want = around_bytes(alloc, first, 1_048_576, "\n")?;
+    check_long_append(
+        &rt,
+        alloc,
+        1_048_576,
+        "\nread 1 1 0 1048576\n",
+        want.as_str(),
+    )?;
     let refused = "blob 1\nerror update-too-long 1048577\nstatus assigned 0 published 0 held 0\n";
-    assert_eq!(rt; ran.out.as_slice(), refused.as_bytes());
-    assert_eq!(rt; ran.status, 0);
-    Ok(())
+    check_long_append(&rt, alloc, 1_048_577, "\nstatus 1\n", refused)
 }
 
 #[test]

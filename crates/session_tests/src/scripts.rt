@@ -23,13 +23,18 @@ const EVERY: &[u64] = &[1, 2, 3, 4, 5, 6, 7, 8];
 const CALM_ROWS: [Row; 13] = [
     Row {
         failing: CALM,
-        script: "create\nappend 1 616263646566\nappend 1 5859\nread 1 2 4 4\nread 1 1 0 6\nread 1 1 0 7\nread 1 1 18446744073709551615 1\nread 1 1 6 0\nread 1 1 7 0\nread 1 1 0 16777217\n",
-        replies: "blob 1\nversion 1 at 0 size 6\nversion 2 at 6 size 8\ndata 65665859\ndata 616263646566\nerror range-past-size 7 6\nerror range-past-size 18446744073709551616 6\ndata -\nerror range-past-size 7 6\nerror read-too-long 16777217\n",
+        script: "create\nappend 1 616263646566\nappend 1 5859\nread 1 2 4 4\nread 1 1 0 6\nread 1 1 0 7\n\
+            read 1 1 18446744073709551615 1\nread 1 1 6 0\nread 1 1 7 0\nread 1 1 0 16777217\n",
+        replies: "blob 1\nversion 1 at 0 size 6\nversion 2 at 6 size 8\ndata 65665859\ndata 616263646566\n\
+            error range-past-size 7 6\nerror range-past-size 18446744073709551616 6\ndata -\n\
+            error range-past-size 7 6\nerror read-too-long 16777217\n",
     },
     Row {
         failing: CALM,
-        script: "create\nstart-append 1 aa\nstart-append 1 bb\nfinish 2\nstatus 1\nread 1 2 0 2\nfinish 1\nread 1 2 0 2\n",
-        replies: "blob 1\nticket 1 version 1 at 0 size 1\nticket 2 version 2 at 1 size 2\npublished 0\nstatus assigned 2 published 0 held 1\nerror not-published 2 0\npublished 2\ndata aabb\n",
+        script: "create\nstart-append 1 aa\nstart-append 1 bb\nfinish 2\nstatus 1\nread 1 2 0 2\nfinish 1\n\
+            read 1 2 0 2\n",
+        replies: "blob 1\nticket 1 version 1 at 0 size 1\nticket 2 version 2 at 1 size 2\npublished 0\n\
+            status assigned 2 published 0 held 1\nerror not-published 2 0\npublished 2\ndata aabb\n",
     },
     Row {
         failing: CALM,
@@ -43,13 +48,17 @@ const CALM_ROWS: [Row; 13] = [
     },
     Row {
         failing: CALM,
-        script: "create\nstart-append 1 00\nstart-append 1 0102030405060708090a0b0c0d0e0f101112131415161718191a1b1c1d1e1f\nfinish 2\nfinish 1\nread 1 2 0 32\n",
-        replies: "blob 1\nticket 1 version 1 at 0 size 1\nticket 2 version 2 at 1 size 32\npublished 0\npublished 2\ndata 000102030405060708090a0b0c0d0e0f101112131415161718191a1b1c1d1e1f\n",
+        script: "create\nstart-append 1 00\n\
+            start-append 1 0102030405060708090a0b0c0d0e0f101112131415161718191a1b1c1d1e1f\nfinish 2\nfinish 1\n\
+            read 1 2 0 32\n",
+        replies: "blob 1\nticket 1 version 1 at 0 size 1\nticket 2 version 2 at 1 size 32\npublished 0\npublished 2\n\
+            data 000102030405060708090a0b0c0d0e0f101112131415161718191a1b1c1d1e1f\n",
     },
     Row {
         failing: CALM,
         script: "create\nappend 1 61626364\nappend 1 65666768\nappend 1 69\nread 1 3 0 9\n",
-        replies: "blob 1\nversion 1 at 0 size 4\nversion 2 at 4 size 8\nversion 3 at 8 size 9\ndata 616263646566676869\n",
+        replies: "blob 1\nversion 1 at 0 size 4\nversion 2 at 4 size 8\nversion 3 at 8 size 9\n\
+            data 616263646566676869\n",
     },
     Row {
         failing: CALM,
@@ -63,29 +72,37 @@ const CALM_ROWS: [Row; 13] = [
     },
     Row {
         failing: CALM,
-        script: "create\nstart-append 1 aa\nstart-append 1 bb\nfinish 2\nsync 1 2\nsync 1 3\nfinish 1\nsync 1 2\nfinish 1\n",
-        replies: "blob 1\nticket 1 version 1 at 0 size 1\nticket 2 version 2 at 1 size 2\npublished 0\nerror pending 2 held 1\nerror not-published 3 0\npublished 2\nsynced 2\nerror no-ticket 1\n",
+        script: "create\nstart-append 1 aa\nstart-append 1 bb\nfinish 2\nsync 1 2\nsync 1 3\nfinish 1\nsync 1 2\n\
+            finish 1\n",
+        replies: "blob 1\nticket 1 version 1 at 0 size 1\nticket 2 version 2 at 1 size 2\npublished 0\n\
+            error pending 2 held 1\nerror not-published 3 0\npublished 2\nsynced 2\nerror no-ticket 1\n",
     },
     // A write between others that are started and not finished.
     Row {
         failing: CALM,
-        script: "create\nstart-append 1 6162636465\nstart-write 1 2 5858\nstart-write 1 6 00\nfinish 2\nfinish 1\nread 1 2 0 5\nrecent 1\nsize 1 1\nsize 1 3\n",
-        replies: "blob 1\nticket 1 version 1 at 0 size 5\nticket 2 version 2 at 2 size 5\nerror offset-past-size 6 5\npublished 0\npublished 2\ndata 6162585865\nrecent 2 size 5\nsize 5\nerror not-published 3 2\n",
+        script: "create\nstart-append 1 6162636465\nstart-write 1 2 5858\nstart-write 1 6 00\nfinish 2\nfinish 1\n\
+            read 1 2 0 5\nrecent 1\nsize 1 1\nsize 1 3\n",
+        replies: "blob 1\nticket 1 version 1 at 0 size 5\nticket 2 version 2 at 2 size 5\nerror offset-past-size 6 5\n\
+            published 0\npublished 2\ndata 6162585865\nrecent 2 size 5\nsize 5\nerror not-published 3 2\n",
     },
     Row {
         failing: CALM,
         script: "create\nappend 1 616263646566\nappend 1 5859\nbranch 1 1\nappend 2 5a\nread 1 2 0 8\nread 2 2 0 7\n",
-        replies: "blob 1\nversion 1 at 0 size 6\nversion 2 at 6 size 8\nblob 2\nversion 2 at 6 size 7\ndata 6162636465665859\ndata 6162636465665a\n",
+        replies: "blob 1\nversion 1 at 0 size 6\nversion 2 at 6 size 8\nblob 2\nversion 2 at 6 size 7\n\
+            data 6162636465665859\ndata 6162636465665a\n",
     },
     Row {
         failing: CALM,
         script: "create\nappend 1 616263646566\nstart-append 1 5859\nbranch 1 2\nbranch 9 0\n",
-        replies: "blob 1\nversion 1 at 0 size 6\nticket 1 version 2 at 6 size 8\nerror not-published 2 1\nerror no-blob 9\n",
+        replies: "blob 1\nversion 1 at 0 size 6\nticket 1 version 2 at 6 size 8\nerror not-published 2 1\n\
+            error no-blob 9\n",
     },
     Row {
         failing: CALM,
-        script: "create\nappend 1 aa\nbranch 1 1\nbranch 2 0\nwrite 2 0 bb\nappend 3 cc\nread 2 2 0 1\nread 3 1 0 1\nread 1 1 0 1\nstatus 3\n",
-        replies: "blob 1\nversion 1 at 0 size 1\nblob 2\nblob 3\nversion 2 at 0 size 1\nversion 1 at 0 size 1\ndata bb\ndata cc\ndata aa\nstatus assigned 1 published 1 held 0\n",
+        script: "create\nappend 1 aa\nbranch 1 1\nbranch 2 0\nwrite 2 0 bb\nappend 3 cc\nread 2 2 0 1\nread 3 1 0 1\n\
+            read 1 1 0 1\nstatus 3\n",
+        replies: "blob 1\nversion 1 at 0 size 1\nblob 2\nblob 3\nversion 2 at 0 size 1\nversion 1 at 0 size 1\n\
+            data bb\ndata cc\ndata aa\nstatus assigned 1 published 1 held 0\n",
     },
 ];
 
@@ -101,7 +118,8 @@ const FAILING_ROWS: [Row; 8] = [
     Row {
         failing: [&[3, 4, 5, 6, 7, 8], &[2, 3, 4, 5, 6, 7, 8], &[]],
         script: "create\nappend 1 616263646566\nread 1 1 0 6\nread 1 1 4 2\nread 1 1 3 1\nread 1 1 0 0\nread 1 1 0 7\n",
-        replies: "blob 1\nversion 1 at 0 size 6\nerror page-fault 0\ndata 6566\nerror page-fault 0\ndata -\nerror range-past-size 7 6\n",
+        replies: "blob 1\nversion 1 at 0 size 6\nerror page-fault 0\ndata 6566\nerror page-fault 0\ndata -\n\
+            error range-past-size 7 6\n",
     },
     // Both fail once.
     Row {

@@ -56,7 +56,8 @@ fn a_session_holds_sixty_four_tickets(rt: HostRuntime) -> Result<(), Fail> {
         &mut script,
         &mut replies,
         "start-append 1 61\nwrite 9 0 61\nstart-write 9 0 -\nfinish 65\nstatus 1\n",
-        "error too-many-tickets 64\nerror too-many-tickets 64\nerror empty-update\nerror no-ticket 65\nstatus assigned 64 published 0 held 1\n",
+        "error too-many-tickets 64\nerror too-many-tickets 64\nerror empty-update\nerror no-ticket 65\n\
+         status assigned 64 published 0 held 1\n",
     )?;
     add_finishes(&mut script, &mut replies)?;
     // No number is used again.
@@ -85,14 +86,17 @@ const ORDERS: [([u8; 3], [u8; 3]); 6] = [
 fn script_of(alloc: Global, order: &[u8; 3]) -> Result<String, AllocError> {
     let [a, b, c] = *order;
     format!(in alloc;
-        "create\nstart-append 1 616263646566\nstart-write 1 3 55565758595a\nstart-write 1 2 3132\nfinish {a}\nfinish {b}\nfinish {c}\nread 1 1 0 6\nread 1 2 0 9\nread 1 3 0 9\n"
+        "create\nstart-append 1 616263646566\nstart-write 1 3 55565758595a\nstart-write 1 2 3132\nfinish {a}\n\
+         finish {b}\nfinish {c}\nread 1 1 0 6\nread 1 2 0 9\nread 1 3 0 9\n"
     )
 }
 
 fn replies_of(alloc: Global, published: &[u8; 3]) -> Result<String, AllocError> {
     let [a, b, c] = *published;
     format!(in alloc;
-        "blob 1\nticket 1 version 1 at 0 size 6\nticket 2 version 2 at 3 size 9\nticket 3 version 3 at 2 size 9\npublished {a}\npublished {b}\npublished {c}\ndata 616263646566\ndata 61626355565758595a\ndata 61623132565758595a\n"
+        "blob 1\nticket 1 version 1 at 0 size 6\nticket 2 version 2 at 3 size 9\nticket 3 version 3 at 2 size 9\n\
+         published {a}\npublished {b}\npublished {c}\ndata 616263646566\ndata 61626355565758595a\n\
+         data 61623132565758595a\n"
     )
 }
 

@@ -199,7 +199,8 @@ const ROWS: [(Limits, &[Step], &str); 3] = [
                 version: 0,
             },
         ],
-        "blob 1\nversion 1 at 0 size 6\nerror blob-too-big 9 8\nversion 2 at 6 size 7\nerror too-many-versions 2\nerror too-many-blobs 1\nerror too-many-blobs 1\n",
+        "blob 1\nversion 1 at 0 size 6\nerror blob-too-big 9 8\nversion 2 at 6 size 7\nerror too-many-versions 2\n\
+         error too-many-blobs 1\nerror too-many-blobs 1\n",
     ),
     // Where more than one reason stands, the first is told.
     (
@@ -228,7 +229,8 @@ const ROWS: [(Limits, &[Step], &str); 3] = [
                 version: 0,
             },
         ],
-        "error no-blob 1\nblob 1\nversion 1 at 0 size 6\nerror offset-past-size 7 6\nerror blob-too-big 9 8\nerror too-many-versions 1\nerror no-blob 2\nerror not-published 1 0\nerror too-many-blobs 1\n",
+        "error no-blob 1\nblob 1\nversion 1 at 0 size 6\nerror offset-past-size 7 6\nerror blob-too-big 9 8\n\
+         error too-many-versions 1\nerror no-blob 2\nerror not-published 1 0\nerror too-many-blobs 1\n",
     ),
     // A blob with a waiting version, and a branch at its version 0.
     (
@@ -267,7 +269,9 @@ const ROWS: [(Limits, &[Step], &str); 3] = [
             Step::Append { blob: 2, count: 1 },
             Step::Status { blob: 3 },
         ],
-        "blob 1\nversion 1 at 0 size 6\nerror too-many-open 1\nstatus assigned 1 published 0 held 1\nerror pending 1 held 1\nerror not-published 2 0\nsynced 0\nrecent 0 size 0\nsize 0\nerror not-published 1 0\nblob 2\nstatus assigned 0 published 0 held 0\nversion 1 at 0 size 1\nerror no-blob 3\n",
+        "blob 1\nversion 1 at 0 size 6\nerror too-many-open 1\nstatus assigned 1 published 0 held 1\n\
+         error pending 1 held 1\nerror not-published 2 0\nsynced 0\nrecent 0 size 0\nsize 0\nerror not-published 1 0\n\
+         blob 2\nstatus assigned 0 published 0 held 0\nversion 1 at 0 size 1\nerror no-blob 3\n",
     ),
 ];
 

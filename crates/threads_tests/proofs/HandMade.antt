@@ -56,15 +56,14 @@ listed_more nodes pairs i placed d lt listed range node =
     ∙ sym (take-suc pairs i d lt) ∙ ap (λ k. take k pairs) (sym next)
 
 -- ---- the same of equal parts
-pub next_same : (us us' : List Update) (touch : Touch) (bytes bytes' : List ℕ) (pairs pairs' : List (Range × Node)) → us ≡ us' → bytes ≡ bytes' → pairs ≡ pairs'
-    → IsNext us' touch bytes' pairs' → IsNext us touch bytes pairs
-next_same us us' touch bytes bytes' pairs pairs' a b c is =
-    let U : List Update → Type 0 = λ x. IsNext x touch bytes pairs in
-    let B : List ℕ → Type 0 = λ x. IsNext us' touch x pairs in
-    let P : List (Range × Node) → Type 0 = λ x. IsNext us' touch bytes' x in
+pub next_same : (us us' : List Update) (offset : ℕ) (touch : Touch) (bytes bytes' : List ℕ) (pairs pairs' : List (Range × Node)) → us ≡ us' → bytes ≡ bytes'
+    → pairs ≡ pairs' → IsNext us' offset touch bytes' pairs' → IsNext us offset touch bytes pairs
+next_same us us' offset touch bytes bytes' pairs pairs' a b c is =
+    let U : List Update → Type 0 = λ x. IsNext x offset touch bytes pairs in
+    let B : List ℕ → Type 0 = λ x. IsNext us' offset touch x pairs in
+    let P : List (Range × Node) → Type 0 = λ x. IsNext us' offset touch bytes' x in
     subst U (sym a) (subst B (sym b) (subst P (sym c) is))
 
-pub told_same : (us us' : List Update) (touch : Touch) (bytes bytes' : List ℕ) (pairs pairs' : List (Range × Node)) → us ≡ us' → bytes ≡ bytes' → pairs ≡ pairs'
-    → us ++ told touch bytes pairs ∷ [] ≡ us' ++ told touch bytes' pairs' ∷ []
-told_same us us' touch bytes bytes' pairs pairs' a b c =
-    ap (λ x. x ++ told touch bytes pairs ∷ []) a ∙ ap (λ x. us' ++ told touch x pairs ∷ []) b ∙ ap (λ x. us' ++ told touch bytes' x ∷ []) c
+pub told_same : (us us' : List Update) (offset : ℕ) (bytes bytes' : List ℕ) → us ≡ us' → bytes ≡ bytes'
+    → us ++ told offset bytes ∷ [] ≡ us' ++ told offset bytes' ∷ []
+told_same us us' offset bytes bytes' a b = ap (λ x. x ++ told offset bytes ∷ []) a ∙ ap (λ x. us' ++ told offset x ∷ []) b

@@ -7,17 +7,16 @@ use Rattle.tree_geom.specs.declared.range.Range.{Range}
 use Rattle.tree_geom.specs.declared.touch.Touch.{Touch}
 use Rattle.tree_geom.specs.declared.node.Node.{Node}
 use Rattle.tree_geom.specs.declared.node.Node.TheVariants.{Inner, Leaf}
-use Rattle.tree_geom.specs.Geometry.{page_range}
 use Rattle.tree_geom.specs.Nodes.{no_piece}
 use Rattle.range_log.specs.Log.{touch_at}
-use Rattle.range_log.specs.Extents.{touches}
+use Rattle.range_log.specs.Extents.{extent_at, touches}
 use Rattle.range_log.specs.Updates.{extents, Replayable}
 use Rattle.range_log.specs.Rows.{row_of}
 use Rattle.page_store.specs.Stored.{Cut}
 use Rattle.node_store.specs.House.{IsIn}
 use Rattle.node_store.specs.Order.{Before}
 use Rattle.node_store.specs.Rows.{UpdateRow}
-use Rattle.snapshot.specs.Versions.{start_in, pairs_of}
+use Rattle.snapshot.specs.Versions.{pairs_of}
 
 -- each range stands before the next
 abbrev pub InOrder : List (Range × Node) → Type 0
@@ -25,20 +24,22 @@ InOrder [] = Unit {0}
 InOrder (a ∷ []) = Unit {0}
 InOrder (a ∷ b ∷ rest) = Before a.0 b.0 × InOrder (b ∷ rest)
 
--- the update that such a row tells
-abbrev pub told : Touch → List ℕ → List (Range × Node) → Update
-told touch bytes pairs = record { caller = 0; place = WriteAt (touch.first * 4 + start_in pairs (page_range 4 touch.first)); bytes = bytes }
+-- the update that such a row tells: it begins at this byte
+abbrev pub told : ℕ → List ℕ → Update
+told offset bytes = record { caller = 0; place = WriteAt offset; bytes = bytes }
 
 -- it is the row of the update after these
-pub record IsNext (us : List Update) (touch : Touch) (bytes : List ℕ) (pairs : List (Range × Node)) : Type 0 where
-  pub nodes : pairs ≡ row_of 4 (extents (us ++ told touch bytes pairs ∷ [])) (length us + 1)
-  pub touched : touch ≡ touch_at (touches 4 (extents (us ++ told touch bytes pairs ∷ []))) (length us + 1)
-  pub in_bounds : Replayable (us ++ told touch bytes pairs ∷ [])
-  pub fits : size_of (us ++ told touch bytes pairs ∷ []) (length us + 1) ≤ 2 ^ 40
+pub record IsNext (us : List Update) (offset : ℕ) (touch : Touch) (bytes : List ℕ) (pairs : List (Range × Node)) : Type 0 where
+  pub nodes : pairs ≡ row_of 4 (extents (us ++ told offset bytes ∷ [])) (length us + 1)
+  pub begins : offset ≡ (extent_at (extents (us ++ told offset bytes ∷ [])) (length us + 1)).at
+  pub touched : touch ≡ touch_at (touches 4 (extents (us ++ told offset bytes ∷ []))) (length us + 1)
+  pub in_bounds : Replayable (us ++ told offset bytes ∷ [])
+  pub fits : size_of (us ++ told offset bytes ∷ []) (length us + 1) ≤ 2 ^ 40
 
 -- a row with these parts, whose nodes lie in the house
-pub record IsByHand (house : List Shelves) (version : ℕ) (cut : Cut) (touch : Touch) (pairs : List (Range × Node)) (row : UpdateRow) : Type 0 where
+pub record IsByHand (house : List Shelves) (version offset : ℕ) (cut : Cut) (touch : Touch) (pairs : List (Range × Node)) (row : UpdateRow) : Type 0 where
   pub versioned : row.version ≡ version
+  pub begins : row.offset ≡ offset
   pub paged : row.pages ≡ cut
   pub touched : row.touch ≡ touch
   pub listed : pairs_of row ≡ pairs
@@ -48,8 +49,8 @@ pub record IsByHand (house : List Shelves) (version : ℕ) (cut : Cut) (touch : 
 abbrev pub at_range : ℕ → ℕ → Range
 at_range o s = record { offset = o; size = s }
 
-abbrev pub one_piece : ℕ → ℕ → ℕ → ℕ → ℕ → Node
-one_piece start page from len back = Leaf start 1 record { page = page; from = from; len = len } no_piece back
+abbrev pub one_piece : ℕ → ℕ → ℕ → ℕ → ℕ → ℕ → Node
+one_piece start page from len back depth = Leaf start 1 record { page = page; from = from; len = len } no_piece back depth
 
 abbrev pub abcdef : List ℕ
 abcdef = 97 ∷ 98 ∷ 99 ∷ 100 ∷ 101 ∷ 102 ∷ []
@@ -59,7 +60,7 @@ abbrev pub six_touch : Touch
 six_touch = record { first = 0; last = 1; size = 6; open_first = false; open_last = false }
 
 abbrev pub six_pairs : List (Range × Node)
-six_pairs = (at_range 0 8, Inner 1 1) ∷ (at_range 0 4, one_piece 0 0 0 4 0) ∷ (at_range 4 4, one_piece 0 1 0 2 0) ∷ []
+six_pairs = (at_range 0 8, Inner 1 1) ∷ (at_range 0 4, one_piece 0 0 0 4 0 0) ∷ (at_range 4 4, one_piece 0 1 0 2 0 0) ∷ []
 
 abbrev pub after_six : List Update
-after_six = told six_touch abcdef six_pairs ∷ []
+after_six = told 0 abcdef ∷ []

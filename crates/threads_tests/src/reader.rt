@@ -52,24 +52,26 @@ fn pages_of<R: Threads + Wait + Sync>(
     }
 }
 
-// The row of an update that is told by what it touches, its pages and its nodes.
+// The row of an update that is told by its pages, the byte at which it begins, what it touches and its nodes.
 fn row_by_hand(
     rt: &impl Wait,
     alloc: Global,
     version: u64,
     nodes: &NodeHouse,
     pages: Pages,
+    offset: u64,
     touch: Touch,
     by_hand: &[(Range, Node)],
 ) -> Result<Row, Fail>
     requires few { length by_hand.now < 2 ^ 32 }
     requires order { InOrder by_hand.now }
-    ensures is { IfOk result (IsByHand nodes.now version pages touch by_hand.now) }
+    ensures is { IfOk result (IsByHand nodes.now version offset pages touch by_hand.now) }
 {
     let mut row = Row::start(
         alloc,
         1,
         version,
+        offset,
         touch,
         Arc::new(alloc, pages)?,
         by_hand.len() as u32,
@@ -92,6 +94,7 @@ fn next_version(
     before: &Snapshot,
     nodes: &NodeHouse,
     pages: Pages,
+    offset: u64,
     touch: Touch,
     by_hand: &[(Range, Node)],
 ) -> Result<Snapshot, Fail>
@@ -100,8 +103,8 @@ fn next_version(
     requires room { length before.now.rows < 9 }
     requires page_size { before.now.page_size ≡ 4 }
     requires cut { pages.page_size ≡ 4 }
-    requires next { IsNext (updates_of before.now) touch (joined pages.pages) by_hand.now }
-    ensures told { IfOk result (λ s. updates_of s ≡ updates_of before.now ++ told touch (joined pages.pages) by_hand.now ∷ []) }
+    requires next { IsNext (updates_of before.now) offset touch (joined pages.pages) by_hand.now }
+    ensures told { IfOk result (λ s. updates_of s ≡ updates_of before.now ++ told offset (joined pages.pages) ∷ []) }
     ensures page_size { IfOk result (λ s. s.page_size ≡ 4) }
     ensures count { IfOk result (λ s. length s.rows ≡ length before.now.rows + 1) }
     ensures here { (houses : List House) → IsVersionIn nodes.now houses before.now → LieAmong houses pages.pages
@@ -113,6 +116,7 @@ fn next_version(
         before.version() + 1,
         nodes,
         pages,
+        offset,
         touch,
         by_hand,
     )?;
@@ -124,8 +128,8 @@ fn next_version(
 }
 
 // The leaf of a page with one piece, of the update's first stored page.
-fn leaf_of(start: u32, from: u32, len: u32, back: u64) -> Node
-    ensures { result ≡ one_piece start 0 from len back }
+fn leaf_of(start: u32, from: u32, len: u32, back: u64, depth: u32) -> Node
+    ensures { result ≡ one_piece start 0 from len back depth }
 {
     Node::Leaf {
         start,
@@ -133,6 +137,7 @@ fn leaf_of(start: u32, from: u32, len: u32, back: u64) -> Node
         first: Piece { page: 0, from, len },
         second: NO_PIECE,
         back,
+        depth,
     }
 }
 
@@ -178,13 +183,14 @@ fn six<R: Threads + Wait + Sync>(
         },
         second: NO_PIECE,
         back: 0,
+        depth: 0,
     };
     let by_hand = [
         (range_of(0, 8), Node::Inner { left: 1, right: 1 }),
-        (range_of(0, 4), leaf_of(0, 0, 4, 0)),
+        (range_of(0, 4), leaf_of(0, 0, 4, 0, 0)),
         (range_of(4, 4), rest),
     ];
-    next_version(rt, alloc, &none, nodes, pages, touch, &by_hand)
+    next_version(rt, alloc, &none, nodes, pages, 0, touch, &by_hand)
 }
 
 // Version 2 with two bytes more.
@@ -212,9 +218,9 @@ fn two_more<R: Threads + Wait + Sync>(
     };
     let by_hand = [
         (range_of(0, 8), Node::Inner { left: 1, right: 2 }),
-        (range_of(4, 4), leaf_of(2, 0, 2, 1)),
+        (range_of(4, 4), leaf_of(2, 0, 2, 1, 1)),
     ];
-    next_version(rt, alloc, &one, nodes, pages, touch, &by_hand)
+    next_version(rt, alloc, &one, nodes, pages, 6, touch, &by_hand)
 }
 
 // Version 2 with bytes 3 and 4 written anew.
@@ -242,10 +248,10 @@ fn two_over<R: Threads + Wait + Sync>(
     };
     let by_hand = [
         (range_of(0, 8), Node::Inner { left: 2, right: 2 }),
-        (range_of(0, 4), leaf_of(3, 0, 1, 1)),
-        (range_of(4, 4), leaf_of(0, 1, 1, 1)),
+        (range_of(0, 4), leaf_of(3, 0, 1, 1, 1)),
+        (range_of(4, 4), leaf_of(0, 1, 1, 1, 1)),
     ];
-    next_version(rt, alloc, &one, nodes, pages, touch, &by_hand)
+    next_version(rt, alloc, &one, nodes, pages, 3, touch, &by_hand)
 }
 
 // Version 3: four bytes, and then byte 0 and byte 1 written anew.
@@ -272,19 +278,19 @@ fn three_writes<R: Threads + Wait + Sync>(
         open_last: false,
     };
     let pages = pages_of(rt, alloc, doors, houses, b"abcd")?;
-    let four = [(range_of(0, 4), leaf_of(0, 0, 4, 0))];
-    let one = next_version(rt, alloc, &none, nodes, pages, touch, &four)?;
+    let four = [(range_of(0, 4), leaf_of(0, 0, 4, 0, 0))];
+    let one = next_version(rt, alloc, &none, nodes, pages, 0, touch, &four)?;
     let part = Touch {
         open_first: true,
         open_last: true,
         ..touch
     };
     let pages = pages_of(rt, alloc, doors, houses, b"\xff")?;
-    let first = [(range_of(0, 4), leaf_of(0, 0, 1, 1))];
-    let two = next_version(rt, alloc, &one, nodes, pages, part, &first)?;
+    let first = [(range_of(0, 4), leaf_of(0, 0, 1, 1, 1))];
+    let two = next_version(rt, alloc, &one, nodes, pages, 0, part, &first)?;
     let pages = pages_of(rt, alloc, doors, houses, b"\xfe")?;
-    let second = [(range_of(0, 4), leaf_of(1, 0, 1, 2))];
-    next_version(rt, alloc, &two, nodes, pages, part, &second)
+    let second = [(range_of(0, 4), leaf_of(1, 0, 1, 2, 2))];
+    next_version(rt, alloc, &two, nodes, pages, 1, part, &second)
 }
 
 // Reads into `out`, and tells the node steps.
@@ -431,7 +437,7 @@ fn put_thousand_nodes(rt: &impl Wait, nodes: &NodeHouse) -> bool {
             version,
             range: range_of(0, 4),
         };
-        if nodes.put(rt, key, leaf_of(0, 0, 4, 0)).is_err() {
+        if nodes.put(rt, key, leaf_of(0, 0, 4, 0, 0)).is_err() {
             return false;
         }
     }

@@ -44,6 +44,16 @@ impl Model for Begun {
     ghost view = { λ b. record { at = b.at; pages = arc_value b.pages } };
 }
 
+impl Begun {
+    /// The bytes that the update writes.
+    pub fn bytes(&self) -> Bytes {
+        Bytes {
+            at: self.at,
+            end: self.at.saturating_add(self.pages.len()),
+        }
+    }
+}
+
 /// A blob with its window, and what its updates touch, where they begin and which pages they have.
 #[derive(Drop)]
 pub struct Blob {
@@ -212,19 +222,14 @@ impl Blob {
         Ok((planned, steps.taken()))
     }
 
-    /// The row of a numbered update, made plainly from what all updates touch.
+    /// The row of a numbered update, made plainly from what all updates touch and write.
     pub fn plain(&self, alloc: Global, version: u64) -> Result<Vec<(Range, Node)>, Fail> {
         range_log::laws::page_bytes_stay();
         if version == 0 || version > self.begun.len() as u64 {
             return Err("no such version".into());
         }
-        let begun = &self.begun[version as usize - 1];
-        let bytes = Bytes {
-            at: begun.at,
-            end: begun.at.saturating_add(begun.pages.len()),
-        };
         let p = self.window.snapshot().page_size();
-        plain_row(alloc, p, &self.touches, version as usize, bytes)
+        plain_row(alloc, p, &self.touches, &self.begun, version as usize)
     }
 
     /// Plans and stores the row of a numbered update, had version `published` been published at its numbering, and finishes

@@ -1,12 +1,12 @@
-//! The row of an update, made plainly from what all updates up to it touch.
+//! The row of an update, made plainly from what all updates up to it touch and write.
 ghost use Rattle.std.specs.Prelude.{◌+◌, ◌^◌, ◌≤◌, length};
 ghost use Rattle.range_log.specs.Extents.{IsLog};
 
-use crate::blob::MAX_SIZE;
+use crate::blob::{Begun, MAX_SIZE};
 use range_log::{newest, row_keys};
 use std::alloc::Global;
 use std::test::Fail;
-use tree_geom::{Node, PageSize, Piece, Range, Touch};
+use tree_geom::{Node, PageSize, Piece, Range, Touch, meets};
 
 /// The second piece of a leaf that has one.
 pub const NO_PIECE: Piece = Piece {
@@ -20,6 +20,14 @@ pub const NO_PIECE: Piece = Piece {
 pub struct Bytes {
     pub at: u64,
     pub end: u64,
+}
+
+impl Bytes {
+    // Whether they are all bytes of the page that there are in a blob of this size.
+    fn cover(self, page: Range, size: u64) -> bool {
+        let after = page.offset.saturating_add(page.size);
+        self.at <= page.offset && self.end.min(after) == size.min(after)
+    }
 }
 
 // The one or two pieces of `len` bytes from byte `from` of the update's buffer on.
@@ -45,20 +53,45 @@ fn plain_pieces(size: u64, from: u64, len: u64) -> Result<(u32, Piece, Piece), F
     Ok((2, first, second))
 }
 
-// The leaf of update `k` for the page.
-fn plain_leaf(p: PageSize, log: &[Touch], k: usize, bytes: Bytes, page: Range) -> Result<Node, Fail>
-    requires some { 1 ≤ k }
+// How deep the newest leaf of the page up to update `k` lies: 0 where its update writes all bytes of the page that there are
+// after it, and one deeper than the next older leaf where it doesn't.
+fn plain_depth(p: PageSize, log: &[Touch], begun: &[Begun], k: usize, page: Range) -> u32
     requires within { k ≤ length log.now }
+    requires begun { k ≤ length begun.now }
     requires fits { page.offset + page.size ≤ 2 ^ 40 }
 {
-    let after = page.offset + page.size;
+    let mut depth = 0u32;
+    for below in (0..k).rev() {
+        if meets(p, &log[below], page) {
+            if begun[below].bytes().cover(page, log[below].size) {
+                break;
+            }
+            depth = depth.saturating_add(1);
+        }
+    }
+    depth
+}
+
+// The leaf of update `k` for the page.
+fn plain_leaf(
+    p: PageSize,
+    log: &[Touch],
+    begun: &[Begun],
+    k: usize,
+    page: Range,
+) -> Result<Node, Fail>
+    requires some { 1 ≤ k }
+    requires within { k ≤ length log.now }
+    requires begun { k ≤ length begun.now }
+    requires fits { page.offset + page.size ≤ 2 ^ 40 }
+{
+    let bytes = begun[k - 1].bytes();
     let low = bytes.at.max(page.offset);
-    let high = bytes.end.min(after);
+    let high = bytes.end.min(page.offset + page.size);
     let from = low.saturating_sub(bytes.at);
     let len = high.saturating_sub(low);
     let (count, first, second) = plain_pieces(p.bytes(), from, len)?;
-    let covers = low == page.offset && high == log[k - 1].size.min(after);
-    let back = if covers {
+    let back = if bytes.cover(page, log[k - 1].size) {
         0
     } else {
         newest(p, log, k - 1, page)
@@ -69,6 +102,7 @@ fn plain_leaf(p: PageSize, log: &[Touch], k: usize, bytes: Bytes, page: Range) -
         first,
         second,
         back,
+        depth: plain_depth(p, log, begun, k, page),
     })
 }
 
@@ -76,18 +110,19 @@ fn plain_leaf(p: PageSize, log: &[Touch], k: usize, bytes: Bytes, page: Range) -
 fn plain_node(
     p: PageSize,
     log: &[Touch],
+    begun: &[Begun],
     k: usize,
-    bytes: Bytes,
     range: Range,
 ) -> Result<Node, Fail>
     requires some { 1 ≤ k }
     requires within { k ≤ length log.now }
+    requires begun { k ≤ length begun.now }
 {
     if range.offset > MAX_SIZE || range.size > MAX_SIZE - range.offset {
         return Err("a range past the greatest size".into());
     }
     if range.size == p.bytes() {
-        return plain_leaf(p, log, k, bytes, range);
+        return plain_leaf(p, log, begun, k, range);
     }
     let size = range.size / 2;
     let low = Range {
@@ -104,16 +139,17 @@ fn plain_node(
     })
 }
 
-/// The row of update `k`, which writes these bytes.
+/// The row of update `k`, by what the updates touch and where they begin.
 pub fn plain_row(
     alloc: Global,
     p: PageSize,
     log: &[Touch],
+    begun: &[Begun],
     k: usize,
-    bytes: Bytes,
 ) -> Result<Vec<(Range, Node)>, Fail>
     requires some { 1 ≤ k }
     requires within { k ≤ length log.now }
+    requires begun { k ≤ length begun.now }
     requires of_updates { IsLog p log.now }
 {
     if log[k - 1].size > MAX_SIZE {
@@ -123,7 +159,7 @@ pub fn plain_row(
     let mut row = Vec::new(alloc);
     for i in 0..keys.len() {
         let range = keys[i];
-        row.push((range, plain_node(p, log, k, bytes, range)?))?;
+        row.push((range, plain_node(p, log, begun, k, range)?))?;
     }
     Ok(row)
 }

@@ -27,7 +27,7 @@ fn piece(page: u32, from: u32, len: u32) -> Piece {
 }
 
 // The leaf of a page with one piece.
-fn leaf(offset: u64, start: u32, first: Piece, back: u64) -> (Range, Node) {
+fn leaf(offset: u64, start: u32, first: Piece, back: u64, depth: u32) -> (Range, Node) {
     (
         Range { offset, size: 4 },
         Node::Leaf {
@@ -36,6 +36,7 @@ fn leaf(offset: u64, start: u32, first: Piece, back: u64) -> (Range, Node) {
             first,
             second: NO_PIECE,
             back,
+            depth,
         },
     )
 }
@@ -50,6 +51,7 @@ fn full_leaf(offset: u64, page: u32) -> (Range, Node) {
             first: piece(page, 3, 1),
             second: piece(page.saturating_add(1), 0, 3),
             back: 0,
+            depth: 0,
         },
     )
 }
@@ -80,7 +82,7 @@ fn an_append_over_eight_pages_has_fifteen_nodes_whichever_version_was_published(
         inner(8, 8, 2, 2),
         inner(16, 8, 2, 2),
         inner(24, 8, 2, 2),
-        leaf(0, 1, piece(0, 0, 3), 1),
+        leaf(0, 1, piece(0, 0, 3), 1, 1),
         full_leaf(4, 0),
         full_leaf(8, 1),
         full_leaf(12, 2),
@@ -104,7 +106,7 @@ fn a_third_append_links_to_the_second_whichever_version_was_published(
     let want = [
         inner(0, 16, 2, 3),
         inner(8, 8, 3, 0),
-        leaf(8, 0, piece(0, 0, 1), 0),
+        leaf(8, 0, piece(0, 0, 1), 0, 0),
     ];
     assert_eq!(rt; is_planned(rt.alloc(), &blob, 3, 0, &want)?, (true, 0));
     for published in [1, 2] {
@@ -119,10 +121,33 @@ fn a_write_across_two_pages_leads_back_in_both(rt: HostRuntime) -> Result<(), Fa
     let blob = written(&rt, rt.alloc(), &[(0, 6), (3, 2)])?;
     let want = [
         inner(0, 8, 2, 2),
-        leaf(0, 3, piece(0, 0, 1), 1),
-        leaf(4, 0, piece(0, 1, 1), 1),
+        leaf(0, 3, piece(0, 0, 1), 1, 1),
+        leaf(4, 0, piece(0, 1, 1), 1, 1),
     ];
     let (planned, _) = is_planned(rt.alloc(), &blob, 2, 1, &want)?;
     assert!(rt; planned);
+    Ok(())
+}
+
+#[test]
+fn each_part_of_a_page_that_is_written_anew_lies_one_deeper(rt: HostRuntime) -> Result<(), Fail> {
+    let blob = written(&rt, rt.alloc(), &[(0, 4), (0, 1), (1, 1)])?;
+    let leaves = [
+        (1u64, leaf(0, 0, piece(0, 0, 4), 0, 0)),
+        (2, leaf(0, 0, piece(0, 0, 1), 1, 1)),
+        (3, leaf(0, 1, piece(0, 0, 1), 2, 2)),
+    ];
+    for (version, want) in leaves {
+        let (planned, _) = is_planned(
+            rt.alloc(),
+            &blob,
+            version,
+            version.saturating_sub(1),
+            &[want],
+        )?;
+        assert!(rt; planned, "version {version}");
+        let (planned, _) = is_planned(rt.alloc(), &blob, version, 0, &[want])?;
+        assert!(rt; planned, "version {version} over version 0");
+    }
     Ok(())
 }

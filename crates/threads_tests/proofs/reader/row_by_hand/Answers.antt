@@ -20,6 +20,7 @@ loop-range-preserved g c =
     record {
       blob = ap (λ (r : UpdateRow). r.blob) e ∙ i.blob;
       version = ap (λ (r : UpdateRow). r.version) e ∙ i.version;
+      begins = ap (λ (r : UpdateRow). r.offset) e ∙ i.begins;
       paged = ap (λ (r : UpdateRow). r.pages) e ∙ i.paged;
       touched = ap (λ (r : UpdateRow). r.touch) e ∙ i.touched;
       room = ap (λ (r : UpdateRow). r.room) e ∙ i.room;

@@ -8,6 +8,7 @@ abbrev pub invariant-loop-range : goal.invariant-loop-range
 invariant-loop-range g l = record {
   blob : l.row.blob ≡ 1;
   version : l.row.version ≡ l.version;
+  begins : l.row.offset ≡ l.fn.offset;
   paged : l.row.pages ≡ l.fn.pages;
   touched : l.row.touch ≡ l.fn.touch;
   room : l.row.room ≡ length l.by_hand;

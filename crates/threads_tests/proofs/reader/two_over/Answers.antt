@@ -6,5 +6,5 @@ use Rattle.threads_tests.proofs.reader.two_over.Goals as goal
 
 pub next_version-requires-clause-next : goal.next_version-requires-clause-next
 next_version-requires-clause-next g c =
-    next_same _ after_six over_touch _ (255 ∷ 255 ∷ []) _ over_pairs c.in_ok-one.ensures.told c.in_ok-pages.ensures.bytes
+    next_same _ after_six 3 over_touch _ (255 ∷ 255 ∷ []) _ over_pairs c.in_ok-one.ensures.told c.in_ok-pages.ensures.bytes
     (rw (c.range_of.ensures, c.range_of-2.ensures, c.leaf_of.ensures, c.range_of-3.ensures, c.leaf_of-2.ensures)) over_next

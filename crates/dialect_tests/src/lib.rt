@@ -1,0 +1,11 @@
+//! Tests of lines and of frames: what a stream says, in pieces of any length, and how replies are written.
+#![tactic(auto)]
+
+#[cfg(test)]
+mod frames;
+#[cfg(test)]
+mod heard;
+#[cfg(test)]
+mod lines;
+#[cfg(test)]
+mod replies;

@@ -1,0 +1,360 @@
+//! Tests of how replies are written: as lines, and as frames.
+
+use blob_model::Bytes;
+use frame_wire::FrameDialect;
+use request_form::{Dialect, Fault, Reply};
+use script_text::ScriptDialect;
+use std::alloc::Global;
+use std::process::Abort;
+use std::test::Fail;
+
+// A reply as it is written in a dialect.
+fn said<T: Dialect>(dialect: &T, reply: &Reply) -> Result<Bytes, Fail> {
+    Ok(dialect.say(reply)?)
+}
+
+// Checks a reply's line, and its frame in hex digits.
+fn check_reply<R: Abort>(
+    rt: &R,
+    alloc: Global,
+    reply: &Reply,
+    line: &str,
+    frame: &str,
+) -> Result<(), Fail> {
+    let bytes = said(&ScriptDialect::new(alloc)?, reply)?;
+    assert_eq!(rt; bytes.as_slice(), line.as_bytes(), "{line}");
+    let bytes = said(&FrameDialect::new(alloc)?, reply)?;
+    let digits = hex::encode(alloc, bytes.as_slice())?;
+    assert_eq!(rt; digits.as_str(), frame, "{line}");
+    Ok(())
+}
+
+fn check_replies<R: Abort>(
+    rt: &R,
+    alloc: Global,
+    rows: &[(Reply, &str, &str)],
+) -> Result<(), Fail> {
+    for (reply, line, frame) in rows {
+        check_reply(rt, alloc, reply, line, frame)?;
+    }
+    Ok(())
+}
+
+// The greatest size, beside smaller numbers.
+const VERSION: u64 = 2;
+
+const AT: u64 = 6;
+
+const SIZE: u64 = 18_446_744_073_709_551_615;
+
+const TICKET: u64 = 3;
+
+// A reply to a change, its line, and its frame in hex digits.
+const CHANGES: [(Reply, &str, &str); 9] = [
+    (
+        Reply::Created { blob: 1 },
+        "blob 1\n",
+        "00000009810000000000000001",
+    ),
+    (
+        Reply::Appended {
+            version: VERSION,
+            at: AT,
+            size: SIZE,
+        },
+        "version 2 at 6 size 18446744073709551615\n",
+        "000000198200000000000000020000000000000006ffffffffffffffff",
+    ),
+    (
+        Reply::Wrote {
+            version: VERSION,
+            at: AT,
+            size: SIZE,
+        },
+        "version 2 at 6 size 18446744073709551615\n",
+        "000000198300000000000000020000000000000006ffffffffffffffff",
+    ),
+    (
+        Reply::AppendStarted {
+            ticket: TICKET,
+            version: VERSION,
+            at: AT,
+            size: SIZE,
+        },
+        "ticket 3 version 2 at 6 size 18446744073709551615\n",
+        "0000002184000000000000000300000000000000020000000000000006ffffffffffffffff",
+    ),
+    (
+        Reply::WriteStarted {
+            ticket: TICKET,
+            version: VERSION,
+            at: AT,
+            size: SIZE,
+        },
+        "ticket 3 version 2 at 6 size 18446744073709551615\n",
+        "0000002185000000000000000300000000000000020000000000000006ffffffffffffffff",
+    ),
+    (
+        Reply::Finished { published: 0 },
+        "published 0\n",
+        "00000009860000000000000000",
+    ),
+    (
+        Reply::Finished { published: 2 },
+        "published 2\n",
+        "00000009860000000000000002",
+    ),
+    (
+        Reply::Branched { blob: 4 },
+        "blob 4\n",
+        "000000098c0000000000000004",
+    ),
+    (
+        Reply::Branched { blob: 258 },
+        "blob 258\n",
+        "000000098c0000000000000102",
+    ),
+];
+
+// A reply to a look, its line, and its frame in hex digits.
+const LOOKS: [(Reply, &str, &str); 6] = [
+    (
+        Reply::RecentIs {
+            version: 2,
+            size: 7,
+        },
+        "recent 2 size 7\n",
+        "000000118800000000000000020000000000000007",
+    ),
+    (
+        Reply::SizeIs { size: 7 },
+        "size 7\n",
+        "00000009890000000000000007",
+    ),
+    (
+        Reply::SizeIs { size: 8 },
+        "size 8\n",
+        "00000009890000000000000008",
+    ),
+    (
+        Reply::Synced { version: 2 },
+        "synced 2\n",
+        "000000098a0000000000000002",
+    ),
+    (
+        Reply::StatusIs {
+            assigned: 3,
+            published: 1,
+            held: 2,
+        },
+        "status assigned 3 published 1 held 2\n",
+        "000000198b000000000000000300000000000000010000000000000002",
+    ),
+    (Reply::Bye, "bye\n", "000000018d"),
+];
+
+#[test]
+fn replies_to_changes_are_lines_and_frames(rt: HostRuntime) -> Result<(), Fail> {
+    check_replies(&rt, rt.alloc(), CHANGES.as_slice())
+}
+
+#[test]
+fn replies_to_looks_are_lines_and_frames(rt: HostRuntime) -> Result<(), Fail> {
+    check_replies(&rt, rt.alloc(), LOOKS.as_slice())
+}
+
+// What was read, its line, and its frame in hex digits.
+static CONTENTS: [(&[u8], &str, &str); 3] = [
+    (b"\x00abz\xff", "data 0061627aff\n", "00000006870061627aff"),
+    (b"abc", "data 616263\n", "0000000487616263"),
+    (b"", "data -\n", "0000000187"),
+];
+
+fn check_content<R: Abort>(
+    rt: &R,
+    alloc: Global,
+    bytes: &[u8],
+    line: &str,
+    frame: &str,
+) -> Result<(), Fail> {
+    let bytes = Bytes::of(bytes.to_vec(alloc)?);
+    check_reply(rt, alloc, &Reply::Content { bytes }, line, frame)
+}
+
+#[test]
+fn what_was_read_is_a_line_and_a_frame(rt: HostRuntime) -> Result<(), Fail> {
+    for (bytes, line, frame) in CONTENTS.as_slice() {
+        check_content(&rt, rt.alloc(), bytes, line, frame)?;
+    }
+    Ok(())
+}
+
+// A fault, its line, and its frame in hex digits.
+static FAULTS: [(Fault, &str, &str); 28] = [
+    (
+        Fault::NoBlob { blob: 1 },
+        "error no-blob 1\n",
+        "00000011ff00000000000000010000000000000001",
+    ),
+    (
+        Fault::NoBlob { blob: 9 },
+        "error no-blob 9\n",
+        "00000011ff00000000000000010000000000000009",
+    ),
+    (
+        Fault::NotPublished {
+            version: 1,
+            published: 0,
+        },
+        "error not-published 1 0\n",
+        "00000019ff000000000000000200000000000000010000000000000000",
+    ),
+    (
+        Fault::NotPublished {
+            version: 2,
+            published: 1,
+        },
+        "error not-published 2 1\n",
+        "00000019ff000000000000000200000000000000020000000000000001",
+    ),
+    (
+        Fault::OffsetPastSize { offset: 9, size: 6 },
+        "error offset-past-size 9 6\n",
+        "00000019ff000000000000000300000000000000090000000000000006",
+    ),
+    (
+        Fault::OffsetPastSize { offset: 7, size: 6 },
+        "error offset-past-size 7 6\n",
+        "00000019ff000000000000000300000000000000070000000000000006",
+    ),
+    (
+        Fault::BlobTooBig { end: 9, limit: 8 },
+        "error blob-too-big 9 8\n",
+        "00000019ff000000000000000400000000000000090000000000000008",
+    ),
+    (
+        Fault::TooManyVersions { limit: 1_048_576 },
+        "error too-many-versions 1048576\n",
+        "00000011ff00000000000000050000000000100000",
+    ),
+    (
+        Fault::TooManyOpen { limit: 64 },
+        "error too-many-open 64\n",
+        "00000011ff00000000000000060000000000000040",
+    ),
+    (
+        Fault::TooManyBlobs { limit: 65_535 },
+        "error too-many-blobs 65535\n",
+        "00000011ff0000000000000007000000000000ffff",
+    ),
+    (
+        Fault::Already { version: 3 },
+        "error already 3\n",
+        "00000011ff00000000000000080000000000000003",
+    ),
+    (
+        Fault::NoMemory,
+        "error no-memory\n",
+        "00000009ff0000000000000009",
+    ),
+    (
+        Fault::EmptyUpdate,
+        "error empty-update\n",
+        "00000009ff000000000000000a",
+    ),
+    (
+        Fault::UpdateTooLong { length: 1_048_577 },
+        "error update-too-long 1048577\n",
+        "00000011ff000000000000000b0000000000100001",
+    ),
+    (
+        Fault::RangePastSize { end: 7, size: 6 },
+        "error range-past-size 7 6\n",
+        "00000021ff000000000000000c000000000000000000000000000000070000000000000006",
+    ),
+    (
+        Fault::RangePastSize {
+            end: 18_446_744_073_709_551_616,
+            size: 6,
+        },
+        "error range-past-size 18446744073709551616 6\n",
+        "00000021ff000000000000000c000000000000000100000000000000000000000000000006",
+    ),
+    (
+        Fault::NoTicket { ticket: 5 },
+        "error no-ticket 5\n",
+        "00000011ff000000000000000d0000000000000005",
+    ),
+    (
+        Fault::TooManyTickets,
+        "error too-many-tickets 64\n",
+        "00000011ff000000000000000e0000000000000040",
+    ),
+    (
+        Fault::PageFault { page: 0 },
+        "error page-fault 0\n",
+        "00000011ff000000000000000f0000000000000000",
+    ),
+    (
+        Fault::Pending {
+            version: 2,
+            held: 1,
+        },
+        "error pending 2 held 1\n",
+        "00000019ff000000000000001000000000000000020000000000000001",
+    ),
+    (
+        Fault::Malformed,
+        "error malformed\n",
+        "00000009ff0000000000000011",
+    ),
+    (
+        Fault::FrameTooLong { length: 2_097_153 },
+        "error frame-too-long 2097153\n",
+        "00000011ff00000000000000120000000000200001",
+    ),
+    (
+        Fault::BadFrame,
+        "error bad-frame\n",
+        "00000009ff0000000000000013",
+    ),
+    (
+        Fault::ReadTooLong { length: 16_777_217 },
+        "error read-too-long 16777217\n",
+        "00000011ff00000000000000140000000001000001",
+    ),
+    (
+        Fault::NoMemoryTicket { ticket: 7 },
+        "error no-memory ticket 7\n",
+        "00000011ff00000000000000160000000000000007",
+    ),
+    (
+        Fault::NoMemoryTicket { ticket: 5 },
+        "error no-memory ticket 5\n",
+        "00000011ff00000000000000160000000000000005",
+    ),
+    (
+        Fault::FrameTooLong {
+            length: 4_294_967_295,
+        },
+        "error frame-too-long 4294967295\n",
+        "00000011ff000000000000001200000000ffffffff",
+    ),
+    (
+        Fault::FrameTooLong { length: 16_777_313 },
+        "error frame-too-long 16777313\n",
+        "00000011ff00000000000000120000000001000061",
+    ),
+];
+
+fn check_faults<R: Abort>(rt: &R, alloc: Global, rows: &[(Fault, &str, &str)]) -> Result<(), Fail> {
+    for (fault, line, frame) in rows {
+        check_reply(rt, alloc, &Reply::Refused(*fault), line, frame)?;
+    }
+    Ok(())
+}
+
+#[test]
+fn each_fault_has_its_line_and_its_frame(rt: HostRuntime) -> Result<(), Fail> {
+    check_faults(&rt, rt.alloc(), FAULTS.as_slice())
+}

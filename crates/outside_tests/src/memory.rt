@@ -1,0 +1,98 @@
+//! Sources and sinks in memory, and the two as a pair.
+ghost use Rattle.std.specs.Prelude.{◌≡◌, ◌<◌, ℕ, List, length};
+ghost use Rattle.std.specs.Bool.{OnTrue};
+ghost use Rattle.std.specs.Io.KnownBytes.{Appends, Consumes};
+
+use crate::drained::{TEXT, check_drained, check_read, check_write};
+use ports::memory::{MemSink, MemSource};
+use ports::pair::Pair;
+use ports::stream::{Ends, Sink, Source, Taken, Written};
+use std::alloc::Global;
+use std::process::Abort;
+use std::test::Fail;
+
+static PIECES: [usize; 4] = [1, 2, 7, 65536];
+
+fn check_piece<R: Abort>(rt: &R, alloc: Global, piece: usize) -> Result<(), Fail> {
+    let bytes = TEXT.to_vec(alloc)?;
+    let mut source = MemSource::new(bytes, piece.max(1), Vec::new(alloc));
+    check_drained(rt, alloc, &mut source, 4, TEXT.as_slice(), Taken::End)
+}
+
+#[test]
+fn memory_gives_all_its_bytes_in_pieces_of_any_length(rt: HostRuntime) -> Result<(), Fail> {
+    for piece in PIECES.as_slice() {
+        check_piece(&rt, rt.alloc(), *piece)?;
+    }
+    Ok(())
+}
+
+#[test]
+fn a_failing_call_in_the_middle_takes_nothing(rt: HostRuntime) -> Result<(), Fail> {
+    let alloc = rt.alloc();
+    let failing = vec![in alloc; false, true]?;
+    let mut source = MemSource::new(TEXT.to_vec(alloc)?, 2, failing);
+    check_drained(&rt, alloc, &mut source, 7, b"ab", Taken::Failed)?;
+    check_drained(&rt, alloc, &mut source, 7, b"cdefghi", Taken::End)
+}
+
+#[test]
+fn a_read_leaves_the_rest_of_the_buffer(rt: HostRuntime) -> Result<(), Fail> {
+    let mut source = MemSource::new(b"ab".to_vec(rt.alloc())?, 7, Vec::new(rt.alloc()));
+    let mut buf = [b'.'; 4];
+    check_read(&rt, &mut source, &mut buf, Taken::Got(2), b"ab..");
+    check_read(&rt, &mut source, &mut buf, Taken::End, b"ab..");
+    check_read(&rt, &mut source, &mut buf, Taken::End, b"ab..");
+    Ok(())
+}
+
+#[test]
+fn a_sink_in_memory_fails_before_the_byte_for_which_there_is_no_room(
+    rt: HostRuntime,
+) -> Result<(), Fail> {
+    let mut sink = MemSink::new(rt.alloc(), 4).or(Err("no memory"))?;
+    check_write(&rt, &mut sink, b"abc", Written::Whole);
+    check_write(&rt, &mut sink, b"defg", Written::Failed(1));
+    check_write(&rt, &mut sink, b"h", Written::Failed(0));
+    check_write(&rt, &mut sink, b"", Written::Whole);
+    assert_eq!(rt; sink.bytes(), b"abcd".as_slice());
+    Ok(())
+}
+
+// Takes one piece off a stream and writes it back, and says whether it moved.
+fn move_piece<I: Source + Sink>(io: &mut I) -> bool
+    ensures moved { OnTrue result ((piece : List ℕ) × (0 < length piece)
+        × Consumes (I.left io.old) (I.left io.new) piece
+        × Appends (I.written io.old) (I.written io.new) piece) }
+    ensures objects { I.objects io.new ≡ I.objects io.old }
+{
+    let mut buf = [0u8; 4];
+    match io.read(&mut buf) {
+        Taken::Got(n) => match io.write(&buf[..n]) {
+            Written::Whole => true,
+            Written::Failed(_) => false,
+        },
+        Taken::End | Taken::Failed => false,
+    }
+}
+
+// The same from a source to a sink that are held apart: what the pair did is known of both.
+fn move_between<S: Source, K: Sink>(source: &mut S, sink: &mut K) -> bool
+    ensures { OnTrue result ((piece : List ℕ) × (0 < length piece)
+        × Consumes (S.left source.old) (S.left source.new) piece
+        × Appends (K.written sink.old) (K.written sink.new) piece) }
+{
+    let mut both = Pair { source, sink };
+    move_piece(&mut both)
+}
+
+#[test]
+fn a_pair_reads_by_the_one_and_writes_by_the_other(rt: HostRuntime) -> Result<(), Fail> {
+    let alloc = rt.alloc();
+    let mut source = MemSource::new(TEXT.to_vec(alloc)?, 3, Vec::new(alloc));
+    let mut sink = MemSink::new(alloc, 5).or(Err("no memory"))?;
+    assert!(rt; move_between(&mut source, &mut sink));
+    assert!(rt; !move_between(&mut source, &mut sink));
+    assert_eq!(rt; sink.bytes(), b"abcde".as_slice());
+    check_drained(&rt, alloc, &mut source, 7, b"ghi", Taken::End)
+}
