@@ -65,15 +65,16 @@ row_in_all stay p v us row le is =
     subst U (take-append-drop v us) (stay p v (take v us) (drop v us) row le is)
 
 -- a row that was stored by the plan of a ticket is that of the ticket's update
-pub own_row : StoredRowsAreRows → OwnRowsStay → (b : OneBlob) (t : NumberedUpdate) (row : UpdateRow) → IsTicketOf b t → IsNumbered t → row.version ≡ t.version → row.touch ≡ own_touch t → row.pages ≡ t.pages
+pub own_row : StoredRowsAreRows → OwnRowsStay → (b : OneBlob) (t : NumberedUpdate) (row : UpdateRow) → IsTicketOf b t → IsNumbered t
+    → row.version ≡ t.version → row.offset ≡ t.at → row.touch ≡ own_touch t → row.pages ≡ t.pages
     → pairs_of row ≡ row_of b.window.page_size (extents (take t.version (updates_in b))) t.version → IsRowOf b.window.page_size (updates_in b) t.version row
-own_row law stay b t row k is version touch pages nodes =
+own_row law stay b t row k is version offset touch pages nodes =
     let us : List Update = updates_in b in
     let first : List Update = take t.version us in
     let P : ℕ → Type 0 = λ p. IsRowOf p first t.version row in
     let count : length first ≡ t.version = length-take-le t.version us (omega (arith, k.numbered, length-map b.starts update_of)) in
     let own : IsRowOf t.snapshot.page_size first t.version row =
-    law t row first is version touch pages k.stands (nodes ∙ ap (λ p. row_of p (extents first) t.version) (sym k.page_size)) k.bytes in
+    law t row first is version offset touch pages k.stands (nodes ∙ ap (λ p. row_of p (extents first) t.version) (sym k.page_size)) k.bytes in
     row_in_all stay b.window.page_size t.version us row (omega arith) (subst P k.page_size own)
 
 -- it was finished, or the window is as before

@@ -17,7 +17,7 @@ finish-requires-clause-own g c =
       updates_in b,
       c.self.invariant.stands,
       subst V (sym c.version-version.ensures.version) (
-          own_row c.stored_rows_are_rows.ensures c.rows_stay.ensures.more b t row (subst T (sym c.self.view_is) c.in_ok-ticket.ensures) c.version-version.ensures.stands c.in_ok-row.ensures.version c.in_ok-row.ensures.touch c.in_ok-row.ensures.pages
+          own_row c.stored_rows_are_rows.ensures c.rows_stay.ensures.more b t row (subst T (sym c.self.view_is) c.in_ok-ticket.ensures) c.version-version.ensures.stands c.in_ok-row.ensures.version c.in_ok-row.ensures.offset c.in_ok-row.ensures.touch c.in_ok-row.ensures.pages
           (c.in_ok-row.ensures.nodes ∙ c.in_ok-planned.ensures ∙ ap (λ (x : OneBlob). row_of x.window.page_size (extents (take t.version (updates_in x))) t.version) (sym c.self.view_is))
           ),
     )
@@ -31,7 +31,7 @@ invariant_of-self g c =
     let T : OneBlob → Type 0 = λ x. IsTicketOf x t in
     let k = subst T (sym c.self.view_is) c.in_ok-ticket.ensures in
     let nodes = c.in_ok-row.ensures.nodes ∙ c.in_ok-planned.ensures ∙ ap (λ (x : OneBlob). row_of x.window.page_size (extents (take t.version (updates_in x))) t.version) (sym c.self.view_is) in
-    let own = own_row c.stored_rows_are_rows.ensures c.rows_stay.ensures.more b t row k c.version-version.ensures.stands c.in_ok-row.ensures.version c.in_ok-row.ensures.touch c.in_ok-row.ensures.pages nodes in
+    let own = own_row c.stored_rows_are_rows.ensures c.rows_stay.ensures.more b t row k c.version-version.ensures.stands c.in_ok-row.ensures.version c.in_ok-row.ensures.offset c.in_ok-row.ensures.touch c.in_ok-row.ensures.pages nodes in
     let V : ℕ → Type 0 = λ n. IsRowOf b.window.page_size (updates_in b) n row in
     still_blob c.windows_stand.ensures.finished b c.self.invariant v row c.finish.new.self (omega (arith, c.version-version.ensures.version, k.some))
     (omega (arith, c.version-version.ensures.version, k.numbered, is_counted b c.self.invariant)) (subst V (sym c.version-version.ensures.version) own)
