@@ -15,5 +15,3 @@ mod pages;
 mod placement;
 #[cfg(test)]
 mod steps;
-#[cfg(test)]
-mod walks;

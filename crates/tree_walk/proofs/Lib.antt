@@ -4,5 +4,3 @@ pub mod Descent
 pub mod Steps
 pub mod Visits
 pub mod Weaving
-pub mod Bits
-pub mod Climb
