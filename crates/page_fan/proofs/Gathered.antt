@@ -1,7 +1,6 @@
 -- The pages of an answer, of which some are gathered and the rest is left.
-use Rattle.std.proofs.Common.{◌≡◌, ℕ, zero, suc, ◌+◌, ◌<◌, List, [], ◌∷◌, ◌++◌, length, map, get_or, arith, ap, sym, ◌∙◌, refl, append-nil}
-use Rattle.std.specs.Prelude.{Option, Some, None, IsSome}
-use Rattle.std.proofs.lemmas.Bool.{false≢true}
+use Rattle.std.proofs.Common.{◌≡◌, ℕ, zero, suc, ◌+◌, ◌<◌, List, [], ◌∷◌, ◌++◌, length, map, get_or, arith, sym, ◌∙◌, refl, append-nil}
+use Rattle.std.specs.Prelude.{Option, Some, None}
 use Rattle.page_store.specs.Stored.{Stored}
 
 at_front : (xs : List Stored) (ys : List (Option Stored)) (k : ℕ) (d : Stored) → k < length xs → get_or (map Some xs ++ ys) k None ≡ Some (get_or xs k d)
@@ -25,14 +24,6 @@ next_at xs page ys answer is = rw (← is) (omega (arith, seam_within xs (Some p
 pub earlier_at : (xs : List Stored) (page : Stored) (ys answer : List (Option Stored)) → map Some xs ++ Some page ∷ ys ≡ answer → (k : ℕ) (d : Stored) → k < length xs
     → (k < length answer) × (get_or answer k None ≡ Some (get_or xs k d)) × (k + 1 < length answer)
 earlier_at xs page ys answer is k d l = rw (← is) (omega (arith, seam_within xs (Some page) ys, l), at_front xs (Some page ∷ ys) k d l, omega (arith, seam_within xs (Some page) ys, l))
-
--- none of the answer is lost
-pub none_lost : (xs : List Stored) (ys answer : List (Option Stored)) → map Some xs ++ None ∷ ys ≡ answer → ((k : ℕ) → k < length answer → IsSome (get_or answer k None)) → ⊥
-none_lost xs ys answer is stored =
-    let there : get_or answer (length xs) None ≡ None = ap (λ l. get_or l (length xs) None) (sym is) ∙ at_seam xs None ys in
-    let within : length xs < length answer = rw (← is) (omega (arith, seam_within xs None ys)) in
-    let some = rw there at (stored (length xs) within) in
-    false≢true some
 
 -- where nothing is left, all is gathered
 pub gathered : (xs : List Stored) (rest answer : List (Option Stored)) → map Some xs ++ rest ≡ answer → length rest ≡ 0 → map Some xs ≡ answer

@@ -3,6 +3,7 @@ pub mod Standing
 pub mod Kept
 pub mod Answered
 pub mod Replies
+pub mod Group
 pub mod Trays
 pub mod Joined
 pub mod Gathered

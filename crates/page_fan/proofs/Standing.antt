@@ -9,8 +9,8 @@ use Rattle.std.proofs.Math.Seq.{get_or-append_seam}
 use Rattle.page_store.specs.Page.{Place}
 use Rattle.page_store.specs.Stored.{Stored}
 use Rattle.page_fan.specs.Counts.{NoneFell, RoseAt}
-use Rattle.page_fan.specs.Replicas.{StandAt, AreReplicated, providers_of}
-use Rattle.page_fan.proofs.Rises.{still_risen, risen_since}
+use Rattle.page_fan.specs.Replicas.{StandAt, providers_of}
+use Rattle.page_fan.proofs.Rises.{still_risen}
 
 -- a weaker fact may stand in the place of `missing`
 pub StandAt-weaken : (missing absent : ℕ → Type 0) → ((p : ℕ) → missing p → absent p) → (chosen at : List ℕ) → StandAt missing chosen at → StandAt absent chosen at
@@ -62,11 +62,6 @@ stands_without_next before mid now providers i places kept l rose h =
     rw (take_more providers i 0 l) (StandAt-away (RoseAt before now) (take i providers) (providers_of places) (get_or providers i 0) rose
     (StandAt-weaken (RoseAt before mid) (RoseAt before now) (still_risen before mid now kept) (take i providers) (providers_of places) h))
 
--- the pages that were stored before stay where they are
-pub replicated_still : (before mid now : List ℕ) (placements : List (List ℕ)) (pages : List Stored) → NoneFell mid now → AreReplicated before mid placements pages → AreReplicated before now placements pages
-replicated_still before mid now placements pages kept h = λ i page here.
-    StandAt-weaken (RoseAt before mid) (RoseAt before now) (still_risen before mid now kept) (get_or placements i []) (providers_of page.places) (h i page here)
-
 get_last : {X : Type 0} (xs : List X) (x y : X) (i : ℕ) → i ≡ length xs → slice_get (xs ++ x ∷ []) i ≡ Some y → x ≡ y
 get_last xs x y i e h = sym (get_or-append_seam xs x [] x) ∙ (ap (λ k. get_or (xs ++ x ∷ []) k x) (sym e) ∙ get_or_from_slice_get (xs ++ x ∷ []) i y x h)
 
@@ -74,23 +69,6 @@ get_earlier : {X : Type 0} (xs : List X) (x y : X) (i : ℕ) → i < length xs �
 get_earlier [] x y i l h = absurd (omega arith)
 get_earlier (z ∷ xs) x y zero l h = h
 get_earlier (z ∷ xs) x y (suc i) l h = get_earlier xs x y i (omega arith) h
-
--- one more page is stored
-pub replicated_next : (before mid now : List ℕ) (placements : List (List ℕ)) (pages : List Stored) (page : Stored) (chosen : List ℕ) (i : ℕ) → i ≡ length pages
-    → NoneFell before mid → NoneFell mid now → chosen ≡ get_or placements i []
-    → AreReplicated before mid placements pages → StandAt (RoseAt mid now) chosen (providers_of page.places)
-    → AreReplicated before now placements (pages ++ page ∷ [])
-replicated_next before mid now placements pages page chosen i count so_far kept there h new = λ k next is.
-    let within : k < length (pages ++ page ∷ []) = slice_get_within (pages ++ page ∷ []) k next is in
-    elim (cases_eq k i) [
-      | inl same ↦
-          let last : page ≡ next = get_last pages page next k (same ∙ count) is in
-          rw (← last, same, ← there) (StandAt-weaken (RoseAt mid now) (RoseAt before now) (risen_since before mid now so_far) chosen (providers_of page.places) new)
-      | inr differs ↦
-          let apart : k ≡ i → ⊥ = differs in
-          let below : k < length pages = let n = length-append pages (page ∷ []) in omega (arith, n) in
-          replicated_still before mid now placements pages kept h k next (get_earlier pages page next k below is)
-    ]
 
 -- what holds of each item and its place, with one item more
 pub each_push : {X : Type 0} (P : ℕ → X → Type 0) (xs : List X) (x : X) (n : ℕ) → n ≡ length xs → ((i : ℕ) (y : X) → slice_get xs i ≡ Some y → P i y) → P n x → (i : ℕ) (y : X) → slice_get (xs ++ x ∷ []) i ≡ Some y → P i y

@@ -31,7 +31,8 @@ IsPageAnswer houses bytes chosen before now None = IsLost chosen before now
 pub record AreAnswered (houses : List House) (page_size : ℕ) (buffer : List ℕ) (placements : List (List ℕ)) (before now : List ℕ) (answer : List (Option Stored)) : Type 0 where
   pub whole : length buffer ≤ length answer * page_size
   pub within : (i : ℕ) → i < length answer → i * page_size < length buffer
-  pub each : (i : ℕ) → i < length answer → IsPageAnswer houses (page_of page_size buffer i) (slice_index_or placements i []) before now (slice_index_or answer i None)
+  pub each : (i : ℕ) → i < length answer
+      → IsPageAnswer houses (page_of page_size buffer i) (slice_index_or placements i []) before now (slice_index_or answer i None)
 
 -- page i is the first that has no replica in the answer
 pub record IsFirstLost (answer : List (Option Stored)) (i : ℕ) : Type 0 where
@@ -42,4 +43,5 @@ pub record IsFirstLost (answer : List (Option Stored)) (i : ℕ) : Type 0 where
 -- each page but the last of the answer is full, and the last has from 1 byte to the page size
 abbrev pub HaveLengths : ℕ → List (Option Stored) → Type 0
 HaveLengths page_size answer =
-    (k : ℕ) (page : Stored) → k < length answer → slice_index_or answer k None ≡ Some page → (1 ≤ length page.bytes) × (length page.bytes ≤ page_size) × (k + 1 < length answer → length page.bytes ≡ page_size)
+    (k : ℕ) (page : Stored) → k < length answer → slice_index_or answer k None ≡ Some page
+    → (1 ≤ length page.bytes) × (length page.bytes ≤ page_size) × (k + 1 < length answer → length page.bytes ≡ page_size)

@@ -8,9 +8,13 @@ pub record NoneFell (before now : List ℕ) : Type 0 where
   pub same : length before ≡ length now
   pub rises : (i : ℕ) → slice_index before i ≤ slice_index now i
 
--- the count of the door to this provider rose
+-- the count of the door to this provider
+abbrev pub count_at : List ℕ → ℕ → ℕ
+count_at counts provider = slice_index counts (provider - 1)
+
+-- and it rose
 abbrev pub RoseAt : List ℕ → List ℕ → ℕ → Type 0
-RoseAt before now provider = HasRisen (slice_index before (provider - 1)) (slice_index now (provider - 1))
+RoseAt before now provider = HasRisen (count_at before provider) (count_at now provider)
 
 -- the count of each door stayed but of those to the providers of these places
 abbrev pub OthersStay : List Place → List ℕ → List ℕ → Type 0

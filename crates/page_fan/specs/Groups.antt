@@ -20,6 +20,11 @@ pub record IsAnswer (houses : List House) (provider : ℕ) (content : List ℕ) 
   pub bytes : IfStored answer (λ page. page.bytes ≡ content)
   pub failed : OnPutFailed answer (HasRisen before now)
 
+-- an answer to this put of a page of the buffer, at its own provider
+abbrev pub IsAnswerTo : List House → ℕ → List ℕ → Put → ℕ → ℕ → PutAnswer → Type 0
+IsAnswerTo houses page_size buffer put before now answer =
+    IsAnswer houses put.provider (take page_size (drop put.at buffer)) before now answer
+
 -- the count of a provider's door was `before` and is `now`, and each reply in its tray answers the put of its page there
 pub record HasReplies (houses : List House) (page_size : ℕ) (buffer : List ℕ) (provider before now : ℕ) (tray : List Reply) : Type 0 where
   pub kept : before ≤ now
@@ -27,4 +32,6 @@ pub record HasReplies (houses : List House) (page_size : ℕ) (buffer : List ℕ
 
 -- so it is at each provider, where the first of each list is that of provider 1
 abbrev pub AllReplied : List House → ℕ → List ℕ → List ℕ → List ℕ → List (List Reply) → Type 0
-AllReplied houses page_size buffer before now trays = (k : ℕ) → k < length trays → HasReplies houses page_size buffer (k + 1) (slice_index before k) (slice_index now k) (slice_index_or trays k [])
+AllReplied houses page_size buffer before now trays =
+    (k : ℕ) → k < length trays
+    → HasReplies houses page_size buffer (k + 1) (slice_index before k) (slice_index now k) (slice_index_or trays k [])

@@ -1,6 +1,7 @@
 // The groups of several doors run beside each other.
-ghost use Rattle.std.specs.Prelude.{◌≡◌, ℕ, ◌+◌, ◌<◌, ◌≤◌, ◌↔◌, All, length, slice_index_or};
-ghost use Rattle.page_fan.specs.Groups.{CanBePut, HasReplies};
+ghost use Rattle.std.specs.Prelude.{All, length};
+ghost use Rattle.page_fan.specs.Groups.{CanBePut};
+ghost use Rattle.page_fan.specs.Stands.{EachReplied, EachHasReplies, TruthStays};
 
 use crate::stand::{Put, Stand};
 use page_store::{Door, FlakyDoor, Houses, PlainDoor};
@@ -9,23 +10,25 @@ use std::thread;
 use std::thread::Threads;
 use tree_geom::PageSize;
 
-// So many bytes of an update are worth a thread of their own. To start and to join one takes about as long as to copy them into
-// fresh memory, so a smaller group is done sooner in the thread that has it.
+// So many bytes of an update are worth a thread of their own. To start and to join one takes about as long as to copy
+// them into fresh memory, so a smaller group is done sooner in the thread that has it.
 const BYTES_A_THREAD: usize = 65_536;
 
 /// A door whose type runs the groups of its own kind in threads. Each type of door says so by one line, a call of
-/// `put_all_groups`: there the type is known, so that its puts are proved in every thread. What stands above and is generic
-/// over doors calls `put_groups` and sends nothing itself.
+/// `put_all_groups`: there the type is known, so that its puts are proved in every thread. What stands above and is
+/// generic over doors calls `put_groups` and sends nothing itself.
 ///
-/// It has no supertrait `Send`, since with one each call under a bound `BesideDoor` would count as sending. And it isn't one
-/// trait with `Door`, since `put_all_groups` would then lead back to the very `impl` that calls it.
+/// It has no supertrait `Send`, since with one each call under a bound `BesideDoor` would count as sending. And it
+/// isn't one trait with `Door`, since `put_all_groups` would then lead back to the very `impl` that calls it.
 pub trait BesideDoor: Door {
-    ghost use Rattle.std.specs.Prelude.{◌≡◌, ℕ, ◌+◌, ◌<◌, ◌≤◌, ◌↔◌, All, length, slice_index_or};
+    ghost use Rattle.std.specs.Prelude.{All, length};
     ghost use denote.Param.Send.{IsSync};
-    ghost use Rattle.page_fan.specs.Groups.{CanBePut, HasReplies};
+    ghost use Rattle.page_fan.specs.Groups.{CanBePut};
+    ghost use Rattle.page_fan.specs.Stands.{EachReplied, EachHasReplies, TruthStays};
 
-    /// Each stand puts the pages of its own provider, in order, and keeps the replies in its tray: fewer where memory is
-    /// refused. The first stand is that of provider 1.
+    /// Each stand puts the pages of its own provider, in order, and has one reply to each put in its tray. Where the
+    /// tray is refused more memory, the stand stops, and the replies to its last puts are missing. The first stand is
+    /// that of provider 1.
     fn put_groups<R: Threads + Wait + Sync>(
         rt: &R,
         stands: &mut [Stand<Self>],
@@ -36,12 +39,13 @@ pub trait BesideDoor: Door {
     )
         requires sync { IsSync R.row }
         requires puts { All (CanBePut (length houses.now) buffer.now) puts.now }
-        ensures truth_stays { (k : ℕ) (d : _) → k < length stands.old → Self.is_true (slice_index_or stands.old k d).door ↔ Self.is_true (slice_index_or stands.new k d).door }
-        ensures replies { (k : ℕ) (d : _) → k < length stands.old → HasReplies houses.now p buffer.now (k + 1) (Self.faults (slice_index_or stands.old k d).door) (Self.faults (slice_index_or stands.new k d).door) (slice_index_or stands.new k d).tray.items };
+        ensures truth_stays { TruthStays Self.is_true stands.old stands.new }
+        ensures replies { EachReplied houses.now p buffer.now Self.faults stands.old stands.new }
+        ensures each { EachHasReplies puts.now stands.old stands.new };
 }
 
-/// Each stand puts the pages of its own provider. A thread has about so many bytes of the buffer as are worth it, and where no
-/// more than one is, or none can be made, the calling thread does it all.
+/// Each stand puts the pages of its own provider, as `put_groups` says. A thread has about so many bytes of the buffer
+/// as are worth it, and where no more than one is, or none can be made, the calling thread does it all.
 pub fn put_all_groups<D: Door + Send, R: Threads + Wait + Sync>(
     rt: &R,
     stands: &mut [Stand<D>],
@@ -51,8 +55,9 @@ pub fn put_all_groups<D: Door + Send, R: Threads + Wait + Sync>(
     puts: &[Put],
 )
     requires puts { All (CanBePut (length houses.now) buffer.now) puts.now }
-    ensures truth_stays { (k : ℕ) (d : _) → k < length stands.old → D.is_true (slice_index_or stands.old k d).door ↔ D.is_true (slice_index_or stands.new k d).door }
-    ensures replies { (k : ℕ) (d : _) → k < length stands.old → HasReplies houses.now p buffer.now (k + 1) (D.faults (slice_index_or stands.old k d).door) (D.faults (slice_index_or stands.new k d).door) (slice_index_or stands.new k d).tray.items }
+    ensures truth_stays { TruthStays D.is_true stands.old stands.new }
+    ensures replies { EachReplied houses.now p buffer.now D.faults stands.old stands.new }
+    ensures each { EachHasReplies puts.now stands.old stands.new }
 {
     let threads = (buffer.len() / BYTES_A_THREAD).min(stands.len()).max(1);
     thread::for_each_mut(

@@ -1,5 +1,6 @@
 // A session's doors.
-ghost use Rattle.std.specs.Prelude.{◌≡◌, ℕ, ◌+◌, ◌-◌, ◌^◌, ◌≤◌, ◌↔◌, [], ◌∷◌, length, IfOk, All, map, min, sum_by, Some, slice_get, slice_range};
+ghost use Rattle.std.specs.Prelude.{◌≡◌, ℕ, ◌+◌, ◌-◌, ◌^◌, ◌≤◌, ◌↔◌, [], ◌∷◌, length, IfOk, All};
+ghost use Rattle.std.specs.Prelude.{map, min, sum_by, Some, slice_get, slice_range};
 ghost use Rattle.std.specs.Borrow.{sem};
 ghost use Rattle.page_store.specs.House.{IsProvider};
 ghost use Rattle.page_store.specs.Page.{IsAmong};
@@ -61,7 +62,8 @@ impl<D: Door> Doors<D> {
 
     /// Hands each door back to the maker, which adds the doors' counts to its own. It takes no memory.
     pub fn back<M: DoorMaker<Door = D>>(self, maker: &mut M)
-        ensures adds { M.faults maker.old ≤ 2 ^ 64 - 1 → M.faults maker.new ≡ min (M.faults maker.old + sum_by D.faults self) (2 ^ 64 - 1) }
+        ensures adds { M.faults maker.old ≤ 2 ^ 64 - 1
+            → M.faults maker.new ≡ min (M.faults maker.old + sum_by D.faults self) (2 ^ 64 - 1) }
         ensures rises { min (M.faults maker.old + sum_by D.faults self) (2 ^ 64 - 1) ≤ M.faults maker.new }
         ensures truth_stays { M.is_true maker.old ↔ M.is_true maker.new }
         ensures plan_stays { (n : ℕ) (door : _) → M.makes maker.old n door ↔ M.makes maker.new n door }
@@ -94,8 +96,10 @@ impl<D: Door> Doors<D> {
         requires here { IsAmong houses.now page.now.place }
         requires served { IsProvider (length self.old) page.now.place.provider }
         requires room { from + length out.old ≤ length page.now.bytes }
-        ensures got { All D.is_true self.old → OnGot result (out.new ≡ slice_range page.now.bytes from (from + length out.old)) }
-        ensures failed { OnGetFailed result (RoseAt (map D.faults self.old) (map D.faults self.new) page.now.place.provider) }
+        ensures got { All D.is_true self.old
+            → OnGot result (out.new ≡ slice_range page.now.bytes from (from + length out.old)) }
+        ensures failed { OnGetFailed result
+            (RoseAt (map D.faults self.old) (map D.faults self.new) page.now.place.provider) }
         ensures others { OthersStay (page.now.place ∷ []) (map D.faults self.old) (map D.faults self.new) }
         ensures none_fell { NoneFell (map D.faults self.old) (map D.faults self.new) }
         ensures count { length self.new ≡ length self.old }

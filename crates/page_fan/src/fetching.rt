@@ -10,9 +10,8 @@ use page_store::{Door, GetAnswer, Houses, StoredPage};
 
 /// Fills `out` with the page's bytes from byte `from` on, and answers whether it did.
 ///
-/// It tries the replicas in order up to the first whose door gives it, and answers false where every replica's door failed;
-/// `out` then holds any bytes.
-/// It waits for nobody and takes no memory.
+/// It tries the replicas in order up to the first whose door gives it, and answers false where every replica's door
+/// failed; `out` then holds any bytes. It waits for nobody and takes no memory.
 pub fn fetch<D: Door>(
     doors: &mut Doors<D>,
     houses: &Houses,
@@ -23,9 +22,11 @@ pub fn fetch<D: Door>(
     requires here { All (IsAmong houses.now) page.now.places }
     requires served { All (λ place. IsProvider (length doors.old) place.provider) page.now.places }
     requires room { from + length out.old ≤ length page.now.bytes }
-    ensures got { IsTrue result → All D.is_true doors.old → out.new ≡ slice_range page.now.bytes from (from + length out.old) }
+    ensures got { IsTrue result → All D.is_true doors.old
+        → out.new ≡ slice_range page.now.bytes from (from + length out.old) }
     ensures in_order { IsTrue result → CameFrom page.now.places (map D.faults doors.old) (map D.faults doors.new) }
-    ensures failed { IsFalse result → All (λ place. RoseAt (map D.faults doors.old) (map D.faults doors.new) place.provider) page.now.places }
+    ensures failed { IsFalse result
+        → All (λ place. RoseAt (map D.faults doors.old) (map D.faults doors.new) place.provider) page.now.places }
     ensures counted { IsFalse result → HasRisen (sum_by D.faults doors.old) (sum_by D.faults doors.new) }
     ensures others { IsFalse result → OthersStay page.now.places (map D.faults doors.old) (map D.faults doors.new) }
     ensures none_fell { NoneFell (map D.faults doors.old) (map D.faults doors.new) }

@@ -1,12 +1,13 @@
 // What the doors answered is joined, in the order of the pages and of their placements.
-ghost use Rattle.std.specs.Prelude.{◌≡◌, ℕ, ◌+◌, ◌-◌, ◌*◌, ◌^◌, ◌<◌, ◌≤◌, List, length, IfOk, IfSome, All};
-ghost use Rattle.std.specs.Prelude.{map, [], ◌∷◌, ◌++◌, take, drop, slice_index, slice_index_or, vec_capacity};
+ghost use Rattle.std.specs.Prelude.{◌≡◌, ℕ, ◌+◌, ◌*◌, ◌^◌, ◌<◌, ◌≤◌, List, length, IfOk, IfSome, All};
+ghost use Rattle.std.specs.Prelude.{[], ◌∷◌, ◌++◌, take, drop, vec_capacity};
 ghost use Rattle.std.specs.Option.{option_map_or};
 ghost use Rattle.page_store.specs.House.{IsProvider};
 ghost use Rattle.replica_place.specs.Chosen.{chosen};
 ghost use Rattle.page_fan.specs.Answer.{AreAnswered, IsPageAnswer};
-ghost use Rattle.page_fan.specs.Counts.{NoneFell};
-ghost use Rattle.page_fan.specs.Groups.{CanBePut, IsAnswer, AllReplied};
+ghost use Rattle.page_fan.specs.Counts.{NoneFell, count_at};
+ghost use Rattle.page_fan.specs.Groups.{CanBePut, IsAnswerTo};
+ghost use Rattle.page_fan.specs.Stands.{counts_of, AreReplied};
 
 use crate::stand::{Put, Stand};
 use page_store::{Door, Houses, NoMemory, PageRef, PutAnswer, StoredPage};
@@ -32,9 +33,10 @@ pub(crate) fn join_pages<D: Door, R: Wait>(
     requires enough { length buffer.now ≤ length placements.now * p }
     requires housed { length stands.old ≤ length houses.now }
     requires served { All (All (IsProvider (length stands.old))) placements.now }
-    requires replies { AllReplied houses.now p buffer.now before (map (λ s. D.faults s.door) stands.old) (map (λ s. s.tray.items) stands.old) }
-    ensures answered { IfOk result (λ answer. AreAnswered houses.now p buffer.now placements.now before (map (λ s. D.faults s.door) stands.new) answer.items) }
-    ensures none_fell { NoneFell (map (λ s. D.faults s.door) stands.old) (map (λ s. D.faults s.door) stands.new) }
+    requires replies { AreReplied houses.now p buffer.now before D.faults stands.old }
+    ensures answered { IfOk result (λ answer.
+        AreAnswered houses.now p buffer.now placements.now before (counts_of D.faults stands.new) answer.items) }
+    ensures none_fell { NoneFell (counts_of D.faults stands.old) (counts_of D.faults stands.new) }
     ensures truth_stays { All (λ s. D.is_true s.door) stands.old → All (λ s. D.is_true s.door) stands.new }
 {
     let page_size = p.bytes() as usize;
@@ -62,10 +64,11 @@ fn join_page<D: Door, R: Wait>(
     requires within { at < length buffer.now }
     requires housed { length stands.old ≤ length houses.now }
     requires served { All (IsProvider (length stands.old)) (chosen placement.now) }
-    requires replies { AllReplied houses.now p buffer.now before (map (λ s. D.faults s.door) stands.old) (map (λ s. s.tray.items) stands.old) }
-    ensures answered { IfOk result (IsPageAnswer houses.now (take p (drop at buffer.now)) (chosen placement.now) before (map (λ s. D.faults s.door) stands.new)) }
-    ensures replies { AllReplied houses.now p buffer.now before (map (λ s. D.faults s.door) stands.new) (map (λ s. s.tray.items) stands.new) }
-    ensures none_fell { NoneFell (map (λ s. D.faults s.door) stands.old) (map (λ s. D.faults s.door) stands.new) }
+    requires replies { AreReplied houses.now p buffer.now before D.faults stands.old }
+    ensures answered { let page = take p (drop at buffer.now) in
+        IfOk result (IsPageAnswer houses.now page (chosen placement.now) before (counts_of D.faults stands.new)) }
+    ensures replies { AreReplied houses.now p buffer.now before D.faults stands.new }
+    ensures none_fell { NoneFell (counts_of D.faults stands.old) (counts_of D.faults stands.new) }
     ensures truth_stays { All (λ s. D.is_true s.door) stands.old → All (λ s. D.is_true s.door) stands.new }
 {
     let mut stored: Option<StoredPage> = None;
@@ -96,9 +99,12 @@ fn answer_at<D: Door, R: Wait>(
     requires within { put.at < length buffer.now }
     requires housed { length stands.old ≤ length houses.now }
     requires served { IsProvider (length stands.old) put.provider }
-    ensures answer { (before : List ℕ) → AllReplied houses.now p buffer.now before (map (λ s. D.faults s.door) stands.old) (map (λ s. s.tray.items) stands.old) → IsAnswer houses.now put.provider (take p (drop put.at buffer.now)) (slice_index before (put.provider - 1)) (slice_index (map (λ s. D.faults s.door) stands.new) (put.provider - 1)) result }
-    ensures replies { (before : List ℕ) → AllReplied houses.now p buffer.now before (map (λ s. D.faults s.door) stands.old) (map (λ s. s.tray.items) stands.old) → AllReplied houses.now p buffer.now before (map (λ s. D.faults s.door) stands.new) (map (λ s. s.tray.items) stands.new) }
-    ensures none_fell { NoneFell (map (λ s. D.faults s.door) stands.old) (map (λ s. D.faults s.door) stands.new) }
+    ensures answer { (before : List ℕ) → AreReplied houses.now p buffer.now before D.faults stands.old
+        → let now = count_at (counts_of D.faults stands.new) put.provider in
+        IsAnswerTo houses.now p buffer.now put (count_at before put.provider) now result }
+    ensures replies { (before : List ℕ) → AreReplied houses.now p buffer.now before D.faults stands.old
+        → AreReplied houses.now p buffer.now before D.faults stands.new }
+    ensures none_fell { NoneFell (counts_of D.faults stands.old) (counts_of D.faults stands.new) }
     ensures truth_stays { All (λ s. D.is_true s.door) stands.old → All (λ s. D.is_true s.door) stands.new }
 {
     let stand = &mut stands[put.provider as usize - 1];

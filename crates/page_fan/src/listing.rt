@@ -19,7 +19,8 @@ pub(crate) fn list_puts(
     placements: &Placements,
 ) -> Result<Vec<Put>, NoMemory>
     requires enough { length buffer.now ≤ length placements.now * p }
-    ensures { (providers : ℕ) → All (All (IsProvider providers)) placements.now → IfOk result (λ puts. All (CanBePut providers buffer.now) puts.items) }
+    ensures { (providers : ℕ) → All (All (IsProvider providers)) placements.now
+        → IfOk result (λ puts. All (CanBePut providers buffer.now) puts.items) }
 {
     let page_size = p.bytes() as usize;
     let mut puts = Vec::with_capacity(alloc, placements.count() as usize)?;
@@ -35,7 +36,8 @@ pub(crate) fn list_puts(
 
 // Adds the puts of the page that begins at byte `at`.
 fn list_page(puts: &mut Vec<Put>, placement: &Placement, at: usize) -> Result<(), NoMemory>
-    ensures { (providers : ℕ) (buffer : List ℕ) → at < length buffer → All (IsProvider providers) (chosen placement.now) → All (CanBePut providers buffer) puts.old.items → All (CanBePut providers buffer) puts.new.items }
+    ensures { (providers : ℕ) (buffer : List ℕ) → at < length buffer → All (IsProvider providers) (chosen placement.now)
+        → All (CanBePut providers buffer) puts.old.items → All (CanBePut providers buffer) puts.new.items }
 {
     for provider in placement.chosen() {
         let put = Put {

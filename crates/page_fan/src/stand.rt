@@ -4,7 +4,8 @@ ghost use Rattle.page_store.specs.Answers.{IfStored, OnPutFailed};
 ghost use Rattle.page_store.specs.Count.{HasRisen};
 ghost use Rattle.page_store.specs.House.{IsProvider};
 ghost use Rattle.page_store.specs.Page.{IsAmong};
-ghost use Rattle.page_fan.specs.Groups.{CanBePut, IsAnswer, HasReplies};
+ghost use Rattle.page_fan.specs.Groups.{CanBePut, IsAnswerTo};
+ghost use Rattle.page_fan.specs.Stands.{HasReplyToEach, IsReplied};
 
 use crate::cutting::page_bytes;
 use page_store::{Door, Houses, MAX_PAGE, PutAnswer};
@@ -53,8 +54,8 @@ impl<D: Door> Stand<D> {
         door
     }
 
-    // Puts the pages of the door's own provider, in order, and leaves its replies in the tray: fewer where memory is refused.
-    // The stand's place, from 0, is one below the number of its provider.
+    // Puts the pages of the door's own provider, in order, and leaves one reply to each put in the tray. It stops where
+    // the tray is refused more memory. The stand's place, from 0, is one below the number of its provider.
     pub(crate) fn put_group<R: Wait>(
         &mut self,
         rt: &R,
@@ -65,7 +66,8 @@ impl<D: Door> Stand<D> {
         puts: &[Put],
     )
         requires { All (CanBePut (length houses.now) buffer.now) puts.now }
-        ensures replies { HasReplies houses.now p buffer.now (place + 1) (D.faults self.old.door) (D.faults self.new.door) self.new.tray.items }
+        ensures replies { IsReplied houses.now p buffer.now (place + 1) (D.faults self.old.door) D.faults self.new }
+        ensures each { HasReplyToEach puts.now (place + 1) self.old self.new }
         ensures truth_stays { D.is_true self.old.door ↔ D.is_true self.new.door }
     {
         self.tray.clear();
@@ -80,8 +82,8 @@ impl<D: Door> Stand<D> {
         }
     }
 
-    // The answer to this put: the reply that waits for it in the tray, or, where there is none for want of memory, what the door
-    // answers now.
+    // The answer to this put: the reply that waits for it in the tray, or, where there is none for want of memory, what
+    // the door answers now.
     pub(crate) fn answer<R: Wait>(
         &mut self,
         rt: &R,
@@ -91,8 +93,10 @@ impl<D: Door> Stand<D> {
         put: Put,
     ) -> PutAnswer
         requires put { CanBePut (length houses.now) buffer.now put }
-        ensures answer { (before : ℕ) → HasReplies houses.now p buffer.now put.provider before (D.faults self.old.door) self.old.tray.items → IsAnswer houses.now put.provider (take p (drop put.at buffer.now)) before (D.faults self.new.door) result }
-        ensures replies { (before : ℕ) → HasReplies houses.now p buffer.now put.provider before (D.faults self.old.door) self.old.tray.items → HasReplies houses.now p buffer.now put.provider before (D.faults self.new.door) self.new.tray.items }
+        ensures answer { (before : ℕ) → IsReplied houses.now p buffer.now put.provider before D.faults self.old
+            → IsAnswerTo houses.now p buffer.now put before (D.faults self.new.door) result }
+        ensures replies { (before : ℕ) → IsReplied houses.now p buffer.now put.provider before D.faults self.old
+            → IsReplied houses.now p buffer.now put.provider before D.faults self.new }
         ensures never_falls { D.faults self.old.door ≤ D.faults self.new.door }
         ensures truth_stays { D.is_true self.old.door ↔ D.is_true self.new.door }
     {

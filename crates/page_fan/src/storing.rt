@@ -11,6 +11,7 @@ ghost use Rattle.page_fan.specs.Answer.{AreAnswered, HaveLengths, IsFirstLost, I
 ghost use Rattle.page_fan.specs.Counts.{NoneFell};
 ghost use Rattle.page_fan.specs.Replicas.{AreReplicated};
 ghost use Rattle.page_fan.specs.Fault.{OnPageFault, FirstFailed};
+ghost use Rattle.page_fan.specs.Stands.{counts_of};
 
 use crate::beside::BesideDoor;
 use crate::doors::Doors;
@@ -39,8 +40,13 @@ pub enum StoreFault {
 
 /// Stores the buffer as pages of `p` bytes, the last one of what is left, each at the providers of its placement.
 ///
-/// A page that one or more of its doors took is stored. Each page is put, also where one before it was lost. It may wait for another
-/// thread's push into a house.
+/// For a page to count as stored, one door of its placement that takes it is enough. Every page is put, at each provider
+/// of its placement, whatever became of the pages before it; only where memory is refused may some be left out.
+///
+/// It may start threads, and has joined them when it answers: one for each provider's group of puts but one, which the
+/// calling thread has itself, as long as there are 64 KiB of the buffer for each of them. An update that is too small for
+/// that has fewer threads, or the calling thread alone. Where no thread can be made, the calling thread does that work
+/// too, with the same answer. It may wait for another thread's push into a house.
 pub fn store<D: BesideDoor, R: Threads + Wait + Sync>(
     rt: &R,
     alloc: Global,
@@ -60,11 +66,14 @@ pub fn store<D: BesideDoor, R: Threads + Wait + Sync>(
     ensures page_size { IfOk result (λ pages. pages.page_size ≡ p) }
     ensures cut { IfOk result (λ pages. IsCut p pages.pages) }
     ensures here { IfOk result (λ pages. LieAmong houses.now pages.pages) }
-    ensures replicas { IfOk result (λ pages. AreReplicated (map D.faults doors.old) (map D.faults doors.new) placements.now pages.pages) }
+    ensures replicas { IfOk result (λ pages.
+        AreReplicated (map D.faults doors.old) (map D.faults doors.new) placements.now pages.pages) }
 
     // Why a page fault is answered.
-    ensures first_failed { IfErr result (λ fault. OnPageFault fault (FirstFailed houses.now p buffer.now placements.now (map D.faults doors.old) (map D.faults doors.new))) }
-    ensures counted { IfErr result (λ fault. OnPageFault fault (λ _. HasRisen (sum_by D.faults doors.old) (sum_by D.faults doors.new))) }
+    ensures first_failed { IfErr result (λ fault. OnPageFault fault
+        (FirstFailed houses.now p buffer.now placements.now (map D.faults doors.old) (map D.faults doors.new))) }
+    ensures counted { IfErr result (λ fault. OnPageFault fault (λ _.
+        HasRisen (sum_by D.faults doors.old) (sum_by D.faults doors.new))) }
 
     // What becomes of the doors.
     ensures none_fell { NoneFell (map D.faults doors.old) (map D.faults doors.new) }
@@ -86,7 +95,9 @@ pub fn store<D: BesideDoor, R: Threads + Wait + Sync>(
 
 // The first page that has no replica.
 fn first_lost(answer: &[Option<StoredPage>]) -> Option<usize>
-    ensures { MatchOption result ((k : _) → k < length answer.now → IsSome (slice_index_or answer.now k None)) (IsFirstLost answer.now) }
+    ensures { MatchOption result
+        ((k : _) → k < length answer.now → IsSome (slice_index_or answer.now k None))
+        (IsFirstLost answer.now) }
 {
     for (i, page) in answer.iter().enumerate() {
         if page.is_none() {
@@ -128,7 +139,9 @@ fn put_pages<D: BesideDoor, R: Threads + Wait + Sync>(
     requires enough { length buffer.now ≤ length placements.now * p }
     requires housed { length doors.old ≤ length houses.now }
     requires served { All (All (IsProvider (length doors.old))) placements.now }
-    ensures answered { IfOk result (λ answer. AreAnswered houses.now p buffer.now placements.now (map D.faults doors.old) (map D.faults doors.new) answer.items) }
+    ensures answered { IfOk result (λ answer.
+        let before = map D.faults doors.old in
+        AreAnswered houses.now p buffer.now placements.now before (map D.faults doors.new) answer.items) }
     ensures none_fell { NoneFell (map D.faults doors.old) (map D.faults doors.new) }
     ensures count { length doors.new ≡ length doors.old }
     ensures truth_stays { All D.is_true doors.old → All D.is_true doors.new }
@@ -148,12 +161,13 @@ fn put_in_groups<D: BesideDoor, R: Threads + Wait + Sync>(
     placements: &Placements,
 ) -> Result<Vec<Option<StoredPage>>, NoMemory>
     ghost before: { List ℕ }
-    requires before { before ≡ map (λ s. D.faults s.door) stands.old }
+    requires before { before ≡ counts_of D.faults stands.old }
     requires enough { length buffer.now ≤ length placements.now * p }
     requires housed { length stands.old ≤ length houses.now }
     requires served { All (All (IsProvider (length stands.old))) placements.now }
-    ensures answered { IfOk result (λ answer. AreAnswered houses.now p buffer.now placements.now before (map (λ s. D.faults s.door) stands.new) answer.items) }
-    ensures none_fell { NoneFell (map (λ s. D.faults s.door) stands.old) (map (λ s. D.faults s.door) stands.new) }
+    ensures answered { IfOk result (λ answer.
+        AreAnswered houses.now p buffer.now placements.now before (counts_of D.faults stands.new) answer.items) }
+    ensures none_fell { NoneFell (counts_of D.faults stands.old) (counts_of D.faults stands.new) }
     ensures truth_stays { All (λ s. D.is_true s.door) stands.old → All (λ s. D.is_true s.door) stands.new }
 {
     let puts = list_puts(alloc, p, buffer, placements)?;

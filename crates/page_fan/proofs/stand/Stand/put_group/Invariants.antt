@@ -1,6 +1,8 @@
-use Rattle.std.proofs.Common.{◌+◌}
+use Rattle.std.proofs.Common.{◌≡◌, ◌+◌, ◌≤◌, map, take}
 use Rattle.std.specs.Prelude.{◌↔◌}
+use Rattle.std.specs.VecDeque.{deque_capacity}
 use Rattle.page_fan.specs.Groups.{HasReplies}
+use Rattle.page_fan.specs.Stands.{group_of}
 use Rattle.page_fan.proofs.stand.Stand.put_group.Given as goal
 
 abbrev pub invariant-loop-put : goal.invariant-loop-put
@@ -10,4 +12,6 @@ invariant-loop-put g l =
     record {
       replies : HasReplies l.houses l.p l.buffer (l.place + 1) (faults l.fn.self.door) (faults l.self.door) l.self.tray.items;
       truth : is_true l.fn.self.door ↔ is_true l.self.door;
+      group : map (λ reply. reply.at) l.self.tray.items ≡ group_of (l.place + 1) (take l.put-index l.puts);
+      room : deque_capacity l.fn.self.tray ≤ deque_capacity l.self.tray;
     }
