@@ -10,7 +10,7 @@ use Rattle.tree_geom.specs.Geometry.{tree_range, page_range, left_half, right_ha
 use Rattle.tree_geom.specs.Laws.{HeightsHold, SpanOfNone, SpanOfSome, LowHalvesAlign, HighHalvesAlign}
 use Rattle.range_log.specs.Log.{newest_of}
 use Rattle.tree_geom.proofs.Spans.{size_pos}
-use Rattle.border_hints.specs.Borders.{beside, IsRowRange, IsUntouchedHalf, IsBorder, BorderLinks, AreBorders}
+use Rattle.border_hints.specs.Borders.{beside, IsRowRange, IsUntouchedHalf, IsBorder, BorderLinks, AreBorders, edge_links}
 use Rattle.border_hints.proofs.Published.{double, taller}
 use Rattle.border_hints.proofs.Turning.{beside_even, beside_odd}
 
@@ -185,6 +185,10 @@ placed heights no_span span low high p touch range pos ordered not_first not_las
     ]
 
 -- ---- what a border's edge knows
+-- the borders, by the fields of the code
+unfoldable pub made : ℕ → Touch → List ℕ → ℕ → ℕ → List ℕ → ℕ → ℕ → BorderLinks
+made p touch a x d b y e = record { page_size = p; touch = touch; first = edge_links a x d; last = edge_links b y e }
+
 pub first_side : (p : ℕ) (b : BorderLinks) (log : List Touch) (k level : ℕ) (range : Range) → HeightsHold → 1 ≤ b.page_size → IsPlaced b.page_size b.touch range → level ≡ height_of b.page_size range.size
     → range.offset / b.page_size < b.touch.first → AreBorders log k b → slice_index b.first.besides level ≡ newest_of b.page_size log k range
 first_side p b log k level range heights pos at is before are =

@@ -1,4 +1,5 @@
 pub mod Tickets
 pub mod Published
 pub mod Turning
+pub mod Depths
 pub mod Halves

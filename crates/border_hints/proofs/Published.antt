@@ -6,8 +6,8 @@ use Rattle.std.proofs.lemmas.List.{length-map}
 use Rattle.std.proofs.Math.Nat.{pow-succ', pow-le-pow_right}
 use Rattle.tree_geom.specs.declared.range.Range.{Range}
 use Rattle.tree_geom.specs.declared.touch.Touch.{Touch}
-use Rattle.tree_geom.specs.Geometry.{doublings, tree_range, height_of, span_of, left_half, right_half}
-use Rattle.tree_geom.specs.Laws.{HeightsHold, SpanOfSome, RangesNest, LowHalvesAlign, HighHalvesAlign}
+use Rattle.tree_geom.specs.Geometry.{doublings, tree_range, page_range, height_of, span_of, left_half, right_half}
+use Rattle.tree_geom.specs.Laws.{HeightsHold, SpanOfSome, PagesAlign, RangesNest, LowHalvesAlign, HighHalvesAlign}
 use Rattle.range_log.specs.Log.{newest_of, touch_at, size_at, HasNode}
 use Rattle.range_log.specs.Laws.{Grown, LinksAgree, NewestOfNone, NewestHits, NewestHasNode, NewestIsNone, SizesAre, LogsAreGrown, ExtentsStand}
 use Rattle.range_log.specs.Updates.{extents}
@@ -82,6 +82,16 @@ module _ (p : ℕ) (log : List Touch) (v : ℕ) where
         let within : q * (p * 2 ^ h) + p * 2 ^ h ≤ span_of p (size_at log v) = omega arith in
         let P : ℕ → Type 0 = λ j. HasNode p log j (tree_range p h q) in
         subst P (sym is) (node p log v h q pos g in_log (inr within) (omega arith))
+
+-- the newest version that touches a page has a leaf for it
+pub newest_leaf : NewestHasNode → PagesAlign → (p : ℕ) (log : List Touch) (v page at : ℕ) → Grown p log → 1 ≤ p → v ≤ length log → at ≡ newest_of p log v (page_range p page) → 1 ≤ at
+    → HasNode p log at (page_range p page)
+newest_leaf node align p log v page at g pos in_log is some =
+    let e : page_range p page ≡ tree_range p 0 page = align p page in
+    let same : at ≡ newest_of p log v (tree_range p 0 page) = is ∙ ap (newest_of p log v) e in
+    let P : Range → Type 0 = λ r. HasNode p log at r in
+    let Q : ℕ → Type 0 = λ j. HasNode p log j (tree_range p 0 page) in
+    subst P (sym e) (subst Q (sym same) (node p log v 0 page pos g in_log (inl refl) (omega arith)))
 
 -- a range from byte 0 on that holds the root of version v was touched by it
 pub holds_root : NewestHits → NewestOfNone → (p : ℕ) (log : List Touch) (v h : ℕ) → Grown p log → 1 ≤ p → v ≤ length log → size_at log v ≤ p * 2 ^ h → newest_of p log v (tree_range p h 0) ≡ v

@@ -13,6 +13,7 @@ use Rattle.tree_geom.specs.Laws.{HeightsHold, SpanOfSome, RangesNest}
 use Rattle.range_log.specs.Laws.{Grown, NewestHits, NewestOfNone, LogsAreGrown}
 use Rattle.range_log.specs.declared.open.OpenTouch.{OpenTouch}
 use Rattle.range_log.specs.Log.{newest_of, touch_at, size_at}
+use Rattle.range_log.specs.Depths.{depth_of}
 use Rattle.range_log.specs.Laws.{TouchesAre, LogsGrow}
 use Rattle.range_log.specs.Open.{no_open, open_at}
 use Rattle.border_hints.specs.Numbered.{NumberedUpdate, log_of, log_with, own_touch, log_upto, StandsFor, IsNumbered}
@@ -224,9 +225,10 @@ page_ends nest heights p page n pos inside =
     let same : page * (p * 2 ^ 0) ≡ page * p = ap (λ n. page * n) one in
     omega arith
 
-pub edge_known : (p : ℕ) (log below : List Touch) (v k top page h at leaf : ℕ) (besides : List ℕ) → h ≡ 0 → Down p log below v k top page h at besides
-    → leaf ≡ newest_of p log k (page_range p page) → KnowsEdge p log k top page (edge_links besides leaf)
-edge_known p log below v k top page h at leaf besides low d is = record { leaf = is; besides = λ j lt. d.sides j (omega arith) lt }
+pub edge_known : (p : ℕ) (log below : List Touch) (v k top page h at leaf depth : ℕ) (besides : List ℕ) (range : Range) → h ≡ 0 → Down p log below v k top page h at besides
+    → range ≡ page_range p page → leaf ≡ newest_of p log k range → depth ≡ depth_of p log k page → KnowsEdge p log k top page (edge_links besides leaf depth)
+edge_known p log below v k top page h at leaf depth besides range low d here is deep =
+    record { leaf = is ∙ ap (newest_of p log k) here; besides = λ j lt. d.sides j (omega arith) lt; depth = deep }
 
 -- ---- the code's ranges on the path
 pub path_fits : (page pow h p n : ℕ) → pow ≡ 2 ^ h → page * p < n → n ≤ 2 ^ 40 → page / pow / 2 * (p * 2 ^ (h + 1)) ≤ 2 ^ 40
@@ -249,16 +251,13 @@ root_fits span p q n m root e f is fits some =
     let g : root ≡ p * 2 ^ height_of p n = is ∙ ap (λ x. span_of x m) e ∙ ap (span_of p) f ∙ span p n some in
     omega arith
 
-pub leaf_fits : RangesNest → HeightsHold → (page a b p n : ℕ) → a ≡ p → b ≡ p → 1 ≤ p → page * p < n → p * 2 ^ height_of p n ≤ 2 ^ 40 → page * a + b ≤ 2 ^ 40
-leaf_fits nest heights page a b p n e f pos inside root =
-    let ends : page * p + p ≤ p * 2 ^ height_of p n = page_ends nest heights p page n pos inside in
-    let g : page * a ≡ page * p = ap (λ m. page * m) e in
-    omega arith
+pub page_fits : RangesNest → HeightsHold → (page p n : ℕ) → 1 ≤ p → page * p < n → p * 2 ^ height_of p n ≤ 2 ^ 40 → page * p + p ≤ 2 ^ 40
+page_fits nest heights page p n pos inside root = let ends : page * p + p ≤ p * 2 ^ height_of p n = page_ends nest heights p page n pos inside in omega arith
 
-pub leaf_range : (page a b p : ℕ) → a ≡ p → b ≡ p → record { offset = page * a; size = b } ≡ page_range p page
-leaf_range page a b p e f =
-    let made : ℕ → ℕ → Range = λ x y. record { offset = page * x; size = y } in
-    ap (λ x. made x b) e ∙ ap (made p) f
+pub leaf_fits : (page p : ℕ) (range : Range) → range ≡ page_range p page → page * p + p ≤ 2 ^ 40 → range.offset + range.size ≤ 2 ^ 40
+leaf_fits page p range is fits =
+    let P : Range → Type 0 = λ r. r.offset + r.size ≤ 2 ^ 40 in
+    subst P (sym is) fits
 
 -- ---- the touched pages
 pub first_inside : (at len p size : ℕ) → 1 ≤ len → at + len ≤ size → at / p * p < size

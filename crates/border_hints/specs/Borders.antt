@@ -5,6 +5,7 @@ use Rattle.tree_geom.specs.declared.range.Range.{Range}
 use Rattle.tree_geom.specs.declared.touch.Touch.{Touch}
 use Rattle.tree_geom.specs.Geometry.{Aligned, Meets, tree_range, page_range, left_half, right_half, height_of, span_of}
 use Rattle.range_log.specs.Log.{newest_of}
+use Rattle.range_log.specs.Depths.{depth_of}
 use Rattle.node_store.specs.House.{IsIn}
 use Rattle.node_store.specs.Rows.{UpdateRow}
 use Rattle.snapshot.specs.Versions.{Version}
@@ -46,19 +47,21 @@ abbrev pub IsBorder : ℕ → Touch → Range → Type 0
 IsBorder p touch range = IsUntouchedHalf p touch range ⊎ IsEdgePage p touch range
 
 -- ---- the borders of a row
--- along the path from the root to a page: at each height the version for the range beside the one on the path, and that for
--- the page
+-- along the path from the root to a page: at each height the version for the range beside the one on the path, that for the
+-- page, and how deep its leaf lies
 pub record EdgeLinks : Type 0 where
   pub besides : List ℕ
   pub leaf : ℕ
+  pub depth : ℕ
 
-abbrev pub edge_links : List ℕ → ℕ → EdgeLinks
-edge_links besides leaf = record { besides = besides; leaf = leaf }
+abbrev pub edge_links : List ℕ → ℕ → ℕ → EdgeLinks
+edge_links besides leaf depth = record { besides = besides; leaf = leaf; depth = depth }
 
--- they are the newest up to version k, below a root of that height
+-- they are the newest up to version k, below a root of that height, and the depth is that of the page's newest leaf
 pub record KnowsEdge (p : ℕ) (log : List Touch) (k height page : ℕ) (e : EdgeLinks) : Type 0 where
   pub leaf : e.leaf ≡ newest_of p log k (page_range p page)
   pub besides : (h : ℕ) → h < height → slice_index e.besides h ≡ newest_of p log k (tree_range p h (beside (page / 2 ^ h)))
+  pub depth : e.depth ≡ depth_of p log k page
 
 -- the page size, what the update touches, and the two edges of its row
 pub record BorderLinks : Type 0 where
@@ -67,7 +70,7 @@ pub record BorderLinks : Type 0 where
   pub first : EdgeLinks
   pub last : EdgeLinks
 
--- both edges have the newest up to version k
+-- both edges have the newest up to version k, and the depths there
 pub record AreBorders (log : List Touch) (k : ℕ) (b : BorderLinks) : Type 0 where
   pub first : KnowsEdge b.page_size log k (height_of b.page_size b.touch.size) b.touch.first b.first
   pub last : KnowsEdge b.page_size log k (height_of b.page_size b.touch.size) b.touch.last b.last

@@ -1,7 +1,8 @@
 // The borders of an update's row, and their newest lower versions.
-ghost use Rattle.std.specs.Prelude.{◌≡◌, ℕ, ◌/◌, ◌<◌, ◌↔◌, List, IsTrue};
+ghost use Rattle.std.specs.Prelude.{◌≡◌, ◌⊎◌, ℕ, ◌+◌, ◌/◌, ◌<◌, ◌↔◌, List, IsTrue};
 ghost use Rattle.tree_geom.specs.declared.touch.Touch.{Touch};
-ghost use Rattle.range_log.specs.Log.{newest_of};
+ghost use Rattle.range_log.specs.Log.{newest_of, touch_at};
+ghost use Rattle.range_log.specs.Depths.{depth_of};
 ghost use Rattle.border_hints.specs.Borders.{AreBorders, IsBorder};
 
 use std::marker::Model;
@@ -17,10 +18,13 @@ pub(crate) struct Edge {
     pub besides: [u64; HEIGHTS],
     // that for the page at the end of the path
     pub leaf: u64,
+    // how deep the leaf of that version lies, 0 where there is none
+    pub depth: u32,
 }
 
 /// The newest lower versions for the ranges over the borders of an update's row: the halves of its nodes that it doesn't
-/// touch, and its first and its last page.
+/// touch, and its first and its last page. Of these two pages it tells as well how deep the leaves lie: how many backs lead
+/// on from a leaf, one after another.
 #[derive(Drop)]
 pub struct Borders {
     pub(crate) page_size: PageSize,
@@ -36,9 +40,15 @@ impl Model for Borders {
 
     ghost Value = { BorderLinks };
 
-    ghost view = { λ b. record { page_size = b.page_size; touch = b.touch; first = edge_links b.first.besides b.first.leaf; last = edge_links b.last.besides b.last.leaf } };
+    ghost view = { λ b. record {
+      page_size = b.page_size;
+      touch = b.touch;
+      first = edge_links b.first.besides b.first.leaf b.first.depth;
+      last = edge_links b.last.besides b.last.leaf b.last.depth;
+    } };
 
-    ghost invariant = { λ b. (b.touch.first ≤ b.touch.last) × (span_of b.page_size b.touch.size ≤ 2 ^ 40) };
+    ghost invariant = { λ b. (b.touch.first ≤ b.touch.last) × (span_of b.page_size b.touch.size ≤ 2 ^ 40)
+        × (b.first.depth ≤ 2 ^ 21) × (b.last.depth ≤ 2 ^ 21) };
 }
 
 // Whether the range is that page's, of `size` bytes.
@@ -70,6 +80,25 @@ impl Borders {
             self.first.besides[level]
         } else {
             self.last.besides[level]
+        }
+    }
+
+    /// How deep the update's own leaf of its first or its last page lies, which is how many backs lead on from it: 0 where
+    /// the update covers the page, else one more than from the newest lower leaf of the page.
+    pub fn depth(&self, page: u64) -> u32
+        requires edge { (page ≡ self.now.touch.first) ⊎ (page ≡ self.now.touch.last) }
+        ensures { (log : List Touch) (k : ℕ) → AreBorders log k self.now → touch_at log (k + 1) ≡ self.now.touch
+            → result ≡ depth_of self.now.page_size log (k + 1) page }
+    {
+        tree_geom::laws::meets_is_decided();
+        let _size = self.page_size.bytes();
+        if !self.touch.leaves_open(page) {
+            return 0;
+        }
+        if page == self.touch.first {
+            self.first.depth + 1
+        } else {
+            self.last.depth + 1
         }
     }
 }

@@ -2,17 +2,18 @@
 ghost use Rattle.std.specs.Prelude.{◌≡◌, ℕ, ◌+◌, ◌-◌, ◌*◌, ◌/◌, ◌^◌, ◌<◌, ◌≤◌, List, length};
 ghost use Rattle.tree_geom.specs.Geometry.{tree_range, height_of};
 ghost use Rattle.range_log.specs.Log.{newest_of};
+ghost use Rattle.range_log.specs.Depths.{depth_of, depth_after};
 ghost use Rattle.snapshot.specs.Versions.{size_now};
-ghost use Rattle.border_hints.specs.Numbered.{log_upto, own_touch};
+ghost use Rattle.border_hints.specs.Numbered.{log_of, log_upto, own_touch};
 ghost use Rattle.border_hints.specs.Borders.{beside, newest_known, NodesLieIn, KnowsEdge, AreBorders, edge_links};
 
 use crate::border::{Borders, Edge, HEIGHTS};
-use crate::known::halves_known;
+use crate::known::{depth_known, halves_known, range_of_page};
 use crate::ticket::Ticket;
 use node_store::NodeHouse;
 use snapshot::Snapshot;
 use std::sync::ledger::Ledger;
-use tree_geom::{Range, Steps, height, meets, span};
+use tree_geom::{PageSize, Range, Steps, Touch, height, meets, span};
 
 // The newest lower version for the range: the newest waiting update that touches it, or else `known`, that of the snapshot.
 fn newest_below(ticket: &Ticket, range: Range, known: u64) -> u64
@@ -32,6 +33,43 @@ fn newest_below(ticket: &Ticket, range: Range, known: u64) -> u64
         }
     }
     known
+}
+
+// How deep the newest leaf of the page lies after an update, where it lay `depth` deep before: 0 where the update covers
+// the page, one more where it leaves valid bytes of it to older leaves, and the same where it doesn't touch the page.
+fn depth_with(p: PageSize, touch: &Touch, page: u64, depth: u32) -> u32
+    requires fits { page * p + p ≤ 2 ^ 40 }
+    requires few { depth ≤ 2 ^ 21 }
+    ensures { result ≡ depth_after p touch.now page depth }
+{
+    if !meets(p, touch, range_of_page(p, page)) {
+        return depth;
+    }
+    if touch.leaves_open(page) {
+        depth + 1
+    } else {
+        0
+    }
+}
+
+// How deep the newest lower leaf of the page lies, where that of the snapshot lies `known` deep.
+fn depth_below(ticket: &Ticket, page: u64, known: u32) -> u32
+    requires fits { page * ticket.now.snapshot.page_size + ticket.now.snapshot.page_size ≤ 2 ^ 40 }
+    requires known { let s = ticket.now.snapshot in known ≡ depth_of s.page_size (log_of s) (length s.rows) page }
+    ensures depth { result ≡ depth_of ticket.now.snapshot.page_size (log_upto ticket.now) (ticket.now.version - 1) page }
+    ensures few { result ≤ 2 ^ 21 }
+{
+    range_log::laws::logs_are_grown();
+    range_log::laws::depth_counts_backs();
+    let _version = ticket.version();
+    let hints = ticket.hints();
+    let p = hints.snapshot.page_size();
+    let mut depth = known;
+    for i in 0..hints.waiting.count() {
+        let waiting = hints.waiting.at(i);
+        depth = depth_with(p, &waiting.touch, page, depth);
+    }
+    depth
 }
 
 // The height of the snapshot's tree, or 0 for version 0.
@@ -91,13 +129,16 @@ fn turn<L: Ledger>(
     }
 }
 
-// The newest lower versions along the path to the page, which is one of the update's version.
+// The newest lower versions along the path to the page, which is one of the update's version, and how deep the page's newest
+// lower leaf lies.
 fn descend<L: Ledger>(ticket: &Ticket, nodes: &NodeHouse, page: u64, steps: &mut Steps<L>) -> Edge
     requires here { NodesLieIn nodes.now ticket.now.snapshot }
     requires page { page * ticket.now.snapshot.page_size < ticket.now.size }
     ensures knows { let t = ticket.now in
-        KnowsEdge t.snapshot.page_size (log_upto t) (t.version - 1) (height_of t.snapshot.page_size t.size) page (edge_links result.besides result.leaf) }
-    ensures steps { steps.new ≤ steps.old + height_of ticket.now.snapshot.page_size ticket.now.size }
+        KnowsEdge t.snapshot.page_size (log_upto t) (t.version - 1) (height_of t.snapshot.page_size t.size) page
+        (edge_links result.besides result.leaf result.depth) }
+    ensures few { result.depth ≤ 2 ^ 21 }
+    ensures steps { steps.new ≤ steps.old + height_of ticket.now.snapshot.page_size ticket.now.size + 1 }
 {
     tree_geom::laws::spans_hold();
     tree_geom::laws::ranges_align();
@@ -117,20 +158,19 @@ fn descend<L: Ledger>(ticket: &Ticket, nodes: &NodeHouse, page: u64, steps: &mut
         besides[level as usize] = off;
         at = on;
     }
-    let range = Range {
-        offset: page * p.bytes(),
-        size: p.bytes(),
-    };
+    let known = depth_known(snapshot, nodes, at, page, steps);
     Edge {
         besides,
-        leaf: newest_below(ticket, range, at),
+        leaf: newest_below(ticket, range_of_page(p, page), at),
+        depth: depth_below(ticket, page, known),
     }
 }
 
-/// The newest lower versions over the borders of the row of the ticket's update.
+/// The newest lower versions over the borders of the row of the ticket's update, and how deep the newest lower leaves of its
+/// first and its last page lie.
 ///
-/// It goes down the snapshot's tree once for each edge, and takes at most `4 h + 4` node steps, `h` the height of the tree
-/// after the update. It takes no memory, no lock, and waits for nobody.
+/// It goes down the snapshot's tree to a leaf once for each edge, and takes at most `4 h + 4` node steps, `h` the height of
+/// the tree after the update. It takes no memory, no lock, and waits for nobody.
 #[tactic(auto, using(crate::proofs::Turning::first_inside, crate::proofs::Turning::last_inside, crate::proofs::Turning::pages_ordered))]
 pub fn borders<L: Ledger>(ticket: &Ticket, nodes: &NodeHouse, steps: &mut Steps<L>) -> Borders
     requires here { NodesLieIn nodes.now ticket.now.snapshot }

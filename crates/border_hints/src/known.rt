@@ -1,7 +1,8 @@
-// What the published snapshot's tree tells of the newest versions of ranges.
+// What the published snapshot's tree tells of the newest versions of ranges, and of how deep leaves lie.
 ghost use Rattle.std.specs.Prelude.{◌≡◌, ◌+◌, ◌*◌, ◌^◌, ◌<◌, ◌≤◌, length};
-ghost use Rattle.tree_geom.specs.Geometry.{tree_range, height_of, left_half, right_half};
+ghost use Rattle.tree_geom.specs.Geometry.{tree_range, page_range, height_of, left_half, right_half};
 ghost use Rattle.range_log.specs.Log.{newest_of};
+ghost use Rattle.range_log.specs.Depths.{depth_of};
 ghost use Rattle.snapshot.specs.Versions.{size_now, HasNodeFor};
 ghost use Rattle.border_hints.specs.Numbered.{log_of};
 ghost use Rattle.border_hints.specs.Borders.{newest_known, NodesLieIn};
@@ -9,7 +10,72 @@ ghost use Rattle.border_hints.specs.Borders.{newest_known, NodesLieIn};
 use node_store::{Node, NodeHouse, Range};
 use snapshot::Snapshot;
 use std::sync::ledger::Ledger;
-use tree_geom::Steps;
+use tree_geom::{PageSize, Steps};
+
+/// The bytes of the page.
+pub(crate) fn range_of_page(p: PageSize, page: u64) -> Range
+    requires { page * p ≤ 2 ^ 40 }
+    ensures { result ≡ page_range p page }
+{
+    let size = p.bytes();
+    Range {
+        offset: page * size,
+        size,
+    }
+}
+
+// How many backs lead on from the leaf of the page in the row of update `j`, one after another.
+fn leaf_depth<L: Ledger>(
+    snapshot: &Snapshot,
+    nodes: &NodeHouse,
+    j: u64,
+    page: u64,
+    steps: &mut Steps<L>,
+) -> u32
+    requires here { NodesLieIn nodes.now snapshot.now }
+    requires has { HasNodeFor snapshot.now j (page_range snapshot.now.page_size page) }
+    requires fits { page * snapshot.now.page_size ≤ 2 ^ 40 }
+    ensures depth { result ≡ depth_of snapshot.now.page_size (log_of snapshot.now) j page }
+    ensures step { steps.new ≡ steps.old + 1 }
+{
+    range_log::laws::logs_are_grown();
+    let _version = snapshot.version();
+    let range = range_of_page(snapshot.page_size(), page);
+    let Some(node) = snapshot.find(j, range, steps) else {
+        unreachable!()
+    };
+    match nodes.get(node) {
+        Node::Leaf { depth, .. } => depth,
+        Node::Inner { .. } => unreachable!(),
+    }
+}
+
+/// How deep the snapshot's newest leaf of the page lies, which is that of version `at`, or 0 where there is none. In a branch
+/// it may be a leaf of the blob that the branch was made from, and the count goes on from there.
+pub(crate) fn depth_known<L: Ledger>(
+    snapshot: &Snapshot,
+    nodes: &NodeHouse,
+    at: u64,
+    page: u64,
+    steps: &mut Steps<L>,
+) -> u32
+    requires here { NodesLieIn nodes.now snapshot.now }
+    requires at { at ≡ newest_known snapshot.now (page_range snapshot.now.page_size page) }
+    requires fits { page * snapshot.now.page_size ≤ 2 ^ 40 }
+    ensures depth { result ≡ depth_of snapshot.now.page_size (log_of snapshot.now) (length snapshot.now.rows) page }
+    ensures steps { steps.new ≤ steps.old + 1 }
+{
+    range_log::laws::newest_has_node();
+    range_log::laws::depth_counts_backs();
+    range_log::laws::logs_are_grown();
+    range_log::laws::page_bytes_stay();
+    tree_geom::laws::ranges_align();
+    let _version = snapshot.version();
+    if at == 0 {
+        return 0;
+    }
+    leaf_depth(snapshot, nodes, at, page, steps)
+}
 
 // The versions whose rows have the nodes of the halves of the range, by its node in the row of update `j`.
 fn links<L: Ledger>(

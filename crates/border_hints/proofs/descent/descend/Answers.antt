@@ -1,11 +1,13 @@
-use Rattle.std.proofs.Common.{◌≡◌, ℕ, ◌-◌, ◌≤◌, length, arith, refl, ap, ◌∙◌}
-use Rattle.tree_geom.specs.Geometry.{height_of}
-use Rattle.range_log.specs.Log.{newest_of}
+use Rattle.std.proofs.Common.{◌≡◌, ℕ, ◌+◌, ◌-◌, ◌*◌, ◌/◌, ◌^◌, ◌<◌, ◌≤◌, length, arith, refl, ap, sym, ◌∙◌}
+use Rattle.tree_geom.specs.declared.range.Range.{Range}
+use Rattle.tree_geom.specs.Geometry.{tree_range, page_range, height_of, span_of}
+use Rattle.tree_geom.specs.Laws.{HeightsHold, SpanOfSome, RangesNest}
 use Rattle.snapshot.specs.Versions.{Version}
 use Rattle.tree_geom.proofs.Spans.{page_pos}
 use Rattle.border_hints.specs.Numbered.{NumberedUpdate, log_of, log_upto, IsNumbered}
+use Rattle.border_hints.specs.Borders.{newest_known}
 use Rattle.border_hints.proofs.Published.{log_grown}
-use Rattle.border_hints.proofs.Turning.{down_started, down_turn, edge_known, root_fits, leaf_fits, leaf_range}
+use Rattle.border_hints.proofs.Turning.{down_started, down_turn, edge_known, page_is, root_fits, page_fits, leaf_fits}
 use Rattle.border_hints.proofs.descent.descend.Goals as goal
 
 -- the height, as the code computes it
@@ -45,20 +47,53 @@ loop-level-preserved g c =
       counted = omega (arith, c.turn-on.ensures.steps, inv.counted, c.loop-level-test.true);
     }
 
+-- the range that the code makes is the page's
+range_here : (q p page : ℕ) (range : Range) → q ≡ p → range ≡ page_range q page → range ≡ page_range p page
+range_here q p page range e is = is ∙ ap (λ n. page_range n page) e
+
+-- the page ends within the root
+ends : (nest : RangesNest) (heights : HeightsHold) (span : SpanOfSome) (t : NumberedUpdate) (page q m root : ℕ) → IsNumbered t → page * t.snapshot.page_size < t.size → q ≡ t.snapshot.page_size → m ≡ t.size
+    → root ≡ span_of q m → root ≤ 2 ^ 40 → page * t.snapshot.page_size + t.snapshot.page_size ≤ 2 ^ 40
+ends nest heights span t page q m root is inside e f rooted fits =
+    let p : ℕ = t.snapshot.page_size in
+    page_fits nest heights page p t.size (page_pos p is.published.page_size) inside (root_fits span p q t.size m root e f rooted fits (some_bytes t is))
+
+-- the snapshot's newest version for the page, at the end of the path
+newest_here : (s told : Version) (page h at : ℕ) → told ≡ s → h ≡ 0 → at ≡ newest_known s (tree_range s.page_size h (page / 2 ^ h)) → at ≡ newest_known told (page_range told.page_size page)
+newest_here s told page h at e low is =
+    is ∙ ap (newest_known s) (page_is s.page_size page h low) ∙ ap (λ (x : Version). newest_known x (page_range x.page_size page)) (sym e)
+
+pub depth_known-known-requires-clause-at : goal.depth_known-known-requires-clause-at
+depth_known-known-requires-clause-at g c =
+    newest_here c.args.ticket.now.snapshot c.hints.result.now.snapshot c.args.page c.loop-level.level c.loop-level.at c.hints.ensures.snapshot (omega (arith, c.loop-level-test.false)) c.loop-level.invariant.down.newest
+
 pub newest_below-requires-clause-fits : goal.newest_below-requires-clause-fits
 newest_below-requires-clause-fits g c =
     let t = c.args.ticket.now in
-    let is = c.version-version.ensures.stands in
     let size = c.page_size-p.ensures ∙ ap (λ (s : Version). s.page_size) c.hints.ensures.snapshot in
-    leaf_fits c.ranges_align.ensures.nest c.spans_hold.ensures.heights c.args.page c.bytes.result c.bytes-2.result t.snapshot.page_size t.size
-    (c.bytes.ensures.is ∙ size) (c.bytes-2.ensures.is ∙ size) (page_pos t.snapshot.page_size is.published.page_size) c.requires.page
-    (root_fits c.spans_hold.ensures.some t.snapshot.page_size c.page_size-p.result t.size c.size.result c.span-root.result size c.size.ensures c.span-root.ensures.is c.span-root.ensures.fits (some_bytes t is))
+    leaf_fits c.args.page t.snapshot.page_size c.range_of_page.result (range_here c.page_size-p.result t.snapshot.page_size c.args.page c.range_of_page.result size c.range_of_page.ensures)
+    (ends c.ranges_align.ensures.nest c.spans_hold.ensures.heights c.spans_hold.ensures.some t c.args.page c.page_size-p.result c.size.result c.span-root.result c.version-version.ensures.stands c.requires.page
+    size c.size.ensures c.span-root.ensures.is c.span-root.ensures.fits)
+
+pub newest_below-requires-clause-known : goal.newest_below-requires-clause-known
+newest_below-requires-clause-known g c =
+    let t = c.args.ticket.now in
+    let size = c.page_size-p.ensures ∙ ap (λ (s : Version). s.page_size) c.hints.ensures.snapshot in
+    newest_here t.snapshot t.snapshot c.args.page c.loop-level.level c.loop-level.at refl (omega (arith, c.loop-level-test.false)) c.loop-level.invariant.down.newest
+    ∙ ap (newest_known t.snapshot) (sym (range_here c.page_size-p.result t.snapshot.page_size c.args.page c.range_of_page.result size c.range_of_page.ensures))
+
+pub depth_below-requires-clause-fits : goal.depth_below-requires-clause-fits
+depth_below-requires-clause-fits g c =
+    let t = c.args.ticket.now in
+    let size = c.page_size-p.ensures ∙ ap (λ (s : Version). s.page_size) c.hints.ensures.snapshot in
+    ends c.ranges_align.ensures.nest c.spans_hold.ensures.heights c.spans_hold.ensures.some t c.args.page c.page_size-p.result c.size.result c.span-root.result c.version-version.ensures.stands c.requires.page
+    size c.size.ensures c.span-root.ensures.is c.span-root.ensures.fits
 
 pub returns-clause-knows : goal.returns-clause-knows
 returns-clause-knows g c =
     let t = c.args.ticket.now in
     let p = t.snapshot.page_size in
     let size = c.page_size-p.ensures ∙ ap (λ (s : Version). s.page_size) c.hints.ensures.snapshot in
-    edge_known p (log_upto t) (log_of t.snapshot) (length t.snapshot.rows) (t.version - 1) (height_of p t.size) c.args.page c.loop-level.level c.loop-level.at c.newest_below.result c.loop-level.besides
-    (omega (arith, c.loop-level-test.false)) c.loop-level.invariant.down
-    (c.newest_below.ensures ∙ ap (newest_of p (log_upto t) (t.version - 1)) (leaf_range c.args.page c.bytes.result c.bytes-2.result p (c.bytes.ensures.is ∙ size) (c.bytes-2.ensures.is ∙ size)))
+    edge_known p (log_upto t) (log_of t.snapshot) (length t.snapshot.rows) (t.version - 1) (height_of p t.size) c.args.page c.loop-level.level c.loop-level.at c.newest_below.result c.depth_below.result c.loop-level.besides
+    c.range_of_page.result (omega (arith, c.loop-level-test.false)) c.loop-level.invariant.down
+    (range_here c.page_size-p.result p c.args.page c.range_of_page.result size c.range_of_page.ensures) c.newest_below.ensures c.depth_below.ensures.depth

@@ -4,12 +4,9 @@ use Rattle.std.proofs.lemmas.Bool.{false≢true}
 use Rattle.tree_geom.specs.declared.range.Range.{Range}
 use Rattle.tree_geom.specs.declared.touch.Touch.{Touch}
 use Rattle.range_log.specs.Log.{newest_of}
-use Rattle.border_hints.specs.Borders.{BorderLinks, AreBorders, IsBorder, edge_links}
-use Rattle.border_hints.proofs.Halves.{placed, IsPlaced, first_side, last_side}
+use Rattle.border_hints.specs.Borders.{BorderLinks, AreBorders, IsBorder}
+use Rattle.border_hints.proofs.Halves.{made, placed, IsPlaced, first_side, last_side}
 use Rattle.border_hints.proofs.border.Borders.of.Goals as goal
-
-made : ℕ → Touch → List ℕ → ℕ → List ℕ → ℕ → BorderLinks
-made p touch a x b y = record { page_size = p; touch = touch; first = edge_links a x; last = edge_links b y }
 
 not_so : (b : Bool) (P : Type 0) → b ≡ false → (P → IsTrue b) → ¬ P
 not_so b P e f x = false≢true (sym e ∙ f x)
@@ -23,7 +20,7 @@ pub returns-then-range-size : goal.returns-then-range-size
 unfolding made
 returns-then-range-size c =
     let in' = c.self.inside in
-    let b : BorderLinks = made in'.page_size in'.touch in'.first.besides in'.first.leaf in'.last.besides in'.last.leaf in
+    let b : BorderLinks = made in'.page_size in'.touch in'.first.besides in'.first.leaf in'.first.depth in'.last.besides in'.last.leaf in'.last.depth in
     let P : BorderLinks → Type 0 = λ x. (log : List Touch) (k : ℕ) → AreBorders log k x → slice_index in'.first.besides c.height-level.result ≡ newest_of x.page_size log k c.args.range in
     let A : BorderLinks → Type 0 = λ x. IsBorder x.page_size x.touch c.args.range in
     let B : ℕ → Type 0 = λ n. c.args.range.offset / n < in'.touch.first in
@@ -41,7 +38,7 @@ pub returns-else-range-size : goal.returns-else-range-size
 unfolding made
 returns-else-range-size c =
     let in' = c.self.inside in
-    let b : BorderLinks = made in'.page_size in'.touch in'.first.besides in'.first.leaf in'.last.besides in'.last.leaf in
+    let b : BorderLinks = made in'.page_size in'.touch in'.first.besides in'.first.leaf in'.first.depth in'.last.besides in'.last.leaf in'.last.depth in
     let P : BorderLinks → Type 0 = λ x. (log : List Touch) (k : ℕ) → AreBorders log k x → slice_index in'.last.besides c.height-level.result ≡ newest_of x.page_size log k c.args.range in
     let A : BorderLinks → Type 0 = λ x. IsBorder x.page_size x.touch c.args.range in
     let B : ℕ → Type 0 = λ n. in'.touch.first ≤ c.args.range.offset / n in
