@@ -18,7 +18,7 @@ use Rattle.boxcar.specs.Table.{Shelves}
 use Rattle.node_store.specs.House.{IsIn}
 use Rattle.node_store.specs.Placed.{PlacedNode}
 use Rattle.std.proofs.lemmas.List.Elements.{All-contains}
-use Rattle.border_hints.specs.Borders.{NodesLieIn}
+use Rattle.snapshot.specs.Versions.{NodesLieIn}
 use Rattle.tree_geom.proofs.Spans.{size_pos}
 
 -- ---- the snapshot's log

@@ -1,19 +1,12 @@
 -- What a clause sees of the borders of a row, and which ranges they are.
-use Rattle.std.specs.Prelude.{◌≡◌, ◌⊎◌, ℕ, ◌+◌, ◌-◌, ◌/◌, ◌%◌, ◌^◌, ◌<◌, ◌≤◌, ◌==◌, if◌then◌else◌, List, length, slice_index, All}
-use Rattle.boxcar.specs.Table.{Shelves}
+use Rattle.std.specs.Prelude.{◌≡◌, ◌⊎◌, ℕ, ◌+◌, ◌-◌, ◌/◌, ◌%◌, ◌^◌, ◌<◌, ◌≤◌, ◌==◌, if◌then◌else◌, List, length, slice_index}
 use Rattle.tree_geom.specs.declared.range.Range.{Range}
 use Rattle.tree_geom.specs.declared.touch.Touch.{Touch}
 use Rattle.tree_geom.specs.Geometry.{Aligned, Meets, tree_range, page_range, left_half, right_half, height_of, span_of}
 use Rattle.range_log.specs.Log.{newest_of}
 use Rattle.range_log.specs.Depths.{depth_of}
-use Rattle.node_store.specs.House.{IsIn}
-use Rattle.node_store.specs.Rows.{UpdateRow}
 use Rattle.snapshot.specs.Versions.{Version}
 use Rattle.border_hints.specs.Numbered.{log_of}
-
--- the nodes of the version's rows lie in this house
-abbrev pub NodesLieIn : List Shelves → Version → Type 0
-NodesLieIn nodes s = All (λ (row : UpdateRow). All (IsIn nodes) row.nodes) s.rows
 
 -- the newest of the version's updates that touches the range
 abbrev pub newest_known : Version → Range → ℕ

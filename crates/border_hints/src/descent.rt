@@ -3,9 +3,9 @@ ghost use Rattle.std.specs.Prelude.{◌≡◌, ℕ, ◌+◌, ◌-◌, ◌*◌, �
 ghost use Rattle.tree_geom.specs.Geometry.{tree_range, height_of};
 ghost use Rattle.range_log.specs.Log.{newest_of};
 ghost use Rattle.range_log.specs.Depths.{depth_of, depth_after};
-ghost use Rattle.snapshot.specs.Versions.{size_now};
+ghost use Rattle.snapshot.specs.Versions.{size_now, NodesLieIn};
 ghost use Rattle.border_hints.specs.Numbered.{log_of, log_upto, own_touch};
-ghost use Rattle.border_hints.specs.Borders.{beside, newest_known, NodesLieIn, KnowsEdge, AreBorders, edge_links};
+ghost use Rattle.border_hints.specs.Borders.{beside, newest_known, KnowsEdge, AreBorders, edge_links};
 
 use crate::border::{Borders, Edge, HEIGHTS};
 use crate::known::{depth_known, halves_known, range_of_page};

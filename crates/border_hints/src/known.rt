@@ -3,9 +3,9 @@ ghost use Rattle.std.specs.Prelude.{◌≡◌, ◌+◌, ◌*◌, ◌^◌, ◌<�
 ghost use Rattle.tree_geom.specs.Geometry.{tree_range, page_range, height_of, left_half, right_half};
 ghost use Rattle.range_log.specs.Log.{newest_of};
 ghost use Rattle.range_log.specs.Depths.{depth_of};
-ghost use Rattle.snapshot.specs.Versions.{size_now, HasNodeFor};
+ghost use Rattle.snapshot.specs.Versions.{size_now, HasNodeFor, NodesLieIn};
 ghost use Rattle.border_hints.specs.Numbered.{log_of};
-ghost use Rattle.border_hints.specs.Borders.{newest_known, NodesLieIn};
+ghost use Rattle.border_hints.specs.Borders.{newest_known};
 
 use node_store::{Node, NodeHouse, Range};
 use snapshot::Snapshot;

@@ -4,7 +4,8 @@ ghost use Rattle.tree_geom.specs.Geometry.{tree_range, height_of};
 ghost use Rattle.range_log.specs.Extents.{Extent};
 ghost use Rattle.range_log.specs.Rows.{level_of, row_of};
 ghost use Rattle.border_hints.specs.Numbered.{log_upto, own_touch, StandsFor};
-ghost use Rattle.border_hints.specs.Borders.{NodesLieIn, AreBorders};
+ghost use Rattle.snapshot.specs.Versions.{NodesLieIn};
+ghost use Rattle.border_hints.specs.Borders.{AreBorders};
 ghost use Rattle.tree_weaver.specs.Planned.{own_node, own_nodes, InRowOrder};
 
 use crate::node::{inner, leaf};
