@@ -27,7 +27,7 @@ log_grown grown stand s is pos = grown s.page_size (extents (updates_of s)) pos 
 
 pub log_size : SizesAre → ExtentsStand → (s : Version) → IsVersion s → size_at (log_of s) (length s.rows) ≡ size_now s
 log_size sizes stand s is =
-    let count : length (updates_of s) ≡ length s.rows = length-map s.rows (written s.page_size) in
+    let count : length (updates_of s) ≡ length s.rows = length-map s.rows written in
     sizes s.page_size (extents (updates_of s)) (length s.rows) (omega (arith, length-extents (updates_of s), count))
     ∙ (stand (updates_of s) is.replayable).2 (length s.rows) (omega (arith, count))
 

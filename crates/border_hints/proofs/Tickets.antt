@@ -17,7 +17,7 @@ use Rattle.border_hints.specs.Numbered.{NumberedUpdate, log_of, log_with, own_to
 use Rattle.range_log.proofs.Bytes.{length-extents}
 
 pub length-log_of : TouchesAre → (s : Version) → length (log_of s) ≡ length s.rows
-length-log_of are s = are s.page_size (extents (updates_of s)) ∙ length-extents (updates_of s) ∙ length-map s.rows (written s.page_size)
+length-log_of are s = are s.page_size (extents (updates_of s)) ∙ length-extents (updates_of s) ∙ length-map s.rows written
 
 pub length-log_with : TouchesAre → (s : Version) (waiting : List OpenTouch) → length (log_with s waiting) ≡ length s.rows + length waiting
 length-log_with are s waiting =

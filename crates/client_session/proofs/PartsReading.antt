@@ -28,7 +28,7 @@ bound_told stay stand s us o n tell =
     let v : ℕ = length s.rows in
     let told : List Extent = extents (updates_of s) in
     let more : List Extent = drop v (extents us) in
-    let counted : v ≤ length told = omega (arith, (stand (updates_of s) tell.replayable).1, length-map s.rows (written s.page_size)) in
+    let counted : v ≤ length told = omega (arith, (stand (updates_of s) tell.replayable).1, length-map s.rows written) in
     let whole : told ++ more ≡ extents us = ap (λ l. l ++ more) tell.fall ∙ take-append-drop v (extents us) in
     sym ((stay s.page_size v told more counted).4 o n) ∙ ap (λ l. visits s.page_size l v o n) whole
 

@@ -92,9 +92,9 @@ ready_next p rows row here rest all whole first ready =
 
 -- what the next row has to be, after those that a version has
 pub next_ready : RowsTell → (s : Version) (row : UpdateRow) → IsVersion s → Ready s.page_size (s.rows ++ row ∷ [])
-    → IsRowOf s.page_size (updates s.page_size (s.rows ++ row ∷ [])) (length s.rows + 1) row
-    × Replayable (updates s.page_size (s.rows ++ row ∷ []))
-    × (size_of (updates s.page_size (s.rows ++ row ∷ [])) (length s.rows + 1) ≤ 2 ^ 40)
+    → IsRowOf s.page_size (updates (s.rows ++ row ∷ [])) (length s.rows + 1) row
+    × Replayable (updates (s.rows ++ row ∷ []))
+    × (size_of (updates (s.rows ++ row ∷ [])) (length s.rows + 1) ≤ 2 ^ 40)
 next_ready tell s row is (us, ready) =
     let p : ℕ = s.page_size in
     let all : List UpdateRow = s.rows ++ row ∷ [] in
@@ -103,7 +103,7 @@ next_ready tell s row is (us, ready) =
     let told = tell p us all (page_pos p is.page_size) ready.replayable ready.own in
     let last : n ≡ suc (length s.rows) = omega arith in
     let newest : row_at all n ≡ row = ap (row_at all) last ∙ get_or-append_seam s.rows row [] no_row in
-    let R : UpdateRow → Type 0 = λ r. IsRowOf p (updates p all) n r in
+    let R : UpdateRow → Type 0 = λ r. IsRowOf p (updates all) n r in
     let B : ℕ → Type 0 = λ m. m ≤ 2 ^ 40 in (
       subst R newest (told.own.each n (omega arith) (omega arith)),
       told.replayable,

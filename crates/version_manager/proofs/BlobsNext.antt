@@ -107,7 +107,7 @@ module _ (limits : Bounds) (w : Numbered) (b : Blob) (k : Keeps limits w b) (eve
   front =
       let rows : List UpdateRow = leading w.rows in
       let whole : take (length rows) rows ≡ rows = take-length rows in
-      ap (λ l. touches w.page_size (extents (updates w.page_size l))) (sym whole)
+      ap (λ l. touches w.page_size (extents (updates l))) (sym whole)
       ∙ log_published rows_stay (told rows_stay) b.updates w (length rows) (page_pos w.page_size is.page_size) even k.stands (omega arith)
       ∙ ap (λ m. take m w.log) (leads limits w b k even)
 
