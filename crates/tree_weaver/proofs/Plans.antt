@@ -15,6 +15,7 @@ use Rattle.tree_geom.specs.declared.node.Node.TheVariants.{Inner}
 use Rattle.tree_geom.specs.Geometry.{tree_range, page_range, left_half, right_half, height_of, covers, touched_by}
 use Rattle.range_log.specs.Log.{newest_of, touch_at, size_at}
 use Rattle.range_log.specs.Extents.{Extent, no_extent, extent_at, size_after, touches}
+use Rattle.range_log.specs.Depths.{depth_of}
 use Rattle.range_log.specs.Rows.{level_of, levels_of, row_keys_of, row_of, node_of, back_of, leaf_at}
 use Rattle.range_log.specs.Laws.{Before, EachTouchIs, SizesAre, RowKeysInOrder}
 use Rattle.border_hints.specs.Numbered.{NumberedUpdate, own_touch, log_upto, StandsFor, IsNumbered}
@@ -25,6 +26,7 @@ use Rattle.tree_weaver.specs.Planned.{own_extent, own_node, own_nodes, InRowOrde
 made_node : ℕ → Extent → List Touch → ℕ → ℕ → Range → Node
 made_node p x log n k r =
     if r.size == p then leaf_at p x (r.offset / p) (if covers p x.at x.len n (r.offset / p) then 0 else newest_of p log (k - 1) (page_range p (r.offset / p)))
+    (depth_of p log k (r.offset / p))
     else Inner (newest_of p log k (left_half r)) (newest_of p log k (right_half r))
 
 made_of : (p : ℕ) (us : List Extent) (k : ℕ) (r : Range) → node_of p us k r ≡ made_node p (extent_at us k) (touches p us) (size_after us k) k r

@@ -1,20 +1,22 @@
 -- The ranges of a row's nodes, and the parts of its leaves.
-use Rattle.std.proofs.Common.{◌≡◌, ◌⊎◌, ℕ, zero, suc, ◌+◌, ◌-◌, ◌*◌, ◌/◌, ◌%◌, ◌^◌, ◌<◌, ◌≤◌, List, length, max, min, arith, inl, inr, refl, ap, sym, subst, ◌∙◌, true, false, Bool}
+use Rattle.std.proofs.Common.{◌≡◌, ◌⊎◌, ℕ, zero, suc, ◌+◌, ◌-◌, ◌*◌, ◌/◌, ◌%◌, ◌^◌, ◌<◌, ◌≤◌, List, length, arith, inl, inr, refl, ap, sym, subst, ◌∙◌, true, false, Bool}
 use Rattle.std.specs.Prelude.{◌==◌, not, if◌then◌else◌}
-use Rattle.std.proofs.lemmas.Bool.{cases_lt, cases_order, false≢true}
+use Rattle.std.proofs.lemmas.Bool.{cases_order, false≢true}
 use Rattle.std.proofs.lemmas.Bool.Decides.{nat_tests}
 use Rattle.std.proofs.lemmas.Nat.{mul-le, pow_pos}
 use Rattle.std.proofs.Math.Nat.{pow-succ', pow-le-pow_right, div-mul-le_self, lt-div-mul-add, mul-div_cancel}
 use Rattle.tree_geom.specs.declared.range.Range.{Range}
 use Rattle.tree_geom.specs.declared.touch.Touch.{Touch}
 use Rattle.tree_geom.specs.Geometry.{tree_range, page_range, height_of, span_of, covers, touched_by, leaves_open, Meets}
-use Rattle.tree_geom.specs.Laws.{HeightsHold, SpanOfSome, RangesNest, TouchesTellCover}
+use Rattle.tree_geom.specs.Laws.{HeightsHold, SpanOfSome, RangesNest, MeetsIsTrue, TouchesTellCover}
 use Rattle.range_log.specs.Log.{newest_of, touch_at}
+use Rattle.range_log.specs.Depths.{depth_of}
 use Rattle.page_store.specs.Stored.{Cut, joined}
 use Rattle.range_log.specs.Laws.{NewestHits, NewestMisses}
 use Rattle.border_hints.specs.Numbered.{NumberedUpdate, own_touch, log_upto, IsNumbered}
 use Rattle.border_hints.specs.Borders.{IsRowRange, IsBorder, BorderLinks, AreBorders}
-use Rattle.tree_weaver.specs.Planned.{own_link, own_leaf, own_inner, own_node, IsHalf}
+use Rattle.border_hints.proofs.Depths.{depth_whole}
+use Rattle.tree_weaver.specs.Planned.{own_link, own_back, own_depth, own_leaf, own_inner, own_node, IsHalf}
 use Rattle.tree_geom.proofs.Spans.{page_pos, size_pos}
 
 pub double : (p h : ℕ) → p * 2 ^ (h + 1) ≡ 2 * (p * 2 ^ h)
@@ -160,6 +162,35 @@ pub answered : (b : BorderLinks) (t : NumberedUpdate) (range : Range) (answer : 
     → ((log : List Touch) (k : ℕ) → AreBorders log k b → answer ≡ newest_of b.page_size log k range) → answer ≡ newest_of t.snapshot.page_size (log_upto t) (t.version - 1) range
 answered b t range answer e are told = told (log_upto t) (t.version - 1) are ∙ ap (λ p. newest_of p (log_upto t) (t.version - 1) range) e
 
+-- the back of a leaf that doesn't cover its page
+pub answered_back : (t : NumberedUpdate) (page answer : ℕ) (range : Range) → range ≡ page_range t.snapshot.page_size page → covers t.snapshot.page_size t.at t.len t.size page ≡ false
+    → answer ≡ newest_of t.snapshot.page_size (log_upto t) (t.version - 1) range → answer ≡ own_back t page
+answered_back t page answer range here part is =
+    let newest : Range → ℕ = newest_of t.snapshot.page_size (log_upto t) (t.version - 1) in
+    is ∙ ap newest here ∙ sym (ap (λ b. if b then 0 else newest (page_range t.snapshot.page_size page)) part)
+
+-- how deep a leaf lies that covers its page
+pub covered_depth : MeetsIsTrue → TouchesTellCover → (t : NumberedUpdate) (page : ℕ) → IsNumbered t → touch_at (log_upto t) t.version ≡ own_touch t → (own_touch t).first ≤ page → page ≤ (own_touch t).last
+    → covers t.snapshot.page_size t.at t.len t.size page ≡ true → 0 ≡ own_depth t page
+covered_depth met tells t page is own from to whole =
+    let p : ℕ = t.snapshot.page_size in
+    let k : ℕ = t.version - 1 in
+    let e : k + 1 ≡ t.version = omega (arith, is.version) in
+    let pos : 1 ≤ p = page_pos p is.published.page_size in
+    let shut : leaves_open (own_touch t) page ≡ false = tells p t.at t.len t.size page pos is.some (omega (arith, is.size)) from to ∙ ap not whole in
+    depth_whole met p (log_upto t) (own_touch t) k page pos (ap (touch_at (log_upto t)) e ∙ own) from to shut ∙ ap (λ n. depth_of p (log_upto t) n page) e
+
+-- and another one, as the borders tell it
+pub answered_depth : (b : BorderLinks) (t : NumberedUpdate) (page answer : ℕ) → IsNumbered t → b.page_size ≡ t.snapshot.page_size → b.touch ≡ own_touch t → AreBorders (log_upto t) (t.version - 1) b
+    → touch_at (log_upto t) t.version ≡ own_touch t
+    → ((log : List Touch) (k : ℕ) → AreBorders log k b → touch_at log (k + 1) ≡ b.touch → answer ≡ depth_of b.page_size log (k + 1) page) → answer ≡ own_depth t page
+answered_depth b t page answer is size touch are own told =
+    let k : ℕ = t.version - 1 in
+    let e : k + 1 ≡ t.version = omega (arith, is.version) in
+    told (log_upto t) k are (ap (touch_at (log_upto t)) e ∙ own ∙ sym touch)
+    ∙ ap (λ p. depth_of p (log_upto t) (k + 1) page) size
+    ∙ ap (λ n. depth_of t.snapshot.page_size (log_upto t) n page) e
+
 -- ---- the code's ranges
 pub size_is : (bytes pow p size h : ℕ) → bytes ≡ size → size ≡ p → pow ≡ 2 ^ h → bytes * pow ≡ p * 2 ^ h
 size_is bytes pow p size h e f w = ap (λ b. b * pow) (e ∙ f) ∙ ap (λ n. p * n) w
@@ -177,6 +208,12 @@ edge_border t page range is edge =
       | inl first ↦ inr (inl (is ∙ ap (page_range t.snapshot.page_size) first))
       | inr last ↦ inr (inr (is ∙ ap (page_range t.snapshot.page_size) last))
     ]
+
+-- the page is an edge, as the borders tell it
+pub edge_page : (b : BorderLinks) (t : NumberedUpdate) (page : ℕ) → b.touch ≡ own_touch t → (page ≡ (own_touch t).first) ⊎ (page ≡ (own_touch t).last) → (page ≡ b.touch.first) ⊎ (page ≡ b.touch.last)
+edge_page b t page e is =
+    let P : Touch → Type 0 = λ u. (page ≡ u.first) ⊎ (page ≡ u.last) in
+    subst P (sym e) is
 
 -- the range of a node of the row, as the code tells it
 pub own_range : HeightsHold → SpanOfSome → RangesNest → (t : NumberedUpdate) (h q : ℕ) → IsNumbered t → h ≤ height_of t.snapshot.page_size t.size

@@ -7,6 +7,7 @@ use Rattle.tree_geom.specs.declared.node.Node.TheVariants.{Inner}
 use Rattle.tree_geom.specs.Geometry.{page_range, left_half, right_half, covers}
 use Rattle.range_log.specs.Log.{newest_of}
 use Rattle.range_log.specs.Extents.{Extent}
+use Rattle.range_log.specs.Depths.{depth_of}
 use Rattle.range_log.specs.Rows.{leaf_at}
 use Rattle.range_log.specs.Laws.{Before}
 use Rattle.border_hints.specs.Numbered.{NumberedUpdate, own_touch, log_upto}
@@ -26,9 +27,13 @@ own_back t i =
     if covers t.snapshot.page_size t.at t.len t.size i then 0
     else newest_of t.snapshot.page_size (log_upto t) (t.version - 1) (page_range t.snapshot.page_size i)
 
+-- how deep its leaf of page i lies: how many backs lead on from it, one after another
+abbrev pub own_depth : NumberedUpdate → ℕ → ℕ
+own_depth t i = depth_of t.snapshot.page_size (log_upto t) t.version i
+
 -- its leaf of page i
 abbrev pub own_leaf : NumberedUpdate → ℕ → Node
-own_leaf t i = leaf_at t.snapshot.page_size (own_extent t) i (own_back t i)
+own_leaf t i = leaf_at t.snapshot.page_size (own_extent t) i (own_back t i) (own_depth t i)
 
 -- its inner node for the range
 abbrev pub own_inner : NumberedUpdate → Range → Node

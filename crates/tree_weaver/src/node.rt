@@ -4,7 +4,7 @@ ghost use Rattle.tree_geom.specs.Geometry.{left_half, right_half, covers};
 ghost use Rattle.range_log.specs.Rows.{first_piece, second_piece, piece_count, leaf_start, leaf_from, leaf_len};
 ghost use Rattle.border_hints.specs.Numbered.{log_upto, own_touch};
 ghost use Rattle.border_hints.specs.Borders.{AreBorders, IsRowRange, IsBorder};
-ghost use Rattle.tree_weaver.specs.Planned.{own_extent, own_link, own_back, own_leaf, own_inner, IsHalf};
+ghost use Rattle.tree_weaver.specs.Planned.{own_extent, own_link, own_back, own_depth, own_leaf, own_inner, IsHalf};
 
 use border_hints::{Borders, Ticket};
 use tree_geom::laws::touches_tell_cover;
@@ -127,26 +127,31 @@ fn covers_page(ticket: &Ticket, page: u64) -> bool
     tree_geom::covers_page(p, ticket.at(), ticket.len(), ticket.size(), page)
 }
 
-// The newest lower version with a leaf of the page, or 0 where the update covers it. The update touches the page.
+// The newest lower version with a leaf of the page, and how deep the update's own leaf of it lies: how many backs lead on
+// from that. Both are 0 where the update covers the page. The update touches the page.
 #[tactic(auto, using(crate::proofs::Shapes::page_low, crate::proofs::Shapes::page_high))]
-fn back(ticket: &Ticket, borders: &Borders, page: u64) -> u64
+fn back(ticket: &Ticket, borders: &Borders, page: u64) -> (u64, u32)
     requires page_size { borders.now.page_size ≡ ticket.now.snapshot.page_size }
     requires touch { borders.now.touch ≡ own_touch ticket.now }
     requires borders { AreBorders (log_upto ticket.now) (ticket.now.version - 1) borders.now }
     requires first { (own_touch ticket.now).first ≤ page }
     requires last { page ≤ (own_touch ticket.now).last }
-    ensures { result ≡ own_back ticket.now page }
+    ensures back { result.0 ≡ own_back ticket.now page }
+    ensures depth { result.1 ≡ own_depth ticket.now page }
 {
-    let _version = ticket.version();
+    range_log::laws::logs_are_grown();
+    tree_geom::laws::meets_is_decided();
     touches_tell_cover();
+    let _version = ticket.version();
     if covers_page(ticket, page) {
-        return 0;
+        return (0, 0);
     }
     let size = ticket.hints().snapshot.page_size().bytes();
-    borders.of(Range {
+    let range = Range {
         offset: page * size,
         size,
-    })
+    };
+    (borders.of(range), borders.depth(page))
 }
 
 /// The leaf of the update for a page that it touches.
@@ -162,11 +167,13 @@ pub(crate) fn leaf(ticket: &Ticket, borders: &Borders, page: u64) -> Node
     let _pages = ticket.pages().count();
     let part = part(ticket, page);
     let (count, first, second) = pieces(ticket.hints().snapshot.page_size(), part.from, part.len);
+    let (back, depth) = back(ticket, borders, page);
     Node::Leaf {
         start: part.start as u32,
         count,
         first,
         second,
-        back: back(ticket, borders, page),
+        back,
+        depth,
     }
 }
