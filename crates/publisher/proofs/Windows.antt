@@ -1,6 +1,6 @@
 -- What a window is, by how it is kept.
 use Rattle.std.proofs.Common.{◌≡◌, ℕ, suc, ◌+◌, ◌-◌, ◌<◌, ◌≤◌, List, [], ◌∷◌, ◌++◌, length, take, drop, map, is_some, option_map, Option, None, Some, true, false, arith, refl, ap, sym, ◌∙◌, subst, get_or, set, length-append, length-drop, take-append-drop}
-use Rattle.std.proofs.lemmas.List.{append_assoc, append-nil, length-map, map-append, drop-map, get_or-map, get_or_append_left, set-append_right}
+use Rattle.std.proofs.lemmas.List.{append_assoc, append-nil, length-map, length-set, map-append, drop-map, get_or-map, get_or_append_left, set-append_right}
 use Rattle.std.proofs.Math.Seq.{drop-append_seam, get_or-append-add, set-append_seam, take-length}
 use Rattle.blob_model.specs.Content.{Update}
 use Rattle.tree_geom.specs.declared.touch.Touch.{Touch}
@@ -235,6 +235,20 @@ module _ (s : Version) (opens : List OpenTouch) where
       let count : length (present s.rows) ≡ length s.rows = length-map s.rows (λ (r : UpdateRow). Some r) in
       let at : version - 1 - length s.rows ≡ place = omega arith in
       ap made (ap (λ n. present s.rows ++ set above n (Some row)) (sym at) ∙ sym (set-append_right (present s.rows) above (length s.rows) (version - 1) (Some row) count (omega arith)))
+
+  -- the window stands with a row above the least missing one
+  pub keeps_set : (above : List (Option UpdateRow)) (room place : ℕ) (row : UpdateRow) → KeepsWindow s opens above room → 0 < place
+      → KeepsWindow s opens (set above place (Some row)) room
+  keeps_set above room place row kept some =
+      let same : length (set above place (Some row)) ≡ length above = length-set above place (Some row) in
+      record {
+        paired = same ∙ kept.paired;
+        few = omega (arith, kept.few);
+        reserved = kept.reserved;
+        versions = kept.versions;
+        least = leading_set above place (Some row) kept.least some;
+        counted = kept.counted;
+      }
 
   pub published_kept : (above : List (Option UpdateRow)) (version place : ℕ) (row : UpdateRow) → leading above ≡ [] → 0 < place → version ≡ length s.rows + place + 1
       → length s.rows ≡ published_of (with_finished (over s opens above) version row)

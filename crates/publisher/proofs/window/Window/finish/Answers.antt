@@ -5,7 +5,7 @@ use Rattle.range_log.specs.declared.open.OpenTouch.{OpenTouch}
 use Rattle.node_store.specs.Rows.{UpdateRow}
 use Rattle.publisher.specs.Windows.{Numbered, leading, published_of, is_finished, with_finished, IsRowIn}
 use Rattle.publisher.specs.Kept.{KeepsWindow, over, Ready}
-use Rattle.publisher.proofs.Windows.{log_count, finished_below, finished_read, over_kept, published_kept, tail_is, ready_moved, has_moved}
+use Rattle.publisher.proofs.Windows.{log_count, finished_below, finished_read, over_kept, keeps_set, published_kept, tail_is, ready_moved, has_moved}
 use Rattle.std.proofs.lemmas.List.{map-set}
 use Rattle.publisher.proofs.window.Window.finish.Goals as goal
 
@@ -36,6 +36,15 @@ returns-then-is_some-clause-already c =
     let read = finished_read w.snapshot w.waiting arc_value items version place c.index.result.now is within c.index.ensures in
     let done = subst F c.self.view_is (read ∙ sym c.is_some.ensures ∙ c.if-is_some.true) in
     (λ _. done, λ _. refl)
+
+pub invariant_of-self : goal.invariant_of-self
+invariant_of-self c =
+    let w = c.self.inside in
+    let items = w.above.items in
+    let place = c.args.version - c.version-published.result - 1 in
+    let K : List (Option UpdateRow) → Type 0 = λ l. KeepsWindow w.snapshot w.waiting l (vec_capacity w.above) in
+    subst K (sym (map-set (option_map arc_value) items place (Some c.args.row)))
+    (keeps_set w.snapshot w.waiting (map (option_map arc_value) items) (vec_capacity w.above) place (arc_value c.args.row) c.self.invariant c.if-place-gt0.true)
 
 pub returns-then-place-gt0-clause-finished : goal.returns-then-place-gt0-clause-finished
 returns-then-place-gt0-clause-finished c =
@@ -76,6 +85,20 @@ returns-then-place-gt0-clause-unfinished c =
     let items = w.above.items in
     let above = map (option_map arc_value) items in
     let row = arc_value c.args.row in
+    let version = c.args.version in
+    let place = version - c.version-published.result - 1 in
+    let log = sym (ap (λ (x : Numbered). length x.log) c.self.view_is) ∙ log_count w.snapshot w.waiting above in
+    let is : version ≡ length w.snapshot.rows + place + 1 = omega (arith, c.version-published.ensures.count, c.if-version-published.false) in
+    let within : place < length items = omega (arith, is, log, c.requires.numbered.1, c.self.invariant.paired, length-map items (option_map arc_value)) in
+    let F : Numbered → Type 0 = λ x. is_finished x version ≡ false in
+    let read = finished_read w.snapshot w.waiting arc_value items version place c.index.result.now is within c.index.ensures in
+    subst F c.self.view_is (read ∙ sym c.is_some.ensures ∙ c.if-is_some.false)
+
+pub returns-clause-unfinished : goal.returns-clause-unfinished
+returns-clause-unfinished c =
+    let w = c.self.inside in
+    let items = w.above.items in
+    let above = map (option_map arc_value) items in
     let version = c.args.version in
     let place = version - c.version-published.result - 1 in
     let log = sym (ap (λ (x : Numbered). length x.log) c.self.view_is) ∙ log_count w.snapshot w.waiting above in
