@@ -1,5 +1,5 @@
 -- Rows that are built by hand, in pages of four bytes.
-use Rattle.std.specs.Prelude.{◌≡◌, false, ℕ, ◌+◌, ◌*◌, ◌^◌, ◌≤◌, List, [], ◌∷◌, ◌++◌, length, All}
+use Rattle.std.specs.Prelude.{◌≡◌, false, ℕ, ◌+◌, ◌^◌, ◌≤◌, List, [], ◌∷◌, ◌++◌, length, All}
 use Rattle.boxcar.specs.Table.{Shelves}
 use Rattle.blob_model.specs.Content.{Update, size_of}
 use Rattle.blob_model.specs.declared.call.Place.TheVariants.{WriteAt}
