@@ -7,12 +7,13 @@ ghost use Rattle.page_store.specs.Stored.{joined};
 ghost use Rattle.publisher.specs.Windows.{opens_from};
 
 use crate::pages::store;
-use crate::plain::{Bytes, plain_row};
+use crate::plain::{Bytes, plain_bound, plain_row};
 use border_hints::{Hints, Ticket};
 use node_store::{NodeHouse, Row};
 use page_store::{PageHouse, Pages};
 use publisher::{FinishFault, Window};
 use range_log::{OpenCopy, OpenList, OpenTouch};
+use range_reader::stated;
 use snapshot::Snapshot;
 use std::alloc::Global;
 use std::marker::{Brand, Model};
@@ -220,6 +221,45 @@ impl Blob {
         let mut steps = Steps::<L>::open(blank);
         let planned = plan(alloc, ticket, &self.nodes, &mut steps)?;
         Ok((planned, steps.taken()))
+    }
+
+    /// The visit bound of a read of the version that was published for the ticket, as it is told before the read, and the node
+    /// steps that this took.
+    pub fn stated(&self, ticket: &Ticket, offset: u64, length: u64) -> Result<(u64, u64), Fail>
+        requires { IsTicketOf self.now ticket.now }
+    {
+        self.stated_counted::<Brand>(ticket, offset, length, Blank::new(1))
+    }
+
+    // The same, counted in the blank.
+    fn stated_counted<L: Ledger>(
+        &self,
+        ticket: &Ticket,
+        offset: u64,
+        length: u64,
+        blank: Blank,
+    ) -> Result<(u64, u64), Fail>
+        requires own { IsTicketOf self.now ticket.now }
+        requires name { blank.name ≡ L.name }
+        requires parts { blank.parts ≡ L.parts }
+        requires some { 0 < blank.parts }
+    {
+        let mut steps = Steps::<L>::open(blank);
+        let snapshot = &ticket.hints().snapshot;
+        match stated(snapshot, &self.nodes, offset, length, &mut steps) {
+            Ok(most) => Ok((most, steps.taken())),
+            Err(_) => Err("past the size".into()),
+        }
+    }
+
+    /// The visit bound of a read of a version, computed plainly from what all updates touch and write.
+    pub fn plain_bound(&self, version: u64, offset: u64, length: u64) -> Result<u64, Fail> {
+        if version == 0 || version > self.begun.len() as u64 {
+            return Err("no such version".into());
+        }
+        let p = self.window.snapshot().page_size();
+        let k = version as usize;
+        plain_bound(p, &self.touches, &self.begun, k, offset, length)
     }
 
     /// The row of a numbered update, made plainly from what all updates touch and write.

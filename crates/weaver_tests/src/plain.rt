@@ -6,7 +6,7 @@ use crate::blob::{Begun, MAX_SIZE};
 use range_log::{newest, row_keys};
 use std::alloc::Global;
 use std::test::Fail;
-use tree_geom::{Node, PageSize, Piece, Range, Touch, meets};
+use tree_geom::{Node, PageSize, Piece, Range, Touch, height, meets};
 
 /// The second piece of a leaf that has one.
 pub const NO_PIECE: Piece = Piece {
@@ -137,6 +137,42 @@ fn plain_node(
         left: newest(p, log, k, low),
         right: newest(p, log, k, high),
     })
+}
+
+/// The most nodes that a read of `length` bytes from byte `offset` on visits after the first `k` updates: two for each page
+/// that it meets and for each level of the tree, and how deep the newest leaf of each of the pages lies.
+pub fn plain_bound(
+    p: PageSize,
+    log: &[Touch],
+    begun: &[Begun],
+    k: usize,
+    offset: u64,
+    length: u64,
+) -> Result<u64, Fail>
+    requires some { 1 ≤ k }
+    requires within { k ≤ length log.now }
+    requires begun { k ≤ length begun.now }
+{
+    if length == 0 {
+        return Ok(0);
+    }
+    let size = log[k - 1].size;
+    if size > MAX_SIZE || offset >= size || length > size - offset {
+        return Err("past the size".into());
+    }
+    let mut bound = u64::from(height(p, size)).saturating_mul(2);
+    for page in offset / p.bytes()..(offset + length - 1) / p.bytes() + 1 {
+        let range = Range {
+            offset: page.saturating_mul(p.bytes()),
+            size: p.bytes(),
+        };
+        if range.offset > MAX_SIZE - range.size {
+            return Err("a page past the greatest size".into());
+        }
+        let depth = plain_depth(p, log, begun, k, range);
+        bound = bound.saturating_add(2).saturating_add(u64::from(depth));
+    }
+    Ok(bound)
 }
 
 /// The row of update `k`, by what the updates touch and where they begin.

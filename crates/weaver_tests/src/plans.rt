@@ -6,8 +6,8 @@ use std::sync::Wait;
 use std::test::Fail;
 use tree_geom::{Node, PageSize, Piece, Range};
 
-// A blob with updates that begin and have as many bytes as told, each finished before the next is numbered.
-fn written(rt: &impl Wait, alloc: Global, updates: &[(u64, usize)]) -> Result<Blob, Fail> {
+/// A blob with updates that begin and have as many bytes as told, each finished before the next is numbered.
+pub fn written(rt: &impl Wait, alloc: Global, updates: &[(u64, usize)]) -> Result<Blob, Fail> {
     let zeros = [0; 31];
     let mut blob = Blob::new(alloc, PageSize::new(4).ok_or("four bytes")?)?;
     for (at, len) in updates {

@@ -109,6 +109,23 @@ impl Walk {
         Ok(())
     }
 
+    // How many of some reads by chance of a version below the last have another bound told than the plain one, or took more
+    // node steps to tell it than the read itself may.
+    fn wrong_bounds(&mut self, alloc: Global, version: u64) -> Result<u64, Fail> {
+        let ticket = self.blob.ticket(alloc, version.saturating_add(1), version)?;
+        let size = ticket.hints().snapshot.size();
+        let mut wrong = 0u64;
+        for _read in 0..4u64 {
+            let offset = self.roll(size.saturating_add(1));
+            let length = self.roll(size.saturating_sub(offset).saturating_add(1));
+            let (told, steps) = self.blob.stated(&ticket, offset, length)?;
+            if told != self.blob.plain_bound(version, offset, length)? || steps > told {
+                wrong = wrong.saturating_add(1);
+            }
+        }
+        Ok(wrong)
+    }
+
     // Checks the plan of a version with each older one published.
     fn check_all(&mut self, alloc: Global, version: u64) -> Result<(), Fail> {
         for published in 0..version {
@@ -144,6 +161,29 @@ fn long_walk(rt: &impl Wait, alloc: Global, chance: u64) -> Result<(u64, u64), F
         walk.check_some(alloc, version)?;
     }
     Ok((walk.blob.window().published(), walk.wrong))
+}
+
+// The published version after a walk, and how many bounds of reads of the versions below it were told wrong.
+fn walk_of_reads(rt: &impl Wait, alloc: Global, chance: u64) -> Result<(u64, u64), Fail> {
+    let mut walk = Walk::new(alloc, chance)?;
+    walk.walk(rt, alloc, 60)?;
+    let mut wrong = 0u64;
+    for version in 1..60u64 {
+        wrong = wrong.saturating_add(walk.wrong_bounds(alloc, version)?);
+    }
+    Ok((walk.blob.window().published(), wrong))
+}
+
+#[test]
+fn bounds_told_after_random_updates_are_the_plain_sums(rt: HostRuntime) -> Result<(), Fail> {
+    for chance in 0..5u64 {
+        assert_eq!(rt;
+            walk_of_reads(&rt, rt.alloc(), chance)?,
+            (60, 0),
+            "walk {chance}"
+        );
+    }
+    Ok(())
 }
 
 #[test]

@@ -1,0 +1,41 @@
+//! Visit bounds of reads, told before the read, in pages of four bytes.
+use crate::plans::written;
+use std::alloc::Global;
+use std::sync::Wait;
+use std::test::Fail;
+
+// The bound that is told of a read of the version that these updates leave.
+fn told(
+    rt: &impl Wait,
+    alloc: Global,
+    updates: &[(u64, usize)],
+    offset: u64,
+    length: u64,
+) -> Result<u64, Fail> {
+    let mut blob = written(rt, alloc, updates)?;
+    let end = blob.size();
+    let next = blob.start(rt, alloc, end, b"z")?;
+    let ticket = blob.ticket(alloc, next, next.saturating_sub(1))?;
+    let (most, _) = blob.stated(&ticket, offset, length)?;
+    Ok(most)
+}
+
+#[test]
+fn partial_writes_raise_the_bound_of_later_reads(rt: HostRuntime) -> Result<(), Fail> {
+    let rows: [(&[(u64, usize)], u64, u64, u64); 6] = [
+        (&[(0, 6), (6, 2)], 4, 4, 5),
+        (&[(0, 1), (1, 31)], 0, 32, 23),
+        (&[(0, 4), (0, 1), (1, 1)], 0, 4, 4),
+        (&[(0, 6), (3, 2)], 0, 6, 8),
+        (&[(0, 4), (0, 1), (1, 1), (0, 4)], 0, 4, 2),
+        (&[(0, 6), (3, 2)], 6, 0, 0),
+    ];
+    for (updates, offset, length, want) in rows {
+        assert_eq!(rt;
+            told(&rt, rt.alloc(), updates, offset, length)?,
+            want,
+            "{length} bytes at {offset}"
+        );
+    }
+    Ok(())
+}
