@@ -1,8 +1,10 @@
-use Rattle.std.proofs.Common.{rules, ◌≡◌, ◌≢◌, ◌+◌, ◌≤◌, ◌++◌, ◌∷◌, [], length, get_or, arith, refl, sym, ◌∙◌}
-use Rattle.std.proofs.lemmas.Grind.{common_steps}
+use Rattle.std.proofs.Common.{rules, ◌≡◌, ◌≢◌, ◌+◌, ◌≤◌, ◌++◌, ◌∷◌, [], length, drop, take, get_or, arith, refl, sym, ◌∙◌}
 use Rattle.std.specs.VecDeque.{deque_capacity}
 use Rattle.page_fan.specs.declared.stand.Put.{Put}
+use Rattle.page_fan.specs.declared.stand.Reply.{Reply}
+use Rattle.page_fan.specs.Groups.{IsAnswer}
 use Rattle.page_fan.proofs.Group.{group_first, group_same, reply_next}
+use Rattle.page_fan.proofs.Replies.{replies_more}
 use Rattle.page_fan.proofs.stand.Stand.put_group.Goals as goal
 use Rattle.page_fan.proofs.stand.Stand.put_group.Goals.{then-put-place+else-is_err, else-put-place}
 
@@ -25,9 +27,18 @@ loop-put-preserved g c =
     elim c.if-put-place.branch [
       | then-put-place+else-is_err w ↦
           let own : (get_or puts i d).provider ≡ c.args.place + 1 = omega (arith, known.known.0, w.if-put-place.true) in
-          let pushed : w.push_back.new.self.items ≡ c.loop-put.self.tray.items ++ record { at = (get_or puts i d).at; answer = w.put-answer.result } ∷ [] = search rules in
+          let reply : Reply = record { at = (get_or puts i d).at; answer = w.put-answer.result } in
+          let pushed : w.push_back.new.self.items ≡ c.loop-put.self.tray.items ++ reply ∷ [] = search rules in
+          let content : w.page_bytes-bytes.result.now ≡ take c.args.p (drop reply.at c.args.buffer.now) = rw w.bytes.ensures.is at w.page_bytes-bytes.ensures.bytes in
+          let answer : IsAnswer c.args.houses.now (c.args.place + 1) (take c.args.p (drop reply.at c.args.buffer.now)) (g.D.Door.faults c.loop-put.self.door) (g.D.Door.faults w.put-answer.new.self.door) reply.answer =
+          rw (← own, ← content) record {
+            here = w.put-answer.ensures.here;
+            there = w.put-answer.ensures.there;
+            bytes = w.put-answer.ensures.bytes;
+            failed = w.put-answer.ensures.failed;
+          } in
           rw w.self-is record {
-            replies = grind (arith, common_steps);
+            replies = rw pushed (replies_more c.args.houses.now c.args.p c.args.buffer.now (c.args.place + 1) _ _ _ c.loop-put.self.tray.items reply w.put-answer.ensures.never_falls answer c.loop-put.invariant.replies);
             truth = search rules;
             group = reply_next (c.args.place + 1) puts i d c.loop-put.self.tray.items w.push_back.new.self.items _ c.loop-put-test.true own c.loop-put.invariant.group pushed refl;
             room = search rules;
