@@ -40,13 +40,13 @@ pub enum StoreFault {
 
 /// Stores the buffer as pages of `p` bytes, the last one of what is left, each at the providers of its placement.
 ///
-/// For a page to count as stored, one door of its placement that takes it is enough. Every page is put, at each provider
-/// of its placement, whatever became of the pages before it; only where memory is refused may some be left out.
+/// For a page to count as stored, one door of its placement that takes it is enough. Every page is put, at each
+/// provider of its placement, whatever became of the pages before it; only where memory is refused may some be left out.
 ///
 /// It may start threads, and has joined them when it answers: one for each provider's group of puts but one, which the
-/// calling thread has itself, as long as there are 64 KiB of the buffer for each of them. An update that is too small for
-/// that has fewer threads, or the calling thread alone. Where no thread can be made, the calling thread does that work
-/// too, with the same answer. It may wait for another thread's push into a house.
+/// calling thread has itself, as long as there are 64 KiB of the buffer for each of them. An update that is too small
+/// for that has fewer threads, or the calling thread alone. Where no thread can be made, the calling thread does that
+/// work too, with the same answer. It may wait for another thread's push into a house.
 pub fn store<D: BesideDoor, R: Threads + Wait + Sync>(
     rt: &R,
     alloc: Global,
