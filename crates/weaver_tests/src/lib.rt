@@ -12,6 +12,8 @@ mod plain;
 #[cfg(test)]
 mod plans;
 #[cfg(test)]
+mod rows;
+#[cfg(test)]
 mod walk;
 #[cfg(test)]
 mod window;
