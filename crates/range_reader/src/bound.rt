@@ -15,12 +15,12 @@ use tree_geom::{Range, Steps, halves, height};
 
 /// Tells the most nodes that a read of `length` bytes of the version from byte `offset` on visits.
 ///
-/// The number is exact: it is 2 for each page that the bytes meet, 2 for each level of the version's tree, and the depths of
-/// those pages' newest leaves. So it depends in part on how often the pages were changed in part since they were last written
-/// whole. For no bytes it is 0.
+/// The number is exact: it is 2 for each page that the bytes meet, 2 for each level of the version's tree, and the depths
+/// of those pages' newest leaves. So it depends in part on how often the pages were changed in part since they were last
+/// written whole. For no bytes it is 0.
 ///
-/// It visits each inner node above those pages once and the newest leaf of each, follows no back, and reads no stored page. It
-/// takes no lock and no memory. Its node steps are bounded by the clause `steps`; there are none for no bytes and for a
+/// It visits each inner node above those pages once and the newest leaf of each, follows no back, and reads no stored page.
+/// It takes no lock and no memory. Its node steps are bounded by the clause `steps`; there are none for no bytes and for a
 /// range past the size, which alone is refused.
 pub fn stated<L: Ledger>(
     snapshot: &Snapshot,
@@ -61,8 +61,8 @@ pub fn stated<L: Ledger>(
     Ok(2 * pages + 2 * levels + backs)
 }
 
-// The sum of the depths of the newest leaves of the pages that `count` bytes from byte `from` on meet. The bytes lie in the
-// range whose newest node is that of version `at`.
+// The sum of the depths of the newest leaves of the pages that `count` bytes from byte `from` on meet. The bytes lie in
+// the range whose newest node is that of version `at`.
 fn depths<L: Ledger>(
     snapshot: &Snapshot,
     nodes: &NodeHouse,
