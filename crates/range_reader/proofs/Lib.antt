@@ -14,3 +14,4 @@ pub mod Going
 pub mod Walking
 pub mod Rooted
 pub mod Blocks
+pub mod Stating

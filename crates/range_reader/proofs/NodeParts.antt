@@ -5,8 +5,9 @@ use Rattle.std.proofs.lemmas.Bool.Decides.{nat_tests}
 use Rattle.std.proofs.Math.Nat.{mul-div_cancel}
 use Rattle.tree_geom.specs.declared.node.Node.{Node}
 use Rattle.tree_geom.specs.Geometry.{page_range}
-use Rattle.tree_geom.specs.Nodes.{back_link, start_of, first_of, second_of}
-use Rattle.range_log.specs.Extents.{Extent, extent_at}
+use Rattle.tree_geom.specs.Nodes.{back_link, depth_in, start_of, first_of, second_of}
+use Rattle.range_log.specs.Extents.{Extent, extent_at, touches}
+use Rattle.range_log.specs.Depths.{depth_of}
 use Rattle.range_log.specs.Rows.{node_of, leaf_of, back_of, leaf_start, leaf_from, leaf_len, first_piece, second_piece, piece_count}
 use Rattle.range_reader.specs.Faults.{HasPieceIn}
 
@@ -21,11 +22,12 @@ pub record PartsAre (p j i : ℕ) (xs : List Extent) (n : Node) : Type 0 where
   pub one : first_of n ≡ first_piece p (leaf_from p (extent_at xs j) i) (leaf_len p (extent_at xs j) i)
   pub two : second_of n ≡ second_piece p (leaf_from p (extent_at xs j) i) (leaf_len p (extent_at xs j) i)
   pub leads : back_link n ≡ back_of p xs j i
+  pub deep : depth_in n ≡ depth_of p (touches p xs) j i
 
 pub leaf_parts : (p j i : ℕ) (xs : List Extent) (n : Node) → 1 ≤ p → n ≡ node_of p xs j (page_range p i) → PartsAre p j i xs n
 leaf_parts p j i xs n pos is =
     let e : n ≡ leaf_of p xs j i = is ∙ leaf_node p j i xs pos in
-    record { starts = ap start_of e; one = ap first_of e; two = ap second_of e; leads = ap back_link e }
+    record { starts = ap start_of e; one = ap first_of e; two = ap second_of e; leads = ap back_link e; deep = ap depth_in e }
 
 -- a leaf has a piece
 counts_one : (p b n : ℕ) → 1 ≤ piece_count p b n

@@ -21,7 +21,7 @@ some_rows us zero some = absurd (omega arith)
 some_rows us (suc v) some = omega arith
 
 module _ (stand : ExtentsStand) (s : Version) (is : IsVersion s) where
-  size_known : size_after (falls s) (length s.rows) ≡ size_now s
+  pub size_known : size_after (falls s) (length s.rows) ≡ size_now s
   size_known = (stand (updates_of s) is.replayable).2 (length s.rows) (omega (arith, length-updates s))
 
   root_is : root_of s.page_size (log_of s) (length s.rows) ≡ (root_key s).range

@@ -45,7 +45,7 @@ div_rises : (p x y : ℕ) → 1 ≤ p → x ≤ y → x / p ≤ y / p
 div_rises p x y pos le = le-div (x / p) y p pos (let d : x / p * p ≤ x = down x p in omega arith)
 
 -- ---- sizes of ranges
-double : (p h : ℕ) → p * 2 ^ suc h ≡ 2 * (p * 2 ^ h)
+pub double : (p h : ℕ) → p * 2 ^ suc h ≡ 2 * (p * 2 ^ h)
 double p h = rw (pow-succ' 2 h) (omega arith)
 
 at_least : (p h : ℕ) → p ≤ p * 2 ^ h

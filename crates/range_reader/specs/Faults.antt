@@ -6,6 +6,7 @@ use Rattle.tree_geom.specs.Nodes.{count_of, first_of, second_of}
 use Rattle.range_log.specs.Rows.{back_of, node_of}
 use Rattle.page_store.specs.Page.{Place}
 use Rattle.page_store.specs.Stored.{Stored}
+use Rattle.node_store.specs.Rows.{stored_of}
 use Rattle.page_fan.specs.Counts.{NoneFell, RoseAt}
 use Rattle.snapshot.specs.Versions.{Version, row_at, HasNodeFor}
 use Rattle.range_reader.specs.Reading.{falls, newest_in}
@@ -37,7 +38,7 @@ AllRose before now places = All (λ place. RoseAt before now place.provider) pla
 -- all doors of stored page q of update j failed
 pub record StoredFailed (s : Version) (before now : List ℕ) (j q : ℕ) : Type 0 where
   pub stored : Stored
-  pub is : slice_get (row_at s.rows j).pages.pages q ≡ Some stored
+  pub is : slice_get (stored_of (row_at s.rows j)) q ≡ Some stored
   pub failed : AllRose before now stored.places
 
 -- all doors of one stored page failed in which the leaf of page i of update j has a piece

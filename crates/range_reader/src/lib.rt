@@ -1,11 +1,12 @@
 //! Reads bytes of a published version: a walk by links that takes no lock and no memory, in a number of node steps that is
-//! bounded beforehand.
+//! bounded beforehand. `stated` tells that bound before the read.
 //!
 //! The walk begins at the version's root, visits once each inner node above a page of the range, and comes to the newest leaf
 //! of each such page. There it goes on along the backs for the bytes that the newer leaves lack. The bytes go straight into the caller's
 //! buffer.
 #![tactic(auto)]
 
+mod bound;
 mod marks;
 mod page;
 mod piece;
@@ -14,6 +15,7 @@ mod source;
 mod walk;
 mod whole;
 
+pub use bound::stated;
 pub use marks::ReadRoom;
 pub use node_store::NoMemory;
 pub use reader::{ReadFault, read};

@@ -110,7 +110,7 @@ fn fill_along<D: Door, L: Ledger>(
             return true;
         }
         at = parts.back;
-        parts = leaf(source, at, page, steps);
+        parts = leaf(source.snapshot, source.nodes, at, page, steps);
     }
 }
 
@@ -148,7 +148,7 @@ pub(crate) fn fill_page<D: Door, L: Ledger>(
     range_log::laws::leaves_fill();
     range_log::laws::page_bytes_stay();
     let _version = source.snapshot.version();
-    let parts = leaf(source, newest, page, steps);
+    let parts = leaf(source.snapshot, source.nodes, newest, page, steps);
     if parts.has_all(begin, out.len()) {
         return take_leaf(source, doors, newest, page, parts, begin, out);
     }

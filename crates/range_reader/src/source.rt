@@ -3,7 +3,7 @@ ghost use Rattle.std.specs.Prelude.{◌≡◌, ◌↔◌, ◌+◌, ◌*◌, ◌^
 ghost use Rattle.tree_geom.specs.Geometry.{left_half, right_half, page_range};
 ghost use Rattle.range_log.specs.Log.{newest_of};
 ghost use Rattle.range_log.specs.Rows.{node_of};
-ghost use Rattle.snapshot.specs.Versions.{HasNodeFor, IsVersionIn};
+ghost use Rattle.snapshot.specs.Versions.{HasNodeFor, NodesLieIn};
 ghost use Rattle.range_reader.specs.Reading.{falls, log_of, IsLeafOf};
 
 use node_store::{Node, NodeHouse, Piece, Range};
@@ -20,13 +20,15 @@ pub(crate) struct Source<'a> {
     pub houses: &'a Houses,
 }
 
-/// The parts of a leaf: the byte of its page at which its own bytes begin, their two pieces, and its back.
+/// The parts of a leaf: the byte of its page at which its own bytes begin, their two pieces, its back, and how many backs lead
+/// on from it.
 #[derive(Clone, Copy)]
 pub(crate) struct LeafParts {
     pub start: u32,
     pub first: Piece,
     pub second: Piece,
     pub back: u64,
+    pub depth: u32,
 }
 
 impl LeafParts {
@@ -42,64 +44,78 @@ impl LeafParts {
 }
 
 // The node that the row of update `j` has for the range.
-fn node<L: Ledger>(source: &Source, j: u64, range: Range, steps: &mut Steps<L>) -> Node
-    requires here { IsVersionIn source.now.nodes.now source.now.houses.now source.now.snapshot.now }
-    requires has { HasNodeFor source.now.snapshot.now j range }
-    ensures node { result ≡ node_of source.now.snapshot.now.page_size (falls source.now.snapshot.now) j range }
+fn node<L: Ledger>(
+    snapshot: &Snapshot,
+    nodes: &NodeHouse,
+    j: u64,
+    range: Range,
+    steps: &mut Steps<L>,
+) -> Node
+    requires here { NodesLieIn nodes.now snapshot.now }
+    requires has { HasNodeFor snapshot.now j range }
+    ensures node { result ≡ node_of snapshot.now.page_size (falls snapshot.now) j range }
     ensures step { steps.new ≡ steps.old + 1 }
 {
-    let snapshot = source.snapshot;
     match snapshot.find(j, range, steps) {
-        Some(node) => source.nodes.get(node),
+        Some(node) => nodes.get(node),
         None => unreachable!(),
     }
 }
 
 // The versions whose rows have the nodes of the halves of the range, by its node in the row of update `j`.
 pub(crate) fn links<L: Ledger>(
-    source: &Source,
+    snapshot: &Snapshot,
+    nodes: &NodeHouse,
     j: u64,
     range: Range,
     steps: &mut Steps<L>,
 ) -> (u64, u64)
-    requires here { IsVersionIn source.now.nodes.now source.now.houses.now source.now.snapshot.now }
-    requires has { HasNodeFor source.now.snapshot.now j range }
-    requires inner { source.now.snapshot.now.page_size < range.size }
-    ensures left { result.0 ≡ newest_of source.now.snapshot.now.page_size (log_of source.now.snapshot.now) j (left_half range) }
-    ensures right { result.1 ≡ newest_of source.now.snapshot.now.page_size (log_of source.now.snapshot.now) j (right_half range) }
+    requires here { NodesLieIn nodes.now snapshot.now }
+    requires has { HasNodeFor snapshot.now j range }
+    requires inner { snapshot.now.page_size < range.size }
+    ensures left { result.0 ≡ newest_of snapshot.now.page_size (log_of snapshot.now) j (left_half range) }
+    ensures right { result.1 ≡ newest_of snapshot.now.page_size (log_of snapshot.now) j (right_half range) }
     ensures step { steps.new ≡ steps.old + 1 }
 {
-    match node(source, j, range, steps) {
+    match node(snapshot, nodes, j, range, steps) {
         Node::Inner { left, right } => (left, right),
         Node::Leaf { .. } => unreachable!(),
     }
 }
 
 // The leaf of the page in the row of update `j`.
-pub(crate) fn leaf<L: Ledger>(source: &Source, j: u64, page: u64, steps: &mut Steps<L>) -> LeafParts
-    requires here { IsVersionIn source.now.nodes.now source.now.houses.now source.now.snapshot.now }
-    requires has { HasNodeFor source.now.snapshot.now j (page_range source.now.snapshot.now.page_size page) }
-    requires fits { page * source.now.snapshot.now.page_size ≤ 2 ^ 40 }
-    ensures leaf { IsLeafOf source.now.snapshot.now j page result }
+pub(crate) fn leaf<L: Ledger>(
+    snapshot: &Snapshot,
+    nodes: &NodeHouse,
+    j: u64,
+    page: u64,
+    steps: &mut Steps<L>,
+) -> LeafParts
+    requires here { NodesLieIn nodes.now snapshot.now }
+    requires has { HasNodeFor snapshot.now j (page_range snapshot.now.page_size page) }
+    requires fits { page * snapshot.now.page_size ≤ 2 ^ 40 }
+    ensures leaf { IsLeafOf snapshot.now j page result }
     ensures step { steps.new ≡ steps.old + 1 }
 {
-    let size = source.snapshot.page_size().bytes();
+    let size = snapshot.page_size().bytes();
     let range = Range {
         offset: page * size,
         size,
     };
-    match node(source, j, range, steps) {
+    match node(snapshot, nodes, j, range, steps) {
         Node::Leaf {
             start,
             count: _,
             first,
             second,
             back,
+            depth,
         } => LeafParts {
             start,
             first,
             second,
             back,
+            depth,
         },
         Node::Inner { .. } => unreachable!(),
     }

@@ -61,7 +61,7 @@ pub(crate) fn walk<D: Door, L: Ledger>(
             false => Err(page),
         };
     }
-    let (left, right) = links(source, at, range, steps);
+    let (left, right) = links(source.snapshot, source.nodes, at, range, steps);
     let (low, high) = halves(range);
     let end = from + out.len() as u64;
     if end <= high.offset {

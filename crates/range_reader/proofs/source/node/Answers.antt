@@ -2,9 +2,9 @@ use Rattle.range_reader.proofs.Among.{in_rows, node_in}
 use Rattle.range_reader.proofs.source.node.Goals as goal
 
 pub find-requires : goal.find-requires
-find-requires g c = in_rows c.args.source.now.snapshot.now c.args.j c.args.range c.requires.has
+find-requires g c = in_rows c.args.snapshot.now c.args.j c.args.range c.requires.has
 
 pub get-requires : goal.get-requires
 get-requires g c =
-    node_in c.args.source.now.nodes.now c.args.source.now.houses.now c.args.source.now.snapshot.now c.args.j c.args.range c.in-Some.node.now
+    node_in c.args.nodes.now c.args.snapshot.now c.args.j c.args.range c.in-Some.node.now
     c.requires.here c.requires.has c.in-Some.ensures.found.among
