@@ -12,7 +12,7 @@ mod plain;
 #[cfg(test)]
 mod plans;
 #[cfg(test)]
-mod rows;
+mod row_list;
 #[cfg(test)]
 mod walk;
 #[cfg(test)]
