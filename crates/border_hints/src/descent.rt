@@ -169,8 +169,8 @@ fn descend<L: Ledger>(ticket: &Ticket, nodes: &NodeHouse, page: u64, steps: &mut
 /// The newest lower versions over the borders of the row of the ticket's update, and how deep the newest lower leaves of its
 /// first and its last page lie.
 ///
-/// It goes down the snapshot's tree to a leaf once for each edge, and takes at most `4 h + 4` node steps, `h` the height of
-/// the tree after the update. It takes no memory, no lock, and waits for nobody.
+/// It goes down the snapshot's tree to a leaf once for each edge, and once where both are one page. It takes at most
+/// `4 h + 4` node steps, `h` the height of the tree after the update. It takes no memory, no lock, and waits for nobody.
 #[tactic(auto, using(crate::proofs::Turning::first_inside, crate::proofs::Turning::last_inside, crate::proofs::Turning::pages_ordered))]
 pub fn borders<L: Ledger>(ticket: &Ticket, nodes: &NodeHouse, steps: &mut Steps<L>) -> Borders
     requires here { NodesLieIn nodes.now ticket.now.snapshot }
@@ -183,10 +183,16 @@ pub fn borders<L: Ledger>(ticket: &Ticket, nodes: &NodeHouse, steps: &mut Steps<
     let page_size = ticket.hints().snapshot.page_size();
     let _root = span(page_size, ticket.size());
     let touch = ticket.touch();
+    let first = descend(ticket, nodes, touch.first, steps);
+    let last = if touch.last == touch.first {
+        first
+    } else {
+        descend(ticket, nodes, touch.last, steps)
+    };
     Borders {
         page_size,
         touch,
-        first: descend(ticket, nodes, touch.first, steps),
-        last: descend(ticket, nodes, touch.last, steps),
+        first,
+        last,
     }
 }
