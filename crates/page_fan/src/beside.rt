@@ -1,5 +1,5 @@
 // The groups of several doors run beside each other.
-ghost use Rattle.std.specs.Prelude.{All, length};
+ghost use Rattle.std.specs.Prelude.{◌≤◌, All, length};
 ghost use Rattle.page_fan.specs.Groups.{CanBePut};
 ghost use Rattle.page_fan.specs.Stands.{EachReplied, EachHasReplies, TruthStays};
 
@@ -10,13 +10,16 @@ use std::thread;
 use std::thread::Threads;
 use tree_geom::PageSize;
 
-// So many bytes of an update are worth a thread of their own. To start and to join one takes about as long as to copy
-// them into fresh memory, so a smaller group is done sooner in the thread that has it.
+// To start and to join a thread takes longer than to copy an update's pages into memory, and every thread wants memory of
+// its own, so no update is large enough for doors that put into memory.
+const NEVER: usize = usize::MAX;
+
+// A door to another machine or to a disk waits, and so may one that fails by a list, which stands for one in tests.
 const BYTES_A_THREAD: usize = 65_536;
 
-/// A door whose type runs the groups of its own kind in threads. Each type of door says so by one line, a call of
-/// `put_all_groups`: there the type is known, so that its puts are proved in every thread. What stands above and is
-/// generic over doors calls `put_groups` and sends nothing itself.
+/// A door whose type says how the groups of its own kind are run: by one line, a call of `put_all_groups`. There the type
+/// is known, so that its puts are proved in every thread. What stands above and is generic over doors calls `put_groups`
+/// and sends nothing itself.
 ///
 /// It has no supertrait `Send`, since with one each call under a bound `BesideDoor` would count as sending. And it
 /// isn't one trait with `Door`, since `put_all_groups` would then lead back to the very `impl` that calls it.
@@ -44,8 +47,10 @@ pub trait BesideDoor: Door {
         ensures each { EachHasReplies puts.now stands.old stands.new };
 }
 
-/// Each stand puts the pages of its own provider, as `put_groups` says. A thread has about so many bytes of the buffer
-/// as are worth it, and where no more than one is, or none can be made, the calling thread does it all.
+/// Each stand puts the pages of its own provider, as `put_groups` says, in as many threads as there are `worth` bytes in
+/// the buffer, and no more than there are stands. Where that is one, or none can be made, the calling thread does it all.
+///
+/// `worth` is how many bytes of an update are worth a thread to this kind of door, and at least 1.
 pub fn put_all_groups<D: Door + Send, R: Threads + Wait + Sync>(
     rt: &R,
     stands: &mut [Stand<D>],
@@ -53,13 +58,15 @@ pub fn put_all_groups<D: Door + Send, R: Threads + Wait + Sync>(
     p: PageSize,
     buffer: &[u8],
     puts: &[Put],
+    worth: usize,
 )
     requires puts { All (CanBePut (length houses.now) buffer.now) puts.now }
+    requires worth { 1 ≤ worth }
     ensures truth_stays { TruthStays D.is_true stands.old stands.new }
     ensures replies { EachReplied houses.now p buffer.now D.faults stands.old stands.new }
     ensures each { EachHasReplies puts.now stands.old stands.new }
 {
-    let threads = (buffer.len() / BYTES_A_THREAD).min(stands.len()).max(1);
+    let threads = (buffer.len() / worth).min(stands.len()).max(1);
     thread::for_each_mut(
         rt,
         stands,
@@ -77,7 +84,7 @@ impl BesideDoor for PlainDoor {
         buffer: &[u8],
         puts: &[Put],
     ) {
-        put_all_groups(rt, stands, houses, p, buffer, puts);
+        put_all_groups(rt, stands, houses, p, buffer, puts, NEVER);
     }
 }
 
@@ -90,6 +97,6 @@ impl BesideDoor for FlakyDoor {
         buffer: &[u8],
         puts: &[Put],
     ) {
-        put_all_groups(rt, stands, houses, p, buffer, puts);
+        put_all_groups(rt, stands, houses, p, buffer, puts, BYTES_A_THREAD);
     }
 }

@@ -44,9 +44,10 @@ pub enum StoreFault {
 /// provider of its placement, whatever became of the pages before it; only where memory is refused may some be left out.
 ///
 /// It may start threads, and has joined them when it answers: one for each provider's group of puts but one, which the
-/// calling thread has itself, as long as there are 64 KiB of the buffer for each of them. An update that is too small
-/// for that has fewer threads, or the calling thread alone. Where no thread can be made, the calling thread does that
-/// work too, with the same answer. It may wait for another thread's push into a house.
+/// calling thread has itself, as long as the buffer has so many bytes for each of them as are worth a thread to that kind
+/// of door. An update that is too small for that has fewer threads, or the calling thread alone, as every update has whose
+/// doors put into memory. Where no thread can be made, the calling thread does that work too, with the same answer. It may
+/// wait for another thread's push into a house.
 pub fn store<D: BesideDoor, R: Threads + Wait + Sync>(
     rt: &R,
     alloc: Global,

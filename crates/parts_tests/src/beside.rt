@@ -55,7 +55,7 @@ impl<'a> BesideDoor for MeetingDoor<'a> {
         buffer: &[u8],
         puts: &[Put],
     ) {
-        put_all_groups(rt, stands, houses, p, buffer, puts);
+        put_all_groups(rt, stands, houses, p, buffer, puts, 65_536);
     }
 }
 
