@@ -225,10 +225,10 @@ impl Blob {
 
     /// The visit bound of a read of the version that was published for the ticket, as it is told before the read, and the node
     /// steps that this took.
-    pub fn stated(&self, ticket: &Ticket, offset: u64, length: u64) -> Result<(u64, u64), Fail>
+    pub fn stated(&self, ticket: &Ticket, offset: u64, count: u64) -> Result<(u64, u64), Fail>
         requires { IsTicketOf self.now ticket.now }
     {
-        self.stated_counted::<Brand>(ticket, offset, length, Blank::new(1))
+        self.stated_counted::<Brand>(ticket, offset, count, Blank::new(1))
     }
 
     // The same, counted in the blank.
@@ -236,7 +236,7 @@ impl Blob {
         &self,
         ticket: &Ticket,
         offset: u64,
-        length: u64,
+        count: u64,
         blank: Blank,
     ) -> Result<(u64, u64), Fail>
         requires own { IsTicketOf self.now ticket.now }
@@ -246,20 +246,20 @@ impl Blob {
     {
         let mut steps = Steps::<L>::open(blank);
         let snapshot = &ticket.hints().snapshot;
-        match stated(snapshot, &self.nodes, offset, length, &mut steps) {
+        match stated(snapshot, &self.nodes, offset, count, &mut steps) {
             Ok(most) => Ok((most, steps.taken())),
             Err(_) => Err("past the size".into()),
         }
     }
 
     /// The visit bound of a read of a version, computed plainly from what all updates touch and write.
-    pub fn plain_bound(&self, version: u64, offset: u64, length: u64) -> Result<u64, Fail> {
+    pub fn plain_bound(&self, version: u64, offset: u64, count: u64) -> Result<u64, Fail> {
         if version == 0 || version > self.begun.len() as u64 {
             return Err("no such version".into());
         }
         let p = self.window.snapshot().page_size();
         let k = version as usize;
-        plain_bound(p, &self.touches, &self.begun, k, offset, length)
+        plain_bound(p, &self.touches, &self.begun, k, offset, count)
     }
 
     /// The row of a numbered update, made plainly from what all updates touch and write.

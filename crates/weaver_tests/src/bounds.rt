@@ -10,13 +10,13 @@ fn told(
     alloc: Global,
     updates: &[(u64, usize)],
     offset: u64,
-    length: u64,
+    count: u64,
 ) -> Result<u64, Fail> {
     let mut blob = written(rt, alloc, updates)?;
     let end = blob.size();
     let next = blob.start(rt, alloc, end, b"z")?;
     let ticket = blob.ticket(alloc, next, next.saturating_sub(1))?;
-    let (most, _) = blob.stated(&ticket, offset, length)?;
+    let (most, _) = blob.stated(&ticket, offset, count)?;
     Ok(most)
 }
 

@@ -139,7 +139,7 @@ fn plain_node(
     })
 }
 
-/// The most nodes that a read of `length` bytes from byte `offset` on visits after the first `k` updates: two for each page
+/// The most nodes that a read of `count` bytes from byte `offset` on visits after the first `k` updates: two for each page
 /// that it meets and for each level of the tree, and how deep the newest leaf of each of the pages lies.
 pub fn plain_bound(
     p: PageSize,
@@ -147,21 +147,21 @@ pub fn plain_bound(
     begun: &[Begun],
     k: usize,
     offset: u64,
-    length: u64,
+    count: u64,
 ) -> Result<u64, Fail>
     requires some { 1 ≤ k }
     requires within { k ≤ length log.now }
     requires begun { k ≤ length begun.now }
 {
-    if length == 0 {
+    if count == 0 {
         return Ok(0);
     }
     let size = log[k - 1].size;
-    if size > MAX_SIZE || offset >= size || length > size - offset {
+    if size > MAX_SIZE || offset >= size || count > size - offset {
         return Err("past the size".into());
     }
     let mut bound = u64::from(height(p, size)).saturating_mul(2);
-    for page in offset / p.bytes()..(offset + length - 1) / p.bytes() + 1 {
+    for page in offset / p.bytes()..(offset + count - 1) / p.bytes() + 1 {
         let range = Range {
             offset: page.saturating_mul(p.bytes()),
             size: p.bytes(),
