@@ -27,6 +27,26 @@ fn is_plain(alloc: Global, blob: &Blob, version: u64, published: u64) -> Result<
     Ok(planned.nodes() == plain.as_slice())
 }
 
+// The size of a version below the last.
+fn size_of(alloc: Global, blob: &Blob, version: u64) -> Result<u64, Fail> {
+    let ticket = blob.ticket(alloc, version.saturating_add(1), version)?;
+    Ok(ticket.hints().snapshot.size())
+}
+
+// Whether the bound that is told of a read of a version below the last is the plain one, and took no more node steps to tell
+// than the read itself may.
+fn is_told(
+    alloc: Global,
+    blob: &Blob,
+    version: u64,
+    offset: u64,
+    count: u64,
+) -> Result<bool, Fail> {
+    let ticket = blob.ticket(alloc, version.saturating_add(1), version)?;
+    let (told, steps) = blob.stated(&ticket, offset, count)?;
+    Ok(told == blob.plain_bound(version, offset, count)? && steps <= told)
+}
+
 impl Walk {
     // A walk before its first step.
     fn new(alloc: Global, chance: u64) -> Result<Walk, Fail> {
@@ -109,17 +129,14 @@ impl Walk {
         Ok(())
     }
 
-    // How many of some reads by chance of a version below the last have another bound told than the plain one, or took more
-    // node steps to tell it than the read itself may.
+    // How many of some reads by chance of a version below the last have a bound told that `is_told` refuses.
     fn wrong_bounds(&mut self, alloc: Global, version: u64) -> Result<u64, Fail> {
-        let ticket = self.blob.ticket(alloc, version.saturating_add(1), version)?;
-        let size = ticket.hints().snapshot.size();
+        let size = size_of(alloc, &self.blob, version)?;
         let mut wrong = 0u64;
         for _read in 0..4u64 {
             let offset = self.roll(size.saturating_add(1));
-            let length = self.roll(size.saturating_sub(offset).saturating_add(1));
-            let (told, steps) = self.blob.stated(&ticket, offset, length)?;
-            if told != self.blob.plain_bound(version, offset, length)? || steps > told {
+            let count = self.roll(size.saturating_sub(offset).saturating_add(1));
+            if !is_told(alloc, &self.blob, version, offset, count)? {
                 wrong = wrong.saturating_add(1);
             }
         }
