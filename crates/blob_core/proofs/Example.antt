@@ -34,7 +34,7 @@ abbrev pub key : ℕ → ℕ → ℕ → ℕ → NodeKey
 key blob version offset size = record { blob = blob; version = version; range = range_at offset size }
 
 abbrev pub one_piece : ℕ → ℕ → ℕ → Node
-one_piece start len back = Leaf start 1 (record { page = 0; from = 0; len = len }) no_piece back 0
+one_piece start len back = Leaf start 1 (record { page = 0; from = 0; len = len }) no_piece 0 back
 
 -- what is published of a blob, in a list
 abbrev pub published_of : Option Blob → List ℕ

@@ -48,9 +48,9 @@ same_way : (d : ℕ) (n : Node) (way : Way) → version_on (with_depth d n) way 
 same_way d (Inner left right) to_left = refl
 same_way d (Inner left right) to_right = refl
 same_way d (Inner left right) to_back = refl
-same_way d (Leaf start count first second back depth) to_left = refl
-same_way d (Leaf start count first second back depth) to_right = refl
-same_way d (Leaf start count first second back depth) to_back = refl
+same_way d (Leaf start count first second depth back) to_left = refl
+same_way d (Leaf start count first second depth back) to_right = refl
+same_way d (Leaf start count first second depth back) to_back = refl
 
 row_leads : (c : Cited) (p : ℕ) (us : List Update) (j : ℕ) (r : Range) (way : Way) → 1 ≤ p → Replayable us → HasNode p (log_of p us) j r
     → 1 ≤ version_on (node_of p (extents us) j r) way → HasNode p (log_of p us) (version_on (node_of p (extents us) j r) way) (range_on r way)

@@ -24,10 +24,10 @@ abbrev piece : ℕ → ℕ → ℕ → Piece
 piece page from n = record { page = page; from = from; len = n }
 
 abbrev one_piece : ℕ → Piece → ℕ → ℕ → Node
-one_piece start first back depth = Leaf start 1 first no_piece back depth
+one_piece start first back depth = Leaf start 1 first no_piece depth back
 
 abbrev two_pieces : ℕ → Piece → Piece → ℕ → ℕ → Node
-two_pieces start first second back depth = Leaf start 2 first second back depth
+two_pieces start first second back depth = Leaf start 2 first second depth back
 
 -- 6 bytes, and then 2 bytes at 3
 abbrev joined : List Extent

@@ -71,7 +71,7 @@ piece_count p b n = if nat_lt (p - b % p) n then 2 else 1
 abbrev pub leaf_at : ℕ → Extent → ℕ → ℕ → ℕ → Node
 leaf_at p x i back depth =
     Leaf (leaf_start p x i) (piece_count p (leaf_from p x i) (leaf_len p x i)) (first_piece p (leaf_from p x i) (leaf_len p x i))
-    (second_piece p (leaf_from p x i) (leaf_len p x i)) back depth
+    (second_piece p (leaf_from p x i) (leaf_len p x i)) depth back
 
 -- the leaf of page i in the row of version k
 abbrev pub leaf_of : ℕ → List Extent → ℕ → ℕ → Node

@@ -50,7 +50,7 @@ abbrev pub at_range : ℕ → ℕ → Range
 at_range o s = record { offset = o; size = s }
 
 abbrev pub one_piece : ℕ → ℕ → ℕ → ℕ → ℕ → ℕ → Node
-one_piece start page from len back depth = Leaf start 1 record { page = page; from = from; len = len } no_piece back depth
+one_piece start page from len back depth = Leaf start 1 record { page = page; from = from; len = len } no_piece depth back
 
 abbrev pub abcdef : List ℕ
 abcdef = 97 ∷ 98 ∷ 99 ∷ 100 ∷ 101 ∷ 102 ∷ []

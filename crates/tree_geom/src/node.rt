@@ -35,9 +35,9 @@ pub enum Node {
         count: u32,
         first: Piece,
         second: Piece,
-        /// The newest older version with a leaf of this page, or 0 where the pieces are all valid bytes of the page.
-        back: u64,
         /// How many backs lead on from this leaf, one after another, to a leaf without a back.
         depth: u32,
+        /// The newest older version with a leaf of this page, or 0 where the pieces are all valid bytes of the page.
+        back: u64,
     },
 }

@@ -87,7 +87,7 @@ returns t c =
       | then-back-eq0 x ↦ absurd (omega arith)
       | else-back-eq0+in_ok-older x ↦ ap (λ (v : Vec ℕ Global). v.items) x.older-is ∙ x.in_ok-older.ensures
     ] in
-    let is = leaf_on c.args.most c.args.p w c.args.blob c.args.version c.args.page (Leaf c.in-Leaf.start c.in-Leaf.count c.in-Leaf.first c.in-Leaf.second c.in-Leaf.back c.in-Leaf.depth) kept older c.add_piece-2.new.bytes.items (omega arith) refl
+    let is = leaf_on c.args.most c.args.p w c.args.blob c.args.version c.args.page (Leaf c.in-Leaf.start c.in-Leaf.count c.in-Leaf.first c.in-Leaf.second c.in-Leaf.depth c.in-Leaf.back) kept older c.add_piece-2.new.bytes.items (omega arith) refl
     (at ∙ sym c.in-Some.ensures ∙ ap some c.in-Leaf.is) (there ∙ c.in-Some-find_kept.ensures) none on own_is in
     let Q : List ℕ → Type 0 = λ x. IfOk c.put_over.result (λ bytes. bytes.items ≡ x) in
     subst Q
