@@ -11,14 +11,9 @@ use Rattle.tree_geom.specs.Laws.{HeightsHold, SpanOfSome, PagesAlign, RangesNest
 use Rattle.range_log.specs.Log.{newest_of, touch_at, size_at, HasNode}
 use Rattle.range_log.specs.Laws.{Grown, LinksAgree, NewestOfNone, NewestHits, NewestHasNode, NewestIsNone, SizesAre, LogsAreGrown, ExtentsStand}
 use Rattle.range_log.specs.Updates.{extents}
-use Rattle.snapshot.specs.Versions.{Version, written, updates_of, size_now, IsVersion, IsFound, no_row, row_at}
+use Rattle.snapshot.specs.Versions.{Version, written, updates_of, size_now, IsVersion}
 use Rattle.range_log.proofs.Bytes.{length-extents}
 use Rattle.border_hints.specs.Numbered.{log_of}
-use Rattle.boxcar.specs.Table.{Shelves}
-use Rattle.node_store.specs.House.{IsIn}
-use Rattle.node_store.specs.Placed.{PlacedNode}
-use Rattle.std.proofs.lemmas.List.Elements.{All-contains}
-use Rattle.snapshot.specs.Versions.{NodesLieIn}
 use Rattle.tree_geom.proofs.Spans.{size_pos}
 
 -- ---- the snapshot's log
@@ -171,11 +166,6 @@ size_small p h page le =
     let e : 2 ^ h ≤ 2 ^ 38 = pow-le-pow_right two le in
     let f : p * 2 ^ h ≤ 1048576 * 2 ^ 38 = mul-le p (2 ^ h) 1048576 (2 ^ 38) page e in
     omega arith
-
--- ---- a snapshot's nodes
-pub placed_here : (nodes : List Shelves) (s : Version) (j : ℕ) (range : Range) (placed : PlacedNode) → NodesLieIn nodes s → 1 ≤ j → j ≤ length s.rows → IsFound s j range placed → IsIn nodes placed
-placed_here nodes s zero range placed here some le found = absurd (omega arith)
-placed_here nodes s (suc k) range placed here some le found = All-contains (IsIn nodes) (row_at s.rows (suc k)).nodes placed (here k no_row le) found.among
 
 -- a tree over no bytes has the height 0
 pub height_none : (p n : ℕ) → n ≡ 0 → 0 ≡ height_of p n

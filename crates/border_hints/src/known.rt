@@ -3,36 +3,17 @@ ghost use Rattle.std.specs.Prelude.{◌≡◌, ◌+◌, ◌*◌, ◌^◌, ◌<�
 ghost use Rattle.tree_geom.specs.Geometry.{tree_range, page_range, height_of, left_half, right_half};
 ghost use Rattle.range_log.specs.Log.{newest_of};
 ghost use Rattle.range_log.specs.Depths.{depth_of};
-ghost use Rattle.snapshot.specs.Versions.{size_now, HasNodeFor, NodesLieIn};
+ghost use Rattle.snapshot.specs.Versions.{size_now, HasNodeFor};
 ghost use Rattle.border_hints.specs.Numbered.{log_of};
 ghost use Rattle.border_hints.specs.Borders.{newest_known};
 
-use node_store::{Node, NodeHouse, Range};
+use node_store::{Node, Range};
 use snapshot::Snapshot;
 use std::sync::ledger::Ledger;
-use tree_geom::{PageSize, Steps};
-
-/// The bytes of the page.
-pub(crate) fn range_of_page(p: PageSize, page: u64) -> Range
-    requires { page * p ≤ 2 ^ 40 }
-    ensures { result ≡ page_range p page }
-{
-    let size = p.bytes();
-    Range {
-        offset: page * size,
-        size,
-    }
-}
+use tree_geom::{Steps, range_of_page};
 
 // How many backs lead on from the leaf of the page in the row of update `j`, one after another.
-fn leaf_depth<L: Ledger>(
-    snapshot: &Snapshot,
-    nodes: &NodeHouse,
-    j: u64,
-    page: u64,
-    steps: &mut Steps<L>,
-) -> u32
-    requires here { NodesLieIn nodes.now snapshot.now }
+fn leaf_depth<L: Ledger>(snapshot: &Snapshot, j: u64, page: u64, steps: &mut Steps<L>) -> u32
     requires has { HasNodeFor snapshot.now j (page_range snapshot.now.page_size page) }
     requires fits { page * snapshot.now.page_size ≤ 2 ^ 40 }
     ensures depth { result ≡ depth_of snapshot.now.page_size (log_of snapshot.now) j page }
@@ -44,7 +25,7 @@ fn leaf_depth<L: Ledger>(
     let Some(node) = snapshot.find(j, range, steps) else {
         unreachable!()
     };
-    match nodes.get(node) {
+    match *node {
         Node::Leaf { depth, .. } => depth,
         Node::Inner { .. } => unreachable!(),
     }
@@ -54,12 +35,10 @@ fn leaf_depth<L: Ledger>(
 /// it may be a leaf of the blob that the branch was made from, and the count goes on from there.
 pub(crate) fn depth_known<L: Ledger>(
     snapshot: &Snapshot,
-    nodes: &NodeHouse,
     at: u64,
     page: u64,
     steps: &mut Steps<L>,
 ) -> u32
-    requires here { NodesLieIn nodes.now snapshot.now }
     requires at { at ≡ newest_known snapshot.now (page_range snapshot.now.page_size page) }
     requires fits { page * snapshot.now.page_size ≤ 2 ^ 40 }
     ensures depth { result ≡ depth_of snapshot.now.page_size (log_of snapshot.now) (length snapshot.now.rows) page }
@@ -74,18 +53,11 @@ pub(crate) fn depth_known<L: Ledger>(
     if at == 0 {
         return 0;
     }
-    leaf_depth(snapshot, nodes, at, page, steps)
+    leaf_depth(snapshot, at, page, steps)
 }
 
 // The versions whose rows have the nodes of the halves of the range, by its node in the row of update `j`.
-fn links<L: Ledger>(
-    snapshot: &Snapshot,
-    nodes: &NodeHouse,
-    j: u64,
-    range: Range,
-    steps: &mut Steps<L>,
-) -> (u64, u64)
-    requires here { NodesLieIn nodes.now snapshot.now }
+fn links<L: Ledger>(snapshot: &Snapshot, j: u64, range: Range, steps: &mut Steps<L>) -> (u64, u64)
     requires has { HasNodeFor snapshot.now j range }
     requires inner { snapshot.now.page_size < range.size }
     ensures left { result.0 ≡ newest_of snapshot.now.page_size (log_of snapshot.now) j (left_half range) }
@@ -96,7 +68,7 @@ fn links<L: Ledger>(
     let Some(node) = snapshot.find(j, range, steps) else {
         unreachable!()
     };
-    match nodes.get(node) {
+    match *node {
         Node::Inner { left, right } => (left, right),
         Node::Leaf { .. } => unreachable!(),
     }
@@ -109,14 +81,12 @@ fn links<L: Ledger>(
 #[tactic(auto, using(crate::proofs::Published::power_small, crate::proofs::Published::size_small))]
 pub(crate) fn halves_known<L: Ledger>(
     snapshot: &Snapshot,
-    nodes: &NodeHouse,
     at: u64,
     tall: u32,
     level: u32,
     q: u64,
     steps: &mut Steps<L>,
 ) -> (u64, u64)
-    requires here { NodesLieIn nodes.now snapshot.now }
     requires tall { tall ≡ height_of snapshot.now.page_size (size_now snapshot.now) }
     requires level { level < 38 }
     requires at { at ≡ newest_known snapshot.now (tree_range snapshot.now.page_size (level + 1) q) }
@@ -143,5 +113,5 @@ pub(crate) fn halves_known<L: Ledger>(
         offset: q * size,
         size,
     };
-    links(snapshot, nodes, at, range, steps)
+    links(snapshot, at, range, steps)
 }

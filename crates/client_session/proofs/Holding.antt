@@ -53,7 +53,7 @@ module _ (f : DeskFixed) (log : List (ℕ × Event)) (held : List OpenUpdate) (n
   }
 
   -- the row of one is kept
-  pub holding_row : (i : ℕ) (o : OpenUpdate) (row : UpdateRow) → slice_get held i ≡ Some o → IsWoven f.nodes f.houses o.ticket row → IsHolding f log held next → IsHolding f log (slice_set held i (with_row o row)) next
+  pub holding_row : (i : ℕ) (o : OpenUpdate) (row : UpdateRow) → slice_get held i ≡ Some o → IsWoven f.houses o.ticket row → IsHolding f log held next → IsHolding f log (slice_set held i (with_row o row)) next
   holding_row i o row at woven h =
       let old : IsOpen f log o = at_place (IsOpen f log) held i o at h.open_ in
       let new : IsOpen f log (with_row o row) = record { ticket = old.ticket; here = old.here; row = woven } in

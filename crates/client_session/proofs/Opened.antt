@@ -14,7 +14,7 @@ use Rattle.client_session.proofs.Reports.{IsTaken}
 -- an open update with its row may be finished
 pub may_finish : (f : DeskFixed) (log : List (ℕ × Event)) (o : OpenUpdate) (row : UpdateRow) → IsOpen f log o → o.row ≡ Some row → MayFinish o.ticket row log f
 may_finish f log o row open_ is =
-    let woven : IsWoven f.nodes f.houses o.ticket row = subst (λ (x : Option UpdateRow). IfSome x (IsWoven f.nodes f.houses o.ticket)) is open_.row in
+    let woven : IsWoven f.houses o.ticket row = subst (λ (x : Option UpdateRow). IfSome x (IsWoven f.houses o.ticket)) is open_.row in
     record { ticket = open_.ticket; row_for = woven.for (desk_at f log) open_.ticket; under = woven.under; here = woven.here }
 
 -- the update of that number, once its row is kept

@@ -9,7 +9,7 @@ use Rattle.range_log.specs.Updates.{update_at, no_update, extents}
 use Rattle.range_log.specs.Rows.{row_of}
 use Rattle.page_store.specs.Stored.{joined}
 use Rattle.node_store.specs.Rows.{UpdateRow}
-use Rattle.snapshot.specs.Versions.{pairs_of, IsRowOf}
+use Rattle.snapshot.specs.Versions.{IsRowOf}
 use Rattle.snapshot.specs.Laws.{OwnRowsStay}
 use Rattle.border_hints.specs.Numbered.{NumberedUpdate, own_touch, StandsFor, IsNumbered}
 use Rattle.tree_weaver.specs.Laws.{StoredRowsAreRows}
@@ -23,7 +23,7 @@ update_among us (suc k) some = get_or-take (suc k) us k no_update (omega arith)
 -- a row with the ticket's version, offset, touch and pages and the planned nodes is the one for the ticket, at each desk that it is of
 pub row_for : StoredRowsAreRows → OwnRowsStay → (t : NumberedUpdate) (row : UpdateRow) (planned : List (Range × Node)) → IsNumbered t
     → row.version ≡ t.version → row.offset ≡ t.at → row.touch ≡ own_touch t → row.pages ≡ t.pages
-    → ((us : List Extent) → StandsFor t us → planned ≡ row_of t.snapshot.page_size us t.version) → pairs_of row ≡ planned
+    → ((us : List Extent) → StandsFor t us → planned ≡ row_of t.snapshot.page_size us t.version) → row.nodes ≡ planned
     → (d : DeskState) → IsTicketOf d t → IsRowFor d t row
 row_for stored stay t row planned numbered version offset touch pages plan nodes d of =
     let us : List Update = updates_in d t.blob in

@@ -9,7 +9,6 @@ ghost use Rattle.snapshot.specs.Versions.{IsVersionIn};
 ghost use Rattle.client_session.specs.Parts.{OverUpdates, IsMet, OnRangePast, OnPageLost};
 
 use blob_model::Bytes;
-use node_store::NodeHouse;
 use page_fan::Doors;
 use page_store::{Door, Houses};
 use range_reader::{ReadFault, ReadRoom, read};
@@ -36,7 +35,6 @@ pub(crate) enum RangeFault {
 pub(crate) fn read_range<D: Door, L: Ledger>(
     alloc: Global,
     snapshot: &Snapshot,
-    nodes: &NodeHouse,
     houses: &Houses,
     doors: &mut Doors<D>,
     room: &mut ReadRoom,
@@ -44,7 +42,7 @@ pub(crate) fn read_range<D: Door, L: Ledger>(
     count: u64,
     steps: &mut Steps<L>,
 ) -> Result<Bytes, RangeFault>
-    requires here { IsVersionIn nodes.now houses.now snapshot.now }
+    requires here { IsVersionIn houses.now snapshot.now }
     requires doors { length doors.old ≡ length houses.now }
     requires room { length room.old ≡ snapshot.now.page_size }
     requires true_doors { All D.is_true doors.old }
@@ -85,7 +83,7 @@ pub(crate) fn read_range<D: Door, L: Ledger>(
         return Err(RangeFault::NoMemory);
     };
     let buffer = out.as_mut_slice();
-    match read(snapshot, nodes, houses, doors, room, offset, buffer, steps) {
+    match read(snapshot, houses, doors, room, offset, buffer, steps) {
         Ok(()) => Ok(Bytes::of(out)),
         Err(ReadFault::RangePastSize { end, size }) => Err(RangeFault::RangePastSize { end, size }),
         Err(ReadFault::PageFault(page)) => Err(RangeFault::PageFault(page)),

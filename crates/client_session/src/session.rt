@@ -279,7 +279,6 @@ impl<'a, D: Door, G: Gate> Session<'a, D, G> {
         match read_range(
             self.alloc,
             &snapshot,
-            shared.nodes(),
             shared.houses(),
             &mut self.doors,
             &mut self.room,

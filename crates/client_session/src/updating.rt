@@ -135,7 +135,7 @@ impl<'a, D: BesideDoor, G: Gate> Session<'a, D, G> {
             Err(fault) => return Err(fault_of(fault)),
         };
         self.gate.at(rt, Point::Numbered, &self.pass);
-        let row = match weave(rt, self.alloc, &ticket, shared.nodes()) {
+        let row = match weave(self.alloc, &ticket) {
             Ok(row) => {
                 self.gate.at(rt, Point::Woven, &self.pass);
                 Some(row)
@@ -305,7 +305,7 @@ impl<'a, D: Door, G: Gate> Session<'a, D, G> {
     fn row_at<R: Wait>(&mut self, rt: &R, place: usize) -> Result<Arc<Row>, NoMemory>
         requires within { place < length self.old.held }
         ensures woven { IfOk result (λ row. (o : OpenUpdate) → slice_get self.old.held place ≡ Some o
-            → IsWoven self.old.store.fixed.nodes self.old.store.fixed.houses o.ticket (arc_value row)) }
+            → IsWoven self.old.store.fixed.houses o.ticket (arc_value row)) }
         ensures kept { IfOk result (λ row. (o : OpenUpdate) → slice_get self.old.held place ≡ Some o
             → self.new ≡ record self.old { held = slice_set self.old.held place (with_row o (arc_value row)) }) }
         ensures same { OnErr result (self.new ≡ self.old) }
@@ -313,12 +313,7 @@ impl<'a, D: Door, G: Gate> Session<'a, D, G> {
         if let Some(row) = self.held.at(place).row()? {
             return Ok(row);
         }
-        let row = weave(
-            rt,
-            self.alloc,
-            self.held.at(place).ticket(),
-            self.shared.nodes(),
-        )?;
+        let row = weave(self.alloc, self.held.at(place).ticket())?;
         self.gate.at(rt, Point::Woven, &self.pass);
         let kept = Arc::try_clone(&row)?;
         self.held.set_row(place, kept);

@@ -1,5 +1,2 @@
-pub mod Placed
-pub mod House
 pub mod Order
 pub mod Rows
-pub mod RowKept

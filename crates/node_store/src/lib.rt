@@ -1,13 +1,10 @@
-//! Nodes of version trees, each set once under its key, and the row of all nodes of one update.
+//! The row of one update: all nodes that it adds to its blob's tree, and its stored pages.
 //!
-//! A node is put through a shared reference and read without a lock while other threads put more. The reference that a
-//! put gives stands for the key and the node for all time and in every thread.
+//! A node is set once, by becoming one of a row. A row that is shared never changes, so its nodes are read without a lock.
 #![tactic(auto)]
 
-mod house;
 mod row;
 
-pub use house::{NodeHouse, NodeRef};
 pub use no_memory::NoMemory;
 pub use row::Row;
 pub use tree_geom::{Node, NodeKey, Piece, Range, Touch};

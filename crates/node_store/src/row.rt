@@ -1,23 +1,20 @@
 // The nodes of one update, by range.
-ghost use Rattle.std.specs.Prelude.{◌≡◌, ◌<◌, length, IfOk, IfSome, MatchOption, Some, slice_get};
+ghost use Rattle.std.specs.Prelude.{◌≡◌, ◌<◌, length, MatchOption, Some, slice_get};
 ghost use Rattle.std.specs.Arc.{arc_value};
 ghost use Rattle.std.specs.Ordering.{MatchOrdering};
-ghost use Rattle.node_store.specs.Order.{Before};
-ghost use Rattle.node_store.specs.Rows.{cut_at, empty_row, stored_of, with_node, last_node, IsNodeFor, HasNoNodeFor};
+ghost use Rattle.node_store.specs.Order.{Before, InRowOrder};
+ghost use Rattle.node_store.specs.Rows.{cut_at, stored_of, IsNodeFor, HasNoNodeFor};
 ghost use Rattle.page_store.specs.Stored.{joined};
 
-use crate::NoMemory;
-use crate::house::NodeRef;
 use page_store::{Pages, StoredPage};
-use std::alloc::Global;
 use std::cmp::Ordering;
 use std::marker::Model;
 use std::sync::Arc;
-use tree_geom::{Range, Touch};
+use tree_geom::{Node, Range, Touch};
 
 /// All nodes of one update and the update's pages.
 ///
-/// The nodes stand by the size of their ranges, the largest first, and then by offset. They are of the blob and the
+/// The nodes stand beside their ranges, by the size of these, the largest first, and then by offset. They are of the blob and the
 /// version under which the update was made.
 #[derive(Drop)]
 pub struct Row {
@@ -25,69 +22,55 @@ pub struct Row {
     version: u64,
     offset: u64,
     touch: Touch,
-    room: u32,
-    // the logarithms of the sizes of the first node's range and of the last one's, by which the place of a range is guessed
+    // the logarithms of the sizes of the first node's range and of the last one's, by which the index of a range is guessed
     top: u32,
     page: u32,
     pages: Arc<Pages>,
-    nodes: Vec<NodeRef>,
+    nodes: Vec<(Range, Node)>,
 }
 
 impl Model for Row {
     ghost use Rattle.std.specs.Arc.{arc_value};
+    ghost use Rattle.node_store.specs.Order.{InRowOrder};
     ghost use Rattle.node_store.specs.Rows.{UpdateRow};
 
     ghost Value = { UpdateRow };
 
-    ghost use Rattle.node_store.specs.RowKept.{KeepsRow};
-
     ghost view = { λ r.
-        record { blob = r.blob; version = r.version; offset = r.offset; touch = r.touch; room = r.room; nodes = r.nodes.items; pages = arc_value r.pages } };
+        record { blob = r.blob; version = r.version; offset = r.offset; touch = r.touch; nodes = r.nodes.items; pages = arc_value r.pages } };
 
-    ghost invariant = { KeepsRow };
+    ghost invariant = { λ r. InRowOrder r.nodes.items };
 }
 
 impl Row {
-    /// A row without nodes, with room for `room` nodes, of an update that begins at byte `offset` of the blob, touches `touch`
-    /// and has these pages.
-    pub fn start(
-        alloc: Global,
+    /// The row of an update that begins at byte `offset` of the blob, touches `touch` and has these pages, with its nodes beside
+    /// their ranges in the order of a row. It takes no memory and copies no node.
+    pub fn of(
         blob: u64,
         version: u64,
         offset: u64,
         touch: Touch,
         pages: Arc<Pages>,
-        room: u32,
-    ) -> Result<Row, NoMemory>
-        ensures { IfOk result (λ row. row ≡ empty_row blob version offset touch room (arc_value pages)) }
+        nodes: Vec<(Range, Node)>,
+    ) -> Row
+        requires { InRowOrder nodes.items }
+        ensures { result ≡ record { blob = blob; version = version; offset = offset; touch = touch; nodes = nodes.items; pages = arc_value pages } }
     {
-        Ok(Row {
+        let top = log_of_size(nodes.first());
+        let page = log_of_size(nodes.last());
+        Row {
             blob,
             version,
             offset,
             touch,
-            room,
-            top: 0,
-            page: 0,
-            nodes: Vec::with_capacity(alloc, room as usize)?,
+            top,
+            page,
             pages,
-        })
+            nodes,
+        }
     }
 
-    /// Adds a node at the end. It takes no memory.
-    pub fn add(&mut self, node: NodeRef)
-        requires room { length self.old.nodes < self.old.room }
-        requires blob { node.key.blob ≡ self.old.blob }
-        requires version { node.key.version ≡ self.old.version }
-        requires after { IfSome (last_node self.old.nodes) (λ last. Before last.key.range node.key.range) }
-        ensures { self.new ≡ with_node self.old node }
-    {
-        self.page = node.key().range.size.trailing_zeros();
-        self.top = self.top.max(self.page);
-        self.nodes.push_reserved(node);
-    }
-
-    /// The blob under which the nodes were put.
+    /// The blob under which the update was made.
     pub fn blob(&self) -> u64
         ensures { result ≡ self.now.blob }
     {
@@ -117,32 +100,32 @@ impl Row {
 
     /// The node of that range, or None where the row has none.
     ///
-    /// In a row of all nodes that its update touches, the place of the range is computed, and one node is looked at. Else the
+    /// In a row of all nodes that its update touches, the index of the range is computed, and one node is looked at. Else the
     /// time is logarithmic in the row.
-    pub fn at(&self, range: Range) -> Option<&NodeRef>
+    pub fn at(&self, range: Range) -> Option<&Node>
         ensures { MatchOption result (HasNoNodeFor self.now range) (λ node. IsNodeFor self.now range node.now) }
     {
-        let place = place_of(self.touch, self.top, self.page, range);
-        if place < self.nodes.len() {
-            let node = &self.nodes[place];
-            if node.key().range == range {
-                return Some(node);
+        let guess = guess_of(self.touch, self.top, self.page, range);
+        if guess < self.nodes.len() {
+            let pair = &self.nodes[guess];
+            if pair.0 == range {
+                return Some(&pair.1);
             }
         }
         self.search(range)
     }
 
     // The same, by halving the nodes.
-    fn search(&self, range: Range) -> Option<&NodeRef>
+    fn search(&self, range: Range) -> Option<&Node>
         ensures { MatchOption result (HasNoNodeFor self.now range) (λ node. IsNodeFor self.now range node.now) }
     {
         let mut low = 0;
         let mut high = self.nodes.len();
         while low < high {
             let middle = low + (high - low) / 2;
-            let node = &self.nodes[middle];
-            match order(node.key().range, range) {
-                Ordering::Equal => return Some(node),
+            let pair = &self.nodes[middle];
+            match order(pair.0, range) {
+                Ordering::Equal => return Some(&pair.1),
                 Ordering::Less => low = middle + 1,
                 Ordering::Greater => high = middle,
             }
@@ -168,10 +151,18 @@ impl Row {
     }
 }
 
+// The logarithm of the size of the range of a row's first node or its last one. A row without nodes has neither, and 0.
+fn log_of_size(node: Option<&(Range, Node)>) -> u32 {
+    match node {
+        Some(pair) => pair.0.size.trailing_zeros(),
+        None => 0,
+    }
+}
+
 // Where the range stands in the whole row of an update with that touch, whose largest range and whose pages have sizes of
 // these logarithms: after all larger ranges, and after those of its size that begin before it. It is a guess, of which
 // nothing is claimed: whoever asks looks there.
-fn place_of(touch: Touch, top: u32, page: u32, range: Range) -> usize {
+fn guess_of(touch: Touch, top: u32, page: u32, range: Range) -> usize {
     let level = range.size.trailing_zeros();
     if touch.first == touch.last {
         return top.saturating_sub(level) as usize;
@@ -179,15 +170,15 @@ fn place_of(touch: Touch, top: u32, page: u32, range: Range) -> usize {
     let height = level.saturating_sub(page);
     let mut first = touch.first.wrapping_shr(height);
     let mut last = touch.last.wrapping_shr(height);
-    let mut place = range.offset.wrapping_shr(level).saturating_sub(first);
+    let mut guess = range.offset.wrapping_shr(level).saturating_sub(first);
     for _above in level..top {
         first /= 2;
         last /= 2;
-        place = place
+        guess = guess
             .saturating_add(last.saturating_sub(first))
             .saturating_add(1);
     }
-    place as usize
+    guess as usize
 }
 
 // How the first range stands to the second in a row.

@@ -1,18 +1,14 @@
 -- What lies in the houses, and which rows have nodes.
 use Rattle.std.proofs.Common.{◌≡◌, ℕ, zero, suc, ◌≤◌, List, length, arith, subst}
 use Rattle.std.specs.Prelude.{Some, All, slice_get}
-use Rattle.std.specs.List.{Contains}
 use Rattle.std.proofs.lemmas.List.{length-map}
 use Rattle.std.proofs.lemmas.Option.{slice_get_within, get_or_from_slice_get}
-use Rattle.boxcar.specs.Table.{Shelves}
 use Rattle.tree_geom.specs.declared.range.Range.{Range}
 use Rattle.page_store.specs.House.{House}
 use Rattle.page_store.specs.Page.{IsAmong}
 use Rattle.page_store.specs.Stored.{Stored, LieAmong}
-use Rattle.node_store.specs.House.{IsIn}
-use Rattle.node_store.specs.Placed.{PlacedNode}
 use Rattle.node_store.specs.Rows.{stored_of}
-use Rattle.snapshot.specs.Versions.{Version, no_row, row_at, written, updates_of, HasNodeFor, NodesLieIn, PagesLieIn}
+use Rattle.snapshot.specs.Versions.{Version, no_row, row_at, written, updates_of, HasNodeFor, IsVersionIn}
 use Rattle.range_log.proofs.Bytes.{length-extents}
 use Rattle.range_reader.specs.Reading.{falls}
 use Rattle.range_log.proofs.Grown.{length-touches}
@@ -23,21 +19,11 @@ length-updates s = length-map s.rows written
 pub in_rows : (s : Version) (j : ℕ) (range : Range) → HasNodeFor s j range → (1 ≤ j) × (j ≤ length s.rows)
 in_rows s j range has = (has.version.0, omega (arith, has.version.1, length-touches s.page_size (falls s), length-extents (updates_of s), length-updates s))
 
-rows_nodes : (nodes : List Shelves) (s : Version) (j : ℕ) → NodesLieIn nodes s → 1 ≤ j → j ≤ length s.rows → All (IsIn nodes) (row_at s.rows j).nodes
-rows_nodes nodes s zero here some le = absurd (omega arith)
-rows_nodes nodes s (suc i) here some le = here i no_row le
-
-rows_pages : (houses : List House) (s : Version) (j : ℕ) → PagesLieIn houses s → 1 ≤ j → j ≤ length s.rows → LieAmong houses (stored_of (row_at s.rows j))
+rows_pages : (houses : List House) (s : Version) (j : ℕ) → IsVersionIn houses s → 1 ≤ j → j ≤ length s.rows → LieAmong houses (stored_of (row_at s.rows j))
 rows_pages houses s zero here some le = absurd (omega arith)
 rows_pages houses s (suc i) here some le = here i no_row le
 
-pub node_in : (nodes : List Shelves) (s : Version) (j : ℕ) (range : Range) (placed : PlacedNode) → NodesLieIn nodes s → HasNodeFor s j range
-    → Contains (row_at s.rows j).nodes placed → IsIn nodes placed
-node_in nodes s j range placed here has among =
-    let b = in_rows s j range has in
-    subst (IsIn nodes) among.2 (rows_nodes nodes s j here b.0 b.1 among.0 placed among.1)
-
-pub page_in : (houses : List House) (s : Version) (j q : ℕ) (stored : Stored) → PagesLieIn houses s → 1 ≤ j → j ≤ length s.rows
+pub page_in : (houses : List House) (s : Version) (j q : ℕ) (stored : Stored) → IsVersionIn houses s → 1 ≤ j → j ≤ length s.rows
     → slice_get (stored_of (row_at s.rows j)) q ≡ Some stored → All (IsAmong houses) stored.places
 page_in houses s j q stored here some le is =
     let pages : List Stored = stored_of (row_at s.rows j) in

@@ -28,7 +28,7 @@ fn fill_leaf<D: Door>(
     marks: &mut [bool],
     out: &mut [u8],
 ) -> bool
-    requires here { IsVersionIn source.now.nodes.now source.now.houses.now source.now.snapshot.now }
+    requires here { IsVersionIn source.now.houses.now source.now.snapshot.now }
     requires doors { length doors.old ≡ length source.now.houses.now }
     requires has { HasNodeFor source.now.snapshot.now j (page_range source.now.snapshot.now.page_size page) }
     requires leaf { IsLeafOf source.now.snapshot.now j page leaf }
@@ -71,7 +71,7 @@ fn fill_along<D: Door, L: Ledger>(
     marks: &mut [bool],
     out: &mut [u8],
 ) -> bool
-    requires here { IsVersionIn source.now.nodes.now source.now.houses.now source.now.snapshot.now }
+    requires here { IsVersionIn source.now.houses.now source.now.snapshot.now }
     requires doors { length doors.old ≡ length source.now.houses.now }
     requires newest { newest ≡ newest_in source.now.snapshot.now (page_range source.now.snapshot.now.page_size page) }
     requires has { HasNodeFor source.now.snapshot.now newest (page_range source.now.snapshot.now.page_size page) }
@@ -110,7 +110,7 @@ fn fill_along<D: Door, L: Ledger>(
             return true;
         }
         at = parts.back;
-        parts = leaf(source.snapshot, source.nodes, at, page, steps);
+        parts = leaf(source.snapshot, at, page, steps);
     }
 }
 
@@ -127,7 +127,7 @@ pub(crate) fn fill_page<D: Door, L: Ledger>(
     marks: &mut [bool],
     out: &mut [u8],
 ) -> bool
-    requires here { IsVersionIn source.now.nodes.now source.now.houses.now source.now.snapshot.now }
+    requires here { IsVersionIn source.now.houses.now source.now.snapshot.now }
     requires doors { length doors.old ≡ length source.now.houses.now }
     requires newest { newest ≡ newest_in source.now.snapshot.now (page_range source.now.snapshot.now.page_size page) }
     requires has { HasNodeFor source.now.snapshot.now newest (page_range source.now.snapshot.now.page_size page) }
@@ -148,7 +148,7 @@ pub(crate) fn fill_page<D: Door, L: Ledger>(
     range_log::laws::leaves_fill();
     range_log::laws::page_bytes_stay();
     let _version = source.snapshot.version();
-    let parts = leaf(source.snapshot, source.nodes, newest, page, steps);
+    let parts = leaf(source.snapshot, newest, page, steps);
     if parts.has_all(begin, out.len()) {
         return take_leaf(source, doors, newest, page, parts, begin, out);
     }

@@ -68,7 +68,7 @@ pub(crate) fn fill_piece<D: Door>(
     marks: &mut [bool],
     out: &mut [u8],
 ) -> bool
-    requires here { IsVersionIn source.now.nodes.now source.now.houses.now source.now.snapshot.now }
+    requires here { IsVersionIn source.now.houses.now source.now.snapshot.now }
     requires doors { length doors.old ≡ length source.now.houses.now }
     requires version { (1 ≤ j) × (j ≤ length source.now.snapshot.now.rows) }
     requires fits { let s = source.now.snapshot.now in

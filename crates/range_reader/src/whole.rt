@@ -22,7 +22,7 @@ fn take_piece<D: Door>(
     skip: usize,
     out: &mut [u8],
 ) -> bool
-    requires here { IsVersionIn source.now.nodes.now source.now.houses.now source.now.snapshot.now }
+    requires here { IsVersionIn source.now.houses.now source.now.snapshot.now }
     requires doors { length doors.old ≡ length source.now.houses.now }
     requires version { (1 ≤ j) × (j ≤ length source.now.snapshot.now.rows) }
     requires fits { let s = source.now.snapshot.now in
@@ -55,7 +55,7 @@ pub(crate) fn take_leaf<D: Door>(
     begin: usize,
     out: &mut [u8],
 ) -> bool
-    requires here { IsVersionIn source.now.nodes.now source.now.houses.now source.now.snapshot.now }
+    requires here { IsVersionIn source.now.houses.now source.now.snapshot.now }
     requires doors { length doors.old ≡ length source.now.houses.now }
     requires has { HasNodeFor source.now.snapshot.now j (page_range source.now.snapshot.now.page_size page) }
     requires leaf { IsLeafOf source.now.snapshot.now j page leaf }

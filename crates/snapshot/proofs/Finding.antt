@@ -8,26 +8,17 @@ use Rattle.blob_model.specs.Content.{Update, size_of}
 use Rattle.tree_geom.specs.declared.range.Range.{Range}
 use Rattle.tree_geom.specs.declared.touch.Touch.{Touch}
 use Rattle.tree_geom.specs.declared.node.Node.{Node}
-use Rattle.tree_geom.specs.declared.node.Node.TheVariants.{Inner}
-use Rattle.tree_geom.specs.declared.node.NodeKey.{NodeKey}
 use Rattle.range_log.specs.Log.{HasNode}
 use Rattle.range_log.specs.Extents.{Extent, InBounds, touches}
 use Rattle.range_log.specs.Updates.{extents, Replayable}
 use Rattle.range_log.specs.Rows.{node_of, row_of, row_keys_of}
 use Rattle.range_log.specs.Laws.{RowKeysExact, ExtentsStand}
-use Rattle.node_store.specs.Placed.{PlacedNode}
 use Rattle.node_store.specs.Rows.{UpdateRow, IsNodeFor, HasNoNodeFor}
 use Rattle.range_log.proofs.Grown.{touch-touches}
 use Rattle.range_log.proofs.Bytes.{length-extents}
-use Rattle.snapshot.specs.Versions.{Version, row_at, updates_of, pairs_of, IsRowOf, IsVersion, IsFound, HasNodeFor}
+use Rattle.snapshot.specs.Versions.{Version, row_at, updates_of, IsRowOf, IsVersion, IsFound, HasNodeFor}
 use Rattle.snapshot.proofs.Lists.{length-updates}
 use Rattle.tree_geom.proofs.Spans.{page_pos}
-
-abbrev pub pair_of : PlacedNode → Range × Node
-pair_of n = (n.key.range, n.node)
-
-no_placed : Range → PlacedNode
-no_placed range = record { key = record { blob = 0; version = 0; range = range }; node = Inner 0 0; spot = record { shard = 0; shelf = 0; mark = 0 } }
 
 -- ---- what a function makes of the elements of a list
 contains_made : {X Y : Type 0} (f : X → Y) (xs : List X) (x : X) → Contains xs x → Contains (map f xs) (f x)
@@ -43,39 +34,37 @@ node_with : ℕ → List Extent → ℕ → Range → Range × Node
 node_with p xs j r = (r, node_of p xs j r)
 
 -- a node of the row stands in the row of the update
-in_row : (p j : ℕ) (xs : List Extent) (row : UpdateRow) (placed : PlacedNode) → pairs_of row ≡ row_of p xs j → Contains row.nodes placed
-    → Contains (row_keys_of p (touches p xs) j) placed.key.range × (placed.node ≡ node_of p xs j placed.key.range)
+in_row : (p j : ℕ) (xs : List Extent) (row : UpdateRow) (range : Range) (node : Node) → row.nodes ≡ row_of p xs j → Contains row.nodes (range, node)
+    → Contains (row_keys_of p (touches p xs) j) range × (node ≡ node_of p xs j range)
 unfolding node_with
-in_row p j xs row placed is among =
-    let C : List (Range × Node) → Type 0 = λ l. Contains l (pair_of placed) in
-    let here : Contains (row_of p xs j) (pair_of placed) = subst C is (contains_made pair_of row.nodes placed among) in
+in_row p j xs row range node is among =
+    let C : List (Range × Node) → Type 0 = λ l. Contains l (range, node) in
+    let here : Contains (row_of p xs j) (range, node) = subst C is among in
     let keys : List Range = row_keys_of p (touches p xs) j in
-    let from : (k : ℕ) × (k < length keys) × (node_with p xs j (get_or keys k placed.key.range) ≡ pair_of placed) = made_from (node_with p xs j) keys placed.key.range (pair_of placed) here in
-    let same : get_or keys from.0 placed.key.range ≡ placed.key.range = ap (λ (e : Range × Node). e.0) from.2 in
+    let from : (k : ℕ) × (k < length keys) × (node_with p xs j (get_or keys k range) ≡ (range, node)) = made_from (node_with p xs j) keys range (range, node) here in
+    let same : get_or keys from.0 range ≡ range = ap (λ (e : Range × Node). e.0) from.2 in
     ((from.0, from.1, same), sym (ap (λ (e : Range × Node). e.1) from.2) ∙ ap (node_of p xs j) same)
 
 -- a range of the row of the update has a node in the row
-of_row : (p j : ℕ) (xs : List Extent) (row : UpdateRow) (range : Range) → pairs_of row ≡ row_of p xs j → Contains (row_keys_of p (touches p xs) j) range
-    → (k : ℕ) × (n : PlacedNode) × (slice_get row.nodes k ≡ Some n) × (n.key.range ≡ range)
+of_row : (p j : ℕ) (xs : List Extent) (row : UpdateRow) (range : Range) → row.nodes ≡ row_of p xs j → Contains (row_keys_of p (touches p xs) j) range
+    → (k : ℕ) × (n : Range × Node) × (slice_get row.nodes k ≡ Some n) × (n.0 ≡ range)
 unfolding node_with
 of_row p j xs row range is among =
     let keys : List Range = row_keys_of p (touches p xs) j in
     let C : List (Range × Node) → Type 0 = λ l. Contains l (node_with p xs j range) in
-    let here : Contains (pairs_of row) (node_with p xs j range) = subst C (sym is) (contains_made (node_with p xs j) keys range among) in
-    let from : (k : ℕ) × (k < length row.nodes) × (pair_of (get_or row.nodes k (no_placed range)) ≡ node_with p xs j range) = made_from pair_of row.nodes (no_placed range) (node_with p xs j range) here in
-    (from.0, get_or row.nodes from.0 (no_placed range), slice_get-get_or row.nodes from.0 (no_placed range) from.1, ap (λ (e : Range × Node). e.0) from.2)
+    let pair : Range × Node = node_with p xs j range in
+    let from : Contains row.nodes pair = subst C (sym is) (contains_made (node_with p xs j) keys range among) in
+    (from.0, get_or row.nodes from.0 pair, slice_get-get_or row.nodes from.0 pair from.1, ap (λ (e : Range × Node). e.0) from.2)
 
 -- ---- what a search in the row finds
-pub found_node : RowKeysExact → (p j : ℕ) (xs : List Extent) (row : UpdateRow) (range : Range) (placed : PlacedNode) → 1 ≤ p → InBounds xs → 1 ≤ j → j ≤ length xs
-    → pairs_of row ≡ row_of p xs j → IsNodeFor row range placed → HasNode p (touches p xs) j range × (placed.node ≡ node_of p xs j range)
-found_node exact p j xs row range placed pos bounds some le is found =
-    let in' = in_row p j xs row placed is found.among in
-    let same : placed.key.range ≡ range = ap (λ (k : NodeKey). k.range) found.key in
-    let P : Range → Type 0 = λ r. HasNode p (touches p xs) j r × (placed.node ≡ node_of p xs j r) in
-    subst P same ((exact p j xs placed.key.range pos bounds some le).0 in'.0, in'.1)
+pub found_node : RowKeysExact → (p j : ℕ) (xs : List Extent) (row : UpdateRow) (range : Range) (node : Node) → 1 ≤ p → InBounds xs → 1 ≤ j → j ≤ length xs
+    → row.nodes ≡ row_of p xs j → IsNodeFor row range node → HasNode p (touches p xs) j range × (node ≡ node_of p xs j range)
+found_node exact p j xs row range node pos bounds some le is found =
+    let in' = in_row p j xs row range node is found in
+    ((exact p j xs range pos bounds some le).0 in'.0, in'.1)
 
 pub found_none : RowKeysExact → (p j : ℕ) (xs : List Extent) (row : UpdateRow) (range : Range) → 1 ≤ p → InBounds xs → 1 ≤ j → j ≤ length xs
-    → pairs_of row ≡ row_of p xs j → HasNoNodeFor row range → HasNode p (touches p xs) j range → ⊥
+    → row.nodes ≡ row_of p xs j → HasNoNodeFor row range → HasNode p (touches p xs) j range → ⊥
 found_none exact p j xs row range pos bounds some le is none has =
     let at = of_row p j xs row range is ((exact p j xs range pos bounds some le).1 has) in
     none at.0 at.1 at.2 at.3
@@ -87,22 +76,15 @@ touch_size stand p (suc k) us row ok some le is =
     ap (λ (t : Touch). t.size) (is.touch ∙ touch-touches p (extents us) k (omega (arith, length-extents us))) ∙ (stand us ok).2 (suc k) le
 
 -- ---- what a snapshot finds
-pub version_finds : RowKeysExact → ExtentsStand → (s : Version) (j : ℕ) (range : Range) (row : UpdateRow) (placed : PlacedNode) → IsVersion s → row ≡ row_at s.rows j
-    → 1 ≤ j → j ≤ length s.rows → IsNodeFor row range placed → IsFound s j range placed
-version_finds exact stand s j range row placed is same some le found =
+pub version_finds : RowKeysExact → ExtentsStand → (s : Version) (j : ℕ) (range : Range) (row : UpdateRow) (node : Node) → IsVersion s → row ≡ row_at s.rows j
+    → 1 ≤ j → j ≤ length s.rows → IsNodeFor row range node → IsFound s j range node
+version_finds exact stand s j range row node is same some le found =
     let us : List Update = updates_of s in
     let own : IsRowOf s.page_size us j (row_at s.rows j) = is.rows j some le in
-    let P : UpdateRow → Type 0 = λ r. IsNodeFor r range placed in
-    let at : IsNodeFor (row_at s.rows j) range placed = subst P same found in
+    let P : UpdateRow → Type 0 = λ r. IsNodeFor r range node in
     let in_list : j ≤ length (extents us) = omega (arith, length-extents us, length-updates s.rows) in
-    let node = found_node exact s.page_size j (extents us) (row_at s.rows j) range placed (page_pos s.page_size is.page_size) (stand us is.replayable).0 some in_list own.nodes at in
-    let named : ℕ → NodeKey = λ v. record { blob = (row_at s.rows j).blob; version = v; range = range } in
-    record {
-      has = node.0;
-      node = node.1;
-      key = at.key ∙ ap named own.version;
-      among = at.among;
-    }
+    let at = found_node exact s.page_size j (extents us) (row_at s.rows j) range node (page_pos s.page_size is.page_size) (stand us is.replayable).0 some in_list own.nodes (subst P same found) in
+    record { has = at.0; is = at.1 }
 
 pub version_finds_none : RowKeysExact → ExtentsStand → (s : Version) (j : ℕ) (range : Range) (row : UpdateRow) → IsVersion s → row ≡ row_at s.rows j
     → 1 ≤ j → j ≤ length s.rows → HasNoNodeFor row range → HasNodeFor s j range → ⊥

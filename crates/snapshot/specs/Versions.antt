@@ -1,7 +1,5 @@
 -- What a clause sees of a snapshot, and the updates that its rows tell.
 use Rattle.std.specs.Prelude.{◌≡◌, ℕ, ◌*◌, ◌^◌, ◌≤◌, zero, suc, List, [], ◌∷◌, ◌++◌, length, take, map, slice_index_or, All}
-use Rattle.std.specs.List.{Contains}
-use Rattle.boxcar.specs.Table.{Shelves}
 use Rattle.blob_model.specs.Content.{Update, size_of}
 use Rattle.blob_model.specs.declared.call.Place.TheVariants.{WriteAt}
 use Rattle.tree_geom.specs.declared.range.Range.{Range}
@@ -13,10 +11,8 @@ use Rattle.range_log.specs.Extents.{extent_at, touches}
 use Rattle.range_log.specs.Updates.{update_at, extents, Replayable}
 use Rattle.range_log.specs.Rows.{node_of, row_of}
 use Rattle.page_store.specs.House.{House}
-use Rattle.page_store.specs.Stored.{joined, LieAmong}
-use Rattle.node_store.specs.Placed.{PlacedNode}
-use Rattle.node_store.specs.House.{IsIn}
-use Rattle.node_store.specs.Rows.{UpdateRow, empty_row, stored_of}
+use Rattle.page_store.specs.Stored.{joined}
+use Rattle.node_store.specs.Rows.{UpdateRow, stored_of, IsRowIn}
 
 -- a version: the blob under whose id it is read, its page size, and the rows of its updates, update 1 first
 pub record Version : Type 0 where
@@ -26,7 +22,7 @@ pub record Version : Type 0 where
 
 -- what stands in place of row 0, which there is none of
 abbrev pub no_row : UpdateRow
-no_row = empty_row 0 0 0 no_touch 0 record { page_size = 0; room = 0; pages = [] }
+no_row = record { blob = 0; version = 0; offset = 0; touch = no_touch; nodes = []; pages = record { page_size = 0; room = 0; pages = [] } }
 
 -- the row of update j, from 1
 abbrev pub row_at : List UpdateRow → ℕ → UpdateRow
@@ -46,10 +42,6 @@ abbrev pub under_blob : Version → ℕ → Version
 under_blob s blob = record s { blob = blob }
 
 -- ---- what a row tells of its update
--- the row's nodes, each beside its range
-abbrev pub pairs_of : UpdateRow → List (Range × Node)
-pairs_of row = map (λ (n : PlacedNode). (n.key.range, n.node)) row.nodes
-
 -- the bytes of the row's pages
 abbrev pub bytes_of : UpdateRow → List ℕ
 bytes_of row = joined (stored_of row)
@@ -76,7 +68,7 @@ pub record IsRowOf (p : ℕ) (us : List Update) (k : ℕ) (row : UpdateRow) : Ty
   pub version : row.version ≡ k
   pub offset : row.offset ≡ (extent_at (extents us) k).at
   pub touch : row.touch ≡ touch_at (touches p (extents us)) k
-  pub nodes : pairs_of row ≡ row_of p (extents us) k
+  pub nodes : row.nodes ≡ row_of p (extents us) k
   pub bytes : bytes_of row ≡ (update_at us k).bytes
   pub page_size : row.pages.page_size ≡ p
 
@@ -94,12 +86,10 @@ pub record IsVersion (s : Version) : Type 0 where
 abbrev pub HasNodeFor : Version → ℕ → Range → Type 0
 HasNodeFor s j range = HasNode s.page_size (touches s.page_size (extents (updates_of s))) j range
 
--- it is the node that the row of update j has for the range, under the key that it was put under
-pub record IsFound (s : Version) (j : ℕ) (range : Range) (placed : PlacedNode) : Type 0 where
+-- it is the node that the row of update j has for the range
+pub record IsFound (s : Version) (j : ℕ) (range : Range) (node : Node) : Type 0 where
   pub has : HasNodeFor s j range
-  pub node : placed.node ≡ node_of s.page_size (extents (updates_of s)) j range
-  pub key : placed.key ≡ record { blob = (row_at s.rows j).blob; version = j; range = range }
-  pub among : Contains (row_at s.rows j).nodes placed
+  pub is : node ≡ node_of s.page_size (extents (updates_of s)) j range
 
 -- the key of the root of the version
 abbrev pub root_key : Version → NodeKey
@@ -109,15 +99,7 @@ root_key s = record {
   range = record { offset = 0; size = span_of s.page_size (size_now s) };
 }
 
--- ---- where nodes and pages lie
--- the nodes of the version's rows lie in this house
-abbrev pub NodesLieIn : List Shelves → Version → Type 0
-NodesLieIn nodes s = All (λ (row : UpdateRow). All (IsIn nodes) row.nodes) s.rows
-
--- the stored pages of its rows lie in these houses
-abbrev pub PagesLieIn : List House → Version → Type 0
-PagesLieIn houses s = All (λ (row : UpdateRow). LieAmong houses (stored_of row)) s.rows
-
--- both
-abbrev pub IsVersionIn : List Shelves → List House → Version → Type 0
-IsVersionIn nodes houses s = NodesLieIn nodes s × PagesLieIn houses s
+-- ---- where pages lie
+-- the stored pages of the version's rows lie in these houses
+abbrev pub IsVersionIn : List House → Version → Type 0
+IsVersionIn houses s = All (IsRowIn houses) s.rows

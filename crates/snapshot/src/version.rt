@@ -8,7 +8,7 @@ ghost use Rattle.snapshot.specs.Versions.{row_at, bytes_of, updates_of, next_ver
 ghost use Rattle.snapshot.specs.Versions.{under_blob, size_now, HasNodeFor, IsFound, root_key, IsRowOf};
 ghost use Rattle.snapshot.specs.Versions.{IsVersion};
 
-use node_store::{NoMemory, NodeRef, Row};
+use node_store::{NoMemory, Node, Row};
 use page_store::StoredPage;
 use radix_list::RadixList;
 use range_log::laws;
@@ -84,7 +84,7 @@ impl Snapshot {
         })
     }
 
-    /// The same version with the same rows under another blob's id. The nodes keep the keys under which they were put.
+    /// The same version with the same rows under another blob's id. The rows keep the blob under which they were made.
     pub fn under(&self, blob: u64) -> Result<Snapshot, NoMemory>
         ensures { IfOk result (λ s. s ≡ under_blob self.now blob) }
     {
@@ -168,7 +168,7 @@ impl Snapshot {
         j: u64,
         range: Range,
         steps: &mut Steps<L>,
-    ) -> Option<&'s NodeRef>
+    ) -> Option<&'s Node>
         requires { (1 ≤ j) × (j ≤ length self.now.rows) }
         ensures none { IfNone result (¬ HasNodeFor self.now j range) }
         ensures found { IfSome result (λ node. IsFound self.now j range node.now) }

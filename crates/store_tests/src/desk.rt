@@ -4,7 +4,6 @@ ghost use Rattle.std.specs.Arc.{arc_value};
 ghost use Rattle.page_store.specs.Stored.{joined, LieAmong};
 
 use blob_model::{Limits, Outcome, Place, Refusal};
-use node_store::NodeHouse;
 use page_fan::{Doors, store};
 use page_store::{Houses, Pages, PlainDoor, PlainMaker};
 use provider_manager::LoadBook;
@@ -284,10 +283,9 @@ fn lines_of<R: Threads + Wait + Sync>(
 ) -> Result<Vec<u8>, Fail> {
     let dialect = ScriptDialect::new(alloc)?;
     let houses = Arc::new(alloc, Houses::new(alloc, 1)?)?;
-    let nodes = Arc::new(alloc, NodeHouse::new(alloc)?)?;
     let mut doors = Doors::new(alloc, &mut PlainMaker::new(), 1)?;
     let p = PageSize::new(4).ok_or("four bytes")?;
-    let mut desk = Desk::new(alloc, limits, p, &houses, &nodes)?;
+    let mut desk = Desk::new(alloc, limits, p, &houses)?;
     let mut said = Vec::new(alloc);
     for step in steps {
         let outcome = outcome_of(rt, alloc, &mut doors, &houses, &mut desk, *step)?;
@@ -309,10 +307,9 @@ fn a_desk_answers_each_step_by_its_line(rt: HostRuntime) -> Result<(), Fail> {
 fn a_blob_has_sixty_four_waiting_updates(rt: HostRuntime) -> Result<(), Fail> {
     let alloc = rt.alloc();
     let houses = Arc::new(alloc, Houses::new(alloc, 1)?)?;
-    let nodes = Arc::new(alloc, NodeHouse::new(alloc)?)?;
     let mut doors = Doors::new(alloc, &mut PlainMaker::new(), 1)?;
     let p = PageSize::new(4).ok_or("four bytes")?;
-    let mut desk = Desk::new(alloc, Limits::greatest(), p, &houses, &nodes)?;
+    let mut desk = Desk::new(alloc, Limits::greatest(), p, &houses)?;
     let blob = desk.create(CALLER).ok().ok_or("no memory")?;
     let pages = pages_of(&rt, alloc, &mut doors, &houses, 1)?;
     for before in 0..65u64 {

@@ -1,6 +1,5 @@
 -- Rows that are built by hand, in pages of four bytes.
-use Rattle.std.specs.Prelude.{◌≡◌, false, ℕ, ◌+◌, ◌^◌, ◌≤◌, List, [], ◌∷◌, ◌++◌, length, All}
-use Rattle.boxcar.specs.Table.{Shelves}
+use Rattle.std.specs.Prelude.{◌≡◌, false, ℕ, ◌+◌, ◌^◌, ◌≤◌, List, [], ◌∷◌, ◌++◌, length}
 use Rattle.blob_model.specs.Content.{Update, size_of}
 use Rattle.blob_model.specs.declared.call.Place.TheVariants.{WriteAt}
 use Rattle.tree_geom.specs.declared.range.Range.{Range}
@@ -13,10 +12,8 @@ use Rattle.range_log.specs.Extents.{extent_at, touches}
 use Rattle.range_log.specs.Updates.{extents, Replayable}
 use Rattle.range_log.specs.Rows.{row_of}
 use Rattle.page_store.specs.Stored.{Cut}
-use Rattle.node_store.specs.House.{IsIn}
 use Rattle.node_store.specs.Order.{Before}
 use Rattle.node_store.specs.Rows.{UpdateRow}
-use Rattle.snapshot.specs.Versions.{pairs_of}
 
 -- each range stands before the next
 abbrev pub InOrder : List (Range × Node) → Type 0
@@ -36,14 +33,13 @@ pub record IsNext (us : List Update) (offset : ℕ) (touch : Touch) (bytes : Lis
   pub in_bounds : Replayable (us ++ told offset bytes ∷ [])
   pub fits : size_of (us ++ told offset bytes ∷ []) (length us + 1) ≤ 2 ^ 40
 
--- a row with these parts, whose nodes lie in the house
-pub record IsByHand (house : List Shelves) (version offset : ℕ) (cut : Cut) (touch : Touch) (pairs : List (Range × Node)) (row : UpdateRow) : Type 0 where
+-- a row with these parts
+pub record IsByHand (version offset : ℕ) (cut : Cut) (touch : Touch) (pairs : List (Range × Node)) (row : UpdateRow) : Type 0 where
   pub versioned : row.version ≡ version
   pub begins : row.offset ≡ offset
   pub paged : row.pages ≡ cut
   pub touched : row.touch ≡ touch
-  pub listed : pairs_of row ≡ pairs
-  pub here : All (IsIn house) row.nodes
+  pub listed : row.nodes ≡ pairs
 
 -- ---- the rows of the tests
 abbrev pub at_range : ℕ → ℕ → Range

@@ -5,7 +5,7 @@ ghost use Rattle.page_store.specs.Stored.{joined, LieAmong};
 ghost use Rattle.snapshot.specs.Versions.{updates_of, IsVersionIn};
 ghost use Rattle.threads_tests.specs.ByHand.{told, IsNext, IsByHand, InOrder, at_range, one_piece, after_six};
 
-use node_store::{Node, NodeHouse, NodeKey, Piece, Range, Row, Touch};
+use node_store::{Node, Piece, Range, Row, Touch};
 use page_fan::{Doors, store};
 use page_store::{Houses, Pages, PlainDoor, PlainMaker};
 use provider_manager::LoadBook;
@@ -54,51 +54,33 @@ fn pages_of<R: Threads + Wait + Sync>(
 
 // The row of an update that is told by its pages, the byte at which it begins, what it touches and its nodes.
 fn row_by_hand(
-    rt: &impl Wait,
     alloc: Global,
     version: u64,
-    nodes: &NodeHouse,
     pages: Pages,
     offset: u64,
     touch: Touch,
     by_hand: &[(Range, Node)],
 ) -> Result<Row, Fail>
-    requires few { length by_hand.now < 2 ^ 32 }
     requires order { InOrder by_hand.now }
-    ensures is { IfOk result (IsByHand nodes.now version offset pages touch by_hand.now) }
+    ensures is { IfOk result (IsByHand version offset pages touch by_hand.now) }
 {
-    let mut row = Row::start(
-        alloc,
-        1,
-        version,
-        offset,
-        touch,
-        Arc::new(alloc, pages)?,
-        by_hand.len() as u32,
-    )?;
-    for (range, node) in by_hand {
-        let key = NodeKey {
-            blob: 1,
-            version,
-            range: *range,
-        };
-        row.add(nodes.put(rt, key, *node)?);
+    let mut nodes = Vec::new(alloc);
+    for pair in by_hand {
+        nodes.push(*pair)?;
     }
-    Ok(row)
+    let pages = Arc::new(alloc, pages)?;
+    Ok(Row::of(1, version, offset, touch, pages, nodes))
 }
 
 // The version after `before` with such a row.
 fn next_version(
-    rt: &impl Wait,
     alloc: Global,
     before: &Snapshot,
-    nodes: &NodeHouse,
     pages: Pages,
     offset: u64,
     touch: Touch,
     by_hand: &[(Range, Node)],
 ) -> Result<Snapshot, Fail>
-    requires few { length by_hand.now < 2 ^ 32 }
     requires order { InOrder by_hand.now }
     requires room { length before.now.rows < 9 }
     requires page_size { before.now.page_size ≡ 4 }
@@ -107,19 +89,10 @@ fn next_version(
     ensures told { IfOk result (λ s. updates_of s ≡ updates_of before.now ++ told offset (joined pages.pages) ∷ []) }
     ensures page_size { IfOk result (λ s. s.page_size ≡ 4) }
     ensures count { IfOk result (λ s. length s.rows ≡ length before.now.rows + 1) }
-    ensures here { (houses : List House) → IsVersionIn nodes.now houses before.now → LieAmong houses pages.pages
-        → IfOk result (IsVersionIn nodes.now houses) }
+    ensures here { (houses : List House) → IsVersionIn houses before.now → LieAmong houses pages.pages → IfOk result (IsVersionIn houses) }
 {
-    let row = row_by_hand(
-        rt,
-        alloc,
-        before.version() + 1,
-        nodes,
-        pages,
-        offset,
-        touch,
-        by_hand,
-    )?;
+    let version = before.version() + 1;
+    let row = row_by_hand(alloc, version, pages, offset, touch, by_hand)?;
     let row = Arc::new(alloc, row)?;
     match before.with_row(row) {
         Ok(next) => Ok(next),
@@ -153,14 +126,13 @@ fn six<R: Threads + Wait + Sync>(
     alloc: Global,
     doors: &mut Doors<PlainDoor>,
     houses: &Houses,
-    nodes: &NodeHouse,
 ) -> Result<Snapshot, Fail>
     requires doors { length doors.old ≡ 1 }
     requires houses { length houses.now ≡ 1 }
     ensures told { IfOk result (λ s. updates_of s ≡ after_six) }
     ensures page_size { IfOk result (λ s. s.page_size ≡ 4) }
     ensures count { IfOk result (λ s. length s.rows ≡ 1) }
-    ensures here { IfOk result (IsVersionIn nodes.now houses.now) }
+    ensures here { IfOk result (IsVersionIn houses.now) }
     ensures doors { length doors.new ≡ 1 }
 {
     let p = PageSize::new(4).ok_or("four bytes")?;
@@ -190,7 +162,7 @@ fn six<R: Threads + Wait + Sync>(
         (range_of(0, 4), leaf_of(0, 0, 4, 0, 0)),
         (range_of(4, 4), rest),
     ];
-    next_version(rt, alloc, &none, nodes, pages, 0, touch, &by_hand)
+    next_version(alloc, &none, pages, 0, touch, &by_hand)
 }
 
 // Version 2 with two bytes more.
@@ -199,15 +171,14 @@ fn two_more<R: Threads + Wait + Sync>(
     alloc: Global,
     doors: &mut Doors<PlainDoor>,
     houses: &Houses,
-    nodes: &NodeHouse,
 ) -> Result<Snapshot, Fail>
     requires doors { length doors.old ≡ 1 }
     requires houses { length houses.now ≡ 1 }
     ensures page_size { IfOk result (λ s. s.page_size ≡ 4) }
-    ensures here { IfOk result (IsVersionIn nodes.now houses.now) }
+    ensures here { IfOk result (IsVersionIn houses.now) }
     ensures doors { length doors.new ≡ 1 }
 {
-    let one = six(rt, alloc, doors, houses, nodes)?;
+    let one = six(rt, alloc, doors, houses)?;
     let pages = pages_of(rt, alloc, doors, houses, b"XY")?;
     let touch = Touch {
         first: 1,
@@ -220,7 +191,7 @@ fn two_more<R: Threads + Wait + Sync>(
         (range_of(0, 8), Node::Inner { left: 1, right: 2 }),
         (range_of(4, 4), leaf_of(2, 0, 2, 1, 1)),
     ];
-    next_version(rt, alloc, &one, nodes, pages, 6, touch, &by_hand)
+    next_version(alloc, &one, pages, 6, touch, &by_hand)
 }
 
 // Version 2 with bytes 3 and 4 written anew.
@@ -229,15 +200,14 @@ fn two_over<R: Threads + Wait + Sync>(
     alloc: Global,
     doors: &mut Doors<PlainDoor>,
     houses: &Houses,
-    nodes: &NodeHouse,
 ) -> Result<Snapshot, Fail>
     requires doors { length doors.old ≡ 1 }
     requires houses { length houses.now ≡ 1 }
     ensures page_size { IfOk result (λ s. s.page_size ≡ 4) }
-    ensures here { IfOk result (IsVersionIn nodes.now houses.now) }
+    ensures here { IfOk result (IsVersionIn houses.now) }
     ensures doors { length doors.new ≡ 1 }
 {
-    let one = six(rt, alloc, doors, houses, nodes)?;
+    let one = six(rt, alloc, doors, houses)?;
     let pages = pages_of(rt, alloc, doors, houses, b"\xff\xff")?;
     let touch = Touch {
         first: 0,
@@ -251,7 +221,7 @@ fn two_over<R: Threads + Wait + Sync>(
         (range_of(0, 4), leaf_of(3, 0, 1, 1, 1)),
         (range_of(4, 4), leaf_of(0, 1, 1, 1, 1)),
     ];
-    next_version(rt, alloc, &one, nodes, pages, 3, touch, &by_hand)
+    next_version(alloc, &one, pages, 3, touch, &by_hand)
 }
 
 // Version 3: four bytes, and then byte 0 and byte 1 written anew.
@@ -260,12 +230,11 @@ fn three_writes<R: Threads + Wait + Sync>(
     alloc: Global,
     doors: &mut Doors<PlainDoor>,
     houses: &Houses,
-    nodes: &NodeHouse,
 ) -> Result<Snapshot, Fail>
     requires doors { length doors.old ≡ 1 }
     requires houses { length houses.now ≡ 1 }
     ensures page_size { IfOk result (λ s. s.page_size ≡ 4) }
-    ensures here { IfOk result (IsVersionIn nodes.now houses.now) }
+    ensures here { IfOk result (IsVersionIn houses.now) }
     ensures doors { length doors.new ≡ 1 }
 {
     let p = PageSize::new(4).ok_or("four bytes")?;
@@ -279,7 +248,7 @@ fn three_writes<R: Threads + Wait + Sync>(
     };
     let pages = pages_of(rt, alloc, doors, houses, b"abcd")?;
     let four = [(range_of(0, 4), leaf_of(0, 0, 4, 0, 0))];
-    let one = next_version(rt, alloc, &none, nodes, pages, 0, touch, &four)?;
+    let one = next_version(alloc, &none, pages, 0, touch, &four)?;
     let part = Touch {
         open_first: true,
         open_last: true,
@@ -287,24 +256,23 @@ fn three_writes<R: Threads + Wait + Sync>(
     };
     let pages = pages_of(rt, alloc, doors, houses, b"\xff")?;
     let first = [(range_of(0, 4), leaf_of(0, 0, 1, 1, 1))];
-    let two = next_version(rt, alloc, &one, nodes, pages, 0, part, &first)?;
+    let two = next_version(alloc, &one, pages, 0, part, &first)?;
     let pages = pages_of(rt, alloc, doors, houses, b"\xfe")?;
     let second = [(range_of(0, 4), leaf_of(1, 0, 1, 2, 2))];
-    next_version(rt, alloc, &two, nodes, pages, 1, part, &second)
+    next_version(alloc, &two, pages, 1, part, &second)
 }
 
 // Reads into `out`, and tells the node steps.
 fn read_counted<L: Ledger>(
     alloc: Global,
     snapshot: &Snapshot,
-    nodes: &NodeHouse,
     houses: &Houses,
     doors: &mut Doors<PlainDoor>,
     offset: u64,
     out: &mut [u8],
     blank: Blank,
 ) -> Result<u64, Fail>
-    requires here { IsVersionIn nodes.now houses.now snapshot.now }
+    requires here { IsVersionIn houses.now snapshot.now }
     requires page_size { snapshot.now.page_size ≡ 4 }
     requires doors { length doors.old ≡ length houses.now }
     requires name { blank.name ≡ L.name }
@@ -315,9 +283,7 @@ fn read_counted<L: Ledger>(
     let p = PageSize::new(4).ok_or("four bytes")?;
     let mut room = ReadRoom::new(alloc, p)?;
     let mut steps = Steps::<L>::open(blank);
-    read(
-        snapshot, nodes, houses, doors, &mut room, offset, out, &mut steps,
-    )?;
+    read(snapshot, houses, doors, &mut room, offset, out, &mut steps)?;
     Ok(steps.taken())
 }
 
@@ -325,14 +291,12 @@ fn read_counted<L: Ledger>(
 fn a_read_goes_back_for_what_an_append_left(rt: HostRuntime) -> Result<(), Fail> {
     let alloc = rt.alloc();
     let houses = Houses::new(alloc, 1)?;
-    let nodes = NodeHouse::new(alloc)?;
     let mut doors = Doors::new(alloc, &mut PlainMaker::new(), 1)?;
-    let two = two_more(&rt, alloc, &mut doors, &houses, &nodes)?;
+    let two = two_more(&rt, alloc, &mut doors, &houses)?;
     let mut out = [0; 4];
     let taken = read_counted::<Brand>(
         alloc,
         &two,
-        &nodes,
         &houses,
         &mut doors,
         4,
@@ -348,14 +312,12 @@ fn a_read_goes_back_for_what_an_append_left(rt: HostRuntime) -> Result<(), Fail>
 fn a_read_goes_back_for_each_byte_that_newer_leaves_lack(rt: HostRuntime) -> Result<(), Fail> {
     let alloc = rt.alloc();
     let houses = Houses::new(alloc, 1)?;
-    let nodes = NodeHouse::new(alloc)?;
     let mut doors = Doors::new(alloc, &mut PlainMaker::new(), 1)?;
-    let three = three_writes(&rt, alloc, &mut doors, &houses, &nodes)?;
+    let three = three_writes(&rt, alloc, &mut doors, &houses)?;
     let mut out = [0; 4];
     let taken = read_counted::<Brand>(
         alloc,
         &three,
-        &nodes,
         &houses,
         &mut doors,
         0,
@@ -371,14 +333,12 @@ fn a_read_goes_back_for_each_byte_that_newer_leaves_lack(rt: HostRuntime) -> Res
 fn a_whole_read_visits_each_node_once(rt: HostRuntime) -> Result<(), Fail> {
     let alloc = rt.alloc();
     let houses = Houses::new(alloc, 1)?;
-    let nodes = NodeHouse::new(alloc)?;
     let mut doors = Doors::new(alloc, &mut PlainMaker::new(), 1)?;
-    let two = two_over(&rt, alloc, &mut doors, &houses, &nodes)?;
+    let two = two_over(&rt, alloc, &mut doors, &houses)?;
     let mut out = [0; 6];
     let taken = read_counted::<Brand>(
         alloc,
         &two,
-        &nodes,
         &houses,
         &mut doors,
         0,
@@ -394,12 +354,11 @@ fn a_whole_read_visits_each_node_once(rt: HostRuntime) -> Result<(), Fail> {
 fn right_of_hundred<L: Ledger>(
     alloc: Global,
     snapshot: &Snapshot,
-    nodes: &NodeHouse,
     houses: &Houses,
     expected: &[u8; 6],
     blank: Blank,
 ) -> u64
-    requires here { IsVersionIn nodes.now houses.now snapshot.now }
+    requires here { IsVersionIn houses.now snapshot.now }
     requires page_size { snapshot.now.page_size ≡ 4 }
     requires houses { length houses.now ≡ 1 }
     requires name { blank.name ≡ L.name }
@@ -420,7 +379,7 @@ fn right_of_hundred<L: Ledger>(
     for _round in 0..100u64 {
         let mut out = [0; 6];
         let answer = read(
-            snapshot, nodes, houses, &mut doors, &mut room, 0, &mut out, &mut steps,
+            snapshot, houses, &mut doors, &mut room, 0, &mut out, &mut steps,
         );
         if answer.is_ok() && out == *expected && right < 100 {
             right += 1;
@@ -429,34 +388,12 @@ fn right_of_hundred<L: Ledger>(
     right
 }
 
-// Stores a thousand nodes, and tells whether all were stored.
-fn put_thousand_nodes(rt: &impl Wait, nodes: &NodeHouse) -> bool {
-    for version in 0..1000u64 {
-        let key = NodeKey {
-            blob: 2,
-            version,
-            range: range_of(0, 4),
-        };
-        if nodes.put(rt, key, leaf_of(0, 0, 4, 0, 0)).is_err() {
-            return false;
-        }
-    }
-    true
-}
-
-fn hundred(alloc: Global, snapshot: &Snapshot, nodes: &NodeHouse, houses: &Houses) -> u64
-    requires here { IsVersionIn nodes.now houses.now snapshot.now }
+fn hundred(alloc: Global, snapshot: &Snapshot, houses: &Houses) -> u64
+    requires here { IsVersionIn houses.now snapshot.now }
     requires page_size { snapshot.now.page_size ≡ 4 }
     requires houses { length houses.now ≡ 1 }
 {
-    right_of_hundred::<Brand>(
-        alloc,
-        snapshot,
-        nodes,
-        houses,
-        b"abc\xff\xfff",
-        Blank::new(1),
-    )
+    right_of_hundred::<Brand>(alloc, snapshot, houses, b"abc\xff\xfff", Blank::new(1))
 }
 
 // Two threads read a hundred times each.
@@ -464,45 +401,55 @@ fn two_readers<R: Threads + Wait + Sync>(
     rt: &R,
     alloc: Global,
     snapshot: &Snapshot,
-    nodes: &NodeHouse,
     houses: &Houses,
 ) -> (u64, u64)
-    requires here { IsVersionIn nodes.now houses.now snapshot.now }
+    requires here { IsVersionIn houses.now snapshot.now }
     requires page_size { snapshot.now.page_size ≡ 4 }
     requires houses { length houses.now ≡ 1 }
 {
     thread::join(
         rt,
         || -> u64
-            requires here { IsVersionIn nodes.now houses.now snapshot.now }
+            requires here { IsVersionIn houses.now snapshot.now }
             requires page_size { snapshot.now.page_size ≡ 4 }
             requires houses { length houses.now ≡ 1 }
-        { hundred(alloc, snapshot, nodes, houses) },
+        { hundred(alloc, snapshot, houses) },
         || -> u64
-            requires here { IsVersionIn nodes.now houses.now snapshot.now }
+            requires here { IsVersionIn houses.now snapshot.now }
             requires page_size { snapshot.now.page_size ≡ 4 }
             requires houses { length houses.now ≡ 1 }
-        { hundred(alloc, snapshot, nodes, houses) },
+        { hundred(alloc, snapshot, houses) },
     )
 }
 
+// Stores two versions with doors of its own, and tells whether both were stored.
+fn store_again<R: Threads + Wait + Sync>(rt: &R, alloc: Global, houses: &Houses) -> bool
+    requires houses { length houses.now ≡ 1 }
+{
+    let Ok(mut doors) = Doors::new(alloc, &mut PlainMaker::new(), 1) else {
+        return false;
+    };
+    two_over(rt, alloc, &mut doors, houses).is_ok()
+}
+
 #[test]
-fn two_threads_read_while_a_third_stores_nodes(rt: HostRuntime) -> Result<(), Fail> {
+fn two_threads_read_while_a_third_stores_versions(rt: HostRuntime) -> Result<(), Fail> {
     let alloc = rt.alloc();
     let houses = Houses::new(alloc, 1)?;
-    let nodes = NodeHouse::new(alloc)?;
     let mut doors = Doors::new(alloc, &mut PlainMaker::new(), 1)?;
-    let two = two_over(&rt, alloc, &mut doors, &houses, &nodes)?;
-    let (right, put) = thread::join(
+    let two = two_over(&rt, alloc, &mut doors, &houses)?;
+    let (right, stored) = thread::join(
         &rt,
         || -> (u64, u64)
-            requires here { IsVersionIn nodes houses two }
+            requires here { IsVersionIn houses two }
             requires page_size { two.page_size ≡ 4 }
             requires houses { length houses ≡ 1 }
-        { two_readers(&rt, alloc, &two, &nodes, &houses) },
-        || put_thousand_nodes(&rt, &nodes),
+        { two_readers(&rt, alloc, &two, &houses) },
+        || -> bool
+            requires houses { length houses ≡ 1 }
+        { store_again(&rt, alloc, &houses) },
     );
-    assert!(rt; put);
+    assert!(rt; stored);
     assert_eq!(rt; right, (100, 100));
     Ok(())
 }

@@ -2,7 +2,6 @@
 ghost use Rattle.std.specs.Prelude.{◌≡◌};
 
 use blob_model::{Limits, Outcome};
-use node_store::NodeHouse;
 use page_store::Houses;
 use std::sync::{Arc, Wait};
 use std::test::Fail;
@@ -41,9 +40,8 @@ fn make_beside<R: Threads + Wait + Sync>(
 fn two_threads_make_two_blobs_each(rt: HostRuntime) -> Result<(), Fail> {
     let alloc = rt.alloc();
     let houses = Arc::new(alloc, Houses::new(alloc, 1)?)?;
-    let nodes = Arc::new(alloc, NodeHouse::new(alloc)?)?;
     let p = PageSize::new(4).ok_or("four bytes")?;
-    let desk = Desk::new(alloc, Limits::greatest(), p, &houses, &nodes)?;
+    let desk = Desk::new(alloc, Limits::greatest(), p, &houses)?;
     let (shared, mut owner) = SharedDesk::new(alloc, desk)?;
     let one = shared.pass(&mut owner)?;
     let two = shared.pass(&mut owner)?;

@@ -13,6 +13,6 @@ mod touch;
 
 pub use node::{Node, NodeKey, Piece};
 pub use page::{PageSize, height, span};
-pub use range::{Range, halves};
+pub use range::{Range, halves, range_of_page};
 pub use steps::Steps;
 pub use touch::{Touch, covers_page, meets, touched};

@@ -19,7 +19,8 @@ use Rattle.range_log.specs.Depths.{depth_of}
 use Rattle.range_log.specs.Rows.{level_of, levels_of, row_keys_of, row_of, node_of, back_of, leaf_at}
 use Rattle.range_log.specs.Laws.{Before, EachTouchIs, SizesAre, RowKeysInOrder}
 use Rattle.border_hints.specs.Numbered.{NumberedUpdate, own_touch, log_upto, StandsFor, IsNumbered}
-use Rattle.tree_weaver.specs.Planned.{own_extent, own_node, own_nodes, InRowOrder}
+use Rattle.node_store.specs.Order.{Before as StandsBefore, InRowOrder}
+use Rattle.tree_weaver.specs.Planned.{own_extent, own_node, own_nodes}
 
 -- ---- what the updates tell that a ticket stands for
 -- a node, by where the update falls, the touches, the size after it and its version
@@ -108,6 +109,12 @@ module _ (each : EachTouchIs) (sizes : SizesAre) (t : NumberedUpdate) (is : IsNu
       ap (map of_us) keys ∙ map_same of_us of_own (own_ranges t) (λ r. ap (λ (n : Node). (r, n)) (same r))
 
 -- ---- the order
+stands : (a b : Range) → Before a b → StandsBefore a b
+stands a b is = elim is [
+  | inl larger ↦ (omega arith, λ le. absurd (omega arith))
+  | inr level ↦ (let e : a.size ≡ b.size = level.0 in omega arith, λ le. level.1)
+]
+
 pub plan_in_order : RowKeysInOrder → EachTouchIs → SizesAre → (t : NumberedUpdate) → IsNumbered t → 1 ≤ t.snapshot.page_size → InRowOrder (own_nodes t (own_ranges t))
 plan_in_order order each sizes t is pos i j d lt le =
     let p : ℕ = t.snapshot.page_size in
@@ -120,10 +127,10 @@ plan_in_order order each sizes t is pos i j d lt le =
     let count : length (own_nodes t (own_ranges t)) ≡ length (own_ranges t) = length-map (own_ranges t) g in
     let first : get_or (own_nodes t (own_ranges t)) i d ≡ g (get_or (own_ranges t) i d.0) = get_or-map g (own_ranges t) i d.0 d (omega arith) in
     let second : get_or (own_nodes t (own_ranges t)) j d ≡ g (get_or (own_ranges t) j d.0) = get_or-map g (own_ranges t) j d.0 d (omega arith) in
-    let B : Range × Node → Range × Node → Type 0 = λ a b. Before a.0 b.0 in
+    let B : Range × Node → Range × Node → Type 0 = λ a b. StandsBefore a.0 b.0 in
     let C : Range × Node → Type 0 = λ a. B a (get_or (own_nodes t (own_ranges t)) j d) in
     let D : Range × Node → Type 0 = λ b. B (g (get_or (own_ranges t) i d.0)) b in
-    subst C (sym first) (subst D (sym second) (sorted i j d.0 lt (omega arith)))
+    subst C (sym first) (subst D (sym second) (stands (get_or (own_ranges t) i d.0) (get_or (own_ranges t) j d.0) (sorted i j d.0 lt (omega arith))))
 
 -- ---- the levels, as they are planned
 -- the node for range number q of a height, beside the range

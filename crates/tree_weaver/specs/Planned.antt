@@ -1,6 +1,5 @@
 -- The row of a numbered update, by what its ticket tells.
 use Rattle.std.specs.Prelude.{◌≡◌, ◌⊎◌, ℕ, ◌-◌, ◌/◌, ◌<◌, ◌==◌, if◌then◌else◌, List, map}
-use Rattle.std.specs.List.{AllPairs}
 use Rattle.tree_geom.specs.declared.range.Range.{Range}
 use Rattle.tree_geom.specs.declared.node.Node.{Node}
 use Rattle.tree_geom.specs.declared.node.Node.TheVariants.{Inner}
@@ -9,7 +8,6 @@ use Rattle.range_log.specs.Log.{newest_of}
 use Rattle.range_log.specs.Extents.{Extent}
 use Rattle.range_log.specs.Depths.{depth_of}
 use Rattle.range_log.specs.Rows.{leaf_at}
-use Rattle.range_log.specs.Laws.{Before}
 use Rattle.border_hints.specs.Numbered.{NumberedUpdate, own_touch, log_upto}
 use Rattle.border_hints.specs.Borders.{IsRowRange}
 
@@ -46,10 +44,6 @@ own_node t r = if r.size == t.snapshot.page_size then own_leaf t (r.offset / t.s
 -- the nodes beside their ranges
 abbrev pub own_nodes : NumberedUpdate → List Range → List (Range × Node)
 own_nodes t ranges = map (λ r. (r, own_node t r)) ranges
-
--- the ranges stand in the order of a row, each once
-abbrev pub InRowOrder : List (Range × Node) → Type 0
-InRowOrder nodes = AllPairs (λ (a : Range × Node) (b : Range × Node). Before a.0 b.0) nodes
 
 -- the range is a half of a node of the update's row
 pub record IsHalf (t : NumberedUpdate) (range : Range) : Type 0 where

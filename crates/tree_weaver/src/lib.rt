@@ -1,7 +1,7 @@
 //! The row of a numbered update: its nodes planned from its ticket alone, and stored.
 //!
 //! A plan is the row that would be made of the whole list of the blob's updates, whichever version was published at the
-//! numbering, with the depths of its leaves: how many backs lead on from each. Neither call takes a lock.
+//! numbering, with the depths of its leaves: how many backs lead on from each. Neither call takes a lock or waits.
 #![tactic(auto)]
 
 pub mod laws;

@@ -4,13 +4,13 @@ ghost use Rattle.tree_geom.specs.Geometry.{tree_range, height_of};
 ghost use Rattle.range_log.specs.Extents.{Extent};
 ghost use Rattle.range_log.specs.Rows.{level_of, row_of};
 ghost use Rattle.border_hints.specs.Numbered.{log_upto, own_touch, StandsFor};
-ghost use Rattle.snapshot.specs.Versions.{NodesLieIn};
 ghost use Rattle.border_hints.specs.Borders.{AreBorders};
-ghost use Rattle.tree_weaver.specs.Planned.{own_node, own_nodes, InRowOrder};
+ghost use Rattle.tree_weaver.specs.Planned.{own_node, own_nodes};
+ghost use Rattle.node_store.specs.Order.{InRowOrder};
 
 use crate::node::{inner, leaf};
 use border_hints::{Borders, Ticket, borders};
-use node_store::{NoMemory, NodeHouse};
+use node_store::NoMemory;
 use std::alloc::Global;
 use std::marker::Model;
 use std::sync::ledger::Ledger;
@@ -26,7 +26,7 @@ impl Model for PlannedRow {
     ghost use Rattle.std.specs.Prelude.{List};
     ghost use Rattle.tree_geom.specs.declared.range.Range.{Range};
     ghost use Rattle.tree_geom.specs.declared.node.Node.{Node};
-    ghost use Rattle.tree_weaver.specs.Planned.{InRowOrder};
+    ghost use Rattle.node_store.specs.Order.{InRowOrder};
 
     ghost Value = { List (Range × Node) };
 
@@ -42,6 +42,14 @@ impl PlannedRow {
         ensures order { InRowOrder self.now }
     {
         &self.nodes
+    }
+
+    // The same, for the row that keeps them. None is copied.
+    pub(crate) fn into_nodes(self) -> Vec<(Range, Node)>
+        ensures nodes { result.items ≡ self }
+        ensures order { InRowOrder self }
+    {
+        self.nodes
     }
 }
 
@@ -117,17 +125,15 @@ fn expected(touch: Touch, height: u32) -> usize {
 pub fn plan<L: Ledger>(
     alloc: Global,
     ticket: &Ticket,
-    nodes: &NodeHouse,
     steps: &mut Steps<L>,
 ) -> Result<PlannedRow, NoMemory>
-    requires here { NodesLieIn nodes.now ticket.now.snapshot }
     ensures row { IfOk result (λ row. (us : List Extent) → StandsFor ticket.now us → row ≡ row_of ticket.now.snapshot.page_size us ticket.now.version) }
     ensures steps { steps.new ≤ steps.old + 4 * height_of ticket.now.snapshot.page_size ticket.now.size + 4 }
 {
     range_log::laws::logs_are_grown();
     range_log::laws::row_keys_exact();
     tree_geom::laws::spans_hold();
-    let borders = borders(ticket, nodes, steps);
+    let borders = borders(ticket, steps);
     let p = ticket.hints().snapshot.page_size();
     let _version = ticket.version();
     let _root = span(p, ticket.size());

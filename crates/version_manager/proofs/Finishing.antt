@@ -17,7 +17,6 @@ use Rattle.node_store.specs.Rows.{UpdateRow}
 use Rattle.snapshot.specs.Versions.{IsRowOf}
 use Rattle.publisher.specs.Windows.{Numbered}
 use Rattle.border_hints.specs.Numbered.{NumberedUpdate}
-use Rattle.boxcar.specs.Table.{Shelves}
 use Rattle.page_store.specs.House.{House}
 use Rattle.version_manager.specs.Desks.{DeskState, updates_or_none, IsTicketOf, IsRowFor}
 use Rattle.version_manager.specs.Kept.{Keeps, KeepsDesk}
@@ -82,18 +81,18 @@ module _ (limits : Bounds) (p : ℕ) (h : List Event) (ws : List Numbered) (kept
     pub within : version ≤ assigned at.found.b
     pub own : IsRowOf w.page_size at.found.b.updates version row
 
-  abbrev pub this : List House → List Shelves → DeskState
-  this houses nodes = record { limits = limits; page_size = p; houses = houses; nodes = nodes; history = h; windows = ws }
+  abbrev pub this : List House → DeskState
+  this houses = record { limits = limits; page_size = p; houses = houses; history = h; windows = ws }
 
-  pub ticket_place : (houses : List House) (nodes : List Shelves) (t : NumberedUpdate) (version : ℕ) → blob ≡ t.blob → version ≡ t.version → 1 ≤ version → IsTicketOf (this houses nodes) t → (1 ≤ blob) × (blob ≤ length ws)
-  ticket_place houses nodes t version on is first ticket =
+  pub ticket_place : (houses : List House) (t : NumberedUpdate) (version : ℕ) → blob ≡ t.blob → version ≡ t.version → 1 ≤ version → IsTicketOf (this houses) t → (1 ≤ blob) × (blob ≤ length ws)
+  ticket_place houses t version on is first ticket =
       let N : ℕ → ℕ → Type 0 = λ i v. v ≤ length (updates_or_none (blob_at (store_of limits h) i)) in
       with_updates version first (subst (λ (i : ℕ). N i version) (sym on) (subst (λ (v : ℕ). N t.blob v) (sym is) ticket.numbered))
 
-  pub finishable : (houses : List House) (nodes : List Shelves) (t : NumberedUpdate) (version place : ℕ) (w : Numbered) (row : UpdateRow) → blob ≡ t.blob → version ≡ t.version → place ≡ blob - 1 → 1 ≤ version → IsTicketOf (this houses nodes) t → IsRowFor (this houses nodes) t row
+  pub finishable : (houses : List House) (t : NumberedUpdate) (version place : ℕ) (w : Numbered) (row : UpdateRow) → blob ≡ t.blob → version ≡ t.version → place ≡ blob - 1 → 1 ≤ version → IsTicketOf (this houses) t → IsRowFor (this houses) t row
       → w ≡ get_or ws place w → IsFinishable version place w row
-  finishable houses nodes t version place w row on is at first ticket own read =
-      let r = ticket_place houses nodes t version on is first ticket in
+  finishable houses t version place w row on is at first ticket own read =
+      let r = ticket_place houses t version on is first ticket in
       let x : IsAt limits p h ws kept blob place w = at_place limits p h ws kept blob place (length ws) w refl (at, r.0, r.1) read in
       let us : updates_or_none (blob_at (store_of limits h) t.blob) ≡ x.found.b.updates = ap (λ (i : ℕ). updates_or_none (blob_at (store_of limits h) i)) (sym on) ∙ ap updates_or_none x.found.at in
       let R : List Update → Type 0 = λ l. IsRowOf p l t.version row in

@@ -30,7 +30,7 @@ tagged_more h e = map-append tag h (e ∷ [])
 -- ---- without windows
 -- the desk with another history and no windows
 abbrev with_history : DeskState → List Event → DeskState
-with_history d l = record { limits = d.limits; page_size = d.page_size; houses = d.houses; nodes = d.nodes; history = l; windows = [] }
+with_history d l = record { limits = d.limits; page_size = d.page_size; houses = d.houses; history = l; windows = [] }
 
 abbrev pub bare : DeskState → DeskState
 bare d = with_history d d.history
@@ -148,7 +148,7 @@ looked d call caller said legal short is =
     record { log = is_log d d refl legal short; same = refl; said_is = subst P (sym (at_now d)) (is caller) }
 
 snapshot_by : (d : DeskState) (blob version : ℕ) (r : Result Version DeskFault) → IfOk r (λ s. length s.rows ≡ version) → IfOk r (λ s. s.page_size ≡ d.page_size)
-    → IfOk r (λ s. TellUpdates d.page_size (updates_in d blob) s.rows) → IfOk r (λ s. IsVersionIn d.nodes d.houses s) → IfOk r (λ s. LieUnderOrigins d.history blob s.rows)
+    → IfOk r (λ s. TellUpdates d.page_size (updates_in d blob) s.rows) → IfOk r (λ s. IsVersionIn d.houses s) → IfOk r (λ s. LieUnderOrigins d.history blob s.rows)
     → IfOk r (λ s. IsSnapshotOf (fixed_of d) (tagged d.history) blob version s)
 snapshot_by d blob version (Err x) rows page tells here origins = tt
 snapshot_by d blob version (Ok s) rows page tells here origins =
@@ -160,7 +160,7 @@ pub opened : (d : DeskState) (blob version caller : ℕ) (r : Result Version Des
     → ((c : ℕ) → IfOk r (λ s. outcome_now d c (Calls.Size blob version) ≡ Outcomes.Size (size_now s)))
     → ((c : ℕ) → IfErr r (λ fault. OnRefused fault (λ x. outcome_now d c (Calls.Size blob version) ≡ Outcomes.Refused x)))
     → IfOk r (λ s. length s.rows ≡ version) → IfOk r (λ s. s.page_size ≡ d.page_size)
-    → IfOk r (λ s. TellUpdates d.page_size (updates_in d blob) s.rows) → IfOk r (λ s. IsVersionIn d.nodes d.houses s) → IfOk r (λ s. LieUnderOrigins d.history blob s.rows)
+    → IfOk r (λ s. TellUpdates d.page_size (updates_in d blob) s.rows) → IfOk r (λ s. IsVersionIn d.houses s) → IfOk r (λ s. LieUnderOrigins d.history blob s.rows)
     → Opened (fixed_of d) blob version (tagged d.history) caller r (tagged d.history)
 opened d blob version caller r legal short size refused rows page tells here origins =
     let D : DeskState → Type 0 = λ x. IfOk r (λ s. outcome_now x caller (Calls.Size blob version) ≡ Outcomes.Size (size_now s)) in

@@ -28,11 +28,11 @@ events log = map (λ (x : ℕ × Event). x.1) log
 
 -- what no act changes
 abbrev pub fixed_of : DeskState → DeskFixed
-fixed_of d = record { limits = d.limits; page_size = d.page_size; houses = d.houses; nodes = d.nodes }
+fixed_of d = record { limits = d.limits; page_size = d.page_size; houses = d.houses }
 
 -- a desk with these fixed data and this history, as far as conditions on the history look
 abbrev pub desk_at : DeskFixed → List (ℕ × Event) → DeskState
-desk_at f log = record { limits = f.limits; page_size = f.page_size; houses = f.houses; nodes = f.nodes; history = events log; windows = [] }
+desk_at f log = record { limits = f.limits; page_size = f.page_size; houses = f.houses; history = events log; windows = [] }
 
 -- it is the history of a desk with these fixed data: each entry has its caller, the events are legal, and they are fewer than 2^38
 pub record IsLog (f : DeskFixed) (log : List (ℕ × Event)) : Type 0 where
@@ -83,7 +83,7 @@ pub record MayFinish (t : NumberedUpdate) (row : UpdateRow) (log : List (ℕ × 
   pub ticket : IsTicketOf (desk_at f log) t
   pub row_for : IsRowFor (desk_at f log) t row
   pub under : row.blob ≡ t.blob
-  pub here : IsRowIn f.nodes f.houses row
+  pub here : IsRowIn f.houses row
 
 -- a finish: the version wasn't finished where it is done, and was where it is refused; the row comes back where it isn't done
 pub record Finishes {R : Type 0} (f : DeskFixed) (t : NumberedUpdate) (row : R) (before after : List (ℕ × Event)) (said : Result ℕ (DeskFault × R)) : Type 0 where
@@ -97,7 +97,7 @@ pub record IsSnapshotOf (f : DeskFixed) (log : List (ℕ × Event)) (blob versio
   pub rows : length s.rows ≡ version
   pub page_size : s.page_size ≡ f.page_size
   pub tells : TellUpdates f.page_size (updates_in (desk_at f log) blob) s.rows
-  pub here : IsVersionIn f.nodes f.houses s
+  pub here : IsVersionIn f.houses s
   pub origins : LieUnderOrigins (events log) blob s.rows
 
 -- A look at the size of a version, with its snapshot

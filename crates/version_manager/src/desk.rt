@@ -22,7 +22,7 @@ use crate::fault::DeskFault;
 use crate::looks::{recent_in, size_in, snapshot_in, status_in, sync_in};
 use blob_model::{Limits, Outcome, Place, Refusal};
 use border_hints::Ticket;
-use node_store::{NodeHouse, Row};
+use node_store::Row;
 use page_store::{Houses, Pages};
 use publisher::{NoMemory, Window};
 use snapshot::Snapshot;
@@ -37,7 +37,7 @@ const MAX_ENTRIES: u64 = (1 << 38) - 1;
 /// The blobs of a store, and the history of all changes that it accepted, in order, each with its caller.
 ///
 /// The history is legal, and the blobs are what it leaves. A call that is refused, and one that finds no memory, leaves the
-/// desk as before. The pages and nodes of the desk's versions lie in the houses that it was made for, the nodes of each version
+/// desk as before. The pages of the desk's versions lie in the houses that it was made for, and the row of each version stands
 /// under the blob that it was numbered in. It has fewer than 2^38 entries.
 #[derive(Drop)]
 pub struct Desk {
@@ -45,7 +45,6 @@ pub struct Desk {
     limits: Limits,
     page_size: PageSize,
     houses: Arc<Houses>,
-    nodes: Arc<NodeHouse>,
     history: Vec<Entry>,
     windows: Vec<Window>,
 }
@@ -63,24 +62,22 @@ impl Model for Desk {
       limits = d.limits;
       page_size = d.page_size;
       houses = arc_value d.houses;
-      nodes = arc_value d.nodes;
       history = map event_of d.history.items;
       windows = d.windows.items;
     } };
 
-    ghost invariant = { λ d. IsDesk d.limits d.page_size (arc_value d.houses) (arc_value d.nodes) (map event_of d.history.items) d.windows.items };
+    ghost invariant = { λ d. IsDesk d.limits d.page_size (arc_value d.houses) (map event_of d.history.items) d.windows.items };
 }
 
 impl Desk {
-    /// A desk without blobs, whose history is empty, for pages and nodes in these houses.
+    /// A desk without blobs, whose history is empty, for pages in these houses.
     pub fn new(
         alloc: Global,
         limits: Limits,
         p: PageSize,
         houses: &Arc<Houses>,
-        nodes: &Arc<NodeHouse>,
     ) -> Result<Desk, NoMemory>
-        ensures { IfOk result (λ desk. desk ≡ empty_desk limits p (arc_value houses.now) (arc_value nodes.now)) }
+        ensures { IfOk result (λ desk. desk ≡ empty_desk limits p (arc_value houses.now)) }
     {
         let _bytes = p.bytes();
         Ok(Desk {
@@ -88,7 +85,6 @@ impl Desk {
             limits,
             page_size: p,
             houses: Arc::try_clone(houses)?,
-            nodes: Arc::try_clone(nodes)?,
             history: Vec::new(alloc),
             windows: Vec::new(alloc),
         })
@@ -211,7 +207,7 @@ impl Desk {
         requires ticket { IsTicketOf self.old ticket.now }
         requires row { IsRowFor self.old ticket.now (arc_value row) }
         requires under { (arc_value row).blob ≡ ticket.now.blob }
-        requires here { IsRowIn self.old.nodes self.old.houses (arc_value row) }
+        requires here { IsRowIn self.old.houses (arc_value row) }
         ensures published { IfOk result (λ published. outcome_now self.old caller (Calls.Finish ticket.now.blob ticket.now.version) ≡ Outcomes.Published published) }
         ensures new { IfOk result (λ _. self.new ≡ with_event self.old (Events.Finish caller ticket.now.blob ticket.now.version)
             (windows_with self.old ticket.now.blob (with_finished (window_in self.old ticket.now.blob) ticket.now.version (arc_value row)))) }
@@ -297,7 +293,7 @@ impl Desk {
         ensures page_size { IfOk result (λ s. s.page_size ≡ self.now.page_size) }
         ensures tells { IfOk result (λ s. TellUpdates self.now.page_size (updates_in self.now blob) s.rows) }
         ensures refused { (caller : ℕ) → IfErr result (λ fault. OnRefused fault (λ refusal. outcome_now self.now caller (Calls.Size blob version) ≡ Outcomes.Refused refusal)) }
-        ensures here { IfOk result (λ s. IsVersionIn self.now.nodes self.now.houses s) }
+        ensures here { IfOk result (λ s. IsVersionIn self.now.houses s) }
         ensures origins { IfOk result (λ s. LieUnderOrigins self.now.history blob s.rows) }
     {
         match place_of(&self.windows, blob) {

@@ -1,5 +1,4 @@
 pub mod Opens
 pub mod Updates
 pub mod Tickets
-pub mod Rows
 pub mod Steady

@@ -15,16 +15,13 @@ use Rattle.range_log.specs.Extents.{Extent, IsLog, touches}
 use Rattle.range_log.specs.Updates.{update_at, no_update, extent_of, extents, Replayable}
 use Rattle.range_log.specs.Laws.{TouchesAre, EachTouchIs, SizesAre, RowsStay, ExtentsGrow, ExtentsStand}
 use Rattle.page_store.specs.Stored.{joined}
-use Rattle.node_store.specs.House.{IsIn}
 use Rattle.node_store.specs.Rows.{UpdateRow}
 use Rattle.snapshot.specs.Versions.{Version, older_version}
 use Rattle.border_hints.specs.Numbered.{log_of, log_with, numbered}
-use Rattle.snapshot.specs.Versions.{NodesLieIn}
 use Rattle.publisher.specs.Windows.{version_of, opens_from}
 use Rattle.publisher.specs.Laws.{PublishedLogIs}
 use Rattle.weaver_tests.specs.Blobs.{OneBlob, IsOneBlob, Start, update_of, updates_in, IsTicketOf}
 use Rattle.weaver_tests.proofs.Opens.{opens_at, length-opens, opens_touch, length-between, between_joined}
-use Rattle.weaver_tests.proofs.Rows.{leading_here}
 use Rattle.weaver_tests.proofs.Updates.{replayable_first, touches_first, extent_first, size_next, touch_next, size_told}
 use Rattle.tree_geom.proofs.Spans.{page_pos}
 
@@ -183,7 +180,4 @@ module _ (are : TouchesAre) (each : EachTouchIs) (sizes : SizesAre) (stay : Rows
             own = extent_first are stay grow us i within ∙ falls;
           };
           bytes = sym (ap (λ (u : Update). u.bytes) (get_or-take (suc i) us i no_update (omega arith) ∙ update));
-          here =
-              let N : Version → Type 0 = λ v. NodesLieIn b.nodes v in
-              subst N (sym f.taken) (All-take (λ (row : UpdateRow). All (IsIn b.nodes) row.nodes) from (version_of b.window).rows (leading_here b.nodes b.window.rows is.here));
         }

@@ -1,16 +1,12 @@
 -- A blob of the tests: its window, and where each numbered update begins and which pages it has.
-use Rattle.std.specs.Prelude.{◌≡◌, ℕ, ◌≤◌, List, length, take, map, All, Option, IfSome}
-use Rattle.boxcar.specs.Table.{Shelves}
+use Rattle.std.specs.Prelude.{◌≡◌, ℕ, ◌≤◌, List, length, take, map, All}
 use Rattle.blob_model.specs.Content.{Update}
 use Rattle.blob_model.specs.declared.call.Place.TheVariants.{WriteAt}
 use Rattle.tree_geom.specs.declared.touch.Touch.{Touch}
 use Rattle.tree_geom.specs.Geometry.{IsPageSize}
 use Rattle.range_log.specs.Updates.{update_at, extents}
 use Rattle.page_store.specs.Stored.{Cut, joined}
-use Rattle.node_store.specs.House.{IsIn}
-use Rattle.node_store.specs.Rows.{UpdateRow}
 use Rattle.border_hints.specs.Numbered.{NumberedUpdate, StandsFor as TicketStandsFor}
-use Rattle.snapshot.specs.Versions.{NodesLieIn}
 use Rattle.publisher.specs.Windows.{Numbered, StandsFor}
 
 -- where an update begins, and its pages
@@ -18,9 +14,8 @@ pub record Start : Type 0 where
   pub at : ℕ
   pub pages : Cut
 
--- the house of its nodes, its window, what its updates touch, and where they begin
+-- its window, what its updates touch, and where they begin
 pub record OneBlob : Type 0 where
-  pub nodes : List Shelves
   pub window : Numbered
   pub touches : List Touch
   pub starts : List Start
@@ -33,17 +28,12 @@ update_of s = record { caller = 0; place = WriteAt s.at; bytes = joined s.pages.
 abbrev pub updates_in : OneBlob → List Update
 updates_in b = map update_of b.starts
 
--- the row, where there is one, has its nodes in this house
-abbrev pub LiesIn : List Shelves → Option UpdateRow → Type 0
-LiesIn nodes place = IfSome place (λ (row : UpdateRow). All (IsIn nodes) row.nodes)
-
--- the window stands for the updates, and each row lies in the house
+-- the window stands for the updates
 pub record IsOneBlob (b : OneBlob) : Type 0 where
   pub page_size : IsPageSize b.window.page_size
   pub stands : StandsFor (updates_in b) b.window
   pub paired : length b.window.rows ≡ length b.window.log
   pub touches : b.touches ≡ b.window.log
-  pub here : All (LiesIn b.nodes) b.window.rows
   pub cut : All (λ (s : Start). s.pages.page_size ≡ b.window.page_size) b.starts
 
 -- the ticket stands for the updates up to its own, which has the ticket's pages
@@ -53,4 +43,3 @@ pub record IsTicketOf (b : OneBlob) (t : NumberedUpdate) : Type 0 where
   pub page_size : t.snapshot.page_size ≡ b.window.page_size
   pub stands : TicketStandsFor t (extents (take t.version (updates_in b)))
   pub bytes : joined t.pages.pages ≡ (update_at (take t.version (updates_in b)) t.version).bytes
-  pub here : NodesLieIn b.nodes t.snapshot

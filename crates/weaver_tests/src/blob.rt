@@ -9,7 +9,7 @@ ghost use Rattle.publisher.specs.Windows.{opens_from};
 use crate::pages::store;
 use crate::plain::{Bytes, plain_bound, plain_row};
 use border_hints::{Hints, Ticket};
-use node_store::{NodeHouse, Row};
+use node_store::Row;
 use page_store::{PageHouse, Pages};
 use publisher::{FinishFault, Window};
 use range_log::{OpenCopy, OpenList, OpenTouch};
@@ -17,8 +17,8 @@ use range_reader::stated;
 use snapshot::Snapshot;
 use std::alloc::Global;
 use std::marker::{Brand, Model};
+use std::sync::Arc;
 use std::sync::ledger::{Blank, Ledger};
-use std::sync::{Arc, Wait};
 use std::test::Fail;
 use tree_geom::{Node, PageSize, Range, Steps, Touch, touched};
 use tree_weaver::{PlannedRow, plan, put_row};
@@ -58,7 +58,6 @@ impl Begun {
 /// A blob with its window, and what its updates touch, where they begin and which pages they have.
 #[derive(Drop)]
 pub struct Blob {
-    nodes: NodeHouse,
     window: Window,
     touches: Vec<Touch>,
     begun: Vec<Begun>,
@@ -69,9 +68,9 @@ impl Model for Blob {
 
     ghost Value = { OneBlob };
 
-    ghost view = { λ b. record { nodes = b.nodes; window = b.window; touches = b.touches.items; starts = b.begun.items } };
+    ghost view = { λ b. record { window = b.window; touches = b.touches.items; starts = b.begun.items } };
 
-    ghost invariant = { λ b. IsOneBlob (record { nodes = b.nodes; window = b.window; touches = b.touches.items; starts = b.begun.items }) };
+    ghost invariant = { λ b. IsOneBlob (record { window = b.window; touches = b.touches.items; starts = b.begun.items }) };
 }
 
 // The touches from number `from` to the one before `upto`, as those of waiting updates.
@@ -104,7 +103,6 @@ impl Blob {
     pub fn new(alloc: Global, p: PageSize) -> Result<Blob, Fail> {
         publisher::laws::windows_stand();
         Ok(Blob {
-            nodes: NodeHouse::new(alloc)?,
             window: Window::new(alloc, Snapshot::empty(alloc, 1, p)?)?,
             touches: Vec::new(alloc),
             begun: Vec::new(alloc),
@@ -219,7 +217,7 @@ impl Blob {
         ensures { IfOk result (λ r. r.0 ≡ row_of self.now.window.page_size (extents (take ticket.now.version (updates_in self.now))) ticket.now.version) }
     {
         let mut steps = Steps::<L>::open(blank);
-        let planned = plan(alloc, ticket, &self.nodes, &mut steps)?;
+        let planned = plan(alloc, ticket, &mut steps)?;
         Ok((planned, steps.taken()))
     }
 
@@ -246,7 +244,7 @@ impl Blob {
     {
         let mut steps = Steps::<L>::open(blank);
         let snapshot = &ticket.hints().snapshot;
-        match stated(snapshot, &self.nodes, offset, count, &mut steps) {
+        match stated(snapshot, offset, count, &mut steps) {
             Ok(most) => Ok((most, steps.taken())),
             Err(_) => Err("past the size".into()),
         }
@@ -276,7 +274,6 @@ impl Blob {
     /// the update.
     pub fn finish(
         &mut self,
-        rt: &impl Wait,
         alloc: Global,
         version: u64,
         published: u64,
@@ -286,7 +283,7 @@ impl Blob {
         tree_weaver::laws::stored_rows_are_rows();
         let ticket = self.ticket(alloc, version, published)?;
         let (planned, _) = self.plan(alloc, &ticket)?;
-        let row = put_row(rt, alloc, &ticket, &planned, &self.nodes)?;
+        let row = put_row(alloc, &ticket, planned)?;
         let version = ticket.version();
         Ok(self.window.finish(version, row))
     }

@@ -13,7 +13,7 @@ pub fn written(rt: &impl Wait, alloc: Global, updates: &[(u64, usize)]) -> Resul
     for (at, len) in updates {
         let bytes = zeros.get(..*len).ok_or("more bytes than there are")?;
         let version = blob.start(rt, alloc, *at, bytes)?;
-        let _ = blob.finish(rt, alloc, version, version.saturating_sub(1))?;
+        let _ = blob.finish(alloc, version, version.saturating_sub(1))?;
     }
     Ok(blob)
 }

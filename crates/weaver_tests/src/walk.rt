@@ -93,7 +93,7 @@ impl Walk {
     }
 
     // Finishes one of the waiting updates.
-    fn finish(&mut self, rt: &impl Wait, alloc: Global) -> Result<(), Fail> {
+    fn finish(&mut self, alloc: Global) -> Result<(), Fail> {
         let count = self.held.len() as u64;
         if count == 0 {
             return Ok(());
@@ -101,7 +101,7 @@ impl Walk {
         let place = self.roll(count) as usize;
         if place < self.held.len() {
             let (version, published) = self.held.swap_remove(place);
-            let _ = self.blob.finish(rt, alloc, version, published)?;
+            let _ = self.blob.finish(alloc, version, published)?;
         }
         Ok(())
     }
@@ -113,7 +113,7 @@ impl Walk {
         self.held.push((version, published))?;
         self.check(alloc, version, published)?;
         if self.held.len() > 5 || self.roll(2) == 0 {
-            self.finish(rt, alloc)?;
+            self.finish(alloc)?;
         }
         Ok(())
     }
@@ -124,7 +124,7 @@ impl Walk {
             self.step(rt, alloc)?;
         }
         for _left in 0..6u64 {
-            self.finish(rt, alloc)?;
+            self.finish(alloc)?;
         }
         Ok(())
     }

@@ -70,13 +70,8 @@ fn two_appends(rt: &impl Wait, alloc: Global) -> Result<Blob, Fail> {
 }
 
 // What a finish answers: the published version, or none where it was finished already and its row came back.
-fn finished(
-    rt: &impl Wait,
-    alloc: Global,
-    blob: &mut Blob,
-    version: u64,
-) -> Result<Option<u64>, Fail> {
-    match blob.finish(rt, alloc, version, 0)? {
+fn finished(alloc: Global, blob: &mut Blob, version: u64) -> Result<Option<u64>, Fail> {
+    match blob.finish(alloc, version, 0)? {
         Ok(published) => Ok(Some(published)),
         Err((FinishFault::Already, row)) if row.version() == version => Ok(None),
         Err(_) => Err("another fault or row".into()),
@@ -84,16 +79,12 @@ fn finished(
 }
 
 // Finishes version 2 and then version 1, and tells what both answer where the waiting updates are right after each.
-fn finished_in_turn(
-    rt: &impl Wait,
-    alloc: Global,
-    blob: &mut Blob,
-) -> Result<[Option<u64>; 2], Fail> {
-    let second = finished(rt, alloc, blob, 2)?;
+fn finished_in_turn(alloc: Global, blob: &mut Blob) -> Result<[Option<u64>; 2], Fail> {
+    let second = finished(alloc, blob, 2)?;
     if !waits(blob.window(), &[FIRST, SECOND]) {
         return Ok([None, None]);
     }
-    let first = finished(rt, alloc, blob, 1)?;
+    let first = finished(alloc, blob, 1)?;
     if !waits(blob.window(), &[]) {
         return Ok([second, None]);
     }
@@ -111,7 +102,7 @@ fn a_later_update_is_published_once_the_earlier_one_is_finished(
 ) -> Result<(), Fail> {
     let mut blob = two_appends(&rt, rt.alloc())?;
     assert_eq!(rt;
-        finished_in_turn(&rt, rt.alloc(), &mut blob)?,
+        finished_in_turn(rt.alloc(), &mut blob)?,
         [Some(0), Some(2)]
     );
     assert_eq!(rt; sizes(blob.window())?, [Some(0), Some(1), Some(32)]);
@@ -119,16 +110,12 @@ fn a_later_update_is_published_once_the_earlier_one_is_finished(
 }
 
 // What both versions answer when they are finished a second time, and what is published then.
-fn finished_again(
-    rt: &impl Wait,
-    alloc: Global,
-    blob: &mut Blob,
-) -> Result<[Option<u64>; 4], Fail> {
-    let _ = finished(rt, alloc, blob, 2)?;
-    let second = finished(rt, alloc, blob, 2)?;
+fn finished_again(alloc: Global, blob: &mut Blob) -> Result<[Option<u64>; 4], Fail> {
+    let _ = finished(alloc, blob, 2)?;
+    let second = finished(alloc, blob, 2)?;
     let none = blob.window().published();
-    let _ = finished(rt, alloc, blob, 1)?;
-    let first = finished(rt, alloc, blob, 1)?;
+    let _ = finished(alloc, blob, 1)?;
+    let first = finished(alloc, blob, 1)?;
     Ok([second, Some(none), first, Some(blob.window().published())])
 }
 
@@ -136,7 +123,7 @@ fn finished_again(
 fn a_version_that_is_finished_already_gives_the_row_back(rt: HostRuntime) -> Result<(), Fail> {
     let mut blob = two_appends(&rt, rt.alloc())?;
     assert_eq!(rt;
-        finished_again(&rt, rt.alloc(), &mut blob)?,
+        finished_again(rt.alloc(), &mut blob)?,
         [None, Some(0), None, Some(2)]
     );
     Ok(())

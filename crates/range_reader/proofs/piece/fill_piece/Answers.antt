@@ -8,13 +8,13 @@ use Rattle.range_reader.proofs.piece.fill_piece.Goals as goal
 pub fill_marked-requires-clause-here : goal.fill_marked-requires-clause-here
 fill_marked-requires-clause-here g c =
     page_in c.args.source.now.houses.now c.args.source.now.snapshot.now c.args.j c.args.piece.page c.page-stored.result.now
-    c.requires.here.1 c.requires.version.0 c.requires.version.1 c.page-stored.ensures.this
+    c.requires.here c.requires.version.0 c.requires.version.1 c.page-stored.ensures.this
 
 pub fill_marked-requires-clause-served : goal.fill_marked-requires-clause-served
 fill_marked-requires-clause-served g c =
     served c.args.source.now.houses.now (length c.args.doors.now) c.page-stored.result.now.places c.requires.doors
     (page_in c.args.source.now.houses.now c.args.source.now.snapshot.now c.args.j c.args.piece.page c.page-stored.result.now
-    c.requires.here.1 c.requires.version.0 c.requires.version.1 c.page-stored.ensures.this)
+    c.requires.here c.requires.version.0 c.requires.version.1 c.page-stored.ensures.this)
 
 pub returns-clause-overlaid : goal.returns-clause-overlaid
 returns-clause-overlaid g c = λ all ok.

@@ -9,13 +9,13 @@ use Rattle.range_reader.proofs.whole.take_piece.Goals as goal
 pub fetch-requires-clause-here : goal.fetch-requires-clause-here
 fetch-requires-clause-here g c =
     page_in c.args.source.now.houses.now c.args.source.now.snapshot.now c.args.j c.args.piece.page c.page-stored.result.now
-    c.requires.here.1 c.requires.version.0 c.requires.version.1 c.page-stored.ensures.this
+    c.requires.here c.requires.version.0 c.requires.version.1 c.page-stored.ensures.this
 
 pub fetch-requires-clause-served : goal.fetch-requires-clause-served
 fetch-requires-clause-served g c =
     served c.args.source.now.houses.now (length c.args.doors.now) c.page-stored.result.now.places c.requires.doors
     (page_in c.args.source.now.houses.now c.args.source.now.snapshot.now c.args.j c.args.piece.page c.page-stored.result.now
-    c.requires.here.1 c.requires.version.0 c.requires.version.1 c.page-stored.ensures.this)
+    c.requires.here c.requires.version.0 c.requires.version.1 c.page-stored.ensures.this)
 
 pub returns-clause-bytes : goal.returns-clause-bytes
 returns-clause-bytes g c = λ all ok.

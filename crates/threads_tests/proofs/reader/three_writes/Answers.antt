@@ -27,6 +27,6 @@ next_version-requires-3-clause-next g c =
 pub returns-clause-here : goal.returns-clause-here
 returns-clause-here g c =
     let houses = c.args.houses.now in
-    let V : Version → Type 0 = λ v. IsVersionIn c.args.nodes.now houses v in
-    let none = subst V (sym c.in_ok-none.ensures) (λ k d lt. absurd (omega arith), λ k d lt. absurd (omega arith)) in
+    let V : Version → Type 0 = λ v. IsVersionIn houses v in
+    let none = subst V (sym c.in_ok-none.ensures) (λ k d lt. absurd (omega arith)) in
     c.next_version-3.ensures.here houses (c.in_ok-two.ensures.here houses (c.in_ok-one.ensures.here houses none c.in_ok-pages.ensures.here) c.in_ok-pages-2.ensures.here) c.in_ok-pages-3.ensures.here

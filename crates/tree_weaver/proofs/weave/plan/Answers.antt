@@ -4,7 +4,8 @@ use Rattle.tree_geom.specs.declared.node.Node.{Node}
 use Rattle.tree_geom.specs.Geometry.{height_of}
 use Rattle.snapshot.specs.Versions.{Version}
 use Rattle.tree_geom.proofs.Spans.{page_pos}
-use Rattle.tree_weaver.specs.Planned.{own_nodes, InRowOrder}
+use Rattle.node_store.specs.Order.{InRowOrder}
+use Rattle.tree_weaver.specs.Planned.{own_nodes}
 use Rattle.tree_weaver.proofs.Plans.{own_ranges, level_added, levels_done, plan_in_order, row_told}
 use Rattle.tree_weaver.proofs.weave.plan.Goals as goal
 

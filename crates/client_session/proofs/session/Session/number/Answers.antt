@@ -2,7 +2,6 @@ use Rattle.std.proofs.Common.{◌≡◌, refl, sym, ◌∙◌, ap, subst, ℕ, �
 use Rattle.std.specs.Prelude.{IfOk, IfSome, option_map}
 use Rattle.std.specs.Arc.{arc_value}
 use Rattle.std.proofs.lemmas.List.{length-map}
-use Rattle.boxcar.specs.Table.{Shelves}
 use Rattle.blob_model.specs.History.{AllOther}
 use Rattle.blob_model.specs.declared.call.Call.TheVariants as Calls
 use Rattle.blob_model.specs.declared.call.Event.{Event}
@@ -11,7 +10,6 @@ use Rattle.blob_model.specs.declared.call.Outcome.TheVariants as Outcomes
 use Rattle.page_store.specs.House.{House}
 use Rattle.page_store.specs.Stored.{Cut, joined, LieAmong}
 use Rattle.node_store.specs.Rows.{UpdateRow}
-use Rattle.snapshot.specs.Versions.{NodesLieIn}
 use Rattle.border_hints.specs.Numbered.{NumberedUpdate}
 use Rattle.turn_lock.specs.Shown.{Held}
 use Rattle.version_manager.specs.Desks.{IsUnfinished}
@@ -101,24 +99,6 @@ returns-in-Err-assign-clause-refused g c =
     let same : new.caller ≡ by = ap (λ (p : Held Event DeskFixed). p.caller) c.assign.ensures.pass in
     rw (← c.self.view_is, c.fault_of.ensures.is, same) (not_said (update_fault s c.args.bytes.now) s reply s' _ none answer)
 
-pub weave-requires : goal.weave-requires
-weave-requires g c =
-    let i = c.self.inside in
-    let by = i.pass.caller in
-    let fixed = i.shared.now.fixed in
-    let new = c.assign.new.pass in
-    let cut : Cut = arc_value c.in-Ok.pages in
-    let bytes : List ℕ = joined cut.pages in
-    let r : Result NumberedUpdate DeskFault = Ok c.in-Ok-assign.ticket in
-    let t : Took by i.pass.seen new.seen (λ before after. Changed fixed (Calls.Assign c.args.blob c.args.place bytes) (Events.Assign by c.args.blob c.args.place bytes) (λ (t : NumberedUpdate). Outcomes.Assigned t.version t.at t.size) (λ (x : DeskFault). x) before by r after × IfOk r (λ t. IsNewTicket fixed c.args.blob by cut before after t)) =
-    took c.gaps_are_of_others.ensures fixed i.pass new (λ before f after. Changed f (Calls.Assign c.args.blob c.args.place bytes) (Events.Assign by c.args.blob c.args.place bytes) (λ (t : NumberedUpdate). Outcomes.Assigned t.version t.at t.size) (λ (x : DeskFault). x) before by r after × IfOk r (λ t. IsNewTicket f c.args.blob by cut before after t)) c.self.invariant.pass_is.fixed (λ before after x. x.0.log) c.in-Ok-assign.ensures.turned
-    in
-    let t0 : Took by i.pass.seen new.seen (λ before after. Changed fixed (Calls.Assign c.args.blob c.args.place bytes) (Events.Assign by c.args.blob c.args.place bytes) (λ (t : NumberedUpdate). Outcomes.Assigned t.version t.at t.size) (λ (x : DeskFault). x) before by r after) =
-    record { gap = t.gap; others = t.others; gives = t.gives.0 }
-    in
-    let here : NodesLieIn fixed.nodes c.in-Ok-assign.ticket.snapshot = t.gives.1.hints.here.0 in
-    subst (λ (n : List Shelves). NodesLieIn n c.in-Ok-assign.ticket.snapshot) (sym c.nodes.ensures) here
-
 pub invariant_of-self-2 : goal.invariant_of-self-2
 invariant_of-self-2 g c =
     let i = c.self.inside in
@@ -162,9 +142,9 @@ returns-clause-numbered g c =
     let pages : LieAmong fixed.houses ticket.pages.pages =
     subst (λ (x : Cut). LieAmong fixed.houses x.pages) (sym n.pages_are) (subst (λ (hs : List House). LieAmong hs cut.pages) c.houses.ensures.houses c.in-Ok.ensures.here)
     in
-    let woven : IfSome row (IsWoven fixed.nodes fixed.houses ticket) =
+    let woven : IfSome row (IsWoven fixed.houses ticket) =
     elim c.match-weave.branch [
-      | in-Ok-weave w ↦ rw w.row-is (record { for = w.in-Ok-weave.ensures.row; under = w.in-Ok-weave.ensures.under; here = rw c.nodes.ensures at (w.in-Ok-weave.ensures.here fixed.houses pages) })
+      | in-Ok-weave w ↦ rw w.row-is (record { for = w.in-Ok-weave.ensures.row; under = w.in-Ok-weave.ensures.under; here = subst (λ (x : Cut). LieAmong fixed.houses x.pages) (sym w.in-Ok-weave.ensures.pages) pages })
       | in-Err-weave w ↦ rw w.row-is tt
     ]
     in
@@ -181,7 +161,7 @@ returns-clause-numbered g c =
       blob_is = n.blob_is;
       open_ = record {
         ticket = n.ticket;
-        here = record { snapshot = n.hints.here.0; pages = pages };
+        here = pages;
         row = woven;
       };
       unfinished = subst (λ (b : ℕ). IsUnfinished (desk_at fixed new.seen) b ticket.version) (sym n.blob_is) n.unfinished;

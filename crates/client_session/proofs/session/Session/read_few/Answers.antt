@@ -1,5 +1,4 @@
 use Rattle.std.proofs.Common.{◌≡◌, sym, ap, subst, ℕ, List, ◌++◌, length, Ok, Err, Result}
-use Rattle.boxcar.specs.Table.{Shelves}
 use Rattle.page_store.specs.House.{House}
 use Rattle.blob_model.specs.Content.{Update}
 use Rattle.blob_model.specs.History.{AllOther}
@@ -65,9 +64,7 @@ read_range-requires-clause-here g c =
     let t : Took by i.pass.seen new.seen (λ before after. Opened fixed c.args.blob c.args.version before by r after) =
     took c.gaps_are_of_others.ensures fixed i.pass new (λ before f after. Opened f c.args.blob c.args.version before by r after) c.self.invariant.pass_is.fixed (λ before after x. x.log) c.in-Ok.ensures.turned
     in
-    let here : IsVersionIn fixed.nodes fixed.houses c.in-Ok.snapshot = t.gives.snapshot.here in
-    subst (λ (ns : List Shelves). IsVersionIn ns c.houses.result.now c.in-Ok.snapshot) (sym c.nodes.ensures)
-    (subst (λ (hs : List House). IsVersionIn fixed.nodes hs c.in-Ok.snapshot) (sym c.houses.ensures.houses) here)
+    subst (λ (hs : List House). IsVersionIn hs c.in-Ok.snapshot) (sym c.houses.ensures.houses) t.gives.snapshot.here
 
 pub invariant_of-self-in-Ok-read_range : goal.invariant_of-self-in-Ok-read_range
 invariant_of-self-in-Ok-read_range g c =

@@ -1,9 +1,7 @@
 use Rattle.std.proofs.Common.{◌≡◌, sym, ◌∙◌, ap, subst, List, Some}
 use Rattle.std.specs.Prelude.{option_map, slice_get, slice_set}
 use Rattle.std.specs.Arc.{arc_value}
-use Rattle.boxcar.specs.Table.{Shelves}
-use Rattle.page_store.specs.Stored.{LieAmong}
-use Rattle.snapshot.specs.Versions.{NodesLieIn}
+use Rattle.page_store.specs.Stored.{Cut, LieAmong}
 use Rattle.border_hints.specs.Numbered.{NumberedUpdate}
 use Rattle.node_store.specs.Rows.{UpdateRow}
 use Rattle.client_session.specs.Tickets.{OpenUpdate, with_row}
@@ -25,24 +23,18 @@ returns-in-Some-clause-kept g c = λ o at.
     let stays : v.held ≡ slice_set v.held c.args.place (with_row o (arc_value c.in-Some.row)) = kept_row v.held c.args.place o (arc_value c.in-Some.row) at (ap (λ (x : OpenUpdate). x.row) same ∙ (sym asked ∙ row)) in
     ap (λ (os : List OpenUpdate). record { store = v.store; caller = v.caller; log = v.log; held = os; next = v.next; doors = v.doors }) stays
 
-pub weave-requires : goal.weave-requires
-weave-requires g c =
-    let i = c.self.inside in
-    let open_ : IsOpen i.shared.now.fixed i.pass.seen c.at-2.result.now = at_place (IsOpen i.shared.now.fixed i.pass.seen) i.held c.args.place c.at-2.result.now c.at-2.ensures c.self.invariant.holding.open_ in
-    subst (λ (n : List Shelves). NodesLieIn n c.ticket.result.now.snapshot) (sym c.nodes.ensures)
-    (subst (λ (t : NumberedUpdate). NodesLieIn i.shared.now.fixed.nodes t.snapshot) (sym c.ticket.ensures) open_.here.snapshot)
-
 pub invariant_of-self : goal.invariant_of-self
 invariant_of-self g c =
     let i = c.self.inside in
     let o : OpenUpdate = c.at-2.result.now in
     let fixed = i.shared.now.fixed in
     let open_ : IsOpen fixed i.pass.seen o = at_place (IsOpen fixed i.pass.seen) i.held c.args.place o c.at-2.ensures c.self.invariant.holding.open_ in
-    let pages : LieAmong fixed.houses c.ticket.result.now.pages.pages = subst (λ (t : NumberedUpdate). LieAmong fixed.houses t.pages.pages) (sym c.ticket.ensures) open_.here.pages in
-    let own : IsWoven c.nodes.result.now fixed.houses c.ticket.result.now (arc_value c.in_ok-row-2.row) = record { for = c.in_ok-row-2.ensures.row; under = c.in_ok-row-2.ensures.under; here = c.in_ok-row-2.ensures.here fixed.houses pages } in
-    let woven : IsWoven fixed.nodes fixed.houses o.ticket (arc_value c.in_ok-row-2.row) =
-    subst (λ (n : List Shelves). IsWoven n fixed.houses o.ticket (arc_value c.in_ok-row-2.row)) c.nodes.ensures
-    (subst (λ (t : NumberedUpdate). IsWoven c.nodes.result.now fixed.houses t (arc_value c.in_ok-row-2.row)) c.ticket.ensures own)
+    let pages : (arc_value c.in_ok-row-2.row).pages ≡ o.ticket.pages = c.in_ok-row-2.ensures.pages ∙ ap (λ (t : NumberedUpdate). t.pages) c.ticket.ensures in
+    let own : IsWoven fixed.houses c.ticket.result.now (arc_value c.in_ok-row-2.row) =
+    record { for = c.in_ok-row-2.ensures.row; under = c.in_ok-row-2.ensures.under; here = subst (λ (x : Cut). LieAmong fixed.houses x.pages) (sym pages) open_.here }
+    in
+    let woven : IsWoven fixed.houses o.ticket (arc_value c.in_ok-row-2.row) =
+    subst (λ (t : NumberedUpdate). IsWoven fixed.houses t (arc_value c.in_ok-row-2.row)) c.ticket.ensures own
     in
     let s = c.self.invariant in
     let kept : arc_value c.in_ok-kept.kept ≡ arc_value c.in_ok-row-2.row = c.in_ok-kept.ensures in
@@ -65,14 +57,15 @@ returns-clause-woven g c = λ u at.
     let o : OpenUpdate = c.at-2.result.now in
     let fixed = i.shared.now.fixed in
     let open_ : IsOpen fixed i.pass.seen o = at_place (IsOpen fixed i.pass.seen) i.held c.args.place o c.at-2.ensures c.self.invariant.holding.open_ in
-    let pages : LieAmong fixed.houses c.ticket.result.now.pages.pages = subst (λ (t : NumberedUpdate). LieAmong fixed.houses t.pages.pages) (sym c.ticket.ensures) open_.here.pages in
-    let own : IsWoven c.nodes.result.now fixed.houses c.ticket.result.now (arc_value c.in_ok-row-2.row) = record { for = c.in_ok-row-2.ensures.row; under = c.in_ok-row-2.ensures.under; here = c.in_ok-row-2.ensures.here fixed.houses pages } in
-    let woven : IsWoven fixed.nodes fixed.houses o.ticket (arc_value c.in_ok-row-2.row) =
-    subst (λ (n : List Shelves). IsWoven n fixed.houses o.ticket (arc_value c.in_ok-row-2.row)) c.nodes.ensures
-    (subst (λ (t : NumberedUpdate). IsWoven c.nodes.result.now fixed.houses t (arc_value c.in_ok-row-2.row)) c.ticket.ensures own)
+    let pages : (arc_value c.in_ok-row-2.row).pages ≡ o.ticket.pages = c.in_ok-row-2.ensures.pages ∙ ap (λ (t : NumberedUpdate). t.pages) c.ticket.ensures in
+    let own : IsWoven fixed.houses c.ticket.result.now (arc_value c.in_ok-row-2.row) =
+    record { for = c.in_ok-row-2.ensures.row; under = c.in_ok-row-2.ensures.under; here = subst (λ (x : Cut). LieAmong fixed.houses x.pages) (sym pages) open_.here }
+    in
+    let woven : IsWoven fixed.houses o.ticket (arc_value c.in_ok-row-2.row) =
+    subst (λ (t : NumberedUpdate). IsWoven fixed.houses t (arc_value c.in_ok-row-2.row)) c.ticket.ensures own
     in
     let v = c.args.self.now in
     let there : slice_get i.held c.args.place ≡ Some u = ap (λ (s : SessionState g.row.D.Denot). slice_get s.held c.args.place) c.self.view_is ∙ at in
     let same : o ≡ u = same_at i.held c.args.place o u c.at-2.ensures there in
-    subst (λ (s : SessionState g.row.D.Denot). IsWoven s.store.fixed.nodes s.store.fixed.houses u.ticket (arc_value c.in_ok-row-2.row)) c.self.view_is
-    (subst (λ (x : OpenUpdate). IsWoven fixed.nodes fixed.houses x.ticket (arc_value c.in_ok-row-2.row)) same woven)
+    subst (λ (s : SessionState g.row.D.Denot). IsWoven s.store.fixed.houses u.ticket (arc_value c.in_ok-row-2.row)) c.self.view_is
+    (subst (λ (x : OpenUpdate). IsWoven fixed.houses x.ticket (arc_value c.in_ok-row-2.row)) same woven)

@@ -83,12 +83,11 @@ invariant_of-self-2 c =
     let Q : ℕ → Type 0 = λ i. KeepsDesk d.limits d.page_size (map event_of c.push_reserved.new.self.items) (set d.windows.items i W) in
     let R : Numbered → Type 0 = λ w. KeepsDesk d.limits d.page_size (map event_of c.push_reserved.new.self.items) (set d.windows.items c.in-Some.place_in w) in
     let entry : Entry = record { caller = c.args.caller; change = Changes.Assign blob c.args.place c.in-Ok-try_clone.pages } in
-    let nodes = arc_value d.nodes in
     let houses = arc_value d.houses in
-    let L : Numbered → Type 0 = λ w. AreRowsIn nodes houses w in
+    let L : Numbered → Type 0 = λ w. AreRowsIn houses w in
     let within : c.in-Some.place_in < length d.windows.items = omega (arith, d.windows.ok.0, c.in-Some.ensures.0, c.in-Some.ensures.1, c.in-Some.ensures.2) in
-    let was : L c.index_mut.result.now = window_lies nodes houses d.windows.items c.in-Some.place_in c.index_mut.result.now _ c.self.invariant.lies within c.index_mut.ensures.value in
-    let now : L c.number.new.self = subst L (sym c.number.ensures.new) (numbered_in nodes houses c.index_mut.result.now c.touch.result was) in
+    let was : L c.index_mut.result.now = window_lies houses d.windows.items c.in-Some.place_in c.index_mut.result.now _ c.self.invariant.lies within c.index_mut.ensures.value in
+    let now : L c.number.new.self = subst L (sym c.number.ensures.new) (numbered_in houses c.index_mut.result.now c.touch.result was) in
     let old = c.index_mut.result.now in
     let there = origins_at (parents_of h) d.windows.items c.self.invariant.origins blob old no_window x.some (omega (arith, d.windows.ok.0, c.in-Some.ensures.2)) y.window in
     let U : Numbered → Type 0 = λ v. AreUnder (parents_of h) blob v.rows in
@@ -96,7 +95,7 @@ invariant_of-self-2 c =
     let placed = ap (λ (i : ℕ). set d.windows.items i c.number.new.self) x.at in
     record {
       kept = subst R (sym is) (subst Q (sym x.at) (subst P (sym history) keeps));
-      lies = All-set (AreRowsIn nodes houses) d.windows.items c.in-Some.place_in c.number.new.self now c.self.invariant.lies;
+      lies = All-set (AreRowsIn houses) d.windows.items c.in-Some.place_in c.number.new.self now c.self.invariant.lies;
       origins = origins_after h _ e _ _ history placed (origins_set (parents_of h) d.windows.items c.self.invariant.origins blob c.number.new.self x.some own);
       short = short_yet d.history.items c.push_reserved.new.self.items entry (c.push_reserved.ensures.items ∙ ap (λ (l : List Entry). l ++ entry ∷ []) c.reserve.ensures.items) (omega (arith, c.len.ensures, d.history.ok.0, c.if-len-ge-MAX_ENTRIES.false));
     }
@@ -179,9 +178,9 @@ returns-clause-hints c =
     let t = c.in-Ok.ticket in
     let x = at_place d.limits d.page_size h d.windows.items c.self.invariant.kept blob c.in-Some.place_in _ c.index-window.result.now d.windows.ok.0 c.in-Some.ensures c.index-window.ensures in
     let w = c.index-window.result.now in
-    let L : Numbered → Type 0 = λ v. AreRowsIn (arc_value d.nodes) (arc_value d.houses) v in
+    let L : Numbered → Type 0 = λ v. AreRowsIn (arc_value d.houses) v in
     let within : c.in-Some.place_in < length d.windows.items = omega (arith, d.windows.ok.0, c.in-Some.ensures.0, c.in-Some.ensures.1, c.in-Some.ensures.2) in
-    let lies : L w = window_lies (arc_value d.nodes) (arc_value d.houses) d.windows.items c.in-Some.place_in w _ c.self.invariant.lies within c.index-window.ensures in
+    let lies : L w = window_lies (arc_value d.houses) d.windows.items c.in-Some.place_in w _ c.self.invariant.lies within c.index-window.ensures in
     let under = origins_at (parents_of h) d.windows.items c.self.invariant.origins blob w no_window x.some (omega (arith, d.windows.ok.0, c.in-Some.ensures.2)) x.window in
     let P : DeskState → Type 0 = λ s. HasHints s blob t in
     subst P c.self.view_is (has_hints _ blob t x.found.b w d.limits x.found.at x.page x.keeps (sym c.assigned-assigned.ensures.rows ∙ c.assigned-assigned.ensures.log) (subst (λ (v : Version). IsVersion v) c.in-Ok.ensures.snapshot c.in-Ok.ensures.published) c.in-Ok.ensures.snapshot c.in-Ok.ensures.waiting lies (version_under h blob w under))

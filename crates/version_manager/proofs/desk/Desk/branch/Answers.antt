@@ -74,13 +74,12 @@ invariant_of-self-2 c =
     let history = pushed_event d.history.items c.add.new.history.items entry c.in-Ok-add.ensures.history in
     let P : List Event → Type 0 = λ l. KeepsDesk d.limits d.page_size l (ws ++ w ∷ []) in
     let Q : List Numbered → Type 0 = λ l. KeepsDesk d.limits d.page_size (map event_of c.add.new.history.items) l in
-    let nodes = arc_value d.nodes in
     let houses = arc_value d.houses in
-    let W : Numbered → Type 0 = λ v. AreRowsIn nodes houses v in
-    let A : List Numbered → Type 0 = λ l. All (AreRowsIn nodes houses) l in
+    let W : Numbered → Type 0 = λ v. AreRowsIn houses v in
+    let A : List Numbered → Type 0 = λ l. All (AreRowsIn houses) l in
     let within : c.in-Some.place < length d.windows.items = omega (arith, d.windows.ok.0, c.in-Some.ensures.0, c.in-Some.ensures.1, c.in-Some.ensures.2) in
-    let was : W c.index-parent.result.now = window_lies nodes houses d.windows.items c.in-Some.place c.index-parent.result.now _ c.self.invariant.lies within c.index-parent.ensures in
-    let new : W w = subst W (sym c.in-Ok.ensures.new) (branch_in_houses nodes houses c.index-parent.result.now version (c.len-count.result + 1) was) in
+    let was : W c.index-parent.result.now = window_lies houses d.windows.items c.in-Some.place c.index-parent.result.now _ c.self.invariant.lies within c.index-parent.ensures in
+    let new : W w = subst W (sym c.in-Ok.ensures.new) (branch_in_houses houses c.index-parent.result.now version (c.len-count.result + 1) was) in
     let parent : Parent = record { blob = blob; version = version } in
     let k = c.self.invariant.origins in
     let before = c.index-parent.result.now in
@@ -90,7 +89,7 @@ invariant_of-self-2 c =
     let own : U w = subst U (sym c.in-Ok.ensures.new) (branch_under (parents_of h) parent before (suc (length ws)) (omega (arith, k.count)) far there) in
     record {
       kept = subst Q (sym c.in-Ok-add.ensures.windows) (subst P (sym history) keeps);
-      lies = subst A (sym c.in-Ok-add.ensures.windows) (All-push (AreRowsIn nodes houses) d.windows.items w c.self.invariant.lies new);
+      lies = subst A (sym c.in-Ok-add.ensures.windows) (All-push (AreRowsIn houses) d.windows.items w c.self.invariant.lies new);
       origins = origins_after h _ (Events.Branch c.args.caller blob version) _ _ history c.in-Ok-add.ensures.windows (origins_pushed (parents_of h) ws k (Some parent) w own);
       short = short_yet d.history.items _ _ c.in-Ok-add.ensures.history (omega (arith, c.len.ensures, d.history.ok.0, c.if-len-ge-MAX_ENTRIES.false));
     }

@@ -43,14 +43,14 @@ invariant_of-self-2 c =
     let history = ap (map event_of) c.in-Ok-add.ensures.history ∙ map-append event_of d.history.items _ in
     let P : List Event → Type 0 = λ l. KeepsDesk d.limits d.page_size l (d.windows.items ++ w ∷ []) in
     let Q : List Numbered → Type 0 = λ l. KeepsDesk d.limits d.page_size (map event_of c.add.new.history.items) l in
-    let A : List Numbered → Type 0 = λ l. All (AreRowsIn (arc_value d.nodes) (arc_value d.houses)) l in
-    let new : AreRowsIn (arc_value d.nodes) (arc_value d.houses) w = none_in (arc_value d.nodes) (arc_value d.houses) w (ap (λ (x : Numbered). x.rows) c.in-Ok.ensures.new) in
+    let A : List Numbered → Type 0 = λ l. All (AreRowsIn (arc_value d.houses)) l in
+    let new : AreRowsIn (arc_value d.houses) w = none_in (arc_value d.houses) w (ap (λ (x : Numbered). x.rows) c.in-Ok.ensures.new) in
     let h = map event_of d.history.items in
     let k = c.self.invariant.origins in
     let own = none_under (parents_of h) w (suc (length d.windows.items)) (omega (arith, k.count)) (ap (λ (x : Numbered). x.rows) c.in-Ok.ensures.new) in
     record {
       kept = subst Q (sym c.in-Ok-add.ensures.windows) (subst P (sym history) keeps);
-      lies = subst A (sym c.in-Ok-add.ensures.windows) (All-push (AreRowsIn (arc_value d.nodes) (arc_value d.houses)) d.windows.items w c.self.invariant.lies new);
+      lies = subst A (sym c.in-Ok-add.ensures.windows) (All-push (AreRowsIn (arc_value d.houses)) d.windows.items w c.self.invariant.lies new);
       origins = origins_after h _ (Events.Create c.args.caller) _ _ history c.in-Ok-add.ensures.windows (origins_pushed (parents_of h) d.windows.items k None w own);
       short = short_yet d.history.items _ _ c.in-Ok-add.ensures.history (omega (arith, c.len.ensures, d.history.ok.0, c.if-len-ge-MAX_ENTRIES.false));
     }

@@ -30,7 +30,7 @@ is_finished-requires c =
     let d = c.self.inside in
     let h = map event_of d.history.items in
     let ws = d.windows.items in
-    let this : DeskState = record { limits = d.limits; page_size = d.page_size; houses = arc_value d.houses; nodes = arc_value d.nodes; history = h; windows = ws } in
+    let this : DeskState = record { limits = d.limits; page_size = d.page_size; houses = arc_value d.houses; history = h; windows = ws } in
     let t = c.args.ticket.now in
     let row = arc_value c.args.row in
     let blob = c.blob-blob.result in
@@ -41,7 +41,7 @@ is_finished-requires c =
     let first : 1 ≤ v = omega (arith, is, c.version-version.ensures.stands.version) in
     let T : DeskState → Type 0 = λ s. IsTicketOf s t in
     let R : DeskState → Type 0 = λ s. IsRowFor s t row in
-    let f = finishable d.limits d.page_size h ws c.self.invariant.kept blob (arc_value d.houses) (arc_value d.nodes) t v (blob - 1) w row on is refl first (subst T (sym c.self.view_is) c.requires.ticket) (subst R (sym c.self.view_is) c.requires.row) c.index-window.ensures in
+    let f = finishable d.limits d.page_size h ws c.self.invariant.kept blob (arc_value d.houses) t v (blob - 1) w row on is refl first (subst T (sym c.self.view_is) c.requires.ticket) (subst R (sym c.self.view_is) c.requires.row) c.index-window.ensures in
     let k = assigned_is d.limits w f.at.found.b f.at.keeps in
     (first, omega (arith, f.within, k))
 
@@ -50,7 +50,7 @@ finish-requires-clause-numbered c =
     let d = c.self.inside in
     let h = map event_of d.history.items in
     let ws = d.windows.items in
-    let this : DeskState = record { limits = d.limits; page_size = d.page_size; houses = arc_value d.houses; nodes = arc_value d.nodes; history = h; windows = ws } in
+    let this : DeskState = record { limits = d.limits; page_size = d.page_size; houses = arc_value d.houses; history = h; windows = ws } in
     let t = c.args.ticket.now in
     let row = arc_value c.args.row in
     let blob = c.blob-blob.result in
@@ -61,7 +61,7 @@ finish-requires-clause-numbered c =
     let first : 1 ≤ v = omega (arith, is, c.version-version.ensures.stands.version) in
     let T : DeskState → Type 0 = λ s. IsTicketOf s t in
     let R : DeskState → Type 0 = λ s. IsRowFor s t row in
-    let f = finishable d.limits d.page_size h ws c.self.invariant.kept blob (arc_value d.houses) (arc_value d.nodes) t v (blob - 1) w row on is refl first (subst T (sym c.self.view_is) c.requires.ticket) (subst R (sym c.self.view_is) c.requires.row) c.index_mut.ensures.value in
+    let f = finishable d.limits d.page_size h ws c.self.invariant.kept blob (arc_value d.houses) t v (blob - 1) w row on is refl first (subst T (sym c.self.view_is) c.requires.ticket) (subst R (sym c.self.view_is) c.requires.row) c.index_mut.ensures.value in
     let k = assigned_is d.limits w f.at.found.b f.at.keeps in
     (first, omega (arith, f.within, k))
 
@@ -70,7 +70,7 @@ finish-requires-clause-own c =
     let d = c.self.inside in
     let h = map event_of d.history.items in
     let ws = d.windows.items in
-    let this : DeskState = record { limits = d.limits; page_size = d.page_size; houses = arc_value d.houses; nodes = arc_value d.nodes; history = h; windows = ws } in
+    let this : DeskState = record { limits = d.limits; page_size = d.page_size; houses = arc_value d.houses; history = h; windows = ws } in
     let t = c.args.ticket.now in
     let row = arc_value c.args.row in
     let blob = c.blob-blob.result in
@@ -81,7 +81,7 @@ finish-requires-clause-own c =
     let first : 1 ≤ v = omega (arith, is, c.version-version.ensures.stands.version) in
     let T : DeskState → Type 0 = λ s. IsTicketOf s t in
     let R : DeskState → Type 0 = λ s. IsRowFor s t row in
-    let f = finishable d.limits d.page_size h ws c.self.invariant.kept blob (arc_value d.houses) (arc_value d.nodes) t v (blob - 1) w row on is refl first (subst T (sym c.self.view_is) c.requires.ticket) (subst R (sym c.self.view_is) c.requires.row) c.index_mut.ensures.value in
+    let f = finishable d.limits d.page_size h ws c.self.invariant.kept blob (arc_value d.houses) t v (blob - 1) w row on is refl first (subst T (sym c.self.view_is) c.requires.ticket) (subst R (sym c.self.view_is) c.requires.row) c.index_mut.ensures.value in
     (f.at.found.b.updates, f.at.keeps.stands, f.own)
 
 pub invariant_of-self-in-Ok : goal.invariant_of-self-in-Ok
@@ -89,7 +89,7 @@ invariant_of-self-in-Ok c =
     let d = c.self.inside in
     let h = map event_of d.history.items in
     let ws = d.windows.items in
-    let this : DeskState = record { limits = d.limits; page_size = d.page_size; houses = arc_value d.houses; nodes = arc_value d.nodes; history = h; windows = ws } in
+    let this : DeskState = record { limits = d.limits; page_size = d.page_size; houses = arc_value d.houses; history = h; windows = ws } in
     let t = c.args.ticket.now in
     let row = arc_value c.args.row in
     let blob = c.blob-blob.result in
@@ -100,10 +100,10 @@ invariant_of-self-in-Ok c =
     let first : 1 ≤ v = omega (arith, is, c.version-version.ensures.stands.version) in
     let T : DeskState → Type 0 = λ s. IsTicketOf s t in
     let R : DeskState → Type 0 = λ s. IsRowFor s t row in
-    let f = finishable d.limits d.page_size h ws c.self.invariant.kept blob (arc_value d.houses) (arc_value d.nodes) t v (blob - 1) w row on is refl first (subst T (sym c.self.view_is) c.requires.ticket) (subst R (sym c.self.view_is) c.requires.row) c.index_mut.ensures.value in
+    let f = finishable d.limits d.page_size h ws c.self.invariant.kept blob (arc_value d.houses) t v (blob - 1) w row on is refl first (subst T (sym c.self.view_is) c.requires.ticket) (subst R (sym c.self.view_is) c.requires.row) c.index_mut.ensures.value in
     let b : Blob = f.at.found.b in
     let seen = c.index-window.result.now in
-    let g = finishable d.limits d.page_size h ws c.self.invariant.kept blob (arc_value d.houses) (arc_value d.nodes) t v (blob - 1) seen row on is refl first (subst T (sym c.self.view_is) c.requires.ticket) (subst R (sym c.self.view_is) c.requires.row) c.index-window.ensures in
+    let g = finishable d.limits d.page_size h ws c.self.invariant.kept blob (arc_value d.houses) t v (blob - 1) seen row on is refl first (subst T (sym c.self.view_is) c.requires.ticket) (subst R (sym c.self.view_is) c.requires.row) c.index-window.ensures in
     let E : Numbered → Type 0 = λ x. length x.rows ≡ length x.log in
     let even : length w.rows ≡ length w.log = subst E (g.at.window ∙ sym f.at.window) (sym c.assigned-assigned.ensures.rows ∙ c.assigned-assigned.ensures.log) in
     let waits : is_finished b v ≡ false = sym (finished_is d.limits w b f.at.keeps v first) ∙ c.in-Ok.ensures.unfinished in
@@ -114,20 +114,19 @@ invariant_of-self-in-Ok c =
     let history = pushed_event d.history.items c.push_reserved.new.self.items entry (c.push_reserved.ensures.items ∙ ap (λ (l : List Entry). l ++ entry ∷ []) c.reserve.ensures.items) in
     let P : List Event → Type 0 = λ l. KeepsDesk d.limits d.page_size l (set ws (blob - 1) W) in
     let R : Numbered → Type 0 = λ x. KeepsDesk d.limits d.page_size (map event_of c.push_reserved.new.self.items) (set ws (blob - 1) x) in
-    let nodes = arc_value d.nodes in
     let houses = arc_value d.houses in
-    let L : Numbered → Type 0 = λ x. AreRowsIn nodes houses x in
-    let r = ticket_place d.limits d.page_size h ws c.self.invariant.kept blob houses nodes t v on is first (subst T (sym c.self.view_is) c.requires.ticket) in
-    let was : L w = window_lies nodes houses ws (blob - 1) w _ c.self.invariant.lies (omega (arith, r.0, r.1)) c.index_mut.ensures.value in
-    let fits : IsRowIn nodes houses row = subst (λ (s : DeskState). IsRowIn s.nodes s.houses row) (sym c.self.view_is) c.requires.here in
-    let now : L c.finish.new.self = subst L (sym c.in-Ok.ensures.finished) (finished_in nodes houses w v row fits was) in
+    let L : Numbered → Type 0 = λ x. AreRowsIn houses x in
+    let r = ticket_place d.limits d.page_size h ws c.self.invariant.kept blob houses t v on is first (subst T (sym c.self.view_is) c.requires.ticket) in
+    let was : L w = window_lies houses ws (blob - 1) w _ c.self.invariant.lies (omega (arith, r.0, r.1)) c.index_mut.ensures.value in
+    let fits : IsRowIn houses row = subst (λ (s : DeskState). IsRowIn s.houses row) (sym c.self.view_is) c.requires.here in
+    let now : L c.finish.new.self = subst L (sym c.in-Ok.ensures.finished) (finished_in houses w v row fits was) in
     let there = origins_at (parents_of h) ws c.self.invariant.origins blob w no_window f.at.some r.1 f.at.window in
     let U : Numbered → Type 0 = λ x. AreUnder (parents_of h) blob x.rows in
     let none = unfinished_none w.rows (v - 1) c.in-Ok.ensures.unfinished in
     let own : U c.finish.new.self = subst U (sym c.in-Ok.ensures.finished) (finished_under (parents_of h) blob w v row (c.requires.under ∙ sym on) none there) in
     record {
       kept = subst R (sym c.in-Ok.ensures.finished) (subst P (sym history) keeps);
-      lies = All-set (AreRowsIn nodes houses) ws (blob - 1) c.finish.new.self now c.self.invariant.lies;
+      lies = All-set (AreRowsIn houses) ws (blob - 1) c.finish.new.self now c.self.invariant.lies;
       origins = origins_after h _ (Events.Finish c.args.caller blob v) _ _ history refl (origins_set (parents_of h) ws c.self.invariant.origins blob c.finish.new.self f.at.some own);
       short = short_yet d.history.items c.push_reserved.new.self.items entry (c.push_reserved.ensures.items ∙ ap (λ (l : List Entry). l ++ entry ∷ []) c.reserve.ensures.items) (omega (arith, c.len.ensures, d.history.ok.0, c.if-len-ge-MAX_ENTRIES.false));
     }
@@ -137,7 +136,7 @@ returns-in-Ok-clause-published c =
     let d = c.self.inside in
     let h = map event_of d.history.items in
     let ws = d.windows.items in
-    let this : DeskState = record { limits = d.limits; page_size = d.page_size; houses = arc_value d.houses; nodes = arc_value d.nodes; history = h; windows = ws } in
+    let this : DeskState = record { limits = d.limits; page_size = d.page_size; houses = arc_value d.houses; history = h; windows = ws } in
     let t = c.args.ticket.now in
     let row = arc_value c.args.row in
     let blob = c.blob-blob.result in
@@ -148,10 +147,10 @@ returns-in-Ok-clause-published c =
     let first : 1 ≤ v = omega (arith, is, c.version-version.ensures.stands.version) in
     let T : DeskState → Type 0 = λ s. IsTicketOf s t in
     let R : DeskState → Type 0 = λ s. IsRowFor s t row in
-    let f = finishable d.limits d.page_size h ws c.self.invariant.kept blob (arc_value d.houses) (arc_value d.nodes) t v (blob - 1) w row on is refl first (subst T (sym c.self.view_is) c.requires.ticket) (subst R (sym c.self.view_is) c.requires.row) c.index_mut.ensures.value in
+    let f = finishable d.limits d.page_size h ws c.self.invariant.kept blob (arc_value d.houses) t v (blob - 1) w row on is refl first (subst T (sym c.self.view_is) c.requires.ticket) (subst R (sym c.self.view_is) c.requires.row) c.index_mut.ensures.value in
     let b : Blob = f.at.found.b in
     let seen = c.index-window.result.now in
-    let g = finishable d.limits d.page_size h ws c.self.invariant.kept blob (arc_value d.houses) (arc_value d.nodes) t v (blob - 1) seen row on is refl first (subst T (sym c.self.view_is) c.requires.ticket) (subst R (sym c.self.view_is) c.requires.row) c.index-window.ensures in
+    let g = finishable d.limits d.page_size h ws c.self.invariant.kept blob (arc_value d.houses) t v (blob - 1) seen row on is refl first (subst T (sym c.self.view_is) c.requires.ticket) (subst R (sym c.self.view_is) c.requires.row) c.index-window.ensures in
     let E : Numbered → Type 0 = λ x. length x.rows ≡ length x.log in
     let even : length w.rows ≡ length w.log = subst E (g.at.window ∙ sym f.at.window) (sym c.assigned-assigned.ensures.rows ∙ c.assigned-assigned.ensures.log) in
     let waits : is_finished b v ≡ false = sym (finished_is d.limits w b f.at.keeps v first) ∙ c.in-Ok.ensures.unfinished in
@@ -167,7 +166,7 @@ returns-in-Ok-clause-unfinished c =
     let d = c.self.inside in
     let h = map event_of d.history.items in
     let ws = d.windows.items in
-    let this : DeskState = record { limits = d.limits; page_size = d.page_size; houses = arc_value d.houses; nodes = arc_value d.nodes; history = h; windows = ws } in
+    let this : DeskState = record { limits = d.limits; page_size = d.page_size; houses = arc_value d.houses; history = h; windows = ws } in
     let t = c.args.ticket.now in
     let row = arc_value c.args.row in
     let blob = c.blob-blob.result in
@@ -178,7 +177,7 @@ returns-in-Ok-clause-unfinished c =
     let first : 1 ≤ v = omega (arith, is, c.version-version.ensures.stands.version) in
     let T : DeskState → Type 0 = λ s. IsTicketOf s t in
     let R : DeskState → Type 0 = λ s. IsRowFor s t row in
-    let f = finishable d.limits d.page_size h ws c.self.invariant.kept blob (arc_value d.houses) (arc_value d.nodes) t v (blob - 1) w row on is refl first (subst T (sym c.self.view_is) c.requires.ticket) (subst R (sym c.self.view_is) c.requires.row) c.index_mut.ensures.value in
+    let f = finishable d.limits d.page_size h ws c.self.invariant.kept blob (arc_value d.houses) t v (blob - 1) w row on is refl first (subst T (sym c.self.view_is) c.requires.ticket) (subst R (sym c.self.view_is) c.requires.row) c.index_mut.ensures.value in
     let b : Blob = f.at.found.b in
     let waits : is_finished b v ≡ false = sym (finished_is d.limits w b f.at.keeps v first) ∙ c.in-Ok.ensures.unfinished in
     let O : DeskState → ℕ → ℕ → Type 0 = λ s i n. finished_or_not (blob_at (store_of s.limits s.history) i) n ≡ false in
@@ -190,7 +189,7 @@ returns-in-Ok-clause-finished c =
     let d = c.self.inside in
     let h = map event_of d.history.items in
     let ws = d.windows.items in
-    let this : DeskState = record { limits = d.limits; page_size = d.page_size; houses = arc_value d.houses; nodes = arc_value d.nodes; history = h; windows = ws } in
+    let this : DeskState = record { limits = d.limits; page_size = d.page_size; houses = arc_value d.houses; history = h; windows = ws } in
     let t = c.args.ticket.now in
     let row = arc_value c.args.row in
     let blob = c.blob-blob.result in
@@ -201,10 +200,10 @@ returns-in-Ok-clause-finished c =
     let first : 1 ≤ v = omega (arith, is, c.version-version.ensures.stands.version) in
     let T : DeskState → Type 0 = λ s. IsTicketOf s t in
     let R : DeskState → Type 0 = λ s. IsRowFor s t row in
-    let f = finishable d.limits d.page_size h ws c.self.invariant.kept blob (arc_value d.houses) (arc_value d.nodes) t v (blob - 1) w row on is refl first (subst T (sym c.self.view_is) c.requires.ticket) (subst R (sym c.self.view_is) c.requires.row) c.index_mut.ensures.value in
+    let f = finishable d.limits d.page_size h ws c.self.invariant.kept blob (arc_value d.houses) t v (blob - 1) w row on is refl first (subst T (sym c.self.view_is) c.requires.ticket) (subst R (sym c.self.view_is) c.requires.row) c.index_mut.ensures.value in
     let b : Blob = f.at.found.b in
     let seen = c.index-window.result.now in
-    let g = finishable d.limits d.page_size h ws c.self.invariant.kept blob (arc_value d.houses) (arc_value d.nodes) t v (blob - 1) seen row on is refl first (subst T (sym c.self.view_is) c.requires.ticket) (subst R (sym c.self.view_is) c.requires.row) c.index-window.ensures in
+    let g = finishable d.limits d.page_size h ws c.self.invariant.kept blob (arc_value d.houses) t v (blob - 1) seen row on is refl first (subst T (sym c.self.view_is) c.requires.ticket) (subst R (sym c.self.view_is) c.requires.row) c.index-window.ensures in
     let E : Numbered → Type 0 = λ x. length x.rows ≡ length x.log in
     let even : length w.rows ≡ length w.log = subst E (g.at.window ∙ sym f.at.window) (sym c.assigned-assigned.ensures.rows ∙ c.assigned-assigned.ensures.log) in
     let marks = even_of d.limits b w f.at.keeps even in
@@ -221,7 +220,7 @@ returns-then-is_finished-clause-already c =
     let d = c.self.inside in
     let h = map event_of d.history.items in
     let ws = d.windows.items in
-    let this : DeskState = record { limits = d.limits; page_size = d.page_size; houses = arc_value d.houses; nodes = arc_value d.nodes; history = h; windows = ws } in
+    let this : DeskState = record { limits = d.limits; page_size = d.page_size; houses = arc_value d.houses; history = h; windows = ws } in
     let t = c.args.ticket.now in
     let row = arc_value c.args.row in
     let blob = c.blob-blob.result in
@@ -232,7 +231,7 @@ returns-then-is_finished-clause-already c =
     let first : 1 ≤ v = omega (arith, is, c.version-version.ensures.stands.version) in
     let T : DeskState → Type 0 = λ s. IsTicketOf s t in
     let R : DeskState → Type 0 = λ s. IsRowFor s t row in
-    let f = finishable d.limits d.page_size h ws c.self.invariant.kept blob (arc_value d.houses) (arc_value d.nodes) t v (blob - 1) w row on is refl first (subst T (sym c.self.view_is) c.requires.ticket) (subst R (sym c.self.view_is) c.requires.row) c.index-window.ensures in
+    let f = finishable d.limits d.page_size h ws c.self.invariant.kept blob (arc_value d.houses) t v (blob - 1) w row on is refl first (subst T (sym c.self.view_is) c.requires.ticket) (subst R (sym c.self.view_is) c.requires.row) c.index-window.ensures in
     let b : Blob = f.at.found.b in
     let done : is_finished b v ≡ true = sym (finished_is d.limits w b f.at.keeps v first) ∙ sym c.is_finished.ensures ∙ c.if-is_finished.true in
     let O : DeskState → ℕ → ℕ → Type 0 = λ s i n. finished_or_not (blob_at (store_of s.limits s.history) i) n ≡ true in
@@ -244,7 +243,7 @@ returns-then-is_finished-clause-refused c =
     let d = c.self.inside in
     let h = map event_of d.history.items in
     let ws = d.windows.items in
-    let this : DeskState = record { limits = d.limits; page_size = d.page_size; houses = arc_value d.houses; nodes = arc_value d.nodes; history = h; windows = ws } in
+    let this : DeskState = record { limits = d.limits; page_size = d.page_size; houses = arc_value d.houses; history = h; windows = ws } in
     let t = c.args.ticket.now in
     let row = arc_value c.args.row in
     let blob = c.blob-blob.result in
@@ -255,7 +254,7 @@ returns-then-is_finished-clause-refused c =
     let first : 1 ≤ v = omega (arith, is, c.version-version.ensures.stands.version) in
     let T : DeskState → Type 0 = λ s. IsTicketOf s t in
     let R : DeskState → Type 0 = λ s. IsRowFor s t row in
-    let f = finishable d.limits d.page_size h ws c.self.invariant.kept blob (arc_value d.houses) (arc_value d.nodes) t v (blob - 1) w row on is refl first (subst T (sym c.self.view_is) c.requires.ticket) (subst R (sym c.self.view_is) c.requires.row) c.index-window.ensures in
+    let f = finishable d.limits d.page_size h ws c.self.invariant.kept blob (arc_value d.houses) t v (blob - 1) w row on is refl first (subst T (sym c.self.view_is) c.requires.ticket) (subst R (sym c.self.view_is) c.requires.row) c.index-window.ensures in
     let b : Blob = f.at.found.b in
     let done : is_finished b v ≡ true = sym (finished_is d.limits w b f.at.keeps v first) ∙ sym c.is_finished.ensures ∙ c.if-is_finished.true in
     let O : DeskState → ℕ → ℕ → Type 0 = λ s i n. (answer (store_of s.limits s.history) c.args.caller (Calls.Finish i n)).1 ≡ Outcomes.Refused (Refusals.Already v) in
@@ -267,7 +266,7 @@ returns-in-Ok-clause-new c =
     let d = c.self.inside in
     let h = map event_of d.history.items in
     let ws = d.windows.items in
-    let this : DeskState = record { limits = d.limits; page_size = d.page_size; houses = arc_value d.houses; nodes = arc_value d.nodes; history = h; windows = ws } in
+    let this : DeskState = record { limits = d.limits; page_size = d.page_size; houses = arc_value d.houses; history = h; windows = ws } in
     let t = c.args.ticket.now in
     let row = arc_value c.args.row in
     let blob = c.blob-blob.result in
@@ -278,11 +277,11 @@ returns-in-Ok-clause-new c =
     let first : 1 ≤ v = omega (arith, is, c.version-version.ensures.stands.version) in
     let T : DeskState → Type 0 = λ s. IsTicketOf s t in
     let R : DeskState → Type 0 = λ s. IsRowFor s t row in
-    let f = finishable d.limits d.page_size h ws c.self.invariant.kept blob (arc_value d.houses) (arc_value d.nodes) t v (blob - 1) w row on is refl first (subst T (sym c.self.view_is) c.requires.ticket) (subst R (sym c.self.view_is) c.requires.row) c.index_mut.ensures.value in
+    let f = finishable d.limits d.page_size h ws c.self.invariant.kept blob (arc_value d.houses) t v (blob - 1) w row on is refl first (subst T (sym c.self.view_is) c.requires.ticket) (subst R (sym c.self.view_is) c.requires.row) c.index_mut.ensures.value in
     let entry : Entry = record { caller = c.args.caller; change = Changes.Finish blob v } in
     let history = pushed_event d.history.items c.push_reserved.new.self.items entry (c.push_reserved.ensures.items ∙ ap (λ (l : List Entry). l ++ entry ∷ []) c.reserve.ensures.items) in
     let window : c.finish.new.self ≡ with_finished (window_in this blob) v row = c.in-Ok.ensures.finished ∙ ap (λ (x : Numbered). with_finished x v row) f.at.window in
-    let desk : List Event → Numbered → DeskState = λ l x. record { limits = d.limits; page_size = d.page_size; houses = arc_value d.houses; nodes = arc_value d.nodes; history = l; windows = set ws (blob - 1) x } in
+    let desk : List Event → Numbered → DeskState = λ l x. record { limits = d.limits; page_size = d.page_size; houses = arc_value d.houses; history = l; windows = set ws (blob - 1) x } in
     let after = map event_of c.push_reserved.new.self.items in
     let now : desk after c.finish.new.self ≡ desk (h ++ event_of entry ∷ []) (with_finished (window_in this blob) v row) = ap (λ (l : List Event). desk l c.finish.new.self) history ∙ ap (λ (x : Numbered). desk (h ++ event_of entry ∷ []) x) window in
     let N : DeskState → ℕ → ℕ → Type 0 = λ s i n. desk after c.finish.new.self ≡ with_event s (Events.Finish c.args.caller i n) (windows_with s i (with_finished (window_in s i) n row)) in

@@ -63,13 +63,12 @@ returns-in-Some-clause-refused c = λ caller.
 pub returns-in-Some-clause-here : goal.returns-in-Some-clause-here
 returns-in-Some-clause-here c =
     let d = c.self.inside in
-    let nodes = arc_value d.nodes in
     let houses = arc_value d.houses in
     let within : c.in-Some.place < length d.windows.items = omega (arith, d.windows.ok.0, c.in-Some.ensures.0, c.in-Some.ensures.1, c.in-Some.ensures.2) in
-    let was : AreRowsIn nodes houses c.index.result.now = window_lies nodes houses d.windows.items c.in-Some.place c.index.result.now _ c.self.invariant.lies within c.index.ensures in
-    let V : Version → Type 0 = λ s. IsVersionIn nodes houses s in
-    let P : DeskState → Type 0 = λ s. IfOk c.snapshot_in.result (λ (a : Version). IsVersionIn s.nodes s.houses a) in
-    subst P c.self.view_is (if_ok c.snapshot_in.result _ _ (λ (a : Version) e. subst V (sym e) (older_in nodes houses c.index.result.now c.args.version was)) c.snapshot_in.ensures.this)
+    let was : AreRowsIn houses c.index.result.now = window_lies houses d.windows.items c.in-Some.place c.index.result.now _ c.self.invariant.lies within c.index.ensures in
+    let V : Version → Type 0 = λ s. IsVersionIn houses s in
+    let P : DeskState → Type 0 = λ s. IfOk c.snapshot_in.result (λ (a : Version). IsVersionIn s.houses a) in
+    subst P c.self.view_is (if_ok c.snapshot_in.result _ _ (λ (a : Version) e. subst V (sym e) (older_in houses c.index.result.now c.args.version was)) c.snapshot_in.ensures.this)
 
 pub returns-in-Some-clause-origins : goal.returns-in-Some-clause-origins
 returns-in-Some-clause-origins c =

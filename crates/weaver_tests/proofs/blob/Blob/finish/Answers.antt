@@ -9,7 +9,7 @@ use Rattle.weaver_tests.proofs.blob.Blob.finish.Goals as goal
 
 pub finish-requires-clause-own : goal.finish-requires-clause-own
 finish-requires-clause-own g c =
-    let b : OneBlob = blob_of c.self.inside.nodes c.self.inside.window c.self.inside.touches.items c.self.inside.begun.items in
+    let b : OneBlob = blob_of c.self.inside.window c.self.inside.touches.items c.self.inside.begun.items in
     let t = c.in_ok-ticket.ticket in
     let row = arc_value c.in_ok-row.row in
     let T : OneBlob → Type 0 = λ x. IsTicketOf x t in
@@ -24,7 +24,7 @@ finish-requires-clause-own g c =
 
 pub invariant_of-self : goal.invariant_of-self
 invariant_of-self g c =
-    let b : OneBlob = blob_of c.self.inside.nodes c.self.inside.window c.self.inside.touches.items c.self.inside.begun.items in
+    let b : OneBlob = blob_of c.self.inside.window c.self.inside.touches.items c.self.inside.begun.items in
     let t = c.in_ok-ticket.ticket in
     let row = arc_value c.in_ok-row.row in
     let v = c.version-version.result in
@@ -35,4 +35,4 @@ invariant_of-self g c =
     let V : ℕ → Type 0 = λ n. IsRowOf b.window.page_size (updates_in b) n row in
     still_blob c.windows_stand.ensures.finished b c.self.invariant v row c.finish.new.self (omega (arith, c.version-version.ensures.version, k.some))
     (omega (arith, c.version-version.ensures.version, k.numbered, is_counted b c.self.invariant)) (subst V (sym c.version-version.ensures.version) own)
-    c.in_ok-row.ensures.here (finished_or_not c.finish.result c.finish.new.self b.window v row _ c.finish.ensures.finished c.finish.ensures.same)
+    (finished_or_not c.finish.result c.finish.new.self b.window v row _ c.finish.ensures.finished c.finish.ensures.same)
