@@ -7,8 +7,11 @@ use crate::count::count_up;
 use crate::stream::{Ends, Source, Taken};
 use std::io::{ErrorKind, Read};
 
-// The bytes that are asked for at once.
-const PIECE: usize = 8192;
+/// The bytes that are asked for at once.
+pub(crate) const PIECE: usize = 8192;
+
+/// The bytes that are asked for at once where there is much to read.
+pub(crate) const LONG_PIECE: usize = 65_536;
 
 /// A std reader as a source. What is left is known where the reader tells it.
 ///
@@ -69,20 +72,23 @@ fn read_piece<R: Read>(reader: &mut R, piece: &mut [u8]) -> Taken
     Taken::Failed
 }
 
-fn empty_piece() -> [u8; PIECE] {
-    [0; PIECE]
+fn empty_piece<const N: usize>() -> [u8; N] {
+    [0; N]
 }
 
-// One read into the front of a buffer. The reader gets bytes of its own to fill, since std lets it
-// write past those that it answers, and the rest of the buffer is to stay.
-pub(crate) fn read_front<R: Read>(reader: &mut R, buf: &mut [u8]) -> Taken
-    requires { 0 < length buf.old }
+/// One read into the front of a buffer, of at most N bytes. The reader gets bytes of its own to fill, since std lets it
+/// write past those that it answers, and the rest of the buffer is to stay.
+#[inline(never)]
+pub(crate) fn read_front<const N: usize, R: Read>(reader: &mut R, buf: &mut [u8]) -> Taken
+    requires some { 0 < N }
+    requires fits { N ≤ 65536 }
+    requires room { 0 < length buf.old }
     ensures piece { IsPiece buf.old buf.new result }
     ensures left { Consumes (R.remaining reader.old) (R.remaining reader.new) (taken_bytes buf.new result) }
     ensures end { EndsAtEnd (R.remaining reader.new) result }
 {
-    let mut piece = empty_piece();
-    let room = buf.len().min(PIECE);
+    let mut piece = empty_piece::<N>();
+    let room = buf.len().min(N);
     let taken = read_piece(reader, &mut piece[..room]);
     if let Taken::Got(n) = taken {
         buf[..n].copy_from_slice(&piece[..n]);
@@ -123,7 +129,7 @@ impl<R: Read> Source for ReaderSource<R> {
         // That only a fault counts one.
         ensures count { ⟦<ReaderSource<R> as Ends>⟧.read_faults self.new ≡ counted (read_fault_count result) (⟦<ReaderSource<R> as Ends>⟧.read_faults self.old) }
     {
-        let taken = read_front(&mut self.reader, buf);
+        let taken = read_front::<PIECE, R>(&mut self.reader, buf);
         match taken {
             Taken::Got(_) => {}
             Taken::End => self.ends = count_up(self.ends),

@@ -5,7 +5,7 @@ ghost use Rattle.ports.specs.Stream.{IsPiece, CountsEnd, LeavesOut, read_fault_c
 
 use crate::count::count_up;
 use crate::listener::{Accepted, Listener};
-use crate::reader::read_front;
+use crate::reader::{LONG_PIECE, PIECE, read_front};
 use crate::stream::{Ends, Sink, Source, Taken, Written};
 use crate::writer::write_front;
 use std::io::{ErrorKind, Read, Write};
@@ -15,10 +15,11 @@ use std::sync::Wait;
 /// A connection as a stream. What goes through it is not known.
 ///
 /// It reads as `ReaderSource` does and writes as `WriterSink` does: what a signal interrupted is no fault and
-/// is tried again.
+/// is tried again. Where a read gave 8,192 bytes or more, the next one asks for up to 65,536 at once.
 #[derive(Drop)]
 pub struct TcpPeer<S> {
     stream: S,
+    gives_much: bool,
     read_faults: u64,
     write_faults: u64,
     ends: u64,
@@ -33,6 +34,7 @@ impl<S: Read + Write> TcpPeer<S> {
     {
         TcpPeer {
             stream,
+            gives_much: false,
             read_faults: 0,
             write_faults: 0,
             ends: 0,
@@ -72,9 +74,13 @@ impl<S: Read + Write> Source for TcpPeer<S> {
         // That only a fault counts one.
         ensures count { ⟦<TcpPeer<S> as Ends>⟧.read_faults self.new ≡ counted (read_fault_count result) (⟦<TcpPeer<S> as Ends>⟧.read_faults self.old) }
     {
-        let taken = read_front(&mut self.stream, buf);
+        let taken = if self.gives_much {
+            read_front::<LONG_PIECE, S>(&mut self.stream, buf)
+        } else {
+            read_front::<PIECE, S>(&mut self.stream, buf)
+        };
         match taken {
-            Taken::Got(_) => {}
+            Taken::Got(n) => self.gives_much = n >= PIECE,
             Taken::End => self.ends = count_up(self.ends),
             Taken::Failed => self.read_faults = count_up(self.read_faults),
         }
