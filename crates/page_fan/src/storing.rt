@@ -174,5 +174,5 @@ fn put_in_groups<D: BesideDoor, R: Threads + Wait + Sync>(
     let puts = list_puts(alloc, p, buffer, placements)?;
     let answer = Vec::with_capacity(alloc, placements.count() as usize)?;
     D::put_groups(rt, stands, houses, p, buffer, puts.as_slice());
-    join_pages(rt, stands, houses, p, buffer, placements, answer)
+    join_pages(rt, alloc, stands, houses, p, buffer, placements, answer)
 }
