@@ -78,7 +78,7 @@ fn join_page<D: Door, R: Wait>(
     let mut stored: Option<StoredPage> = None;
     let providers = &placement.providers[..placement.count as usize];
     for (i, provider) in providers.iter().enumerate() {
-        let behind = providers.len() - i - 1;
+        let behind = placement.count - i as u32 - 1;
         let put = Put {
             provider: *provider,
             at,
@@ -116,12 +116,12 @@ fn answer_at<D: Door, R: Wait>(
     stand.answer(rt, houses, p, buffer, put)
 }
 
-// The page with one replica more. With its first one, it gets room for as many as may follow.
+// The page with one replica more, behind which so many may follow.
 fn with_replica(
     alloc: Global,
     stored: Option<StoredPage>,
     page: PageRef,
-    behind: usize,
+    behind: u32,
 ) -> Result<StoredPage, NoMemory>
     requires same { IfSome stored (λ s. s.bytes ≡ page.bytes) }
     requires room { IfSome stored (λ s. length s.places < 8) }
@@ -130,9 +130,9 @@ fn with_replica(
         new.places ≡ option_map_or (λ s. s.places) stored [] ++ page.place ∷ []) }
 {
     match stored {
-        None => StoredPage::with_room(alloc, page, behind),
+        None => Ok(StoredPage::of(alloc, page)),
         Some(mut replicas) => {
-            replicas.add(page)?;
+            replicas.add(page, behind)?;
             Ok(replicas)
         }
     }

@@ -151,7 +151,7 @@ fn put_pages<D: BesideDoor, R: Threads + Wait + Sync>(
     put_in_groups(rt, alloc, stands, houses, p, buffer, placements)
 }
 
-// The same, where the groups of the providers are put beside each other. What takes memory comes before the first put.
+// The same, where the groups of the providers are put beside each other. The lists are made before the first put.
 fn put_in_groups<D: BesideDoor, R: Threads + Wait + Sync>(
     rt: &R,
     alloc: Global,

@@ -1,5 +1,5 @@
 // A page with its replicas, and the pages of one update.
-ghost use Rattle.std.specs.Prelude.{◌≡◌, ◌+◌, ◌*◌, ◌<◌, ◌≤◌, length, IfOk, IsOk, OnOk, OnErr, Some, slice_get, slice_range, [], ◌∷◌, ◌++◌, min};
+ghost use Rattle.std.specs.Prelude.{◌≡◌, ◌+◌, ◌*◌, ◌<◌, ◌≤◌, length, IfOk, OnOk, OnErr, Some, slice_get, slice_range, [], ◌∷◌, ◌++◌, min};
 ghost use Rattle.page_store.specs.Stored.{joined, AllFull, IsCut};
 
 use crate::NoMemory;
@@ -40,26 +40,16 @@ impl StoredPage {
         }
     }
 
-    /// A page with one replica, and room for so many more: adding them takes no memory. Room for none takes none either.
-    pub fn with_room(alloc: Global, first: PageRef, more: usize) -> Result<StoredPage, NoMemory>
-        ensures page { IfOk result (λ page. page ≡ record { bytes = first.bytes; places = first.place ∷ [] }) }
-        ensures alone { more ≡ 0 → IsOk result }
-    {
-        Ok(StoredPage {
-            first,
-            others: Vec::with_capacity(alloc, more)?,
-        })
-    }
-
-    /// Adds a replica at the end. Where there is no room for it, it asks for that of one replica. Where memory is refused,
-    /// the page stays as it was.
-    pub fn add(&mut self, other: PageRef) -> Result<(), NoMemory>
+    /// Adds a replica at the end, where `more` replicas may still follow. A page that has no room left asks once for that
+    /// of this replica and of those, so it takes one block of memory, and none as long as it has one replica. Where memory
+    /// is refused, the page stays as it was.
+    pub fn add(&mut self, other: PageRef, more: u32) -> Result<(), NoMemory>
         requires same { other.bytes ≡ self.old.bytes }
         requires room { length self.old.places < 8 }
         ensures added { OnOk result (self.new ≡ record { bytes = self.old.bytes; places = self.old.places ++ other.place ∷ [] }) }
         ensures err { OnErr result (self.new ≡ self.old) }
     {
-        self.others.reserve_exact(1)?;
+        self.others.reserve_exact(more as usize + 1)?;
         self.others.push_reserved(other);
         Ok(())
     }
