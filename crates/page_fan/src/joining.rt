@@ -13,12 +13,14 @@ use crate::stand::{Put, Stand};
 use page_store::{Door, Houses, NoMemory, PageRef, PutAnswer, StoredPage};
 use provider_manager::Placements;
 use replica_place::Placement;
+use std::alloc::Global;
 use std::sync::Wait;
 use tree_geom::PageSize;
 
 // The answers to all pages of the buffer, in order. There is room for them.
 pub(crate) fn join_pages<D: Door, R: Wait>(
     rt: &R,
+    alloc: Global,
     stands: &mut [Stand<D>],
     houses: &Houses,
     p: PageSize,
@@ -43,7 +45,8 @@ pub(crate) fn join_pages<D: Door, R: Wait>(
     let mut at = 0;
     let mut i = 0;
     while at < buffer.len() {
-        answer.push_reserved(join_page(rt, stands, houses, p, buffer, placements.of(i), at)?);
+        let placement = placements.of(i);
+        answer.push_reserved(join_page(rt, alloc, stands, houses, p, buffer, placement, at)?);
         at += page_size;
         i += 1;
     }
@@ -53,6 +56,7 @@ pub(crate) fn join_pages<D: Door, R: Wait>(
 // The answer to the page that begins at byte `at`, by those of its doors, in the order of its placement.
 fn join_page<D: Door, R: Wait>(
     rt: &R,
+    alloc: Global,
     stands: &mut [Stand<D>],
     houses: &Houses,
     p: PageSize,
@@ -73,13 +77,14 @@ fn join_page<D: Door, R: Wait>(
 {
     let mut stored: Option<StoredPage> = None;
     let providers = &placement.providers[..placement.count as usize];
-    for provider in providers {
+    for (i, provider) in providers.iter().enumerate() {
+        let behind = placement.count - i as u32 - 1;
         let put = Put {
             provider: *provider,
             at,
         };
         match answer_at(rt, stands, houses, p, buffer, put) {
-            PutAnswer::Stored(page) => stored = Some(with_replica(stored, page)),
+            PutAnswer::Stored(page) => stored = Some(with_replica(alloc, stored, page, behind)?),
             PutAnswer::Failed => {}
             PutAnswer::NoMemory => return Err(NoMemory),
         }
@@ -111,18 +116,24 @@ fn answer_at<D: Door, R: Wait>(
     stand.answer(rt, houses, p, buffer, put)
 }
 
-// The page with one replica more.
-fn with_replica(stored: Option<StoredPage>, page: PageRef) -> StoredPage
+// The page with one replica more, behind which so many may follow.
+fn with_replica(
+    alloc: Global,
+    stored: Option<StoredPage>,
+    page: PageRef,
+    behind: u32,
+) -> Result<StoredPage, NoMemory>
     requires same { IfSome stored (λ s. s.bytes ≡ page.bytes) }
     requires room { IfSome stored (λ s. length s.places < 8) }
-    ensures bytes { result.bytes ≡ page.bytes }
-    ensures places { result.places ≡ option_map_or (λ s. s.places) stored [] ++ page.place ∷ [] }
+    ensures bytes { IfOk result (λ new. new.bytes ≡ page.bytes) }
+    ensures places { IfOk result (λ new.
+        new.places ≡ option_map_or (λ s. s.places) stored [] ++ page.place ∷ []) }
 {
     match stored {
-        None => StoredPage::of(page),
+        None => Ok(StoredPage::of(alloc, page)),
         Some(mut replicas) => {
-            replicas.add(page);
-            replicas
+            replicas.add(page, behind)?;
+            Ok(replicas)
         }
     }
 }

@@ -151,7 +151,7 @@ fn put_pages<D: BesideDoor, R: Threads + Wait + Sync>(
     put_in_groups(rt, alloc, stands, houses, p, buffer, placements)
 }
 
-// The same, where the groups of the providers are put beside each other. What takes memory comes before the first put.
+// The same, where the groups of the providers are put beside each other. The lists are made before the first put.
 fn put_in_groups<D: BesideDoor, R: Threads + Wait + Sync>(
     rt: &R,
     alloc: Global,
@@ -174,5 +174,5 @@ fn put_in_groups<D: BesideDoor, R: Threads + Wait + Sync>(
     let puts = list_puts(alloc, p, buffer, placements)?;
     let answer = Vec::with_capacity(alloc, placements.count() as usize)?;
     D::put_groups(rt, stands, houses, p, buffer, puts.as_slice());
-    join_pages(rt, stands, houses, p, buffer, placements, answer)
+    join_pages(rt, alloc, stands, houses, p, buffer, placements, answer)
 }

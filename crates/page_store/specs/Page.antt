@@ -1,5 +1,5 @@
 -- What a clause sees of a reference to a page, and where a page lies.
-use Rattle.std.specs.Prelude.{◌≡◌, ℕ, ◌-◌, List, length, Option, Some, None, slice_get, IsSomeAnd}
+use Rattle.std.specs.Prelude.{◌≡◌, ℕ, ◌-◌, ◌≤◌, List, length, slice_get, IsSomeAnd, All}
 use Rattle.std.specs.Coded.{Coded, coded×, coded_ℕ, coded_list}
 use base.Stored.{coded_via}
 use Rattle.boxcar.specs.Table.{id_at}
@@ -32,12 +32,7 @@ pub record IsAmong (houses : List House) (place : Place) : Type 0 where
   pub known : IsProvider (length houses) place.provider
   pub kept : IsSomeAnd (slice_get houses (place.provider - 1)) (λ house. IsIn house place)
 
--- the place of a page that may be there
-abbrev pub place_of : Option Page → Place
-place_of (Some page) = page.place
-place_of None = record { provider = 0; shelf = 0; mark = 0 }
-
--- there is a page, and it stands for these bytes
-abbrev pub StandsFor : List ℕ → Option Page → Type 0
-StandsFor bytes (Some page) = page.bytes ≡ bytes
-StandsFor bytes None = ⊥
+-- the other replicas of a page: each stands for the same bytes, and there are at most seven
+pub record AreOthers (bytes : List ℕ) (others : List Page) : Type 0 where
+  pub same : All (λ (p : Page). p.bytes ≡ bytes) others
+  pub few : length others ≤ 7

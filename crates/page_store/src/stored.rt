@@ -1,52 +1,57 @@
 // A page with its replicas, and the pages of one update.
-ghost use Rattle.std.specs.Prelude.{◌≡◌, ◌+◌, ◌*◌, ◌<◌, ◌≤◌, length, IfOk, Some, slice_get, slice_range, [], ◌∷◌, ◌++◌, min};
+ghost use Rattle.std.specs.Prelude.{◌≡◌, ◌+◌, ◌*◌, ◌<◌, ◌≤◌, length, IfOk, OnOk, OnErr, Some, slice_get, slice_range, [], ◌∷◌, ◌++◌, min};
 ghost use Rattle.page_store.specs.Stored.{joined, AllFull, IsCut};
 
 use crate::NoMemory;
 use crate::house::PageRef;
-use arrayvec::ArrayVec;
 use std::alloc::Global;
 use std::marker::Model;
 
-/// A page with its replicas: 1 to 8 references that all stand for the same bytes.
+/// A page with its replicas: 1 to 8 references that all stand for the same bytes. Most stores keep few replicas, so a page
+/// has room for those alone: the first lies in it, and the others in one block of memory, if there are any.
 #[derive(Drop)]
 pub struct StoredPage {
     first: PageRef,
-    others: ArrayVec<Option<PageRef>, 7>,
+    others: Vec<PageRef>,
 }
 
 impl Model for StoredPage {
-    ghost use Rattle.std.specs.Prelude.{◌∷◌, All, map};
+    ghost use Rattle.std.specs.Prelude.{◌∷◌, map};
     ghost use Rattle.page_store.specs.Stored.{Stored, stored_coded};
-    ghost use Rattle.page_store.specs.Page.{place_of, StandsFor};
+    ghost use Rattle.page_store.specs.Page.{AreOthers};
 
     ghost Value = { Stored };
 
     ghost coded = { stored_coded };
 
-    ghost view = { λ s. record { bytes = s.first.bytes; places = s.first.place ∷ map place_of s.others.items } };
+    ghost view = { λ s. record { bytes = s.first.bytes; places = s.first.place ∷ map (λ p. p.place) s.others.items } };
 
-    ghost invariant = { λ s. All (StandsFor s.first.bytes) s.others.items };
+    ghost invariant = { λ s. AreOthers s.first.bytes s.others.items };
 }
 
 impl StoredPage {
-    /// A page with one replica.
-    pub fn of(first: PageRef) -> StoredPage
+    /// A page with one replica. It takes no memory.
+    pub fn of(alloc: Global, first: PageRef) -> StoredPage
         ensures { result ≡ record { bytes = first.bytes; places = first.place ∷ [] } }
     {
         StoredPage {
             first,
-            others: ArrayVec::new(),
+            others: Vec::new(alloc),
         }
     }
 
-    /// Adds a replica at the end. It takes no memory.
-    pub fn add(&mut self, other: PageRef)
+    /// Adds a replica at the end, where `more` replicas may still follow. A page that has no room left asks once for that
+    /// of this replica and of those, so it takes one block of memory, and none as long as it has one replica. Where memory
+    /// is refused, the page stays as it was.
+    pub fn add(&mut self, other: PageRef, more: u32) -> Result<(), NoMemory>
         requires same { other.bytes ≡ self.old.bytes }
         requires room { length self.old.places < 8 }
-        ensures { self.new ≡ record { bytes = self.old.bytes; places = self.old.places ++ other.place ∷ [] } }
+        ensures added { OnOk result (self.new ≡ record { bytes = self.old.bytes; places = self.old.places ++ other.place ∷ [] }) }
+        ensures err { OnErr result (self.new ≡ self.old) }
     {
-        self.others.push(Some(other));
+        self.others.reserve_exact(more as usize + 1)?;
+        self.others.push_reserved(other);
+        Ok(())
     }
 
     /// The length of the page, in bytes.
@@ -74,10 +79,7 @@ impl StoredPage {
         if i == 0 {
             &self.first
         } else {
-            match &self.others[i as usize - 1] {
-                Some(other) => other,
-                None => unreachable!(),
-            }
+            &self.others[i as usize - 1]
         }
     }
 }

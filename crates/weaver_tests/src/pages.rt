@@ -26,9 +26,9 @@ pub fn store(
     let mut pages = Pages::start(alloc, p.bytes(), full as u32 + 1)?;
     for i in 0..full {
         let page = house.put(rt, &bytes[i * size..i * size + size])?;
-        pages.add(StoredPage::of(page));
+        pages.add(StoredPage::of(alloc, page));
     }
-    pages.add(StoredPage::of(house.put(rt, &bytes[full * size..])?));
+    pages.add(StoredPage::of(alloc, house.put(rt, &bytes[full * size..])?));
     if pages.len() == 0 {
         return Err("no bytes".into());
     }

@@ -6,23 +6,24 @@ use Rattle.page_fan.proofs.Kept.{kept_more, kept_longer, same_bytes}
 use Rattle.page_fan.proofs.Rises.{none_fell_since}
 use Rattle.page_fan.proofs.Standing.{stands_at_next, stands_without_next}
 use Rattle.page_fan.proofs.joining.join_page.Goals as goal
-use Rattle.page_fan.proofs.joining.join_page.Goals.{in-Stored, in-Failed}
+use Rattle.page_fan.proofs.joining.join_page.Goals.{in-Stored+in_ok-with_replica-in-Stored, in-Failed}
 
-pub loop-provider-preserved : goal.loop-provider-preserved
-loop-provider-preserved g c =
+pub loop-i-preserved : goal.loop-i-preserved
+loop-i-preserved g c =
     let counts : List (Stand g.row.D.Denot) → List ℕ = map (λ s. g.D.Door.faults s.door) in
     let content = take c.args.p (drop c.args.at c.args.buffer.now) in
-    let mid = counts c.loop-provider.stands in
+    let mid = counts c.loop-i.stands in
     let now = counts c.answer_at.new.stands in
-    let index = c.loop-provider.provider-index in
-    let i = c.loop-provider.invariant in
+    let index = c.loop-i.i in
+    let i = c.loop-i.invariant in
     let a = c.answer_at.ensures in
     elim c.match-answer_at.branch [
-      | in-Stored w ↦
+      | in-Stored+in_ok-with_replica-in-Stored w ↦
+          let with = w.in_ok-with_replica-in-Stored in
           let page = w.in-Stored.ensures.answer g.before i.replies in
           record {
-            stored = rw w.stored-is (kept_more c.args.houses.now content index c.loop-provider.stored w.in-Stored.page w.with_replica.result i.stored page.here page.bytes w.with_replica.ensures.bytes w.with_replica.ensures.places);
-            replicas = rw w.stored-is (stands_at_next g.before mid now (chosen c.args.placement.now) index _ _ w.in-Stored.page.place a.none_fell c.loop-provider-test.true page.there w.with_replica.ensures.places i.replicas);
+            stored = rw w.stored-is (kept_more c.args.houses.now content index c.loop-i.stored w.in-Stored.page with.field-0 i.stored page.here page.bytes with.ensures.bytes with.ensures.places);
+            replicas = rw w.stored-is (stands_at_next g.before mid now (chosen c.args.placement.now) index _ _ w.in-Stored.page.place a.none_fell c.loop-i-test.true page.there with.ensures.places i.replicas);
             replies = a.replies g.before i.replies;
             kept = none_fell_since (counts c.args.stands.now) mid now i.kept a.none_fell;
             truth = λ t. a.truth_stays (i.truth t);
@@ -31,8 +32,8 @@ loop-provider-preserved g c =
       | in-Failed w ↦
           let gone = w.in-Failed.ensures.answer g.before i.replies in
           record {
-            stored = rw w.stored-is (kept_longer c.args.houses.now content index c.loop-provider.stored i.stored);
-            replicas = rw w.stored-is (stands_without_next g.before mid now (chosen c.args.placement.now) index _ a.none_fell c.loop-provider-test.true gone.failed i.replicas);
+            stored = rw w.stored-is (kept_longer c.args.houses.now content index c.loop-i.stored i.stored);
+            replicas = rw w.stored-is (stands_without_next g.before mid now (chosen c.args.placement.now) index _ a.none_fell c.loop-i-test.true gone.failed i.replicas);
             replies = a.replies g.before i.replies;
             kept = none_fell_since (counts c.args.stands.now) mid now i.kept a.none_fell;
             truth = λ t. a.truth_stays (i.truth t);
@@ -46,13 +47,16 @@ returns-clause-answered g c =
     let content = take c.args.p (drop c.args.at c.args.buffer.now) in
     let providers = chosen c.args.placement.now in
     let some : 1 ≤ length providers = omega (arith, length-take c.args.placement.now.count c.args.placement.now.providers) in
-    let i = c.loop-provider.invariant in
-    answer_at_end c.args.houses.now content providers g.before (counts c.loop-provider.stands) c.loop-provider.provider-index c.loop-provider.stored c.loop-provider-test.false some i.stored i.replicas
+    let i = c.loop-i.invariant in
+    answer_at_end c.args.houses.now content providers g.before (counts c.loop-i.stands) c.loop-i.i c.loop-i.stored c.loop-i-test.false some i.stored i.replicas
 
 pub with_replica-requires-clause-same : goal.with_replica-requires-clause-same
 with_replica-requires-clause-same g c =
-    let i = c.loop-provider.invariant in
-    same_bytes c.args.houses.now (take c.args.p (drop c.args.at c.args.buffer.now)) c.loop-provider.provider-index c.loop-provider.stored c.in-Stored.page i.stored (c.in-Stored.ensures.answer g.before i.replies).bytes
+    let i = c.loop-i.invariant in
+    same_bytes c.args.houses.now (take c.args.p (drop c.args.at c.args.buffer.now)) c.loop-i.i c.loop-i.stored c.in-Stored.page i.stored (c.in-Stored.ensures.answer g.before i.replies).bytes
 
 pub returns-in-NoMemory-clause-replies : goal.returns-in-NoMemory-clause-replies
-returns-in-NoMemory-clause-replies g c = c.answer_at.ensures.replies g.before c.loop-provider.invariant.replies
+returns-in-NoMemory-clause-replies g c = c.answer_at.ensures.replies g.before c.loop-i.invariant.replies
+
+pub returns-in_err-with_replica-in-Stored-clause-replies : goal.returns-in_err-with_replica-in-Stored-clause-replies
+returns-in_err-with_replica-in-Stored-clause-replies g c = c.answer_at.ensures.replies g.before c.loop-i.invariant.replies

@@ -8,12 +8,12 @@ use Rattle.page_fan.specs.Replicas.{StandAt, providers_of}
 use Rattle.page_fan.proofs.Kept.{KeptAs}
 use Rattle.page_fan.proofs.joining.join_page.Given as goal
 
-abbrev pub invariant-loop-provider : goal.invariant-loop-provider
-invariant-loop-provider g l =
+abbrev pub invariant-loop-i : goal.invariant-loop-i
+invariant-loop-i g l =
     let counts = map (λ s. g.D.Door.faults s.door) in
     record {
-      stored : IfSome l.stored (KeptAs l.houses (take l.p (drop l.at l.buffer)) l.provider-index);
-      replicas : StandAt (RoseAt g.before (counts l.stands)) (take l.provider-index (chosen l.placement)) (providers_of (option_map_or (λ s. s.places) l.stored []));
+      stored : IfSome l.stored (KeptAs l.houses (take l.p (drop l.at l.buffer)) l.i);
+      replicas : StandAt (RoseAt g.before (counts l.stands)) (take l.i (chosen l.placement)) (providers_of (option_map_or (λ s. s.places) l.stored []));
       replies : AllReplied l.houses l.p l.buffer g.before (counts l.stands) (map (λ s. s.tray.items) l.stands);
       kept : NoneFell (counts l.fn.stands) (counts l.stands);
       truth : All (λ s. g.D.Door.is_true s.door) l.fn.stands → All (λ s. g.D.Door.is_true s.door) l.stands;

@@ -20,7 +20,7 @@ loop-at-preserved g c =
     let buffer = c.args.buffer.now in
     let answers = c.loop-at.answer.items in
     let chosen = λ (k : ℕ). slice_index_or c.args.placements.now k [] in
-    let one : IsPageAnswer houses (page_of size buffer c.loop-at.i) (chosen c.loop-at.i) g.before now c.in_ok-join_page.field-0 = rw (← i.place, ← c.of.ensures, c.bytes-page_size.ensures.is) c.in_ok-join_page.ensures.answered in
+    let one : IsPageAnswer houses (page_of size buffer c.loop-at.i) (chosen c.loop-at.i) g.before now c.in_ok-join_page.field-0 = rw (← i.place, ← c.of-placement.ensures, c.bytes-page_size.ensures.is) c.in_ok-join_page.ensures.answered in
     record {
       few = i.few;
       enough = i.enough;
