@@ -17,6 +17,7 @@ use ports::listener::Listener;
 use ports::stream::Sink;
 use settings::Settings;
 use std::alloc::Global;
+use std::mem;
 use std::sync::Wait;
 use std::thread::Threads;
 
@@ -94,10 +95,12 @@ where
         settings.workers,
         settings.connections,
     );
-    let Ok(_desk) = shared.close(owner) else {
+    let Ok(desk) = shared.close(owner) else {
         // All passes came back.
         unreachable!()
     };
+    // The process ends, and gives the memory of all pages and nodes back at once.
+    mem::forget(desk);
     match served {
         Ok(peers) => tell_served(alloc, peers, out),
         Err(fault) => status_of(fault),

@@ -17,6 +17,7 @@ use ports::gate::Gate;
 use ports::stream::Sink;
 use settings::Settings;
 use std::alloc::Global;
+use std::mem;
 use std::sync::Wait;
 use std::thread::Threads;
 use workload_law::{LoadPlan, Summary, lines};
@@ -77,7 +78,11 @@ where
         ops: settings.ops,
     };
     match load(rt, alloc, shared, owner, maker, gate, plan) {
-        Ok((summary, _desk)) => tell_load(alloc, &plan, &summary, out),
+        Ok((summary, desk)) => {
+            // The process ends, and gives the memory of all pages and nodes back at once.
+            mem::forget(desk);
+            tell_load(alloc, &plan, &summary, out)
+        }
         Err(fault) => status_of(fault),
     }
 }

@@ -21,6 +21,7 @@ use server_core::laws::endings_hold;
 use server_core::{End, serve_stream};
 use settings::Settings;
 use std::alloc::Global;
+use std::mem;
 use std::sync::Wait;
 use std::thread::Threads;
 use tree_geom::PageSize;
@@ -108,10 +109,12 @@ fn serve_store<R: Wait + Threads + Sync, S: Source, K: Sink, D: BesideDoor, G: G
     };
     let (end, pass, doors) = serve_session(rt, alloc, &shared, gate, pass, doors, script, out);
     shared.take_back(&mut owner, pass);
-    let Ok(_desk) = shared.close(owner) else {
+    let Ok(desk) = shared.close(owner) else {
         // No pass is out.
         unreachable!()
     };
+    // The process ends, and gives the memory of all pages and nodes back at once.
+    mem::forget(desk);
     (end, doors)
 }
 
