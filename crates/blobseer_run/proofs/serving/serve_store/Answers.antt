@@ -27,6 +27,6 @@ returns-clause-lines g c =
     let L : Session → Type 0 = λ s. ServedLines (record { session = s; faults = sum_by g.D.Door.faults c.args.doors; written = g.K.Ends.written c.args.out.now }) before later (events back.seen) (sum_by g.D.Door.faults served.result.2) (g.K.Ends.written served.new.out) served.result.0 in
     record {
       seen = events back.seen;
-      own = own_there c.take_back.new.owner.made c.in-Ok-close._desk.history c.take_back.new.owner.seen back.seen one c.in-Ok-close.ensures.no_other c.in-Ok-close.ensures.history c.take_back.ensures.begins.1 served.ensures.pass.log.tags;
+      own = own_there c.take_back.new.owner.made c.in-Ok-close.desk.history c.take_back.new.owner.seen back.seen one c.in-Ok-close.ensures.no_other c.in-Ok-close.ensures.history c.take_back.ensures.begins.1 served.ensures.pass.log.tags;
       lines = subst L (first_there c.args.shared.fixed pass.caller pass.seen caller none) served.ensures.lines;
     }
