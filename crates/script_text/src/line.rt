@@ -7,6 +7,7 @@ ghost use Rattle.script_text.specs.Lines.{fields_of, heard_as, item_of_text, ite
 ghost use Rattle.script_text.specs.Begun.{IsWithout, GoesOnAs, SaysAs, IsLetter, begun_text, IsBegun, Counts};
 ghost use Rattle.script_text.specs.Begun.{IsTooLong, AddsShort, TakesSolid, IsDropped, TakesSome, TakesFront};
 ghost use Rattle.script_text.specs.Begun as spec;
+ghost use Rattle.script_text.specs.declared.line.Begun.TheVariants.{Malformed};
 
 use crate::command::operation_of;
 use crate::fields::Fields;
@@ -77,22 +78,32 @@ fn add_to_word(alloc: Global, mut word: ArrayVec<u8, 12>, byte: u8) -> Begun
     Begun::Word(word)
 }
 
-// One more byte of a line, which isn't its end.
-fn add(alloc: Global, begun: Begun, byte: u8) -> Result<Begun, NoMemory>
-    requires { IsBegun begun }
-    ensures { IfOk result (λ next. spec.Adds begun byte next) }
+// One more byte of a line, which isn't its end. What has come of its fields is changed where it lies. Where memory is refused,
+// the line isn't kept.
+fn add(alloc: Global, begun: &mut Begun, byte: u8) -> Result<(), NoMemory>
+    requires { IsBegun begun.old }
+    ensures ok { OnOk result (spec.Adds begun.old byte begun.new) }
+    ensures err { OnErr result (begun.new ≡ Malformed) }
 {
     match begun {
-        Begun::Word(word) => Ok(add_to_word(alloc, word, byte)),
-        Begun::Asked(mut fields) => {
-            if fields.add(byte)? {
-                Ok(Begun::Asked(fields))
-            } else {
-                Ok(Begun::Malformed)
+        Begun::Asked(fields) => match fields.add(byte) {
+            Ok(true) => Ok(()),
+            Ok(false) => {
+                *begun = Begun::Malformed;
+                Ok(())
             }
+            Err(error) => {
+                *begun = Begun::Malformed;
+                Err(error)
+            }
+        },
+        Begun::Word(word) => {
+            let was = mem::replace(word, ArrayVec::new());
+            *begun = add_to_word(alloc, was, byte);
+            Ok(())
         }
-        Begun::Comment => Ok(Begun::Comment),
-        Begun::Malformed => Ok(Begun::Malformed),
+        Begun::Comment => Ok(()),
+        Begun::Malformed => Ok(()),
     }
 }
 
@@ -167,12 +178,11 @@ fn push(alloc: Global, begun: &mut Begun, length: &mut usize, byte: u8) -> Resul
     ensures counts { Counts begun.new length.new }
     ensures short { length.new ≤ 4194304 }
 {
-    let was = mem::replace(begun, Begun::Malformed);
     if *length == MAX_LINE {
-        *begun = too_long(was);
+        *begun = too_long(mem::replace(begun, Begun::Malformed));
         return Ok(());
     }
-    *begun = add(alloc, was, byte)?;
+    add(alloc, begun, byte)?;
     *length += 1;
     Ok(())
 }

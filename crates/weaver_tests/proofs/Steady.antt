@@ -1,6 +1,6 @@
 -- What holds of a blob goes on.
 use Rattle.std.proofs.Common.{◌≡◌, ℕ, ◌+◌, ◌-◌, ◌^◌, ◌≤◌, List, [], ◌∷◌, ◌++◌, length, take, drop, max, None, Some, Result, Ok, Err, ◌⊎◌, inl, inr, arith, ap, sym, ◌∙◌, subst, length-append, length-set}
-use Rattle.std.specs.Prelude.{All, IfOk, IfErr}
+use Rattle.std.specs.Prelude.{IfOk, IfErr}
 use Rattle.std.proofs.lemmas.List.{length-map, length-take-le, map-append, take-append-drop}
 use Rattle.std.proofs.lemmas.List.Elements.{All-push}
 use Rattle.blob_model.specs.Content.{Update, size_of}

@@ -1,13 +1,11 @@
 -- The ticket of a numbered update, at whichever version is published.
 use Rattle.std.proofs.Common.{◌≡◌, ℕ, zero, suc, ◌+◌, ◌-◌, ◌^◌, ◌<◌, ◌≤◌, List, [], ◌∷◌, ◌++◌, length, take, drop, map, max, arith, refl, ap, sym, ◌∙◌, subst}
-use Rattle.std.specs.Prelude.{All, slice_index_or}
+use Rattle.std.specs.Prelude.{slice_index_or}
 use Rattle.std.proofs.lemmas.List.{length-map, length-take-le, get_or-map, get_or-take, get_or_default}
-use Rattle.std.proofs.lemmas.List.Elements.{All-take}
 use Rattle.std.proofs.Math.Seq.{take-suc}
-use Rattle.std.proofs.lemmas.Nat.{pow_pos}
 use Rattle.blob_model.specs.Content.{Update, offset_of, size_of}
 use Rattle.tree_geom.specs.declared.touch.Touch.{Touch}
-use Rattle.tree_geom.specs.Geometry.{IsPageSize, no_touch, touched_by}
+use Rattle.tree_geom.specs.Geometry.{no_touch, touched_by}
 use Rattle.range_log.specs.declared.open.OpenTouch.{OpenTouch}
 use Rattle.range_log.specs.Open.{open_at}
 use Rattle.range_log.specs.Log.{size_at}
@@ -15,7 +13,6 @@ use Rattle.range_log.specs.Extents.{Extent, IsLog, touches}
 use Rattle.range_log.specs.Updates.{update_at, no_update, extent_of, extents, Replayable}
 use Rattle.range_log.specs.Laws.{TouchesAre, EachTouchIs, SizesAre, RowsStay, ExtentsGrow, ExtentsStand}
 use Rattle.page_store.specs.Stored.{joined}
-use Rattle.node_store.specs.Rows.{UpdateRow}
 use Rattle.snapshot.specs.Versions.{Version, older_version}
 use Rattle.border_hints.specs.Numbered.{log_of, log_with, numbered}
 use Rattle.publisher.specs.Windows.{version_of, opens_from}

@@ -1,15 +1,13 @@
 -- One update more, and the first of some updates.
 use Rattle.std.proofs.Common.{◌≡◌, ℕ, zero, suc, ◌+◌, ◌^◌, ◌<◌, ◌≤◌, List, [], ◌∷◌, ◌++◌, length, take, drop, max, arith, refl, ap, sym, ◌∙◌, subst, inl, inr, length-append}
 use Rattle.std.proofs.lemmas.Bool.{cases_lt}
-use Rattle.std.proofs.lemmas.List.{length-map, get_or_append_left, get_or-take, take-append-le, take-append-drop, length-take-le, ext_get_or}
-use Rattle.std.proofs.lemmas.List.FromFn.{length-range_with_len, get_or-map-range_with_len}
+use Rattle.std.proofs.lemmas.List.{get_or_append_left, get_or-take, take-append-drop, length-take-le, ext_get_or}
 use Rattle.std.proofs.Math.Seq.{get_or-append_seam}
-use Rattle.std.specs.List.{range_with_len}
-use Rattle.blob_model.specs.Content.{Update, content_from, offset_of, size_of}
+use Rattle.blob_model.specs.Content.{Update, offset_of, size_of}
 use Rattle.tree_geom.specs.declared.touch.Touch.{Touch}
 use Rattle.tree_geom.specs.Geometry.{no_touch, touched_by}
 use Rattle.range_log.specs.Log.{touch_at, size_at}
-use Rattle.range_log.specs.Extents.{Extent, no_extent, extent_at, size_after, touches}
+use Rattle.range_log.specs.Extents.{Extent, extent_at, size_after, touches}
 use Rattle.range_log.specs.Updates.{update_at, no_update, extent_of, extents, Replayable}
 use Rattle.range_log.specs.Laws.{TouchesAre, EachTouchIs, SizesAre, RowsStay, ExtentsGrow, ExtentsStand}
 use Rattle.page_store.specs.Stored.{joined}
