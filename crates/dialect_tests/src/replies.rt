@@ -1,8 +1,8 @@
-//! Tests of how replies are written: as lines, and as frames.
+//! Tests of how replies are written: as lines, and as frames, whole and in two parts.
 
 use blob_model::Bytes;
 use frame_wire::FrameDialect;
-use request_form::{Dialect, Fault, Reply};
+use request_form::{Dialect, Fault, Reply, Said};
 use script_text::ScriptDialect;
 use std::alloc::Global;
 use std::process::Abort;
@@ -179,6 +179,51 @@ fn check_content<R: Abort>(
 ) -> Result<(), Fail> {
     let bytes = Bytes::of(bytes.to_vec(alloc)?);
     check_reply(rt, alloc, &Reply::Content { bytes }, line, frame)
+}
+
+// What was read, said in two parts, where they are what is said of it whole.
+fn parts_of_content<R: Abort, T: Dialect>(
+    rt: &R,
+    alloc: Global,
+    dialect: &T,
+    bytes: &[u8],
+) -> Result<Said, Fail> {
+    let reply = Reply::Content {
+        bytes: Bytes::of(bytes.to_vec(alloc)?),
+    };
+    let whole = said(dialect, &reply)?;
+    let parts = dialect.say_in_parts(reply)?;
+    let mut joined = parts.head.as_slice().to_vec(alloc)?;
+    joined.extend_from_slice(parts.body.as_slice())?;
+    assert_eq!(rt; joined.as_slice(), whole.as_slice());
+    Ok(parts)
+}
+
+#[test]
+fn what_was_read_is_the_body_of_its_frame(rt: HostRuntime) -> Result<(), Fail> {
+    let alloc = rt.alloc();
+    let dialect = FrameDialect::new(alloc)?;
+    for count in [0usize, 1, 5, 4096, 100_000] {
+        let bytes = vec![in alloc; b'z'; count]?;
+        let parts = parts_of_content(&rt, alloc, &dialect, bytes.as_slice())?;
+        assert_eq!(rt; parts.head.len(), 5);
+        assert_eq!(rt; parts.body.as_slice(), bytes.as_slice());
+    }
+    Ok(())
+}
+
+#[test]
+fn each_other_reply_has_no_body(rt: HostRuntime) -> Result<(), Fail> {
+    let alloc = rt.alloc();
+    let lines = ScriptDialect::new(alloc)?;
+    let parts = parts_of_content(&rt, alloc, &lines, b"\x00abz\xff")?;
+    assert_eq!(rt; parts.head.as_slice(), b"data 0061627aff\n");
+    assert!(rt; parts.body.is_empty());
+    let frames = FrameDialect::new(alloc)?;
+    let parts = frames.say_in_parts(Reply::Bye)?;
+    assert_eq!(rt; parts.head.as_slice(), b"\x00\x00\x00\x01\x8d");
+    assert!(rt; parts.body.is_empty());
+    Ok(())
 }
 
 #[test]

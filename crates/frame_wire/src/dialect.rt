@@ -1,9 +1,9 @@
 ghost use Rattle.std.specs.Prelude.{◌≡◌, [], IfOk};
 
 use crate::frame::Frame;
-use crate::reply::reply_frame;
+use crate::reply::{reply_frame, reply_parts};
 use blob_model::Bytes;
-use request_form::{Dialect, Ending, Heard, NoMemory, Piece, Reply};
+use request_form::{Dialect, Ending, Heard, NoMemory, Piece, Reply, Said};
 use std::alloc::Global;
 use std::marker::Model;
 
@@ -80,6 +80,13 @@ impl Dialect for FrameDialect {
     fn say(&self, reply: &Reply) -> Result<Bytes, NoMemory> {
         match reply_frame(self.alloc, reply) {
             Ok(frame) => Ok(Bytes::of(frame)),
+            Err(_) => Err(NoMemory),
+        }
+    }
+
+    fn say_in_parts(&self, reply: Reply) -> Result<Said, NoMemory> {
+        match reply_parts(self.alloc, reply) {
+            Ok(parts) => Ok(parts),
             Err(_) => Err(NoMemory),
         }
     }

@@ -2,22 +2,29 @@ ghost use Rattle.std.specs.Prelude.{◌≡◌, ◌≤◌, ◌∷◌, ◌++◌, [
 ghost use Rattle.frame_wire.specs.Said.{field, wide_field, fields, framed, fault_fields, said};
 ghost use Rattle.frame_wire.specs.Begun.{opened};
 
+use blob_model::Bytes;
 use byteorder::{BigEndian, ByteOrder};
-use request_form::{Fault, Reply};
+use request_form::{Fault, Reply, Said};
 use std::alloc::{AllocError, Global};
 
-// A frame's length and its operation, with room for the bytes behind it.
+// A frame's length and its operation, in a vector with room for so many bytes.
 #[tactic(auto, unfolding(crate::specs::Begun::opened))]
-fn begin_frame(alloc: Global, count: u32, operation: u8) -> Result<Vec<u8>, AllocError>
-    requires { 1 ≤ count }
-    ensures { IfOk result (λ frame. frame.items ≡ opened count (operation ∷ [])) }
+fn frame_head(alloc: Global, count: u32, operation: u8, room: usize) -> Result<Vec<u8>, AllocError>
+    ensures { IfOk result (λ head. head.items ≡ opened count (operation ∷ [])) }
 {
     let mut length = [0u8; 4];
     BigEndian::write_u32(&mut length, count);
-    let mut frame = Vec::with_capacity(alloc, 4 + count as usize)?;
-    frame.extend_from_slice(&length)?;
-    frame.push(operation)?;
-    Ok(frame)
+    let mut head = Vec::with_capacity(alloc, room)?;
+    head.extend_from_slice(&length)?;
+    head.push(operation)?;
+    Ok(head)
+}
+
+// A frame's length and its operation, with room for the bytes behind it.
+fn begin_frame(alloc: Global, count: u32, operation: u8) -> Result<Vec<u8>, AllocError>
+    ensures { IfOk result (λ frame. frame.items ≡ opened count (operation ∷ [])) }
+{
+    frame_head(alloc, count, operation, 4 + count as usize)
 }
 
 // Adds a number.
@@ -140,5 +147,30 @@ pub fn reply_frame(alloc: Global, reply: &Reply) -> Result<Vec<u8>, AllocError>
         Reply::Branched { blob } => numbers_frame(alloc, 140, &[*blob]),
         Reply::Refused(fault) => fault_frame(alloc, fault),
         Reply::Bye => numbers_frame(alloc, 141, &[]),
+    }
+}
+
+// The frame of a read's bytes, which are its body as they are.
+fn content_parts(alloc: Global, bytes: Bytes) -> Result<Said, AllocError>
+    ensures { IfOk result (λ parts. parts.head ++ parts.body ≡ framed (135 ∷ bytes)) }
+{
+    // No frame's length counts more.
+    if bytes.len() >= u32::MAX as usize {
+        return Err(AllocError);
+    }
+    let head = frame_head(alloc, 1 + bytes.len() as u32, 135, 5)?;
+    Ok(Said {
+        head: Bytes::of(head),
+        body: bytes,
+    })
+}
+
+/// A reply's frame in two parts. What a read gave is the body, uncopied. Each other reply is all head.
+pub fn reply_parts(alloc: Global, reply: Reply) -> Result<Said, AllocError>
+    ensures { IfOk result (λ parts. parts.head ++ parts.body ≡ said reply) }
+{
+    match reply {
+        Reply::Content { bytes } => content_parts(alloc, bytes),
+        other => Ok(Said::whole(alloc, Bytes::of(reply_frame(alloc, &other)?))),
     }
 }

@@ -1,6 +1,31 @@
 use crate::form::{Ending, Heard, Reply};
 use blob_model::Bytes;
 use no_memory::NoMemory;
+use std::alloc::Global;
+
+/// A reply as it is written: the bytes of its head, and behind them those of its body.
+///
+/// So the bytes of a read can be written from where they lie.
+#[derive(Drop)]
+pub struct Said {
+    pub head: Bytes,
+    pub body: Bytes,
+}
+
+impl Said {
+    ghost use Rattle.std.specs.Prelude.{◌≡◌, ◌++◌, []};
+
+    /// All of these bytes as the head. Takes no memory.
+    pub fn whole(alloc: Global, bytes: Bytes) -> Said
+        ensures body { result.body ≡ [] }
+        ensures bytes { result.head ++ result.body ≡ bytes }
+    {
+        Said {
+            head: bytes,
+            body: Bytes::of(Vec::new(alloc)),
+        }
+    }
+}
 
 /// How requests and replies are spelled on a stream. After want of memory a dialect isn't used again.
 pub trait Dialect {
@@ -30,4 +55,9 @@ pub trait Dialect {
     /// The reply as it is written.
     fn say(&self, reply: &Reply) -> Result<Bytes, NoMemory>
         ensures { IfOk result (λ bytes. bytes ≡ said reply.now) };
+
+    /// The reply as it is written, in two parts: head and body one behind the other are what `say` gives. What a read gave
+    /// may be the body, uncopied.
+    fn say_in_parts(&self, reply: Reply) -> Result<Said, NoMemory>
+        ensures { IfOk result (λ parts. parts.head ++ parts.body ≡ said reply) };
 }

@@ -9,7 +9,7 @@ pub mod laws;
 mod piece;
 mod service;
 
-pub use dialect::Dialect;
+pub use dialect::{Dialect, Said};
 pub use form::{Ending, Fault, Heard, Reply, Request};
 pub use no_memory::NoMemory;
 pub use piece::Piece;

@@ -4,7 +4,7 @@ ghost use Rattle.script_text.specs.Begun.{IsWithout, TakesLine, TakesItem};
 use crate::line::Line;
 use crate::reply::reply_line;
 use blob_model::Bytes;
-use request_form::{Dialect, Ending, Heard, NoMemory, Piece, Reply};
+use request_form::{Dialect, Ending, Heard, NoMemory, Piece, Reply, Said};
 use std::alloc::Global;
 use std::marker::Model;
 
@@ -115,5 +115,9 @@ impl Dialect for ScriptDialect {
             Ok(line) => Ok(Bytes::of(line)),
             Err(_) => Err(NoMemory),
         }
+    }
+
+    fn say_in_parts(&self, reply: Reply) -> Result<Said, NoMemory> {
+        Ok(Said::whole(self.alloc, self.say(&reply)?))
     }
 }

@@ -48,3 +48,37 @@ settled_fault held a b step (inr e) part = subst (λ (s : Step). IsSettled held 
 -- a text that wasn't said is left unsaid
 pub put_none : (held text : List ℕ) (a : Option (List ℕ)) → IsPut held text a held a Steps.NoMemory
 put_none held text a = (text, record { out = []; joins = refl; adds = Appends-nil a })
+
+module _ (held head body : List ℕ) (a b : Option (List ℕ)) where
+  -- a body that stands behind a head isn't written yet
+  unwritten_body : (rest : List ℕ) → Writes held head a b rest → Writes held (head ++ body) a b (rest ++ body)
+  unwritten_body rest w = record {
+    out = w.out;
+    joins = sym (append_assoc held head body) ∙ ap (λ (x : List ℕ). x ++ body) w.joins ∙ append_assoc w.out rest body;
+    adds = w.adds;
+  }
+
+  -- a write of the head failed
+  pub head_fault : (held' : List ℕ) → IsPut held head a held' b Steps.WriteFault → IsPut held (head ++ body) a held' b Steps.WriteFault
+  head_fault held' w = (w.0 ++ body, rw (length-append w.0 body) (omega (arith, w.1)), unwritten_body w.0 w.2)
+
+  -- there was no memory for the head
+  pub head_unsaid : (held' : List ℕ) → IsPut held head a held' b Steps.NoMemory → IsPut held (head ++ body) a held' b Steps.NoMemory
+  head_unsaid held' w = (w.0 ++ body, subst (Writes held (head ++ body) a b) (append_assoc held' w.0 body) (unwritten_body (held' ++ w.0) w.1))
+
+  module _ (mid : List ℕ) (first : Writes held head a b mid) (c : Option (List ℕ)) where
+    -- a text behind a head, where so much was still held
+    then_body : (rest : List ℕ) → Writes mid body b c rest → Writes held (head ++ body) a c rest
+    then_body rest w = record {
+      out = first.out ++ w.out;
+      joins = sym (append_assoc held head body) ∙ ap (λ (x : List ℕ). x ++ body) first.joins ∙ append_assoc first.out mid body
+          ∙ ap (λ (x : List ℕ). first.out ++ x) w.joins ∙ sym (append_assoc first.out w.out rest);
+      adds = Appends-trans a b c first.out w.out first.adds w.adds;
+    }
+
+    -- a body was put behind its head
+    pub put_body : (held' : List ℕ) (step : Step) → IsPut mid body b held' c step → IsPut held (head ++ body) a held' c step
+    put_body held' Steps.Goes w = then_body held' w
+    put_body held' Steps.Quits none = none
+    put_body held' Steps.WriteFault w = (w.0, w.1, then_body w.0 w.2)
+    put_body held' Steps.NoMemory w = (w.0, then_body (held' ++ w.0) w.1)

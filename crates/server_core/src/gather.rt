@@ -1,5 +1,5 @@
 // Replies that are gathered before they are written.
-ghost use Rattle.std.specs.Prelude.{◌≡◌, ◌<◌, ◌+◌, ℕ, List, [], length, true, IfOk, Option};
+ghost use Rattle.std.specs.Prelude.{◌≡◌, ◌<◌, ◌+◌, ◌++◌, ℕ, List, [], length, true, IfOk, Option};
 ghost use Rattle.std.specs.Io.KnownBytes.{Appends};
 ghost use Rattle.ports.specs.Counts.{RoseBy};
 ghost use Rattle.ports.specs.Stream.{appended_bytes, LeavesOut, write_fault_count};
@@ -12,6 +12,9 @@ use std::alloc::Global;
 
 // From so many bytes on replies aren't gathered, but written.
 const MOST: usize = 65536;
+
+// From so many bytes on a reply's body isn't copied to those that are gathered, but written from where it lies.
+const LONG_BODY: usize = 16384;
 
 /// Replies that were said and aren't written yet, fewer than 65,536 bytes.
 ///
@@ -72,8 +75,8 @@ impl Gathered {
         written
     }
 
-    // Adds a text where nothing is held, or writes it by itself where it is too long to be held.
-    fn put_first<I: Sink>(&mut self, io: &mut I, text: &[u8]) -> Step
+    // Adds a text where nothing is held, or writes it by itself from so many bytes on, and where it is too long to be held.
+    fn put_first<I: Sink>(&mut self, io: &mut I, text: &[u8], long: usize) -> Step
         requires { self.old.bytes.items ≡ [] }
         ensures put { IsPut [] text.now (I.written io.old) self.new.bytes.items (I.written io.new) result }
         ensures write_faults { RoseBy (step_write_faults result) (I.write_faults io.old) (I.write_faults io.new) }
@@ -83,7 +86,7 @@ impl Gathered {
         ensures ends { I.ends io.new ≡ I.ends io.old }
         ensures objects { I.objects io.new ≡ I.objects io.old }
     {
-        if text.len() < MOST {
+        if text.len() < MOST.min(long) {
             return self.hold(text);
         }
         match io.write(text) {
@@ -92,9 +95,9 @@ impl Gathered {
         }
     }
 
-    /// Adds a text. Where it doesn't fit, what is held is written first, and a text that is too long to be held is written
-    /// by itself.
-    pub(crate) fn put<I: Sink>(&mut self, io: &mut I, text: &[u8]) -> Step
+    // Adds a text. Where it doesn't fit, or has so many bytes, what is held is written first. A text of so many bytes, or that
+    // is too long to be held, is written by itself then.
+    fn put<I: Sink>(&mut self, io: &mut I, text: &[u8], long: usize) -> Step
         ensures put { IsPut self.old.bytes.items text.now (I.written io.old) self.new.bytes.items (I.written io.new) result }
         ensures write_faults { RoseBy (step_write_faults result) (I.write_faults io.old) (I.write_faults io.new) }
         ensures given { I.given io.new ≡ I.given io.old }
@@ -103,12 +106,32 @@ impl Gathered {
         ensures ends { I.ends io.new ≡ I.ends io.old }
         ensures objects { I.objects io.new ≡ I.objects io.old }
     {
-        if text.len() < MOST - self.bytes.len() {
+        let room = MOST - self.bytes.len();
+        if text.len() < room.min(long) {
             return self.hold(text);
         }
         match self.flush(io) {
             Written::Failed(_) => Step::WriteFault,
-            Written::Whole => self.put_first(io, text),
+            Written::Whole => self.put_first(io, text, long),
+        }
+    }
+
+    /// Adds a reply, which is written as a head and a body. What doesn't fit is written first, and what is too long to be held
+    /// is written by itself. A long body isn't copied.
+    pub(crate) fn put_reply<I: Sink>(&mut self, io: &mut I, head: &[u8], body: &[u8]) -> Step
+        ensures put { IsPut self.old.bytes.items (head.now ++ body.now) (I.written io.old) self.new.bytes.items (I.written io.new) result }
+        ensures write_faults { RoseBy (step_write_faults result) (I.write_faults io.old) (I.write_faults io.new) }
+        ensures given { I.given io.new ≡ I.given io.old }
+        ensures left { I.left io.new ≡ I.left io.old }
+        ensures read_faults { I.read_faults io.new ≡ I.read_faults io.old }
+        ensures ends { I.ends io.new ≡ I.ends io.old }
+        ensures objects { I.objects io.new ≡ I.objects io.old }
+    {
+        match self.put(io, head, MOST) {
+            Step::Goes => self.put(io, body, LONG_BODY),
+            Step::Quits => unreachable!(),
+            Step::WriteFault => Step::WriteFault,
+            Step::NoMemory => Step::NoMemory,
         }
     }
 

@@ -50,8 +50,8 @@ fn reply_to<R: Wait + Threads + Sync, V: Service>(
 }
 
 // Says one reply, and writes it or holds it back.
-fn put<T: Dialect, I: Sink>(dialect: &T, gathered: &mut Gathered, io: &mut I, reply: &Reply) -> Step
-    ensures put { IsPut gathered.old.bytes.items (T.said reply.now) (I.written io.old) gathered.new.bytes.items (I.written io.new) result }
+fn put<T: Dialect, I: Sink>(dialect: &T, gathered: &mut Gathered, io: &mut I, reply: Reply) -> Step
+    ensures put { IsPut gathered.old.bytes.items (T.said reply) (I.written io.old) gathered.new.bytes.items (I.written io.new) result }
     ensures given { I.given io.new ≡ I.given io.old }
     ensures left { I.left io.new ≡ I.left io.old }
     ensures read_faults { I.read_faults io.new ≡ I.read_faults io.old }
@@ -59,9 +59,9 @@ fn put<T: Dialect, I: Sink>(dialect: &T, gathered: &mut Gathered, io: &mut I, re
     ensures objects { I.objects io.new ≡ I.objects io.old }
     ensures write_faults { RoseBy (step_write_faults result) (I.write_faults io.old) (I.write_faults io.new) }
 {
-    match dialect.say(reply) {
+    match dialect.say_in_parts(reply) {
         Err(NoMemory) => Step::NoMemory,
-        Ok(bytes) => gathered.put(io, bytes.as_slice()),
+        Ok(parts) => gathered.put_reply(io, parts.head.as_slice(), parts.body.as_slice()),
     }
 }
 
@@ -89,7 +89,7 @@ fn answer_one<R: Wait + Threads + Sync, V: Service, T: Dialect, I: Source + Sink
     ensures write_faults { RoseBy (step_write_faults result) (I.write_faults io.old) (I.write_faults io.new) }
 {
     let (reply, last) = reply_to(rt, service, heard);
-    match put(dialect, gathered, io, &reply) {
+    match put(dialect, gathered, io, reply) {
         Step::Goes => {
             if last {
                 return Step::Quits;
@@ -306,8 +306,9 @@ fn answer_piece<R: Wait + Threads + Sync, V: Service, T: Dialect, I: Source + Si
 /// Answers the requests of one stream until it ends, takes at most `limit` bytes, and says how it ended.
 ///
 /// A read takes up to 65,536 bytes. Replies are gathered: they are written whenever as many bytes come together, and
-/// at the latest before the next read and before it answers, and a longer one is written by itself. After want of memory the
-/// dialect isn't used again.
+/// at the latest before the next read and before it answers, and a longer one is written by itself. The body of a reply that
+/// has 16,384 bytes or more is written from where it lies, behind what was gathered. After want of memory the dialect isn't
+/// used again.
 pub fn serve_stream<R: Wait + Threads + Sync, V: Service, T: Dialect, I: Source + Sink>(
     rt: &R,
     alloc: Global,

@@ -100,13 +100,14 @@ fn replies_to_many_lines_are_written_in_few_writes(rt: HostRuntime) -> Result<()
     Ok(())
 }
 
-// What is done with a stream whose replies are so many thousand bytes long each.
+// What is done with a stream whose replies are so many thousand bytes long each, as heads or as bodies.
 fn acts_of_sizes<R: Wait + Threads + Sync>(
     rt: &R,
     alloc: Global,
     sizes: &[u8],
+    in_bodies: bool,
 ) -> Result<Noted, Fail> {
-    let mut dialect = Sizes::new(alloc)?;
+    let mut dialect = Sizes::new(alloc, in_bodies)?;
     acts_of(
         rt,
         alloc,
@@ -120,7 +121,7 @@ fn acts_of_sizes<R: Wait + Threads + Sync>(
 #[test]
 fn a_long_reply_is_written_by_itself(rt: HostRuntime) -> Result<(), Fail> {
     // Those before it go out in one write, and those behind it are gathered again.
-    let io = acts_of_sizes(&rt, rt.alloc(), &[1, 2, 100, 3, 4, 5])?;
+    let io = acts_of_sizes(&rt, rt.alloc(), &[1, 2, 100, 3, 4, 5], false)?;
     let expected = [
         Act::Read,
         Act::Wrote(3_000),
@@ -130,13 +131,29 @@ fn a_long_reply_is_written_by_itself(rt: HostRuntime) -> Result<(), Fail> {
     ];
     assert_eq!(rt; io.acts(), expected.as_slice());
     // Where none is held, it goes out at once. One of 65,000 bytes is held, and goes out where another doesn't fit.
-    let io = acts_of_sizes(&rt, rt.alloc(), &[100, 66, 65, 1])?;
+    let io = acts_of_sizes(&rt, rt.alloc(), &[100, 66, 65, 1], false)?;
     let expected = [
         Act::Read,
         Act::Wrote(100_000),
         Act::Wrote(66_000),
         Act::Wrote(65_000),
         Act::Wrote(1_000),
+        Act::Read,
+    ];
+    assert_eq!(rt; io.acts(), expected.as_slice());
+    Ok(())
+}
+
+#[test]
+fn a_long_body_is_written_from_where_it_lies(rt: HostRuntime) -> Result<(), Fail> {
+    // From 16,384 bytes on a body isn't gathered. What was gathered before it goes out first.
+    let io = acts_of_sizes(&rt, rt.alloc(), &[1, 16, 17, 100, 2, 3], true)?;
+    let expected = [
+        Act::Read,
+        Act::Wrote(17_000),
+        Act::Wrote(17_000),
+        Act::Wrote(100_000),
+        Act::Wrote(5_000),
         Act::Read,
     ];
     assert_eq!(rt; io.acts(), expected.as_slice());

@@ -8,8 +8,8 @@ returns-then-last-clause-answered g c = (
   sym c.reply_to-reply.ensures.last ∙ c.if-last.true,
 )
 
-pub returns-in-Goes-clause-answered : goal.returns-in-Goes-clause-answered
-returns-in-Goes-clause-answered g c = (
+pub returns-else-last-clause-answered : goal.returns-else-last-clause-answered
+returns-else-last-clause-answered g c = (
   Progress-one g.T.Dialect.said _ _ _ c.args.heard c.reply_to-reply.result.0 _ c.reply_to-reply.ensures.answer c.reply_to-reply.ensures.faults c.in-Goes.ensures.put,
   sym c.reply_to-reply.ensures.last ∙ c.if-last.false,
 )
@@ -19,7 +19,7 @@ returns-in-WriteFault-clause-answered g c =
     let put = c.in-WriteFault.ensures.put in
     (put.0, put.1, Progress-one g.T.Dialect.said _ _ _ c.args.heard c.reply_to-reply.result.0 put.0 c.reply_to-reply.ensures.answer c.reply_to-reply.ensures.faults put.2)
 
-pub returns-clause-answered : goal.returns-clause-answered
-returns-clause-answered g c =
+pub returns-in-NoMemory-clause-answered : goal.returns-in-NoMemory-clause-answered
+returns-in-NoMemory-clause-answered g c =
     let put = c.in-NoMemory.ensures.put in
     (put.0, Progress-one g.T.Dialect.said _ _ _ c.args.heard c.reply_to-reply.result.0 _ c.reply_to-reply.ensures.answer c.reply_to-reply.ensures.faults put.1)
