@@ -17,7 +17,7 @@ use Rattle.range_log.specs.Updates.{extents}
 use Rattle.range_log.specs.Rows.{row_keys_of}
 use Rattle.range_log.specs.Laws.{ExtentsStand, RowKeysExact}
 use Rattle.range_log.proofs.Bytes.{length-extents}
-use Rattle.blob_core.specs.World.{World, Kept, joined, AreCut, node_at, log_of, world_node}
+use Rattle.blob_core.specs.World.{World, UpdateEntry, bytes_of_pages, AreCut, node_at, log_of, world_node}
 use Rattle.blob_core.specs.Woven.{woven}
 use Rattle.blob_core.specs.Steps.{IsAllowed, IsNumberedIn, RowIsThere, next_kept, with_update, with_node}
 use Rattle.blob_core.specs.Standing.{IsSound, WeavesRow}
@@ -29,8 +29,8 @@ use Rattle.blob_core.proofs.Taken.{assign_done, finish_done}
 use Rattle.blob_core.proofs.Refusing.{finish_refused}
 use Rattle.blob_core.proofs.Keeping.{with_update_is}
 
-pub number_done : (p : ℕ) (w : World) (blob : ℕ) (pages : List ℕ) (b : Blob) (u : Update) (key : UpdateKey) (kept : Kept) (blobs : List Blob) (updates : List (UpdateKey × Kept))
-    → blob_at w.store blob ≡ Some b → AreCut p w.pages pages → u.bytes ≡ joined w.pages pages
+pub number_done : (p : ℕ) (w : World) (blob : ℕ) (pages : List ℕ) (b : Blob) (u : Update) (key : UpdateKey) (kept : UpdateEntry) (blobs : List Blob) (updates : List (UpdateKey × UpdateEntry))
+    → blob_at w.store blob ≡ Some b → AreCut p w.pages pages → u.bytes ≡ bytes_of_pages w.pages pages
     → is_refused (answer w.store u.caller (Calls.Assign blob u.place u.bytes)).1 ≡ false
     → blobs ≡ slice_set w.store.blobs (blob - 1) (and_update b u)
     → key ≡ record { blob = blob; version = assigned b + 1 } → kept ≡ next_kept p b pages → updates ≡ (key, kept) ∷ w.updates
@@ -38,23 +38,23 @@ pub number_done : (p : ℕ) (w : World) (blob : ℕ) (pages : List ℕ) (b : Blo
     (record w { store = record { limits = w.store.limits; blobs = blobs }; updates = updates })
 number_done p w blob pages b u key kept blobs updates there cut bytes taken set number beside more =
     let R : List ℕ → Type 0 = λ l. is_refused (answer w.store u.caller (Calls.Assign blob u.place l)).1 ≡ false in
-    let ok : R (joined w.pages pages) = subst R bytes taken in
-    let (x, is, fits, store) = assign_done w.store u.caller blob u.place (joined w.pages pages) ok in
+    let ok : R (bytes_of_pages w.pages pages) = subst R bytes taken in
+    let (x, is, fits, store) = assign_done w.store u.caller blob u.place (bytes_of_pages w.pages pages) ok in
     let same : x ≡ b = one_value (blob_at w.store blob) x b is there in
     let of : List ℕ → Update = λ l. record { caller = u.caller; place = u.place; bytes = l } in
     let leaves : List Blob → Store = λ l. record { limits = w.store.limits; blobs = l } in
-    let stored : leaves blobs ≡ store_from w.store (Events.Assign u.caller blob u.place (joined w.pages pages) ∷ []) =
+    let stored : leaves blobs ≡ store_from w.store (Events.Assign u.caller blob u.place (bytes_of_pages w.pages pages) ∷ []) =
     ap leaves set
     ∙ ap (λ (l : List ℕ). with_blob w.store blob (and_update b (of l))) bytes
-    ∙ ap (λ (y : Blob). with_blob w.store blob (and_update y (of (joined w.pages pages)))) (sym same)
+    ∙ ap (λ (y : Blob). with_blob w.store blob (and_update y (of (bytes_of_pages w.pages pages)))) (sym same)
     ∙ sym store in
-    let entry : UpdateKey → Kept → List (UpdateKey × Kept) = λ k x. (k, x) ∷ w.updates in
+    let entry : UpdateKey → UpdateEntry → List (UpdateKey × UpdateEntry) = λ k x. (k, x) ∷ w.updates in
     let kepts : updates ≡ with_update p w blob pages =
-    more ∙ ap (λ (k : UpdateKey). entry k kept) number ∙ ap (λ (k : Kept). entry (record { blob = blob; version = assigned b + 1 }) k) beside ∙ sym (with_update_is p w blob pages b there) in
-    let W : Store → List (UpdateKey × Kept) → World = λ s l. record w { store = s; updates = l } in
+    more ∙ ap (λ (k : UpdateKey). entry k kept) number ∙ ap (λ (k : UpdateEntry). entry (record { blob = blob; version = assigned b + 1 }) k) beside ∙ sym (with_update_is p w blob pages b there) in
+    let W : Store → List (UpdateKey × UpdateEntry) → World = λ s l. record w { store = s; updates = l } in
     record {
       allowed = (cut, ok);
-      is = ap (λ (s : Store). W s updates) stored ∙ ap (λ (l : List (UpdateKey × Kept)). W (store_from w.store (Events.Assign u.caller blob u.place (joined w.pages pages) ∷ [])) l) kepts;
+      is = ap (λ (s : Store). W s updates) stored ∙ ap (λ (l : List (UpdateKey × UpdateEntry)). W (store_from w.store (Events.Assign u.caller blob u.place (bytes_of_pages w.pages pages) ∷ [])) l) kepts;
     }
 
 -- ---- a node

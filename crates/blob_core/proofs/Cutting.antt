@@ -3,7 +3,7 @@ use Rattle.std.proofs.Common.{◌≡◌, ℕ, ◌+◌, ◌<◌, ◌≤◌, List,
 use Rattle.std.specs.Prelude.{◌==◌, false, Some, None}
 use Rattle.std.proofs.lemmas.List.{length-drop}
 use Rattle.std.proofs.Math.ListN.{drop_of_length-le}
-use Rattle.blob_core.specs.World.{IsKnown, page_at, bytes_of_page, joined, AreCut}
+use Rattle.blob_core.specs.World.{IsKnown, page_at, bytes_of_page, bytes_of_pages, AreCut}
 use Rattle.blob_core.proofs.Lists.{none_some, bytes_are}
 
 -- what is left of the pages may be the end of an update's pages
@@ -16,7 +16,7 @@ pub record JoinedUpTo (p : ℕ) (stored : List (ℕ × List ℕ)) (numbers : Lis
   pub some : 1 ≤ length numbers
   pub on : AreCut p stored numbers → RestCut p stored (drop i numbers)
   pub back : RestCut p stored (drop i numbers) → AreCut p stored numbers
-  pub rest : bytes ++ joined stored (drop i numbers) ≡ joined stored numbers
+  pub rest : bytes ++ bytes_of_pages stored (drop i numbers) ≡ bytes_of_pages stored numbers
 
 cut_known : (p : ℕ) (s : List (ℕ × List ℕ)) (n : ℕ) (ns : List ℕ) → RestCut p s (n ∷ ns) → IsKnown (page_at s n)
 cut_known p s n [] cut = cut
@@ -56,11 +56,11 @@ joined_next p s ns i b page upto lt known whole =
       some = upto.some;
       on = λ cut. cut_on p s n rest (subst R e (upto.on cut));
       back = λ cut. upto.back (subst R (sym e) (cut_back p s n rest (page, known) (λ some. ap length is ∙ whole (omega (arith, some, length-drop (i + 1) ns))) cut));
-      rest = append_assoc b page (joined s rest) ∙ ap (λ (x : List ℕ). b ++ (x ++ joined s rest)) (sym is) ∙ ap (λ (l : List ℕ). b ++ joined s l) (sym e) ∙ upto.rest;
+      rest = append_assoc b page (bytes_of_pages s rest) ∙ ap (λ (x : List ℕ). b ++ (x ++ bytes_of_pages s rest)) (sym is) ∙ ap (λ (l : List ℕ). b ++ bytes_of_pages s l) (sym e) ∙ upto.rest;
     }
 
-pub joined_end : (p : ℕ) (s : List (ℕ × List ℕ)) (ns : List ℕ) (i : ℕ) (b : List ℕ) → JoinedUpTo p s ns i b → length ns ≤ i → AreCut p s ns × (b ≡ joined s ns)
+pub joined_end : (p : ℕ) (s : List (ℕ × List ℕ)) (ns : List ℕ) (i : ℕ) (b : List ℕ) → JoinedUpTo p s ns i b → length ns ≤ i → AreCut p s ns × (b ≡ bytes_of_pages s ns)
 joined_end p s ns i b upto le =
     let none : drop i ns ≡ [] = drop_of_length-le ns le in
     let R : List ℕ → Type 0 = λ l. RestCut p s l in
-    (upto.back (subst R (sym none) tt), sym (append-nil b) ∙ ap (λ (l : List ℕ). b ++ joined s l) (sym none) ∙ upto.rest)
+    (upto.back (subst R (sym none) tt), sym (append-nil b) ∙ ap (λ (l : List ℕ). b ++ bytes_of_pages s l) (sym none) ∙ upto.rest)

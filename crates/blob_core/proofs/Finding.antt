@@ -19,7 +19,7 @@ use Rattle.range_log.specs.Updates.{extents}
 use Rattle.range_log.specs.Rows.{inner_of, leaf_at, covered, back_of}
 use Rattle.tree_walk.specs.Walk.{half_toward, descend, root_of, found, waiting_of}
 use Rattle.range_log.proofs.Bytes.{length-extents}
-use Rattle.blob_core.specs.World.{World, Kept, node_in, log_of, waiting_after, world_node}
+use Rattle.blob_core.specs.World.{World, UpdateEntry, node_in, log_of, waiting_after, world_node}
 use Rattle.blob_core.specs.Woven.{link_toward, followed, found_in, greatest_open, older_link, link_of, woven}
 use Rattle.blob_core.proofs.Growing.{Cited}
 
@@ -211,7 +211,7 @@ greatest_is p log v (suc n) r =
     ∙ max_pick (meets_of p (touch_at log (suc (v + n))) r) (suc (v + n)) (waiting_of p log v n r) (omega (arith, waiting_upto p log v n r))
 
 -- what an update's writer finds among its hints, or else by links, is the newest older version
-older_is : (c : Cited) (p : ℕ) (w : World) (blob : ℕ) (b : Blob) (kept : Kept) (n : ℕ) → 1 ≤ p → InBounds (extents b.updates)
+older_is : (c : Cited) (p : ℕ) (w : World) (blob : ℕ) (b : Blob) (kept : UpdateEntry) (n : ℕ) → 1 ≤ p → InBounds (extents b.updates)
     → RowsKnown p w blob b.updates kept.published → kept.waiting ≡ waiting_after (log_of p b.updates) kept.published n → kept.published + n ≤ length b.updates
     → (r : Range) → Aligned p r → older_link p w blob b kept r ≡ newest_of p (log_of p b.updates) (kept.published + n) r
 older_is c p w blob b kept n pos ok known hints in_list r (h, q, e) =
@@ -227,7 +227,7 @@ older_is c p w blob b kept n pos ok known hints in_list r (h, q, e) =
     ∙ ap (λ (x : ℕ). pick (waiting_of p log v n t) x) f
     ∙ sym (c.weave p v n h q (extents b.updates) pos ok (omega (arith, length-extents b.updates))))
 
-woven_leaf : (p : ℕ) (w : World) (blob : ℕ) (b : Blob) (kept : Kept) (k : ℕ) (r : Range) → r.size ≡ p
+woven_leaf : (p : ℕ) (w : World) (blob : ℕ) (b : Blob) (kept : UpdateEntry) (k : ℕ) (r : Range) → r.size ≡ p
     → older_link p w blob b kept (page_range p (r.offset / p)) ≡ newest_of p (log_of p b.updates) (k - 1) (page_range p (r.offset / p))
     → woven p w blob b kept k r ≡ world_node p (extents b.updates) k r
 unfolding back_of
@@ -239,12 +239,12 @@ woven_leaf p w blob b kept k r s e =
 abbrev both_links : ℕ → ℕ → Node
 both_links a b = Inner a b
 
-link_is : (p : ℕ) (w : World) (blob : ℕ) (b : Blob) (kept : Kept) (k : ℕ) (r : Range) → older_link p w blob b kept r ≡ newest_of p (log_of p b.updates) k r
+link_is : (p : ℕ) (w : World) (blob : ℕ) (b : Blob) (kept : UpdateEntry) (k : ℕ) (r : Range) → older_link p w blob b kept r ≡ newest_of p (log_of p b.updates) k r
     → link_of p w blob b kept (suc k) r ≡ newest_of p (log_of p b.updates) (suc k) r
 unfolding newest_of
 link_is p w blob b kept k r e = ap (λ (x : ℕ). if meets_of p (touch_at (log_of p b.updates) (suc k)) r then suc k else x) e
 
-woven_inner : (p : ℕ) (w : World) (blob : ℕ) (b : Blob) (kept : Kept) (k : ℕ) (r : Range) → p < r.size
+woven_inner : (p : ℕ) (w : World) (blob : ℕ) (b : Blob) (kept : UpdateEntry) (k : ℕ) (r : Range) → p < r.size
     → link_of p w blob b kept k (left_half r) ≡ newest_of p (log_of p b.updates) k (left_half r)
     → link_of p w blob b kept k (right_half r) ≡ newest_of p (log_of p b.updates) k (right_half r)
     → woven p w blob b kept k r ≡ world_node p (extents b.updates) k r
@@ -252,7 +252,7 @@ woven_inner p w blob b kept k r large x y =
     let t : (r.size == p) ≡ false = test_apart r.size p large in
     rw t (ap (λ (a : ℕ). both_links a (link_of p w blob b kept k (right_half r))) x ∙ ap (λ (a : ℕ). both_links (newest_of p (log_of p b.updates) k (left_half r)) a) y)
 
-woven_tree : (c : Cited) (p : ℕ) (w : World) (blob : ℕ) (b : Blob) (kept : Kept) (k n : ℕ) → 1 ≤ p → InBounds (extents b.updates)
+woven_tree : (c : Cited) (p : ℕ) (w : World) (blob : ℕ) (b : Blob) (kept : UpdateEntry) (k n : ℕ) → 1 ≤ p → InBounds (extents b.updates)
     → RowsKnown p w blob b.updates kept.published → kept.waiting ≡ waiting_after (log_of p b.updates) kept.published n → kept.published + n ≡ k → k ≤ length b.updates
     → (h q : ℕ) → woven p w blob b kept (suc k) (tree_range p h q) ≡ world_node p (extents b.updates) (suc k) (tree_range p h q)
 woven_tree c p w blob b kept k n pos ok known hints sum in_list zero q =
@@ -274,7 +274,7 @@ woven_tree c p w blob b kept k n pos ok known hints sum in_list (suc h) q =
     (link_is p w blob b kept k (right_half r) (older (right_half r) (h, 2 * q + 1, right_is p h q)))
 
 -- the node that an update's writer weaves is that of its row
-pub woven_is : (c : Cited) (p : ℕ) (w : World) (blob : ℕ) (b : Blob) (kept : Kept) (k : ℕ) (r : Range) → 1 ≤ p → InBounds (extents b.updates)
+pub woven_is : (c : Cited) (p : ℕ) (w : World) (blob : ℕ) (b : Blob) (kept : UpdateEntry) (k : ℕ) (r : Range) → 1 ≤ p → InBounds (extents b.updates)
     → RowsKnown p w blob b.updates kept.published → kept.published < k → kept.waiting ≡ waiting_after (log_of p b.updates) kept.published (k - 1 - kept.published)
     → k ≤ length b.updates → Aligned p r → woven p w blob b kept k r ≡ world_node p (extents b.updates) k r
 woven_is c p w blob b kept zero r pos ok known before hints in_list al = absurd (omega arith)

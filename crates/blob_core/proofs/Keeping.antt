@@ -13,7 +13,7 @@ use Rattle.tree_geom.specs.declared.node.NodeKey.{NodeKey}
 use Rattle.range_log.specs.Log.{HasNode}
 use Rattle.range_log.specs.Extents.{InBounds}
 use Rattle.range_log.specs.Updates.{update_at, extents, Replayable}
-use Rattle.blob_core.specs.World.{World, empty_world, Kept, same_number, same_update, same_key, page_at, node_at, kept_at, origin, key_in, node_in, joined, AreCut, log_of, waiting_after, world_node}
+use Rattle.blob_core.specs.World.{World, empty_world, UpdateEntry, same_number, same_update, same_key, page_at, node_at, kept_at, origin, key_in, node_in, bytes_of_pages, AreCut, log_of, waiting_after, world_node}
 use Rattle.branching.specs.Parents.{origin_of}
 use Rattle.branching.specs.declared.Parent.{Parent}
 use Rattle.blob_core.specs.declared.world.UpdateKey.{UpdateKey}
@@ -29,10 +29,10 @@ use Rattle.blob_core.proofs.Taken.{blob_some, more_kept, more_was, with_was, wit
 -- ---- what holds
 -- What is kept beside update j of a blob: its pages hold its bytes, and its hints are those of its numbering.
 pub record UpdateStands (p : ℕ) (w : World) (blob : ℕ) (b : Blob) (j : ℕ) : Type 0 where
-  pub kept : Kept
+  pub kept : UpdateEntry
   pub there : kept_at w.updates (origin w blob j) j ≡ Some kept
   pub cut : AreCut p w.pages kept.pages
-  pub bytes : joined w.pages kept.pages ≡ (update_at b.updates j).bytes
+  pub bytes : bytes_of_pages w.pages kept.pages ≡ (update_at b.updates j).bytes
   pub before : kept.published < j
   pub front : kept.published ≤ published b
   pub waiting : kept.waiting ≡ waiting_after (log_of p b.updates) kept.published (j - 1 - kept.published)
@@ -50,7 +50,7 @@ IsOfBlob w blob version = (b : Blob) × (blob_at w.store blob ≡ Some b) × (ve
 pub record Stands (p : ℕ) (w : World) : Type 0 where
   pub lineage : length w.lineage ≡ length w.store.blobs
   pub pages : SmallPages p w.pages
-  pub known : (blob version : ℕ) (kept : Kept) → kept_at w.updates blob version ≡ Some kept → IsOfBlob w blob version
+  pub known : (blob version : ℕ) (kept : UpdateEntry) → kept_at w.updates blob version ≡ Some kept → IsOfBlob w blob version
   pub blobs : (blob : ℕ) (b : Blob) → blob_at w.store blob ≡ Some b → BlobStands p w blob b
   pub nodes : NodesAreRows p w
 
@@ -83,7 +83,7 @@ published_within p w blob b s = omega (arith, prefix_within b.finished, s.marks)
 -- ---- worlds that only grow
 pub record Wider (a b : World) : Type 0 where
   pub pages : KeepsPages a.pages b.pages
-  pub updates : (blob version : ℕ) (kept : Kept) → kept_at a.updates blob version ≡ Some kept → kept_at b.updates blob version ≡ Some kept
+  pub updates : (blob version : ℕ) (kept : UpdateEntry) → kept_at a.updates blob version ≡ Some kept → kept_at b.updates blob version ≡ Some kept
   pub nodes : (key : NodeKey) (n : Node) → node_at a.nodes key ≡ Some n → node_at b.nodes key ≡ Some n
 
 -- each blob is there, and what it was is a beginning of what it is
@@ -144,7 +144,7 @@ blob_kept p a b blob x wide same s = record {
 wider_page : (p : ℕ) (w v : World) (page : ℕ) (bytes : List ℕ) → page_at w.pages page ≡ None → v.pages ≡ (page, bytes) ∷ w.pages → v.updates ≡ w.updates → v.nodes ≡ w.nodes → Wider w v
 wider_page p w v page bytes none e f g =
     let Q : List (ℕ × List ℕ) → Type 0 = λ l. KeepsPages w.pages l in
-    let U : List (UpdateKey × Kept) → Type 0 = λ l. (blob version : ℕ) (kept : Kept) → kept_at w.updates blob version ≡ Some kept → kept_at l blob version ≡ Some kept in
+    let U : List (UpdateKey × UpdateEntry) → Type 0 = λ l. (blob version : ℕ) (kept : UpdateEntry) → kept_at w.updates blob version ≡ Some kept → kept_at l blob version ≡ Some kept in
     let N : List (NodeKey × Node) → Type 0 = λ l. (key : NodeKey) (n : Node) → node_at w.nodes key ≡ Some n → node_at l key ≡ Some n in
     record {
       pages = subst Q (sym e) (λ n b is. entry_kept same_number w.pages page bytes n b (number_means page n) none is);
@@ -198,7 +198,7 @@ pub in_bounds : (c : Cited) (us : List Update) → Replayable us → InBounds (e
 in_bounds c us ok = (c.stand us ok).0
 
 -- with the entry of a key that isn't there, or as before
-pub with_node_is : (p : ℕ) (w : World) (key : NodeKey) (b : Blob) (kept : Kept) → blob_at w.store key.blob ≡ Some b → kept_at w.updates key.blob key.version ≡ Some kept
+pub with_node_is : (p : ℕ) (w : World) (key : NodeKey) (b : Blob) (kept : UpdateEntry) → blob_at w.store key.blob ≡ Some b → kept_at w.updates key.blob key.version ≡ Some kept
     → (o : Option Node) → node_at w.nodes key ≡ o
     → (with_node p w key ≡ w.nodes) ⊎ ((node_at w.nodes key ≡ None) × (with_node p w key ≡ (key, woven p w key.blob b kept key.version key.range) ∷ w.nodes))
 with_node_is p w key b kept there has (Some n) e = inl (rw (e, with_node) refl)
@@ -230,7 +230,7 @@ node_put c p w key b pos s numbered has =
 -- ---- a change of one blob
 pub blob_set : (p : ℕ) (w v : World) (blob : ℕ) (before new : Blob) → Stands p w → Wider w v → v.lineage ≡ w.lineage → v.pages ≡ w.pages → v.nodes ≡ w.nodes
     → blob_at w.store blob ≡ Some before → v.store ≡ with_blob w.store blob new → Agrees p before.updates new.updates (assigned before) → assigned before ≤ assigned new
-    → ((id version : ℕ) (kept : Kept) → kept_at v.updates id version ≡ Some kept → IsOfBlob v id version ⊎ (kept_at w.updates id version ≡ Some kept))
+    → ((id version : ℕ) (kept : UpdateEntry) → kept_at v.updates id version ≡ Some kept → IsOfBlob v id version ⊎ (kept_at w.updates id version ≡ Some kept))
     → BlobStands p v blob new → Stands p v
 blob_set p w v blob before new s wide lin pages nodes is store agrees more known stands =
     let B : Store → ℕ → Blob → Type 0 = λ t id b. blob_at t id ≡ Some b in
@@ -271,7 +271,7 @@ blob_set p w v blob before new s wide lin pages nodes is store agrees more known
 wider_same : (w v : World) → v.pages ≡ w.pages → v.updates ≡ w.updates → v.nodes ≡ w.nodes → Wider w v
 wider_same w v e f g =
     let Q : List (ℕ × List ℕ) → Type 0 = λ l. KeepsPages w.pages l in
-    let U : List (UpdateKey × Kept) → Type 0 = λ l. (blob version : ℕ) (kept : Kept) → kept_at w.updates blob version ≡ Some kept → kept_at l blob version ≡ Some kept in
+    let U : List (UpdateKey × UpdateEntry) → Type 0 = λ l. (blob version : ℕ) (kept : UpdateEntry) → kept_at w.updates blob version ≡ Some kept → kept_at l blob version ≡ Some kept in
     let N : List (NodeKey × Node) → Type 0 = λ l. (key : NodeKey) (n : Node) → node_at w.nodes key ≡ Some n → node_at l key ≡ Some n in
     record {
       pages = subst Q (sym e) (λ n b is. is);
@@ -319,7 +319,7 @@ pub with_update_is : (p : ℕ) (w : World) (blob : ℕ) (pages : List ℕ) (b : 
 with_update_is p w blob pages b e = rw (e, with_update) refl
 
 -- what is kept for the next update of a blob has a key of its own
-next_free : (p : ℕ) (w : World) (blob : ℕ) (b : Blob) → Stands p w → blob_at w.store blob ≡ Some b → (o : Option Kept) → kept_at w.updates blob (assigned b + 1) ≡ o
+next_free : (p : ℕ) (w : World) (blob : ℕ) (b : Blob) → Stands p w → blob_at w.store blob ≡ Some b → (o : Option UpdateEntry) → kept_at w.updates blob (assigned b + 1) ≡ o
     → kept_at w.updates blob (assigned b + 1) ≡ None
 next_free p w blob b s is None e = e
 next_free p w blob b s is (Some kept) e =
@@ -338,15 +338,15 @@ not_marked b zero marks lt e = absurd (omega arith)
 not_marked b (suc j) marks lt e = past_marks b.finished j (omega arith) (sym (finished_at b j) ∙ e)
 
 pub numbered : (c : Cited) (p : ℕ) (w : World) (t : Store) (blob : ℕ) (b : Blob) (u : Update) (pages : List ℕ) → Stands p w → blob_at w.store blob ≡ Some b
-    → AreCut p w.pages pages → joined w.pages pages ≡ u.bytes → 1 ≤ length u.bytes → offset_of u.place (size_now b) ≤ size_now b
+    → AreCut p w.pages pages → bytes_of_pages w.pages pages ≡ u.bytes → 1 ≤ length u.bytes → offset_of u.place (size_now b) ≤ size_now b
     → t ≡ with_blob w.store blob (and_update b u)
     → Stands p (record w { store = t; updates = with_update p w blob pages })
 numbered c p w t blob b u pages s is cut bytes some fits store =
     let n : ℕ = assigned b in
     let new : Blob = and_update b u in
     let key : UpdateKey = record { blob = blob; version = n + 1 } in
-    let kept : Kept = next_kept p b pages in
-    let updates : List (UpdateKey × Kept) = (key, kept) ∷ w.updates in
+    let kept : UpdateEntry = next_kept p b pages in
+    let updates : List (UpdateKey × UpdateEntry) = (key, kept) ∷ w.updates in
     let v : World = record w { store = t; updates = updates } in
     let old : BlobStands p w blob b = s.blobs blob b is in
     let free : kept_at w.updates blob (n + 1) ≡ None = next_free p w blob b s is (kept_at w.updates blob (n + 1)) refl in
@@ -378,7 +378,7 @@ numbered c p w t blob b u pages s is cut bytes some fits store =
       waiting = sym (waiting_same (log_of p b.updates) (log_of p new.updates) (published b) (n - published b) n (omega arith) agrees.touch)
           ∙ ap (λ (m : ℕ). waiting_after (log_of p new.updates) (published b) m) (sym less);
     })) in
-    let W : List (UpdateKey × Kept) → Type 0 = λ l. Stands p (record w { store = t; updates = l }) in
+    let W : List (UpdateKey × UpdateEntry) → Type 0 = λ l. Stands p (record w { store = t; updates = l }) in
     subst W (sym (with_update_is p w blob pages b is))
     (blob_set p w v blob b new s wide refl refl refl is store agrees (omega arith)
     (λ id version k e.

@@ -7,7 +7,7 @@ use Rattle.std.proofs.Math.Seq.{take-append_seam, drop-append-add}
 use Rattle.std.proofs.Math.ListN.{drop_of_length-le}
 use Rattle.blob_model.specs.Store.{true_prefix}
 use Rattle.tree_geom.specs.declared.node.NodeKey.{NodeKey}
-use Rattle.blob_core.specs.World.{IsKnown, entry_at, same_number, same_update, same_key, page_at, bytes_of_page, joined, nth_page, AreCut}
+use Rattle.blob_core.specs.World.{IsKnown, entry_at, same_number, same_update, same_key, page_at, bytes_of_page, bytes_of_pages, nth_page, AreCut}
 use Rattle.blob_core.specs.declared.world.UpdateKey.{UpdateKey}
 
 -- ---- tests
@@ -187,21 +187,21 @@ cut_kept p a b keeps (n ∷ []) cut = (cut.0, keeps n cut.0 cut.1)
 cut_kept p a b keeps (n ∷ (m ∷ ns)) cut =
     ((cut.0.0, keeps n cut.0.0 cut.0.1), ap length (bytes_kept a b keeps n cut.0) ∙ cut.1, cut_kept p a b keeps (m ∷ ns) cut.2)
 
-pub joined_kept : (p : ℕ) (a b : List (ℕ × List ℕ)) → KeepsPages a b → (ns : List ℕ) → AreCut p a ns → joined b ns ≡ joined a ns
+pub joined_kept : (p : ℕ) (a b : List (ℕ × List ℕ)) → KeepsPages a b → (ns : List ℕ) → AreCut p a ns → bytes_of_pages b ns ≡ bytes_of_pages a ns
 joined_kept p a b keeps [] cut = refl
 joined_kept p a b keeps (n ∷ []) cut = ap (λ (x : List ℕ). x ++ []) (bytes_kept a b keeps n cut)
 joined_kept p a b keeps (n ∷ (m ∷ ns)) cut =
-    ap (λ (x : List ℕ). x ++ joined b (m ∷ ns)) (bytes_kept a b keeps n cut.0)
+    ap (λ (x : List ℕ). x ++ bytes_of_pages b (m ∷ ns)) (bytes_kept a b keeps n cut.0)
     ∙ ap (λ (y : List ℕ). bytes_of_page a n ++ y) (joined_kept p a b keeps (m ∷ ns) cut.2)
 
 page_small : (p : ℕ) (a : List (ℕ × List ℕ)) (n : ℕ) → SmallPages p a → IsKnown (page_at a n) → (1 ≤ length (bytes_of_page a n)) × (length (bytes_of_page a n) ≤ p)
 page_small p a n small (bytes, e) = let f : length (bytes_of_page a n) ≡ length bytes = ap length (bytes_are a n bytes e) in (omega (arith, small n bytes e), omega (arith, small n bytes e))
 
 -- some pages have a byte
-pub joined_some : (p : ℕ) (a : List (ℕ × List ℕ)) → SmallPages p a → (ns : List ℕ) → AreCut p a ns → 1 ≤ length (joined a ns)
+pub joined_some : (p : ℕ) (a : List (ℕ × List ℕ)) → SmallPages p a → (ns : List ℕ) → AreCut p a ns → 1 ≤ length (bytes_of_pages a ns)
 joined_some p a small [] cut = absurd cut
 joined_some p a small (n ∷ []) cut = omega (arith, (page_small p a n small cut).0, length-append (bytes_of_page a n) [])
-joined_some p a small (n ∷ (m ∷ ns)) cut = omega (arith, (page_small p a n small cut.0).0, length-append (bytes_of_page a n) (joined a (m ∷ ns)))
+joined_some p a small (n ∷ (m ∷ ns)) cut = omega (arith, (page_small p a n small cut.0).0, length-append (bytes_of_page a n) (bytes_of_pages a (m ∷ ns)))
 
 first_full : (p : ℕ) (b rest : List ℕ) → length b ≡ p → take p (b ++ rest) ≡ b
 first_full p b rest e = ap (λ (n : ℕ). take n (b ++ rest)) (sym e) ∙ take-append_seam b rest
@@ -218,7 +218,7 @@ take_all zero (x ∷ b) le = absurd (omega arith)
 take_all (suc p) (x ∷ b) le = ap (λ (l : List ℕ). x ∷ l) (take_all p b (omega arith))
 
 -- Page i of the buffer that some pages hold is item i of the pages.
-pub nth_is : (p : ℕ) (a : List (ℕ × List ℕ)) → SmallPages p a → (ns : List ℕ) (i : ℕ) → AreCut p a ns → take p (drop (i * p) (joined a ns)) ≡ nth_page a ns i
+pub nth_is : (p : ℕ) (a : List (ℕ × List ℕ)) → SmallPages p a → (ns : List ℕ) (i : ℕ) → AreCut p a ns → take p (drop (i * p) (bytes_of_pages a ns)) ≡ nth_page a ns i
 nth_is p a small [] i cut = absurd cut
 nth_is p a small (n ∷ []) zero cut =
     let z : 0 * p ≡ 0 = omega arith in
@@ -228,6 +228,6 @@ nth_is p a small (n ∷ []) (suc i) cut =
     ap (λ (l : List ℕ). take p (drop (suc i * p) l)) (append-nil (bytes_of_page a n)) ∙ ap (λ (l : List ℕ). take p l) (drop_of_length-le (bytes_of_page a n) le) ∙ take_all p [] (omega arith)
 nth_is p a small (n ∷ (m ∷ ns)) zero cut =
     let z : 0 * p ≡ 0 = omega arith in
-    ap (λ (k : ℕ). take p (drop k (bytes_of_page a n ++ joined a (m ∷ ns)))) z ∙ first_full p (bytes_of_page a n) (joined a (m ∷ ns)) cut.1
+    ap (λ (k : ℕ). take p (drop k (bytes_of_page a n ++ bytes_of_pages a (m ∷ ns)))) z ∙ first_full p (bytes_of_page a n) (bytes_of_pages a (m ∷ ns)) cut.1
 nth_is p a small (n ∷ (m ∷ ns)) (suc i) cut =
-    ap (λ (l : List ℕ). take p l) (next_full p i (bytes_of_page a n) (joined a (m ∷ ns)) cut.1) ∙ nth_is p a small (m ∷ ns) i cut.2
+    ap (λ (l : List ℕ). take p l) (next_full p i (bytes_of_page a n) (bytes_of_pages a (m ∷ ns)) cut.1) ∙ nth_is p a small (m ∷ ns) i cut.2

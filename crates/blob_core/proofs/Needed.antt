@@ -10,7 +10,7 @@ use Rattle.range_log.specs.Log.{newest_of}
 use Rattle.range_log.specs.Extents.{touches}
 use Rattle.range_log.specs.Updates.{extents}
 use Rattle.range_log.specs.Rows.{row_keys_of, levels_of, level_of, back_of}
-use Rattle.blob_core.specs.World.{World, Kept, node_at, node_in, log_of, world_node}
+use Rattle.blob_core.specs.World.{World, UpdateEntry, node_at, node_in, log_of, world_node}
 use Rattle.blob_core.specs.Woven.{followed, found_in, woven}
 use Rattle.blob_core.specs.Walk.{leaf_walk, tree_walk_from, read_walk}
 use Rattle.blob_core.specs.declared.step.Step.{Step}
@@ -47,7 +47,7 @@ unfolding touches extents row_keys_of levels_of level_of height_of doublings
 stray_is_in_no_row = refl
 
 -- ---- hints that leave out the waiting update
-abbrev no_hints : Kept
+abbrev no_hints : UpdateEntry
 no_hints = record { pages = 2 ∷ []; published = 0; waiting = [] }
 
 woven_without_hints : woven 4 (world_of two_appends) 1 (the_blob (world_of two_appends)) no_hints 2 (range_at 0 4) ≡ one_piece 1 1 0

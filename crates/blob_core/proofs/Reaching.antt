@@ -13,7 +13,7 @@ use Rattle.range_log.specs.Extents.{Extent, touches}
 use Rattle.range_log.specs.Updates.{extents, Replayable}
 use Rattle.range_log.specs.Rows.{node_of, leaf_of, inner_of, back_of, covered}
 use Rattle.blob_core.specs.World.{World, IsKnown, node_in, log_of, world_node}
-use Rattle.blob_core.specs.Walk.{Way, to_left, to_right, to_back, version_on, range_on, Spot, reached}
+use Rattle.blob_core.specs.Walk.{Way, to_left, to_right, to_back, version_on, range_on, VersionedRange, reached}
 use Rattle.blob_core.proofs.Growing.{Cited}
 use Rattle.blob_core.proofs.Finding.{RowsKnown}
 
@@ -90,7 +90,7 @@ reached_is c p w blob us n pos ok known none [] j r le has some = (world_node p 
 reached_is c p w blob us n pos ok known none (way ∷ ways) j r le has begins =
     let x : Node = world_node p (extents us) j r in
     let e : reached w blob j r (way ∷ ways) ≡ reached w blob (version_on x way) (range_on r way) ways = reached_on w blob j r way ways x (known j r le has) in
-    let P : Spot → Type 0 = λ s. 1 ≤ s.version → IsKnown (node_in w blob s.version s.range) in
+    let P : VersionedRange → Type 0 = λ s. 1 ≤ s.version → IsKnown (node_in w blob s.version s.range) in
     let below : version_on x way ≤ j = way_below x j way (links_below c p (extents us) j r (r.size == p)) in
     let on : P (reached w blob (version_on x way) (range_on r way) ways) = elim (cases_lt 0 (version_on x way)) [
       | inl some ↦ reached_is c p w blob us n pos ok known none ways (version_on x way) (range_on r way) (omega arith) (way_leads c p us j r way pos ok has some)

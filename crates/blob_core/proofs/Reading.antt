@@ -21,9 +21,9 @@ use Rattle.range_log.specs.Extents.{Extent, extent_at, size_after, InBounds}
 use Rattle.range_log.specs.Updates.{update_at, extent_of, extents, page_bytes, own_bytes, piece_bytes}
 use Rattle.range_log.specs.Rows.{leaf_of, inner_of, back_of, covered, leaf_start, leaf_from, leaf_len, first_piece, second_piece}
 use Rattle.range_log.specs.Visits.{backs_of, visits}
-use Rattle.tree_walk.specs.Walk.{visited, root_of}
+use Rattle.tree_walk.specs.Walk.{nodes_visited, root_of}
 use Rattle.range_log.proofs.Bytes.{extent_is, length-extents}
-use Rattle.blob_core.specs.World.{World, Kept, node_in, kept_at, origin, log_of, world_node}
+use Rattle.blob_core.specs.World.{World, UpdateEntry, node_in, kept_at, origin, log_of, world_node}
 use Rattle.blob_core.specs.Walk.{Walked, nothing, both, over, bytes_of_piece, leaf_walk, tree_walk_from, cut_out, read_walk}
 use Rattle.blob_core.proofs.Lists.{nth_is}
 use Rattle.blob_core.proofs.Growing.{Cited, length_log, size_in_log}
@@ -51,7 +51,7 @@ put_none start own =
 abbrev pub older_walk : ℕ → ℕ → World → ℕ → ℕ → ℕ → Walked
 older_walk most p w blob back i = let older : Walked = elim (back == 0) [ true ↦ nothing | false ↦ leaf_walk most p w blob back i ] in older
 
-pub leaf_walk_on : (most p : ℕ) (w : World) (blob j i : ℕ) (n : Node) (kept : Kept) → is_leaf n ≡ true → node_in w blob j (page_range p i) ≡ Some n
+pub leaf_walk_on : (most p : ℕ) (w : World) (blob j i : ℕ) (n : Node) (kept : UpdateEntry) → is_leaf n ≡ true → node_in w blob j (page_range p i) ≡ Some n
     → kept_at w.updates (origin w blob j) j ≡ Some kept
     → leaf_walk (suc most) p w blob j i
     ≡ over (older_walk most p w blob (back_link n) i) (start_of n) (bytes_of_piece w kept.pages (first_of n) ++ bytes_of_piece w kept.pages (second_of n))
@@ -318,17 +318,17 @@ next_range : (h q : ℕ) → (q + 1) * 2 ^ h ≡ q * 2 ^ h + 2 ^ h
 next_range h q = omega arith
 
 apart_pages : (c : Cited) (h p : ℕ) (w : World) (blob : ℕ) (us : List Update) (v j q first last : ℕ) → first ≤ last → (last < q * 2 ^ h) ⊎ ((q + 1) * 2 ^ h ≤ first)
-    → PagesAre (tree_walk_from h p w blob j q first last) p us v (clamp first last (q * 2 ^ h)) (clamp first last ((q + 1) * 2 ^ h)) (visited h q first last)
+    → PagesAre (tree_walk_from h p w blob j q first last) p us v (clamp first last (q * 2 ^ h)) (clamp first last ((q + 1) * 2 ^ h)) (nodes_visited h q first last)
 apart_pages c h p w blob us v j q first last le past =
-    let T : Walked → Type 0 = λ t. PagesAre t p us v (clamp first last (q * 2 ^ h)) (clamp first last ((q + 1) * 2 ^ h)) (visited h q first last) in
+    let T : Walked → Type 0 = λ t. PagesAre t p us v (clamp first last (q * 2 ^ h)) (clamp first last ((q + 1) * 2 ^ h)) (nodes_visited h q first last) in
     subst T (sym (walk_apart h p w blob j q first last past))
-    (pages_none p us v (clamp first last (q * 2 ^ h)) (clamp first last ((q + 1) * 2 ^ h)) (visited h q first last)
+    (pages_none p us v (clamp first last (q * 2 ^ h)) (clamp first last ((q + 1) * 2 ^ h)) (nodes_visited h q first last)
     (clamp_past first last (q * 2 ^ h) ((q + 1) * 2 ^ h) le (omega (arith, next_range h q)) past) (c.apart h q first last past))
 
 tree_pages : (c : Cited) (p : ℕ) (w : World) (blob : ℕ) (b : Blob) (v first last : ℕ) → 1 ≤ p → Stands p w → BlobStands p w blob b → v ≤ published b
     → first ≤ last → last * p < size_at (log_of p b.updates) v
     → (h q j : ℕ) → Enters p b.updates v j h q first last
-    → PagesAre (tree_walk_from h p w blob j q first last) p b.updates v (clamp first last (q * 2 ^ h)) (clamp first last ((q + 1) * 2 ^ h)) (visited h q first last)
+    → PagesAre (tree_walk_from h p w blob j q first last) p b.updates v (clamp first last (q * 2 ^ h)) (clamp first last ((q + 1) * 2 ^ h)) (nodes_visited h q first last)
 tree_pages c p w blob b v first last pos s bs upto le inside zero q j enters =
     let us : List Update = b.updates in
     let z : q * 2 ^ 0 ≡ q = omega arith in
@@ -340,9 +340,9 @@ tree_pages c p w blob b v first last pos s bs upto le inside zero q j enters =
             | inl early ↦ apart_pages c 0 p w blob us v j q first last le (inr (omega arith))
             | inr from ↦
                 (let d = enters (omega arith) (omega arith) in
-                let T : Walked → Type 0 = λ t. PagesAre t p us v (clamp first last (q * 2 ^ 0)) (clamp first last ((q + 1) * 2 ^ 0)) (visited 0 q first last) in
+                let T : Walked → Type 0 = λ t. PagesAre t p us v (clamp first last (q * 2 ^ 0)) (clamp first last ((q + 1) * 2 ^ 0)) (nodes_visited 0 q first last) in
                 subst T (sym (walk_leaf p w blob j q first last from to))
-                (pages_at (leaf_walk j p w blob j q) p us v q (q + 1) 1 (clamp first last (q * 2 ^ 0)) (clamp first last ((q + 1) * 2 ^ 0)) (visited 0 q first last)
+                (pages_at (leaf_walk j p w blob j q) p us v q (q + 1) 1 (clamp first last (q * 2 ^ 0)) (clamp first last ((q + 1) * 2 ^ 0)) (nodes_visited 0 q first last)
                 (leaf_pages c p w blob b v pos s bs upto j q first last from to d.0 d.1) (omega arith) (omega arith) (sym (c.leaf q first last from to))))
           ]
     ]
@@ -381,14 +381,14 @@ tree_pages c p w blob b v first last pos s bs upto le inside (suc h) q j enters 
                 let power : 2 ^ suc h ≡ 2 * 2 ^ h = pow-succ' 2 h in
                 let e : low * 2 ^ h ≡ q * 2 ^ suc h = rw power (omega arith) in
                 let f : (high + 1) * 2 ^ h ≡ (q + 1) * 2 ^ suc h = rw power (omega arith) in
-                let T : Walked → Type 0 = λ t. PagesAre t p us v (clamp first last (q * 2 ^ suc h)) (clamp first last ((q + 1) * 2 ^ suc h)) (visited (suc h) q first last) in
+                let T : Walked → Type 0 = λ t. PagesAre t p us v (clamp first last (q * 2 ^ suc h)) (clamp first last ((q + 1) * 2 ^ suc h)) (nodes_visited (suc h) q first last) in
                 subst T (sym (walk_inner h p w blob j q first last (inner_of p xs j r) begins ends node))
                 (pages_at (both (tree_walk_from h p w blob left low first last) (tree_walk_from h p w blob right high first last)) p us v
-                (clamp first last (low * 2 ^ h)) (clamp first last ((high + 1) * 2 ^ h)) (1 + visited h low first last + visited h high first last)
-                (clamp first last (q * 2 ^ suc h)) (clamp first last ((q + 1) * 2 ^ suc h)) (visited (suc h) q first last)
+                (clamp first last (low * 2 ^ h)) (clamp first last ((high + 1) * 2 ^ h)) (1 + nodes_visited h low first last + nodes_visited h high first last)
+                (clamp first last (q * 2 ^ suc h)) (clamp first last ((q + 1) * 2 ^ suc h)) (nodes_visited (suc h) q first last)
                 (pages_join (tree_walk_from h p w blob left low first last) (tree_walk_from h p w blob right high first last) p us v
                 (clamp first last (low * 2 ^ h)) (clamp first last (high * 2 ^ h)) (clamp first last ((high + 1) * 2 ^ h))
-                (visited h low first last) (visited h high first last) left_pages right_pages
+                (nodes_visited h low first last) (nodes_visited h high first last) left_pages right_pages
                 (omega (arith, next_range h low)) (omega (arith, next_range h high)))
                 (ap (λ (x : ℕ). clamp first last x) e) (ap (λ (x : ℕ). clamp first last x) f) (sym (c.inner h q first last begins ends))))
           ]
@@ -501,9 +501,9 @@ read_bytes c p w blob b v o n pos s bs upto some numbered inside =
     let one : (0 + 1) * 2 ^ top ≡ 2 ^ top = omega arith in
     let from : clamp first last (0 * 2 ^ top) ≡ first = omega arith in
     let to : clamp first last ((0 + 1) * 2 ^ top) ≡ last + 1 = omega arith in
-    let is : PagesAre (tree_walk_from top p w blob v 0 first last) p us v first (last + 1) (visited top 0 first last) =
-    pages_at (tree_walk_from top p w blob v 0 first last) p us v (clamp first last (0 * 2 ^ top)) (clamp first last ((0 + 1) * 2 ^ top)) (visited top 0 first last)
-    first (last + 1) (visited top 0 first last) pages from to refl in
+    let is : PagesAre (tree_walk_from top p w blob v 0 first last) p us v first (last + 1) (nodes_visited top 0 first last) =
+    pages_at (tree_walk_from top p w blob v 0 first last) p us v (clamp first last (0 * 2 ^ top)) (clamp first last ((0 + 1) * 2 ^ top)) (nodes_visited top 0 first last)
+    first (last + 1) (nodes_visited top 0 first last) pages from to refl in
     let few = c.bounded p v o n xs pos some (omega arith) in
     record {
       bytes = ap (λ (l : List ℕ). take n (drop (o - first * p) l)) is.bytes ∙ cut_slice (content us v) (first * p) ((last + 1) * p) o n low (omega arith);

@@ -6,7 +6,7 @@ use Rattle.blob_model.specs.Store.{Blob, blob_at, with_blob, finish}
 use Rattle.blob_model.specs.History.{store_from, IsLegalFrom, IsNumbered, MayCall}
 use Rattle.blob_model.specs.declared.call.Event.TheVariants as Events
 use Rattle.blob_model.specs.declared.call.Call.TheVariants as Calls
-use Rattle.blob_core.specs.World.{World, joined}
+use Rattle.blob_core.specs.World.{World, bytes_of_pages}
 use Rattle.blob_core.specs.Steps.{IsAllowed, AllAllowed, IsNumberedIn, after, world_after, events_from}
 use Rattle.blob_core.specs.declared.step.Step.{Step}
 use Rattle.blob_core.specs.declared.step.Step.TheVariants as Moves
@@ -19,9 +19,9 @@ pub step_stands : (c : Cited) (p : ℕ) (w : World) (step : Step) → 1 ≤ p �
 step_stands c p w (Moves.PagePut page bytes) pos s ok = page_put p w page bytes s ok.0 ok.1 ok.2
 step_stands c p w (Moves.Create caller) pos s ok = created p w (store_from w.store (Events.Create caller ∷ [])) s (create_done w.store caller ok)
 step_stands c p w (Moves.Assign caller blob place pages) pos s ok =
-    let (b, is, fits, store) = assign_done w.store caller blob place (joined w.pages pages) ok.1 in
-    let u : Update = record { caller = caller; place = place; bytes = joined w.pages pages } in
-    numbered c p w (store_from w.store (Events.Assign caller blob place (joined w.pages pages) ∷ [])) blob b u pages s is ok.0 refl (joined_some p w.pages s.pages pages ok.0) fits store
+    let (b, is, fits, store) = assign_done w.store caller blob place (bytes_of_pages w.pages pages) ok.1 in
+    let u : Update = record { caller = caller; place = place; bytes = bytes_of_pages w.pages pages } in
+    numbered c p w (store_from w.store (Events.Assign caller blob place (bytes_of_pages w.pages pages) ∷ [])) blob b u pages s is ok.0 refl (joined_some p w.pages s.pages pages ok.0) fits store
 step_stands c p w (Moves.NodePut key) pos s ok =
     let (b, own, has) = ok in
     node_put c p w key b pos s own has

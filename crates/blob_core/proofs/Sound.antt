@@ -21,7 +21,7 @@ use Rattle.range_log.specs.Updates.{extents, Replayable, extent_of, update_at}
 use Rattle.range_log.specs.Laws.{ExtentsStand}
 use Rattle.range_log.proofs.Grown.{touch-touches}
 use Rattle.range_log.proofs.Bytes.{length-extents, extent_is}
-use Rattle.blob_core.specs.World.{World, empty_world, kept_at, origin, log_of, joined}
+use Rattle.blob_core.specs.World.{World, empty_world, kept_at, origin, log_of, bytes_of_pages}
 use Rattle.blob_core.specs.Steps.{IsAllowed, AllAllowed, after, world_after}
 use Rattle.blob_core.specs.Standing.{IsSound, WeavesRow, Stays, ReachedStays}
 use Rattle.blob_core.specs.declared.step.Step.{Step}
@@ -156,7 +156,7 @@ bounded_step c p limits w (Moves.PagePut page bytes) pos s bound ok = bound
 bounded_step c p limits w (Moves.Create caller) pos s bound ok =
     bounded_more limits w.store (store_from w.store (Events.Create caller ∷ [])) (record { updates = []; finished = [] }) bound (create_done w.store caller ok) (λ v le. none_small limits.max_size v le)
 bounded_step c p limits w (Moves.Assign caller blob place pages) pos s bound ok =
-    let bytes : List ℕ = joined w.pages pages in
+    let bytes : List ℕ = bytes_of_pages w.pages pages in
     let (b, is, fits, store) = assign_done w.store caller blob place bytes ok.1 in
     let u : Update = record { caller = caller; place = place; bytes = bytes } in
     let bs : BlobStands p w blob b = s.blobs blob b is in

@@ -13,7 +13,7 @@ use Rattle.tree_geom.specs.Geometry.{tree_range, page_range, height_of}
 use Rattle.range_log.specs.Extents.{size_after}
 use Rattle.range_log.specs.Updates.{extents}
 use Rattle.tree_geom.specs.Nodes.{left_link, right_link, back_link, is_leaf, start_of, first_of, second_of}
-use Rattle.blob_core.specs.World.{World, Kept, node_in, kept_at, origin}
+use Rattle.blob_core.specs.World.{World, UpdateEntry, node_in, kept_at, origin}
 use Rattle.blob_core.specs.Walk.{Walked, nothing, bytes_of_piece, leaf_walk, tree_walk_from, read_walk, walked_in}
 use Rattle.blob_core.proofs.Lists.{one_value}
 use Rattle.blob_core.proofs.Taken.{read_done}
@@ -43,7 +43,7 @@ unfolding leaf_walk
 leaf_unkept zero p w blob j i n e f = refl
 leaf_unkept (suc most) p w blob j i n e f = ap Bytes (let g : leaf_walk (suc most) p w blob j i ≡ nothing = rw (e, f, leaf_walk) refl in g)
 
-pub leaf_inner : (most p : ℕ) (w : World) (blob j i : ℕ) (n : Node) (kept : Kept) → is_leaf n ≡ false → node_in w blob j (page_range p i) ≡ Some n → kept_at w.updates (origin w blob j) j ≡ Some kept
+pub leaf_inner : (most p : ℕ) (w : World) (blob j i : ℕ) (n : Node) (kept : UpdateEntry) → is_leaf n ≡ false → node_in w blob j (page_range p i) ≡ Some n → kept_at w.updates (origin w blob j) j ≡ Some kept
     → (leaf_walk most p w blob j i).bytes ≡ []
 unfolding leaf_walk
 leaf_inner zero p w blob j i n kept inner e f = refl
@@ -55,7 +55,7 @@ older_by : (most p : ℕ) (w : World) (blob back i : ℕ) (bytes : List ℕ) (t 
 older_by most p w blob back i bytes true t none on = none refl ∙ ap Bytes (sym (older_none most p w blob back i t))
 older_by most p w blob back i bytes false t none on = on refl ∙ ap Bytes (sym (older_on most p w blob back i t))
 
-pub leaf_on : (most p : ℕ) (w : World) (blob j i : ℕ) (n : Node) (kept : Kept) (older own : List ℕ) → 1 ≤ most → is_leaf n ≡ true
+pub leaf_on : (most p : ℕ) (w : World) (blob j i : ℕ) (n : Node) (kept : UpdateEntry) (older own : List ℕ) → 1 ≤ most → is_leaf n ≡ true
     → node_in w blob j (page_range p i) ≡ Some n → kept_at w.updates (origin w blob j) j ≡ Some kept
     → (back_link n ≡ 0 → older ≡ []) → (1 ≤ back_link n → older ≡ (leaf_walk (most - 1) p w blob (back_link n) i).bytes)
     → own ≡ bytes_of_piece w kept.pages (first_of n) ++ bytes_of_piece w kept.pages (second_of n)

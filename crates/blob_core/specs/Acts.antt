@@ -6,7 +6,7 @@ use Rattle.tree_geom.specs.declared.touch.Touch.{Touch}
 use Rattle.tree_geom.specs.declared.node.Node.{Node}
 use Rattle.tree_geom.specs.declared.node.NodeKey.{NodeKey}
 use Rattle.range_log.specs.Rows.{row_keys_of}
-use Rattle.blob_core.specs.World.{World, joined, AreCut, IsKnown, node_at, log_of}
+use Rattle.blob_core.specs.World.{World, bytes_of_pages, AreCut, IsKnown, node_at, log_of}
 use Rattle.blob_core.specs.Steps.{IsAllowed, IsNumberedIn, AllAllowed, after, world_after}
 use Rattle.blob_core.specs.declared.step.Step.{Step}
 
@@ -17,7 +17,7 @@ pub record IsDone (p : ℕ) (old : World) (step : Step) (new : World) : Type 0 w
 
 -- the bytes of some pages, joined, where they may be those of an update
 abbrev pub AreJoined : ℕ → List (ℕ × List ℕ) → List ℕ → Option (List ℕ) → Type 0
-AreJoined p stored numbers bytes = MatchOption bytes (¬ AreCut p stored numbers) (λ b. AreCut p stored numbers × (b ≡ joined stored numbers))
+AreJoined p stored numbers bytes = MatchOption bytes (¬ AreCut p stored numbers) (λ b. AreCut p stored numbers × (b ≡ bytes_of_pages stored numbers))
 
 -- the version was numbered in the blob; what the blob's updates touch, and the ranges of the version's row
 pub record IsRowOf (p : ℕ) (w : World) (blob version : ℕ) (log : List Touch) (keys : List Range) : Type 0 where

@@ -5,7 +5,7 @@ use Rattle.blob_model.specs.Store.{Blob, blob_at, assigned, published}
 use Rattle.tree_geom.specs.declared.range.Range.{Range}
 use Rattle.range_log.specs.Log.{HasNode}
 use Rattle.range_log.specs.Updates.{extents, Replayable}
-use Rattle.blob_core.specs.World.{World, Kept, empty_world, kept_at, origin, log_of, world_node}
+use Rattle.blob_core.specs.World.{World, UpdateEntry, empty_world, kept_at, origin, log_of, world_node}
 use Rattle.blob_core.specs.Woven.{woven}
 use Rattle.blob_core.specs.Steps.{AllAllowed, world_after}
 use Rattle.blob_core.specs.Promises.{ReadsAreContent}
@@ -27,7 +27,7 @@ pub record IsReached (p : ℕ) (w : World) : Type 0 where
 
 -- what a writer weaves for a range of the row of version k, is the row's node but for its depth
 pub record WeavesRow (p : ℕ) (w : World) (blob : ℕ) (b : Blob) (k : ℕ) (r : Range) : Type 0 where
-  pub kept : Kept
+  pub kept : UpdateEntry
   pub there : kept_at w.updates blob k ≡ Some kept
   pub is : woven p w blob b kept k r ≡ world_node p (extents b.updates) k r
 

@@ -11,7 +11,7 @@ use Rattle.tree_geom.specs.declared.node.Node.{Node}
 use Rattle.tree_geom.specs.declared.node.NodeKey.{NodeKey}
 use Rattle.range_log.specs.Log.{HasNode}
 use Rattle.range_log.specs.Rows.{row_keys_of}
-use Rattle.blob_core.specs.World.{World, Kept, IsKnown, page_at, node_at, kept_at, origin, joined, AreCut, log_of, waiting_after}
+use Rattle.blob_core.specs.World.{World, UpdateEntry, IsKnown, page_at, node_at, kept_at, origin, bytes_of_pages, AreCut, log_of, waiting_after}
 use Rattle.blob_core.specs.declared.world.UpdateKey.{UpdateKey}
 use Rattle.blob_core.specs.Woven.{woven}
 use Rattle.blob_core.specs.declared.step.Step.{Step}
@@ -21,7 +21,7 @@ use Rattle.blob_core.specs.declared.step.Step.TheVariants as Moves
 abbrev pub events_of : World → Step → List Event
 events_of w (Moves.PagePut page bytes) = []
 events_of w (Moves.Create caller) = Events.Create caller ∷ []
-events_of w (Moves.Assign caller blob place pages) = Events.Assign caller blob place (joined w.pages pages) ∷ []
+events_of w (Moves.Assign caller blob place pages) = Events.Assign caller blob place (bytes_of_pages w.pages pages) ∷ []
 events_of w (Moves.NodePut key) = []
 events_of w (Moves.Finish caller blob version) = Events.Finish caller blob version ∷ []
 events_of w (Moves.Branch caller blob version) = Events.Branch caller blob version ∷ []
@@ -47,7 +47,7 @@ RowIsThere p w blob version b =
 abbrev pub IsAllowed : ℕ → World → Step → Type 0
 IsAllowed p w (Moves.PagePut page bytes) = (page_at w.pages page ≡ None) × (1 ≤ length bytes) × (length bytes ≤ p)
 IsAllowed p w (Moves.Create caller) = IsTaken w.store (Events.Create caller)
-IsAllowed p w (Moves.Assign caller blob place pages) = AreCut p w.pages pages × IsTaken w.store (Events.Assign caller blob place (joined w.pages pages))
+IsAllowed p w (Moves.Assign caller blob place pages) = AreCut p w.pages pages × IsTaken w.store (Events.Assign caller blob place (bytes_of_pages w.pages pages))
 IsAllowed p w (Moves.NodePut key) =
     (b : Blob) × IsNumberedIn w key.blob key.version b × HasNode p (log_of p b.updates) key.version key.range
 IsAllowed p w (Moves.Finish caller blob version) =
@@ -57,10 +57,10 @@ IsAllowed p w (Moves.Read blob version offset count) = is_refused (answer w.stor
 
 -- ---- what a step leaves
 -- what is kept beside the next update of a blob
-abbrev pub next_kept : ℕ → Blob → List ℕ → Kept
+abbrev pub next_kept : ℕ → Blob → List ℕ → UpdateEntry
 next_kept p b pages = record { pages = pages; published = published b; waiting = waiting_after (log_of p b.updates) (published b) (assigned b - published b) }
 
-abbrev pub with_update : ℕ → World → ℕ → List ℕ → List (UpdateKey × Kept)
+abbrev pub with_update : ℕ → World → ℕ → List ℕ → List (UpdateKey × UpdateEntry)
 with_update p w blob pages =
     elim (blob_at w.store blob) [ None ↦ w.updates | Some b ↦ (record { blob = blob; version = assigned b + 1 }, next_kept p b pages) ∷ w.updates ]
 
@@ -85,7 +85,7 @@ after p w (Moves.PagePut page bytes) = record w { pages = (page, bytes) ∷ w.pa
 after p w (Moves.Create caller) =
     record w { store = store_from w.store (Events.Create caller ∷ []); lineage = None ∷ w.lineage }
 after p w (Moves.Assign caller blob place pages) =
-    record w { store = store_from w.store (Events.Assign caller blob place (joined w.pages pages) ∷ []); updates = with_update p w blob pages }
+    record w { store = store_from w.store (Events.Assign caller blob place (bytes_of_pages w.pages pages) ∷ []); updates = with_update p w blob pages }
 after p w (Moves.NodePut key) = record w { nodes = with_node p w key }
 after p w (Moves.Finish caller blob version) =
     record w { store = store_from w.store (Events.Finish caller blob version ∷ []) }

@@ -35,12 +35,12 @@ range_on r to_right = right_half r
 range_on r to_back = r
 
 -- the version and the range of a node
-pub record Spot : Type 0 where
+pub record VersionedRange : Type 0 where
   pub version : ℕ
   pub range : Range
 
 -- where the ways lead from the node of version j for r, by the nodes that are there; version 0 where they end before
-abbrev pub reached : World → ℕ → ℕ → Range → List Way → Spot
+abbrev pub reached : World → ℕ → ℕ → Range → List Way → VersionedRange
 reached w blob j r [] = record { version = j; range = r }
 reached w blob j r (way ∷ ways) =
     elim (node_in w blob j r) [ None ↦ record { version = 0; range = r } | Some n ↦ reached w blob (version_on n way) (range_on r way) ways ]

@@ -29,7 +29,7 @@ IsKnown {V} o = (v : V) × (o ≡ Some v)
 -- ---- what a world is
 -- what is kept beside an update: the numbers of its pages in order, and its hints, which are the version that was published
 -- at its numbering and what the updates touch that waited below it
-pub record Kept : Type 0 where
+pub record UpdateEntry : Type 0 where
   pub pages : List ℕ
   pub published : ℕ
   pub waiting : List OpenTouch
@@ -40,7 +40,7 @@ pub record World : Type 0 where
   pub store : Store
   pub lineage : List (Option Parent)
   pub pages : List (ℕ × List ℕ)
-  pub updates : List (UpdateKey × Kept)
+  pub updates : List (UpdateKey × UpdateEntry)
   pub nodes : List (NodeKey × Node)
 
 -- limits, and nothing else
@@ -66,7 +66,7 @@ abbrev pub node_at : List (NodeKey × Node) → NodeKey → Option Node
 node_at nodes key = entry_at same_key nodes key
 
 -- what is kept beside the update of that version that was numbered in that blob
-abbrev pub kept_at : List (UpdateKey × Kept) → ℕ → ℕ → Option Kept
+abbrev pub kept_at : List (UpdateKey × UpdateEntry) → ℕ → ℕ → Option UpdateEntry
 kept_at updates blob version = entry_at same_update updates (record { blob = blob; version = version })
 
 -- the blob that a blob's version was numbered in
@@ -93,9 +93,9 @@ abbrev pub bytes_of_page : List (ℕ × List ℕ) → ℕ → List ℕ
 bytes_of_page stored page = elim (page_at stored page) [ None ↦ [] | Some bytes ↦ bytes ]
 
 -- the bytes of some pages, joined
-abbrev pub joined : List (ℕ × List ℕ) → List ℕ → List ℕ
-joined stored [] = []
-joined stored (page ∷ pages) = bytes_of_page stored page ++ joined stored pages
+abbrev pub bytes_of_pages : List (ℕ × List ℕ) → List ℕ → List ℕ
+bytes_of_pages stored [] = []
+bytes_of_pages stored (page ∷ pages) = bytes_of_page stored page ++ bytes_of_pages stored pages
 
 -- the bytes of item i of a list of pages, from 0; none past its end
 abbrev pub nth_page : List (ℕ × List ℕ) → List ℕ → ℕ → List ℕ

@@ -12,7 +12,7 @@ use Rattle.range_log.specs.Extents.{extent_at}
 use Rattle.range_log.specs.Updates.{extents}
 use Rattle.range_log.specs.Rows.{covered, leaf_at}
 use Rattle.tree_walk.specs.Walk.{half_toward, root_of}
-use Rattle.blob_core.specs.World.{World, Kept, node_in, log_of}
+use Rattle.blob_core.specs.World.{World, UpdateEntry, node_in, log_of}
 
 -- the link of a node for the half of its range in which the target begins
 abbrev pub link_toward : Node → Range → Range → ℕ
@@ -49,16 +49,16 @@ greatest_open p [] r = 0
 greatest_open p (t ∷ ts) r = max (if meets_of p t.touch r then t.version else 0) (greatest_open p ts r)
 
 -- the newest version below an update's own that touches the range, by its hints and the nodes that are there
-abbrev pub older_link : ℕ → World → ℕ → Blob → Kept → Range → ℕ
+abbrev pub older_link : ℕ → World → ℕ → Blob → UpdateEntry → Range → ℕ
 older_link p w blob b kept r =
     if greatest_open p kept.waiting r == 0 then found_in p w blob (log_of p b.updates) kept.published r else greatest_open p kept.waiting r
 
 -- the own version of update k where it touches the range, else an older one
-abbrev pub link_of : ℕ → World → ℕ → Blob → Kept → ℕ → Range → ℕ
+abbrev pub link_of : ℕ → World → ℕ → Blob → UpdateEntry → ℕ → Range → ℕ
 link_of p w blob b kept k r = if meets_of p (touch_at (log_of p b.updates) k) r then k else older_link p w blob b kept r
 
 -- the node of update k for the range, as its writer weaves it; a world keeps no depths
-abbrev pub woven : ℕ → World → ℕ → Blob → Kept → ℕ → Range → Node
+abbrev pub woven : ℕ → World → ℕ → Blob → UpdateEntry → ℕ → Range → Node
 woven p w blob b kept k r =
     if r.size == p then leaf_at p (extent_at (extents b.updates) k) (r.offset / p)
     (if covered p (extents b.updates) k (r.offset / p) then 0 else older_link p w blob b kept (page_range p (r.offset / p))) 0

@@ -89,9 +89,9 @@ pub(crate) struct KeptUpdate {
 }
 
 impl Model for KeptUpdate {
-    ghost use Rattle.blob_core.specs.World.{Kept};
+    ghost use Rattle.blob_core.specs.World.{UpdateEntry};
 
-    ghost Value = { Kept };
+    ghost Value = { UpdateEntry };
 
     ghost view = { λ k. record { pages = k.pages.items; published = k.published; waiting = k.waiting.items } };
 }

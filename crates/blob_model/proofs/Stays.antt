@@ -76,11 +76,11 @@ Stays-finish b version = stays b (finish b version) [] (sym (append-nil b.update
 
 -- ---- stores
 -- the blob of that id is there afterwards, and stays
-Kept : Store → ℕ → Blob → Type 0
-Kept s id old = (new : Blob) × (blob_at s id ≡ Some new) × Stays old new
+StaysAt : Store → ℕ → Blob → Type 0
+StaysAt s id old = (new : Blob) × (blob_at s id ≡ Some new) × Stays old new
 
-kept_same : (s : Store) (id : ℕ) (old : Blob) → blob_at s id ≡ Some old → Kept s id old
-unfolding Kept
+kept_same : (s : Store) (id : ℕ) (old : Blob) → blob_at s id ≡ Some old → StaysAt s id old
+unfolding StaysAt
 kept_same s id old e = (old, e, Stays-refl old)
 
 -- a blob of the store is an item of its list
@@ -88,8 +88,8 @@ item_of : (xs : List Blob) (none : Bool) (i : ℕ) (b : Blob) → (if none then 
 item_of xs true i b e = let no : ⊥ = cc in absurd no
 item_of xs false i b e = (refl, e)
 
-kept_more : (s : Store) (x : Blob) (id : ℕ) (old : Blob) → blob_at s id ≡ Some old → Kept (and_blob s x) id old
-unfolding Kept
+kept_more : (s : Store) (x : Blob) (id : ℕ) (old : Blob) → blob_at s id ≡ Some old → StaysAt (and_blob s x) id old
+unfolding StaysAt
 kept_more s x id old e =
     let at = item_of s.blobs (id == 0) (id - 1) old e in
     let more : slice_get (s.blobs ++ x ∷ []) (id - 1) ≡ Some old = get-append s.blobs (x ∷ []) (id - 1) old at.1 in
@@ -102,8 +102,8 @@ apart_from : (id other : ℕ) → id - 1 ≡ other - 1 → (id == 0) ≡ false �
 apart_from id other e some there apart = grind (arith, nat_tests)
 
 kept_with : (s : Store) (other : ℕ) (before after : Blob) → blob_at s other ≡ Some before → Stays before after → (id : ℕ) (old : Blob) → blob_at s id ≡ Some old →
-    (same : Bool) → (id == other) ≡ same → Kept (with_blob s other after) id old
-unfolding Kept
+    (same : Bool) → (id == other) ≡ same → StaysAt (with_blob s other after) id old
+unfolding StaysAt
 kept_with s other before after is stay id old e true same =
     let here : id ≡ other = grind (arith, nat_tests) in
     let was : slice_get s.blobs (id - 1) ≡ Some before = ap (λ (i : ℕ). slice_get s.blobs (i - 1)) here ∙ (item_of s.blobs (other == 0) (other - 1) before is).1 in
@@ -119,17 +119,17 @@ kept_with s other before after is stay id old e false same =
     let now : slice_get (slice_set s.blobs (other - 1) after) (id - 1) ≡ Some old = get-set_other s.blobs (other - 1) (id - 1) after old apart at.1 in
     (old, rw at.0 now, Stays-refl old)
 
-unless_kept : (s : Store) (o : Option Refusal) (done : Answered) (id : ℕ) (old : Blob) → blob_at s id ≡ Some old → Kept done.0 id old →
-    Kept (let a : Answered = elim o [ Some r ↦ refuse s r | None ↦ done ] in a).0 id old
+unless_kept : (s : Store) (o : Option Refusal) (done : Answered) (id : ℕ) (old : Blob) → blob_at s id ≡ Some old → StaysAt done.0 id old →
+    StaysAt (let a : Answered = elim o [ Some r ↦ refuse s r | None ↦ done ] in a).0 id old
 unless_kept s (Some r) done id old e k = kept_same s id old e
 unless_kept s None done id old e k = k
 
 in_blob_kept : (s : Store) (other : ℕ) (o : Option Blob) (f : Blob → Answered) (id : ℕ) (old : Blob) → blob_at s other ≡ o → blob_at s id ≡ Some old →
-    ((b : Blob) → blob_at s other ≡ Some b → Kept (f b).0 id old) → Kept (let a : Answered = elim o [ None ↦ refuse s (Refusals.NoBlob other) | Some b ↦ f b ] in a).0 id old
+    ((b : Blob) → blob_at s other ≡ Some b → StaysAt (f b).0 id old) → StaysAt (let a : Answered = elim o [ None ↦ refuse s (Refusals.NoBlob other) | Some b ↦ f b ] in a).0 id old
 in_blob_kept s other None f id old at e k = kept_same s id old e
 in_blob_kept s other (Some b) f id old at e k = k b at
 
-event_kept : (s : Store) (e : Event) (id : ℕ) (old : Blob) → blob_at s id ≡ Some old → Kept (answer s (caller_of e) (call_of e)).0 id old
+event_kept : (s : Store) (e : Event) (id : ℕ) (old : Blob) → blob_at s id ≡ Some old → StaysAt (answer s (caller_of e) (call_of e)).0 id old
 event_kept s (Events.Create caller) id old is = unless_kept s _ _ id old is (kept_more s _ id old is)
 event_kept s (Events.Assign caller blob place bytes) id old is =
     in_blob_kept s blob (blob_at s blob) _ id old refl is (λ b at. unless_kept s _ _ id old is (kept_with s blob b _ at (Stays-update b _) id old is (id == blob) refl))
@@ -139,7 +139,7 @@ event_kept s (Events.Branch caller blob version) id old is =
     in_blob_kept s blob (blob_at s blob) _ id old refl is (λ b at. unless_kept s _ _ id old is (kept_more s _ id old is))
 
 pub store_kept : (s : Store) (more : List Event) (id : ℕ) (old : Blob) → blob_at s id ≡ Some old → (new : Blob) × (blob_at (store_from s more) id ≡ Some new) × Stays old new
-unfolding Kept
+unfolding StaysAt
 store_kept s [] id old e = (old, e, Stays-refl old)
 store_kept s (x ∷ xs) id old e =
     let (mid, at, stay) = event_kept s x id old e in

@@ -2,8 +2,8 @@
 use Rattle.std.proofs.Common.{◌≡◌, ℕ, List, [], ◌++◌, refl, subst}
 use Rattle.frame_wire.specs.Frames.{heard}
 use Rattle.frame_wire.specs.Said.{said}
-use Rattle.server_core.specs.declared.step.End.{End}
-use Rattle.server_core.specs.declared.step.End.TheVariants as Ends
+use Rattle.server_core.specs.declared.flow.End.{End}
+use Rattle.server_core.specs.declared.flow.End.TheVariants as Ends
 use Rattle.server_core.specs.Progress.{Point}
 use Rattle.server_core.specs.Served.{Input, Served}
 use Rattle.server_core.proofs.Served.{Served-none}

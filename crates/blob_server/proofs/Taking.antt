@@ -1,6 +1,6 @@
 -- What a listener handed out, peer by peer.
 use Rattle.std.proofs.Common.{◌≡◌, ◌∙◌, ℕ, ◌<◌, arith}
-use Rattle.ports.specs.Counts.{RoseBy, counted}
+use Rattle.ports.specs.Counts.{RoseBy, count_after}
 use Rattle.blob_server.specs.Serving.{Handing, FailedAfter}
 
 pub rose_on : (n a b c : ℕ) → RoseBy 0 a b → RoseBy n b c → RoseBy n a c
@@ -8,7 +8,7 @@ rose_on n a b c one other = record { later = omega (arith, one.later, other.late
 
 -- so many peers were handed out so far, and nothing else was answered
 pub record Taken (peers : ℕ) (old now : Handing) : Type 0 where
-  pub handed : now.handed ≡ counted peers old.handed
+  pub handed : now.handed ≡ count_after peers old.handed
   pub done : now.is_done ≡ old.is_done
   pub faults : RoseBy 0 old.faults now.faults
 

@@ -7,7 +7,7 @@ use Rattle.frame_wire.specs.Frames.{heard}
 use Rattle.frame_wire.specs.Said.{said}
 use Rattle.server_core.specs.Progress.{Point}
 use Rattle.server_core.specs.Served.{Input, Served}
-use Rattle.server_core.specs.declared.step.End.{End}
+use Rattle.server_core.specs.declared.flow.End.{End}
 use Rattle.client_session.specs.Sessions.{StoreState, SessionState}
 
 -- the most bytes that are taken of a connection

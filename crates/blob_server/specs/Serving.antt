@@ -1,6 +1,6 @@
 -- How serving ends, by what the listener did in the call.
 use Rattle.std.specs.Prelude.{◌≡◌, ℕ, ◌+◌, ◌<◌, ◌≤◌, Bool, true, Option, Some, None, Result, Ok, Err}
-use Rattle.ports.specs.Counts.{RoseBy, counted}
+use Rattle.ports.specs.Counts.{RoseBy, count_after}
 use Rattle.blob_server.specs.declared.server.ServeFault.{ServeFault}
 use Rattle.blob_server.specs.declared.server.ServeFault.TheVariants as Faults
 
@@ -13,7 +13,7 @@ pub record Handing : Type 0 where
 -- So many peers were handed out: as many as were asked for, or fewer where the listener then answered that it gives no more.
 pub record TookPeers (connections peers : ℕ) (old new : Handing) : Type 0 where
   pub within : peers ≤ connections
-  pub handed : new.handed ≡ counted peers old.handed
+  pub handed : new.handed ≡ count_after peers old.handed
   pub fewer : peers < connections → new.is_done ≡ true
   pub all : peers ≡ connections → new.is_done ≡ old.is_done
   pub faults : RoseBy 0 old.faults new.faults
@@ -22,7 +22,7 @@ pub record TookPeers (connections peers : ℕ) (old new : Handing) : Type 0 wher
 pub record FailedAfter (connections : ℕ) (old new : Handing) : Type 0 where
   pub peers : ℕ
   pub fewer : peers < connections
-  pub handed : new.handed ≡ counted peers old.handed
+  pub handed : new.handed ≡ count_after peers old.handed
   pub done : new.is_done ≡ old.is_done
   pub failed : RoseBy 1 old.faults new.faults
 

@@ -20,7 +20,7 @@ use Rattle.blob_model.specs.declared.call.Event.TheVariants as Events
 use Rattle.blob_model.specs.declared.call.Outcome.TheVariants as Outcomes
 use Rattle.blob_model.specs.declared.call.Refusal.{Refusal}
 use Rattle.blob_model.specs.declared.call.Refusal.TheVariants as Refusals
-use Rattle.request_form.specs.Session.{Fixed, Session, Held, IsNobody, sees, holds, held_at, without_ticket, drops}
+use Rattle.request_form.specs.Session.{Fixed, Session, HeldTicket, IsNobody, sees, holds, ticket_at, without_ticket, drops}
 use Rattle.request_form.specs.Answers.{Updated, Started, CreateAnswer, UpdateAnswer, ReportAnswer, FinishAnswer, BranchAnswer, ReadAnswer, LookAnswer, Unless, update_fault, read_fault, Answers}
 use Rattle.request_form.specs.Transcript.{ItemReply, Run}
 use Rattle.request_form.specs.declared.form.Request.{Request}
@@ -259,34 +259,34 @@ sound_event limits history others e alone sound accepted =
 -- ---- tickets
 
 -- each of them is of a version that was numbered
-pub AllNumbered : Store → List Held → Type 0
+pub AllNumbered : Store → List HeldTicket → Type 0
 AllNumbered s [] = Unit {0}
 AllNumbered s (t ∷ ts) = IsNumbered (blob_at s t.blob) t.version × AllNumbered s ts
 
-numbered_push : (s : Store) (ts : List Held) (t : Held) → AllNumbered s ts → IsNumbered (blob_at s t.blob) t.version → AllNumbered s (ts ++ t ∷ [])
+numbered_push : (s : Store) (ts : List HeldTicket) (t : HeldTicket) → AllNumbered s ts → IsNumbered (blob_at s t.blob) t.version → AllNumbered s (ts ++ t ∷ [])
 unfolding AllNumbered
 numbered_push s [] t h k = (k, tt)
 numbered_push s (x ∷ ts) t h k = (h.0, numbered_push s ts t h.1 k)
 
-without_if : (s : Store) (b : Bool) (t : Held) (ts ts' : List Held) → IsNumbered (blob_at s t.blob) t.version → AllNumbered s ts → AllNumbered s ts' → AllNumbered s (if b then ts else t ∷ ts')
+without_if : (s : Store) (b : Bool) (t : HeldTicket) (ts ts' : List HeldTicket) → IsNumbered (blob_at s t.blob) t.version → AllNumbered s ts → AllNumbered s ts' → AllNumbered s (if b then ts else t ∷ ts')
 unfolding AllNumbered
 without_if s true t ts ts' h k l = k
 without_if s false t ts ts' h k l = (h, l)
 
-numbered_without : (s : Store) (ts : List Held) (number : ℕ) → AllNumbered s ts → AllNumbered s (without_ticket ts number)
+numbered_without : (s : Store) (ts : List HeldTicket) (number : ℕ) → AllNumbered s ts → AllNumbered s (without_ticket ts number)
 unfolding AllNumbered
 numbered_without s [] number h = tt
 numbered_without s (t ∷ ts) number h = without_if s (t.number == number) t ts (without_ticket ts number) h.0 h.1 (numbered_without s ts number h.1)
 
-found_if : (s : Store) (b : Bool) (t found : Held) (o : Option Held) → (if b then Some t else o) ≡ Some found → IsNumbered (blob_at s t.blob) t.version → (o ≡ Some found → IsNumbered (blob_at s found.blob) found.version) →
+found_if : (s : Store) (b : Bool) (t found : HeldTicket) (o : Option HeldTicket) → (if b then Some t else o) ≡ Some found → IsNumbered (blob_at s t.blob) t.version → (o ≡ Some found → IsNumbered (blob_at s found.blob) found.version) →
     IsNumbered (blob_at s found.blob) found.version
-found_if s true t found o e h k = let P : Held → Type 0 = λ x. IsNumbered (blob_at s x.blob) x.version in subst P (same_Some t found e) h
+found_if s true t found o e h k = let P : HeldTicket → Type 0 = λ x. IsNumbered (blob_at s x.blob) x.version in subst P (same_Some t found e) h
 found_if s false t found o e h k = k e
 
-numbered_held : (s : Store) (ts : List Held) (number : ℕ) (found : Held) → AllNumbered s ts → held_at ts number ≡ Some found → IsNumbered (blob_at s found.blob) found.version
+numbered_held : (s : Store) (ts : List HeldTicket) (number : ℕ) (found : HeldTicket) → AllNumbered s ts → ticket_at ts number ≡ Some found → IsNumbered (blob_at s found.blob) found.version
 unfolding AllNumbered
 numbered_held s [] number found h e = absurd (none-some found e)
-numbered_held s (t ∷ ts) number found h e = found_if s (t.number == number) t found (held_at ts number) e h.0 (numbered_held s ts number found h.1)
+numbered_held s (t ∷ ts) number found h e = found_if s (t.number == number) t found (ticket_at ts number) e h.0 (numbered_held s ts number found h.1)
 
 some_numbered : (o : Option Blob) (version : ℕ) → IsNumbered o version → (b : Blob) × (o ≡ Some b)
 some_numbered None version h = absurd h
@@ -324,7 +324,7 @@ module _ (stay : OldVersionsStay) where
       let now : IsNumbered (Some there.0) version = (before.0, omega (arith, before.1, ap (λ (us : List Update). length us) there.2.updates, length-append was.0.updates there.2.later)) in
       subst P (sym there.1) now
 
-  all_stay : (limits : Bounds) (history more : List Event) → IsLegal limits (history ++ more) → (ts : List Held) → AllNumbered (store_of limits history) ts → AllNumbered (store_of limits (history ++ more)) ts
+  all_stay : (limits : Bounds) (history more : List Event) → IsLegal limits (history ++ more) → (ts : List HeldTicket) → AllNumbered (store_of limits history) ts → AllNumbered (store_of limits (history ++ more)) ts
   unfolding AllNumbered
   all_stay limits history more legal [] h = tt
   all_stay limits history more legal (t ∷ ts) h = (numbered_stays limits history more t.blob t.version legal h.0, all_stay limits history more legal ts h.1)
@@ -432,7 +432,7 @@ module _ (stay : OldVersionsStay) where
     drops_well s' more number sound e =
         goes_to s s' (drops (sees s more) number) e refl (record { sound = sound; held = numbered_without (store_of s.fixed.limits (s.seen ++ more)) s.tickets number (sees_good more sound).held })
 
-    finish_well : (s' : Session) (number : ℕ) (o : Option Held) (reply : Reply) → held_at s.tickets number ≡ o → FinishAnswer IsNobody s number o reply s' → GoesWell s s'
+    finish_well : (s' : Session) (number : ℕ) (o : Option HeldTicket) (reply : Reply) → ticket_at s.tickets number ≡ o → FinishAnswer IsNobody s number o reply s' → GoesWell s s'
     finish_well s' number None reply e a = same_well s' a.1
     finish_well s' number (Some t) reply e (ReportAnswer.reported a) =
         let none : s.seen ++ a.others ≡ s.seen = ap (λ (es : List Event). s.seen ++ es) a.is_gap ∙ append-nil s.seen in
@@ -456,7 +456,7 @@ module _ (stay : OldVersionsStay) where
         unless_well s' reply _ (update_fault s bytes) (update_fault s bytes) refl (λ free h. update_well s' blob Append bytes reply _ (some_bytes s bytes free) (started_well s' blob Append bytes _ reply (some_bytes s bytes free)) h) a
     request_well s' (Requests.StartWrite blob offset bytes) reply a =
         unless_well s' reply _ (update_fault s bytes) (update_fault s bytes) refl (λ free h. update_well s' blob (WriteAt offset) bytes reply _ (some_bytes s bytes free) (started_well s' blob (WriteAt offset) bytes _ reply (some_bytes s bytes free)) h) a
-    request_well s' (Requests.Finish number) reply a = finish_well s' number (held_at s.tickets number) reply refl a
+    request_well s' (Requests.Finish number) reply a = finish_well s' number (ticket_at s.tickets number) reply refl a
     request_well s' (Requests.Read blob version offset count) reply a =
         unless_well s' reply _ (read_fault count) (read_fault count) refl (λ free h. read_well s' blob version offset count reply h) a
     request_well s' (Requests.Recent blob) reply a = look_well s' (Calls.Recent blob) reply a

@@ -4,7 +4,7 @@ use Rattle.std.specs.Prelude.{Option, Err}
 use Rattle.std.specs.Io.KnownBytes.{Appends}
 use Rattle.std.proofs.KnownBytes.{Appends-nil}
 use Rattle.std.proofs.lemmas.List.{length-drop}
-use Rattle.ports.specs.Counts.{RoseBy, counted}
+use Rattle.ports.specs.Counts.{RoseBy, count_after}
 use Rattle.ports.proofs.Counts.{RoseBy-trans}
 use Rattle.blob_server.specs.Serving.{Handing, TookPeers, FailedAfter, EndsAs}
 use Rattle.blob_server.specs.declared.server.ServeFault.{ServeFault}
@@ -27,7 +27,7 @@ module _ (connections : ℕ) (old mid new : Handing) (handed : mid.handed ≡ ol
   pub took_since : (peers : ℕ) → TookPeers connections peers mid new → TookPeers connections peers old new
   took_since peers t = record {
     within = t.within;
-    handed = t.handed ∙ ap (counted peers) handed;
+    handed = t.handed ∙ ap (count_after peers) handed;
     fewer = t.fewer;
     all = λ e. t.all e ∙ done;
     faults = RoseBy-trans 0 0 old.faults mid.faults new.faults rose t.faults;

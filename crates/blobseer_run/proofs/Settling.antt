@@ -9,7 +9,7 @@ use Rattle.settings.specs.Values.{GivenValues, SettingsValues}
 use Rattle.settings.specs.Words.{Bytes}
 use Rattle.settings.specs.File.{Gives}
 use Rattle.settings.specs.Merged.{merged}
-use Rattle.blobseer_run.specs.Told.{file_limit, Order, asked, FileGives, FileRefused, Settled, SettingsRefused, IsFileKnown, Stopped}
+use Rattle.blobseer_run.specs.Told.{file_limit, Order, order_of_words, FileGives, FileRefused, Settled, SettingsRefused, IsFileKnown, Stopped}
 use Rattle.blobseer_run.specs.Telling.{FileStops}
 use Rattle.blobseer_run.specs.Status.{code_of}
 use Rattle.blobseer_run.specs.declared.status.Status.{Status}
@@ -66,7 +66,7 @@ module _ (words : List Bytes) (known : Files) (told : IsFileKnown words known) (
   name_told : (n : Bytes) → s.given.settings ≡ Some n → known n ≢ None
   name_told n e = told (command, s.given) n s.asks e
 
-  same_order : (order : Order) → asked words ≡ Some order → order ≡ (command, s.given)
+  same_order : (order : Order) → order_of_words words ≡ Some order → order ≡ (command, s.given)
   same_order order e = same_Some order (command, s.given) (sym e ∙ s.asks)
 
   pub settled_not_refused : SettingsRefused words known → ⊥
@@ -79,12 +79,12 @@ module _ (words : List Bytes) (known : Files) (told : IsFileKnown words known) (
       let same : file ≡ s.file = same_file known s.given.settings name_told file s.file there s.gives in
       let fewer : (merged s.given s.file).providers < (merged s.given s.file).replicas =
       subst (λ (f : GivenValues). (merged s.given f).providers < (merged s.given f).replicas) same (subst (λ (o : Order). (merged o.1 file).providers < (merged o.1 file).replicas) one less) in
-      let enough : (merged s.given s.file).replicas ≤ (merged s.given s.file).providers = subst (λ (v : SettingsValues). v.replicas ≤ v.providers) s.merges s.places in
+      let enough : (merged s.given s.file).replicas ≤ (merged s.given s.file).providers = subst (λ (v : SettingsValues). v.replicas ≤ v.providers) s.merges s.replicas_fit in
       omega (arith, fewer, enough)
 
 -- ---- why there is nothing to do
 
-module _ (words : List Bytes) (known : Files) (files files' : ℕ) (status : Status) (command : Command) (given : GivenValues) (asks : asked words ≡ Some (command, given)) where
+module _ (words : List Bytes) (known : Files) (files files' : ℕ) (status : Status) (command : Command) (given : GivenValues) (asks : order_of_words words ≡ Some (command, given)) where
   abbrev StopsAs : Status → Type 0
   StopsAs s = Stopped words known files files' (code_of s)
 

@@ -11,7 +11,7 @@ use Rattle.settings.specs.declared.table.Command.TheVariants as Commands
 use Rattle.settings.specs.Values.{SettingsValues}
 use Rattle.settings.specs.Words.{Bytes}
 use Rattle.blobseer_run.specs.Status.{done, words_refused, settings_refused, read_fault, write_fault, out_of_memory, listener_fault, input_too_long, load_ended_early}
-use Rattle.blobseer_run.specs.Told.{Order, asked, AsksFor, Settled, SettingsRefused, IsFileKnown, Stopped}
+use Rattle.blobseer_run.specs.Told.{Order, order_of_words, AsksFor, Settled, SettingsRefused, IsFileKnown, Stopped}
 use Rattle.blobseer_run.specs.Hosting.{Net, Hosted, served_line}
 use Rattle.blobseer_run.specs.Writing.{WritesLine}
 use Rattle.blobseer_run.specs.Loading.{Loaded, load_lines, plan_of}
@@ -94,9 +94,9 @@ module _ (old new : Outside) (status : ℕ) where
 some_none : (o : Option Order) (order : Order) → o ≡ Some order → o ≡ None → ⊥
 some_none o order e f = none-some order (sym f ∙ e)
 
-refused_asked : (words : List Bytes) (known : Files) → SettingsRefused words known → asked words ≡ None → ⊥
-refused_asked words known (SettingsRefused.file_refused order asks x) none = some_none (asked words) order asks none
-refused_asked words known (SettingsRefused.too_many_replicas order file asks g x) none = some_none (asked words) order asks none
+refused_asked : (words : List Bytes) (known : Files) → SettingsRefused words known → order_of_words words ≡ None → ⊥
+refused_asked words known (SettingsRefused.file_refused order asks x) none = some_none (order_of_words words) order asks none
+refused_asked words known (SettingsRefused.too_many_replicas order file asks g x) none = some_none (order_of_words words) order asks none
 
 two : (status m n : ℕ) → status ≡ m → status ≡ n → m ≢ n → ⊥
 two status m n e f differ = differ (sym e ∙ f)
@@ -104,7 +104,7 @@ two status m n e f differ = differ (sym e ∙ f)
 module _ (words : List Bytes) (known : Files) (calm : Type 0) (net net' : Net) (old new : Outside) (status : ℕ) where
   stopped_words : Stopped words known old.files new.files status → RefusesWords words status
   stopped_words (Stopped.unasked e none same) memory = (λ f. none, λ f. e)
-  stopped_words (Stopped.unread e names rose) memory = (λ f. absurd (two status read_fault words_refused e f (λ d. cc)), λ f. absurd (some_none (asked words) names.0 names.2 f))
+  stopped_words (Stopped.unread e names rose) memory = (λ f. absurd (two status read_fault words_refused e f (λ d. cc)), λ f. absurd (some_none (order_of_words words) names.0 names.2 f))
   stopped_words (Stopped.unsettled e refused) memory = (λ f. absurd (two status settings_refused words_refused e f (λ d. cc)), λ f. absurd (refused_asked words known refused f))
   stopped_words (Stopped.starved e) memory = absurd (memory e)
 
@@ -112,7 +112,7 @@ module _ (words : List Bytes) (known : Files) (calm : Type 0) (net net' : Net) (
   refuses_words (Ran.stopped s quiet idle) = stopped_words s
   refuses_words (Ran.did command settings settled did) = λ memory. (
     λ f. absurd ((did_own old new status command settings calm net net' did).0 f),
-    λ f. absurd (some_none (asked words) (command, settled.given) settled.asks f),
+    λ f. absurd (some_none (order_of_words words) (command, settled.given) settled.asks f),
   )
 
   stopped_settings : Stopped words known old.files new.files status → RefusesSettings words known old.files new.files status

@@ -6,13 +6,13 @@ use Rattle.request_form.specs.Session.{Session, AllOwn}
 use Rattle.request_form.specs.Transcript.{first_session}
 use Rattle.script_text.specs.Lines.{heard}
 use Rattle.script_text.specs.Said.{said}
-use Rattle.server_core.specs.declared.step.End.{End}
-use Rattle.server_core.specs.declared.step.End.TheVariants as Ends
+use Rattle.server_core.specs.declared.flow.End.{End}
+use Rattle.server_core.specs.declared.flow.End.TheVariants as Ends
 use Rattle.server_core.specs.Progress.{Point}
 use Rattle.server_core.specs.Served.{Input, Served}
 use Rattle.server_core.proofs.Served.{Served-none}
 use Rattle.turn_lock.specs.History.{Log, Begins, LacksUngiven}
-use Rattle.turn_lock.specs.Shown.{Held}
+use Rattle.turn_lock.specs.Shown.{PassView}
 use Rattle.version_manager.specs.Log.{tagged, events}
 use Rattle.version_manager.specs.declared.journal.DeskFixed.{DeskFixed}
 use Rattle.client_session.specs.Sessions.{StoreState, SessionState, session_at, session_of, pass_of}
@@ -30,17 +30,17 @@ pub lines_none : (session : Session) (faults : ℕ) (input : Input) (written : O
 lines_none session faults input written = record { last = session; sees = refl; served = served_none (record { session = session; faults = faults; written = written }) input }
 
 -- the session couldn't be made, and its pass and its doors came back
-pub lines_back : {D : Type 0} (faults : D → ℕ) (f : DeskFixed) (pass back : Held Event DeskFixed) (doors doors' : List D) (input : Input) (written : Option (List ℕ)) → back ≡ pass → doors' ≡ doors
+pub lines_back : {D : Type 0} (faults : D → ℕ) (f : DeskFixed) (pass back : PassView Event DeskFixed) (doors doors' : List D) (input : Input) (written : Option (List ℕ)) → back ≡ pass → doors' ≡ doors
     → ServedLines (record { session = session_at f pass.caller pass.seen [] 1; faults = sum_by faults doors; written = written }) input input (events back.seen) (sum_by faults doors') written Ends.NoMemory
 lines_back {D} faults f pass back doors doors' input written same all =
     let start : Point = record { session = session_at f pass.caller pass.seen [] 1; faults = sum_by faults doors; written = written } in
-    let P : Held Event DeskFixed → Type 0 = λ p. ServedLines start input input (events p.seen) (sum_by faults doors') written Ends.NoMemory in
+    let P : PassView Event DeskFixed → Type 0 = λ p. ServedLines start input input (events p.seen) (sum_by faults doors') written Ends.NoMemory in
     let Q : List D → Type 0 = λ ds. ServedLines start input input (events pass.seen) (sum_by faults ds) written Ends.NoMemory in
     subst P (sym same) (subst Q (sym all) (lines_none (session_at f pass.caller pass.seen [] 1) (sum_by faults doors) input written))
 
 -- ---- what a session was served
 
-module _ {D : Type 0} (faults : D → ℕ) (store : StoreState) (pass back : Held Event DeskFixed) (doors doors' : List D) (start stop : SessionState D) (before after : Input) (written written' : Option (List ℕ)) (end : End) where
+module _ {D : Type 0} (faults : D → ℕ) (store : StoreState) (pass back : PassView Event DeskFixed) (doors doors' : List D) (start stop : SessionState D) (before after : Input) (written written' : Option (List ℕ)) (end : End) where
   abbrev new : SessionState D
   new = record { store = store; caller = pass.caller; log = pass.seen; held = []; next = 1; doors = doors }
 
@@ -54,7 +54,7 @@ module _ {D : Type 0} (faults : D → ℕ) (store : StoreState) (pass back : Hel
       let F : List D → Type 0 = λ ds. Served said (record { session = session_of new; faults = sum_by faults doors; written = written }) heard before after input_limit (record { session = session_of stop; faults = sum_by faults ds; written = written' }) end in
       record {
         last = session_of stop;
-        sees = ap (λ (p : Held Event DeskFixed). events p.seen) (sym gave);
+        sees = ap (λ (p : PassView Event DeskFixed). events p.seen) (sym gave);
         served = subst F (sym same) first;
       }
 

@@ -15,7 +15,7 @@ use Rattle.settings.specs.Values.{SettingsValues}
 use Rattle.settings.specs.Words.{Bytes}
 use Rattle.blobseer_run.specs.Hosting.{Net, ServedPeers}
 use Rattle.blobseer_run.specs.Loading.{plan_of, Rises, RanLoad}
-use Rattle.blobseer_run.specs.Told.{asked, AsksFor, Settled, SettingsRefused, IsFileKnown, Stopped}
+use Rattle.blobseer_run.specs.Told.{order_of_words, AsksFor, Settled, SettingsRefused, IsFileKnown, Stopped}
 use Rattle.blobseer_run.specs.Status.{done, words_refused, settings_refused, read_fault, write_fault, out_of_memory, input_too_long, load_ended_early}
 
 -- the most bytes that a run takes of its input
@@ -133,7 +133,7 @@ pub data Ran (words : List Bytes) (known : Files) (calm : Type 0) (net net' : Ne
 
 -- where memory is found, the words are refused exactly where the definition refuses them
 abbrev pub RefusesWords : List Bytes → ℕ → Type 0
-RefusesWords words status = (status ≢ out_of_memory) → (status ≡ words_refused) ↔ (asked words ≡ None)
+RefusesWords words status = (status ≢ out_of_memory) → (status ≡ words_refused) ↔ (order_of_words words ≡ None)
 
 -- Where memory is found and the file is read, the settings are refused exactly where the definition refuses them.
 abbrev pub RefusesSettings : List Bytes → Files → ℕ → ℕ → ℕ → Type 0
@@ -142,7 +142,7 @@ RefusesSettings words known files files' status =
 
 -- the words and the settings are taken
 abbrev pub IsTaken : List Bytes → Files → Type 0
-IsTaken words known = (asked words ≢ None) × (¬ SettingsRefused words known)
+IsTaken words known = (order_of_words words ≢ None) × (¬ SettingsRefused words known)
 
 -- How a run ends where the words and the settings are taken, and no count of the script, the output, the listener and the files rose; with the doors' count
 -- before and after. Only `run` finds an input too long, and only a load ends early, and then the doors' count rose.

@@ -7,7 +7,7 @@ use Rattle.script_text.specs.Lines.{heard}
 use Rattle.script_text.specs.Said.{said}
 use Rattle.server_core.specs.Progress.{Point}
 use Rattle.server_core.specs.Served.{Input, Served}
-use Rattle.server_core.specs.declared.step.End.{End}
+use Rattle.server_core.specs.declared.flow.End.{End}
 use Rattle.blobseer_run.specs.Run.{input_limit}
 
 -- The lines of a script were served from a point on, and in the end the session has seen these events.

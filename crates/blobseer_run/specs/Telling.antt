@@ -5,11 +5,11 @@ use Rattle.ports.specs.Files.{Files}
 use Rattle.settings.specs.Words.{Bytes}
 use Rattle.blobseer_run.specs.declared.status.Status.{Status}
 use Rattle.blobseer_run.specs.declared.status.Status.TheVariants as Statuses
-use Rattle.blobseer_run.specs.Told.{asked, FileRefused}
+use Rattle.blobseer_run.specs.Told.{order_of_words, FileRefused}
 
 -- the words are refused, or no memory was found
 pub data WordsStop (words : List Bytes) (status : Status) : Type 0 where
-  refused : (status ≡ Statuses.WordsRefused) → (asked words ≡ None) → WordsStop words status
+  refused : (status ≡ Statuses.WordsRefused) → (order_of_words words ≡ None) → WordsStop words status
   starved : (status ≡ Statuses.OutOfMemory) → WordsStop words status
 
 -- the file of that name couldn't be read, or is refused, or no memory was found

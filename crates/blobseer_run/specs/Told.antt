@@ -21,12 +21,12 @@ abbrev pub Order : Type 0
 Order = Command × GivenValues
 
 -- what the words ask for, or none where they are refused
-abbrev pub asked : List Bytes → Option Order
-asked words = given_by_words words
+abbrev pub order_of_words : List Bytes → Option Order
+order_of_words words = given_by_words words
 
 -- the words are taken, and ask for that command
 abbrev pub AsksFor : List Bytes → Command → Type 0
-AsksFor words command = (given : GivenValues) × (asked words ≡ Some (command, given))
+AsksFor words command = (given : GivenValues) × (order_of_words words ≡ Some (command, given))
 
 -- ---- the settings file, by what is known of files
 
@@ -47,30 +47,30 @@ pub data FileRefused (known : Files) (name : Option Bytes) : Type 0 where
 pub record Settled (words : List Bytes) (known : Files) (command : Command) (settings : SettingsValues) : Type 0 where
   pub given : GivenValues
   pub file : GivenValues
-  pub asks : asked words ≡ Some (command, given)
+  pub asks : order_of_words words ≡ Some (command, given)
   pub gives : FileGives known given.settings file
   pub merges : settings ≡ merged given file
-  pub places : settings.replicas ≤ settings.providers
+  pub replicas_fit : settings.replicas ≤ settings.providers
 
 -- The words are taken, and the settings aren't: the file is refused, or the replicas are more than the providers.
 pub data SettingsRefused (words : List Bytes) (known : Files) : Type 0 where
-  file_refused : (order : Order) → (asked words ≡ Some order) → FileRefused known order.1.settings → SettingsRefused words known
-  too_many_replicas : (order : Order) → (file : GivenValues) → (asked words ≡ Some order) → FileGives known order.1.settings file
+  file_refused : (order : Order) → (order_of_words words ≡ Some order) → FileRefused known order.1.settings → SettingsRefused words known
+  too_many_replicas : (order : Order) → (file : GivenValues) → (order_of_words words ≡ Some order) → FileGives known order.1.settings file
       → (merged order.1 file).providers < (merged order.1 file).replicas → SettingsRefused words known
 
 -- the words are taken, and name a settings file
 abbrev pub NamesFile : List Bytes → Type 0
-NamesFile words = (order : Order) × (name : Bytes) × (asked words ≡ Some order) × (order.1.settings ≡ Some name)
+NamesFile words = (order : Order) × (name : Bytes) × (order_of_words words ≡ Some order) × (order.1.settings ≡ Some name)
 
 -- it's known whether there is the file that the words name, and what it has
 abbrev pub IsFileKnown : List Bytes → Files → Type 0
-IsFileKnown words known = (order : Order) → (name : Bytes) → asked words ≡ Some order → order.1.settings ≡ Some name → known name ≢ None
+IsFileKnown words known = (order : Order) → (name : Bytes) → order_of_words words ≡ Some order → order.1.settings ≡ Some name → known name ≢ None
 
 -- Why there is nothing to do, by the first of these causes that came, the count of the files' faults before and after, and the status. Want of memory may
 -- come at any time.
 pub data Stopped (words : List Bytes) (known : Files) (files files' status : ℕ) : Type 0 where
   -- the words were refused, and no file was read
-  unasked : (status ≡ words_refused) → (asked words ≡ None) → (files' ≡ files) → Stopped words known files files' status
+  unasked : (status ≡ words_refused) → (order_of_words words ≡ None) → (files' ≡ files) → Stopped words known files files' status
   -- the settings file couldn't be read
   unread : (status ≡ read_fault) → NamesFile words → RoseBy 1 files files' → Stopped words known files files' status
   -- its text, or what it and the words come to, was refused

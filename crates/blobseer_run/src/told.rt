@@ -1,7 +1,7 @@
 // What the program is told to do, by its words, the settings file and the defaults.
 ghost use Rattle.std.specs.Prelude.{◌≡◌, ℕ, List, Some, map, IfOk, IfErr, string_bytes};
 ghost use Rattle.ports.specs.Counts.{RoseBy};
-ghost use Rattle.blobseer_run.specs.Told.{asked, FileGives, Settled, Stopped};
+ghost use Rattle.blobseer_run.specs.Told.{order_of_words, FileGives, Settled, Stopped};
 ghost use Rattle.blobseer_run.specs.Telling.{FileStops, WordsStop};
 ghost use Rattle.blobseer_run.specs.Status.{code_of};
 
@@ -12,7 +12,7 @@ use std::alloc::Global;
 
 // What the words ask for.
 fn order_of(alloc: Global, words: &[String]) -> Result<(Command, Given), Status>
-    ensures asks { IfOk result (λ order. asked (map string_bytes words.now) ≡ Some (order.0, order.1)) }
+    ensures asks { IfOk result (λ order. order_of_words (map string_bytes words.now) ≡ Some (order.0, order.1)) }
     ensures stopped { IfErr result (λ status. WordsStop (map string_bytes words.now) status) }
 {
     match settings::read_words(alloc, words) {

@@ -127,7 +127,7 @@ half_at heights no_span span p h q c touch range pos ordered half is row apart =
     ] in
     let P : Range → Type 0 = λ r. ¬ Meets p touch r in
     let untouched : ¬ Meets p touch (tree_range p h c) = subst P is apart in
-    let place : ((c * w < touch.first) × (c ≡ beside (touch.first / w))) ⊎ ((touch.first ≤ c * w) × (c ≡ beside (touch.last / w))) =
+    let side : ((c * w < touch.first) × (c ≡ beside (touch.first / w))) ⊎ ((touch.first ≤ c * w) × (c ≡ beside (touch.last / w))) =
     half_core p h q c touch.first touch.last pos ordered half row.met.0 row.met.1 untouched in
     let offset : range.offset ≡ c * s = ap (λ (r : Range). r.offset) is in
     let size : range.size ≡ s = ap (λ (r : Range). r.size) is in
@@ -138,11 +138,11 @@ half_at heights no_span span p h q c touch range pos ordered half is row apart =
       size = size;
       some = omega arith;
       fits = omega arith;
-      of_first = λ lt. elim place [
+      of_first = λ lt. elim side [
         | inl first ↦ is ∙ ap (tree_range p h) first.1
         | inr last ↦ absurd (let from : touch.first ≤ c * w = last.0 in omega arith)
       ];
-      of_last = λ le. elim place [
+      of_last = λ le. elim side [
         | inl first ↦ absurd (let before : c * w < touch.first = first.0 in omega arith)
         | inr last ↦ is ∙ ap (tree_range p h) last.1
       ];

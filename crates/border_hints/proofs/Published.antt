@@ -11,7 +11,7 @@ use Rattle.tree_geom.specs.Laws.{HeightsHold, SpanOfSome, PagesAlign, RangesNest
 use Rattle.range_log.specs.Log.{newest_of, touch_at, size_at, HasNode}
 use Rattle.range_log.specs.Laws.{Grown, LinksAgree, NewestOfNone, NewestHits, NewestHasNode, NewestIsNone, SizesAre, LogsAreGrown, ExtentsStand}
 use Rattle.range_log.specs.Updates.{extents}
-use Rattle.snapshot.specs.Versions.{Version, written, updates_of, size_now, IsVersion}
+use Rattle.snapshot.specs.Versions.{Version, update_of_row, updates_of, size_now, IsVersion}
 use Rattle.range_log.proofs.Bytes.{length-extents}
 use Rattle.border_hints.specs.Numbered.{log_of}
 use Rattle.tree_geom.proofs.Spans.{size_pos}
@@ -22,7 +22,7 @@ log_grown grown stand s is pos = grown s.page_size (extents (updates_of s)) pos 
 
 pub log_size : SizesAre → ExtentsStand → (s : Version) → IsVersion s → size_at (log_of s) (length s.rows) ≡ size_now s
 log_size sizes stand s is =
-    let count : length (updates_of s) ≡ length s.rows = length-map s.rows written in
+    let count : length (updates_of s) ≡ length s.rows = length-map s.rows update_of_row in
     sizes s.page_size (extents (updates_of s)) (length s.rows) (omega (arith, length-extents (updates_of s), count))
     ∙ (stand (updates_of s) is.replayable).2 (length s.rows) (omega (arith, count))
 

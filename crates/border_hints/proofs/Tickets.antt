@@ -11,13 +11,13 @@ use Rattle.range_log.specs.Extents.{Extent, no_extent, InBounds, IsLog, extent_a
 use Rattle.range_log.specs.Updates.{extents}
 use Rattle.range_log.specs.Open.{open_at, Rises}
 use Rattle.range_log.specs.Laws.{TouchesAre, EachTouchIs, SizesAre, RowsStay}
-use Rattle.page_store.specs.Stored.{joined}
-use Rattle.snapshot.specs.Versions.{Version, written, updates_of, IsVersion}
+use Rattle.page_store.specs.Stored.{bytes_of_pages}
+use Rattle.snapshot.specs.Versions.{Version, update_of_row, updates_of, IsVersion}
 use Rattle.border_hints.specs.Numbered.{NumberedUpdate, log_of, log_with, own_touch, log_upto, IsNumbered}
 use Rattle.range_log.proofs.Bytes.{length-extents}
 
 pub length-log_of : TouchesAre → (s : Version) → length (log_of s) ≡ length s.rows
-length-log_of are s = are s.page_size (extents (updates_of s)) ∙ length-extents (updates_of s) ∙ length-map s.rows written
+length-log_of are s = are s.page_size (extents (updates_of s)) ∙ length-extents (updates_of s) ∙ length-map s.rows update_of_row
 
 pub length-log_with : TouchesAre → (s : Version) (waiting : List OpenTouch) → length (log_with s waiting) ≡ length s.rows + length waiting
 length-log_with are s waiting =
@@ -97,7 +97,7 @@ module _ (are : TouchesAre) (each : EachTouchIs) (sizes : SizesAre) (stay : Rows
       → (0 < length t.waiting → (open_at t.waiting 0).version ≡ length t.snapshot.rows + 1)
       → t.version ≡ length t.snapshot.rows + length t.waiting + 1
       → IsLog t.snapshot.page_size (log_with t.snapshot t.waiting)
-      → t.len ≡ length (joined t.pages.pages) → 1 ≤ t.len → t.pages.page_size ≡ t.snapshot.page_size
+      → t.len ≡ length (bytes_of_pages t.pages.pages) → 1 ≤ t.len → t.pages.page_size ≡ t.snapshot.page_size
       → t.at ≤ size_at (log_with t.snapshot t.waiting) (t.version - 1)
       → t.size ≡ max (size_at (log_with t.snapshot t.waiting) (t.version - 1)) (t.at + t.len)
       → t.size ≤ 2 ^ 40 → IsNumbered t

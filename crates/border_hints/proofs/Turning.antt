@@ -114,7 +114,7 @@ half_ends nest heights p page n h c pos inside low le =
 -- from the root down to a height: the snapshot's newest version for the range over the page, and the newest lower versions
 -- beside the path
 pub record Down (p : ℕ) (log below : List Touch) (v k top page h at : ℕ) (besides : List ℕ) : Type 0 where
-  pub place : h ≤ top
+  pub below_root : h ≤ top
   pub room : length besides ≡ 39
   pub newest : at ≡ newest_of p below v (tree_range p h (page / 2 ^ h))
   pub sides : (j : ℕ) → h ≤ j → j < top → get_or besides j 0 ≡ newest_of p log k (tree_range p j (beside (page / 2 ^ j)))
@@ -175,7 +175,7 @@ down_start hits none heights are grown log t k page besides room is pos g inside
     let under : page / 2 ^ top < 1 = div_below page (2 ^ top) 1 (pow_pos top) small in
     let zero_q : page / 2 ^ top ≡ 0 = omega arith in
     record {
-      place = omega arith;
+      below_root = omega arith;
       room = room;
       newest = sym (ap (λ q. newest_of p s v (tree_range p top q)) zero_q ∙ holds_root hits none p s v top g pos (omega arith) (omega (arith, size_before are grown t is pos)));
       sides = λ j from to. absurd (omega arith);
@@ -194,7 +194,7 @@ pub down_turn : (p : ℕ) (log below : List Touch) (v k top page h at on off : �
     → on ≡ newest_of p below v (tree_range p (h - 1) (page / 2 ^ (h - 1))) → off ≡ newest_of p log k (tree_range p (h - 1) (beside (page / 2 ^ (h - 1))))
     → Down p log below v k top page (h - 1) on (set besides (h - 1) off)
 down_turn p log below v k top page h at on off besides some few d newest side = let room : h - 1 < length besides = omega (arith, d.room) in record {
-  place = omega (arith, d.place);
+  below_root = omega (arith, d.below_root);
   room = length-set besides (h - 1) off ∙ d.room;
   newest = newest;
   sides = λ j from to. elim (cases_lt (h - 1) j) [

@@ -7,7 +7,7 @@ use Rattle.range_log.specs.Log.{size_at}
 use Rattle.range_log.specs.Extents.{Extent, InBounds, extent_at, touches}
 use Rattle.range_log.specs.Updates.{extents}
 use Rattle.range_log.specs.Open.{open_at}
-use Rattle.page_store.specs.Stored.{Cut, joined}
+use Rattle.page_store.specs.Stored.{Cut, bytes_of_pages}
 use Rattle.snapshot.specs.Versions.{Version, updates_of, IsVersion}
 
 -- a numbered update: who made it, its blob, its version, where it falls, its bytes and the size after it in bytes, the
@@ -23,8 +23,8 @@ pub record NumberedUpdate : Type 0 where
   pub waiting : List OpenTouch
   pub pages : Cut
 
-abbrev pub numbered : ℕ → ℕ → ℕ → ℕ → ℕ → ℕ → Version → List OpenTouch → Cut → NumberedUpdate
-numbered caller blob version at len size snapshot waiting pages = record {
+abbrev pub numbered_update : ℕ → ℕ → ℕ → ℕ → ℕ → ℕ → Version → List OpenTouch → Cut → NumberedUpdate
+numbered_update caller blob version at len size snapshot waiting pages = record {
   caller = caller;
   blob = blob;
   version = version;
@@ -66,7 +66,7 @@ pub record IsNumbered (t : NumberedUpdate) : Type 0 where
   pub waiting : (i : ℕ) → i < length t.waiting → (open_at t.waiting i).version ≡ length t.snapshot.rows + i + 1
   pub version : t.version ≡ length t.snapshot.rows + length t.waiting + 1
   pub stands : (us : List Extent) × StandsFor t us
-  pub len : t.len ≡ length (joined t.pages.pages)
+  pub len : t.len ≡ length (bytes_of_pages t.pages.pages)
   pub some : 1 ≤ t.len
   pub page_size : t.pages.page_size ≡ t.snapshot.page_size
   pub size : t.size ≡ max (size_at (log_upto t) (t.version - 1)) (t.at + t.len)

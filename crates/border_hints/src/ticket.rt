@@ -1,11 +1,11 @@
 // A numbered update, and what was known of the lower ones at its numbering.
 ghost use Rattle.std.specs.Prelude.{◌≡◌, ◌+◌, ◌-◌, ◌*◌, ◌^◌, ◌<◌, ◌≤◌, length, max};
 ghost use Rattle.std.specs.Arc.{arc_value};
-ghost use Rattle.page_store.specs.Stored.{joined};
+ghost use Rattle.page_store.specs.Stored.{bytes_of_pages};
 ghost use Rattle.range_log.specs.Log.{size_at};
 ghost use Rattle.range_log.specs.Extents.{IsLog};
 ghost use Rattle.range_log.specs.Open.{open_at};
-ghost use Rattle.border_hints.specs.Numbered.{log_with, numbered, own_touch, IsNumbered};
+ghost use Rattle.border_hints.specs.Numbered.{log_with, numbered_update, own_touch, IsNumbered};
 
 use page_store::Pages;
 use range_log::{OpenCopy, laws};
@@ -39,13 +39,13 @@ pub struct Ticket {
 
 impl Model for Ticket {
     ghost use Rattle.std.specs.Arc.{arc_value};
-    ghost use Rattle.border_hints.specs.Numbered.{NumberedUpdate, numbered, IsNumbered};
+    ghost use Rattle.border_hints.specs.Numbered.{NumberedUpdate, numbered_update, IsNumbered};
 
     ghost Value = { NumberedUpdate };
 
-    ghost view = { λ t. numbered t.caller t.blob t.version t.at t.len t.size t.hints.snapshot t.hints.waiting (arc_value t.pages) };
+    ghost view = { λ t. numbered_update t.caller t.blob t.version t.at t.len t.size t.hints.snapshot t.hints.waiting (arc_value t.pages) };
 
-    ghost invariant = { λ t. IsNumbered (numbered t.caller t.blob t.version t.at t.len t.size t.hints.snapshot t.hints.waiting (arc_value t.pages)) };
+    ghost invariant = { λ t. IsNumbered (numbered_update t.caller t.blob t.version t.at t.len t.size t.hints.snapshot t.hints.waiting (arc_value t.pages)) };
 }
 
 impl Ticket {
@@ -67,13 +67,13 @@ impl Ticket {
         requires waiting { 0 < length hints.waiting → (open_at hints.waiting 0).version ≡ length hints.snapshot.rows + 1 }
         requires version { version ≡ length hints.snapshot.rows + length hints.waiting + 1 }
         requires of_updates { IsLog hints.snapshot.page_size (log_with hints.snapshot hints.waiting) }
-        requires len { len ≡ length (joined (arc_value pages).pages) }
+        requires len { len ≡ length (bytes_of_pages (arc_value pages).pages) }
         requires some { 1 ≤ len }
         requires page_size { (arc_value pages).page_size ≡ hints.snapshot.page_size }
         requires at { at ≤ size_at (log_with hints.snapshot hints.waiting) (version - 1) }
         requires size { size ≡ max (size_at (log_with hints.snapshot hints.waiting) (version - 1)) (at + len) }
         requires fits { size ≤ 2 ^ 40 }
-        ensures { result ≡ numbered caller blob version at len size hints.snapshot hints.waiting (arc_value pages) }
+        ensures { result ≡ numbered_update caller blob version at len size hints.snapshot hints.waiting (arc_value pages) }
     {
         laws::logs_are_grown();
         laws::older_versions_stay();

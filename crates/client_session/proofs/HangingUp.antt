@@ -3,7 +3,7 @@ use Rattle.std.proofs.Common.{◌≡◌, refl, sym, ◌∙◌, ap, subst, ℕ, �
 use Rattle.std.specs.Prelude.{cond, slice_get}
 use Rattle.std.proofs.lemmas.List.{length-map}
 use Rattle.blob_model.specs.History.{AllOther}
-use Rattle.request_form.specs.Session.{Session, Held, drops, held_at, without_ticket}
+use Rattle.request_form.specs.Session.{Session, HeldTicket, drops, ticket_at, without_ticket}
 use Rattle.request_form.specs.Answers.{FinishAnswer, ReportAnswer}
 use Rattle.request_form.specs.HangUp.{GivenUp, GivesUp, HungUp, tells_finished, tells_no_memory, finished_count, dropped_count, numbers_anew}
 use Rattle.request_form.specs.Laws.{GivingUpGoesOn}
@@ -14,45 +14,45 @@ use Rattle.request_form.specs.declared.form.Fault.{Fault}
 use Rattle.request_form.specs.declared.form.Fault.TheVariants as Faults
 use Rattle.client_session.specs.Results.{finish_reply}
 use Rattle.client_session.specs.Sessions.{SessionState, Continues, session_of}
-use Rattle.client_session.specs.Tickets.{OpenUpdate, held_of, all_held}
+use Rattle.client_session.specs.Tickets.{OpenUpdate, ticket_of, tickets_of}
 use Rattle.client_session.specs.HangUp.{GivesUpOne, GivingUp}
 use Rattle.client_session.proofs.Waiting.{goes_both}
 
 -- the first ticket is found under its number, and left out by it
-first_found : (t : Held) (ts : List Held) → held_at (t ∷ ts) t.number ≡ Some t
+first_found : (t : HeldTicket) (ts : List HeldTicket) → ticket_at (t ∷ ts) t.number ≡ Some t
 first_found t ts = rw (eq-eqb t.number t.number refl) refl
 
-first_left : (t : Held) (ts : List Held) → without_ticket (t ∷ ts) t.number ≡ ts
+first_left : (t : HeldTicket) (ts : List HeldTicket) → without_ticket (t ∷ ts) t.number ≡ ts
 first_left t ts = rw (eq-eqb t.number t.number refl) refl
 
-report_of : (s : Session) (t : Held) (ts : List Held) (reply : Reply) (s' : Session) → s.tickets ≡ t ∷ ts → FinishAnswer AllOther s t.number (held_at s.tickets t.number) reply s' → ReportAnswer AllOther s t reply s'
+report_of : (s : Session) (t : HeldTicket) (ts : List HeldTicket) (reply : Reply) (s' : Session) → s.tickets ≡ t ∷ ts → FinishAnswer AllOther s t.number (ticket_at s.tickets t.number) reply s' → ReportAnswer AllOther s t reply s'
 report_of s t ts reply s' is a =
-    subst (λ (o : Option Held). FinishAnswer AllOther s t.number o reply s') (ap (λ (hs : List Held). held_at hs t.number) is ∙ first_found t ts) a
+    subst (λ (o : Option HeldTicket). FinishAnswer AllOther s t.number o reply s') (ap (λ (hs : List HeldTicket). ticket_at hs t.number) is ∙ first_found t ts) a
 
-pub dropped_left : (s : Session) (t : Held) (ts : List Held) → s.tickets ≡ t ∷ ts → without_ticket s.tickets t.number ≡ ts
-dropped_left s t ts is = ap (λ (hs : List Held). without_ticket hs t.number) is ∙ first_left t ts
+pub dropped_left : (s : Session) (t : HeldTicket) (ts : List HeldTicket) → s.tickets ≡ t ∷ ts → without_ticket s.tickets t.number ≡ ts
+dropped_left s t ts is = ap (λ (hs : List HeldTicket). without_ticket hs t.number) is ∙ first_left t ts
 
 -- where something is held, there is a first ticket
-pub some_held : (os : List OpenUpdate) → 0 < length os → (t : Held) × ((ts : List Held) × (all_held os ≡ t ∷ ts))
+pub some_held : (os : List OpenUpdate) → 0 < length os → (t : HeldTicket) × ((ts : List HeldTicket) × (tickets_of os ≡ t ∷ ts))
 some_held [] some = absurd (omega arith)
-some_held (o ∷ os) some = (held_of o, (all_held os, refl))
+some_held (o ∷ os) some = (ticket_of o, (tickets_of os, refl))
 
-pub first_number : (os : List OpenUpdate) (o : OpenUpdate) (t : Held) (ts : List Held) → slice_get os 0 ≡ Some o → all_held os ≡ t ∷ ts → o.number ≡ t.number
+pub first_number : (os : List OpenUpdate) (o : OpenUpdate) (t : HeldTicket) (ts : List HeldTicket) → slice_get os 0 ≡ Some o → tickets_of os ≡ t ∷ ts → o.number ≡ t.number
 first_number [] o t ts at is = cc
 first_number (x ∷ os) o t ts at is =
     let same : x ≡ o = cc in
-    let first : held_of x ≡ t = cc in
-    ap (λ (y : OpenUpdate). y.number) (sym same) ∙ ap (λ (h : Held). h.number) first
+    let first : ticket_of x ≡ t = cc in
+    ap (λ (y : OpenUpdate). y.number) (sym same) ∙ ap (λ (h : HeldTicket). h.number) first
 
-pub fewer_held : (old new : List OpenUpdate) (t : Held) (ts : List Held) → all_held old ≡ t ∷ ts → all_held new ≡ ts → length old ≡ length new + 1
-fewer_held old new t ts is left = omega (arith, ap length is, ap length left, length-map old held_of, length-map new held_of)
+pub fewer_held : (old new : List OpenUpdate) (t : HeldTicket) (ts : List HeldTicket) → tickets_of old ≡ t ∷ ts → tickets_of new ≡ ts → length old ≡ length new + 1
+fewer_held old new t ts is left = omega (arith, ap length is, ap length left, length-map old ticket_of, length-map new ticket_of)
 
-pub some_left : (os : List OpenUpdate) (t : Held) (ts : List Held) → all_held os ≡ t ∷ ts → 0 < length os
-some_left os t ts is = omega (arith, ap length is, length-map os held_of)
+pub some_left : (os : List OpenUpdate) (t : HeldTicket) (ts : List HeldTicket) → tickets_of os ≡ t ∷ ts → 0 < length os
+some_left os t ts is = omega (arith, ap length is, length-map os ticket_of)
 
 -- the finish of the first ticket was done, or found done
-pub one_finished : (s : Session) (t : Held) (ts : List Held) (r : Result ℕ Fault) (s' : Session) → s.tickets ≡ t ∷ ts → (r ≡ Err Faults.NoMemory → ⊥)
-    → FinishAnswer AllOther s t.number (held_at s.tickets t.number) (finish_reply r) s' → GivesUpOne s t ts true s'
+pub one_finished : (s : Session) (t : HeldTicket) (ts : List HeldTicket) (r : Result ℕ Fault) (s' : Session) → s.tickets ≡ t ∷ ts → (r ≡ Err Faults.NoMemory → ⊥)
+    → FinishAnswer AllOther s t.number (ticket_at s.tickets t.number) (finish_reply r) s' → GivesUpOne s t ts true s'
 one_finished s t ts r s' is other a =
     elim (report_of s t ts (finish_reply r) s' is a) [
       | ReportAnswer.reported x ↦ record {
@@ -77,7 +77,7 @@ one_finished s t ts r s' is other a =
     no_memory_of (Err fault) e = let same : fault ≡ Faults.NoMemory = cc in ap Err same
 
 -- no memory was found for it, and it is dropped
-pub one_dropped : (s : Session) (t : Held) (ts : List Held) (mid s' : Session) → s.tickets ≡ t ∷ ts → FinishAnswer AllOther s t.number (held_at s.tickets t.number) (Replies.Refused Faults.NoMemory) mid
+pub one_dropped : (s : Session) (t : HeldTicket) (ts : List HeldTicket) (mid s' : Session) → s.tickets ≡ t ∷ ts → FinishAnswer AllOther s t.number (ticket_at s.tickets t.number) (Replies.Refused Faults.NoMemory) mid
     → s' ≡ drops mid t.number → mid.tickets ≡ t ∷ ts → GivesUpOne s t ts false s'
 one_dropped s t ts mid s' is a dropped held =
     elim (report_of s t ts (Replies.Refused Faults.NoMemory) mid is a) [
@@ -99,7 +99,7 @@ one_dropped s t ts mid s' is a dropped held =
     not_already n e = cc
 
 -- after want of memory the same tickets are held
-pub same_tickets : (s : Session) (t : Held) (ts : List Held) (mid : Session) → s.tickets ≡ t ∷ ts → FinishAnswer AllOther s t.number (held_at s.tickets t.number) (Replies.Refused Faults.NoMemory) mid → mid.tickets ≡ t ∷ ts
+pub same_tickets : (s : Session) (t : HeldTicket) (ts : List HeldTicket) (mid : Session) → s.tickets ≡ t ∷ ts → FinishAnswer AllOther s t.number (ticket_at s.tickets t.number) (Replies.Refused Faults.NoMemory) mid → mid.tickets ≡ t ∷ ts
 same_tickets s t ts mid is a =
     elim (report_of s t ts (Replies.Refused Faults.NoMemory) mid is a) [
       | ReportAnswer.reported x ↦ absurd (not_finished x.published x.said)
@@ -131,13 +131,13 @@ module _ {D : Type 0} (faults : D → ℕ) where
   counted_by : (b : Bool) (n m : ℕ) (x : Bool) → x ≡ b → n ≡ m → n + cond b 1 0 ≡ m + cond x 1 0
   counted_by b n m x e is = cc
 
-  pub giving_more : GivingUpGoesOn → (a b d : SessionState D) (finished no_memory : ℕ) (done : Bool) (t : Held) (ts : List Held) → GivingUp a b finished no_memory → (session_of b).tickets ≡ t ∷ ts
+  pub giving_more : GivingUpGoesOn → (a b d : SessionState D) (finished no_memory : ℕ) (done : Bool) (t : HeldTicket) (ts : List HeldTicket) → GivingUp a b finished no_memory → (session_of b).tickets ≡ t ∷ ts
       → GivesUpOne (session_of b) t ts done (session_of d) → length b.held ≡ length d.held + 1 → d.doors ≡ b.doors → Continues b d
       → GivingUp a d (finished + cond done 1 0) (no_memory + cond (not done) 1 0)
   giving_more law a b d finished no_memory done t ts g is one fewer doors goes = record {
     gone = g.gone ++ t ∷ [];
     replies = g.replies ++ one.reply ∷ [];
-    split = g.split ∙ (ap (λ (hs : List Held). g.gone ++ hs) (is ∙ ap (λ (hs : List Held). t ∷ hs) (sym one.left)) ∙ sym (append_assoc g.gone (t ∷ []) (session_of d).tickets));
+    split = g.split ∙ (ap (λ (hs : List HeldTicket). g.gone ++ hs) (is ∙ ap (λ (hs : List HeldTicket). t ∷ hs) (sym one.left)) ∙ sym (append_assoc g.gone (t ∷ []) (session_of d).tickets));
     gives_up = law (session_of a) g.gone g.replies (session_of b) t one.reply (session_of d) g.gives_up one.given_up;
     finished_is = counted_by done finished (finished_count g.replies) (tells_finished one.reply) one.tells g.finished_is ∙ sym (finished_more g.replies one.reply);
     no_memory_is = counted_by (not done) no_memory (dropped_count g.replies) (tells_no_memory one.reply) one.memory g.no_memory_is ∙ sym (dropped_more g.replies one.reply);
@@ -150,19 +150,19 @@ module _ {D : Type 0} (faults : D → ℕ) where
       by_done true p q = omega (arith, p)
       by_done false p q = omega (arith, q)
 
-  none_left : (xs : List Held) → length xs ≤ 0 → xs ≡ []
+  none_left : (xs : List HeldTicket) → length xs ≤ 0 → xs ≡ []
   none_left [] le = refl
   none_left (x ∷ xs) le = absurd (omega arith)
 
   -- all are given up
   pub hung_up : (a b : SessionState D) (finished no_memory : ℕ) (s' : Session) → GivingUp a b finished no_memory → length b.held ≤ 0 → s' ≡ numbers_anew (session_of b) → HungUp AllOther (session_of a) finished no_memory s'
   hung_up a b finished no_memory s' g none anew =
-      let left : (session_of b).tickets ≡ [] = none_left (session_of b).tickets (omega (arith, none, length-map b.held held_of)) in
-      let all : g.gone ≡ (session_of a).tickets = sym (g.split ∙ (ap (λ (hs : List Held). g.gone ++ hs) left ∙ append-nil g.gone)) in
+      let left : (session_of b).tickets ≡ [] = none_left (session_of b).tickets (omega (arith, none, length-map b.held ticket_of)) in
+      let all : g.gone ≡ (session_of a).tickets = sym (g.split ∙ (ap (λ (hs : List HeldTicket). g.gone ++ hs) left ∙ append-nil g.gone)) in
       record {
         replies = g.replies;
         mid = session_of b;
-        gives_up = subst (λ (hs : List Held). GivesUp AllOther (session_of a) hs g.replies (session_of b)) all g.gives_up;
+        gives_up = subst (λ (hs : List HeldTicket). GivesUp AllOther (session_of a) hs g.replies (session_of b)) all g.gives_up;
         finished_is = g.finished_is;
         no_memory_is = g.no_memory_is;
         anew = anew;

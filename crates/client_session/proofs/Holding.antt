@@ -7,12 +7,12 @@ use Rattle.std.proofs.lemmas.List.Edits.{length-remove, get_or-remove_below, get
 use Rattle.std.proofs.lemmas.List.Elements.{All-push, All-set}
 use Rattle.std.proofs.lemmas.List.Quantifiers.{all_pairs_push, all_pairs_remove}
 use Rattle.blob_model.specs.declared.call.Event.{Event}
-use Rattle.node_store.specs.Rows.{UpdateRow}
+use Rattle.node_store.specs.UpdateRows.{UpdateRow}
 use Rattle.version_manager.specs.declared.journal.DeskFixed.{DeskFixed}
-use Rattle.request_form.specs.Session.{Held}
-use Rattle.client_session.specs.Tickets.{OpenUpdate, Rise, held_of, all_held, with_row}
-use Rattle.client_session.specs.Kept.{IsOpen, IsWoven, IsHolding}
-use Rattle.client_session.proofs.Rows.{at_place, all_held-remove, all_held-with_row}
+use Rattle.request_form.specs.Session.{HeldTicket}
+use Rattle.client_session.specs.Tickets.{OpenUpdate, Rise, ticket_of, tickets_of, with_row}
+use Rattle.client_session.specs.SessionInvariant.{IsOpen, IsWoven, IsHolding}
+use Rattle.client_session.proofs.HeldRows.{at_index, tickets_of-remove, tickets_of-with_row}
 
 -- ---- the numbers
 all_remove : {X : Type 0} (P : X → Type 0) (xs : List X) (i : ℕ) → i < length xs → All P xs → All P (remove xs i)
@@ -23,16 +23,16 @@ all_remove P xs i within all k x lt =
       | inr above ↦ subst P (sym (get_or-remove_above xs i x k above within)) (all (k + 1) x (omega arith))
     ]
 
-rise_push : (ts : List Held) (t : Held) (next : ℕ) → t.number ≡ next → Rise ts next → Rise (ts ++ t ∷ []) (next + 1)
+rise_push : (ts : List HeldTicket) (t : HeldTicket) (next : ℕ) → t.number ≡ next → Rise ts next → Rise (ts ++ t ∷ []) (next + 1)
 rise_push ts t next number rise = record {
-  below = All-push (λ (x : Held). x.number < next + 1) ts t (λ k x lt. omega (arith, rise.below k x lt)) (omega (arith, number));
-  pairs = all_pairs_push (λ (a b : Held). a.number < b.number) ts t rise.pairs (λ k x lt. omega (arith, rise.below k x lt, number));
+  below = All-push (λ (x : HeldTicket). x.number < next + 1) ts t (λ k x lt. omega (arith, rise.below k x lt)) (omega (arith, number));
+  pairs = all_pairs_push (λ (a b : HeldTicket). a.number < b.number) ts t rise.pairs (λ k x lt. omega (arith, rise.below k x lt, number));
 }
 
-rise_remove : (ts : List Held) (i next : ℕ) → i < length ts → Rise ts next → Rise (remove ts i) next
+rise_remove : (ts : List HeldTicket) (i next : ℕ) → i < length ts → Rise ts next → Rise (remove ts i) next
 rise_remove ts i next within rise = record {
-  below = all_remove (λ (x : Held). x.number < next) ts i within rise.below;
-  pairs = all_pairs_remove (λ (a b : Held). a.number < b.number) ts i within rise.pairs;
+  below = all_remove (λ (x : HeldTicket). x.number < next) ts i within rise.below;
+  pairs = all_pairs_remove (λ (a b : HeldTicket). a.number < b.number) ts i within rise.pairs;
 }
 
 module _ (f : DeskFixed) (log : List (ℕ × Event)) (held : List OpenUpdate) (next : ℕ) where
@@ -40,7 +40,7 @@ module _ (f : DeskFixed) (log : List (ℕ × Event)) (held : List OpenUpdate) (n
   pub holding_push : (o : OpenUpdate) → o.number ≡ next → IsOpen f log o → next ≤ length log → IsHolding f log held next → IsHolding f log (held ++ o ∷ []) (next + 1)
   holding_push o number open_ drawn h = record {
     open_ = All-push (IsOpen f log) held o h.open_ open_;
-    rise = subst (λ (ts : List Held). Rise ts (next + 1)) (sym (map_push held_of held o)) (rise_push (all_held held) (held_of o) next number h.rise);
+    rise = subst (λ (ts : List HeldTicket). Rise ts (next + 1)) (sym (map_push ticket_of held o)) (rise_push (tickets_of held) (ticket_of o) next number h.rise);
     drawn = omega (arith, drawn);
   }
 
@@ -48,17 +48,17 @@ module _ (f : DeskFixed) (log : List (ℕ × Event)) (held : List OpenUpdate) (n
   pub holding_remove : (i : ℕ) → i < length held → IsHolding f log held next → IsHolding f log (remove held i) next
   holding_remove i within h = record {
     open_ = all_remove (IsOpen f log) held i within h.open_;
-    rise = subst (λ (ts : List Held). Rise ts next) (sym (all_held-remove held i)) (rise_remove (all_held held) i next (omega (arith, within, length-map held held_of)) h.rise);
+    rise = subst (λ (ts : List HeldTicket). Rise ts next) (sym (tickets_of-remove held i)) (rise_remove (tickets_of held) i next (omega (arith, within, length-map held ticket_of)) h.rise);
     drawn = h.drawn;
   }
 
   -- the row of one is kept
   pub holding_row : (i : ℕ) (o : OpenUpdate) (row : UpdateRow) → slice_get held i ≡ Some o → IsWoven f.houses o.ticket row → IsHolding f log held next → IsHolding f log (slice_set held i (with_row o row)) next
   holding_row i o row at woven h =
-      let old : IsOpen f log o = at_place (IsOpen f log) held i o at h.open_ in
+      let old : IsOpen f log o = at_index (IsOpen f log) held i o at h.open_ in
       let new : IsOpen f log (with_row o row) = record { ticket = old.ticket; here = old.here; row = woven } in
       record {
         open_ = All-set (IsOpen f log) held i (with_row o row) new h.open_;
-        rise = subst (λ (ts : List Held). Rise ts next) (sym (all_held-with_row held i o row at)) h.rise;
+        rise = subst (λ (ts : List HeldTicket). Rise ts next) (sym (tickets_of-with_row held i o row at)) h.rise;
         drawn = h.drawn;
       }

@@ -6,7 +6,7 @@ pub mod Reports
 pub mod Finishing
 pub mod Holding
 pub mod Standing
-pub mod Rows
+pub mod HeldRows
 pub mod Finding
 pub mod PartsReading
 pub mod PartsStoring

@@ -2,13 +2,13 @@
 use Rattle.std.proofs.Common.{◌≡◌, sym, ◌∙◌, ap, subst, ℕ, List, Option, Some}
 use Rattle.std.specs.Prelude.{IfSome, slice_set, remove}
 use Rattle.blob_model.specs.declared.call.Event.{Event}
-use Rattle.node_store.specs.Rows.{UpdateRow}
+use Rattle.node_store.specs.UpdateRows.{UpdateRow}
 use Rattle.version_manager.specs.Log.{MayFinish, desk_at}
 use Rattle.version_manager.specs.declared.journal.DeskFixed.{DeskFixed}
-use Rattle.request_form.specs.Session.{Held}
-use Rattle.client_session.specs.Tickets.{OpenUpdate, all_held, with_row, IsHeldAt}
-use Rattle.client_session.specs.Kept.{IsOpen, IsWoven}
-use Rattle.client_session.proofs.Rows.{all_held-with_row, all_held-remove}
+use Rattle.request_form.specs.Session.{HeldTicket}
+use Rattle.client_session.specs.Tickets.{OpenUpdate, tickets_of, with_row, IsHeldAt}
+use Rattle.client_session.specs.SessionInvariant.{IsOpen, IsWoven}
+use Rattle.client_session.proofs.HeldRows.{tickets_of-with_row, tickets_of-remove}
 use Rattle.client_session.proofs.Reports.{IsTaken}
 
 -- an open update with its row may be finished
@@ -18,12 +18,12 @@ may_finish f log o row open_ is =
     record { ticket = open_.ticket; row_for = woven.for (desk_at f log) open_.ticket; under = woven.under; here = woven.here }
 
 -- the update of that number, once its row is kept
-pub taken_of : (held os : List OpenUpdate) (place number : ℕ) (row : UpdateRow) → (h : IsHeldAt held number place) → os ≡ slice_set held place (with_row h.update row) → IsTaken held os place number h.update
-taken_of held os place number row h is =
-    let same : all_held os ≡ all_held held = ap all_held is ∙ all_held-with_row held place h.update row h.is in
+pub taken_of : (held os : List OpenUpdate) (index number : ℕ) (row : UpdateRow) → (h : IsHeldAt held number index) → os ≡ slice_set held index (with_row h.update row) → IsTaken held os index number h.update
+taken_of held os index number row h is =
+    let same : tickets_of os ≡ tickets_of held = ap tickets_of is ∙ tickets_of-with_row held index h.update row h.is in
     record {
       found = h.held;
       number_is = h.number_is;
       same = same;
-      left = all_held-remove os place ∙ (ap (λ (hs : List Held). remove hs place) same ∙ (sym (all_held-remove held place) ∙ sym h.left));
+      left = tickets_of-remove os index ∙ (ap (λ (hs : List HeldTicket). remove hs index) same ∙ (sym (tickets_of-remove held index) ∙ sym h.left));
     }

@@ -7,7 +7,7 @@ use Rattle.range_log.specs.Extents.{Extent}
 use Rattle.range_log.specs.Updates.{extents}
 use Rattle.range_log.specs.Visits.{visits}
 use Rattle.range_log.specs.Laws.{RowsStay, ExtentsStand}
-use Rattle.snapshot.specs.Versions.{Version, size_now, updates_of, written}
+use Rattle.snapshot.specs.Versions.{Version, size_now, updates_of, update_of_row}
 use Rattle.snapshot.specs.Laws.{TellUpdates}
 use Rattle.range_reader.specs.Reading.{bytes_at, bound}
 use Rattle.client_session.specs.Parts.{IsMet}
@@ -28,7 +28,7 @@ bound_told stay stand s us o n tell =
     let v : ℕ = length s.rows in
     let told : List Extent = extents (updates_of s) in
     let more : List Extent = drop v (extents us) in
-    let counted : v ≤ length told = omega (arith, (stand (updates_of s) tell.replayable).1, length-map s.rows written) in
+    let counted : v ≤ length told = omega (arith, (stand (updates_of s) tell.replayable).1, length-map s.rows update_of_row) in
     let whole : told ++ more ≡ extents us = ap (λ l. l ++ more) tell.fall ∙ take-append-drop v (extents us) in
     sym ((stay s.page_size v told more counted).4 o n) ∙ ap (λ l. visits s.page_size l v o n) whole
 

@@ -7,8 +7,8 @@ use Rattle.blob_model.specs.Content.{Update}
 use Rattle.range_log.specs.Extents.{Extent}
 use Rattle.range_log.specs.Updates.{update_at, no_update, extents}
 use Rattle.range_log.specs.Rows.{row_of}
-use Rattle.page_store.specs.Stored.{joined}
-use Rattle.node_store.specs.Rows.{UpdateRow}
+use Rattle.page_store.specs.Stored.{bytes_of_pages}
+use Rattle.node_store.specs.UpdateRows.{UpdateRow}
 use Rattle.snapshot.specs.Versions.{IsRowOf}
 use Rattle.snapshot.specs.Laws.{OwnRowsStay}
 use Rattle.border_hints.specs.Numbered.{NumberedUpdate, own_touch, StandsFor, IsNumbered}
@@ -30,7 +30,7 @@ row_for stored stay t row planned numbered version offset touch pages plan nodes
     let first : List Update = take t.version us in
     let some : 1 ≤ t.version = let v = numbered.version in omega arith in
     let counted : length first ≡ t.version = length-take-le t.version us of.numbered in
-    let bytes : joined t.pages.pages ≡ (update_at first t.version).bytes = of.bytes ∙ ap (λ (u : Update). u.bytes) (sym (update_among us t.version some)) in
+    let bytes : bytes_of_pages t.pages.pages ≡ (update_at first t.version).bytes = of.bytes ∙ ap (λ (u : Update). u.bytes) (sym (update_among us t.version some)) in
     let own : IsRowOf t.snapshot.page_size first t.version row = stored t row first numbered version offset touch pages of.stands (nodes ∙ plan (extents first) of.stands) bytes in
     let among : IsRowOf t.snapshot.page_size (first ++ drop t.version us) t.version row = stay t.snapshot.page_size t.version first (drop t.version us) row (omega (arith, counted)) own in
     let P : List Update → Type 0 = λ l. IsRowOf t.snapshot.page_size l t.version row in

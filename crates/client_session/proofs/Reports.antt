@@ -9,44 +9,44 @@ use Rattle.blob_model.specs.declared.call.Call.TheVariants as Calls
 use Rattle.blob_model.specs.declared.call.Event.{Event}
 use Rattle.blob_model.specs.declared.call.Event.TheVariants as Events
 use Rattle.blob_model.specs.declared.call.Refusal.{Refusal}
-use Rattle.node_store.specs.Rows.{UpdateRow}
+use Rattle.node_store.specs.UpdateRows.{UpdateRow}
 use Rattle.border_hints.specs.Numbered.{NumberedUpdate}
 use Rattle.version_manager.specs.Log.{events}
 use Rattle.version_manager.specs.declared.journal.DeskFixed.{DeskFixed}
 use Rattle.version_manager.specs.declared.fault.DeskFault.TheVariants as DeskFaults
-use Rattle.request_form.specs.Session.{Session, Held, sees, holds, drops, held_at, without_ticket}
+use Rattle.request_form.specs.Session.{Session, HeldTicket, sees, holds, drops, ticket_at, without_ticket}
 use Rattle.request_form.specs.Answers.{UpdateAnswer, ReportAnswer, FinishAnswer, Unless, Answers, update_fault}
 use Rattle.request_form.specs.Replies.{fault_of}
 use Rattle.request_form.specs.declared.form.Reply.{Reply}
 use Rattle.request_form.specs.declared.form.Reply.TheVariants as Replies
 use Rattle.request_form.specs.declared.form.Fault.{Fault}
 use Rattle.request_form.specs.declared.form.Fault.TheVariants as Faults
-use Rattle.client_session.specs.Tickets.{OpenUpdate, held_of, all_held}
+use Rattle.client_session.specs.Tickets.{OpenUpdate, ticket_of, tickets_of}
 use Rattle.client_session.specs.Sessions.{SessionState, session_at, session_of}
 use Rattle.client_session.specs.Updates.{Reporting, IsNumbered, UpdateDone, StartDone, update_request, start_request, update_reply, start_reply}
 use Rattle.client_session.proofs.Turns.{outcome_of_gap, seen_gap, seen_event}
 
 -- the tickets of a session, as another list
-with_tickets : Session → List Held → Session
+with_tickets : Session → List HeldTicket → Session
 with_tickets s hs = record { fixed = s.fixed; caller = s.caller; seen = s.seen; tickets = hs; next = s.next }
 
 -- ---- a finish
 -- The held updates, in which the one of that number may have got its row, and then without it.
-pub record IsTaken (held os : List OpenUpdate) (place number : ℕ) (u : OpenUpdate) : Type 0 where
-  pub found : held_at (all_held held) number ≡ Some (held_of u)
+pub record IsTaken (held os : List OpenUpdate) (index number : ℕ) (u : OpenUpdate) : Type 0 where
+  pub found : ticket_at (tickets_of held) number ≡ Some (ticket_of u)
   pub number_is : u.number ≡ number
-  pub same : all_held os ≡ all_held held
-  pub left : all_held (remove os place) ≡ without_ticket (all_held held) number
+  pub same : tickets_of os ≡ tickets_of held
+  pub left : tickets_of (remove os index) ≡ without_ticket (tickets_of held) number
 
-module _ (f : DeskFixed) (caller : ℕ) (log log' : List (ℕ × Event)) (held os : List OpenUpdate) (next place number : ℕ) (u : OpenUpdate) (taken : IsTaken held os place number u) where
-  left_by : all_held (remove os place) ≡ without_ticket (all_held held) u.number
-  left_by = taken.left ∙ ap (λ (n : ℕ). without_ticket (all_held held) n) (sym taken.number_is)
+module _ (f : DeskFixed) (caller : ℕ) (log log' : List (ℕ × Event)) (held os : List OpenUpdate) (next index number : ℕ) (u : OpenUpdate) (taken : IsTaken held os index number u) where
+  left_by : tickets_of (remove os index) ≡ without_ticket (tickets_of held) u.number
+  left_by = taken.left ∙ ap (λ (n : ℕ). without_ticket (tickets_of held) n) (sym taken.number_is)
 
-  as_finish : (reply : Reply) (s' : Session) → ReportAnswer AllOther (session_at f caller log held next) (held_of u) reply s' → FinishAnswer AllOther (session_at f caller log held next) number (held_at (all_held held) number) reply s'
-  as_finish reply s' answer = subst (λ (h : Option Held). FinishAnswer AllOther (session_at f caller log held next) number h reply s') (sym taken.found) answer
+  as_finish : (reply : Reply) (s' : Session) → ReportAnswer AllOther (session_at f caller log held next) (ticket_of u) reply s' → FinishAnswer AllOther (session_at f caller log held next) number (ticket_at (tickets_of held) number) reply s'
+  as_finish reply s' answer = subst (λ (h : Option HeldTicket). FinishAnswer AllOther (session_at f caller log held next) number h reply s') (sym taken.found) answer
 
   pub finish_done : {R : Type 0} (published : ℕ) → Reporting {R = R} f caller log u.ticket (Ok published) log'
-      → FinishAnswer AllOther (session_at f caller log held next) number (held_at (all_held held) number) (Replies.Finished published) (session_at f caller log' (remove os place) next)
+      → FinishAnswer AllOther (session_at f caller log held next) number (ticket_at (tickets_of held) number) (Replies.Finished published) (session_at f caller log' (remove os index) next)
   unfolding with_tickets
   finish_done published r =
       as_finish _ _ (ReportAnswer.reported record {
@@ -61,7 +61,7 @@ module _ (f : DeskFixed) (caller : ℕ) (log log' : List (ℕ × Event)) (held o
       })
 
   pub finish_already : {R : Type 0} (refusal : Refusal) (back : R) → Reporting f caller log u.ticket (Err (DeskFaults.Refused refusal, back)) log'
-      → FinishAnswer AllOther (session_at f caller log held next) number (held_at (all_held held) number) (Replies.Refused (fault_of refusal)) (session_at f caller log' (remove os place) next)
+      → FinishAnswer AllOther (session_at f caller log held next) number (ticket_at (tickets_of held) number) (Replies.Refused (fault_of refusal)) (session_at f caller log' (remove os index) next)
   unfolding with_tickets
   finish_already refusal back r =
       as_finish _ _ (ReportAnswer.finished record {
@@ -75,7 +75,7 @@ module _ (f : DeskFixed) (caller : ℕ) (log log' : List (ℕ × Event)) (held o
       })
 
   pub finish_starved : {R : Type 0} (back : R) → Reporting f caller log u.ticket (Err (DeskFaults.NoMemory, back)) log'
-      → FinishAnswer AllOther (session_at f caller log held next) number (held_at (all_held held) number) (Replies.Refused Faults.NoMemory) (session_at f caller log' os next)
+      → FinishAnswer AllOther (session_at f caller log held next) number (ticket_at (tickets_of held) number) (Replies.Refused Faults.NoMemory) (session_at f caller log' os next)
   unfolding with_tickets
   finish_starved back r =
       as_finish _ _ (ReportAnswer.out_of_memory record {
@@ -90,8 +90,8 @@ pub held_more : {D : Type 0} (m m' : SessionState D) (t : NumberedUpdate) (row :
     → session_of m' ≡ holds (session_of m) t.blob t.version
 held_more m m' t row is =
     ap session_of is
-    ∙ ap (λ (hs : List Held). record { fixed = (session_of m).fixed; caller = m.caller; seen = (session_of m).seen; tickets = hs; next = m.next + 1 })
-    (map_push held_of m.held (record { number = m.next; ticket = t; row = row }))
+    ∙ ap (λ (hs : List HeldTicket). record { fixed = (session_of m).fixed; caller = m.caller; seen = (session_of m).seen; tickets = hs; next = m.next + 1 })
+    (map_push ticket_of m.held (record { number = m.next; ticket = t; row = row }))
 
 -- ---- an update
 -- what is done where the session itself doesn't refuse

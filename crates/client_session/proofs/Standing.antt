@@ -3,13 +3,13 @@ use Rattle.std.proofs.Common.{◌≡◌, sym, ◌∙◌, ap, subst, ℕ, ◌≤�
 use Rattle.std.specs.Prelude.{All, Bool}
 use Rattle.blob_model.specs.declared.call.Event.{Event}
 use Rattle.turn_lock.specs.History.{Begins}
-use Rattle.turn_lock.specs.Shown.{Held}
+use Rattle.turn_lock.specs.Shown.{PassView}
 use Rattle.version_manager.specs.Desks.{IsTicketOf}
 use Rattle.version_manager.specs.Log.{desk_at}
 use Rattle.version_manager.specs.Stays.{ticket_stays}
 use Rattle.version_manager.specs.declared.journal.DeskFixed.{DeskFixed}
 use Rattle.client_session.specs.Tickets.{OpenUpdate}
-use Rattle.client_session.specs.Kept.{IsOpen, IsHolding, IsSession}
+use Rattle.client_session.specs.SessionInvariant.{IsOpen, IsHolding, IsSession}
 use Rattle.client_session.specs.Sessions.{StoreState, IsPassOf, Went}
 
 -- a held update stays one as the history goes on
@@ -35,15 +35,15 @@ holding_stays f log log' held next begins h = record {
 }
 
 -- the pass after a turn
-pub pass_after : (store : StoreState) (pass pass' : Held Event DeskFixed) → IsPassOf store pass → pass' ≡ record pass { seen = pass'.seen } → Went store.fixed pass.seen pass'.seen → IsPassOf store pass'
+pub pass_after : (store : StoreState) (pass pass' : PassView Event DeskFixed) → IsPassOf store pass → pass' ≡ record pass { seen = pass'.seen } → Went store.fixed pass.seen pass'.seen → IsPassOf store pass'
 pass_after store pass pass' is same went = record {
-  lock = ap (λ (p : Held Event DeskFixed). p.lock) same ∙ is.lock;
-  fixed = ap (λ (p : Held Event DeskFixed). p.fixed) same ∙ is.fixed;
+  lock = ap (λ (p : PassView Event DeskFixed). p.lock) same ∙ is.lock;
+  fixed = ap (λ (p : PassView Event DeskFixed). p.fixed) same ∙ is.fixed;
   log = went.log_is;
 }
 
 -- the session after a turn, with what it holds
-module _ {D : Type 0} (is_true : D → Type 0) (store : StoreState) (pass pass' : Held Event DeskFixed) (doors : List D) (room : List Bool) where
+module _ {D : Type 0} (is_true : D → Type 0) (store : StoreState) (pass pass' : PassView Event DeskFixed) (doors : List D) (room : List Bool) where
   pub session_with : (held held' : List OpenUpdate) (next next' : ℕ) → IsSession is_true store pass held next doors room → pass' ≡ record pass { seen = pass'.seen }
       → Went store.fixed pass.seen pass'.seen → IsHolding store.fixed pass'.seen held' next' → IsSession is_true store pass' held' next' doors room
   session_with held held' next next' s same went holding = record {
@@ -60,7 +60,7 @@ module _ {D : Type 0} (is_true : D → Type 0) (store : StoreState) (pass pass' 
   session_after held next s same went = session_with held held next next s same went (holding_stays store.fixed pass.seen pass'.seen held next went.begins s.holding)
 
 -- with other doors, as many and as true
-pub session_doors : {D : Type 0} (is_true : D → Type 0) (store : StoreState) (pass : Held Event DeskFixed) (held : List OpenUpdate) (next : ℕ) (doors doors' : List D) (room room' : List Bool)
+pub session_doors : {D : Type 0} (is_true : D → Type 0) (store : StoreState) (pass : PassView Event DeskFixed) (held : List OpenUpdate) (next : ℕ) (doors doors' : List D) (room room' : List Bool)
     → length doors' ≡ length doors → All is_true doors' → length room' ≡ length room → IsSession is_true store pass held next doors room → IsSession is_true store pass held next doors' room'
 session_doors is_true store pass held next doors doors' room room' count true_ marks s = record {
   pass_is = s.pass_is;

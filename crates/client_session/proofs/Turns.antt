@@ -7,7 +7,7 @@ use Rattle.blob_model.specs.declared.call.Call.{Call}
 use Rattle.blob_model.specs.declared.call.Event.{Event}
 use Rattle.blob_model.specs.declared.call.Outcome.{Outcome}
 use Rattle.blob_model.specs.declared.call.Outcome.TheVariants as Outcomes
-use Rattle.turn_lock.specs.Shown.{Held, Turned}
+use Rattle.turn_lock.specs.Shown.{PassView, Turned}
 use Rattle.version_manager.specs.Desks.{OnRefused}
 use Rattle.version_manager.specs.Laws.{GapsAreOfOthers}
 use Rattle.snapshot.specs.Versions.{Version}
@@ -30,7 +30,7 @@ pub record Took (caller : ℕ) (log log' : List (ℕ × Event)) (Gives : List (�
   pub others : AllOther caller (events gap)
   pub gives : Gives (log ++ gap) log'
 
-pub took : GapsAreOfOthers → (f : DeskFixed) (v w : Held Event DeskFixed) (Gives : List (ℕ × Event) → DeskFixed → List (ℕ × Event) → Type 0) → v.fixed ≡ Some f
+pub took : GapsAreOfOthers → (f : DeskFixed) (v w : PassView Event DeskFixed) (Gives : List (ℕ × Event) → DeskFixed → List (ℕ × Event) → Type 0) → v.fixed ≡ Some f
     → ((before after : List (ℕ × Event)) → Gives before f after → IsLog f before) → Turned Gives v w → Took v.caller v.seen w.seen (λ before after. Gives before f after)
 took others f v w Gives fixed log turned =
     let (f', gap, is, lacks, adds, gives) = turned in

@@ -1,7 +1,7 @@
 pub mod Parts
 pub mod Tickets
 pub mod Sessions
-pub mod Kept
+pub mod SessionInvariant
 pub mod Updates
 pub mod Results
 pub mod HangUp

@@ -13,7 +13,7 @@ use Rattle.blob_model.specs.declared.call.Refusal.TheVariants as Refusals
 use Rattle.range_log.specs.Updates.{extents}
 use Rattle.range_log.specs.Visits.{visits}
 use Rattle.turn_lock.specs.History.{Begins}
-use Rattle.turn_lock.specs.Shown.{Held, Owned}
+use Rattle.turn_lock.specs.Shown.{PassView, OwnerView}
 use Rattle.version_manager.specs.Desks.{updates_or_none}
 use Rattle.version_manager.specs.Log.{IsLog, events}
 use Rattle.version_manager.specs.declared.journal.DeskFixed.{DeskFixed}
@@ -21,7 +21,7 @@ use Rattle.request_form.specs.Answers.{max_read}
 use Rattle.request_form.specs.PublishedReads.{IsPublishedIn, Range, Tells, read_outcome}
 use Rattle.request_form.specs.Session.{Session, outcome_at}
 use Rattle.request_form.specs.declared.form.Reply.{Reply}
-use Rattle.client_session.specs.Tickets.{OpenUpdate, all_held}
+use Rattle.client_session.specs.Tickets.{OpenUpdate, tickets_of}
 
 -- a store that sessions share: the lock of its desk, what no act changes, and how many providers it has
 pub record StoreState : Type 0 where
@@ -30,13 +30,13 @@ pub record StoreState : Type 0 where
   pub providers : ℕ
 
 -- The pass is of the store: of its lock, with its fixed data, and what it has seen is a history of it.
-pub record IsPassOf (store : StoreState) (pass : Held Event DeskFixed) : Type 0 where
+pub record IsPassOf (store : StoreState) (pass : PassView Event DeskFixed) : Type 0 where
   pub lock : pass.lock ≡ store.lock
   pub fixed : pass.fixed ≡ Some store.fixed
   pub log : IsLog store.fixed pass.seen
 
 -- the owner is of the store in the same way
-pub record IsOwnerOf (store : StoreState) (owner : Owned Event DeskFixed) : Type 0 where
+pub record IsOwnerOf (store : StoreState) (owner : OwnerView Event DeskFixed) : Type 0 where
   pub lock : owner.lock ≡ store.lock
   pub fixed : owner.fixed ≡ Some store.fixed
   pub log : IsLog store.fixed owner.seen
@@ -62,7 +62,7 @@ session_at f caller log held next = record {
   fixed = record { limits = f.limits; page = f.page_size };
   caller = caller;
   seen = events log;
-  tickets = all_held held;
+  tickets = tickets_of held;
   next = next;
 }
 
@@ -70,7 +70,7 @@ abbrev pub session_of : {D : Type 0} → SessionState D → Session
 session_of s = session_at s.store.fixed s.caller s.log s.held s.next
 
 -- the pass that the session works with
-abbrev pub pass_of : {D : Type 0} → SessionState D → Held Event DeskFixed
+abbrev pub pass_of : {D : Type 0} → SessionState D → PassView Event DeskFixed
 pass_of s = record { lock = s.store.lock; caller = s.caller; seen = s.log; fixed = Some s.store.fixed }
 
 -- what no call of a session changes, and what it has seen only grows

@@ -8,7 +8,7 @@ use Rattle.blob_model.specs.declared.call.Event.{Event}
 use Rattle.blob_model.specs.declared.call.Event.TheVariants as Events
 use Rattle.blob_model.specs.declared.call.Outcome.TheVariants as Outcomes
 use Rattle.blob_model.specs.declared.call.Refusal.TheVariants as Refusals
-use Rattle.node_store.specs.Rows.{UpdateRow}
+use Rattle.node_store.specs.UpdateRows.{UpdateRow}
 use Rattle.border_hints.specs.Numbered.{NumberedUpdate}
 use Rattle.version_manager.specs.Desks.{IsUnfinished, OnRefused, is_finished_in}
 use Rattle.version_manager.specs.Log.{desk_at, events, tag, outcome_in}
@@ -22,7 +22,7 @@ use Rattle.request_form.specs.declared.form.Reply.{Reply}
 use Rattle.request_form.specs.declared.form.Reply.TheVariants as Replies
 use Rattle.request_form.specs.declared.form.Fault.{Fault}
 use Rattle.client_session.specs.Sessions.{SessionState, session_of}
-use Rattle.client_session.specs.Kept.{IsOpen}
+use Rattle.client_session.specs.SessionInvariant.{IsOpen}
 
 -- the request of an update that is finished at once
 abbrev pub update_request : ℕ → Place → List ℕ → Request

@@ -3,10 +3,10 @@ ghost use Rattle.std.specs.Prelude.{◌≡◌, ◌+◌, ◌<◌, [], ◌∷◌, 
 ghost use Rattle.std.specs.Bool.{Decides};
 ghost use Rattle.request_form.specs.declared.form.Fault.TheVariants as Faults;
 ghost use Rattle.blob_model.specs.History.{AllOther};
-ghost use Rattle.request_form.specs.Session.{Held};
+ghost use Rattle.request_form.specs.Session.{HeldTicket};
 ghost use Rattle.request_form.specs.HangUp.{HungUp};
 ghost use Rattle.client_session.specs.Sessions.{session_of, Continues};
-ghost use Rattle.client_session.specs.Tickets.{Rise, all_held};
+ghost use Rattle.client_session.specs.Tickets.{Rise, tickets_of};
 ghost use Rattle.client_session.specs.HangUp.{GivesUpOne};
 
 use crate::done::HangUp;
@@ -34,7 +34,7 @@ impl<'a, D: Door, G: Gate> Session<'a, D, G> {
         ensures hung_up { HungUp AllOther (session_of self.old) result.finished result.no_memory (session_of self.new) }
         ensures no_other_end { (result.pending ≡ 0) × (result.page_fault ≡ 0) }
         ensures counts { result.finished + result.no_memory + result.pending + result.page_fault ≡ length self.old.held }
-        ensures rising { Rise (all_held self.old.held) self.old.next }
+        ensures rising { Rise (tickets_of self.old.held) self.old.next }
         ensures none_held { self.new.held ≡ [] }
         ensures doors { self.new.doors ≡ self.old.doors }
         ensures goes_on { Continues self.old self.new }
@@ -62,7 +62,7 @@ impl<'a, D: Door, G: Gate> Session<'a, D, G> {
     // Finishes the first of the held updates, or drops it where no memory is found. It answers whether the update is finished.
     fn give_up_first<R: Wait>(&mut self, rt: &R) -> bool
         requires some { 0 < length self.old.held }
-        ensures given_up { (t : Held) (ts : List Held) → all_held self.old.held ≡ t ∷ ts → GivesUpOne (session_of self.old) t ts result (session_of self.new) }
+        ensures given_up { (t : HeldTicket) (ts : List HeldTicket) → tickets_of self.old.held ≡ t ∷ ts → GivesUpOne (session_of self.old) t ts result (session_of self.new) }
         ensures fewer { length self.old.held ≡ length self.new.held + 1 }
         ensures doors { self.new.doors ≡ self.old.doors }
         ensures goes_on { Continues self.old self.new }

@@ -82,7 +82,7 @@ pub struct Session<'a, D: Door, G: Gate> {
 impl<'a, D: Door, G: Gate> Model for Session<'a, D, G> {
     ghost use Rattle.std.specs.Coded.{coded_list};
     ghost use Rattle.client_session.specs.Sessions.{SessionState};
-    ghost use Rattle.client_session.specs.Kept.{IsSession};
+    ghost use Rattle.client_session.specs.SessionInvariant.{IsSession};
 
     ghost Value = { SessionState D };
 

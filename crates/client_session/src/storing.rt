@@ -2,7 +2,7 @@
 ghost use Rattle.std.specs.Prelude.{◌≡◌, ◌*◌, ◌<◌, ◌≤◌, length, IfOk, IfErr, All, map, sum_by};
 ghost use Rattle.std.specs.Arc.{arc_value};
 ghost use Rattle.page_store.specs.Count.{HasRisen};
-ghost use Rattle.page_store.specs.Stored.{joined, LieAmong};
+ghost use Rattle.page_store.specs.Stored.{bytes_of_pages, LieAmong};
 ghost use Rattle.page_fan.specs.Counts.{NoneFell};
 ghost use Rattle.page_fan.specs.Fault.{OnPageFault};
 
@@ -32,7 +32,7 @@ pub(crate) fn store_bytes<D: BesideDoor, R: Threads + Wait + Sync>(
     requires few { length bytes.now ≤ 1048576 }
     requires served { loads.now.providers ≡ length doors.old }
     requires housed { length doors.old ≤ length houses.now }
-    ensures bytes { IfOk result (λ pages. joined (arc_value pages).pages ≡ bytes.now) }
+    ensures bytes { IfOk result (λ pages. bytes_of_pages (arc_value pages).pages ≡ bytes.now) }
     ensures page_size { IfOk result (λ pages. (arc_value pages).page_size ≡ p) }
     ensures here { IfOk result (λ pages. LieAmong houses.now (arc_value pages).pages) }
     ensures page { IfErr result (λ fault. OnPageFault fault (λ i. p * i < length bytes.now)) }

@@ -1,8 +1,8 @@
 // The updates that a session holds: numbered, and not yet finished.
 ghost use Rattle.std.specs.Prelude.{◌≡◌, ℕ, ◌<◌, ◌≤◌, List, [], ◌∷◌, ◌++◌, length, None, Some, IfOk, IfSome, MatchOption, option_map, remove, slice_get, slice_set};
 ghost use Rattle.std.specs.Arc.{arc_value};
-ghost use Rattle.request_form.specs.Session.{held_at};
-ghost use Rattle.client_session.specs.Tickets.{OpenUpdate, all_held, with_row, IsHeldAt};
+ghost use Rattle.request_form.specs.Session.{ticket_at};
+ghost use Rattle.client_session.specs.Tickets.{OpenUpdate, tickets_of, with_row, IsHeldAt};
 
 use border_hints::Ticket;
 use node_store::Row;
@@ -105,21 +105,21 @@ impl Tickets {
 
     // Where the update of that number stands.
     pub(crate) fn find(&self, number: u64) -> Option<usize>
-        ensures { MatchOption result (held_at (all_held self.now) number ≡ None) (λ place. IsHeldAt self.now number place) }
+        ensures { MatchOption result (ticket_at (tickets_of self.now) number ≡ None) (λ index. IsHeldAt self.now number index) }
     {
-        for (place, open) in self.open.iter().enumerate() {
+        for (index, open) in self.open.iter().enumerate() {
             if open.number() == number {
-                return Some(place);
+                return Some(index);
             }
         }
         None
     }
 
-    pub(crate) fn at(&self, place: usize) -> &OpenTicket
-        requires { place < length self.now }
-        ensures { slice_get self.now place ≡ Some result.now }
+    pub(crate) fn at(&self, index: usize) -> &OpenTicket
+        requires { index < length self.now }
+        ensures { slice_get self.now index ≡ Some result.now }
     {
-        &self.open[place]
+        &self.open[index]
     }
 
     pub(crate) fn add(&mut self, update: OpenTicket)
@@ -130,18 +130,18 @@ impl Tickets {
     }
 
     // Keeps the row of the update there.
-    pub(crate) fn set_row(&mut self, place: usize, row: Arc<Row>)
-        requires { place < length self.old }
-        ensures { (o : OpenUpdate) → slice_get self.old place ≡ Some o → self.new ≡ slice_set self.old place (with_row o (arc_value row)) }
+    pub(crate) fn set_row(&mut self, index: usize, row: Arc<Row>)
+        requires { index < length self.old }
+        ensures { (o : OpenUpdate) → slice_get self.old index ≡ Some o → self.new ≡ slice_set self.old index (with_row o (arc_value row)) }
     {
-        self.open[place].row = Some(row);
+        self.open[index].row = Some(row);
     }
 
     // Gives the update there up.
-    pub(crate) fn remove(&mut self, place: usize)
-        requires { place < length self.old }
-        ensures { self.new ≡ remove self.old place }
+    pub(crate) fn remove(&mut self, index: usize)
+        requires { index < length self.old }
+        ensures { self.new ≡ remove self.old index }
     {
-        let _open = self.open.remove(place);
+        let _open = self.open.remove(index);
     }
 }

@@ -11,7 +11,7 @@ ghost use Rattle.request_form.specs.Replies.{page_faults, fault_count};
 ghost use Rattle.request_form.specs.Answers.{Answers, update_fault};
 ghost use Rattle.request_form.specs.declared.form.Request.TheVariants as Requests;
 ghost use Rattle.version_manager.specs.Log.{MayFinish};
-ghost use Rattle.client_session.specs.Kept.{IsOpen, IsWoven};
+ghost use Rattle.client_session.specs.SessionInvariant.{IsOpen, IsWoven};
 ghost use Rattle.client_session.specs.Results.{store_fault, finish_reply, started_reply, done_reply};
 ghost use Rattle.client_session.specs.Sessions.{IsPassOf, Went, session_of, Continues};
 ghost use Rattle.client_session.specs.Tickets.{OpenUpdate, HasRow, with_row};
@@ -276,47 +276,47 @@ impl<'a, D: Door, G: Gate> Session<'a, D, G> {
         ensures doors { self.new.doors ≡ self.old.doors }
         ensures goes_on { Continues self.old self.new }
     {
-        let Some(place) = self.held.find(ticket) else {
+        let Some(index) = self.held.find(ticket) else {
             return Err(Fault::NoTicket { ticket });
         };
-        let Ok(row) = self.row_at(rt, place) else {
+        let Ok(row) = self.row_at(rt, index) else {
             return Err(Fault::NoMemory);
         };
         match report(
             rt,
             self.shared,
             &mut self.pass,
-            self.held.at(place).ticket(),
+            self.held.at(index).ticket(),
             row,
         ) {
             Ok(published) => {
-                self.held.remove(place);
+                self.held.remove(index);
                 Ok(published)
             }
             Err((DeskFault::Refused(refusal), _row)) => {
-                self.held.remove(place);
+                self.held.remove(index);
                 Err(Fault::of(refusal))
             }
             Err((DeskFault::NoMemory, _row)) => Err(Fault::NoMemory),
         }
     }
 
-    // The row of the held update at that place, woven where it isn't yet. It is kept beside the update.
-    fn row_at<R: Wait>(&mut self, rt: &R, place: usize) -> Result<Arc<Row>, NoMemory>
-        requires within { place < length self.old.held }
-        ensures woven { IfOk result (λ row. (o : OpenUpdate) → slice_get self.old.held place ≡ Some o
+    // The row of the held update at that index, woven where it isn't yet. It is kept beside the update.
+    fn row_at<R: Wait>(&mut self, rt: &R, index: usize) -> Result<Arc<Row>, NoMemory>
+        requires within { index < length self.old.held }
+        ensures woven { IfOk result (λ row. (o : OpenUpdate) → slice_get self.old.held index ≡ Some o
             → IsWoven self.old.store.fixed.houses o.ticket (arc_value row)) }
-        ensures kept { IfOk result (λ row. (o : OpenUpdate) → slice_get self.old.held place ≡ Some o
-            → self.new ≡ record self.old { held = slice_set self.old.held place (with_row o (arc_value row)) }) }
+        ensures kept { IfOk result (λ row. (o : OpenUpdate) → slice_get self.old.held index ≡ Some o
+            → self.new ≡ record self.old { held = slice_set self.old.held index (with_row o (arc_value row)) }) }
         ensures same { OnErr result (self.new ≡ self.old) }
     {
-        if let Some(row) = self.held.at(place).row()? {
+        if let Some(row) = self.held.at(index).row()? {
             return Ok(row);
         }
-        let row = weave(self.alloc, self.held.at(place).ticket())?;
+        let row = weave(self.alloc, self.held.at(index).ticket())?;
         self.gate.at(rt, Point::Woven, &self.pass);
         let kept = Arc::try_clone(&row)?;
-        self.held.set_row(place, kept);
+        self.held.set_row(index, kept);
         Ok(row)
     }
 }

@@ -25,9 +25,9 @@ fn maker_of(
     calls: &[u64; 2],
 ) -> Result<FlakyMaker, AllocError> {
     let mut lists = Vec::new(alloc);
-    for place in 0..3usize {
+    for index in 0..3usize {
         let fails = match alone {
-            Some(door) => door == place,
+            Some(door) => door == index,
             None => true,
         };
         lists.push(if fails {
@@ -364,8 +364,8 @@ fn check_case<R: Wait + Threads + Sync>(
 
 #[test]
 fn a_call_of_all_doors_fails_at_once(rt: HostRuntime) -> Result<(), Fail> {
-    for (place, calls, failed, kept, instead) in CASES.as_slice() {
-        let row = ROWS.get(*place).ok_or("a row")?;
+    for (index, calls, failed, kept, instead) in CASES.as_slice() {
+        let row = ROWS.get(*index).ok_or("a row")?;
         check_case(&rt, rt.alloc(), row, calls, *failed, *kept, instead)?;
     }
     Ok(())

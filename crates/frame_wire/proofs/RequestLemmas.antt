@@ -40,24 +40,24 @@ AllSmall ns = (i : ℕ) → slice_index ns i < 2 ^ 64
 fields-split : (n : ℕ) (ns bytes : List ℕ) → fields (n ∷ ns) ++ bytes ≡ field n ++ (fields ns ++ bytes)
 fields-split n ns bytes = append_assoc (field n) (fields ns) bytes
 
-drop_past : (n place : ℕ) (rest : List ℕ) → drop (8 + place) (field n ++ rest) ≡ drop place rest
-drop_past n place rest = ap (λ (m : ℕ). drop (m + place) (field n ++ rest)) (sym (field-length n)) ∙ drop-append-add (field n) rest place
+drop_past : (n start : ℕ) (rest : List ℕ) → drop (8 + start) (field n ++ rest) ≡ drop start rest
+drop_past n start rest = ap (λ (m : ℕ). drop (m + start) (field n ++ rest)) (sym (field-length n)) ∙ drop-append-add (field n) rest start
 
--- each number is read at its place
-pub number_at_is : (place k : ℕ) (ns bytes : List ℕ) → place ≡ 8 * k → k < length ns → AllSmall ns → number_at place (fields ns ++ bytes) ≡ slice_index ns k
-number_at_is place k [] bytes e less small = absurd (omega arith)
-number_at_is place zero (n ∷ ns) bytes e less small =
-    let none : place ≡ 0 = omega arith in
+-- each number is read at its start
+pub number_at_is : (start k : ℕ) (ns bytes : List ℕ) → start ≡ 8 * k → k < length ns → AllSmall ns → number_at start (fields ns ++ bytes) ≡ slice_index ns k
+number_at_is start k [] bytes e less small = absurd (omega arith)
+number_at_is start zero (n ∷ ns) bytes e less small =
+    let none : start ≡ 0 = omega arith in
     rw (none, fields-split n ns bytes) (field-number n (fields ns ++ bytes) (small 0))
-number_at_is place (suc k) (n ∷ ns) bytes e less small =
-    let on : place ≡ 8 + 8 * k = omega arith in
+number_at_is start (suc k) (n ∷ ns) bytes e less small =
+    let on : start ≡ 8 + 8 * k = omega arith in
     rw (on, fields-split n ns bytes, drop_past n (8 * k) (fields ns ++ bytes)) (number_at_is (8 * k) k ns bytes refl (omega arith) (λ i. small (suc i)))
 
 -- and behind the numbers are the bytes
-pub drop_fields : (place : ℕ) (ns bytes : List ℕ) → place ≡ 8 * length ns → drop place (fields ns ++ bytes) ≡ bytes
-drop_fields place [] bytes e = let none : place ≡ 0 = omega arith in rw none refl
-drop_fields place (n ∷ ns) bytes e =
-    let on : place ≡ 8 + 8 * length ns = omega arith in
+pub drop_fields : (start : ℕ) (ns bytes : List ℕ) → start ≡ 8 * length ns → drop start (fields ns ++ bytes) ≡ bytes
+drop_fields start [] bytes e = let none : start ≡ 0 = omega arith in rw none refl
+drop_fields start (n ∷ ns) bytes e =
+    let on : start ≡ 8 + 8 * length ns = omega arith in
     rw (on, fields-split n ns bytes, drop_past n (8 * length ns) (fields ns ++ bytes)) (drop_fields (8 * length ns) ns bytes refl)
 
 -- ---- operations

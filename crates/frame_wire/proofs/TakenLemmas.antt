@@ -8,17 +8,17 @@ use Rattle.request_form.specs.Stream.{after_item}
 use Rattle.request_form.specs.declared.form.Heard.{Heard}
 use Rattle.frame_wire.specs.Come.{Come, TakesBytes}
 use Rattle.frame_wire.specs.Frames.{item_of, is_whole, heard}
-use Rattle.frame_wire.specs.Begun.{GoesOnAs, opened, begun_bytes, is_complete, IsBegun, TakesPart}
+use Rattle.frame_wire.specs.Begun.{GoesOnAs, frame_part, begun_bytes, is_complete, IsBegun, TakesPart}
 use Rattle.frame_wire.specs.Taken.{IsOpen}
 use Rattle.frame_wire.specs.declared.begun.Begun.{Begun}
 use Rattle.frame_wire.specs.declared.begun.Begun.TheVariants.{Length, Counted, Asked, Wrong}
 use Rattle.frame_wire.proofs.HeardLemmas.{whole_heard, whole_is}
-use Rattle.frame_wire.proofs.BegunLemmas.{opened-length, opened-append, opened_whole, opened_open}
+use Rattle.frame_wire.proofs.BegunLemmas.{frame_part-length, frame_part-append, opened_whole, opened_open}
 
 -- the operation comes behind the length
-pub counted_on : (n : ℕ) (piece bytes : List ℕ) → 0 < length piece → GoesOnAs (opened n (get_or piece 0 0 ∷ [])) bytes → GoesOnAs (opened n [] ++ take 1 piece) bytes
+pub counted_on : (n : ℕ) (piece bytes : List ℕ) → 0 < length piece → GoesOnAs (frame_part n (get_or piece 0 0 ∷ [])) bytes → GoesOnAs (frame_part n [] ++ take 1 piece) bytes
 counted_on n [] bytes there goes more = absurd (omega arith)
-counted_on n (b ∷ piece) bytes there goes more = ap (λ (l : List ℕ). heard (l ++ more)) (opened-append n [] (b ∷ [])) ∙ goes more
+counted_on n (b ∷ piece) bytes there goes more = ap (λ (l : List ℕ). heard (l ++ more)) (frame_part-append n [] (b ∷ [])) ∙ goes more
 
 -- bytes of the fields come behind those that have come
 pub asked_on : (old : Come) (piece : List ℕ) (new : Come) (count : ℕ) → IsBegun (Asked old) → TakesBytes old piece new count → TakesPart (begun_bytes (Asked old)) piece (Asked new) count
@@ -35,7 +35,7 @@ asked_on old piece new count begun takes =
       begun_well = (omega (arith, begun.0), omega arith);
       goes_on = λ more.
           ap (λ (l : List ℕ). heard (l ++ more))
-          (opened-append (length old.bytes + old.left) old.bytes front ∙ ap (λ (l : List ℕ). opened (length old.bytes + old.left) l) (sym takes.bytes) ∙ ap (λ (n : ℕ). opened n new.bytes) same);
+          (frame_part-append (length old.bytes + old.left) old.bytes front ∙ ap (λ (l : List ℕ). frame_part (length old.bytes + old.left) l) (sym takes.bytes) ∙ ap (λ (n : ℕ). frame_part n new.bytes) same);
     }
 
 -- what goes on as the bytes so far goes on with more of the piece
@@ -87,8 +87,8 @@ complete_gives b item begun whole says more = whole_heard (begun_bytes b) more (
 pub tail_is : (piece : List ℕ) (taken : ℕ) → taken ≤ length piece → take (length piece - taken) (drop taken piece) ≡ drop taken piece
 tail_is piece taken within = let there = length-drop taken piece in take_all (length piece - taken) (drop taken piece) (omega arith)
 
-some_bytes : (n : ℕ) (bytes : List ℕ) → false ≡ (length (opened n bytes) == 0)
-some_bytes n bytes = let l = opened-length n bytes in grind (arith, nat_tests, l)
+some_bytes : (n : ℕ) (bytes : List ℕ) → false ≡ (length (frame_part n bytes) == 0)
+some_bytes n bytes = let l = frame_part-length n bytes in grind (arith, nat_tests, l)
 
 -- a frame whose length has come is something
 pub something : (b : Begun) → ((part : ArrayVec ℕ) → b ≡ Length part → ⊥) → false ≡ (length (begun_bytes b) == 0)

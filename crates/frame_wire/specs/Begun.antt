@@ -11,15 +11,15 @@ abbrev pub GoesOnAs : List ℕ → List ℕ → Type 0
 GoesOnAs bytes other = (more : List ℕ) → heard (bytes ++ more) ≡ heard (other ++ more)
 
 -- a length, and those of the bytes that it counts that have come
-unfoldable pub opened : ℕ → List ℕ → List ℕ
-opened count bytes = big_bytes 4 count ++ bytes
+unfoldable pub frame_part : ℕ → List ℕ → List ℕ
+frame_part count bytes = big_bytes 4 count ++ bytes
 
 -- Of a frame that is certainly wrong no bytes are kept. Zeros stand in their place: no operation has that number.
 abbrev pub begun_bytes : Begun → List ℕ
 begun_bytes (Length part) = part.items
-begun_bytes (Counted count) = opened count []
-begun_bytes (Asked come) = opened (length come.bytes + come.left) come.bytes
-begun_bytes (Wrong frame) = opened frame.length (replicate (frame.length - frame.left) 0)
+begun_bytes (Counted count) = frame_part count []
+begun_bytes (Asked come) = frame_part (length come.bytes + come.left) come.bytes
+begun_bytes (Wrong frame) = frame_part frame.length (replicate (frame.length - frame.left) 0)
 
 -- all bytes that the length counts have come
 abbrev pub is_complete : Begun → Bool

@@ -7,9 +7,9 @@ use Rattle.request_form.specs.declared.form.Request.TheVariants as Requests
 
 -- ---- what stands behind an operation
 
--- the number in the 8 bytes from that place on
+-- the number in the 8 bytes that start there
 abbrev pub number_at : ℕ → List ℕ → ℕ
-number_at place fields = big_number 8 (drop place fields)
+number_at start fields = big_number 8 (drop start fields)
 
 -- one number, and nothing else
 abbrev pub one_number : List ℕ → Option ℕ

@@ -60,9 +60,9 @@ reply_bytes (Replies.Refused fault) = 255 ∷ fault_fields fault
 reply_bytes Replies.Bye = 141 ∷ []
 
 -- a frame: the number of its bytes in 4 bytes, the highest first, and then these
-unfoldable pub framed : List ℕ → List ℕ
-framed bytes = big_bytes 4 (length bytes) ++ bytes
+unfoldable pub frame_of : List ℕ → List ℕ
+frame_of bytes = big_bytes 4 (length bytes) ++ bytes
 
 -- how a reply is written
 abbrev pub said : Reply → List ℕ
-said reply = framed (reply_bytes reply)
+said reply = frame_of (reply_bytes reply)

@@ -1,7 +1,7 @@
 ghost use Rattle.std.specs.Prelude.{◌≡◌, ◌≤◌, ◌<◌, ◌∷◌, ◌++◌, [], length, true, false, IfOk};
 ghost use Rattle.request_form.specs.Stream.{IsWellHeard};
 ghost use Rattle.frame_wire.specs.Frames.{item_of, max_frame};
-ghost use Rattle.frame_wire.specs.Begun.{opened, begun_bytes, is_complete, IsBegun, TakesPart, GoesOnAs};
+ghost use Rattle.frame_wire.specs.Begun.{frame_part, begun_bytes, is_complete, IsBegun, TakesPart, GoesOnAs};
 
 use crate::fields::Fields;
 use crate::number::{fill, short_number};
@@ -47,7 +47,7 @@ pub fn is_complete(begun: &Begun) -> bool
 // A frame of which nothing but its length has come.
 fn counted(length: u32) -> Begun
     ensures begun { IsBegun result }
-    ensures bytes { begun_bytes result ≡ opened length [] }
+    ensures bytes { begun_bytes result ≡ frame_part length [] }
 {
     if length == 0 || length > MAX_FRAME {
         Begun::Wrong(Dropped {
@@ -78,7 +78,7 @@ fn asked(alloc: Global, length: u32, number: u8) -> Begun
     requires some { 0 < length }
     requires few { length ≤ max_frame }
     ensures begun { IsBegun result }
-    ensures bytes { GoesOnAs (opened length (number ∷ [])) (begun_bytes result) }
+    ensures bytes { GoesOnAs (frame_part length (number ∷ [])) (begun_bytes result) }
 {
     let left = length - 1;
     match operation_of(number) {

@@ -1,6 +1,6 @@
 ghost use Rattle.std.specs.Prelude.{◌≡◌, ◌<◌, ◌≤◌, ◌+◌, ◌*◌, ◌-◌, ◌++◌, [], length, take, min};
 ghost use Rattle.frame_wire.specs.Said.{field, fields};
-ghost use Rattle.frame_wire.specs.Begun.{opened};
+ghost use Rattle.frame_wire.specs.Begun.{frame_part};
 
 use arrayvec::ArrayVec;
 use byteorder::{BigEndian, ByteOrder};
@@ -28,7 +28,7 @@ pub fn number(bytes: &[u8]) -> u64
 /// The number that 4 bytes make.
 pub fn short_number(bytes: &[u8]) -> u32
     requires { length bytes.now ≡ 4 }
-    ensures { opened result [] ≡ bytes.now }
+    ensures { frame_part result [] ≡ bytes.now }
 {
     BigEndian::read_u32(bytes)
 }

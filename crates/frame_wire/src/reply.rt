@@ -1,6 +1,6 @@
 ghost use Rattle.std.specs.Prelude.{◌≡◌, ◌≤◌, ◌∷◌, ◌++◌, [], length, IfOk, OnOk};
-ghost use Rattle.frame_wire.specs.Said.{field, wide_field, fields, framed, fault_fields, said};
-ghost use Rattle.frame_wire.specs.Begun.{opened};
+ghost use Rattle.frame_wire.specs.Said.{field, wide_field, fields, frame_of, fault_fields, said};
+ghost use Rattle.frame_wire.specs.Begun.{frame_part};
 
 use blob_model::Bytes;
 use byteorder::{BigEndian, ByteOrder};
@@ -8,9 +8,9 @@ use request_form::{Fault, Reply, Said};
 use std::alloc::{AllocError, Global};
 
 // A frame's length and its operation, in a vector with room for so many bytes.
-#[tactic(auto, unfolding(crate::specs::Begun::opened))]
+#[tactic(auto, unfolding(crate::specs::Begun::frame_part))]
 fn frame_head(alloc: Global, count: u32, operation: u8, room: usize) -> Result<Vec<u8>, AllocError>
-    ensures { IfOk result (λ head. head.items ≡ opened count (operation ∷ [])) }
+    ensures { IfOk result (λ head. head.items ≡ frame_part count (operation ∷ [])) }
 {
     let mut length = [0u8; 4];
     BigEndian::write_u32(&mut length, count);
@@ -22,7 +22,7 @@ fn frame_head(alloc: Global, count: u32, operation: u8, room: usize) -> Result<V
 
 // A frame's length and its operation, with room for the bytes behind it.
 fn begin_frame(alloc: Global, count: u32, operation: u8) -> Result<Vec<u8>, AllocError>
-    ensures { IfOk result (λ frame. frame.items ≡ opened count (operation ∷ [])) }
+    ensures { IfOk result (λ frame. frame.items ≡ frame_part count (operation ∷ [])) }
 {
     frame_head(alloc, count, operation, 4 + count as usize)
 }
@@ -50,7 +50,7 @@ fn add_wide(frame: &mut Vec<u8>, number: u128) -> Result<(), AllocError>
 // The frame of an operation and numbers.
 fn numbers_frame(alloc: Global, operation: u8, numbers: &[u64]) -> Result<Vec<u8>, AllocError>
     requires { length numbers.now ≤ 4 }
-    ensures { IfOk result (λ frame. frame.items ≡ framed (operation ∷ fields numbers.now)) }
+    ensures { IfOk result (λ frame. frame.items ≡ frame_of (operation ∷ fields numbers.now)) }
 {
     let mut frame = begin_frame(alloc, 1 + 8 * numbers.len() as u32, operation)?;
     for number in numbers {
@@ -61,7 +61,7 @@ fn numbers_frame(alloc: Global, operation: u8, numbers: &[u64]) -> Result<Vec<u8
 
 // The frame of the one refusal with a number of 16 bytes.
 fn range_frame(alloc: Global, end: u128, size: u64) -> Result<Vec<u8>, AllocError>
-    ensures { IfOk result (λ frame. frame.items ≡ framed (255 ∷ (field 12 ++ (wide_field end ++ field size)))) }
+    ensures { IfOk result (λ frame. frame.items ≡ frame_of (255 ∷ (field 12 ++ (wide_field end ++ field size)))) }
 {
     let mut frame = begin_frame(alloc, 33, 255)?;
     add(&mut frame, 12)?;
@@ -72,7 +72,7 @@ fn range_frame(alloc: Global, end: u128, size: u64) -> Result<Vec<u8>, AllocErro
 
 // A refusal's frame.
 fn fault_frame(alloc: Global, fault: &Fault) -> Result<Vec<u8>, AllocError>
-    ensures { IfOk result (λ frame. frame.items ≡ framed (255 ∷ fault_fields fault.now)) }
+    ensures { IfOk result (λ frame. frame.items ≡ frame_of (255 ∷ fault_fields fault.now)) }
 {
     match *fault {
         Fault::NoBlob { blob } => numbers_frame(alloc, 255, &[1, blob]),
@@ -103,7 +103,7 @@ fn fault_frame(alloc: Global, fault: &Fault) -> Result<Vec<u8>, AllocError>
 
 // The frame of a read's bytes.
 fn content_frame(alloc: Global, bytes: &[u8]) -> Result<Vec<u8>, AllocError>
-    ensures { IfOk result (λ frame. frame.items ≡ framed (135 ∷ bytes.now)) }
+    ensures { IfOk result (λ frame. frame.items ≡ frame_of (135 ∷ bytes.now)) }
 {
     // No frame's length counts more.
     if bytes.len() >= u32::MAX as usize {
@@ -152,7 +152,7 @@ pub fn reply_frame(alloc: Global, reply: &Reply) -> Result<Vec<u8>, AllocError>
 
 // The frame of a read's bytes, which are its body as they are.
 fn content_parts(alloc: Global, bytes: Bytes) -> Result<Said, AllocError>
-    ensures { IfOk result (λ parts. parts.head ++ parts.body ≡ framed (135 ∷ bytes)) }
+    ensures { IfOk result (λ parts. parts.head ++ parts.body ≡ frame_of (135 ∷ bytes)) }
 {
     // No frame's length counts more.
     if bytes.len() >= u32::MAX as usize {

@@ -3,8 +3,8 @@ ghost use Rattle.std.specs.Prelude.{◌≡◌, ◌<◌, length, MatchOption, Som
 ghost use Rattle.std.specs.Arc.{arc_value};
 ghost use Rattle.std.specs.Ordering.{MatchOrdering};
 ghost use Rattle.node_store.specs.Order.{Before, InRowOrder};
-ghost use Rattle.node_store.specs.Rows.{cut_at, stored_of, IsNodeFor, HasNoNodeFor};
-ghost use Rattle.page_store.specs.Stored.{joined};
+ghost use Rattle.node_store.specs.UpdateRows.{bytes_of_page, stored_of, IsNodeFor, HasNoNodeFor};
+ghost use Rattle.page_store.specs.Stored.{bytes_of_pages};
 
 use page_store::{Pages, StoredPage};
 use std::cmp::Ordering;
@@ -32,7 +32,7 @@ pub struct Row {
 impl Model for Row {
     ghost use Rattle.std.specs.Arc.{arc_value};
     ghost use Rattle.node_store.specs.Order.{InRowOrder};
-    ghost use Rattle.node_store.specs.Rows.{UpdateRow};
+    ghost use Rattle.node_store.specs.UpdateRows.{UpdateRow};
 
     ghost Value = { UpdateRow };
 
@@ -145,7 +145,7 @@ impl Row {
     pub fn page(&self, q: u32) -> &StoredPage
         requires { q < length (stored_of self.now) }
         ensures this { slice_get (stored_of self.now) q ≡ Some result.now }
-        ensures bytes { result.now.bytes ≡ cut_at self.now.pages.page_size (joined (stored_of self.now)) q }
+        ensures bytes { result.now.bytes ≡ bytes_of_page self.now.pages.page_size (bytes_of_pages (stored_of self.now)) q }
     {
         self.pages.page(q)
     }

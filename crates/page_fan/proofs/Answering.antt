@@ -8,7 +8,7 @@ use Rattle.page_store.specs.Stored.{Stored}
 use Rattle.page_fan.specs.Answer.{IsPageAnswer}
 use Rattle.page_fan.specs.Counts.{NoneFell, RoseAt}
 use Rattle.page_fan.specs.Replicas.{StandAt, providers_of}
-use Rattle.page_fan.proofs.Kept.{KeptAs}
+use Rattle.page_fan.proofs.StoredSoFar.{KeptAs}
 use Rattle.page_fan.proofs.Rises.{still_risen}
 use Rattle.page_fan.proofs.Standing.{StandAt-weaken, none_stands_at_end}
 
@@ -24,13 +24,13 @@ pub answer_later : (houses : List House) (bytes chosen before mid now : List ℕ
 answer_later houses bytes chosen before mid now (Some page) kept h = record {
   bytes = h.bytes;
   here = h.here;
-  replicas = StandAt-weaken (RoseAt before mid) (RoseAt before now) (still_risen before mid now kept) chosen (providers_of page.places) h.replicas;
+  replicas = StandAt-weaken (RoseAt before mid) (RoseAt before now) (still_risen before mid now kept) chosen (providers_of page.spots) h.replicas;
   some = h.some;
 }
 answer_later houses bytes chosen before mid now None kept h = record { some = h.some; failed = λ k d l. still_risen before mid now kept _ (h.failed k d l) }
 
 -- the answer to a page whose doors were all asked
 pub answer_at_end : (houses : List House) (bytes chosen before now : List ℕ) (i : ℕ) (stored : Option Stored) → length chosen ≤ i → 1 ≤ length chosen → IfSome stored (KeptAs houses bytes i)
-    → StandAt (RoseAt before now) (take i chosen) (providers_of (option_map_or (λ (s : Stored). s.places) stored [])) → IsPageAnswer houses bytes chosen before now stored
+    → StandAt (RoseAt before now) (take i chosen) (providers_of (option_map_or (λ (s : Stored). s.spots) stored [])) → IsPageAnswer houses bytes chosen before now stored
 answer_at_end houses bytes chosen before now i (Some page) l some kept h = record { bytes = kept.bytes; here = kept.here; replicas = rw (take_all i chosen l) at h; some = kept.some }
 answer_at_end houses bytes chosen before now i None l some kept h = record { some = some; failed = none_stands_at_end (RoseAt before now) chosen i None refl l h }

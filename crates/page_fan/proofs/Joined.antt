@@ -4,23 +4,23 @@ use Rattle.std.specs.Prelude.{Option, Some, None}
 use Rattle.std.proofs.lemmas.List.{take_all, take_more, get_or-map, length-map}
 use Rattle.std.proofs.lemmas.List.Concat.{flat_map-append}
 use Rattle.page_store.specs.House.{House}
-use Rattle.page_store.specs.Stored.{Stored, joined}
+use Rattle.page_store.specs.Stored.{Stored, bytes_of_pages}
 use Rattle.page_fan.specs.Answer.{page_of, IsStoredAs, AreAnswered, HaveLengths}
 
 -- one more page in the joined bytes
-pub joined_next : (page_size : ℕ) (buffer : List ℕ) (pages new : List Stored) (page : Stored) (i : ℕ) → joined pages ≡ take (i * page_size) buffer → page.bytes ≡ page_of page_size buffer i
-    → new ≡ pages ++ page ∷ [] → joined new ≡ take ((i + 1) * page_size) buffer
+pub joined_next : (page_size : ℕ) (buffer : List ℕ) (pages new : List Stored) (page : Stored) (i : ℕ) → bytes_of_pages pages ≡ take (i * page_size) buffer → page.bytes ≡ page_of page_size buffer i
+    → new ≡ pages ++ page ∷ [] → bytes_of_pages new ≡ take ((i + 1) * page_size) buffer
 joined_next page_size buffer pages new page i so_far cut is =
     let at = i * page_size in
     let next : (i + 1) * page_size ≡ at + page_size = omega arith in
-    rw (is, next) (flat_map-append (λ (s : Stored). s.bytes) pages (page ∷ []) ∙ ap (λ l. joined pages ++ l) (append-nil page.bytes)
+    rw (is, next) (flat_map-append (λ (s : Stored). s.bytes) pages (page ∷ []) ∙ ap (λ l. bytes_of_pages pages ++ l) (append-nil page.bytes)
     ∙ (ap (λ l. l ++ page.bytes) so_far ∙ (ap (λ l. take at buffer ++ l) cut ∙ sym (take-add at page_size buffer))))
 
 page_length : (page_size : ℕ) (buffer : List ℕ) (i : ℕ) → length (page_of page_size buffer i) ≡ min page_size (length buffer - i * page_size)
 page_length page_size buffer i = length-take page_size (drop (i * page_size) buffer) ∙ ap (λ n. min page_size n) (length-drop (i * page_size) buffer)
 
 joined_first : (page_size : ℕ) (buffer : List ℕ) (pages : List Stored) (d : Stored) → ((k : ℕ) → k < length pages → (get_or pages k d).bytes ≡ page_of page_size buffer k)
-    → (n : ℕ) → n ≤ length pages → joined (take n pages) ≡ take (n * page_size) buffer
+    → (n : ℕ) → n ≤ length pages → bytes_of_pages (take n pages) ≡ take (n * page_size) buffer
 joined_first page_size buffer pages d each zero l = let none : 0 * page_size ≡ 0 = omega arith in rw none refl
 joined_first page_size buffer pages d each (suc n) l =
     let next : suc n ≡ n + 1 = omega arith in
@@ -29,10 +29,10 @@ joined_first page_size buffer pages d each (suc n) l =
 
 -- pages that are those of the buffer, as many as it takes, join to the buffer
 pub joined_whole : (page_size : ℕ) (buffer : List ℕ) (pages : List Stored) (d : Stored) → ((k : ℕ) → k < length pages → (get_or pages k d).bytes ≡ page_of page_size buffer k)
-    → length buffer ≤ length pages * page_size → joined pages ≡ buffer
+    → length buffer ≤ length pages * page_size → bytes_of_pages pages ≡ buffer
 joined_whole page_size buffer pages d each whole =
     let n = length pages in
-    ap joined (sym (take_all n pages (omega arith))) ∙ (joined_first page_size buffer pages d each n (omega arith) ∙ take_all (n * page_size) buffer whole)
+    ap bytes_of_pages (sym (take_all n pages (omega arith))) ∙ (joined_first page_size buffer pages d each n (omega arith) ∙ take_all (n * page_size) buffer whole)
 
 -- the answer to page k, where no page is lost
 pub stored_at : (houses : List House) (page_size : ℕ) (buffer : List ℕ) (placements : List (List ℕ)) (before now : List ℕ) (answer : List (Option Stored)) (pages : List Stored)

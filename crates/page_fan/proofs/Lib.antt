@@ -1,6 +1,6 @@
 pub mod Rises
 pub mod Standing
-pub mod Kept
+pub mod StoredSoFar
 pub mod Answered
 pub mod Replies
 pub mod Group

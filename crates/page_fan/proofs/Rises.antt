@@ -6,7 +6,7 @@ use Rattle.std.proofs.lemmas.List.Elements.{All-nil}
 use Rattle.std.proofs.lemmas.List.Sums.{sum_by-cons}
 use Rattle.page_store.specs.Count.{HasRisen}
 use Rattle.page_store.specs.House.{IsProvider}
-use Rattle.page_store.specs.Page.{Place}
+use Rattle.page_store.specs.Page.{Spot}
 use Rattle.page_fan.specs.Counts.{NoneFell, RoseAt, OthersStay}
 
 rises_after_set : {D : Type 0} (f : D → ℕ) (xs : List D) (i : ℕ) (x y : D) → x ≡ get_or xs i x → f x ≤ f y → (k : ℕ) → get_or (map f xs) k 0 ≤ get_or (map f (set xs i y)) k 0
@@ -75,11 +75,11 @@ pub sum_rises_at : {D : Type 0} (f : D → ℕ) (xs ys : List D) (provider : ℕ
 sum_rises_at f xs ys provider kept known h = let within : provider - 1 < length xs = omega (arith, known.0, known.1) in sum_rises f xs ys (provider - 1) kept within h
 
 -- where one door is used, the other counts stay
-pub others_stay : {D : Type 0} (f : D → ℕ) (xs : List D) (place : Place) (y : D) → 1 ≤ place.provider → OthersStay (place ∷ []) (map f xs) (map f (set xs (place.provider - 1) y))
-others_stay f xs place y some = λ n other.
-    let elsewhere : place.provider ≢ n + 1 = other 0 place (omega arith) in
-    let apart : n ≢ place.provider - 1 = λ e. elsewhere (omega (arith, e, some)) in
-    rw (map-set f xs (place.provider - 1) y) (sym (get_or-set_other (map f xs) (place.provider - 1) n (f y) 0 apart))
+pub others_stay : {D : Type 0} (f : D → ℕ) (xs : List D) (spot : Spot) (y : D) → 1 ≤ spot.provider → OthersStay (spot ∷ []) (map f xs) (map f (set xs (spot.provider - 1) y))
+others_stay f xs spot y some = λ n other.
+    let elsewhere : spot.provider ≢ n + 1 = other 0 spot (omega arith) in
+    let apart : n ≢ spot.provider - 1 = λ e. elsewhere (omega (arith, e, some)) in
+    rw (map-set f xs (spot.provider - 1) y) (sym (get_or-set_other (map f xs) (spot.provider - 1) n (f y) 0 apart))
 
 pub all_cons : {X : Type 0} (P : X → Type 0) (x : X) (xs : List X) → P x → All P xs → All P (x ∷ xs)
 all_cons P x xs h rest zero d l = h
@@ -92,11 +92,11 @@ all_parts P (y ∷ ys) x h =
     (all_cons P y ys (h 0 y (omega arith)) rest.0, rest.1)
 
 -- one door more was used
-pub others_next : (places : List Place) (i : ℕ) (d : Place) (before mid now : List ℕ) → i < length places → OthersStay (take i places) before mid → OthersStay (get_or places i d ∷ []) mid now → OthersStay (take (i + 1) places) before now
-others_next places i d before mid now l so_far next = λ n other.
-    let away : Place → Type 0 = λ p. p.provider ≢ n + 1 in
-    let parts = all_parts away (take i places) (get_or places i d) (rw (take_more places i d l) at other) in
-    so_far n parts.0 ∙ next n (all_cons away (get_or places i d) [] parts.1 (All-nil away))
+pub others_next : (spots : List Spot) (i : ℕ) (d : Spot) (before mid now : List ℕ) → i < length spots → OthersStay (take i spots) before mid → OthersStay (get_or spots i d ∷ []) mid now → OthersStay (take (i + 1) spots) before now
+others_next spots i d before mid now l so_far next = λ n other.
+    let away : Spot → Type 0 = λ p. p.provider ≢ n + 1 in
+    let parts = all_parts away (take i spots) (get_or spots i d) (rw (take_more spots i d l) at other) in
+    so_far n parts.0 ∙ next n (all_cons away (get_or spots i d) [] parts.1 (All-nil away))
 
 pub sum_none : {D : Type 0} (f : D → ℕ) (xs : List D) → All (λ x. f x ≡ 0) xs → sum_by f xs ≡ 0
 sum_none f [] h = refl

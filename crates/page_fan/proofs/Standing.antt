@@ -6,7 +6,7 @@ use Rattle.std.proofs.lemmas.Bool.{cases_eq}
 use Rattle.std.proofs.lemmas.List.{take_more, take_all, map-append}
 use Rattle.std.proofs.lemmas.Option.{slice_get_within, get_or_from_slice_get}
 use Rattle.std.proofs.Math.Seq.{get_or-append_seam}
-use Rattle.page_store.specs.Page.{Place}
+use Rattle.page_store.specs.Page.{Spot}
 use Rattle.page_store.specs.Stored.{Stored}
 use Rattle.page_fan.specs.Counts.{NoneFell, RoseAt}
 use Rattle.page_fan.specs.Replicas.{StandAt, providers_of}
@@ -42,25 +42,25 @@ none_stands missing (p ∷ chosen) at e (inr away) = all_of missing p chosen awa
 
 -- where there is none after all providers, each is missing
 pub none_stands_at_end : (missing : ℕ → Type 0) (chosen : List ℕ) (i : ℕ) (stored : Option Stored) → stored ≡ None → length chosen ≤ i
-    → StandAt missing (take i chosen) (providers_of (option_map_or (λ (s : Stored). s.places) stored [])) → All missing chosen
+    → StandAt missing (take i chosen) (providers_of (option_map_or (λ (s : Stored). s.spots) stored [])) → All missing chosen
 none_stands_at_end missing chosen i (Some page) e l h = cc
 none_stands_at_end missing chosen i None e l h = none_stands missing chosen [] refl (rw (take_all i chosen l) at h)
 
 -- the next provider's door took the page
-pub stands_at_next : (before mid now : List ℕ) (providers : List ℕ) (i : ℕ) (places new : List Place) (place : Place) → NoneFell mid now → i < length providers
-    → place.provider ≡ get_or providers i 0 → new ≡ places ++ place ∷ []
-    → StandAt (RoseAt before mid) (take i providers) (providers_of places) → StandAt (RoseAt before now) (take (i + 1) providers) (providers_of new)
-stands_at_next before mid now providers i places new place kept l at is h =
-    let e : providers_of new ≡ providers_of places ++ get_or providers i 0 ∷ [] = ap providers_of is ∙ (map-append (λ (p : Place). p.provider) places (place ∷ []) ∙ ap (λ q. providers_of places ++ q ∷ []) at) in
-    rw (take_more providers i 0 l, e) (StandAt-here (RoseAt before now) (take i providers) (providers_of places) (get_or providers i 0) (StandAt-weaken (RoseAt before mid) (RoseAt before now) (still_risen before mid now kept) (take i providers) (providers_of places) h))
+pub stands_at_next : (before mid now : List ℕ) (providers : List ℕ) (i : ℕ) (spots new : List Spot) (spot : Spot) → NoneFell mid now → i < length providers
+    → spot.provider ≡ get_or providers i 0 → new ≡ spots ++ spot ∷ []
+    → StandAt (RoseAt before mid) (take i providers) (providers_of spots) → StandAt (RoseAt before now) (take (i + 1) providers) (providers_of new)
+stands_at_next before mid now providers i spots new spot kept l at is h =
+    let e : providers_of new ≡ providers_of spots ++ get_or providers i 0 ∷ [] = ap providers_of is ∙ (map-append (λ (p : Spot). p.provider) spots (spot ∷ []) ∙ ap (λ q. providers_of spots ++ q ∷ []) at) in
+    rw (take_more providers i 0 l, e) (StandAt-here (RoseAt before now) (take i providers) (providers_of spots) (get_or providers i 0) (StandAt-weaken (RoseAt before mid) (RoseAt before now) (still_risen before mid now kept) (take i providers) (providers_of spots) h))
 
 -- the next provider's door failed
-pub stands_without_next : (before mid now : List ℕ) (providers : List ℕ) (i : ℕ) (places : List Place) → NoneFell mid now → i < length providers
+pub stands_without_next : (before mid now : List ℕ) (providers : List ℕ) (i : ℕ) (spots : List Spot) → NoneFell mid now → i < length providers
     → RoseAt before now (get_or providers i 0)
-    → StandAt (RoseAt before mid) (take i providers) (providers_of places) → StandAt (RoseAt before now) (take (i + 1) providers) (providers_of places)
-stands_without_next before mid now providers i places kept l rose h =
-    rw (take_more providers i 0 l) (StandAt-away (RoseAt before now) (take i providers) (providers_of places) (get_or providers i 0) rose
-    (StandAt-weaken (RoseAt before mid) (RoseAt before now) (still_risen before mid now kept) (take i providers) (providers_of places) h))
+    → StandAt (RoseAt before mid) (take i providers) (providers_of spots) → StandAt (RoseAt before now) (take (i + 1) providers) (providers_of spots)
+stands_without_next before mid now providers i spots kept l rose h =
+    rw (take_more providers i 0 l) (StandAt-away (RoseAt before now) (take i providers) (providers_of spots) (get_or providers i 0) rose
+    (StandAt-weaken (RoseAt before mid) (RoseAt before now) (still_risen before mid now kept) (take i providers) (providers_of spots) h))
 
 get_last : {X : Type 0} (xs : List X) (x y : X) (i : ℕ) → i ≡ length xs → slice_get (xs ++ x ∷ []) i ≡ Some y → x ≡ y
 get_last xs x y i e h = sym (get_or-append_seam xs x [] x) ∙ (ap (λ k. get_or (xs ++ x ∷ []) k x) (sym e) ∙ get_or_from_slice_get (xs ++ x ∷ []) i y x h)

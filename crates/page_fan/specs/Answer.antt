@@ -13,9 +13,9 @@ page_of page_size buffer i = take page_size (drop (i * page_size) buffer)
 -- the page stands for these bytes, and has a replica at each chosen provider whose door's count didn't rise, and one at least
 pub record IsStoredAs (houses : List House) (content chosen before now : List ℕ) (page : Stored) : Type 0 where
   pub bytes : page.bytes ≡ content
-  pub here : All (IsAmong houses) page.places
-  pub replicas : StandAt (RoseAt before now) chosen (providers_of page.places)
-  pub some : 1 ≤ length page.places
+  pub here : All (IsAmong houses) page.spots
+  pub replicas : StandAt (RoseAt before now) chosen (providers_of page.spots)
+  pub some : 1 ≤ length page.spots
 
 -- there is a chosen provider, and the count of each one's door rose
 pub record IsLost (chosen before now : List ℕ) : Type 0 where

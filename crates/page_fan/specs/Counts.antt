@@ -1,7 +1,7 @@
 -- The counts of faults of several doors: the door to provider 1 comes first.
 use Rattle.std.specs.Prelude.{◌≡◌, ◌≢◌, ℕ, ◌+◌, ◌-◌, ◌<◌, ◌≤◌, List, All, length, slice_index, take}
 use Rattle.page_store.specs.Count.{HasRisen}
-use Rattle.page_store.specs.Page.{Place}
+use Rattle.page_store.specs.Page.{Spot}
 
 -- there are as many doors as before, and no count fell
 pub record NoneFell (before now : List ℕ) : Type 0 where
@@ -16,13 +16,13 @@ count_at counts provider = slice_index counts (provider - 1)
 abbrev pub RoseAt : List ℕ → List ℕ → ℕ → Type 0
 RoseAt before now provider = HasRisen (count_at before provider) (count_at now provider)
 
--- the count of each door stayed but of those to the providers of these places
-abbrev pub OthersStay : List Place → List ℕ → List ℕ → Type 0
-OthersStay places before now = (n : ℕ) → All (λ (place : Place). place.provider ≢ n + 1) places → slice_index before n ≡ slice_index now n
+-- the count of each door stayed but of those to the providers of these spots
+abbrev pub OthersStay : List Spot → List ℕ → List ℕ → Type 0
+OthersStay spots before now = (n : ℕ) → All (λ (spot : Spot). spot.provider ≢ n + 1) spots → slice_index before n ≡ slice_index now n
 
--- the bytes came from one of these places: the doors to those before it failed, and those behind it weren't tried
-pub record CameFrom (places : List Place) (before now : List ℕ) : Type 0 where
+-- the bytes came from one of these spots: the doors to those before it failed, and those behind it weren't tried
+pub record CameFrom (spots : List Spot) (before now : List ℕ) : Type 0 where
   pub tried : ℕ
-  pub within : tried < length places
-  pub failed : All (λ (place : Place). RoseAt before now place.provider) (take tried places)
-  pub others : OthersStay (take (tried + 1) places) before now
+  pub within : tried < length spots
+  pub failed : All (λ (spot : Spot). RoseAt before now spot.provider) (take tried spots)
+  pub others : OthersStay (take (tried + 1) spots) before now

@@ -15,8 +15,8 @@ pub record CanBePut (providers : ℕ) (buffer : List ℕ) (put : Put) : Type 0 w
 
 -- an answer to the put of these bytes at this provider, whose door's count was `before` and is `now`
 pub record IsAnswer (houses : List House) (provider : ℕ) (content : List ℕ) (before now : ℕ) (answer : PutAnswer) : Type 0 where
-  pub here : IfStored answer (λ page. IsAmong houses page.place)
-  pub there : IfStored answer (λ page. page.place.provider ≡ provider)
+  pub here : IfStored answer (λ page. IsAmong houses page.spot)
+  pub there : IfStored answer (λ page. page.spot.provider ≡ provider)
   pub bytes : IfStored answer (λ page. page.bytes ≡ content)
   pub failed : OnPutFailed answer (HasRisen before now)
 

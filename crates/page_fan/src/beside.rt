@@ -71,7 +71,7 @@ pub fn put_all_groups<D: Door + Send, R: Threads + Wait + Sync>(
         rt,
         stands,
         threads,
-        &|place, stand| stand.put_group(rt, place, houses, p, buffer, puts),
+        &|index, stand| stand.put_group(rt, index, houses, p, buffer, puts),
     );
 }
 

@@ -81,8 +81,8 @@ impl<D: Door> Doors<D> {
         ensures* writes_back { sem 𝓛 (LendsDoor D.row self.entry provider result) }
         ensures this { slice_get self.old (provider - 1) ≡ Some result.now }
     {
-        let place = provider as usize - 1;
-        &mut self.stands[place].door
+        let index = provider as usize - 1;
+        &mut self.stands[index].door
     }
 
     // Gets the page's bytes from byte `from` on, by the door to its provider.
@@ -93,14 +93,14 @@ impl<D: Door> Doors<D> {
         from: u32,
         out: &mut [u8],
     ) -> GetAnswer
-        requires here { IsAmong houses.now page.now.place }
-        requires served { IsProvider (length self.old) page.now.place.provider }
+        requires here { IsAmong houses.now page.now.spot }
+        requires served { IsProvider (length self.old) page.now.spot.provider }
         requires room { from + length out.old ≤ length page.now.bytes }
         ensures got { All D.is_true self.old
             → OnGot result (out.new ≡ slice_range page.now.bytes from (from + length out.old)) }
         ensures failed { OnGetFailed result
-            (RoseAt (map D.faults self.old) (map D.faults self.new) page.now.place.provider) }
-        ensures others { OthersStay (page.now.place ∷ []) (map D.faults self.old) (map D.faults self.new) }
+            (RoseAt (map D.faults self.old) (map D.faults self.new) page.now.spot.provider) }
+        ensures others { OthersStay (page.now.spot ∷ []) (map D.faults self.old) (map D.faults self.new) }
         ensures none_fell { NoneFell (map D.faults self.old) (map D.faults self.new) }
         ensures count { length self.new ≡ length self.old }
         ensures truth_stays { All D.is_true self.old → All D.is_true self.new }

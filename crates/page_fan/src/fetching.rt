@@ -19,16 +19,16 @@ pub fn fetch<D: Door>(
     from: u32,
     out: &mut [u8],
 ) -> bool
-    requires here { All (IsAmong houses.now) page.now.places }
-    requires served { All (λ place. IsProvider (length doors.old) place.provider) page.now.places }
+    requires here { All (IsAmong houses.now) page.now.spots }
+    requires served { All (λ spot. IsProvider (length doors.old) spot.provider) page.now.spots }
     requires room { from + length out.old ≤ length page.now.bytes }
     ensures got { IsTrue result → All D.is_true doors.old
         → out.new ≡ slice_range page.now.bytes from (from + length out.old) }
-    ensures in_order { IsTrue result → CameFrom page.now.places (map D.faults doors.old) (map D.faults doors.new) }
+    ensures in_order { IsTrue result → CameFrom page.now.spots (map D.faults doors.old) (map D.faults doors.new) }
     ensures failed { IsFalse result
-        → All (λ place. RoseAt (map D.faults doors.old) (map D.faults doors.new) place.provider) page.now.places }
+        → All (λ spot. RoseAt (map D.faults doors.old) (map D.faults doors.new) spot.provider) page.now.spots }
     ensures counted { IsFalse result → HasRisen (sum_by D.faults doors.old) (sum_by D.faults doors.new) }
-    ensures others { IsFalse result → OthersStay page.now.places (map D.faults doors.old) (map D.faults doors.new) }
+    ensures others { IsFalse result → OthersStay page.now.spots (map D.faults doors.old) (map D.faults doors.new) }
     ensures none_fell { NoneFell (map D.faults doors.old) (map D.faults doors.new) }
     ensures sum_never_falls { sum_by D.faults doors.old ≤ sum_by D.faults doors.new }
     ensures count { length doors.new ≡ length doors.old }

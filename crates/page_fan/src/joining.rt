@@ -124,10 +124,10 @@ fn with_replica(
     behind: u32,
 ) -> Result<StoredPage, NoMemory>
     requires same { IfSome stored (λ s. s.bytes ≡ page.bytes) }
-    requires room { IfSome stored (λ s. length s.places < 8) }
+    requires room { IfSome stored (λ s. length s.spots < 8) }
     ensures bytes { IfOk result (λ new. new.bytes ≡ page.bytes) }
-    ensures places { IfOk result (λ new.
-        new.places ≡ option_map_or (λ s. s.places) stored [] ++ page.place ∷ []) }
+    ensures spots { IfOk result (λ new.
+        new.spots ≡ option_map_or (λ s. s.spots) stored [] ++ page.spot ∷ []) }
 {
     match stored {
         None => Ok(StoredPage::of(alloc, page)),

@@ -55,24 +55,24 @@ impl<D: Door> Stand<D> {
     }
 
     // Puts the pages of the door's own provider, in order, and leaves one reply to each put in the tray. It stops where
-    // the tray is refused more memory. The stand's place, from 0, is one below the number of its provider.
+    // the tray is refused more memory. The stand's index, from 0, is one below the number of its provider.
     pub(crate) fn put_group<R: Wait>(
         &mut self,
         rt: &R,
-        place: usize,
+        index: usize,
         houses: &Houses,
         p: PageSize,
         buffer: &[u8],
         puts: &[Put],
     )
         requires { All (CanBePut (length houses.now) buffer.now) puts.now }
-        ensures replies { IsReplied houses.now p buffer.now (place + 1) (D.faults self.old.door) D.faults self.new }
-        ensures each { HasReplyToEach puts.now (place + 1) self.old self.new }
+        ensures replies { IsReplied houses.now p buffer.now (index + 1) (D.faults self.old.door) D.faults self.new }
+        ensures each { HasReplyToEach puts.now (index + 1) self.old self.new }
         ensures truth_stays { D.is_true self.old.door ↔ D.is_true self.new.door }
     {
         self.tray.clear();
         for put in puts {
-            if put.provider as usize - 1 == place {
+            if put.provider as usize - 1 == index {
                 let bytes = page_bytes(buffer, put.at, p.bytes() as usize);
                 let answer = self.put(rt, houses, put.provider, bytes);
                 if self.tray.push_back(Reply { at: put.at, answer }).is_err() {
@@ -114,8 +114,8 @@ impl<D: Door> Stand<D> {
         requires house { IsProvider (length houses.now) provider }
         requires some { 1 ≤ length bytes.now }
         requires small { length bytes.now ≤ MAX_PAGE }
-        ensures here { IfStored result (λ page. IsAmong houses.now page.place) }
-        ensures there { IfStored result (λ page. page.place.provider ≡ provider) }
+        ensures here { IfStored result (λ page. IsAmong houses.now page.spot) }
+        ensures there { IfStored result (λ page. page.spot.provider ≡ provider) }
         ensures bytes { IfStored result (λ page. page.bytes ≡ bytes.now) }
         ensures failed { OnPutFailed result (HasRisen (D.faults self.old.door) (D.faults self.new.door)) }
         ensures never_falls { D.faults self.old.door ≤ D.faults self.new.door }

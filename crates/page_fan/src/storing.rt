@@ -5,7 +5,7 @@ ghost use Rattle.std.specs.Prelude.{slice_index_or};
 ghost use Rattle.std.specs.Option.{option_map_or};
 ghost use Rattle.page_store.specs.Count.{HasRisen};
 ghost use Rattle.page_store.specs.House.{IsProvider};
-ghost use Rattle.page_store.specs.Stored.{joined, IsCut, LieAmong};
+ghost use Rattle.page_store.specs.Stored.{bytes_of_pages, IsCut, LieAmong};
 ghost use Rattle.replica_place.specs.Chosen.{chosen};
 ghost use Rattle.page_fan.specs.Answer.{AreAnswered, HaveLengths, IsFirstLost, IsPageAnswer};
 ghost use Rattle.page_fan.specs.Counts.{NoneFell};
@@ -63,7 +63,7 @@ pub fn store<D: BesideDoor, R: Threads + Wait + Sync>(
     requires served { All (All (IsProvider (length doors.old))) placements.now }
 
     // Where all is well.
-    ensures bytes { IfOk result (λ pages. joined pages.pages ≡ buffer.now) }
+    ensures bytes { IfOk result (λ pages. bytes_of_pages pages.pages ≡ buffer.now) }
     ensures page_size { IfOk result (λ pages. pages.page_size ≡ p) }
     ensures cut { IfOk result (λ pages. IsCut p pages.pages) }
     ensures here { IfOk result (λ pages. LieAmong houses.now pages.pages) }

@@ -4,4 +4,4 @@ pub mod Stored
 pub mod Count
 pub mod Answers
 pub mod Flaky
-pub mod PagesKept
+pub mod PagesInvariant

@@ -6,31 +6,31 @@ use Rattle.boxcar.specs.Table.{id_at}
 use Rattle.page_store.specs.House.{House, IsProvider}
 
 -- where a page lies: the provider that has it, its shelf there, and the mark of that shelf
-pub record Place : Type 0 where
+pub record Spot : Type 0 where
   pub provider : ℕ
   pub shelf : ℕ
   pub mark : ℕ
 
-abbrev pub place_coded : Coded Place
-place_coded = coded_via (coded× coded_ℕ (coded× coded_ℕ coded_ℕ)) (λ (p : Place). (p.provider, (p.shelf, p.mark))) (λ x y e i. record { provider = (e i).0; shelf = (e i).1.0; mark = (e i).1.1 })
+abbrev pub spot_coded : Coded Spot
+spot_coded = coded_via (coded× coded_ℕ (coded× coded_ℕ coded_ℕ)) (λ (p : Spot). (p.provider, (p.shelf, p.mark))) (λ x y e i. record { provider = (e i).0; shelf = (e i).1.0; mark = (e i).1.1 })
 
 -- a page: where it lies, and the bytes that were put
 pub record Page : Type 0 where
-  pub place : Place
+  pub spot : Spot
   pub bytes : List ℕ
 
 abbrev pub page_coded : Coded Page
-page_coded = coded_via (coded× place_coded (coded_list coded_ℕ)) (λ (p : Page). (p.place, p.bytes)) (λ x y e i. record { place = (e i).0; bytes = (e i).1 })
+page_coded = coded_via (coded× spot_coded (coded_list coded_ℕ)) (λ (p : Page). (p.spot, p.bytes)) (λ x y e i. record { spot = (e i).0; bytes = (e i).1 })
 
--- a page that lies at this place was stored in this house, and has the house's provider
-pub record IsIn (house : House) (place : Place) : Type 0 where
-  pub provided : place.provider ≡ house.provider
-  pub shown : place.mark ≡ id_at house.shelves.buckets place.shelf
+-- a page that lies at this spot was stored in this house, and has the house's provider
+pub record IsIn (house : House) (spot : Spot) : Type 0 where
+  pub provided : spot.provider ≡ house.provider
+  pub shown : spot.mark ≡ id_at house.shelves.buckets spot.shelf
 
--- the place is in the house of its provider, which is one of these
-pub record IsAmong (houses : List House) (place : Place) : Type 0 where
-  pub known : IsProvider (length houses) place.provider
-  pub kept : IsSomeAnd (slice_get houses (place.provider - 1)) (λ house. IsIn house place)
+-- the spot is in the house of its provider, which is one of these
+pub record IsAmong (houses : List House) (spot : Spot) : Type 0 where
+  pub known : IsProvider (length houses) spot.provider
+  pub kept : IsSomeAnd (slice_get houses (spot.provider - 1)) (λ house. IsIn house spot)
 
 -- the other replicas of a page: each stands for the same bytes, and there are at most seven
 pub record AreOthers (bytes : List ℕ) (others : List Page) : Type 0 where

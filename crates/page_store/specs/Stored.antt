@@ -4,15 +4,15 @@ use Rattle.std.specs.List.{flat_map}
 use Rattle.std.specs.Coded.{Coded, coded×, coded_ℕ, coded_list}
 use base.Stored.{coded_via}
 use Rattle.page_store.specs.House.{House}
-use Rattle.page_store.specs.Page.{Place, place_coded, IsAmong}
+use Rattle.page_store.specs.Page.{Spot, spot_coded, IsAmong}
 
--- a stored page: its bytes, and the place of each replica
+-- a stored page: its bytes, and the spot of each replica
 pub record Stored : Type 0 where
   pub bytes : List ℕ
-  pub places : List Place
+  pub spots : List Spot
 
 abbrev pub stored_coded : Coded Stored
-stored_coded = coded_via (coded× (coded_list coded_ℕ) (coded_list place_coded)) (λ (s : Stored). (s.bytes, s.places)) (λ x y e i. record { bytes = (e i).0; places = (e i).1 })
+stored_coded = coded_via (coded× (coded_list coded_ℕ) (coded_list spot_coded)) (λ (s : Stored). (s.bytes, s.spots)) (λ x y e i. record { bytes = (e i).0; spots = (e i).1 })
 
 -- the pages of one update: the page size, how many pages there is room for, and the pages
 pub record Cut : Type 0 where
@@ -24,8 +24,8 @@ abbrev pub cut_coded : Coded Cut
 cut_coded = coded_via (coded× coded_ℕ (coded× coded_ℕ (coded_list stored_coded))) (λ (c : Cut). (c.page_size, (c.room, c.pages))) (λ x y e i. record { page_size = (e i).0; room = (e i).1.0; pages = (e i).1.1 })
 
 -- the bytes of the pages, one page after the other
-abbrev pub joined : List Stored → List ℕ
-joined pages = flat_map (λ (s : Stored). s.bytes) pages
+abbrev pub bytes_of_pages : List Stored → List ℕ
+bytes_of_pages pages = flat_map (λ (s : Stored). s.bytes) pages
 
 -- each page has as many bytes as the page size
 abbrev pub AllFull : ℕ → List Stored → Type 0
@@ -39,4 +39,4 @@ IsCut page_size (page ∷ next ∷ rest) = (length page.bytes ≡ page_size) × 
 
 -- each replica of each page lies in one of the houses
 abbrev pub LieAmong : List House → List Stored → Type 0
-LieAmong houses pages = All (λ s. All (IsAmong houses) s.places) pages
+LieAmong houses pages = All (λ s. All (IsAmong houses) s.spots) pages

@@ -41,7 +41,7 @@ pub trait Door {
     fn put<R: Wait>(&mut self, rt: &R, house: &PageHouse, bytes: &[u8]) -> PutAnswer
         requires some { 1 ≤ length bytes.now }
         requires small { length bytes.now ≤ MAX_PAGE }
-        ensures here { IfStored result (λ page. IsIn house.now page.place) }
+        ensures here { IfStored result (λ page. IsIn house.now page.spot) }
         ensures bytes { IfStored result (λ page. page.bytes ≡ bytes.now) }
         ensures failed { OnPutFailed result (HasRisen (faults self.old) (faults self.new)) }
         ensures never_falls { faults self.old ≤ faults self.new }
@@ -49,7 +49,7 @@ pub trait Door {
 
     /// Fills `out` with the page's bytes from byte `from` on. It waits for nobody and takes no memory.
     fn get(&mut self, house: &PageHouse, page: &PageRef, from: u32, out: &mut [u8]) -> GetAnswer
-        requires here { IsIn house.now page.now.place }
+        requires here { IsIn house.now page.now.spot }
         requires room { from + length out.old ≤ length page.now.bytes }
         ensures got { OnGot result (is_true self.old → out.new ≡ slice_range page.now.bytes from (from + length out.old)) }
         ensures failed { OnGetFailed result (HasRisen (faults self.old) (faults self.new)) }

@@ -76,7 +76,7 @@ impl Door for FlakyDoor {
         requires small { length bytes.now ≤ MAX_PAGE }
         ensures listed { is_put_failed result ≡ fails_next self.old }
         ensures counted { self.new ≡ after_call self.old }
-        ensures here { IfStored result (λ page. IsIn house.now page.place) }
+        ensures here { IfStored result (λ page. IsIn house.now page.spot) }
         ensures bytes { IfStored result (λ page. page.bytes ≡ bytes.now) }
         ensures failed { OnPutFailed result (HasRisen self.old.faults self.new.faults) }
         ensures never_falls { self.old.faults ≤ self.new.faults }
@@ -92,7 +92,7 @@ impl Door for FlakyDoor {
     }
 
     fn get(&mut self, house: &PageHouse, page: &PageRef, from: u32, out: &mut [u8]) -> GetAnswer
-        requires here { IsIn house.now page.now.place }
+        requires here { IsIn house.now page.now.spot }
         requires room { from + length out.old ≤ length page.now.bytes }
         ensures listed { is_get_failed result ≡ fails_next self.old }
         ensures counted { self.new ≡ after_call self.old }

@@ -44,7 +44,7 @@ impl Model for PageRef {
 
     ghost coded = { page_coded };
 
-    ghost view = { λ p. record { place = record { provider = p.provider; shelf = p.pushed.bucket; mark = p.pushed.row }; bytes = p.pushed.value.items } };
+    ghost view = { λ p. record { spot = record { provider = p.provider; shelf = p.pushed.bucket; mark = p.pushed.row }; bytes = p.pushed.value.items } };
 
     ghost invariant = { λ p. length p.pushed.value.items ≡ p.len };
 }
@@ -73,7 +73,7 @@ impl PageHouse {
     pub fn put<R: Wait>(&self, rt: &R, bytes: &[u8]) -> Result<PageRef, NoMemory>
         requires some { 1 ≤ length bytes.now }
         requires small { length bytes.now ≤ MAX_PAGE }
-        ensures here { IfOk result (λ page. IsIn self.now page.place) }
+        ensures here { IfOk result (λ page. IsIn self.now page.spot) }
         ensures bytes { IfOk result (λ page. page.bytes ≡ bytes.now) }
     {
         let copy = Vec::from_slice(self.alloc, bytes)?;
@@ -90,7 +90,7 @@ impl PageHouse {
 
     /// Copies bytes of the page into `out`, from byte `from` on and as many as `out` takes. It waits for nobody.
     pub fn copy_to(&self, page: &PageRef, from: u32, out: &mut [u8])
-        requires here { IsIn self.now page.now.place }
+        requires here { IsIn self.now page.now.spot }
         requires room { from + length out.old ≤ length page.now.bytes }
         ensures { out.new ≡ slice_range page.now.bytes from (from + length out.old) }
     {
@@ -103,7 +103,7 @@ impl PageHouse {
 impl PageRef {
     /// The number of the provider that has the page, from 1.
     pub fn provider(&self) -> u32
-        ensures { result ≡ self.now.place.provider }
+        ensures { result ≡ self.now.spot.provider }
     {
         self.provider
     }

@@ -1,6 +1,6 @@
 // A page with its replicas, and the pages of one update.
 ghost use Rattle.std.specs.Prelude.{◌≡◌, ◌+◌, ◌*◌, ◌<◌, ◌≤◌, length, IfOk, OnOk, OnErr, Some, slice_get, slice_range, [], ◌∷◌, ◌++◌, min};
-ghost use Rattle.page_store.specs.Stored.{joined, AllFull, IsCut};
+ghost use Rattle.page_store.specs.Stored.{bytes_of_pages, AllFull, IsCut};
 
 use crate::NoMemory;
 use crate::house::PageRef;
@@ -24,7 +24,7 @@ impl Model for StoredPage {
 
     ghost coded = { stored_coded };
 
-    ghost view = { λ s. record { bytes = s.first.bytes; places = s.first.place ∷ map (λ p. p.place) s.others.items } };
+    ghost view = { λ s. record { bytes = s.first.bytes; spots = s.first.spot ∷ map (λ p. p.spot) s.others.items } };
 
     ghost invariant = { λ s. AreOthers s.first.bytes s.others.items };
 }
@@ -32,7 +32,7 @@ impl Model for StoredPage {
 impl StoredPage {
     /// A page with one replica. It takes no memory.
     pub fn of(alloc: Global, first: PageRef) -> StoredPage
-        ensures { result ≡ record { bytes = first.bytes; places = first.place ∷ [] } }
+        ensures { result ≡ record { bytes = first.bytes; spots = first.spot ∷ [] } }
     {
         StoredPage {
             first,
@@ -45,8 +45,8 @@ impl StoredPage {
     /// is refused, the page stays as it was.
     pub fn add(&mut self, other: PageRef, more: u32) -> Result<(), NoMemory>
         requires same { other.bytes ≡ self.old.bytes }
-        requires room { length self.old.places < 8 }
-        ensures added { OnOk result (self.new ≡ record { bytes = self.old.bytes; places = self.old.places ++ other.place ∷ [] }) }
+        requires room { length self.old.spots < 8 }
+        ensures added { OnOk result (self.new ≡ record { bytes = self.old.bytes; spots = self.old.spots ++ other.spot ∷ [] }) }
         ensures err { OnErr result (self.new ≡ self.old) }
     {
         self.others.reserve_exact(more as usize + 1)?;
@@ -63,7 +63,7 @@ impl StoredPage {
 
     /// The number of replicas, 1 to 8.
     pub fn replica_count(&self) -> u32
-        ensures count { result ≡ length self.now.places }
+        ensures count { result ≡ length self.now.spots }
         ensures some { 1 ≤ result }
         ensures few { result ≤ 8 }
     {
@@ -72,8 +72,8 @@ impl StoredPage {
 
     /// Replica `i`, from 0, in the order in which they were added.
     pub fn replica(&self, i: u32) -> &PageRef
-        requires { i < length self.now.places }
-        ensures place { slice_get self.now.places i ≡ Some result.now.place }
+        requires { i < length self.now.spots }
+        ensures spot { slice_get self.now.spots i ≡ Some result.now.spot }
         ensures same { result.now.bytes ≡ self.now.bytes }
     {
         if i == 0 {
@@ -101,7 +101,7 @@ impl Model for Pages {
 
     ghost coded = { cut_coded };
 
-    ghost use Rattle.page_store.specs.PagesKept.{KeepsPages};
+    ghost use Rattle.page_store.specs.PagesInvariant.{KeepsPages};
 
     ghost view = { λ g. record { page_size = g.page_size; room = g.room; pages = g.pages.items } };
 
@@ -140,7 +140,7 @@ impl Pages {
     pub fn count(&self) -> u32
         ensures count { result ≡ length self.now.pages }
         ensures cut { IsCut self.now.page_size self.now.pages }
-        ensures enough { length (joined self.now.pages) ≤ result * self.now.page_size }
+        ensures enough { length (bytes_of_pages self.now.pages) ≤ result * self.now.page_size }
     {
         let _room = self.room;
         self.pages.len() as u32
@@ -148,7 +148,7 @@ impl Pages {
 
     /// The number of bytes of all pages.
     pub fn len(&self) -> u64
-        ensures { result ≡ length (joined self.now.pages) }
+        ensures { result ≡ length (bytes_of_pages self.now.pages) }
     {
         self.len
     }
@@ -157,7 +157,7 @@ impl Pages {
     pub fn page(&self, i: u32) -> &StoredPage
         requires { i < length self.now.pages }
         ensures this { slice_get self.now.pages i ≡ Some result.now }
-        ensures bytes { result.now.bytes ≡ slice_range (joined self.now.pages) (i * self.now.page_size) (min ((i + 1) * self.now.page_size) (length (joined self.now.pages))) }
+        ensures bytes { result.now.bytes ≡ slice_range (bytes_of_pages self.now.pages) (i * self.now.page_size) (min ((i + 1) * self.now.page_size) (length (bytes_of_pages self.now.pages))) }
     {
         &self.pages[i as usize]
     }

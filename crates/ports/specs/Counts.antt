@@ -6,6 +6,6 @@ pub record RoseBy (n before after : ℕ) : Type 0 where
   pub by : after < 2 ^ 64 - 1 → before + n ≤ after
 
 -- a count that counts n more, up to the greatest u64
-abbrev pub counted : ℕ → ℕ → ℕ
-counted zero count = count
-counted (suc n) count = min (count + suc n) (2 ^ 64 - 1)
+abbrev pub count_after : ℕ → ℕ → ℕ
+count_after zero count = count
+count_after (suc n) count = min (count + suc n) (2 ^ 64 - 1)

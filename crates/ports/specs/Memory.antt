@@ -30,7 +30,7 @@ read_answer true left piece room = Takens.Failed
 read_answer false left piece room = next_piece left piece room
 
 -- A sink in memory: the bytes that it took, how many it takes in all, and its count.
-pub record Kept : Type 0 where
+pub record SinkState : Type 0 where
   pub bytes : List ℕ
   pub limit : ℕ
   pub faults : ℕ

@@ -1,5 +1,5 @@
 ghost use Rattle.std.specs.Prelude.{◌≡◌, IfSome};
-ghost use Rattle.ports.specs.Counts.{RoseBy, counted};
+ghost use Rattle.ports.specs.Counts.{RoseBy, count_after};
 ghost use Rattle.ports.specs.Files.{file_faults, IsWithinLimit, ReadsStart};
 
 use crate::count::count_up;
@@ -71,7 +71,7 @@ impl<R: SystemFiles> Files for HostFiles<R> {
         ensures faults { RoseBy (file_faults result) (⟦<HostFiles<R> as Files>⟧.faults self.old) (⟦<HostFiles<R> as Files>⟧.faults self.new) }
 
         // That only a fault counts one.
-        ensures count { ⟦<HostFiles<R> as Files>⟧.faults self.new ≡ counted (file_faults result) (⟦<HostFiles<R> as Files>⟧.faults self.old) }
+        ensures count { ⟦<HostFiles<R> as Files>⟧.faults self.new ≡ count_after (file_faults result) (⟦<HostFiles<R> as Files>⟧.faults self.old) }
     {
         let text = read_named(&self.system, self.alloc, name, limit);
         match &text {

@@ -18,7 +18,7 @@ pub enum Accepted<P> {
 /// having risen.
 pub trait Listener {
     ghost use Rattle.std.specs.Prelude.{◌≡◌, ℕ, Bool, true};
-    ghost use Rattle.ports.specs.Counts.{RoseBy, counted};
+    ghost use Rattle.ports.specs.Counts.{RoseBy, count_after};
     ghost use Rattle.ports.specs.Listener.{refusals, accept_faults, peers_in, done_after, OnListening};
 
     /// What it hands out.
@@ -48,6 +48,6 @@ pub trait Listener {
         requires { Self.listens self.old ≡ true }
         ensures faults { RoseBy (accept_faults result) (Self.faults self.old) (Self.faults self.new) }
         ensures listens { Self.listens self.new ≡ true }
-        ensures handed { Self.handed self.new ≡ counted (peers_in result) (Self.handed self.old) }
+        ensures handed { Self.handed self.new ≡ count_after (peers_in result) (Self.handed self.old) }
         ensures done { Self.is_done self.new ≡ done_after result (Self.is_done self.old) };
 }

@@ -1,6 +1,6 @@
 ghost use Rattle.std.specs.Prelude.{◌≡◌, ℕ, List, Some, None};
 ghost use Rattle.std.specs.BTreeMap.{get_by_text};
-ghost use Rattle.ports.specs.Counts.{RoseBy, counted};
+ghost use Rattle.ports.specs.Counts.{RoseBy, count_after};
 ghost use Rattle.ports.specs.Files.{file_faults, IsWithinLimit, Reads};
 
 use crate::count::count_up;
@@ -66,7 +66,7 @@ impl Files for MemFiles {
 
         // When a read fails, and that only this counts a fault.
         ensures missing { file_faults result ≡ 1 → get_by_text self.old.files name.now ≡ None }
-        ensures count { self.new.faults ≡ counted (file_faults result) self.old.faults }
+        ensures count { self.new.faults ≡ count_after (file_faults result) self.old.faults }
     {
         let text = self.text(name, limit);
         match &text {

@@ -1,5 +1,5 @@
 ghost use Rattle.std.specs.Prelude.{◌≡◌, ℕ, ◌↔◌, true, false, IsTrue, [], drop, string_bytes};
-ghost use Rattle.ports.specs.Counts.{RoseBy, counted};
+ghost use Rattle.ports.specs.Counts.{RoseBy, count_after};
 
 use crate::count::count_up;
 use crate::listener::{Accepted, Listener};
@@ -82,7 +82,7 @@ impl<P: Source + Sink> Listener for MemListener<P> {
 
         // Which answer it is, that only a refusal counts a fault, and what it leaves.
         ensures answer { IsTrue result ↔ (address.now ≡ self.old.address) }
-        ensures count { self.new.faults ≡ counted (refusals result) self.old.faults }
+        ensures count { self.new.faults ≡ count_after (refusals result) self.old.faults }
         ensures peers { self.new.peers ≡ self.old.peers }
         ensures plan { self.new.plan ≡ self.old.plan }
         ensures address { self.new.address ≡ self.old.address }
@@ -102,12 +102,12 @@ impl<P: Source + Sink> Listener for MemListener<P> {
         // What each listener ensures.
         ensures faults { RoseBy (accept_faults result) self.old.faults self.new.faults }
         ensures listens { self.new.listens ≡ true }
-        ensures handed { self.new.handed ≡ counted (peers_in result) self.old.handed }
+        ensures handed { self.new.handed ≡ count_after (peers_in result) self.old.handed }
         ensures done { self.new.done ≡ done_after result self.old.done }
 
         // Which answer it is, that only a failing call counts a fault, and what it leaves.
         ensures answer { result ≡ accept_answer (fails_next self.old.plan) self.old.peers }
-        ensures count { self.new.faults ≡ counted (accept_faults result) self.old.faults }
+        ensures count { self.new.faults ≡ count_after (accept_faults result) self.old.faults }
         ensures peers { self.new.peers ≡ drop (peers_in result) self.old.peers }
         ensures plan { self.new.plan ≡ drop 1 self.old.plan }
         ensures address { self.new.address ≡ self.old.address }

@@ -1,5 +1,5 @@
 ghost use Rattle.std.specs.Prelude.{◌≡◌, ℕ, ◌+◌, ◌-◌, ◌<◌, ◌≤◌, List, [], ◌++◌, length, take, drop, min, IfOk};
-ghost use Rattle.ports.specs.Counts.{counted, RoseBy};
+ghost use Rattle.ports.specs.Counts.{count_after, RoseBy};
 
 use crate::count::count_up;
 use crate::plan::Plan;
@@ -156,9 +156,9 @@ pub struct MemSink {
 
 impl Model for MemSink {
     ghost use Rattle.std.specs.Prelude.{◌≤◌, vec_len, vec_capacity};
-    ghost use Rattle.ports.specs.Memory.{Kept};
+    ghost use Rattle.ports.specs.Memory.{SinkState};
 
-    ghost Value = { Kept };
+    ghost Value = { SinkState };
 
     ghost view = { λ s. record { bytes = s.bytes.items; limit = s.limit; faults = s.faults } };
 

@@ -1,6 +1,6 @@
 ghost use Rattle.std.specs.Prelude.{◌≡◌, ◌<◌, ◌≤◌, length};
 ghost use Rattle.std.specs.Io.KnownBytes.{Consumes};
-ghost use Rattle.ports.specs.Counts.{counted, RoseBy};
+ghost use Rattle.ports.specs.Counts.{count_after, RoseBy};
 ghost use Rattle.ports.specs.Stream.{taken_bytes, IsPiece, EndsAtEnd, CountsEnd, IsWithin, read_fault_count};
 
 use crate::count::count_up;
@@ -127,7 +127,7 @@ impl<R: Read> Source for ReaderSource<R> {
         ensures ends { CountsEnd result (⟦<ReaderSource<R> as Ends>⟧.ends self.old) (⟦<ReaderSource<R> as Ends>⟧.ends self.new) }
 
         // That only a fault counts one.
-        ensures count { ⟦<ReaderSource<R> as Ends>⟧.read_faults self.new ≡ counted (read_fault_count result) (⟦<ReaderSource<R> as Ends>⟧.read_faults self.old) }
+        ensures count { ⟦<ReaderSource<R> as Ends>⟧.read_faults self.new ≡ count_after (read_fault_count result) (⟦<ReaderSource<R> as Ends>⟧.read_faults self.old) }
     {
         let taken = read_front::<PIECE, R>(&mut self.reader, buf);
         match taken {

@@ -1,5 +1,5 @@
 ghost use Rattle.std.specs.Prelude.{◌≡◌, ◌<◌, true, false, length};
-ghost use Rattle.ports.specs.Counts.{RoseBy, counted};
+ghost use Rattle.ports.specs.Counts.{RoseBy, count_after};
 ghost use Rattle.ports.specs.Listener.{refusals, accept_faults, peers_in, done_after, OnListening};
 ghost use Rattle.ports.specs.Stream.{IsPiece, CountsEnd, LeavesOut, read_fault_count, write_fault_count};
 
@@ -72,7 +72,7 @@ impl<S: Read + Write> Source for TcpPeer<S> {
         ensures write_faults { ⟦<TcpPeer<S> as Ends>⟧.write_faults self.new ≡ ⟦<TcpPeer<S> as Ends>⟧.write_faults self.old }
 
         // That only a fault counts one.
-        ensures count { ⟦<TcpPeer<S> as Ends>⟧.read_faults self.new ≡ counted (read_fault_count result) (⟦<TcpPeer<S> as Ends>⟧.read_faults self.old) }
+        ensures count { ⟦<TcpPeer<S> as Ends>⟧.read_faults self.new ≡ count_after (read_fault_count result) (⟦<TcpPeer<S> as Ends>⟧.read_faults self.old) }
     {
         let taken = if self.gives_much {
             read_front::<LONG_PIECE, S>(&mut self.stream, buf)
@@ -98,7 +98,7 @@ impl<S: Read + Write> Sink for TcpPeer<S> {
         ensures ends { ⟦<TcpPeer<S> as Ends>⟧.ends self.new ≡ ⟦<TcpPeer<S> as Ends>⟧.ends self.old }
 
         // That only a fault counts one.
-        ensures count { ⟦<TcpPeer<S> as Ends>⟧.write_faults self.new ≡ counted (write_fault_count result) (⟦<TcpPeer<S> as Ends>⟧.write_faults self.old) }
+        ensures count { ⟦<TcpPeer<S> as Ends>⟧.write_faults self.new ≡ count_after (write_fault_count result) (⟦<TcpPeer<S> as Ends>⟧.write_faults self.old) }
     {
         let n = write_front(&mut self.stream, bytes);
         if n == bytes.len() {
@@ -172,7 +172,7 @@ impl<N: Net> Listener for TcpPorts<N> {
         ensures handed { ⟦<TcpPorts<N> as Listener>⟧.handed self.new ≡ ⟦<TcpPorts<N> as Listener>⟧.handed self.old }
 
         // That only a refusal counts a fault.
-        ensures count { ⟦<TcpPorts<N> as Listener>⟧.faults self.new ≡ counted (refusals result) (⟦<TcpPorts<N> as Listener>⟧.faults self.old) }
+        ensures count { ⟦<TcpPorts<N> as Listener>⟧.faults self.new ≡ count_after (refusals result) (⟦<TcpPorts<N> as Listener>⟧.faults self.old) }
     {
         match TcpListener::bind(&self.net, address) {
             Ok(listener) => {
@@ -193,10 +193,10 @@ impl<N: Net> Listener for TcpPorts<N> {
         // What each listener ensures.
         ensures faults { RoseBy (accept_faults result) (⟦<TcpPorts<N> as Listener>⟧.faults self.old) (⟦<TcpPorts<N> as Listener>⟧.faults self.new) }
         ensures listens { ⟦<TcpPorts<N> as Listener>⟧.listens self.new ≡ true }
-        ensures handed { ⟦<TcpPorts<N> as Listener>⟧.handed self.new ≡ counted (peers_in result) (⟦<TcpPorts<N> as Listener>⟧.handed self.old) }
+        ensures handed { ⟦<TcpPorts<N> as Listener>⟧.handed self.new ≡ count_after (peers_in result) (⟦<TcpPorts<N> as Listener>⟧.handed self.old) }
 
         // That only a fault counts one, and that there is always a next one.
-        ensures count { ⟦<TcpPorts<N> as Listener>⟧.faults self.new ≡ counted (accept_faults result) (⟦<TcpPorts<N> as Listener>⟧.faults self.old) }
+        ensures count { ⟦<TcpPorts<N> as Listener>⟧.faults self.new ≡ count_after (accept_faults result) (⟦<TcpPorts<N> as Listener>⟧.faults self.old) }
         ensures never_done { done_after result false ≡ false }
     {
         let Some(listener) = &self.listener else {

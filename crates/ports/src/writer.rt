@@ -1,6 +1,6 @@
 ghost use Rattle.std.specs.Prelude.{◌≡◌, ◌<◌, ◌≤◌, length, take};
 ghost use Rattle.std.specs.Io.KnownBytes.{Appends};
-ghost use Rattle.ports.specs.Counts.{counted, RoseBy};
+ghost use Rattle.ports.specs.Counts.{count_after, RoseBy};
 ghost use Rattle.ports.specs.Stream.{appended_bytes, LeavesOut, write_fault_count};
 
 use crate::count::count_up;
@@ -97,7 +97,7 @@ impl<W: Write> Sink for WriterSink<W> {
         ensures write_faults { RoseBy (write_fault_count result) (⟦<WriterSink<W> as Ends>⟧.write_faults self.old) (⟦<WriterSink<W> as Ends>⟧.write_faults self.new) }
 
         // That only a fault counts one.
-        ensures count { ⟦<WriterSink<W> as Ends>⟧.write_faults self.new ≡ counted (write_fault_count result) (⟦<WriterSink<W> as Ends>⟧.write_faults self.old) }
+        ensures count { ⟦<WriterSink<W> as Ends>⟧.write_faults self.new ≡ count_after (write_fault_count result) (⟦<WriterSink<W> as Ends>⟧.write_faults self.old) }
     {
         let n = write_front(&mut self.writer, bytes);
         if n == bytes.len() {

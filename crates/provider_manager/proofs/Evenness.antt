@@ -33,9 +33,9 @@ order-apart loads order h = λ i j d l m e.
     let other = order-within loads order h j d m in
     before-distinct loads (get_or order i d) (get_or order j d) (h.in_order i j d l m) (omega (arith, one.0, other.0))
 
--- each provider has a place in an order
-place-of : (loads order : List ℕ) → IsOrder loads order → (k : ℕ) → k < length loads → (a : ℕ) × (a < length order) × (get_or order a 0 - 1 ≡ k)
-place-of loads order h k l =
+-- each provider has a position in an order
+position-of : (loads order : List ℕ) → IsOrder loads order → (k : ℕ) → k < length loads → (a : ℕ) × (a < length order) × (get_or order a 0 - 1 ≡ k)
+position-of loads order h k l =
     let n = length loads in
     let all = range_with_len 1 n in
     let is : get_or all k (k + 1) ≡ 1 + k = get_or-range_with_len 1 n k (k + 1) l in
@@ -64,8 +64,8 @@ later-load loads order r a apart small later =
     apart i a d (omega arith) small
     (ap (λ x. x - 1) (sym (get_or-take r order i d (omega arith))) ∙ e ∙ ap (λ x. x - 1) (get_or_default order a 0 d small)))
 
-even-places : (loads order : List ℕ) (r : ℕ) → IsOrder loads order → IsEven loads → (a b : ℕ) → a < length order → b < length order → get_or (with_replicas loads (take r order)) (get_or order a 0 - 1) 0 ≤ get_or (with_replicas loads (take r order)) (get_or order b 0 - 1) 0 + 1
-even-places loads order r h even a b la lb =
+even-positions : (loads order : List ℕ) (r : ℕ) → IsOrder loads order → IsEven loads → (a b : ℕ) → a < length order → b < length order → get_or (with_replicas loads (take r order)) (get_or order a 0 - 1) 0 ≤ get_or (with_replicas loads (take r order)) (get_or order b 0 - 1) 0 + 1
+even-positions loads order r h even a b la lb =
     let apart = order-apart loads order h in
     let p = get_or order a 0 in
     let q = get_or order b 0 in
@@ -91,9 +91,9 @@ even-order : (loads order : List ℕ) (r : ℕ) → IsOrder loads order → IsEv
 even-order loads order r h even = λ i d l j e m.
     let after = with_replicas loads (take r order) in
     let count : length after ≡ length loads = length-with_replicas loads (take r order) in
-    let one = place-of loads order h i (omega arith) in
-    let other = place-of loads order h j (omega arith) in
-    let close = even-places loads order r h even one.0 other.0 one.1 other.1 in
+    let one = position-of loads order h i (omega arith) in
+    let other = position-of loads order h j (omega arith) in
+    let close = even-positions loads order r h even one.0 other.0 one.1 other.1 in
     let here : get_or after (get_or order one.0 0 - 1) 0 ≡ get_or after i d = ap (λ k. get_or after k 0) one.2 ∙ get_or_default after i 0 d l in
     let there : get_or after (get_or order other.0 0 - 1) 0 ≡ get_or after j e = ap (λ k. get_or after k 0) other.2 ∙ get_or_default after j 0 e m in
     omega (arith, close, here, there)

@@ -10,11 +10,11 @@ use Rattle.range_log.specs.Log.{touch_at}
 use Rattle.range_log.specs.Extents.{Extent, touches}
 use Rattle.range_log.specs.Updates.{extents}
 use Rattle.range_log.specs.Laws.{RowsStay, ExtentsGrow}
-use Rattle.node_store.specs.Rows.{UpdateRow}
+use Rattle.node_store.specs.UpdateRows.{UpdateRow}
 use Rattle.snapshot.specs.Versions.{no_row, IsRowOf}
 use Rattle.snapshot.specs.Laws.{OwnRowsStay, RowsTell}
 use Rattle.publisher.specs.Windows.{Numbered, leading, StandsFor}
-use Rattle.publisher.specs.Kept.{row_touches, present}
+use Rattle.publisher.specs.WindowInvariant.{row_touches, present}
 use Rattle.publisher.specs.Laws.{IsNext, NewStands, NumberedStands, PublishedLogIs}
 use Rattle.publisher.proofs.Leading.{touches_match, leading_few}
 use Rattle.publisher.proofs.Standing.{some_is, rows_published}

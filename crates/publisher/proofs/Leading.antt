@@ -4,10 +4,10 @@ use Rattle.std.proofs.lemmas.List.{drop_more}
 use Rattle.blob_model.specs.Store.{true_prefix}
 use Rattle.tree_geom.specs.declared.touch.Touch.{Touch}
 use Rattle.tree_geom.specs.Geometry.{no_touch}
-use Rattle.node_store.specs.Rows.{UpdateRow}
+use Rattle.node_store.specs.UpdateRows.{UpdateRow}
 use Rattle.snapshot.specs.Versions.{no_row}
 use Rattle.publisher.specs.Windows.{leading}
-use Rattle.publisher.specs.Kept.{present, row_touches}
+use Rattle.publisher.specs.WindowInvariant.{present, row_touches}
 
 pub leading_over : (rows : List UpdateRow) (above : List (Option UpdateRow)) → leading (present rows ++ above) ≡ rows ++ leading above
 leading_over [] above = refl
@@ -42,14 +42,14 @@ leading_more [] e = refl
 leading_more (None ∷ xs) e = refl
 leading_more (Some r ∷ xs) e = absurd (none_leads r (leading xs) e)
 
--- what leads where the next place isn't empty
-pub place_leads : {A : Type 0} (view : A → UpdateRow) (xs : List (Option A)) (i : ℕ) (x : Option A) (a : A) → i < length xs → x ≡ get_or xs i x → x ≡ Some a
+-- what leads where the next slot isn't empty
+pub slot_leads : {A : Type 0} (view : A → UpdateRow) (xs : List (Option A)) (i : ℕ) (x : Option A) (a : A) → i < length xs → x ≡ get_or xs i x → x ≡ Some a
     → leading (map (option_map view) (drop i xs)) ≡ view a ∷ leading (map (option_map view) (drop (i + 1) xs))
-place_leads {A} view xs i x a lt at is =
+slot_leads {A} view xs i x a lt at is =
     let F : List (Option A) → List UpdateRow = λ l. leading (map (option_map view) l) in
     ap F (drop_more xs i x lt) ∙ ap (λ (o : Option A). F (o ∷ drop (i + 1) xs)) (sym at ∙ is)
 
--- the place of the least unfinished update is empty
+-- the slot of the least unfinished update is empty
 pub first_missing : (xs : List (Option UpdateRow)) → leading xs ≡ [] → 0 < length xs → xs ≡ None ∷ drop 1 xs
 first_missing [] e lt = absurd (omega arith)
 first_missing (None ∷ xs) e lt = refl

@@ -6,11 +6,11 @@ use Rattle.std.proofs.lemmas.List.{append_assoc, get_or_append_left, get_or-take
 use Rattle.std.proofs.Math.Seq.{get_or-append_seam}
 use Rattle.blob_model.specs.Content.{Update, size_of}
 use Rattle.range_log.specs.Updates.{Replayable}
-use Rattle.node_store.specs.Rows.{UpdateRow}
+use Rattle.node_store.specs.UpdateRows.{UpdateRow}
 use Rattle.snapshot.specs.Versions.{Version, no_row, row_at, updates, IsRowOf, IsVersion}
 use Rattle.snapshot.specs.Laws.{AreRowsOf, RowsTell}
 use Rattle.publisher.specs.Windows.{Numbered, leading, with_finished, StandsFor}
-use Rattle.publisher.specs.Kept.{Ready}
+use Rattle.publisher.specs.WindowInvariant.{Ready}
 use Rattle.publisher.specs.Laws.{PublishedRowsAre}
 use Rattle.publisher.proofs.Leading.{leading_at, leading_few}
 use Rattle.tree_geom.proofs.Spans.{page_pos}

@@ -8,11 +8,11 @@ use Rattle.tree_geom.specs.Geometry.{no_touch}
 use Rattle.range_log.specs.declared.open.OpenTouch.{OpenTouch}
 use Rattle.range_log.specs.Open.{no_open}
 use Rattle.range_log.specs.Log.{touch_at}
-use Rattle.node_store.specs.Rows.{UpdateRow}
+use Rattle.node_store.specs.UpdateRows.{UpdateRow}
 use Rattle.snapshot.specs.Versions.{Version, no_row, IsRowOf}
 use Rattle.snapshot.specs.Laws.{AreRowsOf}
 use Rattle.publisher.specs.Windows.{Numbered, leading, is_finished, published_of, version_of, waiting_of, opens_from, with_finished, StandsFor, IsRowIn}
-use Rattle.publisher.specs.Kept.{present, row_touches, open_touches, over, KeepsWindow, Ready}
+use Rattle.publisher.specs.WindowInvariant.{present, row_touches, open_touches, over, KeepsWindow, Ready}
 use Rattle.publisher.proofs.Leading.{leading_over, published_counts, present_drop, leading_rest, leading_set, leading_more, first_missing, touches_match}
 use Rattle.publisher.proofs.Opens.{open_as, opens_drop, opens_push, opens_at}
 use Rattle.publisher.proofs.Standing.{stands_finished, are_rows}
@@ -206,56 +206,56 @@ module _ (s : Version) (opens : List OpenTouch) where
       ∙ ap is_some (get_or_append_left rows above None i (omega arith))
       ∙ ap is_some (get_or-map (λ (r : UpdateRow). Some r) s.rows i no_row None (omega arith))
 
-  pub finished_above : (above : List (Option UpdateRow)) (version place : ℕ) → version ≡ length s.rows + place + 1 → place < length above → is_finished (over s opens above) version ≡ is_some (get_or above place None)
-  finished_above above version place is lt =
+  pub finished_above : (above : List (Option UpdateRow)) (version slot : ℕ) → version ≡ length s.rows + slot + 1 → slot < length above → is_finished (over s opens above) version ≡ is_some (get_or above slot None)
+  finished_above above version slot is lt =
       let i : ℕ = version - 1 in
       let rows : List (Option UpdateRow) = present s.rows in
       let count : length rows ≡ length s.rows = length-map s.rows (λ (r : UpdateRow). Some r) in
-      let at : i ≡ length rows + place = omega arith in
+      let at : i ≡ length rows + slot = omega arith in
       get_or-map is_some (rows ++ above) i None false (omega (arith, length-append rows above))
       ∙ ap (λ n. is_some (get_or (rows ++ above) n None)) at
-      ∙ ap is_some (get_or-append-add rows above place None)
+      ∙ ap is_some (get_or-append-add rows above slot None)
 
   some_seen : {A : Type 0} (view : A → UpdateRow) (x : Option A) → is_some (option_map view x) ≡ is_some x
   some_seen view None = refl
   some_seen view (Some a) = refl
 
-  pub finished_read : {A : Type 0} (view : A → UpdateRow) (items : List (Option A)) (version place : ℕ) (x : Option A) → version ≡ length s.rows + place + 1 → place < length items → x ≡ get_or items place x
+  pub finished_read : {A : Type 0} (view : A → UpdateRow) (items : List (Option A)) (version slot : ℕ) (x : Option A) → version ≡ length s.rows + slot + 1 → slot < length items → x ≡ get_or items slot x
       → is_finished (over s opens (map (option_map view) items)) version ≡ is_some x
-  finished_read view items version place x is lt at =
-      finished_above (map (option_map view) items) version place is (omega (arith, length-map items (option_map view)))
-      ∙ ap is_some (get_or-map (option_map view) items place x None lt)
-      ∙ some_seen view (get_or items place x)
+  finished_read view items version slot x is lt at =
+      finished_above (map (option_map view) items) version slot is (omega (arith, length-map items (option_map view)))
+      ∙ ap is_some (get_or-map (option_map view) items slot x None lt)
+      ∙ some_seen view (get_or items slot x)
       ∙ ap is_some (sym at)
 
   -- a row is kept above an unfinished version
-  pub over_kept : (above : List (Option UpdateRow)) (version place : ℕ) (row : UpdateRow) → version ≡ length s.rows + place + 1 → over s opens (set above place (Some row)) ≡ with_finished (over s opens above) version row
-  over_kept above version place row is =
+  pub over_kept : (above : List (Option UpdateRow)) (version slot : ℕ) (row : UpdateRow) → version ≡ length s.rows + slot + 1 → over s opens (set above slot (Some row)) ≡ with_finished (over s opens above) version row
+  over_kept above version slot row is =
       let made : List (Option UpdateRow) → Numbered = λ rows. record { blob = s.blob; page_size = s.page_size; log = row_touches s.rows ++ open_touches opens; rows = rows } in
       let count : length (present s.rows) ≡ length s.rows = length-map s.rows (λ (r : UpdateRow). Some r) in
-      let at : version - 1 - length s.rows ≡ place = omega arith in
+      let at : version - 1 - length s.rows ≡ slot = omega arith in
       ap made (ap (λ n. present s.rows ++ set above n (Some row)) (sym at) ∙ sym (set-append_right (present s.rows) above (length s.rows) (version - 1) (Some row) count (omega arith)))
 
   -- the window stands with a row above the least missing one
-  pub keeps_set : (above : List (Option UpdateRow)) (room place : ℕ) (row : UpdateRow) → KeepsWindow s opens above room → 0 < place
-      → KeepsWindow s opens (set above place (Some row)) room
-  keeps_set above room place row kept some =
-      let same : length (set above place (Some row)) ≡ length above = length-set above place (Some row) in
+  pub keeps_set : (above : List (Option UpdateRow)) (room slot : ℕ) (row : UpdateRow) → KeepsWindow s opens above room → 0 < slot
+      → KeepsWindow s opens (set above slot (Some row)) room
+  keeps_set above room slot row kept some =
+      let same : length (set above slot (Some row)) ≡ length above = length-set above slot (Some row) in
       record {
         paired = same ∙ kept.paired;
         few = omega (arith, kept.few);
         reserved = kept.reserved;
         versions = kept.versions;
-        least = leading_set above place (Some row) kept.least some;
+        least = leading_set above slot (Some row) kept.least some;
         counted = kept.counted;
       }
 
-  pub published_kept : (above : List (Option UpdateRow)) (version place : ℕ) (row : UpdateRow) → leading above ≡ [] → 0 < place → version ≡ length s.rows + place + 1
+  pub published_kept : (above : List (Option UpdateRow)) (version slot : ℕ) (row : UpdateRow) → leading above ≡ [] → 0 < slot → version ≡ length s.rows + slot + 1
       → length s.rows ≡ published_of (with_finished (over s opens above) version row)
-  published_kept above version place row least some is =
-      sym (published_is s opens (set above place (Some row)) (leading_set above place (Some row) least some)) ∙ ap published_of (over_kept above version place row is)
+  published_kept above version slot row least some is =
+      sym (published_is s opens (set above slot (Some row)) (leading_set above slot (Some row) least some)) ∙ ap published_of (over_kept above version slot row is)
 
--- the places after the first one
+-- the slots after the first one
 pub tail_is : {A : Type 0} (view : A → UpdateRow) (items read : List (Option A)) → read ≡ items → map (option_map view) (take (length read - 1) (drop 1 read)) ≡ drop 1 (map (option_map view) items)
 tail_is {A} view items read e =
     let count : length read - 1 ≡ length (drop 1 read) = sym (length-drop 1 read) in

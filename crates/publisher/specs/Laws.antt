@@ -5,7 +5,7 @@ use Rattle.tree_geom.specs.declared.touch.Touch.{Touch}
 use Rattle.range_log.specs.Log.{touch_at}
 use Rattle.range_log.specs.Extents.{touches}
 use Rattle.range_log.specs.Updates.{extents, Replayable}
-use Rattle.node_store.specs.Rows.{UpdateRow}
+use Rattle.node_store.specs.UpdateRows.{UpdateRow}
 use Rattle.snapshot.specs.Versions.{Version, updates_of, older_version, IsRowOf}
 use Rattle.snapshot.specs.Laws.{AreRowsOf}
 use Rattle.publisher.specs.Windows.{Numbered, published_of, version_of, window_on, with_numbered, with_finished, StandsFor}

@@ -1,3 +1,3 @@
 pub mod Windows
-pub mod Kept
+pub mod WindowInvariant
 pub mod Laws

@@ -3,7 +3,7 @@ ghost use Rattle.std.specs.Prelude.{◌≡◌, ◌+◌, ◌≤◌, ◌++◌, [],
 ghost use Rattle.std.specs.Arc.{arc_value};
 ghost use Rattle.snapshot.specs.Versions.{next_version};
 ghost use Rattle.publisher.specs.Windows.{leading};
-ghost use Rattle.publisher.specs.Kept.{Ready};
+ghost use Rattle.publisher.specs.WindowInvariant.{Ready};
 
 use node_store::{NoMemory, Row};
 use snapshot::{Snapshot, laws};
@@ -21,8 +21,8 @@ pub(crate) fn moved_on(
     ensures rows { IfOk result (λ s. s.rows ≡ base.now.rows ++ arc_value row.now ∷ leading (map (option_map arc_value) above.now)) }
 {
     let mut snapshot = with_next(base, row)?;
-    for place in above {
-        match place {
+    for slot in above {
+        match slot {
             Some(row) => snapshot = with_next(&snapshot, row)?,
             None => return Ok(snapshot),
         }
@@ -43,13 +43,13 @@ fn with_next(snapshot: &Snapshot, row: &Arc<Row>) -> Result<Snapshot, NoMemory>
     }
 }
 
-/// Takes the first `n` places away, of which there are that many. The room stays.
-pub(crate) fn drop_first(places: &mut Vec<Option<Arc<Row>>>, n: usize)
-    requires { n ≤ vec_len places.old }
-    ensures items { places.new.items ≡ drop n places.old.items }
-    ensures room { vec_capacity places.new ≡ vec_capacity places.old }
+/// Takes the first `n` slots away, of which there are that many. The room stays.
+pub(crate) fn drop_first(slots: &mut Vec<Option<Arc<Row>>>, n: usize)
+    requires { n ≤ vec_len slots.old }
+    ensures items { slots.new.items ≡ drop n slots.old.items }
+    ensures room { vec_capacity slots.new ≡ vec_capacity slots.old }
 {
-    let kept = places.len() - n;
-    places.rotate_left(n);
-    places.truncate(kept);
+    let kept = slots.len() - n;
+    slots.rotate_left(n);
+    slots.truncate(kept);
 }

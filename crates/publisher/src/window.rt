@@ -42,7 +42,7 @@ impl Model for Window {
     ghost use Rattle.std.specs.Prelude.{map, option_map, vec_capacity};
     ghost use Rattle.std.specs.Arc.{arc_value};
     ghost use Rattle.publisher.specs.Windows.{Numbered};
-    ghost use Rattle.publisher.specs.Kept.{over, KeepsWindow};
+    ghost use Rattle.publisher.specs.WindowInvariant.{over, KeepsWindow};
 
     ghost Value = { Numbered };
 
@@ -99,12 +99,12 @@ impl Window {
         if version <= published {
             return Err((FinishFault::Already, row));
         }
-        let place = (version - published - 1) as usize;
-        if self.above[place].is_some() {
+        let slot = (version - published - 1) as usize;
+        if self.above[slot].is_some() {
             return Err((FinishFault::Already, row));
         }
-        if place > 0 {
-            self.above[place] = Some(row);
+        if slot > 0 {
+            self.above[slot] = Some(row);
             return Ok(published);
         }
         let Ok(next) = moved_on(&self.snapshot, &row, &self.above[1..]) else {

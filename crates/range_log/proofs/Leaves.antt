@@ -67,18 +67,18 @@ put_over : (w b : List ℕ) (s : ℕ) → s ≡ 0 → length w ≤ length b → 
 put_over w b s z long = rw (z, drop_all (0 + length b) w (omega arith)) (append-nil b)
 
 -- where the update covers the page, it leaves none of the older bytes
-none_left : (p i size place : ℕ) (x : Extent) (b w : List ℕ) → x ≡ placed place b → length w ≡ min p (size - i * p) → i * p < place + length b
+none_left : (p i size offset : ℕ) (x : Extent) (b w : List ℕ) → x ≡ placed offset b → length w ≡ min p (size - i * p) → i * p < offset + length b
     → ((max x.at (i * p) == i * p) && (min (x.at + x.len) ((i + 1) * p) == min (max size (x.at + x.len)) ((i + 1) * p))) ≡ true
-    → (max place (i * p) - i * p ≡ 0)
-    × (length w ≤ length (take (min (place + length b) ((i + 1) * p) - max place (i * p)) (drop (max place (i * p) - place) b)))
-none_left p i size place x b w e long reach whole =
-    let at : x.at ≡ place = ap (λ (y : Extent). y.at) e in
+    → (max offset (i * p) - i * p ≡ 0)
+    × (length w ≤ length (take (min (offset + length b) ((i + 1) * p) - max offset (i * p)) (drop (max offset (i * p) - offset) b)))
+none_left p i size offset x b w e long reach whole =
+    let at : x.at ≡ offset = ap (λ (y : Extent). y.at) e in
     let len : x.len ≡ length b = ap (λ (y : Extent). y.len) e in
     let first : max x.at (i * p) ≡ i * p = grind (arith, nat_tests) in
     let last : min (x.at + x.len) ((i + 1) * p) ≡ min (max size (x.at + x.len)) ((i + 1) * p) = grind (arith, nat_tests) in
-    let own : length (take (min (place + length b) ((i + 1) * p) - max place (i * p)) (drop (max place (i * p) - place) b))
-    ≡ min (min (place + length b) ((i + 1) * p) - max place (i * p)) (length b - (max place (i * p) - place)) =
-    length-window b (max place (i * p) - place) (min (place + length b) ((i + 1) * p) - max place (i * p)) in
+    let own : length (take (min (offset + length b) ((i + 1) * p) - max offset (i * p)) (drop (max offset (i * p) - offset) b))
+    ≡ min (min (offset + length b) ((i + 1) * p) - max offset (i * p)) (length b - (max offset (i * p) - offset)) =
+    length-window b (max offset (i * p) - offset) (min (offset + length b) ((i + 1) * p) - max offset (i * p)) in
     let next : (i + 1) * p ≡ i * p + p = omega arith in
     (omega arith, omega (arith, own))
 
@@ -122,12 +122,12 @@ leaves_fit p (suc v) i us pos bounds node =
 -- ---- pieces
 one_piece : (p b n : ℕ) (bytes : List ℕ) → 1 ≤ p → n ≤ p - b % p → take n (drop (b % p) (take p (drop (b / p * p) bytes))) ≡ take n (drop b bytes)
 one_piece p b n bytes pos small =
-    let place : b / p * p + b % p ≡ b = omega arith in
+    let split : b / p * p + b % p ≡ b = omega arith in
     let rest : b % p + (p - b % p) ≡ p = let e : b % p < p = mod_below b p pos in omega arith in
     ap (λ k. take n (drop (b % p) (take k (drop (b / p * p) bytes)))) (sym rest)
     ∙ ap (take n) (drop-take (b % p) (p - b % p) (drop (b / p * p) bytes))
     ∙ take-take n (p - b % p) (drop (b % p) (drop (b / p * p) bytes)) small
-    ∙ ap (take n) (drop-drop (b % p) (b / p * p) bytes ∙ ap (λ k. drop k bytes) place)
+    ∙ ap (take n) (drop-drop (b % p) (b / p * p) bytes ∙ ap (λ k. drop k bytes) split)
 
 two_pieces : (p b first n : ℕ) (bytes : List ℕ) → 1 ≤ p → first ≡ p - b % p → n ≤ first + p
     → take first (drop (b % p) (take p (drop (b / p * p) bytes))) ++ take (n - first) (drop 0 (take p (drop ((b / p + 1) * p) bytes))) ≡ take (first + (n - first)) (drop b bytes)
@@ -161,7 +161,7 @@ pub pieces_fit : PiecesFit
 pieces_fit p b n m pos some small fits =
     let first : ℕ = p - b % p in
     let low : b % p < p = mod_below b p pos in
-    let place : b / p * p + b % p ≡ b = omega arith in
+    let split : b / p * p + b % p ≡ b = omega arith in
     let next : (b / p + 1) * p ≡ b / p * p + p = omega arith in
     let here : PieceFits p m (b / p) (b % p) (min first n) = record { some = omega arith; in_page = omega arith; in_buffer = omega arith } in
     elim (cases_lt first n) [

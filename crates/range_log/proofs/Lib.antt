@@ -1,4 +1,4 @@
-mod Worked
+mod WorkedExamples
 pub mod Greatest
 pub mod Grown
 pub mod Links

@@ -2,7 +2,7 @@
 use Rattle.std.proofs.Common.{◌≡◌, ℕ, ◌+◌, ◌-◌, ◌*◌, ◌<◌, ◌≤◌, List, length, take, drop, arith, ap, ◌∙◌, inl, inr, Bool, true, false, get_or, min, max}
 use Rattle.std.proofs.lemmas.Bool.{cases_lt}
 use borrow.Rule.Slice.PartMut.{put_mid}
-use Rattle.node_store.specs.Rows.{cut_at}
+use Rattle.node_store.specs.UpdateRows.{bytes_of_page}
 use Rattle.range_reader.specs.Filling.{Filled, Overlaid, Taken}
 use Rattle.range_reader.proofs.Parts.{part_read, length_part, put_below, put_within, put_above}
 
@@ -12,7 +12,7 @@ module _ (start len begin low end a k : ℕ) (out : List ℕ) (marks : List Bool
   inside : a + k ≤ length out
   inside = omega (arith, is_low, is_end, some, is_a, is_k)
 
-  pub overlaid_by : (q p from skip : ℕ) (bytes stored sub : List ℕ) → stored ≡ cut_at p bytes q → from + len ≤ p → q * p + from + len ≤ length bytes → skip ≡ from + (low - start)
+  pub overlaid_by : (q p from skip : ℕ) (bytes stored sub : List ℕ) → stored ≡ bytes_of_page p bytes q → from + len ≤ p → q * p + from + len ≤ length bytes → skip ≡ from + (low - start)
       → length sub ≡ length (take k (drop a out)) → Filled skip stored (take k (drop a marks)) (take k (drop a out)) sub
       → Overlaid start len (q * p + from) begin bytes marks out (put_mid a k out sub)
   overlaid_by q p from skip bytes stored sub cut in_page in_buffer is_skip kept f =

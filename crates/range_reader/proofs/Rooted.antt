@@ -5,7 +5,7 @@ use Rattle.tree_geom.specs.declared.range.Range.{Range}
 use Rattle.tree_geom.specs.Geometry.{tree_range, height_of, span_of}
 use Rattle.range_log.specs.Extents.{size_after}
 use Rattle.range_log.specs.Laws.{NewestIsGreatest, ExtentsStand}
-use Rattle.tree_walk.specs.Walk.{visited, root_of, RootsStand, WalksAreBounded}
+use Rattle.tree_walk.specs.Walk.{nodes_visited, root_of, RootsStand, WalksAreBounded}
 use Rattle.snapshot.specs.Versions.{Version, updates_of, size_now, root_key, HasNodeFor, IsVersion}
 use Rattle.tree_geom.proofs.Spans.{page_pos}
 use Rattle.range_log.proofs.Bytes.{length-extents}
@@ -49,11 +49,11 @@ module _ (stand : ExtentsStand) (s : Version) (is : IsVersion s) where
       same ∙ ap make (root_span p (size_now s) some) ∙ ap start none
 
   pub walk_bound : WalksAreBounded → (o n : ℕ) → 1 ≤ n → o + n ≤ size_now s
-      → visited (height_of s.page_size (size_now s)) 0 (o / s.page_size) ((o + n - 1) / s.page_size) + backs_in s o n ≤ bound s o n
+      → nodes_visited (height_of s.page_size (size_now s)) 0 (o / s.page_size) ((o + n - 1) / s.page_size) + backs_in s o n ≤ bound s o n
   walk_bound walks o n some fits =
       let p : ℕ = s.page_size in
       let w = walks p (length s.rows) o n (falls s) (page_pos p is.page_size) some (omega (arith, fits, size_known)) in
-      let P : ℕ → Type 0 = λ z. visited (height_of p z) 0 (o / p) ((o + n - 1) / p) + backs_in s o n ≤ bound s o n in
+      let P : ℕ → Type 0 = λ z. nodes_visited (height_of p z) 0 (o / p) ((o + n - 1) / p) + backs_in s o n ≤ bound s o n in
       subst P size_known w
 
 pub not_zero : (n : ℕ) → (n ≡ 0 → ⊥) → 1 ≤ n

@@ -8,7 +8,7 @@ use Rattle.tree_geom.specs.Geometry.{Aligned, height_of, page_range, right_half}
 use Rattle.range_log.specs.Visits.{pages_met, backs_of}
 use Rattle.range_log.specs.Depths.{depth_of}
 use Rattle.range_log.specs.Laws.{ExtentsStand, DepthCountsBacks}
-use Rattle.tree_walk.specs.Walk.{visited, WalksAreBounded}
+use Rattle.tree_walk.specs.Walk.{nodes_visited, WalksAreBounded}
 use Rattle.snapshot.specs.Versions.{Version, updates_of, size_now, HasNodeFor, IsVersion}
 use Rattle.tree_geom.proofs.Spans.{page_pos}
 use Rattle.range_log.proofs.Bytes.{length-extents}
@@ -67,7 +67,7 @@ bound_sum stand s is o n bytes page_size size some same same' is_size =
 
 -- a walk without the backs is within that part
 pub tree_walk_bound : WalksAreBounded → ExtentsStand → (s : Version) → IsVersion s → (o n : ℕ) → 1 ≤ n → o + n ≤ size_now s
-    → visited (height_of s.page_size (size_now s)) 0 (o / s.page_size) ((o + n - 1) / s.page_size) ≤ bound_of_tree s o n
+    → nodes_visited (height_of s.page_size (size_now s)) 0 (o / s.page_size) ((o + n - 1) / s.page_size) ≤ bound_of_tree s o n
 tree_walk_bound walks stand s is o n some fits =
     let w = walk_bound stand s is walks o n some fits in
     omega (arith, w, bound_is stand s is o n some)

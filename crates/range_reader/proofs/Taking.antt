@@ -2,7 +2,7 @@
 use Rattle.std.proofs.Common.{◌≡◌, ℕ, ◌+◌, ◌-◌, ◌*◌, ◌<◌, ◌≤◌, List, [], length, take, drop, arith, ap, sym, ◌∙◌, subst, get_or, min}
 use Rattle.std.specs.Prelude.{slice_range}
 use Rattle.std.proofs.lemmas.List.{ext_get_or}
-use Rattle.node_store.specs.Rows.{cut_at}
+use Rattle.node_store.specs.UpdateRows.{bytes_of_page}
 use Rattle.tree_geom.specs.declared.node.Piece.{Piece}
 use Rattle.tree_geom.specs.Geometry.{page_range}
 use Rattle.blob_model.specs.Content.{Update}
@@ -22,7 +22,7 @@ use Rattle.range_reader.proofs.NodeParts.{piece_one, piece_two}
 
 -- n bytes of a stored page, from its byte a on, are those of the buffer that it was cut from
 pub cut_part : (p q a n b : ℕ) (bytes : List ℕ) → a + n ≤ p → q * p + a + n ≤ length bytes → b ≡ q * p + a
-    → slice_range (cut_at p bytes q) a (a + n) ≡ slice_range bytes b (b + n)
+    → slice_range (bytes_of_page p bytes q) a (a + n) ≡ slice_range bytes b (b + n)
 cut_part p q a n b bytes in_page in_buffer is =
     let m : ℕ = min ((q + 1) * p) (length bytes) - q * p in
     let cut : List ℕ = take m (drop (q * p) bytes) in

@@ -12,7 +12,7 @@ use Rattle.tree_geom.specs.Geometry.{Aligned, tree_range, page_range, left_half,
 use Rattle.range_log.specs.Log.{newest_of}
 use Rattle.range_log.specs.Visits.{pages_met, backs_of}
 use Rattle.range_log.specs.Laws.{ExtentsStand}
-use Rattle.tree_walk.specs.Walk.{visited, LinksStep, VisitedLeaf, VisitedInner}
+use Rattle.tree_walk.specs.Walk.{nodes_visited, LinksStep, VisitedLeaf, VisitedInner}
 use Rattle.snapshot.specs.Versions.{Version, updates_of, size_now, HasNodeFor, IsVersion}
 use Rattle.tree_geom.proofs.Spans.{page_pos}
 use Rattle.range_log.proofs.Bytes.{length-extents}
@@ -85,7 +85,7 @@ pub record PageStep (s : Version) (r : Range) (from n : ℕ) : Type 0 where
   pub begins : from / s.page_size ≡ r.offset / s.page_size
   pub ends : (from + n - 1) / s.page_size ≡ r.offset / s.page_size
   pub backs : backs_in s from n ≡ backs_of s.page_size (falls s) (length s.rows) (r.offset / s.page_size)
-  pub visits : VisitedLeaf → (h q first last : ℕ) → r ≡ tree_range s.page_size h q → first * s.page_size ≤ from → from + n ≤ (last + 1) * s.page_size → visited h q first last ≡ 1
+  pub visits : VisitedLeaf → (h q first last : ℕ) → r ≡ tree_range s.page_size h q → first * s.page_size ≤ from → from + n ≤ (last + 1) * s.page_size → nodes_visited h q first last ≡ 1
 
 pub page_step : (s : Version) (r : Range) (from n : ℕ) → 1 ≤ s.page_size → Aligned s.page_size r → r.size ≡ s.page_size → r.offset ≤ from → from + n ≤ r.offset + r.size → 1 ≤ n → PageStep s r from n
 page_step s r from n pos al whole le fits some =
@@ -107,7 +107,7 @@ page_step s r from n pos al whole le fits some =
           let bottom : h ≡ 0 = zero_height p h pos (sym size ∙ whole) in
           let at : r.offset ≡ q * p = ap (λ (x : Range). x.offset) e ∙ ap (λ m. q * m) (sym size ∙ whole) in
           let next : (q + 1) * p ≡ q * p + p = omega arith in
-          ap (λ k. visited k q first last) bottom ∙ leaf q first last (page_le p first q from pos before (omega arith)) (page_le p q last (from + n - 1) pos (omega arith) (omega arith));
+          ap (λ k. nodes_visited k q first last) bottom ∙ leaf q first last (page_le p first q from pos before (omega arith)) (page_le p q last (from + n - 1) pos (omega arith) (omega arith));
     }
 
 -- ---- at an inner node
@@ -126,7 +126,7 @@ pub record InnerStep (p h q first last : ℕ) (r : Range) : Type 0 where
   pub below : ℕ
   pub left : left_half r ≡ tree_range p below (2 * q)
   pub right : right_half r ≡ tree_range p below (2 * q + 1)
-  pub visits : visited h q first last ≡ 1 + visited below (2 * q) first last + visited below (2 * q + 1) first last
+  pub visits : nodes_visited h q first last ≡ 1 + nodes_visited below (2 * q) first last + nodes_visited below (2 * q + 1) first last
 
 pub inner_step : VisitedInner → (p h q first last from n : ℕ) (r : Range) → 1 ≤ p → r ≡ tree_range p h q → p < r.size → first * p ≤ from → from + n ≤ (last + 1) * p
     → r.offset ≤ from → from + n ≤ r.offset + r.size → 1 ≤ n → InnerStep p h q first last r

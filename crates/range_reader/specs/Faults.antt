@@ -4,9 +4,9 @@ use Rattle.tree_geom.specs.declared.node.Node.{Node}
 use Rattle.tree_geom.specs.Geometry.{page_range}
 use Rattle.tree_geom.specs.Nodes.{count_of, first_of, second_of}
 use Rattle.range_log.specs.Rows.{back_of, node_of}
-use Rattle.page_store.specs.Page.{Place}
+use Rattle.page_store.specs.Page.{Spot}
 use Rattle.page_store.specs.Stored.{Stored}
-use Rattle.node_store.specs.Rows.{stored_of}
+use Rattle.node_store.specs.UpdateRows.{stored_of}
 use Rattle.page_fan.specs.Counts.{NoneFell, RoseAt}
 use Rattle.snapshot.specs.Versions.{Version, row_at, HasNodeFor}
 use Rattle.range_reader.specs.Reading.{falls, newest_in}
@@ -32,14 +32,14 @@ pub record Needs (s : Version) (i j q : ℕ) : Type 0 where
   pub piece : HasPieceIn (node_of s.page_size (falls s) j (page_range s.page_size i)) q
 
 -- all doors of the replicas of this stored page failed
-abbrev pub AllRose : List ℕ → List ℕ → List Place → Type 0
-AllRose before now places = All (λ place. RoseAt before now place.provider) places
+abbrev pub AllRose : List ℕ → List ℕ → List Spot → Type 0
+AllRose before now spots = All (λ spot. RoseAt before now spot.provider) spots
 
 -- all doors of stored page q of update j failed
 pub record StoredFailed (s : Version) (before now : List ℕ) (j q : ℕ) : Type 0 where
   pub stored : Stored
   pub is : slice_get (stored_of (row_at s.rows j)) q ≡ Some stored
-  pub failed : AllRose before now stored.places
+  pub failed : AllRose before now stored.spots
 
 -- all doors of one stored page failed in which the leaf of page i of update j has a piece
 pub record PieceFailed (s : Version) (before now : List ℕ) (i j : ℕ) : Type 0 where

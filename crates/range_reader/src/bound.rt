@@ -1,7 +1,7 @@
 // The visit bound of a read, told before the read.
 ghost use Rattle.std.specs.Prelude.{◌≡◌, ℕ, ◌+◌, ◌*◌, ◌^◌, ◌<◌, ◌≤◌, IfOk, IfErr, Err};
 ghost use Rattle.tree_geom.specs.Geometry.{tree_range};
-ghost use Rattle.tree_walk.specs.Walk.{visited};
+ghost use Rattle.tree_walk.specs.Walk.{nodes_visited};
 ghost use Rattle.snapshot.specs.Versions.{size_now, HasNodeFor};
 ghost use Rattle.range_reader.specs.Reading.{newest_in, backs_in, bound, bound_of_tree};
 ghost use Rattle.range_reader.specs.Answers.{OnPastSize, OnPageFault};
@@ -78,7 +78,7 @@ fn depths<L: Ledger>(
     ensures depths { result ≡ backs_in snapshot.now from count }
     ensures few { result ≤ count * 1048576 }
     ensures steps { (h q first last : ℕ) → range ≡ tree_range snapshot.now.page_size h q → first * snapshot.now.page_size ≤ from
-        → from + count ≤ (last + 1) * snapshot.now.page_size → steps.new ≤ steps.old + visited h q first last }
+        → from + count ≤ (last + 1) * snapshot.now.page_size → steps.new ≤ steps.old + nodes_visited h q first last }
 {
     tree_walk::laws::links_step();
     tree_walk::laws::visited_are_few();

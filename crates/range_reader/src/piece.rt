@@ -25,13 +25,13 @@ pub(crate) fn fill_marked<D: Door>(
     marks: &mut [bool],
     out: &mut [u8],
 ) -> bool
-    requires here { All (IsAmong houses.now) stored.now.places }
-    requires served { All (λ place. IsProvider (length doors.old) place.provider) stored.now.places }
+    requires here { All (IsAmong houses.now) stored.now.spots }
+    requires served { All (λ spot. IsProvider (length doors.old) spot.provider) stored.now.spots }
     requires room { from + length out.old ≤ length stored.now.bytes }
     requires marked { length marks.old ≡ length out.old }
     ensures filled { All D.is_true doors.old → IsTrue result → Filled from stored.now.bytes marks.old out.old out.new }
     ensures taken { IsTrue result → (x : ℕ) → x < length marks.old → slice_index_or marks.new x false ≡ false }
-    ensures failed { IsFalse result → AllRose (map D.faults doors.old) (map D.faults doors.new) stored.now.places }
+    ensures failed { IsFalse result → AllRose (map D.faults doors.old) (map D.faults doors.new) stored.now.spots }
     ensures counted { IsFalse result → HasRisen (sum_by D.faults doors.old) (sum_by D.faults doors.new) }
     ensures kept { CountsKept (map D.faults doors.old) (map D.faults doors.new) (sum_by D.faults doors.old) (sum_by D.faults doors.new) }
     ensures count { length doors.new ≡ length doors.old }

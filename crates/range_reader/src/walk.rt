@@ -2,7 +2,7 @@
 ghost use Rattle.std.specs.Prelude.{◌≡◌, ℕ, ◌+◌, ◌*◌, ◌^◌, ◌≤◌, length, map, sum_by, All, OnOk, IfErr};
 ghost use Rattle.tree_geom.specs.Geometry.{tree_range};
 ghost use Rattle.page_store.specs.Count.{HasRisen};
-ghost use Rattle.tree_walk.specs.Walk.{visited};
+ghost use Rattle.tree_walk.specs.Walk.{nodes_visited};
 ghost use Rattle.snapshot.specs.Versions.{size_now, HasNodeFor, IsVersionIn};
 ghost use Rattle.range_reader.specs.Reading.{newest_in, bytes_at, backs_in};
 ghost use Rattle.range_reader.specs.Faults.{CountsKept, PageFailedIn};
@@ -40,7 +40,7 @@ pub(crate) fn walk<D: Door, L: Ledger>(
     ensures steps { let s = source.now.snapshot.now in
         (h q first last : ℕ) → range ≡ tree_range s.page_size h q → first * s.page_size ≤ from
         → from + length out.old ≤ (last + 1) * s.page_size
-        → steps.new ≤ steps.old + visited h q first last + backs_in s from (length out.old) }
+        → steps.new ≤ steps.old + nodes_visited h q first last + backs_in s from (length out.old) }
     ensures failed { IfErr result (λ page. PageFailedIn source.now.snapshot.now from (length out.old) (map D.faults doors.old) (map D.faults doors.new) page) }
     ensures counted { IfErr result (λ _. HasRisen (sum_by D.faults doors.old) (sum_by D.faults doors.new)) }
     ensures kept { CountsKept (map D.faults doors.old) (map D.faults doors.new) (sum_by D.faults doors.old) (sum_by D.faults doors.new) }

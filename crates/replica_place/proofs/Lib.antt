@@ -1,4 +1,4 @@
 pub mod Admission
 pub mod Orders
-pub mod Places
-pub mod Worked
+pub mod Insertions
+pub mod WorkedExamples

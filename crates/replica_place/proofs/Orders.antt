@@ -11,16 +11,16 @@ use Rattle.std.proofs.lemmas.List.Sums.{prefix_len-le-length}
 use Rattle.std.proofs.lemmas.Bool.Decides.{nat_tests}
 use Rattle.replica_place.specs.Order.{IsProvider, load_of, comes_before, with_provider, ordered, least, IsOrder, IsLeast}
 
--- the place of one more provider is within those that are in order
-place-le : (loads ps : List ℕ) (p : ℕ) → position_or_len (comes_before loads p) ps ≤ length ps
-place-le loads ps p = prefix_len-le-length (λ q. not (comes_before loads p q)) ps
+-- the position of one more provider is within those that are in order
+position-le : (loads ps : List ℕ) (p : ℕ) → position_or_len (comes_before loads p) ps ≤ length ps
+position-le loads ps p = prefix_len-le-length (λ q. not (comes_before loads p q)) ps
 
 pub length-ordered : (loads : List ℕ) (n : ℕ) → length (ordered loads n) ≡ n
 length-ordered loads zero = refl
 length-ordered loads (suc n) =
     let ps = ordered loads n in
-    let place = position_or_len (comes_before loads (suc n)) ps in
-    let more : length (insert ps place (suc n)) ≡ length ps + 1 = length-insert ps place (suc n) (place-le loads ps (suc n)) in
+    let position = position_or_len (comes_before loads (suc n)) ps in
+    let more : length (insert ps position (suc n)) ≡ length ps + 1 = length-insert ps position (suc n) (position-le loads ps (suc n)) in
     omega (arith, length-ordered loads n)
 
 -- the numbers from a on, and one more

@@ -43,21 +43,21 @@ fn admit(loads: &[u64], before: usize, kept: &mut [u32])
 {
     let provider = before as u32 + 1;
     let room = kept.len();
-    let place = place_of(loads, provider, &kept[..before.min(room)]);
-    if place < room {
-        put(kept, place, provider);
+    let position = position_of(loads, provider, &kept[..before.min(room)]);
+    if position < room {
+        put(kept, position, provider);
     }
 }
 
-// The place of the first provider that this one comes before.
-fn place_of(loads: &[u64], provider: u32, kept: &[u32]) -> usize
+// The position of the first provider that this one comes before.
+fn position_of(loads: &[u64], provider: u32, kept: &[u32]) -> usize
     requires provider { IsProvider loads.now provider }
     requires providers { All (IsProvider loads.now) kept.now }
     ensures { result ≡ position_or_len (comes_before loads.now provider) kept.now }
 {
-    for (place, other) in kept.iter().enumerate() {
+    for (position, other) in kept.iter().enumerate() {
         if comes_before(loads, provider, *other) {
-            return place;
+            return position;
         }
     }
     kept.len()
@@ -77,11 +77,11 @@ fn comes_before(loads: &[u64], provider: u32, other: u32) -> bool
     }
 }
 
-// Puts a provider at a place. Those from there on move up by one, and the last one falls out.
-fn put(kept: &mut [u32], place: usize, provider: u32)
-    requires { place < length kept.old }
-    ensures { kept.new ≡ take (length kept.old) (insert kept.old place provider) }
+// Puts a provider at a position. Those from there on move up by one, and the last one falls out.
+fn put(kept: &mut [u32], position: usize, provider: u32)
+    requires { position < length kept.old }
+    ensures { kept.new ≡ take (length kept.old) (insert kept.old position provider) }
 {
-    kept[place..].rotate_right(1);
-    kept[place] = provider;
+    kept[position..].rotate_right(1);
+    kept[position] = provider;
 }

@@ -4,7 +4,7 @@ use Rattle.std.proofs.lemmas.Bool.{eq-eqb}
 use Rattle.std.proofs.lemmas.List.Sums.{sum_by-cons, sum_by_push}
 use Rattle.blob_model.specs.History.{AllOther}
 use Rattle.request_form.specs.declared.form.Reply.{Reply}
-use Rattle.request_form.specs.Session.{Session, Held, without_ticket}
+use Rattle.request_form.specs.Session.{Session, HeldTicket, without_ticket}
 use Rattle.request_form.specs.Answers.{Gap}
 use Rattle.request_form.specs.Own.{Makes, finish_made}
 use Rattle.request_form.specs.HangUp.{Dropped, GivenUp, GivesUp, tells_finished, tells_no_memory, finished_count, dropped_count, finishes_made}
@@ -26,10 +26,10 @@ dropped_more replies reply = sum_by_push (λ r. cond (tells_no_memory r) 1 0) re
 
 -- ---- one ticket
 -- the first ticket of a list is the one of its number
-first_without : (ticket : Held) (tickets : List Held) → without_ticket (ticket ∷ tickets) ticket.number ≡ tickets
+first_without : (ticket : HeldTicket) (tickets : List HeldTicket) → without_ticket (ticket ∷ tickets) ticket.number ≡ tickets
 first_without ticket tickets = ap (λ (t : Bool). if t then tickets else ticket ∷ without_ticket tickets ticket.number) (eq-eqb ticket.number ticket.number refl)
 
-module _ (s s' : Session) (ticket : Held) (reply : Reply) where
+module _ (s s' : Session) (ticket : HeldTicket) (reply : Reply) where
   dropped_makes : Dropped AllOther s ticket reply s' → Makes s (finish_made s.caller ticket reply) s'
   dropped_makes d =
       let m = out_of_memory_makes s d.mid ticket reply d.out_of_memory in
@@ -47,15 +47,15 @@ module _ (s s' : Session) (ticket : Held) (reply : Reply) where
   given_up_makes (GivenUp.dropped d) = dropped_makes d
 
   -- it was the first of those that are held
-  given_up_tickets : (gap : Gap) (tickets : List Held) → s.tickets ≡ ticket ∷ tickets → GivenUp gap s ticket reply s' → s'.tickets ≡ tickets
+  given_up_tickets : (gap : Gap) (tickets : List HeldTicket) → s.tickets ≡ ticket ∷ tickets → GivenUp gap s ticket reply s' → s'.tickets ≡ tickets
   given_up_tickets gap tickets e (GivenUp.reported t) =
-      ap (λ (x : Session). x.tickets) t.seen ∙ (ap (λ (l : List Held). without_ticket l ticket.number) e ∙ first_without ticket tickets)
+      ap (λ (x : Session). x.tickets) t.seen ∙ (ap (λ (l : List HeldTicket). without_ticket l ticket.number) e ∙ first_without ticket tickets)
   given_up_tickets gap tickets e (GivenUp.found_finished t) =
-      ap (λ (x : Session). x.tickets) t.seen ∙ (ap (λ (l : List Held). without_ticket l ticket.number) e ∙ first_without ticket tickets)
+      ap (λ (x : Session). x.tickets) t.seen ∙ (ap (λ (l : List HeldTicket). without_ticket l ticket.number) e ∙ first_without ticket tickets)
   given_up_tickets gap tickets e (GivenUp.dropped d) =
       ap (λ (x : Session). x.tickets) d.dropped
       ∙ (ap (λ (x : Session). without_ticket x.tickets ticket.number) d.out_of_memory.seen
-      ∙ (ap (λ (l : List Held). without_ticket l ticket.number) e ∙ first_without ticket tickets))
+      ∙ (ap (λ (l : List HeldTicket). without_ticket l ticket.number) e ∙ first_without ticket tickets))
 
   -- its reply is counted once
   given_up_counted : (gap : Gap) → GivenUp gap s ticket reply s' → cond (tells_finished reply) 1 0 + cond (tells_no_memory reply) 1 0 ≡ 1
@@ -64,13 +64,13 @@ module _ (s s' : Session) (ticket : Held) (reply : Reply) where
   given_up_counted gap (GivenUp.dropped d) = ap (λ (r : Reply). cond (tells_finished r) 1 0 + cond (tells_no_memory r) 1 0) d.out_of_memory.said
 
 -- ---- all of them
-gives_up_tickets : (gap : Gap) (s : Session) (tickets : List Held) (replies : List Reply) (s' : Session) → s.tickets ≡ tickets → GivesUp gap s tickets replies s' → s'.tickets ≡ []
+gives_up_tickets : (gap : Gap) (s : Session) (tickets : List HeldTicket) (replies : List Reply) (s' : Session) → s.tickets ≡ tickets → GivesUp gap s tickets replies s' → s'.tickets ≡ []
 gives_up_tickets gap s [] [] s' e same = ap (λ (x : Session). x.tickets) same ∙ e
 gives_up_tickets gap s (t ∷ ts) (r ∷ rs) s' e (mid, first, rest) = gives_up_tickets gap mid ts rs s' (given_up_tickets s mid t r gap ts e first) rest
 gives_up_tickets gap s [] (r ∷ rs) s' e none = absurd none
 gives_up_tickets gap s (t ∷ ts) [] s' e none = absurd none
 
-gives_up_counts : (gap : Gap) (s : Session) (tickets : List Held) (replies : List Reply) (s' : Session) → GivesUp gap s tickets replies s'
+gives_up_counts : (gap : Gap) (s : Session) (tickets : List HeldTicket) (replies : List Reply) (s' : Session) → GivesUp gap s tickets replies s'
     → finished_count replies + dropped_count replies ≡ length tickets
 gives_up_counts gap s [] [] s' same = refl
 gives_up_counts gap s (t ∷ ts) (r ∷ rs) s' (mid, first, rest) =
@@ -82,7 +82,7 @@ gives_up_counts gap s (t ∷ ts) (r ∷ rs) s' (mid, first, rest) =
 gives_up_counts gap s [] (r ∷ rs) s' none = absurd none
 gives_up_counts gap s (t ∷ ts) [] s' none = absurd none
 
-pub gives_up_makes : (s : Session) (tickets : List Held) (replies : List Reply) (s' : Session) → GivesUp AllOther s tickets replies s' → Makes s (finishes_made s.caller tickets replies) s'
+pub gives_up_makes : (s : Session) (tickets : List HeldTicket) (replies : List Reply) (s' : Session) → GivesUp AllOther s tickets replies s' → Makes s (finishes_made s.caller tickets replies) s'
 gives_up_makes s [] [] s' same = makes_none s s' same
 gives_up_makes s (t ∷ ts) (r ∷ rs) s' (mid, first, rest) =
     let a = given_up_makes s mid t r first in

@@ -13,7 +13,7 @@ use Rattle.blob_model.specs.declared.call.Event.TheVariants as Events
 use Rattle.blob_model.specs.declared.call.Outcome.TheVariants as Outcomes
 use Rattle.blob_model.specs.declared.call.Refusal.TheVariants as Refusals
 use Rattle.request_form.specs.declared.form.Reply.{Reply}
-use Rattle.request_form.specs.Session.{Fixed, Session, Held, store_at}
+use Rattle.request_form.specs.Session.{Fixed, Session, HeldTicket, store_at}
 use Rattle.request_form.specs.HangUp.{GivenUp, GivesUp, tells_finished, IsFinishedIn, AllNumbered, AllFinished}
 use Rattle.request_form.specs.Laws.{HungUpAreFinished}
 use Rattle.request_form.proofs.HangUps.{given_up_makes, gives_up_makes}
@@ -33,7 +33,7 @@ finishes_last caller blob version (Events.Finish c other v ∷ xs) =
 finishes_last caller blob version (Events.Branch c other v ∷ xs) = finishes_last caller blob version xs
 
 -- a numbered version of a blob
-record Numbered (store : Store) (ticket : Held) : Type 0 where
+record Numbered (store : Store) (ticket : HeldTicket) : Type 0 where
   b : Blob
   at : blob_at store ticket.blob ≡ Some b
   some : 1 ≤ ticket.version
@@ -43,10 +43,10 @@ some_numbered : (o : Option Blob) (version : ℕ) → IsNumbered o version → (
 some_numbered None version none = absurd none
 some_numbered (Some b) version n = (b, refl, n.0, n.1)
 
-numbered : (store : Store) (ticket : Held) → IsNumbered (blob_at store ticket.blob) ticket.version → Numbered store ticket
+numbered : (store : Store) (ticket : HeldTicket) → IsNumbered (blob_at store ticket.blob) ticket.version → Numbered store ticket
 numbered store ticket n = let (b, at, some, within) = some_numbered (blob_at store ticket.blob) ticket.version n in record { b = b; at = at; some = some; within = within }
 
-is_numbered : (store : Store) (ticket : Held) → Numbered store ticket → IsNumbered (blob_at store ticket.blob) ticket.version
+is_numbered : (store : Store) (ticket : HeldTicket) → Numbered store ticket → IsNumbered (blob_at store ticket.blob) ticket.version
 is_numbered store ticket n = subst (λ (o : Option Blob). IsNumbered o ticket.version) (sym n.at) (n.some, n.within)
 
 same_blob : (o : Option Blob) (a b : Blob) → o ≡ Some a → o ≡ Some b → a ≡ b
@@ -58,7 +58,7 @@ already_then : (t : Bool) (store : Store) (version : ℕ) (done : Answered) (n :
 already_then true store version done n is e = refl
 already_then false store version done n is e = let never : ⊥ = cc in absurd never
 
-found_in : (store : Store) (ticket : Held) (o : Option Blob) → blob_at store ticket.blob ≡ o
+found_in : (store : Store) (ticket : HeldTicket) (o : Option Blob) → blob_at store ticket.blob ≡ o
     → (let a : Answered =
     elim o [
       | None ↦ refuse store (Refusals.NoBlob ticket.blob)
@@ -70,33 +70,33 @@ found_in store ticket (Some b) at e = (b, at, already_then (is_finished b ticket
 
 -- ---- later
 module _ (stay : OldVersionsStay) (by_events : FinishedByEvents) (limits : Bounds) where
-  numbered_later : (h more h' : List Event) (ticket : Held) → h' ≡ h ++ more → Numbered (store_of limits h) ticket → Numbered (store_of limits h') ticket
+  numbered_later : (h more h' : List Event) (ticket : HeldTicket) → h' ≡ h ++ more → Numbered (store_of limits h) ticket → Numbered (store_of limits h') ticket
   numbered_later h more h' ticket e n =
       let (new, at, stays) = stay limits h more ticket.blob n.b n.at in
       let longer : length new.updates ≡ length (n.b.updates ++ stays.later) = ap (λ (us : List Update). length us) stays.updates in
       subst (λ (x : List Event). Numbered (store_of limits x) ticket) (sym e)
       (record { b = new; at = at; some = n.some; within = omega (arith, n.within, longer, length-append n.b.updates stays.later) })
 
-  all_numbered_later : (h more h' : List Event) (tickets : List Held) → h' ≡ h ++ more → AllNumbered (store_of limits h) tickets → AllNumbered (store_of limits h') tickets
+  all_numbered_later : (h more h' : List Event) (tickets : List HeldTicket) → h' ≡ h ++ more → AllNumbered (store_of limits h) tickets → AllNumbered (store_of limits h') tickets
   all_numbered_later h more h' [] e all = tt
   all_numbered_later h more h' (t ∷ ts) e all =
       (is_numbered (store_of limits h') t (numbered_later h more h' t e (numbered (store_of limits h) t all.0)), all_numbered_later h more h' ts e all.1)
 
   -- a numbered version is finished later where it was, or where an event finishes it
-  marked_later : (h more h' : List Event) (ticket : Held) → h' ≡ h ++ more → (n : Numbered (store_of limits h) ticket)
+  marked_later : (h more h' : List Event) (ticket : HeldTicket) → h' ≡ h ++ more → (n : Numbered (store_of limits h) ticket)
       → (is_finished n.b ticket.version || finishes ticket.blob ticket.version more) ≡ true → IsFinishedIn (store_of limits h') ticket
   marked_later h more h' ticket e n marked =
       let (new, at, stays) = stay limits h more ticket.blob n.b n.at in
       let mark : is_finished new ticket.version ≡ true = by_events limits h more ticket.blob ticket.version n.b new n.at at n.within ∙ marked in
       subst (λ (x : List Event). IsFinishedIn (store_of limits x) ticket) (sym e) (new, at, mark)
 
-  finished_later : (h more h' : List Event) (ticket : Held) → h' ≡ h ++ more → Numbered (store_of limits h) ticket → IsFinishedIn (store_of limits h) ticket → IsFinishedIn (store_of limits h') ticket
+  finished_later : (h more h' : List Event) (ticket : HeldTicket) → h' ≡ h ++ more → Numbered (store_of limits h) ticket → IsFinishedIn (store_of limits h) ticket → IsFinishedIn (store_of limits h') ticket
   finished_later h more h' ticket e n (b, at, mark) =
       let same : b ≡ n.b = same_blob (blob_at (store_of limits h) ticket.blob) b n.b at n.at in
       let was : is_finished n.b ticket.version ≡ true = ap (λ (x : Blob). is_finished x ticket.version) (sym same) ∙ mark in
       marked_later h more h' ticket e n (ap (λ (t : Bool). t || finishes ticket.blob ticket.version more) was)
 
-  finished_by_last : (h others : List Event) (caller : ℕ) (h' : List Event) (ticket : Held) → h' ≡ h ++ (others ++ Events.Finish caller ticket.blob ticket.version ∷ [])
+  finished_by_last : (h others : List Event) (caller : ℕ) (h' : List Event) (ticket : HeldTicket) → h' ≡ h ++ (others ++ Events.Finish caller ticket.blob ticket.version ∷ [])
       → Numbered (store_of limits h) ticket → IsFinishedIn (store_of limits h') ticket
   finished_by_last h others caller h' ticket e n =
       marked_later h (others ++ Events.Finish caller ticket.blob ticket.version ∷ []) h' ticket e n
@@ -104,7 +104,7 @@ module _ (stay : OldVersionsStay) (by_events : FinishedByEvents) (limits : Bound
 
 -- ---- tickets that are given up
 module _ (stay : OldVersionsStay) (by_events : FinishedByEvents) where
-  finished_then : (s mid : Session) (ticket : Held) (reply : Reply) → Numbered (store_of s.fixed.limits s.seen) ticket → GivenUp AllOther s ticket reply mid
+  finished_then : (s mid : Session) (ticket : HeldTicket) (reply : Reply) → Numbered (store_of s.fixed.limits s.seen) ticket → GivenUp AllOther s ticket reply mid
       → tells_finished reply ≡ true → IsFinishedIn (store_of s.fixed.limits mid.seen) ticket
   finished_then s mid ticket reply n (GivenUp.reported t) told =
       finished_by_last stay by_events s.fixed.limits s.seen t.others s.caller mid.seen ticket (ap (λ (x : Session). x.seen) t.seen) n
@@ -114,7 +114,7 @@ module _ (stay : OldVersionsStay) (by_events : FinishedByEvents) where
   finished_then s mid ticket reply n (GivenUp.dropped d) told =
       absurd (false≢true (sym (ap (λ (r : Reply). tells_finished r) d.out_of_memory.said) ∙ told))
 
-  all_finished : (s : Session) (tickets : List Held) (replies : List Reply) (s' : Session) → GivesUp AllOther s tickets replies s'
+  all_finished : (s : Session) (tickets : List HeldTicket) (replies : List Reply) (s' : Session) → GivesUp AllOther s tickets replies s'
       → AllNumbered (store_of s.fixed.limits s.seen) tickets → AllFinished (store_of s.fixed.limits s'.seen) tickets replies
   all_finished s [] [] s' same all = tt
   all_finished s (t ∷ ts) (r ∷ rs) s' (mid, first, rest) all =

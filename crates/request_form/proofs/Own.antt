@@ -25,10 +25,10 @@ use Rattle.request_form.specs.declared.form.Heard.TheVariants.{Asked, Wrong}
 use Rattle.request_form.specs.declared.form.Fault.{Fault}
 use Rattle.request_form.specs.declared.form.Fault.TheVariants as Faults
 use Rattle.request_form.specs.Replies.{fault_of}
-use Rattle.request_form.specs.Session.{Session, Held, store_at, outcome_at, sees, holds, held_at, drops}
+use Rattle.request_form.specs.Session.{Session, HeldTicket, store_at, outcome_at, sees, holds, ticket_at, drops}
 use Rattle.request_form.specs.Answers.{Unless, OutOfMemory, Updated, Started, Reported, FoundFinished, CreateAnswer, UpdateAnswer, ReportAnswer, FinishAnswer, BranchAnswer, ReadAnswer, LookAnswer, Answers, update_fault, read_fault, max_update, max_tickets}
 use Rattle.request_form.specs.Transcript.{Run, ItemReply}
-use Rattle.request_form.specs.Own.{create_made, update_made, start_made, finish_made, held_made, branch_made, made, item_made, made_by, Makes}
+use Rattle.request_form.specs.Own.{create_made, update_made, start_made, finish_made, held_made, branch_made, events_made, item_made, made_by, Makes}
 
 -- ---- a caller's events in a list
 -- a gap has none of them
@@ -204,21 +204,21 @@ module _ (s s' : Session) where
   look_makes call reply t = makes_gap s s' t.others t.is_gap t.seen
 
   -- the three ways in which a ticket's finish ends
-  pub reported_makes : (ticket : Held) (reply : Reply) → Reported AllOther s ticket reply s' → Makes s (finish_made s.caller ticket reply) s'
+  pub reported_makes : (ticket : HeldTicket) (reply : Reply) → Reported AllOther s ticket reply s' → Makes s (finish_made s.caller ticket reply) s'
   reported_makes ticket reply t =
       makes_told s s' (finish_made s.caller ticket) _ reply (Replies.Finished t.published) t.said refl
       (makes_drops s s' _ _ ticket.number t.seen (event_own s.caller t.others (Events.Finish s.caller ticket.blob ticket.version) [] [] t.is_gap refl refl))
 
-  pub found_finished_makes : (ticket : Held) (reply : Reply) → FoundFinished AllOther s ticket reply s' → Makes s (finish_made s.caller ticket reply) s'
+  pub found_finished_makes : (ticket : HeldTicket) (reply : Reply) → FoundFinished AllOther s ticket reply s' → Makes s (finish_made s.caller ticket reply) s'
   found_finished_makes ticket reply t =
       makes_told s s' (finish_made s.caller ticket) [] reply (Replies.Refused (Faults.Already ticket.version)) t.said refl
       (makes_drops s s' t.others [] ticket.number t.seen (none_own s.caller t.others t.is_gap))
 
-  pub out_of_memory_makes : (ticket : Held) (reply : Reply) → OutOfMemory AllOther s reply s' → Makes s (finish_made s.caller ticket reply) s'
+  pub out_of_memory_makes : (ticket : HeldTicket) (reply : Reply) → OutOfMemory AllOther s reply s' → Makes s (finish_made s.caller ticket reply) s'
   out_of_memory_makes ticket reply t =
       makes_told s s' (finish_made s.caller ticket) [] reply (Replies.Refused Faults.NoMemory) t.said refl (makes_gap s s' t.others t.is_gap t.seen)
 
-  finish_makes : (number : ℕ) (o : Option Held) (reply : Reply) → FinishAnswer AllOther s number o reply s' → Makes s (held_made s.caller o reply) s'
+  finish_makes : (number : ℕ) (o : Option HeldTicket) (reply : Reply) → FinishAnswer AllOther s number o reply s' → Makes s (held_made s.caller o reply) s'
   finish_makes number None reply a = makes_none s s' a.1
   finish_makes number (Some ticket) reply (ReportAnswer.reported t) = reported_makes ticket reply t
   finish_makes number (Some ticket) reply (ReportAnswer.finished t) = found_finished_makes ticket reply t
@@ -305,13 +305,13 @@ read_none : (s s' : Session) (o : Option Fault) (reply : Reply) (Answer : Type 0
 read_none s s' (Some fault) reply Answer f u = makes_none s s' u.1
 read_none s s' None reply Answer f u = f u
 
-pub answer_makes : (s : Session) (request : Request) (reply : Reply) (s' : Session) → Answers AllOther s request reply s' → Makes s (made s request reply) s'
+pub answer_makes : (s : Session) (request : Request) (reply : Reply) (s' : Session) → Answers AllOther s request reply s' → Makes s (events_made s request reply) s'
 answer_makes s Requests.Create reply s' a = create_makes s s' reply a
 answer_makes s (Requests.Append blob bytes) reply s' a = update_makes s s' blob Append bytes _ reply (λ v at z. refl) a
 answer_makes s (Requests.Write blob offset bytes) reply s' a = update_makes s s' blob (WriteAt offset) bytes _ reply (λ v at z. refl) a
 answer_makes s (Requests.StartAppend blob bytes) reply s' a = start_makes s s' blob Append bytes _ reply (λ t v at z. refl) a
 answer_makes s (Requests.StartWrite blob offset bytes) reply s' a = start_makes s s' blob (WriteAt offset) bytes _ reply (λ t v at z. refl) a
-answer_makes s (Requests.Finish number) reply s' a = finish_makes s s' number (held_at s.tickets number) reply a
+answer_makes s (Requests.Finish number) reply s' a = finish_makes s s' number (ticket_at s.tickets number) reply a
 answer_makes s (Requests.Read blob version offset count) reply s' a = read_none s s' (read_fault count) reply _ (read_makes s s' blob version offset count reply) a
 answer_makes s (Requests.Recent blob) reply s' a = look_makes s s' (Calls.Recent blob) reply a
 answer_makes s (Requests.Size blob version) reply s' a = look_makes s s' (Calls.Size blob version) reply a

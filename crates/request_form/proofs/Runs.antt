@@ -21,11 +21,11 @@ use Rattle.request_form.specs.declared.form.Heard.TheVariants.{Asked, Wrong}
 use Rattle.request_form.specs.declared.form.Fault.{Fault}
 use Rattle.request_form.specs.declared.form.Fault.TheVariants as Faults
 use Rattle.blob_model.specs.History.{AllOther}
-use Rattle.request_form.specs.Session.{Session, Held, sees, holds, held_at, drops, AllOwn, IsNobody}
+use Rattle.request_form.specs.Session.{Session, HeldTicket, sees, holds, ticket_at, drops, AllOwn, IsNobody}
 use Rattle.request_form.specs.Replies.{fault_of, reply_of, page_faults, fault_count}
 use Rattle.request_form.specs.Stream.{IsWellHeard, AllWellHeard}
 use Rattle.request_form.specs.Session.{outcome_at}
-use Rattle.request_form.specs.Answers.{Gap, Answers, Unless, Refused, OutOfMemory, Created, Updated, Started, Kept, Reported, FoundFinished, Branched, Content, PageNotRead, CreateAnswer, UpdateAnswer, ReportAnswer, FinishAnswer, BranchAnswer, ReadAnswer, LookAnswer, update_fault, read_fault, max_update, max_read, max_tickets}
+use Rattle.request_form.specs.Answers.{Gap, Answers, Unless, Refused, OutOfMemory, Created, Updated, Started, TicketKept, Reported, FoundFinished, Branched, Content, PageNotRead, CreateAnswer, UpdateAnswer, ReportAnswer, FinishAnswer, BranchAnswer, ReadAnswer, LookAnswer, update_fault, read_fault, max_update, max_read, max_tickets}
 use Rattle.request_form.specs.Transcript.{Run, ItemReply, is_last, until_quit, has_quit, faults_of}
 
 -- a run and then another
@@ -127,7 +127,7 @@ update_possible s blob place bytes Does =
     (update_calm s bytes)
     (record { reply = Replies.Refused Faults.NoMemory; next = sees s []; is = UpdateAnswer.out_of_memory (out_of_memory_here s); calm = refl })
 
-finish_possible : (s : Session) (number : ℕ) (ticket : Option Held) → SomeReply (λ (r : Reply) (s' : Session). FinishAnswer IsNobody s number ticket r s')
+finish_possible : (s : Session) (number : ℕ) (ticket : Option HeldTicket) → SomeReply (λ (r : Reply) (s' : Session). FinishAnswer IsNobody s number ticket r s')
 finish_possible s number None = record { reply = Replies.Refused (Faults.NoTicket number); next = s; is = (refl, refl); calm = refl }
 finish_possible s number (Some ticket) =
     record { reply = Replies.Refused Faults.NoMemory; next = sees s []; is = ReportAnswer.out_of_memory (out_of_memory_here s); calm = refl }
@@ -151,7 +151,7 @@ answer_possible s (Requests.StartAppend blob bytes) =
 answer_possible s (Requests.StartWrite blob offset bytes) =
     update_possible s blob (WriteAt offset) bytes
     (λ (r : Reply) (s' : Session). Started IsNobody s blob (WriteAt offset) bytes (λ (t : ℕ) (v : ℕ) (a : ℕ) (z : ℕ). Replies.WriteStarted t v a z) r s')
-answer_possible s (Requests.Finish number) = finish_possible s number (held_at s.tickets number)
+answer_possible s (Requests.Finish number) = finish_possible s number (ticket_at s.tickets number)
 answer_possible s (Requests.Read blob version offset count) =
     unless_possible (read_fault count) s
     (λ (r : Reply) (s' : Session). ReadAnswer IsNobody s blob version offset count r s')
@@ -232,8 +232,8 @@ module _ (gap gap' : Gap) (s s' : Session) (also : (others : List Event) → Sta
   Content-gap blob version offset count reply t =
       record { others = t.others; is_gap = also t.others (alone _ (ap (λ (x : Session). x.seen) t.seen)) t.is_gap; bytes = t.bytes; done = t.done; said = t.said; seen = t.seen }
 
-  Kept-gap : (blob : ℕ) (place : Place) (bytes : List ℕ) (reply : Reply) → Kept gap s blob place bytes reply s' → Kept gap' s blob place bytes reply s'
-  Kept-gap blob place bytes reply t =
+  TicketKept-gap : (blob : ℕ) (place : Place) (bytes : List ℕ) (reply : Reply) → TicketKept gap s blob place bytes reply s' → TicketKept gap' s blob place bytes reply s'
+  TicketKept-gap blob place bytes reply t =
       let e = ap (λ (x : Session). x.seen) t.seen in
       record {
         others = t.others;
@@ -279,11 +279,11 @@ module _ (gap gap' : Gap) (s s' : Session) (also : (others : List Event) → Sta
         seen = t.seen;
       }
 
-  Reported-gap : (ticket : Held) (reply : Reply) → Reported gap s ticket reply s' → Reported gap' s ticket reply s'
+  Reported-gap : (ticket : HeldTicket) (reply : Reply) → Reported gap s ticket reply s' → Reported gap' s ticket reply s'
   Reported-gap ticket reply t =
       record { others = t.others; is_gap = also t.others (first _ _ (ap (λ (x : Session). x.seen) t.seen)) t.is_gap; published = t.published; done = t.done; said = t.said; seen = t.seen }
 
-  FoundFinished-gap : (ticket : Held) (reply : Reply) → FoundFinished gap s ticket reply s' → FoundFinished gap' s ticket reply s'
+  FoundFinished-gap : (ticket : HeldTicket) (reply : Reply) → FoundFinished gap s ticket reply s' → FoundFinished gap' s ticket reply s'
   FoundFinished-gap ticket reply t =
       record { others = t.others; is_gap = also t.others (alone _ (ap (λ (x : Session). x.seen) t.seen)) t.is_gap; refused = t.refused; said = t.said; seen = t.seen }
 
@@ -316,7 +316,7 @@ module _ (gap gap' : Gap) (s s' : Session) (also : (others : List Event) → Sta
   update_gap blob place bytes reply Does Does' f (UpdateAnswer.does d) = UpdateAnswer.does (f d)
   update_gap blob place bytes reply Does Does' f (UpdateAnswer.refused t) = UpdateAnswer.refused (Refused-gap _ reply t)
   update_gap blob place bytes reply Does Does' f (UpdateAnswer.out_of_memory t) = UpdateAnswer.out_of_memory (OutOfMemory-gap reply t)
-  update_gap blob place bytes reply Does Does' f (UpdateAnswer.kept t) = UpdateAnswer.kept (Kept-gap blob place bytes reply t)
+  update_gap blob place bytes reply Does Does' f (UpdateAnswer.kept t) = UpdateAnswer.kept (TicketKept-gap blob place bytes reply t)
   update_gap blob place bytes reply Does Does' f (UpdateAnswer.not_stored t) = UpdateAnswer.not_stored t
 
   read_gap : (blob version offset count : ℕ) (reply : Reply) → ReadAnswer gap s blob version offset count reply s' → ReadAnswer gap' s blob version offset count reply s'
@@ -325,7 +325,7 @@ module _ (gap gap' : Gap) (s s' : Session) (also : (others : List Event) → Sta
   read_gap blob version offset count reply (ReadAnswer.out_of_memory t) = ReadAnswer.out_of_memory (OutOfMemory-gap reply t)
   read_gap blob version offset count reply (ReadAnswer.not_read t) = ReadAnswer.not_read (PageNotRead-gap _ _ _ _ reply t)
 
-  finish_gap : (number : ℕ) (ticket : Option Held) (reply : Reply) → FinishAnswer gap s number ticket reply s' → FinishAnswer gap' s number ticket reply s'
+  finish_gap : (number : ℕ) (ticket : Option HeldTicket) (reply : Reply) → FinishAnswer gap s number ticket reply s' → FinishAnswer gap' s number ticket reply s'
   finish_gap number None reply a = a
   finish_gap number (Some ticket) reply (ReportAnswer.reported t) = ReportAnswer.reported (Reported-gap ticket reply t)
   finish_gap number (Some ticket) reply (ReportAnswer.finished t) = ReportAnswer.finished (FoundFinished-gap ticket reply t)
@@ -354,7 +354,7 @@ module _ (gap gap' : Gap) (s s' : Session) (also : (others : List Event) → Sta
       unless_gap (update_fault s bytes) reply _ _ (update_gap blob Append bytes reply _ _ (Started-gap _ _ _ _ reply)) a
   Answers-gap (Requests.StartWrite blob offset bytes) reply a =
       unless_gap (update_fault s bytes) reply _ _ (update_gap blob (WriteAt offset) bytes reply _ _ (Started-gap _ _ _ _ reply)) a
-  Answers-gap (Requests.Finish number) reply a = finish_gap number (held_at s.tickets number) reply a
+  Answers-gap (Requests.Finish number) reply a = finish_gap number (ticket_at s.tickets number) reply a
   Answers-gap (Requests.Read blob version offset count) reply a = unless_gap (read_fault count) reply _ _ (read_gap _ _ _ _ reply) a
   Answers-gap (Requests.Recent blob) reply a = look_gap (Calls.Recent blob) reply a
   Answers-gap (Requests.Size blob version) reply a = look_gap (Calls.Size blob version) reply a
@@ -414,7 +414,7 @@ module _ (gap : Gap) (s s' : Session) where
   read_grows blob version offset count reply (ReadAnswer.out_of_memory t) = grows_sees s s' _ t.seen
   read_grows blob version offset count reply (ReadAnswer.not_read t) = grows_sees s s' _ t.seen
 
-  finish_grows : (number : ℕ) (ticket : Option Held) (reply : Reply) → FinishAnswer gap s number ticket reply s' → Grows s s'
+  finish_grows : (number : ℕ) (ticket : Option HeldTicket) (reply : Reply) → FinishAnswer gap s number ticket reply s' → Grows s s'
   finish_grows number None reply a = grows_none s s' a.1
   finish_grows number (Some ticket) reply (ReportAnswer.reported t) = grows_drops s s' _ ticket.number t.seen
   finish_grows number (Some ticket) reply (ReportAnswer.finished t) = grows_drops s s' _ ticket.number t.seen
@@ -444,7 +444,7 @@ module _ (gap : Gap) (s s' : Session) where
   Answers-grows (Requests.Write blob offset bytes) reply a = unless_grows (update_fault s bytes) reply _ (update_grows blob (WriteAt offset) bytes reply _ (updated_grows _ _ _ _ reply)) a
   Answers-grows (Requests.StartAppend blob bytes) reply a = unless_grows (update_fault s bytes) reply _ (update_grows blob Append bytes reply _ (started_grows _ _ _ _ reply)) a
   Answers-grows (Requests.StartWrite blob offset bytes) reply a = unless_grows (update_fault s bytes) reply _ (update_grows blob (WriteAt offset) bytes reply _ (started_grows _ _ _ _ reply)) a
-  Answers-grows (Requests.Finish number) reply a = finish_grows number (held_at s.tickets number) reply a
+  Answers-grows (Requests.Finish number) reply a = finish_grows number (ticket_at s.tickets number) reply a
   Answers-grows (Requests.Read blob version offset count) reply a = unless_grows (read_fault count) reply _ (read_grows _ _ _ _ reply) a
   Answers-grows (Requests.Recent blob) reply a = look_grows (Calls.Recent blob) reply a
   Answers-grows (Requests.Size blob version) reply a = look_grows (Calls.Size blob version) reply a

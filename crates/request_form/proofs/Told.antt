@@ -17,7 +17,7 @@ use Rattle.request_form.specs.declared.form.Heard.TheVariants.{Asked, Wrong}
 use Rattle.request_form.specs.declared.form.Fault.{Fault}
 use Rattle.request_form.specs.declared.form.Fault.TheVariants as Faults
 use Rattle.request_form.specs.Replies.{fault_of, reply_of}
-use Rattle.request_form.specs.Session.{Session, Held, outcome_at, sees, holds, held_at, drops, IsNobody}
+use Rattle.request_form.specs.Session.{Session, HeldTicket, outcome_at, sees, holds, ticket_at, drops, IsNobody}
 use Rattle.request_form.specs.Answers.{Answers, Unless, Refused, OutOfMemory, Updated, Started, CreateAnswer, UpdateAnswer, ReportAnswer, FinishAnswer, BranchAnswer, ReadAnswer, LookAnswer, update_fault, read_fault}
 use Rattle.request_form.specs.Transcript.{Run, ItemReply}
 
@@ -52,12 +52,12 @@ started_told s blob place bytes done (Outcomes.Assigned version at size) =
     told (done s.next version at size) (holds (sees s (Events.Assign s.caller blob place bytes ∷ [])) blob version)
 started_told s blob place bytes done o = otherwise s o
 
-abbrev reported_told : Session → Held → Outcome → Told
+abbrev reported_told : Session → HeldTicket → Outcome → Told
 reported_told s ticket (Outcomes.Published published) =
     told (Replies.Finished published) (drops (sees s (Events.Finish s.caller ticket.blob ticket.version ∷ [])) ticket.number)
 reported_told s ticket _ = told (Replies.Refused Faults.NoMemory) (sees s [])
 
-abbrev finish_told : Session → ℕ → Option Held → Told
+abbrev finish_told : Session → ℕ → Option HeldTicket → Told
 finish_told s number None = told (Replies.Refused (Faults.NoTicket number)) s
 finish_told s number (Some ticket) = reported_told s ticket (outcome_at s [] (Calls.Finish ticket.blob ticket.version))
 
@@ -86,7 +86,7 @@ request_told s (Requests.Append blob bytes) = update_told s blob Append bytes (�
 request_told s (Requests.Write blob offset bytes) = update_told s blob (WriteAt offset) bytes (λ v a z. Replies.Wrote v a z)
 request_told s (Requests.StartAppend blob bytes) = start_told s blob Append bytes (λ t v a z. Replies.AppendStarted t v a z)
 request_told s (Requests.StartWrite blob offset bytes) = start_told s blob (WriteAt offset) bytes (λ t v a z. Replies.WriteStarted t v a z)
-request_told s (Requests.Finish number) = finish_told s number (held_at s.tickets number)
+request_told s (Requests.Finish number) = finish_told s number (ticket_at s.tickets number)
 request_told s (Requests.Read blob version offset count) =
     unless (read_fault count) s (read_told s (outcome_at s [] (Calls.Read blob version offset count)))
 request_told s (Requests.Recent blob) = look_told s (Calls.Recent blob)
@@ -129,13 +129,13 @@ started_is s blob place bytes done (Outcomes.Assigned version at size) e =
 started_is s blob place bytes done (Outcomes.Refused refusal) e = UpdateAnswer.refused (refused_now s _ refusal e)
 started_is s blob place bytes done _ e = UpdateAnswer.out_of_memory (out_of_memory s)
 
-reported_is : (s : Session) (ticket : Held) (o : Outcome) → outcome_at s [] (Calls.Finish ticket.blob ticket.version) ≡ o →
+reported_is : (s : Session) (ticket : HeldTicket) (o : Outcome) → outcome_at s [] (Calls.Finish ticket.blob ticket.version) ≡ o →
     ReportAnswer IsNobody s ticket (reported_told s ticket o).reply (reported_told s ticket o).next
 reported_is s ticket (Outcomes.Published published) e =
     ReportAnswer.reported (record { others = []; is_gap = refl; published = published; done = e; said = refl; seen = refl })
 reported_is s ticket _ e = ReportAnswer.out_of_memory (out_of_memory s)
 
-finish_is : (s : Session) (number : ℕ) (ticket : Option Held) → FinishAnswer IsNobody s number ticket (finish_told s number ticket).reply (finish_told s number ticket).next
+finish_is : (s : Session) (number : ℕ) (ticket : Option HeldTicket) → FinishAnswer IsNobody s number ticket (finish_told s number ticket).reply (finish_told s number ticket).next
 finish_is s number None = (refl, refl)
 finish_is s number (Some ticket) = reported_is s ticket _ refl
 
@@ -167,7 +167,7 @@ request_is s (Requests.StartAppend blob bytes) =
     unless_is (λ r s'. UpdateAnswer IsNobody s blob Append bytes (Started IsNobody s blob Append bytes (λ t v a z. Replies.AppendStarted t v a z) r s') r s') (update_fault s bytes) s _ (started_is s blob Append bytes _ _ refl)
 request_is s (Requests.StartWrite blob offset bytes) =
     unless_is (λ r s'. UpdateAnswer IsNobody s blob (WriteAt offset) bytes (Started IsNobody s blob (WriteAt offset) bytes (λ t v a z. Replies.WriteStarted t v a z) r s') r s') (update_fault s bytes) s _ (started_is s blob (WriteAt offset) bytes _ _ refl)
-request_is s (Requests.Finish number) = finish_is s number (held_at s.tickets number)
+request_is s (Requests.Finish number) = finish_is s number (ticket_at s.tickets number)
 request_is s (Requests.Read blob version offset count) =
     unless_is (λ r s'. ReadAnswer IsNobody s blob version offset count r s') (read_fault count) s _ (read_is s blob version offset count _ refl)
 request_is s (Requests.Recent blob) = look_is s (Calls.Recent blob)

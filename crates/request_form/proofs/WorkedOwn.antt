@@ -12,7 +12,7 @@ use Rattle.request_form.specs.declared.form.Fault.TheVariants as Faults
 use Rattle.request_form.specs.Session.{Session, IsNobody, sees, holds, drops}
 use Rattle.request_form.specs.Answers.{FoundFinished}
 use Rattle.request_form.specs.Transcript.{first_session}
-use Rattle.request_form.specs.Own.{made}
+use Rattle.request_form.specs.Own.{events_made}
 use Rattle.request_form.specs.HangUp.{GivenUp, HungUp, numbers_anew, finishes_made}
 use Rattle.request_form.proofs.Told.{request_told}
 
@@ -25,7 +25,7 @@ told_after s (r ∷ rs) = told_after (request_told s r).next rs
 
 abbrev made_after : Session → List Request → List Event
 made_after s [] = []
-made_after s (r ∷ rs) = made s r (request_told s r).reply ++ made_after (request_told s r).next rs
+made_after s (r ∷ rs) = events_made s r (request_told s r).reply ++ made_after (request_told s r).next rs
 
 -- what is refused, looked at or given up before makes no event; all that a session alone sees is its own
 abbrev row : List Request
@@ -42,13 +42,13 @@ row_seen : (told_after alone row).seen ≡ made_after alone row
 row_seen = refl
 
 -- an update that others finished, and one for which no memory was found once it was numbered
-others_finished : made alone (Requests.Append 1 (170 ∷ [])) (Replies.Refused (Faults.Already 1)) ≡ Events.Assign 1 1 Append (170 ∷ []) ∷ []
+others_finished : events_made alone (Requests.Append 1 (170 ∷ [])) (Replies.Refused (Faults.Already 1)) ≡ Events.Assign 1 1 Append (170 ∷ []) ∷ []
 others_finished = refl
 
-ticket_kept : made alone (Requests.Write 1 0 (170 ∷ [])) (Replies.Refused (Faults.NoMemoryTicket 1)) ≡ Events.Assign 1 1 (WriteAt 0) (170 ∷ []) ∷ []
+ticket_kept : events_made alone (Requests.Write 1 0 (170 ∷ [])) (Replies.Refused (Faults.NoMemoryTicket 1)) ≡ Events.Assign 1 1 (WriteAt 0) (170 ∷ []) ∷ []
 ticket_kept = refl
 
-no_memory : made alone (Requests.Append 1 (170 ∷ [])) (Replies.Refused Faults.NoMemory) ≡ []
+no_memory : events_made alone (Requests.Append 1 (170 ∷ [])) (Replies.Refused Faults.NoMemory) ≡ []
 no_memory = refl
 
 -- Three tickets: the first is finished, the second was finished by caller 2, and for the third no memory is found.

@@ -16,7 +16,7 @@ use Rattle.request_form.specs.declared.form.Reply.TheVariants as Replies
 use Rattle.request_form.specs.declared.form.Fault.{Fault}
 use Rattle.request_form.specs.declared.form.Fault.TheVariants as Faults
 use Rattle.request_form.specs.Replies.{fault_of, reply_of}
-use Rattle.request_form.specs.Session.{Session, Held, outcome_at, sees, holds, held_at, drops}
+use Rattle.request_form.specs.Session.{Session, HeldTicket, outcome_at, sees, holds, ticket_at, drops}
 
 -- the most bytes of an update
 abbrev pub max_update : ℕ
@@ -92,7 +92,7 @@ pub record Started (gap : Gap) (s : Session) (blob : ℕ) (place : Place) (bytes
   pub seen : s' ≡ holds (sees s (others ++ Events.Assign s.caller blob place bytes ∷ [])) blob version
 
 -- an update that was numbered, and then no memory was found: the session holds it under its next ticket
-pub record Kept (gap : Gap) (s : Session) (blob : ℕ) (place : Place) (bytes : List ℕ) (reply : Reply) (s' : Session) : Type 0 where
+pub record TicketKept (gap : Gap) (s : Session) (blob : ℕ) (place : Place) (bytes : List ℕ) (reply : Reply) (s' : Session) : Type 0 where
   pub others : List Event
   pub later : List Event
   pub is_gap : gap s.caller others
@@ -112,7 +112,7 @@ pub record PageNotStored (s : Session) (bytes : List ℕ) (reply : Reply) (s' : 
   pub same : s' ≡ s
 
 -- the update of a ticket is reported, and the ticket given up
-pub record Reported (gap : Gap) (s : Session) (ticket : Held) (reply : Reply) (s' : Session) : Type 0 where
+pub record Reported (gap : Gap) (s : Session) (ticket : HeldTicket) (reply : Reply) (s' : Session) : Type 0 where
   pub others : List Event
   pub is_gap : gap s.caller others
   pub published : ℕ
@@ -121,7 +121,7 @@ pub record Reported (gap : Gap) (s : Session) (ticket : Held) (reply : Reply) (s
   pub seen : s' ≡ drops (sees s (others ++ Events.Finish s.caller ticket.blob ticket.version ∷ [])) ticket.number
 
 -- the update of a ticket was reported before, and the ticket is given up all the same
-pub record FoundFinished (gap : Gap) (s : Session) (ticket : Held) (reply : Reply) (s' : Session) : Type 0 where
+pub record FoundFinished (gap : Gap) (s : Session) (ticket : HeldTicket) (reply : Reply) (s' : Session) : Type 0 where
   pub others : List Event
   pub is_gap : gap s.caller others
   pub refused : outcome_at s others (Calls.Finish ticket.blob ticket.version) ≡ Outcomes.Refused (Refusals.Already ticket.version)
@@ -171,7 +171,7 @@ pub data UpdateAnswer (gap : Gap) (s : Session) (blob : ℕ) (place : Place) (by
   does : Does → UpdateAnswer gap s blob place bytes Does reply s'
   refused : Refused gap s (Calls.Assign blob place bytes) reply s' → UpdateAnswer gap s blob place bytes Does reply s'
   out_of_memory : OutOfMemory gap s reply s' → UpdateAnswer gap s blob place bytes Does reply s'
-  kept : Kept gap s blob place bytes reply s' → UpdateAnswer gap s blob place bytes Does reply s'
+  kept : TicketKept gap s blob place bytes reply s' → UpdateAnswer gap s blob place bytes Does reply s'
   not_stored : PageNotStored s bytes reply s' → UpdateAnswer gap s blob place bytes Does reply s'
 
 pub data ReadAnswer (gap : Gap) (s : Session) (blob version offset count : ℕ) (reply : Reply) (s' : Session) : Type 0 where
@@ -181,13 +181,13 @@ pub data ReadAnswer (gap : Gap) (s : Session) (blob version offset count : ℕ) 
   not_read : PageNotRead gap s blob version offset count reply s' → ReadAnswer gap s blob version offset count reply s'
 
 -- a finish of a ticket that the session holds
-pub data ReportAnswer (gap : Gap) (s : Session) (ticket : Held) (reply : Reply) (s' : Session) : Type 0 where
+pub data ReportAnswer (gap : Gap) (s : Session) (ticket : HeldTicket) (reply : Reply) (s' : Session) : Type 0 where
   reported : Reported gap s ticket reply s' → ReportAnswer gap s ticket reply s'
   finished : FoundFinished gap s ticket reply s' → ReportAnswer gap s ticket reply s'
   out_of_memory : OutOfMemory gap s reply s' → ReportAnswer gap s ticket reply s'
 
 -- a finish of that number, by the ticket that the session holds under it
-abbrev pub FinishAnswer : Gap → Session → ℕ → Option Held → Reply → Session → Type 0
+abbrev pub FinishAnswer : Gap → Session → ℕ → Option HeldTicket → Reply → Session → Type 0
 FinishAnswer gap s number None reply s' = (reply ≡ Replies.Refused (Faults.NoTicket number)) × (s' ≡ s)
 FinishAnswer gap s number (Some ticket) reply s' = ReportAnswer gap s ticket reply s'
 
@@ -234,7 +234,7 @@ Answers gap s (Requests.StartAppend blob bytes) reply s' =
 Answers gap s (Requests.StartWrite blob offset bytes) reply s' =
     Unless (update_fault s bytes) s reply s'
     (UpdateAnswer gap s blob (WriteAt offset) bytes (Started gap s blob (WriteAt offset) bytes (λ ticket version at size. Replies.WriteStarted ticket version at size) reply s') reply s')
-Answers gap s (Requests.Finish ticket) reply s' = FinishAnswer gap s ticket (held_at s.tickets ticket) reply s'
+Answers gap s (Requests.Finish ticket) reply s' = FinishAnswer gap s ticket (ticket_at s.tickets ticket) reply s'
 Answers gap s (Requests.Read blob version offset count) reply s' =
     Unless (read_fault count) s reply s' (ReadAnswer gap s blob version offset count reply s')
 Answers gap s (Requests.Recent blob) reply s' = LookAnswer gap s (Calls.Recent blob) reply s'

@@ -6,24 +6,24 @@ use Rattle.blob_model.specs.declared.call.Event.{Event}
 use Rattle.request_form.specs.declared.form.Reply.{Reply}
 use Rattle.request_form.specs.declared.form.Reply.TheVariants as Replies
 use Rattle.request_form.specs.declared.form.Fault.TheVariants as Faults
-use Rattle.request_form.specs.Session.{Session, Held, drops}
+use Rattle.request_form.specs.Session.{Session, HeldTicket, drops}
 use Rattle.request_form.specs.Answers.{Gap, OutOfMemory, Reported, FoundFinished}
 use Rattle.request_form.specs.Own.{Makes, finish_made}
 
 -- no memory was found for a ticket's finish, and the ticket is given up all the same
-pub record Dropped (gap : Gap) (s : Session) (ticket : Held) (reply : Reply) (s' : Session) : Type 0 where
+pub record Dropped (gap : Gap) (s : Session) (ticket : HeldTicket) (reply : Reply) (s' : Session) : Type 0 where
   pub mid : Session
   pub out_of_memory : OutOfMemory gap s reply mid
   pub dropped : s' ≡ drops mid ticket.number
 
 -- the ways in which a ticket is given up
-pub data GivenUp (gap : Gap) (s : Session) (ticket : Held) (reply : Reply) (s' : Session) : Type 0 where
+pub data GivenUp (gap : Gap) (s : Session) (ticket : HeldTicket) (reply : Reply) (s' : Session) : Type 0 where
   reported : Reported gap s ticket reply s' → GivenUp gap s ticket reply s'
   found_finished : FoundFinished gap s ticket reply s' → GivenUp gap s ticket reply s'
   dropped : Dropped gap s ticket reply s' → GivenUp gap s ticket reply s'
 
 -- these tickets are given up in turn, each with its reply
-abbrev pub GivesUp : Gap → Session → List Held → List Reply → Session → Type 0
+abbrev pub GivesUp : Gap → Session → List HeldTicket → List Reply → Session → Type 0
 GivesUp gap s [] [] s' = s' ≡ s
 GivesUp gap s (ticket ∷ tickets) (reply ∷ replies) s' = (mid : Session) × GivenUp gap s ticket reply mid × GivesUp gap mid tickets replies s'
 GivesUp gap s [] (reply ∷ replies) s' = ⊥
@@ -63,7 +63,7 @@ pub record HungUp (gap : Gap) (s : Session) (finished no_memory : ℕ) (s' : Ses
 -- ---- what holds of it
 
 -- the finishes of those tickets whose reply is Finished, in the tickets' order
-abbrev pub finishes_made : ℕ → List Held → List Reply → List Event
+abbrev pub finishes_made : ℕ → List HeldTicket → List Reply → List Event
 finishes_made caller [] replies = []
 finishes_made caller (ticket ∷ tickets) [] = []
 finishes_made caller (ticket ∷ tickets) (reply ∷ replies) = finish_made caller ticket reply ++ finishes_made caller tickets replies
@@ -76,16 +76,16 @@ pub record LeavesNoTicket (s : Session) (finished no_memory : ℕ) (replies : Li
   pub makes : Makes s (finishes_made s.caller s.tickets replies) s'
 
 -- the store has the blob, and the version is finished there
-abbrev pub IsFinishedIn : Store → Held → Type 0
+abbrev pub IsFinishedIn : Store → HeldTicket → Type 0
 IsFinishedIn store ticket = (b : Blob) × (blob_at store ticket.blob ≡ Some b) × (is_finished b ticket.version ≡ true)
 
 -- the store numbered the version of each of these tickets
-abbrev pub AllNumbered : Store → List Held → Type 0
+abbrev pub AllNumbered : Store → List HeldTicket → Type 0
 AllNumbered store [] = Unit {0}
 AllNumbered store (ticket ∷ tickets) = IsNumbered (blob_at store ticket.blob) ticket.version × AllNumbered store tickets
 
 -- each ticket whose reply tells that its update is finished has it finished in the store
-abbrev pub AllFinished : Store → List Held → List Reply → Type 0
+abbrev pub AllFinished : Store → List HeldTicket → List Reply → Type 0
 AllFinished store [] replies = Unit {0}
 AllFinished store (ticket ∷ tickets) [] = Unit {0}
 AllFinished store (ticket ∷ tickets) (reply ∷ replies) = (tells_finished reply ≡ true → IsFinishedIn store ticket) × AllFinished store tickets replies

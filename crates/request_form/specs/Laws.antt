@@ -3,11 +3,11 @@ use Rattle.blob_model.specs.Limits.{Bounds}
 use Rattle.blob_model.specs.History.{AllOther, store_of}
 use Rattle.blob_model.specs.declared.call.Event.{Event}
 use Rattle.blob_model.specs.declared.call.Call.{Call}
-use Rattle.request_form.specs.Session.{Session, Held, AllOwn, IsNobody}
+use Rattle.request_form.specs.Session.{Session, HeldTicket, AllOwn, IsNobody}
 use Rattle.request_form.specs.Stream.{AllWellHeard}
 use Rattle.request_form.specs.Answers.{Answers, LookAnswer}
 use Rattle.request_form.specs.Transcript.{Run, Transcript, faults_of}
-use Rattle.request_form.specs.Own.{Makes, made, made_by}
+use Rattle.request_form.specs.Own.{Makes, events_made, made_by}
 use Rattle.request_form.specs.PublishedReads.{IsPublishedIn, Range, ReadAfter, Tells, read_outcome}
 use Rattle.request_form.specs.HangUp.{GivenUp, GivesUp, HungUp, LeavesNoTicket, AllNumbered, AllFinished}
 use Rattle.request_form.specs.declared.form.Request.{Request}
@@ -26,7 +26,7 @@ AlwaysAnswered = (s : Session) (heard : List Heard) → (replies : List Reply) �
 
 -- Each answer makes the session's own events that its request and reply tell, and a run those of its items in order.
 abbrev pub OwnEventsAreMade : Type 0
-OwnEventsAreMade = (s : Session) (request : Request) (reply : Reply) (s' : Session) → Answers AllOther s request reply s' → Makes s (made s request reply) s'
+OwnEventsAreMade = (s : Session) (request : Request) (reply : Reply) (s' : Session) → Answers AllOther s request reply s' → Makes s (events_made s request reply) s'
 
 abbrev pub RunsMakeOwnEvents : Type 0
 RunsMakeOwnEvents = (s : Session) (items : List Heard) (replies : List Reply) (s' : Session) (run : Run AllOther s items replies s')
@@ -39,7 +39,7 @@ LooksJoin = (s : Session) (earlier call : Call) (first reply : Reply) (mid s' : 
 
 -- tickets that are given up, and then one more
 abbrev pub GivingUpGoesOn : Type 0
-GivingUpGoesOn = (s : Session) (tickets : List Held) (replies : List Reply) (mid : Session) (ticket : Held) (reply : Reply) (s' : Session)
+GivingUpGoesOn = (s : Session) (tickets : List HeldTicket) (replies : List Reply) (mid : Session) (ticket : HeldTicket) (reply : Reply) (s' : Session)
     → GivesUp AllOther s tickets replies mid → GivenUp AllOther mid ticket reply s' → GivesUp AllOther s (tickets ++ ticket ∷ []) (replies ++ reply ∷ []) s'
 
 -- What hanging up leaves. A ticket that is counted as finished has its update finished in what the session has seen then,

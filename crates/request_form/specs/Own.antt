@@ -12,7 +12,7 @@ use Rattle.request_form.specs.declared.form.Reply.TheVariants as Replies
 use Rattle.request_form.specs.declared.form.Fault.TheVariants as Faults
 use Rattle.request_form.specs.declared.form.Heard.{Heard}
 use Rattle.request_form.specs.declared.form.Heard.TheVariants.{Asked, Wrong}
-use Rattle.request_form.specs.Session.{Session, Held, held_at}
+use Rattle.request_form.specs.Session.{Session, HeldTicket, ticket_at}
 use Rattle.request_form.specs.Answers.{Gap}
 use Rattle.request_form.specs.Transcript.{Run}
 
@@ -37,12 +37,12 @@ start_made caller blob place bytes (Replies.Refused (Faults.NoMemoryTicket ticke
 start_made caller blob place bytes _ = []
 
 -- the finish of a ticket's update
-abbrev pub finish_made : ℕ → Held → Reply → List Event
+abbrev pub finish_made : ℕ → HeldTicket → Reply → List Event
 finish_made caller ticket (Replies.Finished published) = Events.Finish caller ticket.blob ticket.version ∷ []
 finish_made caller ticket _ = []
 
 -- the finish by a number, of the ticket that is held under it
-abbrev pub held_made : ℕ → Option Held → Reply → List Event
+abbrev pub held_made : ℕ → Option HeldTicket → Reply → List Event
 held_made caller None reply = []
 held_made caller (Some ticket) reply = finish_made caller ticket reply
 
@@ -51,24 +51,24 @@ branch_made caller blob version (Replies.Branched branch) = Events.Branch caller
 branch_made caller blob version _ = []
 
 -- the events that a session's request with this reply made, in order
-abbrev pub made : Session → Request → Reply → List Event
-made s Requests.Create reply = create_made s.caller reply
-made s (Requests.Append blob bytes) reply = update_made s.caller blob Append bytes reply
-made s (Requests.Write blob offset bytes) reply = update_made s.caller blob (WriteAt offset) bytes reply
-made s (Requests.StartAppend blob bytes) reply = start_made s.caller blob Append bytes reply
-made s (Requests.StartWrite blob offset bytes) reply = start_made s.caller blob (WriteAt offset) bytes reply
-made s (Requests.Finish ticket) reply = held_made s.caller (held_at s.tickets ticket) reply
-made s (Requests.Read blob version offset count) reply = []
-made s (Requests.Recent blob) reply = []
-made s (Requests.Size blob version) reply = []
-made s (Requests.Sync blob version) reply = []
-made s (Requests.Status blob) reply = []
-made s (Requests.Branch blob version) reply = branch_made s.caller blob version reply
-made s Requests.Quit reply = []
+abbrev pub events_made : Session → Request → Reply → List Event
+events_made s Requests.Create reply = create_made s.caller reply
+events_made s (Requests.Append blob bytes) reply = update_made s.caller blob Append bytes reply
+events_made s (Requests.Write blob offset bytes) reply = update_made s.caller blob (WriteAt offset) bytes reply
+events_made s (Requests.StartAppend blob bytes) reply = start_made s.caller blob Append bytes reply
+events_made s (Requests.StartWrite blob offset bytes) reply = start_made s.caller blob (WriteAt offset) bytes reply
+events_made s (Requests.Finish ticket) reply = held_made s.caller (ticket_at s.tickets ticket) reply
+events_made s (Requests.Read blob version offset count) reply = []
+events_made s (Requests.Recent blob) reply = []
+events_made s (Requests.Size blob version) reply = []
+events_made s (Requests.Sync blob version) reply = []
+events_made s (Requests.Status blob) reply = []
+events_made s (Requests.Branch blob version) reply = branch_made s.caller blob version reply
+events_made s Requests.Quit reply = []
 
 -- a wrong item makes none
 abbrev pub item_made : Session → Heard → Reply → List Event
-item_made s (Asked request) reply = made s request reply
+item_made s (Asked request) reply = events_made s request reply
 item_made s (Wrong fault) reply = []
 
 -- the events that the items of a run made, one item after another

@@ -13,7 +13,7 @@ pub record Fixed : Type 0 where
   pub page : ℕ
 
 -- an update that its session has numbered and not yet finished
-pub record Held : Type 0 where
+pub record HeldTicket : Type 0 where
   pub number : ℕ
   pub blob : ℕ
   pub version : ℕ
@@ -23,7 +23,7 @@ pub record Session : Type 0 where
   pub fixed : Fixed
   pub caller : ℕ
   pub seen : List Event
-  pub tickets : List Held
+  pub tickets : List HeldTicket
   pub next : ℕ
 
 -- no events: nobody else is there
@@ -58,12 +58,12 @@ holds s blob version = record {
 }
 
 -- the ticket of that number among those that are held
-abbrev pub held_at : List Held → ℕ → Option Held
-held_at [] number = None
-held_at (ticket ∷ tickets) number = if ticket.number == number then Some ticket else held_at tickets number
+abbrev pub ticket_at : List HeldTicket → ℕ → Option HeldTicket
+ticket_at [] number = None
+ticket_at (ticket ∷ tickets) number = if ticket.number == number then Some ticket else ticket_at tickets number
 
 -- those tickets without the one of that number
-abbrev pub without_ticket : List Held → ℕ → List Held
+abbrev pub without_ticket : List HeldTicket → ℕ → List HeldTicket
 without_ticket [] number = []
 without_ticket (ticket ∷ tickets) number = if ticket.number == number then tickets else ticket ∷ without_ticket tickets number
 

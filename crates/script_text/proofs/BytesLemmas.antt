@@ -32,8 +32,8 @@ pair_by a b i (Some x) None = refl
 pair_by a b i None ob = refl
 
 -- a pair spells the same wherever it stands
-pair_value-place : (a b i : ℕ) → result_ok (pair_value a b i) ≡ result_ok (pair_value a b 0)
-pair_value-place a b i = pair_by a b i (hex_digit_value a) (hex_digit_value b)
+pair_value-index : (a b i : ℕ) → result_ok (pair_value a b i) ≡ result_ok (pair_value a b 0)
+pair_value-index a b i = pair_by a b i (hex_digit_value a) (hex_digit_value b)
 
 bind_pairs : (r : Result ℕ FromHexError) (q : Result (List ℕ) FromHexError) → result_ok (r >>= (λ byte. q >>= (λ bytes. Ok (byte ∷ bytes)))) ≡ with_byte (result_ok r) (result_ok q)
 bind_pairs (Ok b) (Ok bs) = refl
@@ -46,7 +46,7 @@ decode_pairs-is i [] = refl
 decode_pairs-is i (digit ∷ []) = refl
 decode_pairs-is i (high ∷ low ∷ rest) =
     bind_pairs (pair_value high low i) (decode_pairs (i + 2) rest)
-    ∙ ap (λ (o : Option ℕ). with_byte o (result_ok (decode_pairs (i + 2) rest))) (pair_value-place high low i)
+    ∙ ap (λ (o : Option ℕ). with_byte o (result_ok (decode_pairs (i + 2) rest))) (pair_value-index high low i)
     ∙ ap (λ (o : Option (List ℕ)). with_byte (result_ok (pair_value high low 0)) o) (decode_pairs-is (i + 2) rest)
 
 pairs-odd : (s : List ℕ) → length s % 2 ≡ 1 → pairs s ≡ None

@@ -56,8 +56,8 @@ alone request [] = Some request
 alone request (field ∷ fields) = None
 
 -- the updates, whose last field is their bytes
-abbrev pub updates : List Form
-updates =
+abbrev pub update_forms : List Form
+update_forms =
     form (codes "append") number_and_bytes (λ f. Requests.Append f.0 f.1)
     ∷ form (codes "write") two_numbers_and_bytes (λ f. Requests.Write f.0.0 f.0.1 f.1)
     ∷ form (codes "start-append") number_and_bytes (λ f. Requests.StartAppend f.0 f.1)
@@ -65,8 +65,8 @@ updates =
     ∷ []
 
 -- the requests whose fields are numbers
-abbrev pub numbered : List Form
-numbered =
+abbrev pub number_forms : List Form
+number_forms =
     form (codes "finish") one_number (λ ticket. Requests.Finish ticket)
     ∷ form (codes "read") four_numbers (λ f. Requests.Read f.0.0 f.0.1 f.1.0 f.1.1)
     ∷ form (codes "recent") one_number (λ blob. Requests.Recent blob)
@@ -77,15 +77,15 @@ numbered =
     ∷ []
 
 -- the requests that are their command alone
-abbrev pub bare : List Form
-bare =
+abbrev pub bare_forms : List Form
+bare_forms =
     record { command = codes "create"; makes = alone Requests.Create }
     ∷ record { command = codes "quit"; makes = alone Requests.Quit }
     ∷ []
 
 -- the table of requests; no two have one command
 abbrev pub forms : List Form
-forms = updates ++ (numbered ++ bare)
+forms = update_forms ++ (number_forms ++ bare_forms)
 
 -- what the form with that command makes of the fields behind it
 abbrev pub request_in : List Form → List ℕ → List (List ℕ) → Option Request

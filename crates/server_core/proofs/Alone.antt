@@ -12,13 +12,13 @@ use Rattle.request_form.specs.Laws.{OwnIsAlone, AlwaysAnswered}
 use Rattle.request_form.specs.Stream.{Stream, AllWellHeard}
 use Rattle.request_form.specs.declared.form.Reply.{Reply}
 use Rattle.request_form.specs.declared.form.Heard.{Heard}
-use Rattle.server_core.specs.declared.step.End.{End}
-use Rattle.server_core.specs.declared.step.End.TheVariants as Ends
+use Rattle.server_core.specs.declared.flow.End.{End}
+use Rattle.server_core.specs.declared.flow.End.TheVariants as Ends
 use Rattle.server_core.specs.Progress.{Point, Progress, AnswersFront}
 use Rattle.server_core.specs.Served.{AnswersAll, Ended, Reaches}
 use Rattle.server_core.specs.Laws.{SaysWithin, WroteAlone}
 use Rattle.server_core.proofs.Items.{until_quit-twice, until_quit-parts, well_until}
-use Rattle.server_core.proofs.Steps.{Run-append}
+use Rattle.server_core.proofs.GoingOn.{Run-append}
 
 well_back : (items more : List Heard) → AllWellHeard (items ++ more) → AllWellHeard more
 well_back [] more well = well

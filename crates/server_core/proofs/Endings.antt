@@ -8,14 +8,14 @@ use Rattle.request_form.specs.Transcript.{until_quit, has_quit, is_last}
 use Rattle.request_form.specs.Stream.{Stream, IsFed}
 use Rattle.request_form.specs.declared.form.Reply.{Reply}
 use Rattle.request_form.specs.declared.form.Heard.{Heard}
-use Rattle.server_core.specs.declared.step.End.{End}
-use Rattle.server_core.specs.declared.step.End.TheVariants as Ends
-use Rattle.server_core.specs.declared.step.Step.{Step}
-use Rattle.server_core.specs.declared.step.Step.TheVariants as Steps
+use Rattle.server_core.specs.declared.flow.End.{End}
+use Rattle.server_core.specs.declared.flow.End.TheVariants as Ends
+use Rattle.server_core.specs.declared.flow.Flow.{Flow}
+use Rattle.server_core.specs.declared.flow.Flow.TheVariants as Flows
 use Rattle.server_core.specs.Progress.{Point, Progress, AnswersFront, IsQuitBy, Goes, Quits, Stops, after_items, IsDrained}
 use Rattle.server_core.specs.Served.{AnswersAll, Ended, Closing, Input, TakesOff, Finished}
 use Rattle.server_core.proofs.Items.{until_quit-append, has_quit-append, until_quit-all, until_quit-one}
-use Rattle.server_core.proofs.Steps.{Progress-trans, Progress-none, written_at}
+use Rattle.server_core.proofs.GoingOn.{Progress-trans, Progress-none, written_at}
 
 pub TakesOff-none : (a : Input) → TakesOff [] a a
 TakesOff-none a = record { given = Appends-nil a.given; left = Consumes-nil a.left }
@@ -191,18 +191,18 @@ module _ (said : Reply → List ℕ) where
   }
 
   -- a stream that was fed a piece reads on as the old one does from the piece on
-  pub IsDrained-fed : (old : Point) (reads : List ℕ → Stream) (piece : List ℕ) (fed : List ℕ → Stream) (held : List ℕ) (new : Point) (after : List ℕ → Stream) (step : Step) →
-      IsFed reads piece fed → IsDrained said old fed held new after step → IsDrained said old (λ (more : List ℕ). reads (piece ++ more)) held new after step
-  IsDrained-fed old reads piece fed held new after Steps.Goes feeds d =
+  pub IsDrained-fed : (old : Point) (reads : List ℕ → Stream) (piece : List ℕ) (fed : List ℕ → Stream) (held : List ℕ) (new : Point) (after : List ℕ → Stream) (flow : Flow) →
+      IsFed reads piece fed → IsDrained said old fed held new after flow → IsDrained said old (λ (more : List ℕ). reads (piece ++ more)) held new after flow
+  IsDrained-fed old reads piece fed held new after Flows.Goes feeds d =
       (record { items = d.0.items; progress = d.0.progress; goes = d.0.goes; reads = λ more. sym (feeds more) ∙ d.0.reads more }, d.1)
-  IsDrained-fed old reads piece fed held new after Steps.Quits feeds d = record {
+  IsDrained-fed old reads piece fed held new after Flows.Quits feeds d = record {
     items = d.items;
     progress = d.progress;
     reads = λ more. subst (λ (x : Stream). IsQuitBy d.items x.items) (feeds more) (d.reads more);
     whole = λ more. subst (λ (x : Stream). IsQuitBy d.items x.whole) (feeds more) (d.whole more);
   }
-  IsDrained-fed old reads piece fed held new after Steps.WriteFault feeds d = (d.0, d.1, stops_fed old reads piece fed d.0 new feeds d.2)
-  IsDrained-fed old reads piece fed held new after Steps.NoMemory feeds d = (d.0, stops_fed old reads piece fed (held ++ d.0) new feeds d.1)
+  IsDrained-fed old reads piece fed held new after Flows.WriteFault feeds d = (d.0, d.1, stops_fed old reads piece fed d.0 new feeds d.2)
+  IsDrained-fed old reads piece fed held new after Flows.NoMemory feeds d = (d.0, stops_fed old reads piece fed (held ++ d.0) new feeds d.1)
 
   pub Stops-none : (old : Point) (before : List ℕ → Stream) → Stops said old before [] old
   Stops-none old before =

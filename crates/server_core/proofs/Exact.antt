@@ -5,8 +5,8 @@ use Rattle.std.specs.Prelude.{Option}
 use Rattle.request_form.specs.Transcript.{until_quit, has_quit}
 use Rattle.request_form.specs.Stream.{Stream}
 use Rattle.request_form.specs.declared.form.Heard.{Heard}
-use Rattle.server_core.specs.declared.step.End.{End}
-use Rattle.server_core.specs.declared.step.End.TheVariants as Ends
+use Rattle.server_core.specs.declared.flow.End.{End}
+use Rattle.server_core.specs.declared.flow.End.TheVariants as Ends
 use Rattle.server_core.specs.Served.{Ended, Closing}
 use Rattle.server_core.specs.Laws.{EndsExactly}
 use Rattle.server_core.proofs.Items.{has_quit-until_quit}

@@ -1,6 +1,6 @@
 pub mod Writing
 pub mod Items
-pub mod Steps
+pub mod GoingOn
 pub mod Settled
 pub mod Endings
 pub mod Served

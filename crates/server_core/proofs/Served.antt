@@ -8,11 +8,11 @@ use Rattle.request_form.specs.Transcript.{until_quit, has_quit}
 use Rattle.request_form.specs.Stream.{Stream}
 use Rattle.request_form.specs.declared.form.Reply.{Reply}
 use Rattle.request_form.specs.declared.form.Heard.{Heard}
-use Rattle.server_core.specs.declared.step.End.{End}
-use Rattle.server_core.specs.declared.step.End.TheVariants as Ends
+use Rattle.server_core.specs.declared.flow.End.{End}
+use Rattle.server_core.specs.declared.flow.End.TheVariants as Ends
 use Rattle.server_core.specs.Progress.{Point, Progress, Goes, Quits, Stops}
 use Rattle.server_core.specs.Served.{Ended, Closing, Input, TakesOff, Stays, CameToEnd, Reaches, InPieces, Served, Finished}
-use Rattle.server_core.proofs.Steps.{Goes-none, Progress-none, Progress-trans, Run-length}
+use Rattle.server_core.proofs.GoingOn.{Goes-none, Progress-none, Progress-trans, Run-length}
 use Rattle.server_core.proofs.Endings.{Serving, TakesOff-none, TakesOff-trans, Goes-feed, Goes-trans, Goes-quits, Goes-stops, whole_both, all_whole, no_quit_whole, finish_both, close_both}
 
 stays_at_end : (reads : List ℕ → Stream) (taken : List ℕ) (items : List Heard) (left : Option (List ℕ)) (end : End) → IsAtEnd left → Stays reads taken items left end

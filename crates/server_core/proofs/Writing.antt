@@ -6,8 +6,8 @@ use Rattle.std.proofs.KnownBytes.{Appends-nil, Appends-trans}
 use Rattle.ports.specs.Stream.{appended_bytes, LeavesOut}
 use Rattle.ports.specs.declared.stream.Written.{Written}
 use Rattle.ports.specs.declared.stream.Written.TheVariants.{Whole, Failed}
-use Rattle.server_core.specs.declared.step.Step.{Step}
-use Rattle.server_core.specs.declared.step.Step.TheVariants as Steps
+use Rattle.server_core.specs.declared.flow.Flow.{Flow}
+use Rattle.server_core.specs.declared.flow.Flow.TheVariants as Flows
 use Rattle.server_core.specs.Progress.{Writes, IsPut, IsSettled}
 
 -- a write that failed left some bytes out
@@ -29,11 +29,11 @@ after_held held text a b c rest adds w = record {
 }
 
 -- a text was put after all that was held was written
-pub put_after : (held text : List ℕ) (a b c : Option (List ℕ)) (held' : List ℕ) (step : Step) → Appends a b held → IsPut [] text b held' c step → IsPut held text a held' c step
-put_after held text a b c held' Steps.Goes adds w = after_held held text a b c held' adds w
-put_after held text a b c held' Steps.Quits adds none = none
-put_after held text a b c held' Steps.WriteFault adds w = (w.0, w.1, after_held held text a b c w.0 adds w.2)
-put_after held text a b c held' Steps.NoMemory adds w = (w.0, after_held held text a b c (held' ++ w.0) adds w.1)
+pub put_after : (held text : List ℕ) (a b c : Option (List ℕ)) (held' : List ℕ) (flow : Flow) → Appends a b held → IsPut [] text b held' c flow → IsPut held text a held' c flow
+put_after held text a b c held' Flows.Goes adds w = after_held held text a b c held' adds w
+put_after held text a b c held' Flows.Quits adds none = none
+put_after held text a b c held' Flows.WriteFault adds w = (w.0, w.1, after_held held text a b c w.0 adds w.2)
+put_after held text a b c held' Flows.NoMemory adds w = (w.0, after_held held text a b c (held' ++ w.0) adds w.1)
 
 -- what was held was written, as far as it was
 pub flushed : (held : List ℕ) (a b : Option (List ℕ)) (w : Written) → LeavesOut held w → Appends a b (appended_bytes held w) → (rest : List ℕ) × Writes held [] a b rest
@@ -41,12 +41,12 @@ flushed held a b Whole h adds = ([], record { out = held; joins = refl; adds = a
 flushed held a b (Failed n) h adds = let part = Writes-part held [] n a b h adds in (part.0, part.2)
 
 -- a write failed after a step that would have gone on, or quit
-pub settled_fault : (held : List ℕ) (a b : Option (List ℕ)) (step : Step) → (step ≡ Steps.Goes) ⊎ (step ≡ Steps.Quits) → (rest : List ℕ) × (0 < length rest) × Writes held [] a b rest → IsSettled held a b step Steps.WriteFault
-settled_fault held a b step (inl e) part = subst (λ (s : Step). IsSettled held a b s Steps.WriteFault) (sym e) (inr (refl, part))
-settled_fault held a b step (inr e) part = subst (λ (s : Step). IsSettled held a b s Steps.WriteFault) (sym e) (inr (refl, part))
+pub settled_fault : (held : List ℕ) (a b : Option (List ℕ)) (flow : Flow) → (flow ≡ Flows.Goes) ⊎ (flow ≡ Flows.Quits) → (rest : List ℕ) × (0 < length rest) × Writes held [] a b rest → IsSettled held a b flow Flows.WriteFault
+settled_fault held a b flow (inl e) part = subst (λ (s : Flow). IsSettled held a b s Flows.WriteFault) (sym e) (inr (refl, part))
+settled_fault held a b flow (inr e) part = subst (λ (s : Flow). IsSettled held a b s Flows.WriteFault) (sym e) (inr (refl, part))
 
 -- a text that wasn't said is left unsaid
-pub put_none : (held text : List ℕ) (a : Option (List ℕ)) → IsPut held text a held a Steps.NoMemory
+pub put_none : (held text : List ℕ) (a : Option (List ℕ)) → IsPut held text a held a Flows.NoMemory
 put_none held text a = (text, record { out = []; joins = refl; adds = Appends-nil a })
 
 module _ (held head body : List ℕ) (a b : Option (List ℕ)) where
@@ -59,11 +59,11 @@ module _ (held head body : List ℕ) (a b : Option (List ℕ)) where
   }
 
   -- a write of the head failed
-  pub head_fault : (held' : List ℕ) → IsPut held head a held' b Steps.WriteFault → IsPut held (head ++ body) a held' b Steps.WriteFault
+  pub head_fault : (held' : List ℕ) → IsPut held head a held' b Flows.WriteFault → IsPut held (head ++ body) a held' b Flows.WriteFault
   head_fault held' w = (w.0 ++ body, rw (length-append w.0 body) (omega (arith, w.1)), unwritten_body w.0 w.2)
 
   -- there was no memory for the head
-  pub head_unsaid : (held' : List ℕ) → IsPut held head a held' b Steps.NoMemory → IsPut held (head ++ body) a held' b Steps.NoMemory
+  pub head_unsaid : (held' : List ℕ) → IsPut held head a held' b Flows.NoMemory → IsPut held (head ++ body) a held' b Flows.NoMemory
   head_unsaid held' w = (w.0 ++ body, subst (Writes held (head ++ body) a b) (append_assoc held' w.0 body) (unwritten_body (held' ++ w.0) w.1))
 
   module _ (mid : List ℕ) (first : Writes held head a b mid) (c : Option (List ℕ)) where
@@ -77,8 +77,8 @@ module _ (held head body : List ℕ) (a b : Option (List ℕ)) where
     }
 
     -- a body was put behind its head
-    pub put_body : (held' : List ℕ) (step : Step) → IsPut mid body b held' c step → IsPut held (head ++ body) a held' c step
-    put_body held' Steps.Goes w = then_body held' w
-    put_body held' Steps.Quits none = none
-    put_body held' Steps.WriteFault w = (w.0, w.1, then_body w.0 w.2)
-    put_body held' Steps.NoMemory w = (w.0, then_body (held' ++ w.0) w.1)
+    pub put_body : (held' : List ℕ) (flow : Flow) → IsPut mid body b held' c flow → IsPut held (head ++ body) a held' c flow
+    put_body held' Flows.Goes w = then_body held' w
+    put_body held' Flows.Quits none = none
+    put_body held' Flows.WriteFault w = (w.0, w.1, then_body w.0 w.2)
+    put_body held' Flows.NoMemory w = (w.0, then_body (held' ++ w.0) w.1)

@@ -6,8 +6,8 @@ use Rattle.request_form.specs.Transcript.{has_quit, first_session, SaysAlone, fa
 use Rattle.request_form.specs.Stream.{Stream, AllWellHeard}
 use Rattle.request_form.specs.declared.form.Reply.{Reply}
 use Rattle.request_form.specs.declared.form.Heard.{Heard}
-use Rattle.server_core.specs.declared.step.End.{End}
-use Rattle.server_core.specs.declared.step.End.TheVariants as Ends
+use Rattle.server_core.specs.declared.flow.End.{End}
+use Rattle.server_core.specs.declared.flow.End.TheVariants as Ends
 use Rattle.server_core.specs.Progress.{Point}
 use Rattle.server_core.specs.Served.{AnswersAll, CameToEnd, Input, Served}
 

@@ -8,8 +8,8 @@ use Rattle.request_form.specs.Transcript.{Run, until_quit, has_quit, is_last, fa
 use Rattle.request_form.specs.Stream.{Stream}
 use Rattle.request_form.specs.declared.form.Reply.{Reply}
 use Rattle.request_form.specs.declared.form.Heard.{Heard}
-use Rattle.server_core.specs.declared.step.Step.{Step}
-use Rattle.server_core.specs.declared.step.Step.TheVariants as Steps
+use Rattle.server_core.specs.declared.flow.Flow.{Flow}
+use Rattle.server_core.specs.declared.flow.Flow.TheVariants as Flows
 
 -- where a stream stands: its session, the count of faults that the session met, and what was written
 pub record Point : Type 0 where
@@ -67,40 +67,40 @@ pub record Stops (said : Reply → List ℕ) (old : Point) (before : List ℕ �
   pub whole : (more : List ℕ) → AnswersFront (before more).whole items
 
 -- Each whole item was answered, unless it stopped at one. The replies that aren't held were written.
-abbrev pub IsDrained : (Reply → List ℕ) → Point → (List ℕ → Stream) → List ℕ → Point → (List ℕ → Stream) → Step → Type 0
-IsDrained said old before held new after Steps.Goes = Goes said old before held new after × ((after []).whole ≡ [])
-IsDrained said old before held new after Steps.Quits = Quits said old before held new
-IsDrained said old before held new after Steps.WriteFault = (rest : List ℕ) × (0 < length rest) × Stops said old before rest new
-IsDrained said old before held new after Steps.NoMemory = (unsaid : List ℕ) × Stops said old before (held ++ unsaid) new
+abbrev pub IsDrained : (Reply → List ℕ) → Point → (List ℕ → Stream) → List ℕ → Point → (List ℕ → Stream) → Flow → Type 0
+IsDrained said old before held new after Flows.Goes = Goes said old before held new after × ((after []).whole ≡ [])
+IsDrained said old before held new after Flows.Quits = Quits said old before held new
+IsDrained said old before held new after Flows.WriteFault = (rest : List ℕ) × (0 < length rest) × Stops said old before rest new
+IsDrained said old before held new after Flows.NoMemory = (unsaid : List ℕ) × Stops said old before (held ++ unsaid) new
 
 -- one item was answered where some replies were held
-abbrev pub IsAnswered : (Reply → List ℕ) → List ℕ → Point → Heard → List ℕ → Point → Step → Type 0
-IsAnswered said held old heard held' new Steps.Goes = Progress said held old (heard ∷ []) held' new × (is_last heard ≡ false)
-IsAnswered said held old heard held' new Steps.Quits = Progress said held old (heard ∷ []) held' new × (is_last heard ≡ true)
-IsAnswered said held old heard held' new Steps.WriteFault = (rest : List ℕ) × (0 < length rest) × Progress said held old (heard ∷ []) rest new
-IsAnswered said held old heard held' new Steps.NoMemory = (unsaid : List ℕ) × Progress said held old (heard ∷ []) (held' ++ unsaid) new
+abbrev pub IsAnswered : (Reply → List ℕ) → List ℕ → Point → Heard → List ℕ → Point → Flow → Type 0
+IsAnswered said held old heard held' new Flows.Goes = Progress said held old (heard ∷ []) held' new × (is_last heard ≡ false)
+IsAnswered said held old heard held' new Flows.Quits = Progress said held old (heard ∷ []) held' new × (is_last heard ≡ true)
+IsAnswered said held old heard held' new Flows.WriteFault = (rest : List ℕ) × (0 < length rest) × Progress said held old (heard ∷ []) rest new
+IsAnswered said held old heard held' new Flows.NoMemory = (unsaid : List ℕ) × Progress said held old (heard ∷ []) (held' ++ unsaid) new
 
 -- What became of a text where some were held: it is written, or held, after what was held. It never quits.
-abbrev pub IsPut : List ℕ → List ℕ → Option (List ℕ) → List ℕ → Option (List ℕ) → Step → Type 0
-IsPut held text old held' new Steps.Goes = Writes held text old new held'
-IsPut held text old held' new Steps.Quits = ⊥
-IsPut held text old held' new Steps.WriteFault = (rest : List ℕ) × (0 < length rest) × Writes held text old new rest
-IsPut held text old held' new Steps.NoMemory = (unsaid : List ℕ) × Writes held text old new (held' ++ unsaid)
+abbrev pub IsPut : List ℕ → List ℕ → Option (List ℕ) → List ℕ → Option (List ℕ) → Flow → Type 0
+IsPut held text old held' new Flows.Goes = Writes held text old new held'
+IsPut held text old held' new Flows.Quits = ⊥
+IsPut held text old held' new Flows.WriteFault = (rest : List ℕ) × (0 < length rest) × Writes held text old new rest
+IsPut held text old held' new Flows.NoMemory = (unsaid : List ℕ) × Writes held text old new (held' ++ unsaid)
 
 -- all that was held was written, or a write failed
-abbrev pub IsFlushed : List ℕ → Option (List ℕ) → Option (List ℕ) → Step → Step → Type 0
-IsFlushed held old new step after = ((after ≡ step) × Writes held [] old new []) ⊎ ((after ≡ Steps.WriteFault) × ((rest : List ℕ) × (0 < length rest) × Writes held [] old new rest))
+abbrev pub IsFlushed : List ℕ → Option (List ℕ) → Option (List ℕ) → Flow → Flow → Type 0
+IsFlushed held old new flow after = ((after ≡ flow) × Writes held [] old new []) ⊎ ((after ≡ Flows.WriteFault) × ((rest : List ℕ) × (0 < length rest) × Writes held [] old new rest))
 
 -- What becomes of what is held after a step, and of the step: it is written, unless a write has failed. Want of memory stays.
-abbrev pub IsSettled : List ℕ → Option (List ℕ) → Option (List ℕ) → Step → Step → Type 0
-IsSettled held old new Steps.Goes after = IsFlushed held old new Steps.Goes after
-IsSettled held old new Steps.Quits after = IsFlushed held old new Steps.Quits after
-IsSettled held old new Steps.WriteFault after = (after ≡ Steps.WriteFault) × (new ≡ old)
-IsSettled held old new Steps.NoMemory after = (after ≡ Steps.NoMemory) × ((rest : List ℕ) × Writes held [] old new rest)
+abbrev pub IsSettled : List ℕ → Option (List ℕ) → Option (List ℕ) → Flow → Flow → Type 0
+IsSettled held old new Flows.Goes after = IsFlushed held old new Flows.Goes after
+IsSettled held old new Flows.Quits after = IsFlushed held old new Flows.Quits after
+IsSettled held old new Flows.WriteFault after = (after ≡ Flows.WriteFault) × (new ≡ old)
+IsSettled held old new Flows.NoMemory after = (after ≡ Flows.NoMemory) × ((rest : List ℕ) × Writes held [] old new rest)
 
 -- the faults of writes that a step tells of
-abbrev pub step_write_faults : Step → ℕ
-step_write_faults Steps.Goes = 0
-step_write_faults Steps.Quits = 0
-step_write_faults Steps.WriteFault = 1
-step_write_faults Steps.NoMemory = 0
+abbrev pub flow_write_faults : Flow → ℕ
+flow_write_faults Flows.Goes = 0
+flow_write_faults Flows.Quits = 0
+flow_write_faults Flows.WriteFault = 1
+flow_write_faults Flows.NoMemory = 0

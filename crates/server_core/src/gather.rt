@@ -3,9 +3,9 @@ ghost use Rattle.std.specs.Prelude.{◌≡◌, ◌<◌, ◌+◌, ◌++◌, ℕ, 
 ghost use Rattle.std.specs.Io.KnownBytes.{Appends};
 ghost use Rattle.ports.specs.Counts.{RoseBy};
 ghost use Rattle.ports.specs.Stream.{appended_bytes, LeavesOut, write_fault_count};
-ghost use Rattle.server_core.specs.Progress.{IsPut, IsSettled, step_write_faults};
+ghost use Rattle.server_core.specs.Progress.{IsPut, IsSettled, flow_write_faults};
 
-use crate::step::Step;
+use crate::flow::Flow;
 use ports::stream::{Sink, Written};
 use request_form::NoMemory;
 use std::alloc::Global;
@@ -44,14 +44,14 @@ impl Gathered {
     }
 
     // Adds a text that fits.
-    fn hold(&mut self, text: &[u8]) -> Step
+    fn hold(&mut self, text: &[u8]) -> Flow
         requires { length self.old.bytes.items + length text.now < 65536 }
         ensures put { (written : Option (List ℕ)) → IsPut self.old.bytes.items text.now written self.new.bytes.items written result }
-        ensures unwritten { step_write_faults result ≡ 0 }
+        ensures unwritten { flow_write_faults result ≡ 0 }
     {
         match self.bytes.extend_from_slice(text) {
-            Ok(()) => Step::Goes,
-            Err(_) => Step::NoMemory,
+            Ok(()) => Flow::Goes,
+            Err(_) => Flow::NoMemory,
         }
     }
 
@@ -76,10 +76,10 @@ impl Gathered {
     }
 
     // Adds a text where nothing is held, or writes it by itself from so many bytes on, and where it is too long to be held.
-    fn put_first<I: Sink>(&mut self, io: &mut I, text: &[u8], long: usize) -> Step
+    fn put_first<I: Sink>(&mut self, io: &mut I, text: &[u8], long: usize) -> Flow
         requires { self.old.bytes.items ≡ [] }
         ensures put { IsPut [] text.now (I.written io.old) self.new.bytes.items (I.written io.new) result }
-        ensures write_faults { RoseBy (step_write_faults result) (I.write_faults io.old) (I.write_faults io.new) }
+        ensures write_faults { RoseBy (flow_write_faults result) (I.write_faults io.old) (I.write_faults io.new) }
         ensures given { I.given io.new ≡ I.given io.old }
         ensures left { I.left io.new ≡ I.left io.old }
         ensures read_faults { I.read_faults io.new ≡ I.read_faults io.old }
@@ -90,16 +90,16 @@ impl Gathered {
             return self.hold(text);
         }
         match io.write(text) {
-            Written::Failed(_) => Step::WriteFault,
-            Written::Whole => Step::Goes,
+            Written::Failed(_) => Flow::WriteFault,
+            Written::Whole => Flow::Goes,
         }
     }
 
     // Adds a text. Where it doesn't fit, or has so many bytes, what is held is written first. A text of so many bytes, or that
     // is too long to be held, is written by itself then.
-    fn put<I: Sink>(&mut self, io: &mut I, text: &[u8], long: usize) -> Step
+    fn put<I: Sink>(&mut self, io: &mut I, text: &[u8], long: usize) -> Flow
         ensures put { IsPut self.old.bytes.items text.now (I.written io.old) self.new.bytes.items (I.written io.new) result }
-        ensures write_faults { RoseBy (step_write_faults result) (I.write_faults io.old) (I.write_faults io.new) }
+        ensures write_faults { RoseBy (flow_write_faults result) (I.write_faults io.old) (I.write_faults io.new) }
         ensures given { I.given io.new ≡ I.given io.old }
         ensures left { I.left io.new ≡ I.left io.old }
         ensures read_faults { I.read_faults io.new ≡ I.read_faults io.old }
@@ -111,16 +111,16 @@ impl Gathered {
             return self.hold(text);
         }
         match self.flush(io) {
-            Written::Failed(_) => Step::WriteFault,
+            Written::Failed(_) => Flow::WriteFault,
             Written::Whole => self.put_first(io, text, long),
         }
     }
 
     /// Adds a reply, which is written as a head and a body. What doesn't fit is written first, and what is too long to be held
     /// is written by itself. A long body isn't copied.
-    pub(crate) fn put_reply<I: Sink>(&mut self, io: &mut I, head: &[u8], body: &[u8]) -> Step
+    pub(crate) fn put_reply<I: Sink>(&mut self, io: &mut I, head: &[u8], body: &[u8]) -> Flow
         ensures put { IsPut self.old.bytes.items (head.now ++ body.now) (I.written io.old) self.new.bytes.items (I.written io.new) result }
-        ensures write_faults { RoseBy (step_write_faults result) (I.write_faults io.old) (I.write_faults io.new) }
+        ensures write_faults { RoseBy (flow_write_faults result) (I.write_faults io.old) (I.write_faults io.new) }
         ensures given { I.given io.new ≡ I.given io.old }
         ensures left { I.left io.new ≡ I.left io.old }
         ensures read_faults { I.read_faults io.new ≡ I.read_faults io.old }
@@ -128,33 +128,33 @@ impl Gathered {
         ensures objects { I.objects io.new ≡ I.objects io.old }
     {
         match self.put(io, head, MOST) {
-            Step::Goes => self.put(io, body, LONG_BODY),
-            Step::Quits => unreachable!(),
-            Step::WriteFault => Step::WriteFault,
-            Step::NoMemory => Step::NoMemory,
+            Flow::Goes => self.put(io, body, LONG_BODY),
+            Flow::Quits => unreachable!(),
+            Flow::WriteFault => Flow::WriteFault,
+            Flow::NoMemory => Flow::NoMemory,
         }
     }
 
     /// Writes what is held after a step, which tells then also of this write. After want of memory a fault is let be.
-    pub(crate) fn settle<I: Sink>(&mut self, io: &mut I, step: Step) -> Step
-        ensures settled { IsSettled self.old.bytes.items (I.written io.old) (I.written io.new) step result }
-        ensures none { step_write_faults result ≡ 0 → self.new.bytes.items ≡ [] }
-        ensures write_faults { (before : ℕ) → RoseBy (step_write_faults step) before (I.write_faults io.old) → RoseBy (step_write_faults result) before (I.write_faults io.new) }
+    pub(crate) fn settle<I: Sink>(&mut self, io: &mut I, flow: Flow) -> Flow
+        ensures settled { IsSettled self.old.bytes.items (I.written io.old) (I.written io.new) flow result }
+        ensures none { flow_write_faults result ≡ 0 → self.new.bytes.items ≡ [] }
+        ensures write_faults { (before : ℕ) → RoseBy (flow_write_faults flow) before (I.write_faults io.old) → RoseBy (flow_write_faults result) before (I.write_faults io.new) }
         ensures given { I.given io.new ≡ I.given io.old }
         ensures left { I.left io.new ≡ I.left io.old }
         ensures read_faults { I.read_faults io.new ≡ I.read_faults io.old }
         ensures ends { I.ends io.new ≡ I.ends io.old }
         ensures objects { I.objects io.new ≡ I.objects io.old }
     {
-        match step {
-            Step::WriteFault => Step::WriteFault,
-            Step::NoMemory => {
+        match flow {
+            Flow::WriteFault => Flow::WriteFault,
+            Flow::NoMemory => {
                 let _ = self.flush(io);
-                Step::NoMemory
+                Flow::NoMemory
             }
-            Step::Goes | Step::Quits => match self.flush(io) {
-                Written::Failed(_) => Step::WriteFault,
-                Written::Whole => step,
+            Flow::Goes | Flow::Quits => match self.flush(io) {
+                Written::Failed(_) => Flow::WriteFault,
+                Written::Whole => flow,
             },
         }
     }

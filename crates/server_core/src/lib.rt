@@ -3,10 +3,10 @@
 
 ghost use Rattle.std.specs.Prelude.{◌≡◌};
 
+mod flow;
 mod gather;
 pub mod laws;
 mod serve;
-mod step;
 
+pub use flow::End;
 pub use serve::serve_stream;
-pub use step::End;

@@ -1,5 +1,5 @@
+use crate::flow::{End, Flow};
 use crate::gather::Gathered;
-use crate::step::{End, Step};
 use ports::stream::{Sink, Source, Taken};
 use request_form::{Dialect, Ending, Heard, NoMemory, Reply, Request, Service};
 use std::alloc::Global;
@@ -17,7 +17,7 @@ ghost use Rattle.blob_model.specs.History.{AllOther};
 ghost use Rattle.request_form.specs.Replies.{fault_count};
 ghost use Rattle.request_form.specs.Stream.{IsWellHeard};
 ghost use Rattle.request_form.specs.Transcript.{is_quit, is_last, ItemReply};
-ghost use Rattle.server_core.specs.Progress.{IsAnswered, IsDrained, IsPut, step_write_faults};
+ghost use Rattle.server_core.specs.Progress.{IsAnswered, IsDrained, IsPut, flow_write_faults};
 ghost use Rattle.server_core.specs.Served.{Served, Finished, end_read_faults, end_write_faults, end_ends};
 
 fn is_quit_request(request: &Request) -> bool
@@ -50,17 +50,17 @@ fn reply_to<R: Wait + Threads + Sync, V: Service>(
 }
 
 // Says one reply, and writes it or holds it back.
-fn put<T: Dialect, I: Sink>(dialect: &T, gathered: &mut Gathered, io: &mut I, reply: Reply) -> Step
+fn put<T: Dialect, I: Sink>(dialect: &T, gathered: &mut Gathered, io: &mut I, reply: Reply) -> Flow
     ensures put { IsPut gathered.old.bytes.items (T.said reply) (I.written io.old) gathered.new.bytes.items (I.written io.new) result }
     ensures given { I.given io.new ≡ I.given io.old }
     ensures left { I.left io.new ≡ I.left io.old }
     ensures read_faults { I.read_faults io.new ≡ I.read_faults io.old }
     ensures ends { I.ends io.new ≡ I.ends io.old }
     ensures objects { I.objects io.new ≡ I.objects io.old }
-    ensures write_faults { RoseBy (step_write_faults result) (I.write_faults io.old) (I.write_faults io.new) }
+    ensures write_faults { RoseBy (flow_write_faults result) (I.write_faults io.old) (I.write_faults io.new) }
 {
     match dialect.say_in_parts(reply) {
-        Err(NoMemory) => Step::NoMemory,
+        Err(NoMemory) => Flow::NoMemory,
         Ok(parts) => gathered.put_reply(io, parts.head.as_slice(), parts.body.as_slice()),
     }
 }
@@ -73,7 +73,7 @@ fn answer_one<R: Wait + Threads + Sync, V: Service, T: Dialect, I: Source + Sink
     gathered: &mut Gathered,
     io: &mut I,
     heard: Heard,
-) -> Step
+) -> Flow
     requires { IsWellHeard heard }
     ensures answered { IsAnswered T.said gathered.old.bytes.items
         (record { session = V.session service.old; faults = V.faults service.old; written = I.written io.old })
@@ -86,19 +86,19 @@ fn answer_one<R: Wait + Threads + Sync, V: Service, T: Dialect, I: Source + Sink
     ensures ends { I.ends io.new ≡ I.ends io.old }
     ensures objects { I.objects io.new ≡ I.objects io.old }
     ensures kept { V.kept service.new ≡ V.kept service.old }
-    ensures write_faults { RoseBy (step_write_faults result) (I.write_faults io.old) (I.write_faults io.new) }
+    ensures write_faults { RoseBy (flow_write_faults result) (I.write_faults io.old) (I.write_faults io.new) }
 {
     let (reply, last) = reply_to(rt, service, heard);
     match put(dialect, gathered, io, reply) {
-        Step::Goes => {
+        Flow::Goes => {
             if last {
-                return Step::Quits;
+                return Flow::Quits;
             }
-            Step::Goes
+            Flow::Goes
         }
-        Step::Quits => unreachable!(),
-        Step::WriteFault => Step::WriteFault,
-        Step::NoMemory => Step::NoMemory,
+        Flow::Quits => unreachable!(),
+        Flow::WriteFault => Flow::WriteFault,
+        Flow::NoMemory => Flow::NoMemory,
     }
 }
 
@@ -109,7 +109,7 @@ fn drain<R: Wait + Threads + Sync, V: Service, T: Dialect, I: Source + Sink>(
     dialect: &mut T,
     gathered: &mut Gathered,
     io: &mut I,
-) -> Step
+) -> Flow
     requires { gathered.old.bytes.items ≡ [] }
     ensures drained { IsDrained T.said
         (record { session = V.session service.old; faults = V.faults service.old; written = I.written io.old })
@@ -123,17 +123,17 @@ fn drain<R: Wait + Threads + Sync, V: Service, T: Dialect, I: Source + Sink>(
     ensures ends { I.ends io.new ≡ I.ends io.old }
     ensures objects { I.objects io.new ≡ I.objects io.old }
     ensures kept { V.kept service.new ≡ V.kept service.old }
-    ensures write_faults { RoseBy (step_write_faults result) (I.write_faults io.old) (I.write_faults io.new) }
+    ensures write_faults { RoseBy (flow_write_faults result) (I.write_faults io.old) (I.write_faults io.new) }
 {
     'items: loop {
         match dialect.next() {
-            Err(NoMemory) => return Step::NoMemory,
-            Ok(None) => return Step::Goes,
+            Err(NoMemory) => return Flow::NoMemory,
+            Ok(None) => return Flow::Goes,
             Ok(Some(heard)) => match answer_one(rt, service, dialect, gathered, io, heard) {
-                Step::Goes => {}
-                Step::Quits => return Step::Quits,
-                Step::WriteFault => return Step::WriteFault,
-                Step::NoMemory => return Step::NoMemory,
+                Flow::Goes => {}
+                Flow::Quits => return Flow::Quits,
+                Flow::WriteFault => return Flow::WriteFault,
+                Flow::NoMemory => return Flow::NoMemory,
             },
         }
     }
@@ -193,7 +193,7 @@ fn answer_last<R: Wait + Threads + Sync, V: Service, T: Dialect, I: Source + Sin
     gathered: &mut Gathered,
     io: &mut I,
     heard: Heard,
-) -> Step
+) -> Flow
     requires heard { IsWellHeard heard }
     requires settled { gathered.old.bytes.items ≡ [] }
     ensures answered { IsAnswered T.said []
@@ -207,10 +207,10 @@ fn answer_last<R: Wait + Threads + Sync, V: Service, T: Dialect, I: Source + Sin
     ensures ends { I.ends io.new ≡ I.ends io.old }
     ensures objects { I.objects io.new ≡ I.objects io.old }
     ensures kept { V.kept service.new ≡ V.kept service.old }
-    ensures write_faults { RoseBy (step_write_faults result) (I.write_faults io.old) (I.write_faults io.new) }
+    ensures write_faults { RoseBy (flow_write_faults result) (I.write_faults io.old) (I.write_faults io.new) }
 {
-    let step = answer_one(rt, service, dialect, gathered, io, heard);
-    gathered.settle(io, step)
+    let flow = answer_one(rt, service, dialect, gathered, io, heard);
+    gathered.settle(io, flow)
 }
 
 // Answers what the end of the stream leaves.
@@ -241,10 +241,10 @@ fn finish<R: Wait + Threads + Sync, V: Service, T: Dialect, I: Source + Sink>(
         Ok(Ending::Clean) => End::InputEnd,
         Ok(Ending::Cut) => End::Cut,
         Ok(Ending::Last(heard)) => match answer_last(rt, service, dialect, gathered, io, heard) {
-            Step::Goes => End::InputEnd,
-            Step::Quits => End::Quit,
-            Step::WriteFault => End::WriteFault,
-            Step::NoMemory => End::NoMemory,
+            Flow::Goes => End::InputEnd,
+            Flow::Quits => End::Quit,
+            Flow::WriteFault => End::WriteFault,
+            Flow::NoMemory => End::NoMemory,
         },
     }
 }
@@ -277,7 +277,7 @@ fn answer_piece<R: Wait + Threads + Sync, V: Service, T: Dialect, I: Source + Si
     gathered: &mut Gathered,
     io: &mut I,
     piece: &[u8],
-) -> Step
+) -> Flow
     requires { gathered.old.bytes.items ≡ [] }
     ensures drained { IsDrained T.said
         (record { session = V.session service.old; faults = V.faults service.old; written = I.written io.old })
@@ -285,20 +285,20 @@ fn answer_piece<R: Wait + Threads + Sync, V: Service, T: Dialect, I: Source + Si
         (record { session = V.session service.new; faults = V.faults service.new; written = I.written io.new })
         (T.reads dialect.new)
         result }
-    ensures settled { step_write_faults result ≡ 0 → gathered.new.bytes.items ≡ [] }
+    ensures settled { flow_write_faults result ≡ 0 → gathered.new.bytes.items ≡ [] }
     ensures given { I.given io.new ≡ I.given io.old }
     ensures left { I.left io.new ≡ I.left io.old }
     ensures read_faults { I.read_faults io.new ≡ I.read_faults io.old }
     ensures ends { I.ends io.new ≡ I.ends io.old }
     ensures objects { I.objects io.new ≡ I.objects io.old }
     ensures kept { V.kept service.new ≡ V.kept service.old }
-    ensures write_faults { RoseBy (step_write_faults result) (I.write_faults io.old) (I.write_faults io.new) }
+    ensures write_faults { RoseBy (flow_write_faults result) (I.write_faults io.old) (I.write_faults io.new) }
 {
     match dialect.feed(piece) {
-        Err(NoMemory) => Step::NoMemory,
+        Err(NoMemory) => Flow::NoMemory,
         Ok(()) => {
-            let step = drain(rt, service, dialect, gathered, io);
-            gathered.settle(io, step)
+            let flow = drain(rt, service, dialect, gathered, io);
+            gathered.settle(io, flow)
         }
     }
 }
@@ -352,10 +352,10 @@ pub fn serve_stream<R: Wait + Threads + Sync, V: Service, T: Dialect, I: Source 
                 count += n as u64;
                 let piece = first_of(&buf, n);
                 match answer_piece(rt, service, dialect, &mut gathered, io, piece) {
-                    Step::Goes => {}
-                    Step::Quits => return End::Quit,
-                    Step::WriteFault => return End::WriteFault,
-                    Step::NoMemory => return End::NoMemory,
+                    Flow::Goes => {}
+                    Flow::Quits => return End::Quit,
+                    Flow::WriteFault => return End::WriteFault,
+                    Flow::NoMemory => return End::NoMemory,
                 }
             }
         }

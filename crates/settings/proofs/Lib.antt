@@ -1,4 +1,4 @@
-mod Rows
+mod WorkedExamples
 mod Walks
 pub mod Parses
 pub mod NumberLemmas

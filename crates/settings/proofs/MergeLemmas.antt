@@ -65,11 +65,11 @@ pub settled : (s : SettingsValues) → fits (range_of Page) s.page ≡ true → 
     → s.replicas ≤ s.providers → fits (range_of MaxSize) s.limits.max_size ≡ true → fits (range_of MaxVersions) s.limits.max_versions ≡ true
     → fits (range_of MaxOpen) s.limits.max_open ≡ true → fits (range_of MaxBlobs) s.limits.max_blobs ≡ true → fits (range_of Workers) s.workers ≡ true
     → fits (range_of Connections) s.connections ≡ true → fits (range_of Ops) s.ops ≡ true → IsSettled s
-settled s page providers replicas places size versions waiting blobs workers connections ops = record {
+settled s page providers replicas replicas_fit size versions waiting blobs workers connections ops = record {
   page = let at = between Page s.page page in page_power s.page at.0 at.1 (eqb-true _ _ (and_parts _ _ page).1);
   providers = between Providers s.providers providers;
   replicas = between Replicas s.replicas replicas;
-  places = places;
+  replicas_fit = replicas_fit;
   limits = within s.limits size versions waiting blobs;
   workers = between Workers s.workers workers;
   connections = fits_least (range_of Connections) s.connections connections;

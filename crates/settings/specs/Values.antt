@@ -89,7 +89,7 @@ pub record IsSettled (settings : SettingsValues) : Type 0 where
   pub page : (i : ℕ) × (settings.page ≡ 2 ^ i) × (2 ≤ i) × (i ≤ 20)
   pub providers : (1 ≤ settings.providers) × (settings.providers ≤ 64)
   pub replicas : (1 ≤ settings.replicas) × (settings.replicas ≤ 8)
-  pub places : settings.replicas ≤ settings.providers
+  pub replicas_fit : settings.replicas ≤ settings.providers
   pub limits : IsWithin settings.limits
   pub workers : (1 ≤ settings.workers) × (settings.workers ≤ 16)
   pub connections : 1 ≤ settings.connections

@@ -13,7 +13,7 @@ use Rattle.range_log.specs.Extents.{Extent, InBounds, touches}
 use Rattle.range_log.specs.Updates.{extents, Replayable}
 use Rattle.range_log.specs.Rows.{node_of, row_of, row_keys_of}
 use Rattle.range_log.specs.Laws.{RowKeysExact, ExtentsStand}
-use Rattle.node_store.specs.Rows.{UpdateRow, IsNodeFor, HasNoNodeFor}
+use Rattle.node_store.specs.UpdateRows.{UpdateRow, IsNodeFor, HasNoNodeFor}
 use Rattle.range_log.proofs.Grown.{touch-touches}
 use Rattle.range_log.proofs.Bytes.{length-extents}
 use Rattle.snapshot.specs.Versions.{Version, row_at, updates_of, IsRowOf, IsVersion, IsFound, HasNodeFor}

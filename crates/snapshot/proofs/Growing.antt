@@ -10,11 +10,11 @@ use Rattle.range_log.specs.Extents.{Extent, extent_at, touches}
 use Rattle.range_log.specs.Updates.{extents, extent_of, Replayable}
 use Rattle.range_log.specs.Rows.{node_of, row_of, row_keys_of}
 use Rattle.range_log.specs.Laws.{RowsStay, ExtentsGrow}
-use Rattle.page_store.specs.Stored.{Cut, joined}
-use Rattle.node_store.specs.Rows.{UpdateRow, stored_of}
+use Rattle.page_store.specs.Stored.{Cut, bytes_of_pages}
+use Rattle.node_store.specs.UpdateRows.{UpdateRow, stored_of}
 use Rattle.range_log.proofs.Bytes.{length-extents, extent_is}
 use Rattle.range_log.proofs.Growth.{size_front, extent_of_front}
-use Rattle.snapshot.specs.Versions.{Version, row_at, written, updates, bytes_of, IsRowOf, IsVersion}
+use Rattle.snapshot.specs.Versions.{Version, row_at, update_of_row, updates, bytes_of, IsRowOf, IsVersion}
 use Rattle.snapshot.proofs.Lists.{row_at_front, row_at_new, length-updates, update_at_front, map_same}
 
 -- a row stays that of its update in a longer list
@@ -76,7 +76,7 @@ Replayable-shorter us more ok k lt =
     subst Q s (subst P e was)
 
 updates-append : (rows more : List UpdateRow) → updates (rows ++ more) ≡ updates rows ++ updates more
-updates-append rows more = map-append written rows more
+updates-append rows more = map-append update_of_row rows more
 
 -- the version of the first rows
 abbrev pub of_rows : ℕ → ℕ → List UpdateRow → Version
@@ -115,7 +115,7 @@ pub IsVersion-push : RowsStay → ExtentsGrow → (blob p : ℕ) (rows : List Up
     → IsVersion (of_rows blob p (rows ++ row ∷ []))
 IsVersion-push stay grow blob p rows row is room new ok paged fits =
     let us : List Update = updates rows in
-    let rest : List Update = written row ∷ [] in
+    let rest : List Update = update_of_row row ∷ [] in
     let all : List UpdateRow = rows ++ row ∷ [] in
     let join : updates all ≡ us ++ rest = updates-append rows (row ∷ []) in
     let count : length all ≡ length rows + 1 = length-append rows (row ∷ []) in
@@ -158,9 +158,9 @@ IsVersion-push stay grow blob p rows row is room new ok paged fits =
     }
 
 -- the pages hold no more than their number times the page size
-pub paged_of : (pages told : Cut) (count p : ℕ) → pages ≡ told → count ≡ length told.pages → length (joined told.pages) ≤ count * told.page_size → pages.page_size ≡ p
-    → length (joined pages.pages) ≤ length pages.pages * p
+pub paged_of : (pages told : Cut) (count p : ℕ) → pages ≡ told → count ≡ length told.pages → length (bytes_of_pages told.pages) ≤ count * told.page_size → pages.page_size ≡ p
+    → length (bytes_of_pages pages.pages) ≤ length pages.pages * p
 paged_of pages told count p same is enough size =
-    let P : Cut → Type 0 = λ c. c.page_size ≡ p → length (joined c.pages) ≤ length c.pages * p in
+    let P : Cut → Type 0 = λ c. c.page_size ≡ p → length (bytes_of_pages c.pages) ≤ length c.pages * p in
     let told_pages : P told = λ e. rw (← e, ← is) enough in
     subst P (sym same) told_pages size

@@ -5,8 +5,8 @@ use Rattle.std.proofs.lemmas.List.{length-map, get_or-map, get_or_append_left}
 use Rattle.std.proofs.Math.Seq.{get_or-append_seam}
 use Rattle.blob_model.specs.Content.{Update}
 use Rattle.range_log.specs.Updates.{update_at, no_update}
-use Rattle.node_store.specs.Rows.{UpdateRow}
-use Rattle.snapshot.specs.Versions.{no_row, row_at, written, updates}
+use Rattle.node_store.specs.UpdateRows.{UpdateRow}
+use Rattle.snapshot.specs.Versions.{no_row, row_at, update_of_row, updates}
 
 pub row_at_front : (rows more : List UpdateRow) (k : ℕ) → k ≤ length rows → row_at (rows ++ more) k ≡ row_at rows k
 row_at_front rows more zero le = refl
@@ -17,10 +17,10 @@ row_at_new rows row = get_or-append_seam rows row [] no_row
 
 -- ---- updates
 pub length-updates : (rows : List UpdateRow) → length (updates rows) ≡ length rows
-length-updates rows = length-map rows written
+length-updates rows = length-map rows update_of_row
 
-pub update_told : (rows : List UpdateRow) (k : ℕ) → k < length rows → update_at (updates rows) (suc k) ≡ written (row_at rows (suc k))
-update_told rows k lt = get_or-map written rows k no_row no_update lt
+pub update_told : (rows : List UpdateRow) (k : ℕ) → k < length rows → update_at (updates rows) (suc k) ≡ update_of_row (row_at rows (suc k))
+update_told rows k lt = get_or-map update_of_row rows k no_row no_update lt
 
 pub update_at_front : (us more : List Update) (k : ℕ) → k ≤ length us → update_at (us ++ more) k ≡ update_at us k
 update_at_front us more zero le = refl

@@ -12,9 +12,9 @@ use Rattle.range_log.specs.Extents.{Extent, extent_at, touches}
 use Rattle.range_log.specs.Updates.{update_at, extents, extent_of, Replayable}
 use Rattle.range_log.specs.Rows.{row_of}
 use Rattle.range_log.specs.Laws.{RowsStay}
-use Rattle.node_store.specs.Rows.{UpdateRow}
+use Rattle.node_store.specs.UpdateRows.{UpdateRow}
 use Rattle.range_log.proofs.Bytes.{content_next, length-extents, extent_is}
-use Rattle.snapshot.specs.Versions.{row_at, written, updates}
+use Rattle.snapshot.specs.Versions.{row_at, update_of_row, updates}
 use Rattle.snapshot.specs.Laws.{AreRowsOf, TellUpdates}
 use Rattle.snapshot.proofs.Lists.{length-updates, update_told, map_range}
 use Rattle.snapshot.proofs.Growing.{touch_stays, row_stays}
@@ -30,7 +30,7 @@ module _ (stay : RowsStay) (p : ℕ) (us : List Update) (rows : List UpdateRow) 
       let in_list : k < length us = omega (arith, are.few) in
       let made : ℕ → ℕ → Extent = λ a n. record { at = a; len = n } in
       let ws : List Update = updates rows in
-      let told : update_at ws (suc k) ≡ written (row_at rows (suc k)) = update_told rows k lt in
+      let told : update_at ws (suc k) ≡ update_of_row (row_at rows (suc k)) = update_told rows k lt in
       let at : (extent_of ws (suc k)).at ≡ (extent_of us (suc k)).at =
       ap (λ (u : Update). offset_of u.place (size_of ws k)) told ∙ (are.each (suc k) (omega arith) lt).offset ∙ ap (λ (x : Extent). x.at) (extent_is us k in_list) in
       let len : (extent_of ws (suc k)).len ≡ (extent_of us (suc k)).len = ap length (bytes_told (suc k) lt) in

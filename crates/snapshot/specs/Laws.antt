@@ -2,7 +2,7 @@
 use Rattle.std.specs.Prelude.{◌≡◌, ℕ, ◌≤◌, List, ◌++◌, length, take}
 use Rattle.blob_model.specs.Content.{Update, content}
 use Rattle.range_log.specs.Updates.{update_at, extents, Replayable}
-use Rattle.node_store.specs.Rows.{UpdateRow}
+use Rattle.node_store.specs.UpdateRows.{UpdateRow}
 use Rattle.snapshot.specs.Versions.{row_at, updates, IsRowOf}
 
 -- the rows are those of the first of these updates

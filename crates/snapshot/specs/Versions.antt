@@ -11,8 +11,8 @@ use Rattle.range_log.specs.Extents.{extent_at, touches}
 use Rattle.range_log.specs.Updates.{update_at, extents, Replayable}
 use Rattle.range_log.specs.Rows.{node_of, row_of}
 use Rattle.page_store.specs.House.{House}
-use Rattle.page_store.specs.Stored.{joined}
-use Rattle.node_store.specs.Rows.{UpdateRow, stored_of, IsRowIn}
+use Rattle.page_store.specs.Stored.{bytes_of_pages}
+use Rattle.node_store.specs.UpdateRows.{UpdateRow, stored_of, IsRowIn}
 
 -- a version: the blob under whose id it is read, its page size, and the rows of its updates, update 1 first
 pub record Version : Type 0 where
@@ -44,15 +44,15 @@ under_blob s blob = record s { blob = blob }
 -- ---- what a row tells of its update
 -- the bytes of the row's pages
 abbrev pub bytes_of : UpdateRow → List ℕ
-bytes_of row = joined (stored_of row)
+bytes_of row = bytes_of_pages (stored_of row)
 
 -- the update that the row tells: its bytes, written where the row says that it begins
-abbrev pub written : UpdateRow → Update
-written row = record { caller = 0; place = WriteAt row.offset; bytes = bytes_of row }
+abbrev pub update_of_row : UpdateRow → Update
+update_of_row row = record { caller = 0; place = WriteAt row.offset; bytes = bytes_of row }
 
 -- the updates that rows tell
 abbrev pub updates : List UpdateRow → List Update
-updates rows = map written rows
+updates rows = map update_of_row rows
 
 -- the updates 1 to the version
 abbrev pub updates_of : Version → List Update

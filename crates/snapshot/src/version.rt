@@ -3,7 +3,7 @@ ghost use Rattle.std.specs.Prelude.{◌≡◌, ◌+◌, ◌^◌, ◌<◌, ◌≤
 ghost use Rattle.std.specs.Arc.{arc_value};
 ghost use Rattle.blob_model.specs.Content.{size_of};
 ghost use Rattle.range_log.specs.Updates.{Replayable};
-ghost use Rattle.node_store.specs.Rows.{cut_at, stored_of};
+ghost use Rattle.node_store.specs.UpdateRows.{bytes_of_page, stored_of};
 ghost use Rattle.snapshot.specs.Versions.{row_at, bytes_of, updates_of, next_version, older_version};
 ghost use Rattle.snapshot.specs.Versions.{under_blob, size_now, HasNodeFor, IsFound, root_key, IsRowOf};
 ghost use Rattle.snapshot.specs.Versions.{IsVersion};
@@ -186,7 +186,7 @@ impl Snapshot {
         requires version { (1 ≤ j) × (j ≤ length self.now.rows) }
         requires number { q < length (stored_of (row_at self.now.rows j)) }
         ensures this { slice_get (stored_of (row_at self.now.rows j)) q ≡ Some result.now }
-        ensures bytes { result.now.bytes ≡ cut_at self.now.page_size (bytes_of (row_at self.now.rows j)) q }
+        ensures bytes { result.now.bytes ≡ bytes_of_page self.now.page_size (bytes_of (row_at self.now.rows j)) q }
     {
         self.row(j).page(q)
     }

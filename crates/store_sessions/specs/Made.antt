@@ -3,12 +3,12 @@ use Rattle.std.specs.Prelude.{◌≡◌, ℕ, ◌+◌, [], sum_by}
 use Rattle.blob_model.specs.declared.call.Event.{Event}
 use Rattle.version_manager.specs.declared.journal.DeskFixed.{DeskFixed}
 use Rattle.turn_lock.specs.History.{entries_by}
-use Rattle.turn_lock.specs.Shown.{Owned}
+use Rattle.turn_lock.specs.Shown.{OwnerView}
 use Rattle.client_session.specs.Sessions.{StoreState, SessionState}
 
 -- The session is of that store, and works with the owner's next pass: it has seen what the owner has, where its caller has no
 -- entry. It holds no ticket, and its doors have counted no fault.
-pub record IsNewSession {D : Type 0} (faults : D → ℕ) (store : StoreState) (owner : Owned Event DeskFixed) (session : SessionState D) : Type 0 where
+pub record IsNewSession {D : Type 0} (faults : D → ℕ) (store : StoreState) (owner : OwnerView Event DeskFixed) (session : SessionState D) : Type 0 where
   pub of_store : session.store ≡ store
   pub caller : session.caller ≡ owner.made + 1
   pub log : session.log ≡ owner.seen

@@ -1,7 +1,7 @@
 //! Tests of a desk, in pages of four bytes. What it answers is spelled as a session would say it.
 ghost use Rattle.std.specs.Prelude.{◌≡◌, ◌≤◌, length, IfOk, [], ◌∷◌};
 ghost use Rattle.std.specs.Arc.{arc_value};
-ghost use Rattle.page_store.specs.Stored.{joined, LieAmong};
+ghost use Rattle.page_store.specs.Stored.{bytes_of_pages, LieAmong};
 
 use blob_model::{Limits, Outcome, Place, Refusal};
 use page_fan::{Doors, store};
@@ -22,7 +22,7 @@ pub(crate) const CALLER: u32 = 1;
 
 // A call of a desk. Updates are of the first bytes of `BYTES`.
 #[derive(Clone, Copy)]
-enum Step {
+enum DeskCall {
     Create,
     Append {
         blob: u64,
@@ -63,8 +63,8 @@ pub(crate) fn pages_of<R: Threads + Wait + Sync>(
 ) -> Result<Arc<Pages>, Fail>
     requires doors { length doors.old ≡ 1 }
     requires houses { length houses.now ≡ 1 }
-    ensures some { IfOk result (λ pages. 1 ≤ length (joined (arc_value pages).pages)) }
-    ensures few { IfOk result (λ pages. length (joined (arc_value pages).pages) ≤ 8) }
+    ensures some { IfOk result (λ pages. 1 ≤ length (bytes_of_pages (arc_value pages).pages)) }
+    ensures few { IfOk result (λ pages. length (bytes_of_pages (arc_value pages).pages) ≤ 8) }
     ensures page_size { IfOk result (λ pages. (arc_value pages).page_size ≡ 4) }
     ensures here { IfOk result (λ pages. LieAmong houses.now (arc_value pages).pages) }
     ensures doors { length doors.new ≡ 1 }
@@ -91,8 +91,8 @@ fn refused(fault: DeskFault) -> Result<Outcome, Fail> {
 
 // Numbers an update.
 fn assign(desk: &mut Desk, blob: u64, place: Place, pages: &Arc<Pages>) -> Result<Outcome, Fail>
-    requires some { 1 ≤ length (joined (arc_value pages.now).pages) }
-    requires few { length (joined (arc_value pages.now).pages) ≤ 8 }
+    requires some { 1 ≤ length (bytes_of_pages (arc_value pages.now).pages) }
+    requires few { length (bytes_of_pages (arc_value pages.now).pages) ≤ 8 }
     requires cut { (arc_value pages.now).page_size ≡ 4 }
     requires page_size { desk.old.page_size ≡ 4 }
     requires here { LieAmong desk.old.houses (arc_value pages.now).pages }
@@ -124,7 +124,7 @@ fn outcome_of<R: Threads + Wait + Sync>(
     doors: &mut Doors<PlainDoor>,
     houses: &Houses,
     desk: &mut Desk,
-    step: Step,
+    step: DeskCall,
 ) -> Result<Outcome, Fail>
     requires doors { length doors.old ≡ 1 }
     requires houses { length houses.now ≡ 1 }
@@ -135,13 +135,13 @@ fn outcome_of<R: Threads + Wait + Sync>(
     ensures housed { desk.new.houses ≡ houses.now }
 {
     match step {
-        Step::Create => made(desk.create(CALLER)),
-        Step::Branch { blob, version } => made(desk.branch(CALLER, blob, version)),
-        Step::Append { blob, count } => {
+        DeskCall::Create => made(desk.create(CALLER)),
+        DeskCall::Branch { blob, version } => made(desk.branch(CALLER, blob, version)),
+        DeskCall::Append { blob, count } => {
             let pages = pages_of(rt, alloc, doors, houses, count)?;
             assign(desk, blob, Place::Append, &pages)
         }
-        Step::Write {
+        DeskCall::Write {
             blob,
             offset,
             count,
@@ -149,10 +149,10 @@ fn outcome_of<R: Threads + Wait + Sync>(
             let pages = pages_of(rt, alloc, doors, houses, count)?;
             assign(desk, blob, Place::WriteAt(offset), &pages)
         }
-        Step::Recent { blob } => Ok(desk.recent(blob)),
-        Step::Size { blob, version } => Ok(desk.size(blob, version)),
-        Step::Sync { blob, version } => Ok(desk.sync(blob, version)),
-        Step::Status { blob } => Ok(desk.status(blob)),
+        DeskCall::Recent { blob } => Ok(desk.recent(blob)),
+        DeskCall::Size { blob, version } => Ok(desk.size(blob, version)),
+        DeskCall::Sync { blob, version } => Ok(desk.sync(blob, version)),
+        DeskCall::Status { blob } => Ok(desk.status(blob)),
     }
 }
 
@@ -183,17 +183,17 @@ const ONE_OPEN: Limits = Limits {
 };
 
 // Limits, the steps, and their lines.
-const ROWS: [(Limits, &[Step], &str); 3] = [
+const ROWS: [(Limits, &[DeskCall], &str); 3] = [
     (
         SMALL,
         &[
-            Step::Create,
-            Step::Append { blob: 1, count: 6 },
-            Step::Append { blob: 1, count: 3 },
-            Step::Append { blob: 1, count: 1 },
-            Step::Append { blob: 1, count: 1 },
-            Step::Create,
-            Step::Branch {
+            DeskCall::Create,
+            DeskCall::Append { blob: 1, count: 6 },
+            DeskCall::Append { blob: 1, count: 3 },
+            DeskCall::Append { blob: 1, count: 1 },
+            DeskCall::Append { blob: 1, count: 1 },
+            DeskCall::Create,
+            DeskCall::Branch {
                 blob: 1,
                 version: 0,
             },
@@ -205,25 +205,25 @@ const ROWS: [(Limits, &[Step], &str); 3] = [
     (
         ONE_VERSION,
         &[
-            Step::Append { blob: 1, count: 1 },
-            Step::Create,
-            Step::Append { blob: 1, count: 6 },
-            Step::Write {
+            DeskCall::Append { blob: 1, count: 1 },
+            DeskCall::Create,
+            DeskCall::Append { blob: 1, count: 6 },
+            DeskCall::Write {
                 blob: 1,
                 offset: 7,
                 count: 8,
             },
-            Step::Append { blob: 1, count: 3 },
-            Step::Append { blob: 1, count: 1 },
-            Step::Branch {
+            DeskCall::Append { blob: 1, count: 3 },
+            DeskCall::Append { blob: 1, count: 1 },
+            DeskCall::Branch {
                 blob: 2,
                 version: 0,
             },
-            Step::Branch {
+            DeskCall::Branch {
                 blob: 1,
                 version: 1,
             },
-            Step::Branch {
+            DeskCall::Branch {
                 blob: 1,
                 version: 0,
             },
@@ -235,38 +235,38 @@ const ROWS: [(Limits, &[Step], &str); 3] = [
     (
         ONE_OPEN,
         &[
-            Step::Create,
-            Step::Append { blob: 1, count: 6 },
-            Step::Append { blob: 1, count: 1 },
-            Step::Status { blob: 1 },
-            Step::Sync {
+            DeskCall::Create,
+            DeskCall::Append { blob: 1, count: 6 },
+            DeskCall::Append { blob: 1, count: 1 },
+            DeskCall::Status { blob: 1 },
+            DeskCall::Sync {
                 blob: 1,
                 version: 1,
             },
-            Step::Sync {
+            DeskCall::Sync {
                 blob: 1,
                 version: 2,
             },
-            Step::Sync {
+            DeskCall::Sync {
                 blob: 1,
                 version: 0,
             },
-            Step::Recent { blob: 1 },
-            Step::Size {
+            DeskCall::Recent { blob: 1 },
+            DeskCall::Size {
                 blob: 1,
                 version: 0,
             },
-            Step::Size {
+            DeskCall::Size {
                 blob: 1,
                 version: 1,
             },
-            Step::Branch {
+            DeskCall::Branch {
                 blob: 1,
                 version: 0,
             },
-            Step::Status { blob: 2 },
-            Step::Append { blob: 2, count: 1 },
-            Step::Status { blob: 3 },
+            DeskCall::Status { blob: 2 },
+            DeskCall::Append { blob: 2, count: 1 },
+            DeskCall::Status { blob: 3 },
         ],
         "blob 1\nversion 1 at 0 size 6\nerror too-many-open 1\nstatus assigned 1 published 0 held 1\n\
          error pending 1 held 1\nerror not-published 2 0\nsynced 0\nrecent 0 size 0\nsize 0\nerror not-published 1 0\n\
@@ -279,7 +279,7 @@ fn lines_of<R: Threads + Wait + Sync>(
     rt: &R,
     alloc: Global,
     limits: Limits,
-    steps: &[Step],
+    steps: &[DeskCall],
 ) -> Result<Vec<u8>, Fail> {
     let dialect = ScriptDialect::new(alloc)?;
     let houses = Arc::new(alloc, Houses::new(alloc, 1)?)?;

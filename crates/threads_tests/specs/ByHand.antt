@@ -13,7 +13,7 @@ use Rattle.range_log.specs.Updates.{extents, Replayable}
 use Rattle.range_log.specs.Rows.{row_of}
 use Rattle.page_store.specs.Stored.{Cut}
 use Rattle.node_store.specs.Order.{Before}
-use Rattle.node_store.specs.Rows.{UpdateRow}
+use Rattle.node_store.specs.UpdateRows.{UpdateRow}
 
 -- each range stands before the next
 abbrev pub InOrder : List (Range × Node) → Type 0

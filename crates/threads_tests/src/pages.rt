@@ -24,7 +24,7 @@ fn put_thousand(
     house: &PageHouse,
     writer: u8,
 ) -> Result<Vec<PageRef>, NoMemory>
-    ensures { IfOk result (λ pages. All (λ page. IsIn house.now page.place) pages.items) }
+    ensures { IfOk result (λ pages. All (λ page. IsIn house.now page.spot) pages.items) }
 {
     let mut pages = Vec::new(alloc);
     for i in 0..1000u64 {
@@ -51,7 +51,7 @@ fn put_more<R: Threads + Wait + Sync>(
 
 // How many of a writer's pages hold what was put.
 fn count_right(house: &PageHouse, pages: &[PageRef], writer: u8) -> u64
-    requires { All (λ page. IsIn house.now page.place) pages.now }
+    requires { All (λ page. IsIn house.now page.spot) pages.now }
 {
     let mut right: u64 = 0;
     for i in 0..pages.len() {
@@ -68,8 +68,8 @@ fn count_right(house: &PageHouse, pages: &[PageRef], writer: u8) -> u64
 }
 
 fn count_both(house: &PageHouse, one: &[PageRef], two: &[PageRef]) -> [u64; 2]
-    requires one { All (λ page. IsIn house.now page.place) one.now }
-    requires two { All (λ page. IsIn house.now page.place) two.now }
+    requires one { All (λ page. IsIn house.now page.spot) one.now }
+    requires two { All (λ page. IsIn house.now page.spot) two.now }
 {
     [count_right(house, one, 1), count_right(house, two, 2)]
 }
@@ -88,8 +88,8 @@ fn pages_of_two_threads_are_read_by_a_third_while_others_put(rt: HostRuntime) ->
     let (right, put) = thread::join(
         &rt,
         || -> [u64; 2]
-            requires one { All (λ page. IsIn house page.place) one.now }
-            requires two { All (λ page. IsIn house page.place) two.now }
+            requires one { All (λ page. IsIn house page.spot) one.now }
+            requires two { All (λ page. IsIn house page.spot) two.now }
         { count_both(&house, one, two) },
         || put_more(&rt, alloc, &house),
     );
@@ -99,7 +99,7 @@ fn pages_of_two_threads_are_read_by_a_third_while_others_put(rt: HostRuntime) ->
 }
 
 fn first_three(house: Arc<PageHouse>, page: Arc<PageRef>) -> [u8; 3]
-    requires { IsIn (arc_value house) (arc_value page).place }
+    requires { IsIn (arc_value house) (arc_value page).spot }
 {
     let mut out = [0; 3];
     if page.len() >= 3 {
@@ -117,7 +117,7 @@ fn a_shared_reference_is_read_by_another_thread(rt: HostRuntime) -> Result<(), F
     let child = thread::spawn(
         &rt,
         move || -> [u8; 3]
-            requires { IsIn (arc_value their_house) (arc_value their_page).place }
+            requires { IsIn (arc_value their_house) (arc_value their_page).spot }
         { first_three(their_house, their_page) },
     )?;
     assert_eq!(rt; first_three(house, page), *b"abc");

@@ -1,7 +1,7 @@
 //! Tests of reads of a snapshot over rows that are built by hand, in pages of four bytes.
 ghost use Rattle.std.specs.Prelude.{◌≡◌, ◌+◌, ◌^◌, ◌<◌, ◌≤◌, List, length, IfOk, [], ◌∷◌, ◌++◌};
 ghost use Rattle.page_store.specs.House.{House};
-ghost use Rattle.page_store.specs.Stored.{joined, LieAmong};
+ghost use Rattle.page_store.specs.Stored.{bytes_of_pages, LieAmong};
 ghost use Rattle.snapshot.specs.Versions.{updates_of, IsVersionIn};
 ghost use Rattle.threads_tests.specs.ByHand.{told, IsNext, IsByHand, InOrder, at_range, one_piece, after_six};
 
@@ -38,7 +38,7 @@ fn pages_of<R: Threads + Wait + Sync>(
     requires houses { length houses.now ≡ 1 }
     requires some { 1 ≤ length bytes.now }
     requires few { length bytes.now ≤ 8 }
-    ensures bytes { IfOk result (λ pages. joined pages.pages ≡ bytes.now) }
+    ensures bytes { IfOk result (λ pages. bytes_of_pages pages.pages ≡ bytes.now) }
     ensures page_size { IfOk result (λ pages. pages.page_size ≡ 4) }
     ensures here { IfOk result (λ pages. LieAmong houses.now pages.pages) }
     ensures doors { length doors.new ≡ 1 }
@@ -85,8 +85,8 @@ fn next_version(
     requires room { length before.now.rows < 9 }
     requires page_size { before.now.page_size ≡ 4 }
     requires cut { pages.page_size ≡ 4 }
-    requires next { IsNext (updates_of before.now) offset touch (joined pages.pages) by_hand.now }
-    ensures told { IfOk result (λ s. updates_of s ≡ updates_of before.now ++ told offset (joined pages.pages) ∷ []) }
+    requires next { IsNext (updates_of before.now) offset touch (bytes_of_pages pages.pages) by_hand.now }
+    ensures told { IfOk result (λ s. updates_of s ≡ updates_of before.now ++ told offset (bytes_of_pages pages.pages) ∷ []) }
     ensures page_size { IfOk result (λ s. s.page_size ≡ 4) }
     ensures count { IfOk result (λ s. length s.rows ≡ length before.now.rows + 1) }
     ensures here { (houses : List House) → IsVersionIn houses before.now → LieAmong houses pages.pages → IfOk result (IsVersionIn houses) }

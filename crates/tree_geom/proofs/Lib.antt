@@ -1,5 +1,5 @@
 pub mod Spans
 pub mod Pages
 pub mod Touches
-mod Rows
+mod WorkedExamples
 pub mod Covers

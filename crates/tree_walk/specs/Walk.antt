@@ -63,32 +63,32 @@ WeaverFinds = (p v n h q : ℕ) (us : List Extent) → 1 ≤ p → InBounds us �
 
 -- ---- a walk to some pages
 -- how many ranges of height h and below, under range number q of that height, meet the pages first to last
-unfoldable pub visited : ℕ → ℕ → ℕ → ℕ → ℕ
-visited zero q first last = if nat_le q last && nat_le first q then 1 else 0
-visited (suc h) q first last =
+unfoldable pub nodes_visited : ℕ → ℕ → ℕ → ℕ → ℕ
+nodes_visited zero q first last = if nat_le q last && nat_le first q then 1 else 0
+nodes_visited (suc h) q first last =
     elim (nat_le (q * 2 ^ suc h) last && nat_lt first ((q + 1) * 2 ^ suc h)) [
-      | true ↦ 1 + visited h (2 * q) first last + visited h (2 * q + 1) first last
+      | true ↦ 1 + nodes_visited h (2 * q) first last + nodes_visited h (2 * q + 1) first last
       | false ↦ 0
     ]
 
 -- none, where the range lies before the pages or after them
 abbrev pub VisitedNone : Type 0
-VisitedNone = (h q first last : ℕ) → (last < q * 2 ^ h) ⊎ ((q + 1) * 2 ^ h ≤ first) → visited h q first last ≡ 0
+VisitedNone = (h q first last : ℕ) → (last < q * 2 ^ h) ⊎ ((q + 1) * 2 ^ h ≤ first) → nodes_visited h q first last ≡ 0
 
 -- one, for one of the pages
 abbrev pub VisitedLeaf : Type 0
-VisitedLeaf = (q first last : ℕ) → first ≤ q → q ≤ last → visited 0 q first last ≡ 1
+VisitedLeaf = (q first last : ℕ) → first ≤ q → q ≤ last → nodes_visited 0 q first last ≡ 1
 
 -- the range itself, and those under its halves, where it meets the pages
 abbrev pub VisitedInner : Type 0
 VisitedInner = (h q first last : ℕ) → q * 2 ^ suc h ≤ last → first < (q + 1) * 2 ^ suc h
-    → visited (suc h) q first last ≡ 1 + visited h (2 * q) first last + visited h (2 * q + 1) first last
+    → nodes_visited (suc h) q first last ≡ 1 + nodes_visited h (2 * q) first last + nodes_visited h (2 * q + 1) first last
 
 -- those from a root down are fewer than 2 for each page and 2 for each level
 abbrev pub VisitedAreFew : Type 0
-VisitedAreFew = (h first last : ℕ) → first ≤ last → last < 2 ^ h → visited h 0 first last < 2 * (last + 1 - first) + 2 * h
+VisitedAreFew = (h first last : ℕ) → first ≤ last → last < 2 ^ h → nodes_visited h 0 first last < 2 * (last + 1 - first) + 2 * h
 
 -- a walk from the root of version v to the pages of n bytes at o, and on by the backs of each page, is within the visit bound
 abbrev pub WalksAreBounded : Type 0
 WalksAreBounded = (p v o n : ℕ) (us : List Extent) → 1 ≤ p → 1 ≤ n → o + n ≤ size_after us v
-    → visited (height_of p (size_after us v)) 0 (o / p) ((o + n - 1) / p) + sum_by (λ i. backs_of p us v i) (pages_met p o n) ≤ visits p us v o n
+    → nodes_visited (height_of p (size_after us v)) 0 (o / p) ((o + n - 1) / p) + sum_by (λ i. backs_of p us v i) (pages_met p o n) ≤ visits p us v o n

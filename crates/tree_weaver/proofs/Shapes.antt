@@ -11,7 +11,7 @@ use Rattle.tree_geom.specs.Geometry.{tree_range, page_range, height_of, span_of,
 use Rattle.tree_geom.specs.Laws.{HeightsHold, SpanOfSome, RangesNest, MeetsIsTrue, TouchesTellCover}
 use Rattle.range_log.specs.Log.{newest_of, touch_at}
 use Rattle.range_log.specs.Depths.{depth_of}
-use Rattle.page_store.specs.Stored.{Cut, joined}
+use Rattle.page_store.specs.Stored.{Cut, bytes_of_pages}
 use Rattle.range_log.specs.Laws.{NewestHits, NewestMisses}
 use Rattle.border_hints.specs.Numbered.{NumberedUpdate, own_touch, log_upto, IsNumbered}
 use Rattle.border_hints.specs.Borders.{IsRowRange, IsBorder, BorderLinks, AreBorders}
@@ -232,11 +232,11 @@ own_fits span t h q z is root row size =
     let P : ℕ → Type 0 = λ n. q * n + n ≤ 2 ^ 40 in
     subst P (sym size) (omega arith)
 
-pub stored_fits : (n len count p b : ℕ) (pages told : Cut) → told ≡ pages → n ≤ len → len ≡ length (joined pages.pages) → pages.page_size ≡ p → length (joined told.pages) ≤ count * told.page_size
+pub stored_fits : (n len count p b : ℕ) (pages told : Cut) → told ≡ pages → n ≤ len → len ≡ length (bytes_of_pages pages.pages) → pages.page_size ≡ p → length (bytes_of_pages told.pages) ≤ count * told.page_size
     → count < 2 ^ 32 → b ≡ p → n ≤ 4294967295 * b
 stored_fits n len count p b pages told e le is size enough few same =
-    let P : Cut → Type 0 = λ c. length (joined c.pages) ≤ count * c.page_size in
-    let all : length (joined pages.pages) ≤ count * pages.page_size = subst P e enough in
+    let P : Cut → Type 0 = λ c. length (bytes_of_pages c.pages) ≤ count * c.page_size in
+    let all : length (bytes_of_pages pages.pages) ≤ count * pages.page_size = subst P e enough in
     let f : count * pages.page_size ≡ count * p = ap (λ m. count * m) size in
     let g : count * p ≤ 4294967295 * p = mul-le count p 4294967295 p (omega arith) (omega arith) in
     let h : 4294967295 * b ≡ 4294967295 * p = ap (λ m. 4294967295 * m) same in

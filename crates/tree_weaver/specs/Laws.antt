@@ -3,8 +3,8 @@ use Rattle.std.specs.Prelude.{◌≡◌, List}
 use Rattle.blob_model.specs.Content.{Update}
 use Rattle.range_log.specs.Rows.{row_of}
 use Rattle.range_log.specs.Updates.{update_at, extents}
-use Rattle.page_store.specs.Stored.{joined}
-use Rattle.node_store.specs.Rows.{UpdateRow}
+use Rattle.page_store.specs.Stored.{bytes_of_pages}
+use Rattle.node_store.specs.UpdateRows.{UpdateRow}
 use Rattle.snapshot.specs.Versions.{IsRowOf}
 use Rattle.border_hints.specs.Numbered.{NumberedUpdate, own_touch, StandsFor, IsNumbered}
 
@@ -12,5 +12,5 @@ use Rattle.border_hints.specs.Numbered.{NumberedUpdate, own_touch, StandsFor, Is
 abbrev pub StoredRowsAreRows : Type 0
 StoredRowsAreRows = (t : NumberedUpdate) (row : UpdateRow) (us : List Update) → IsNumbered t
     → row.version ≡ t.version → row.offset ≡ t.at → row.touch ≡ own_touch t → row.pages ≡ t.pages
-    → StandsFor t (extents us) → row.nodes ≡ row_of t.snapshot.page_size (extents us) t.version → joined t.pages.pages ≡ (update_at us t.version).bytes
+    → StandsFor t (extents us) → row.nodes ≡ row_of t.snapshot.page_size (extents us) t.version → bytes_of_pages t.pages.pages ≡ (update_at us t.version).bytes
     → IsRowOf t.snapshot.page_size us t.version row

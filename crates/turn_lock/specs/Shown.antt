@@ -7,14 +7,14 @@ use Rattle.turn_lock.specs.History.{Log, entries_by, Adds, LacksUngiven}
 use Rattle.turn_lock.specs.Told.{kept_of, IsOwner}
 
 -- a pass: which lock it is of, its caller, the prefix of the history that it has seen, and the fixed data
-pub record Held (E F : Type 0) : Type 0 where
+pub record PassView (E F : Type 0) : Type 0 where
   pub lock : TableId
   pub caller : ℕ
   pub seen : Log E
   pub fixed : Option F
 
 -- an owner: the same, with how many passes it made, how many of them are out, and the callers of those that it took back
-pub record Owned (E F : Type 0) : Type 0 where
+pub record OwnerView (E F : Type 0) : Type 0 where
   pub lock : TableId
   pub made : ℕ
   pub out : ℕ
@@ -23,11 +23,11 @@ pub record Owned (E F : Type 0) : Type 0 where
   pub kept : List ℕ
 
 module _ {S E F : Type 0} where
-  abbrev pub held : Seat S (Known E F) → ℕ → Held E F
-  held s caller = record { lock = s.table_id; caller = caller; seen = s.me.0.seen; fixed = s.me.0.fixed }
+  abbrev pub view_of_pass : Seat S (Known E F) → ℕ → PassView E F
+  view_of_pass s caller = record { lock = s.table_id; caller = caller; seen = s.me.0.seen; fixed = s.me.0.fixed }
 
-  abbrev pub owned : Seat S (Known E F) → ℕ → ℕ → Owned E F
-  owned s made out = record { lock = s.table_id; made = made; out = out; seen = s.me.0.seen; fixed = s.me.0.fixed; kept = kept_of s.me.0.stage }
+  abbrev pub view_of_owner : Seat S (Known E F) → ℕ → ℕ → OwnerView E F
+  view_of_owner s made out = record { lock = s.table_id; made = made; out = out; seen = s.me.0.seen; fixed = s.me.0.fixed; kept = kept_of s.me.0.stage }
 
   -- what is true of every owner
   pub record IsOwning (s : Seat S (Known E F)) (made out : ℕ) : Type 0 where
@@ -38,6 +38,6 @@ module _ {S E F : Type 0} where
 
 module _ {E F : Type 0} where
   -- A turn: the history that the act was given is what the pass had seen and then a gap of other callers' entries. The act added at most one entry, of the pass's caller, and the pass has seen the history that the act left.
-  abbrev pub Turned : (Log E → F → Log E → Type 0) → Held E F → Held E F → Type 0
+  abbrev pub Turned : (Log E → F → Log E → Type 0) → PassView E F → PassView E F → Type 0
   Turned gives v w =
       (f : F) × (gap : Log E) × (v.fixed ≡ Some f) × (entries_by v.caller gap ≡ []) × Adds v.caller (v.seen ++ gap) w.seen × gives (v.seen ++ gap) f w.seen

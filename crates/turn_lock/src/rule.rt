@@ -29,7 +29,7 @@ impl<S: Journaled> TableRule<S, Known<S::Entry, S::Fixed>, Snapshot<S>> for Turn
 }
 
 /// A seat at the table, of a pass or of the owner.
-pub type Place<S> = Seat<S, Known<<S as Journaled>::Entry, <S as Journaled>::Fixed>>;
+pub type TurnSeat<S> = Seat<S, Known<<S as Journaled>::Entry, <S as Journaled>::Fixed>>;
 
 /// The table as all threads see it.
 pub type Board<S> = Shared<

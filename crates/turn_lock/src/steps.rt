@@ -7,7 +7,7 @@ ghost use Rattle.turn_lock.specs.Told.{number_of, kept_of, Enters, Ran, Turned, 
 
 use crate::journal::{Act, Journaled};
 use crate::plays::{Book, Deal, Draw, Gather, Look, PassOn, Settle};
-use crate::rule::{Board, DRAWN, ENTRIES, PASSED, Place, Room, STATE};
+use crate::rule::{Board, DRAWN, ENTRIES, PASSED, Room, STATE, TurnSeat};
 use std::hint::spin_loop;
 use std::sync::Wait;
 
@@ -15,27 +15,27 @@ use std::sync::Wait;
 const LOOKS: u32 = 64;
 
 // Draws a number.
-fn draw<S: Journaled>(board: &Board<S>, place: &mut Place<S>) -> u64
-    requires table { (place.old.table_id ≡ board.now.table_id) × (board.now.table_id.words ≡ 3) }
-    requires idle { place.old.me.0.stage ≡ Idle }
-    ensures seat { Stays place.old place.new }
-    ensures drawn { result ≡ number_of place.new.me.0.stage % 18446744073709551616 }
-    ensures waits { place.new.me ≡ (staged place.old.me.0 (Waits (number_of place.new.me.0.stage)), place.old.me.1) }
+fn draw<S: Journaled>(board: &Board<S>, seat: &mut TurnSeat<S>) -> u64
+    requires table { (seat.old.table_id ≡ board.now.table_id) × (board.now.table_id.words ≡ 3) }
+    requires idle { seat.old.me.0.stage ≡ Idle }
+    ensures seat { Stays seat.old seat.new }
+    ensures drawn { result ≡ number_of seat.new.me.0.stage % 18446744073709551616 }
+    ensures waits { seat.new.me ≡ (staged seat.old.me.0 (Waits (number_of seat.new.me.0.stage)), seat.old.me.1) }
 {
-    board.fetch_add::<Draw>(place, DRAWN, 1)
+    board.fetch_add::<Draw>(seat, DRAWN, 1)
 }
 
 // Waits for its turn, and takes the state.
-fn enter<S: Journaled, R: Wait>(rt: &R, board: &Board<S>, place: &mut Place<S>, number: u64)
-    requires table { (place.old.table_id ≡ board.now.table_id) × (board.now.table_id.words ≡ 3) }
-    requires waits { place.old.me.0.stage ≡ Waits (number_of place.old.me.0.stage) }
-    requires drawn { number ≡ number_of place.old.me.0.stage % 18446744073709551616 }
-    ensures seat { Stays place.old place.new }
-    ensures enters { Enters S.history S.fixed (number_of place.old.me.0.stage) place.old.me place.new.me }
+fn enter<S: Journaled, R: Wait>(rt: &R, board: &Board<S>, seat: &mut TurnSeat<S>, number: u64)
+    requires table { (seat.old.table_id ≡ board.now.table_id) × (board.now.table_id.words ≡ 3) }
+    requires waits { seat.old.me.0.stage ≡ Waits (number_of seat.old.me.0.stage) }
+    requires drawn { number ≡ number_of seat.old.me.0.stage % 18446744073709551616 }
+    ensures seat { Stays seat.old seat.new }
+    ensures enters { Enters S.history S.fixed (number_of seat.old.me.0.stage) seat.old.me seat.new.me }
 {
     let mut looks = 0;
     for _ in rt.forever() {
-        let found = board.load::<Look>(place, PASSED);
+        let found = board.load::<Look>(seat, PASSED);
         if found == number {
             return;
         }
@@ -52,17 +52,17 @@ fn enter<S: Journaled, R: Wait>(rt: &R, board: &Board<S>, place: &mut Place<S>, 
 // Lets the act change the state where it lies, and tells how many entries it added.
 fn run<S: Journaled, A: Act<S>>(
     board: &Board<S>,
-    place: &mut Place<S>,
+    seat: &mut TurnSeat<S>,
     act: A,
     caller: u32,
 ) -> (A::Answer, u64)
-    requires table { (place.old.table_id ≡ board.now.table_id) × (caller ≡ place.old.me.0.caller) }
-    requires held { (x : S) × (place.old.me.1 ≡ (0, x) ∷ []) × A.ready act (S.history x) (S.fixed x) }
-    ensures seat { Stays place.old place.new }
+    requires table { (seat.old.table_id ≡ board.now.table_id) × (caller ≡ seat.old.me.0.caller) }
+    requires held { (x : S) × (seat.old.me.1 ≡ (0, x) ∷ []) × A.ready act (S.history x) (S.fixed x) }
+    ensures seat { Stays seat.old seat.new }
     ensures ran { (x : S) × (y : S) × (length (S.history y) < 2 ^ 38)
-        × Ran S.history S.fixed (λ before f after. A.gives act before f caller result.0 after) place.old.me place.new.me result.1 x y }
+        × Ran S.history S.fixed (λ before f after. A.gives act before f caller result.0 after) seat.old.me seat.new.me result.1 x y }
 {
-    let state = place.slot_mut(board, STATE);
+    let state = seat.slot_mut(board, STATE);
     let before = state.count();
     let answer = act.act(state, caller);
     let added = state.count() - before;
@@ -70,28 +70,28 @@ fn run<S: Journaled, A: Act<S>>(
 }
 
 // Counts what the act added.
-fn book<S: Journaled>(board: &Board<S>, place: &mut Place<S>, added: u64)
-    requires table { (place.old.table_id ≡ board.now.table_id) × (board.now.table_id.words ≡ 3) }
-    requires inside { place.old.me.0.stage ≡ Inside (number_of place.old.me.0.stage) }
-    requires held { (x : S) × (place.old.me.1 ≡ (0, x) ∷ []) × Adds place.old.me.0.caller place.old.me.0.seen (S.history x)
-        × (length (S.history x) ≡ length place.old.me.0.seen + added) × (length (S.history x) < 2 ^ 38) }
-    ensures seat { Stays place.old place.new }
-    ensures booked { (x : S) → place.old.me.1 ≡ (0, x) ∷ []
-        → place.new.me ≡ (record { caller = place.old.me.0.caller; seen = S.history x; fixed = place.old.me.0.fixed; stage = place.old.me.0.stage }, place.old.me.1) }
+fn book<S: Journaled>(board: &Board<S>, seat: &mut TurnSeat<S>, added: u64)
+    requires table { (seat.old.table_id ≡ board.now.table_id) × (board.now.table_id.words ≡ 3) }
+    requires inside { seat.old.me.0.stage ≡ Inside (number_of seat.old.me.0.stage) }
+    requires held { (x : S) × (seat.old.me.1 ≡ (0, x) ∷ []) × Adds seat.old.me.0.caller seat.old.me.0.seen (S.history x)
+        × (length (S.history x) ≡ length seat.old.me.0.seen + added) × (length (S.history x) < 2 ^ 38) }
+    ensures seat { Stays seat.old seat.new }
+    ensures booked { (x : S) → seat.old.me.1 ≡ (0, x) ∷ []
+        → seat.new.me ≡ (record { caller = seat.old.me.0.caller; seen = S.history x; fixed = seat.old.me.0.fixed; stage = seat.old.me.0.stage }, seat.old.me.1) }
 {
-    board.fetch_add::<Book>(place, ENTRIES, added);
+    board.fetch_add::<Book>(seat, ENTRIES, added);
 }
 
 // Gives the state back with the turn, and wakes those that sleep. Where no seat has a number none sleeps: a seat draws before
 // it looks.
-fn pass_on<S: Journaled>(board: &Board<S>, place: &mut Place<S>)
-    requires table { (place.old.table_id ≡ board.now.table_id) × (board.now.table_id.words ≡ 3) }
-    requires inside { place.old.me.0.stage ≡ Inside (number_of place.old.me.0.stage) }
-    requires held { (x : S) × (place.old.me.1 ≡ (0, x) ∷ []) × (S.history x ≡ place.old.me.0.seen) × (place.old.me.0.fixed ≡ Some (S.fixed x)) }
-    ensures seat { Stays place.old place.new }
-    ensures passed { place.new.me ≡ (staged place.old.me.0 Idle, []) }
+fn pass_on<S: Journaled>(board: &Board<S>, seat: &mut TurnSeat<S>)
+    requires table { (seat.old.table_id ≡ board.now.table_id) × (board.now.table_id.words ≡ 3) }
+    requires inside { seat.old.me.0.stage ≡ Inside (number_of seat.old.me.0.stage) }
+    requires held { (x : S) × (seat.old.me.1 ≡ (0, x) ∷ []) × (S.history x ≡ seat.old.me.0.seen) × (seat.old.me.0.fixed ≡ Some (S.fixed x)) }
+    ensures seat { Stays seat.old seat.new }
+    ensures passed { seat.new.me ≡ (staged seat.old.me.0 Idle, []) }
 {
-    let number = board.fetch_add::<PassOn>(place, PASSED, 1);
+    let number = board.fetch_add::<PassOn>(seat, PASSED, 1);
     if board.peek(DRAWN) != number.wrapping_add(1) {
         board.wake_all(PASSED);
     }
@@ -101,61 +101,66 @@ fn pass_on<S: Journaled>(board: &Board<S>, place: &mut Place<S>)
 pub fn take_turn<S: Journaled, A: Act<S>, R: Wait>(
     rt: &R,
     board: &Board<S>,
-    place: &mut Place<S>,
+    seat: &mut TurnSeat<S>,
     act: A,
     caller: u32,
 ) -> A::Answer
-    requires table { (place.old.table_id ≡ board.now.table_id) × (board.now.table_id.words ≡ 3) }
-    requires idle { IsIdle place.old.me caller }
-    requires ready { IfSome place.old.me.0.fixed (λ f. A.ready act place.old.me.0.seen f) }
-    ensures seat { Stays place.old place.new }
-    ensures same { place.new.me ≡ (record { caller = place.old.me.0.caller; seen = place.new.me.0.seen; fixed = place.old.me.0.fixed; stage = Idle }, []) }
-    ensures turned { Turned (λ before f after. A.gives act before f caller result after) place.old.me.0 place.new.me.0 }
+    requires table { (seat.old.table_id ≡ board.now.table_id) × (board.now.table_id.words ≡ 3) }
+    requires idle { IsIdle seat.old.me caller }
+    requires ready { IfSome seat.old.me.0.fixed (λ f. A.ready act seat.old.me.0.seen f) }
+    ensures seat { Stays seat.old seat.new }
+    ensures same { seat.new.me ≡ (record { caller = seat.old.me.0.caller; seen = seat.new.me.0.seen; fixed = seat.old.me.0.fixed; stage = Idle }, []) }
+    ensures turned { Turned (λ before f after. A.gives act before f caller result after) seat.old.me.0 seat.new.me.0 }
 {
-    let number = draw(board, place);
-    enter(rt, board, place, number);
-    let (answer, added) = run(board, place, act, caller);
+    let number = draw(board, seat);
+    enter(rt, board, seat, number);
+    let (answer, added) = run(board, seat, act, caller);
     if added > 0 {
-        book(board, place, added);
+        book(board, seat, added);
     }
-    pass_on(board, place);
+    pass_on(board, seat);
     answer
 }
 
 /// Splits the seat of a new pass off the owner's.
-pub fn deal<S: Journaled>(board: &Board<S>, place: &mut Place<S>, made: u32) -> Place<S>
-    requires table { (place.old.table_id ≡ board.now.table_id) × (board.now.table_id.words ≡ 3) }
-    requires owns { (place.old.me.0.stage ≡ Owns made (kept_of place.old.me.0.stage)) × (made < 1024) }
-    ensures seat { Stays place.old place.new × (place.new.me ≡ (dealt place.old.me.0, place.old.me.1)) }
-    ensures new { (result.table_id ≡ place.old.table_id) × (result.me ≡ (newcomer place.old.me.0, [])) }
+pub fn deal<S: Journaled>(board: &Board<S>, seat: &mut TurnSeat<S>, made: u32) -> TurnSeat<S>
+    requires table { (seat.old.table_id ≡ board.now.table_id) × (board.now.table_id.words ≡ 3) }
+    requires owns { (seat.old.me.0.stage ≡ Owns made (kept_of seat.old.me.0.stage)) × (made < 1024) }
+    ensures seat { Stays seat.old seat.new × (seat.new.me ≡ (dealt seat.old.me.0, seat.old.me.1)) }
+    ensures new { (result.table_id ≡ seat.old.table_id) × (result.me ≡ (newcomer seat.old.me.0, [])) }
 {
-    board.split_seat::<Deal>(place)
+    board.split_seat::<Deal>(seat)
 }
 
 /// Joins a pass's seat to the owner's, by two loads: the table tells only at the second how what both had seen lies in one history.
-pub fn take_in<S: Journaled>(board: &Board<S>, place: &mut Place<S>, other: Place<S>, made: u32)
-    requires table { (place.old.table_id ≡ board.now.table_id) × (other.table_id ≡ board.now.table_id) × (board.now.table_id.words ≡ 3) }
-    requires owns { place.old.me.0.stage ≡ Owns made (kept_of place.old.me.0.stage) }
+pub fn take_in<S: Journaled>(
+    board: &Board<S>,
+    seat: &mut TurnSeat<S>,
+    other: TurnSeat<S>,
+    made: u32,
+)
+    requires table { (seat.old.table_id ≡ board.now.table_id) × (other.table_id ≡ board.now.table_id) × (board.now.table_id.words ≡ 3) }
+    requires owns { seat.old.me.0.stage ≡ Owns made (kept_of seat.old.me.0.stage) }
     requires idle { (other.me.0.stage ≡ Idle) × (other.me.1 ≡ []) }
-    ensures seat { Stays place.old place.new × (place.new.me.1 ≡ place.old.me.1) × (place.new.me.0.fixed ≡ place.old.me.0.fixed) }
-    ensures kept { place.new.me.0.stage ≡ Owns made (kept_of place.old.me.0.stage ++ other.me.0.caller ∷ []) }
-    ensures longer { place.new.me.0.seen ≡ longer place.old.me.0.seen other.me.0.seen }
-    ensures begins { Begins place.old.me.0.seen place.new.me.0.seen × Begins other.me.0.seen place.new.me.0.seen }
-    ensures own { entries_by other.me.0.caller place.new.me.0.seen ≡ entries_by other.me.0.caller other.me.0.seen }
-    ensures before { (c : ℕ) → Contains (kept_of place.old.me.0.stage) c → entries_by c place.new.me.0.seen ≡ entries_by c place.old.me.0.seen }
-    ensures room { LacksUngiven made place.new.me.0.seen × (length (kept_of place.old.me.0.stage) + 1 ≤ made) }
+    ensures seat { Stays seat.old seat.new × (seat.new.me.1 ≡ seat.old.me.1) × (seat.new.me.0.fixed ≡ seat.old.me.0.fixed) }
+    ensures kept { seat.new.me.0.stage ≡ Owns made (kept_of seat.old.me.0.stage ++ other.me.0.caller ∷ []) }
+    ensures longer { seat.new.me.0.seen ≡ longer seat.old.me.0.seen other.me.0.seen }
+    ensures begins { Begins seat.old.me.0.seen seat.new.me.0.seen × Begins other.me.0.seen seat.new.me.0.seen }
+    ensures own { entries_by other.me.0.caller seat.new.me.0.seen ≡ entries_by other.me.0.caller other.me.0.seen }
+    ensures before { (c : ℕ) → Contains (kept_of seat.old.me.0.stage) c → entries_by c seat.new.me.0.seen ≡ entries_by c seat.old.me.0.seen }
+    ensures room { LacksUngiven made seat.new.me.0.seen × (length (kept_of seat.old.me.0.stage) + 1 ≤ made) }
 {
-    board.join_seat::<Gather>(place, other);
-    board.load::<Settle>(place, DRAWN);
+    board.join_seat::<Gather>(seat, other);
+    board.load::<Settle>(seat, DRAWN);
 }
 
 /// Ends the table, where no pass is out.
-pub fn end_turns<S: Journaled>(table: Room<S>, place: Place<S>, made: u32) -> S
-    requires table { (place.table_id ≡ table.shared.table_id) × (table.shared.table_id.words ≡ 3) × (table.shared.table_id.slots ≡ 1) }
-    requires owns { (place.me.0.stage ≡ Owns made (kept_of place.me.0.stage)) × (length (kept_of place.me.0.stage) ≡ made) }
-    ensures { Closes made place.me.0 (S.history result) (S.fixed result) }
+pub fn end_turns<S: Journaled>(table: Room<S>, seat: TurnSeat<S>, made: u32) -> S
+    requires table { (seat.table_id ≡ table.shared.table_id) × (table.shared.table_id.words ≡ 3) × (table.shared.table_id.slots ≡ 1) }
+    requires owns { (seat.me.0.stage ≡ Owns made (kept_of seat.me.0.stage)) × (length (kept_of seat.me.0.stage) ≡ made) }
+    ensures { Closes made seat.me.0 (S.history result) (S.fixed result) }
 {
-    let mut closed = table.close_with(place);
+    let mut closed = table.close_with(seat);
     let state = closed.take(STATE);
     closed.free();
     state

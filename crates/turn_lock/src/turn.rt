@@ -4,7 +4,7 @@ ghost use Rattle.turn_lock.specs.History.{entries_by, Begins, longer, LacksUngiv
 ghost use Rattle.turn_lock.specs.Shown.{Turned};
 
 use crate::journal::{Act, Journaled};
-use crate::rule::{Place, Room};
+use crate::rule::{Room, TurnSeat};
 use crate::steps::{deal, end_turns, take_in, take_turn};
 use no_memory::NoMemory;
 use std::alloc::Global;
@@ -43,17 +43,17 @@ impl<S: Journaled> Model for Turn<S> {
 /// The right to take turns as one caller. It holds no turn between two calls. Contracts see its lock, its caller, the prefix of the history that it has seen, and the fixed data.
 #[derive(Drop)]
 pub struct Pass<S: Journaled> {
-    seat: Place<S>,
+    seat: TurnSeat<S>,
     caller: u32,
 }
 
 impl<S: Journaled> Model for Pass<S> {
     ghost use Rattle.turn_lock.specs.Told.{IsIdle};
-    ghost use Rattle.turn_lock.specs.Shown.{Held, held};
+    ghost use Rattle.turn_lock.specs.Shown.{PassView, view_of_pass};
 
-    ghost Value = { Held S.Entry S.Fixed };
+    ghost Value = { PassView S.Entry S.Fixed };
 
-    ghost view = { λ p. held p.seat p.caller };
+    ghost view = { λ p. view_of_pass p.seat p.caller };
 
     ghost invariant = { λ p. IsIdle p.seat.me p.caller };
 }
@@ -64,17 +64,17 @@ impl<S: Journaled> Model for Pass<S> {
 /// the fixed data, and the callers of the passes that it took back.
 #[derive(Drop)]
 pub struct Owner<S: Journaled> {
-    seat: Place<S>,
+    seat: TurnSeat<S>,
     made: u32,
     out: u32,
 }
 
 impl<S: Journaled> Model for Owner<S> {
-    ghost use Rattle.turn_lock.specs.Shown.{Owned, owned, IsOwning};
+    ghost use Rattle.turn_lock.specs.Shown.{OwnerView, view_of_owner, IsOwning};
 
-    ghost Value = { Owned S.Entry S.Fixed };
+    ghost Value = { OwnerView S.Entry S.Fixed };
 
-    ghost view = { λ o. owned o.seat o.made o.out };
+    ghost view = { λ o. view_of_owner o.seat o.made o.out };
 
     ghost invariant = { λ o. IsOwning o.seat o.made o.out };
 }

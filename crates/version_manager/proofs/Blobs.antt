@@ -15,7 +15,7 @@ use Rattle.range_log.specs.Updates.{extents, extent_of, Replayable}
 use Rattle.range_log.proofs.Bytes.{size_is, length-extents}
 use Rattle.range_log.proofs.Grown.{size-touches}
 use Rattle.range_log.proofs.Growth.{rows_stay, extents_grow}
-use Rattle.node_store.specs.Rows.{UpdateRow}
+use Rattle.node_store.specs.UpdateRows.{UpdateRow}
 use Rattle.snapshot.specs.Versions.{row_at, updates_of, older_version, under_blob, IsRowOf, IsVersion}
 use Rattle.snapshot.specs.Versions.{size_now as version_size}
 use Rattle.snapshot.specs.Laws.{AreRowsOf, TellUpdates}
@@ -28,7 +28,7 @@ use Rattle.publisher.proofs.Leading.{published_counts}
 use Rattle.publisher.proofs.Standing.{rows_published, stands_finished}
 use Rattle.range_log.proofs.Growth.{extent_of_front, size_front}
 use Rattle.tree_geom.proofs.Spans.{page_pos}
-use Rattle.version_manager.specs.Kept.{Keeps}
+use Rattle.version_manager.specs.DeskInvariant.{Keeps}
 use Rattle.version_manager.proofs.BlobsSizes.{prefix_within, prefix_set, prefix_whole, all_present, opens_count, opens_touch, sizes_grow}
 
 -- rows of updates are those of the first of them

@@ -17,7 +17,7 @@ use Rattle.range_log.specs.Updates.{no_update, extent_of, extents, Replayable}
 use Rattle.range_log.proofs.Bytes.{size_is, length-extents, extent_is, bounds_hold}
 use Rattle.range_log.proofs.Grown.{touch-touches}
 use Rattle.range_log.proofs.Growth.{rows_stay, extents_grow}
-use Rattle.node_store.specs.Rows.{UpdateRow}
+use Rattle.node_store.specs.UpdateRows.{UpdateRow}
 use Rattle.snapshot.specs.Versions.{Version, updates, IsVersion}
 use Rattle.snapshot.proofs.Growing.{IsRowOf-longer}
 use Rattle.snapshot.proofs.Telling.{told}
@@ -28,7 +28,7 @@ use Rattle.publisher.specs.Windows.{Numbered, leading, published_of, version_of,
 use Rattle.publisher.proofs.Growing.{numbered_stands, log_published}
 use Rattle.range_log.proofs.Growth.{size_front, extent_of_front}
 use Rattle.version_manager.specs.Blobs.{Takes}
-use Rattle.version_manager.specs.Kept.{Keeps}
+use Rattle.version_manager.specs.DeskInvariant.{Keeps}
 use Rattle.version_manager.proofs.BlobsSizes.{prefix_more, opens_touches, opens_first}
 use Rattle.version_manager.proofs.Blobs.{leads, published_few, waiting_count, log_size}
 

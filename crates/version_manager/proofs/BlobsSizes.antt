@@ -10,9 +10,9 @@ use Rattle.range_log.specs.Open.{no_open}
 use Rattle.range_log.specs.Updates.{extents, Replayable}
 use Rattle.range_log.specs.Extents.{Extent, size_after}
 use Rattle.range_log.proofs.Bytes.{size_is}
-use Rattle.node_store.specs.Rows.{UpdateRow}
+use Rattle.node_store.specs.UpdateRows.{UpdateRow}
 use Rattle.publisher.specs.Windows.{opens_from}
-use Rattle.publisher.specs.Kept.{present}
+use Rattle.publisher.specs.WindowInvariant.{present}
 
 -- ---- the prefix that is all true
 pub prefix_within : (bs : List Bool) → true_prefix bs ≤ length bs

@@ -10,7 +10,7 @@ use Rattle.blob_model.specs.declared.call.Place.{Place}
 use Rattle.blob_model.specs.declared.call.Outcome.TheVariants as Outcomes
 use Rattle.blob_model.specs.declared.call.Refusal.{Refusal}
 use Rattle.blob_model.specs.declared.call.Refusal.TheVariants as Refusals
-use Rattle.version_manager.specs.Kept.{update_tests}
+use Rattle.version_manager.specs.DeskInvariant.{update_tests}
 use Rattle.version_manager.proofs.Stores.{unless_none, unless_some}
 
 pub first_hit : (t : Test) (ts : List Test) → t.refuses ≡ true → Some t.refusal ≡ first_refusal (t ∷ ts)

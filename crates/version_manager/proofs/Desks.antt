@@ -13,7 +13,7 @@ use Rattle.publisher.specs.Windows.{Numbered}
 use Rattle.version_manager.specs.declared.entry.Entry.{Entry}
 use Rattle.version_manager.specs.Desks.{no_window}
 use Rattle.version_manager.specs.Entries.{event_of}
-use Rattle.version_manager.specs.Kept.{IsBlobKept, Keeps, KeepsDesk}
+use Rattle.version_manager.specs.DeskInvariant.{IsBlobKept, Keeps, KeepsDesk}
 use Rattle.version_manager.proofs.Stores.{get-set_is, get-set_other, get-push_last, get-push_other}
 
 -- ---- one blob and its window
@@ -70,18 +70,18 @@ module _ (limits : Bounds) (p : ℕ) (h : List Event) (ws : List Numbered) (kept
       let after : length ws < blob = past some in
       blob_of (store_of limits h) blob some ∙ slice_get_past (store_of limits h).blobs (blob - 1) (omega (arith, kept.count)))
 
-  -- a window that was found at the place of a blob
-  pub record IsAt (blob place : ℕ) (w : Numbered) : Type 0 where
+  -- a window that was found at the index of a blob
+  pub record IsAt (blob index : ℕ) (w : Numbered) : Type 0 where
     pub found : IsHere blob
     pub some : 1 ≤ blob
-    pub at : place ≡ blob - 1
+    pub at : index ≡ blob - 1
     pub window : w ≡ get_or ws (blob - 1) no_window
     pub keeps : Keeps limits w found.b
     pub id : w.blob ≡ blob
     pub page : w.page_size ≡ p
 
-  pub at_place : (blob place n : ℕ) (w : Numbered) → n ≡ length ws → (place ≡ blob - 1) × (1 ≤ blob) × (blob ≤ n) → w ≡ get_or ws place w → IsAt blob place w
-  at_place blob place n w long e read =
+  pub at_index : (blob index n : ℕ) (w : Numbered) → n ≡ length ws → (index ≡ blob - 1) × (1 ≤ blob) × (blob ≤ n) → w ≡ get_or ws index w → IsAt blob index w
+  at_index blob index n w long e read =
       let x : IsHere blob = here blob e.1 (omega (arith, e.2, long)) in
       let same : w ≡ get_or ws (blob - 1) no_window = read ∙ ap (λ (i : ℕ). get_or ws i w) e.0 ∙ get_or_default ws (blob - 1) w no_window (omega (arith, e.1, e.2, long)) in
       let K : Numbered → Type 0 = λ v. IsBlobKept limits p blob x.b v in
@@ -122,25 +122,25 @@ module _ (limits : Bounds) (p : ℕ) (h : List Event) (ws : List Numbered) (kept
       → IsBlobKept limits p blob b w → KeepsDesk limits p (h ++ e ∷ []) (set ws (blob - 1) w)
   replaced e blob b w some legal after new =
       let s : Store = store_of limits h in
-      let place : ℕ = blob - 1 in
-      let blobs : (store_of limits (h ++ e ∷ [])).blobs ≡ set s.blobs place b = ap (λ (x : Store). x.blobs) after in
-      let long : length (store_of limits (h ++ e ∷ [])).blobs ≡ length s.blobs = ap length blobs ∙ length-set s.blobs place b in
-      let as_many : length (set ws place w) ≡ length ws = length-set ws place w in
+      let index : ℕ = blob - 1 in
+      let blobs : (store_of limits (h ++ e ∷ [])).blobs ≡ set s.blobs index b = ap (λ (x : Store). x.blobs) after in
+      let long : length (store_of limits (h ++ e ∷ [])).blobs ≡ length s.blobs = ap length blobs ∙ length-set s.blobs index b in
+      let as_many : length (set ws index w) ≡ length ws = length-set ws index w in
       record {
         legal = legal;
         page_size = kept.page_size;
         few = omega (arith, kept.few, as_many);
         count = omega (arith, kept.count, long, as_many);
         each = λ i b' w' at_blob at_window.
-            let at : slice_get (set s.blobs place b) i ≡ Some b' = ap (λ (l : List Blob). slice_get l i) (sym blobs) ∙ at_blob in
-            by_test _ (i == place)
+            let at : slice_get (set s.blobs index b) i ≡ Some b' = ap (λ (l : List Blob). slice_get l i) (sym blobs) ∙ at_blob in
+            by_test _ (i == index)
             (λ t.
-            let is : i ≡ place = grind (arith, nat_tests) in
-            let same_b : b ≡ b' = get-set_is s.blobs place b' b (ap (λ (n : ℕ). slice_get (set s.blobs place b) n) (sym is) ∙ at) in
-            let same_w : w ≡ w' = get-set_is ws place w' w (ap (λ (n : ℕ). slice_get (set ws place w) n) (sym is) ∙ at_window) in
+            let is : i ≡ index = grind (arith, nat_tests) in
+            let same_b : b ≡ b' = get-set_is s.blobs index b' b (ap (λ (n : ℕ). slice_get (set s.blobs index b) n) (sym is) ∙ at) in
+            let same_w : w ≡ w' = get-set_is ws index w' w (ap (λ (n : ℕ). slice_get (set ws index w) n) (sym is) ∙ at_window) in
             let id : blob ≡ suc i = omega (arith, is, some) in
             subst (λ (n : ℕ). IsBlobKept limits p n b' w') id (subst (λ (x : Numbered). IsBlobKept limits p blob b' x) same_w (subst (λ (x : Blob). IsBlobKept limits p blob x w) same_b new)))
             (λ t.
-            let apart : i ≡ place → ⊥ = λ is. grind (arith, nat_tests) in
-            kept.each i b' w' (sym (get-set_other s.blobs place i b apart) ∙ at) (sym (get-set_other ws place i w apart) ∙ at_window));
+            let apart : i ≡ index → ⊥ = λ is. grind (arith, nat_tests) in
+            kept.each i b' w' (sym (get-set_other s.blobs index i b apart) ∙ at) (sym (get-set_other ws index i w apart) ∙ at_window));
       }

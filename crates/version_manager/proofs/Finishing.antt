@@ -13,15 +13,15 @@ use Rattle.blob_model.specs.declared.call.Event.{Event}
 use Rattle.blob_model.specs.declared.call.Event.TheVariants as Events
 use Rattle.blob_model.specs.declared.call.Outcome.TheVariants as Outcomes
 use Rattle.blob_model.specs.declared.call.Refusal.TheVariants as Refusals
-use Rattle.node_store.specs.Rows.{UpdateRow}
+use Rattle.node_store.specs.UpdateRows.{UpdateRow}
 use Rattle.snapshot.specs.Versions.{IsRowOf}
 use Rattle.publisher.specs.Windows.{Numbered}
 use Rattle.border_hints.specs.Numbered.{NumberedUpdate}
 use Rattle.page_store.specs.House.{House}
 use Rattle.version_manager.specs.Desks.{DeskState, updates_or_none, IsTicketOf, IsRowFor}
-use Rattle.version_manager.specs.Kept.{Keeps, KeepsDesk}
+use Rattle.version_manager.specs.DeskInvariant.{Keeps, KeepsDesk}
 use Rattle.version_manager.proofs.Stores.{store_after, legal_after, unless_none, unless_some, in_blob_here, blob_at-with}
-use Rattle.version_manager.proofs.Desks.{by_test, kept_of, absent, replaced, at_place, IsHere, IsAt}
+use Rattle.version_manager.proofs.Desks.{by_test, kept_of, absent, replaced, at_index, IsHere, IsAt}
 
 pub finished_true : (b : Blob) (version : ℕ) → 1 ≤ version → version ≤ length b.finished → is_finished (finish b version) version ≡ true
 finished_true b version some within =
@@ -76,8 +76,8 @@ module _ (limits : Bounds) (p : ℕ) (h : List Event) (ws : List Numbered) (kept
           (kept_of limits p blob (finish x.b version) w id page k)
 
   -- the row of a ticket of the desk, at the window of its blob
-  pub record IsFinishable (version place : ℕ) (w : Numbered) (row : UpdateRow) : Type 0 where
-    pub at : IsAt limits p h ws kept blob place w
+  pub record IsFinishable (version index : ℕ) (w : Numbered) (row : UpdateRow) : Type 0 where
+    pub at : IsAt limits p h ws kept blob index w
     pub within : version ≤ assigned at.found.b
     pub own : IsRowOf w.page_size at.found.b.updates version row
 
@@ -89,11 +89,11 @@ module _ (limits : Bounds) (p : ℕ) (h : List Event) (ws : List Numbered) (kept
       let N : ℕ → ℕ → Type 0 = λ i v. v ≤ length (updates_or_none (blob_at (store_of limits h) i)) in
       with_updates version first (subst (λ (i : ℕ). N i version) (sym on) (subst (λ (v : ℕ). N t.blob v) (sym is) ticket.numbered))
 
-  pub finishable : (houses : List House) (t : NumberedUpdate) (version place : ℕ) (w : Numbered) (row : UpdateRow) → blob ≡ t.blob → version ≡ t.version → place ≡ blob - 1 → 1 ≤ version → IsTicketOf (this houses) t → IsRowFor (this houses) t row
-      → w ≡ get_or ws place w → IsFinishable version place w row
-  finishable houses t version place w row on is at first ticket own read =
+  pub finishable : (houses : List House) (t : NumberedUpdate) (version index : ℕ) (w : Numbered) (row : UpdateRow) → blob ≡ t.blob → version ≡ t.version → index ≡ blob - 1 → 1 ≤ version → IsTicketOf (this houses) t → IsRowFor (this houses) t row
+      → w ≡ get_or ws index w → IsFinishable version index w row
+  finishable houses t version index w row on is at first ticket own read =
       let r = ticket_place houses t version on is first ticket in
-      let x : IsAt limits p h ws kept blob place w = at_place limits p h ws kept blob place (length ws) w refl (at, r.0, r.1) read in
+      let x : IsAt limits p h ws kept blob index w = at_index limits p h ws kept blob index (length ws) w refl (at, r.0, r.1) read in
       let us : updates_or_none (blob_at (store_of limits h) t.blob) ≡ x.found.b.updates = ap (λ (i : ℕ). updates_or_none (blob_at (store_of limits h) i)) (sym on) ∙ ap updates_or_none x.found.at in
       let R : List Update → Type 0 = λ l. IsRowOf p l t.version row in
       let S : ℕ → Type 0 = λ v. IsRowOf p x.found.b.updates v row in

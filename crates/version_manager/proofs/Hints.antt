@@ -3,7 +3,7 @@ use Rattle.std.proofs.Common.{◌≡◌, ℕ, ◌+◌, List, length, drop, sym, 
 use Rattle.std.specs.Prelude.{Some}
 use Rattle.std.proofs.Math.Seq.{take-length}
 use Rattle.page_store.specs.House.{House}
-use Rattle.node_store.specs.Rows.{UpdateRow}
+use Rattle.node_store.specs.UpdateRows.{UpdateRow}
 use Rattle.tree_geom.specs.declared.touch.Touch.{Touch}
 use Rattle.range_log.specs.Extents.{touches}
 use Rattle.range_log.specs.Updates.{extents}
@@ -16,7 +16,7 @@ use Rattle.blob_model.specs.Content.{Update}
 use Rattle.blob_model.specs.Store.{Blob, blob_at}
 use Rattle.blob_model.specs.History.{store_of}
 use Rattle.version_manager.specs.Desks.{DeskState, HasHints, updates_in, updates_or_none, published_in, published_or_none}
-use Rattle.version_manager.specs.Kept.{Keeps}
+use Rattle.version_manager.specs.DeskInvariant.{Keeps}
 use Rattle.version_manager.specs.Origins.{LieUnderOrigins}
 use Rattle.version_manager.proofs.Blobs.{published_is, leads, tells_all}
 use Rattle.version_manager.proofs.Houses.{AreRowsIn, older_in}

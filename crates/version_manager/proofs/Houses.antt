@@ -3,7 +3,7 @@ use Rattle.std.proofs.Common.{◌≡◌, ℕ, ◌-◌, ◌<◌, List, [], ◌∷
 use Rattle.std.specs.Prelude.{Option, Some, None, All, take}
 use Rattle.std.proofs.lemmas.List.Elements.{All-push, All-set, All-take, All-map}
 use Rattle.page_store.specs.House.{House}
-use Rattle.node_store.specs.Rows.{UpdateRow, IsRowIn}
+use Rattle.node_store.specs.UpdateRows.{UpdateRow, IsRowIn}
 use Rattle.tree_geom.specs.declared.touch.Touch.{Touch}
 use Rattle.publisher.specs.Windows.{Numbered, leading, version_of, window_on, with_numbered, with_finished}
 use Rattle.snapshot.specs.Versions.{older_version, under_blob, IsVersionIn}

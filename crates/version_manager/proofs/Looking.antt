@@ -13,7 +13,7 @@ use Rattle.publisher.specs.Windows.{Numbered}
 use Rattle.version_manager.specs.declared.fault.DeskFault.{DeskFault}
 use Rattle.version_manager.specs.declared.fault.DeskFault.TheVariants.{Refused, NoMemory}
 use Rattle.version_manager.specs.Desks.{OnRefused}
-use Rattle.version_manager.specs.Kept.{KeepsDesk}
+use Rattle.version_manager.specs.DeskInvariant.{KeepsDesk}
 use Rattle.version_manager.proofs.Stores.{in_blob_here, in_blob_none}
 use Rattle.version_manager.proofs.Desks.{absent, IsHere}
 

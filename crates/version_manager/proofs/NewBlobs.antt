@@ -13,7 +13,7 @@ use Rattle.blob_model.specs.declared.call.Outcome.TheVariants as Outcomes
 use Rattle.blob_model.specs.declared.call.Refusal.TheVariants as Refusals
 use Rattle.publisher.specs.Windows.{Numbered, published_of}
 use Rattle.version_manager.specs.Desks.{no_window}
-use Rattle.version_manager.specs.Kept.{Keeps, KeepsDesk}
+use Rattle.version_manager.specs.DeskInvariant.{Keeps, KeepsDesk}
 use Rattle.version_manager.proofs.BlobsTests.{first_hit, first_pass}
 use Rattle.version_manager.proofs.Stores.{store_after, legal_after, unless_none, unless_some, in_blob_here, store_limits}
 use Rattle.version_manager.proofs.Desks.{kept_of, pushed, IsHere}

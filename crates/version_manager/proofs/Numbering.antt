@@ -20,7 +20,7 @@ use Rattle.std.proofs.Common.{Global}
 use Rattle.std.specs.declared.sync.Arc.{Arc}
 use Rattle.std.specs.Arc.{arc_value}
 use Rattle.page_store.specs.declared.stored.Pages.{Pages}
-use Rattle.page_store.specs.Stored.{Cut, joined}
+use Rattle.page_store.specs.Stored.{Cut, bytes_of_pages}
 use Rattle.version_manager.specs.declared.entry.Change.TheVariants as Changes
 use Rattle.version_manager.specs.declared.entry.Entry.{Entry}
 use Rattle.version_manager.specs.Entries.{event_of}
@@ -29,17 +29,17 @@ use Rattle.publisher.specs.Windows.{Numbered}
 use Rattle.version_manager.specs.Desks.{DeskState, updates_or_none, updates_in, finished_or_not, OnRefused, IsTicketOf, IsUnfinished}
 use Rattle.version_manager.specs.declared.fault.DeskFault.{DeskFault}
 use Rattle.version_manager.specs.declared.fault.DeskFault.TheVariants.{Refused, NoMemory}
-use Rattle.version_manager.specs.Kept.{Keeps, KeepsDesk, update_tests}
+use Rattle.version_manager.specs.DeskInvariant.{Keeps, KeepsDesk, update_tests}
 use Rattle.version_manager.proofs.Stores.{store_after, legal_after, unless_none, unless_some, in_blob_here, store_limits, blob_at-with}
 use Rattle.version_manager.proofs.Desks.{pushed_event, kept_of, replaced, IsHere}
 
 -- ---- the entry of a numbering
 pub numbered_event : (old room new : List Entry) (caller blob : ℕ) (place : Place) (pages : Arc Pages Global) (q : Cut) → room ≡ old
     → new ≡ room ++ record { caller = caller; change = Changes.Assign blob place pages } ∷ [] → arc_value pages ≡ q
-    → map event_of new ≡ map event_of old ++ Events.Assign caller blob place (joined q.pages) ∷ []
+    → map event_of new ≡ map event_of old ++ Events.Assign caller blob place (bytes_of_pages q.pages) ∷ []
 numbered_event old room new caller blob place pages q same e is =
     let entry : Entry = record { caller = caller; change = Changes.Assign blob place pages } in
-    pushed_event old new entry (e ∙ ap (λ (l : List Entry). l ++ entry ∷ []) same) ∙ ap (λ (x : Cut). map event_of old ++ Events.Assign caller blob place (joined x.pages) ∷ []) is
+    pushed_event old new entry (e ∙ ap (λ (l : List Entry). l ++ entry ∷ []) same) ∙ ap (λ (x : Cut). map event_of old ++ Events.Assign caller blob place (bytes_of_pages x.pages) ∷ []) is
 
 -- ---- a ticket of the last update
 last_update : (us : List Update) (u : Update) (v : ℕ) → v ≡ length us + 1 → update_at (us ++ u ∷ []) v ≡ u
@@ -53,7 +53,7 @@ all_taken us u v e =
     ap (λ (k : ℕ). take k (us ++ u ∷ [])) n ∙ take-length (us ++ u ∷ [])
 
 pub is_ticket : (d : DeskState) (t : NumberedUpdate) (us : List Update) (u : Update) → updates_in d t.blob ≡ us ++ u ∷ [] → t.version ≡ length us + 1 → t.snapshot.page_size ≡ d.page_size
-    → u.caller ≡ t.caller → joined t.pages.pages ≡ u.bytes → StandsFor t (extents (us ++ u ∷ [])) → IsTicketOf d t
+    → u.caller ≡ t.caller → bytes_of_pages t.pages.pages ≡ u.bytes → StandsFor t (extents (us ++ u ∷ [])) → IsTicketOf d t
 is_ticket d t us u is version page caller bytes stands =
     let v : ℕ = t.version in
     let last : update_at (updates_in d t.blob) v ≡ u = ap (λ (l : List Update). update_at l v) is ∙ last_update us u v version in

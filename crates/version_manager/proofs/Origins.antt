@@ -10,7 +10,7 @@ use Rattle.blob_model.specs.declared.call.Event.{Event}
 use Rattle.branching.specs.Parents.{origin_of}
 use Rattle.branching.specs.declared.Parent.{Parent}
 use Rattle.branching.proofs.Parents.{origin_older, origin_past, origin_own, origin_shared}
-use Rattle.node_store.specs.Rows.{UpdateRow}
+use Rattle.node_store.specs.UpdateRows.{UpdateRow}
 use Rattle.publisher.specs.Windows.{Numbered, leading, window_on, version_of, with_numbered, with_finished}
 use Rattle.snapshot.specs.Versions.{older_version, under_blob}
 use Rattle.tree_geom.specs.declared.touch.Touch.{Touch}

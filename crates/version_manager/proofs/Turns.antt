@@ -8,8 +8,8 @@ use Rattle.blob_model.specs.declared.call.Call.TheVariants as Calls
 use Rattle.blob_model.specs.declared.call.Event.{Event}
 use Rattle.blob_model.specs.declared.call.Outcome.{Outcome}
 use Rattle.blob_model.specs.declared.call.Outcome.TheVariants as Outcomes
-use Rattle.page_store.specs.Stored.{Cut, joined}
-use Rattle.node_store.specs.Rows.{UpdateRow}
+use Rattle.page_store.specs.Stored.{Cut, bytes_of_pages}
+use Rattle.node_store.specs.UpdateRows.{UpdateRow}
 use Rattle.snapshot.specs.Versions.{Version, IsRowOf, IsVersionIn, size_now}
 use Rattle.snapshot.specs.Laws.{TellUpdates}
 use Rattle.border_hints.specs.Numbered.{NumberedUpdate}
@@ -118,7 +118,7 @@ new_ticket d d' caller blob pages (Err x) e numbering same hints ticket open_ = 
 new_ticket d d' caller blob pages (Ok t) e numbering same hints ticket open_ = record {
   caller_is = numbering.caller;
   blob_is = numbering.blob;
-  len = numbering.len ∙ ap (λ (q : Cut). length (joined q.pages)) same;
+  len = numbering.len ∙ ap (λ (q : Cut). length (bytes_of_pages q.pages)) same;
   pages_are = same;
   hints = subst (λ (s : DeskState). HasHints s blob t) (sym (at_now d)) (bare_hints d blob t hints);
   ticket = subst (λ (s : DeskState). IsTicketOf s t) (sym (at_after d d' e)) (bare_ticket d' t ticket);

@@ -5,7 +5,7 @@ use Rattle.blob_model.specs.Limits.{Bounds, IsWithin}
 use Rattle.blob_model.specs.Store.{Blob, assigned, waiting, size_now, size_with}
 use Rattle.blob_model.specs.declared.call.Place.{Place}
 use Rattle.publisher.specs.Windows.{Numbered}
-use Rattle.version_manager.specs.Kept.{Keeps}
+use Rattle.version_manager.specs.DeskInvariant.{Keeps}
 
 -- the blob that the window keeps takes an update of these bytes there: no reason stands against it
 pub record Takes (limits : Bounds) (w : Numbered) (b : Blob) (place : Place) (bytes : List ℕ) : Type 0 where

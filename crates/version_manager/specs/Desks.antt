@@ -12,8 +12,8 @@ use Rattle.blob_model.specs.declared.call.Refusal.{Refusal}
 use Rattle.range_log.specs.Extents.{touches}
 use Rattle.range_log.specs.Updates.{update_at, extents}
 use Rattle.page_store.specs.House.{House}
-use Rattle.page_store.specs.Stored.{joined}
-use Rattle.node_store.specs.Rows.{UpdateRow, IsRowIn}
+use Rattle.page_store.specs.Stored.{bytes_of_pages}
+use Rattle.node_store.specs.UpdateRows.{UpdateRow, IsRowIn}
 use Rattle.snapshot.specs.Versions.{IsRowOf, IsVersionIn}
 use Rattle.snapshot.specs.Laws.{TellUpdates}
 use Rattle.border_hints.specs.Numbered.{NumberedUpdate, StandsFor}
@@ -107,7 +107,7 @@ pub record IsNumbering (d : DeskState) (who on : ℕ) (t : NumberedUpdate) : Typ
   pub caller : t.caller ≡ who
   pub blob : t.blob ≡ on
   pub version : t.version ≡ length (updates_in d on) + 1
-  pub len : t.len ≡ length (joined t.pages.pages)
+  pub len : t.len ≡ length (bytes_of_pages t.pages.pages)
   pub snapshot : t.snapshot ≡ version_of (window_in d on)
   pub waiting : t.waiting ≡ waiting_of (window_in d on)
 
@@ -117,7 +117,7 @@ pub record IsTicketOf (d : DeskState) (t : NumberedUpdate) : Type 0 where
   pub numbered : t.version ≤ length (updates_in d t.blob)
   pub caller : (update_at (updates_in d t.blob) t.version).caller ≡ t.caller
   pub stands : StandsFor t (extents (take t.version (updates_in d t.blob)))
-  pub bytes : joined t.pages.pages ≡ (update_at (updates_in d t.blob) t.version).bytes
+  pub bytes : bytes_of_pages t.pages.pages ≡ (update_at (updates_in d t.blob) t.version).bytes
 
 -- the row is that of the ticket's update
 abbrev pub IsRowFor : DeskState → NumberedUpdate → UpdateRow → Type 0

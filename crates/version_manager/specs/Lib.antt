@@ -1,7 +1,7 @@
 pub mod Blobs
 pub mod Desks
 pub mod Entries
-pub mod Kept
+pub mod DeskInvariant
 pub mod Laws
 pub mod Log
 pub mod Origins

@@ -1,7 +1,7 @@
 -- A desk's history as a list of entries, each with its caller, and what the acts on a desk do to it.
 use Rattle.std.specs.Prelude.{◌≡◌, ℕ, ◌<◌, ◌≤◌, ◌^◌, ◌++◌, true, false, List, [], ◌∷◌, map, length, IfOk, IfErr, Result}
-use Rattle.page_store.specs.Stored.{Cut, joined, LieAmong}
-use Rattle.node_store.specs.Rows.{UpdateRow, IsRowIn}
+use Rattle.page_store.specs.Stored.{Cut, bytes_of_pages, LieAmong}
+use Rattle.node_store.specs.UpdateRows.{UpdateRow, IsRowIn}
 use Rattle.snapshot.specs.Versions.{Version, IsVersionIn, size_now}
 use Rattle.snapshot.specs.Laws.{TellUpdates}
 use Rattle.blob_model.specs.History.{caller_of, IsLegal}
@@ -63,8 +63,8 @@ pub record Changed {A E : Type 0} (f : DeskFixed) (call : Call) (event : Event) 
 
 -- what a numbering needs
 pub record MayAssign (pages : Cut) (f : DeskFixed) : Type 0 where
-  pub some : 1 ≤ length (joined pages.pages)
-  pub few : length (joined pages.pages) ≤ 1048576
+  pub some : 1 ≤ length (bytes_of_pages pages.pages)
+  pub few : length (bytes_of_pages pages.pages) ≤ 1048576
   pub page_size : pages.page_size ≡ f.page_size
   pub here : LieAmong f.houses pages.pages
 
@@ -72,7 +72,7 @@ pub record MayAssign (pages : Cut) (f : DeskFixed) : Type 0 where
 pub record IsNewTicket (f : DeskFixed) (blob caller : ℕ) (pages : Cut) (before after : List (ℕ × Event)) (t : NumberedUpdate) : Type 0 where
   pub caller_is : t.caller ≡ caller
   pub blob_is : t.blob ≡ blob
-  pub len : t.len ≡ length (joined pages.pages)
+  pub len : t.len ≡ length (bytes_of_pages pages.pages)
   pub pages_are : t.pages ≡ pages
   pub hints : HasHints (desk_at f before) blob t
   pub ticket : IsTicketOf (desk_at f after) t

@@ -4,7 +4,7 @@ use Rattle.blob_model.specs.declared.call.Event.{Event}
 use Rattle.blob_model.specs.declared.call.Event.TheVariants as Events
 use Rattle.branching.specs.Parents.{origin_of}
 use Rattle.branching.specs.declared.Parent.{Parent}
-use Rattle.node_store.specs.Rows.{UpdateRow}
+use Rattle.node_store.specs.UpdateRows.{UpdateRow}
 use Rattle.publisher.specs.Windows.{Numbered}
 
 -- ---- where a version was numbered

@@ -6,7 +6,7 @@ use Rattle.range_log.specs.Updates.{update_at, extents, no_update}
 use Rattle.range_log.proofs.Growth.{rows_stay, extents_grow}
 use Rattle.snapshot.proofs.Growing.{IsRowOf-longer}
 use Rattle.border_hints.specs.Numbered.{NumberedUpdate, StandsFor}
-use Rattle.node_store.specs.Rows.{UpdateRow}
+use Rattle.node_store.specs.UpdateRows.{UpdateRow}
 use Rattle.blob_model.specs.Content.{Update}
 use Rattle.blob_model.specs.Store.{Store, Blob, blob_at, empty_store}
 use Rattle.blob_model.specs.History.{store_of}

@@ -50,7 +50,7 @@ pub struct Assign<'a> {
 impl Act<Desk> for Assign<'_> {
     ghost use Rattle.std.specs.Prelude.{IfOk};
     ghost use Rattle.std.specs.Arc.{arc_value};
-    ghost use Rattle.page_store.specs.Stored.{joined};
+    ghost use Rattle.page_store.specs.Stored.{bytes_of_pages};
     ghost use Rattle.blob_model.specs.declared.call.Call.TheVariants as Calls;
     ghost use Rattle.blob_model.specs.declared.call.Event.TheVariants as Events;
     ghost use Rattle.blob_model.specs.declared.call.Outcome.TheVariants as Outcomes;
@@ -60,7 +60,7 @@ impl Act<Desk> for Assign<'_> {
 
     ghost ready = { λ a _ f. MayAssign (arc_value a.pages.now) f };
 
-    ghost gives = { λ a before f by said after. let bytes = joined (arc_value a.pages.now).pages in
+    ghost gives = { λ a before f by said after. let bytes = bytes_of_pages (arc_value a.pages.now).pages in
         Changed f (Calls.Assign a.blob a.place bytes) (Events.Assign by a.blob a.place bytes) (λ t. Outcomes.Assigned t.version t.at t.size) (λ fault. fault) before by said after
         × IfOk said (λ t. IsNewTicket f a.blob by (arc_value a.pages.now) before after t) };
 

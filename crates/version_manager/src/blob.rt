@@ -6,13 +6,13 @@ ghost use Rattle.blob_model.specs.Limits.{Bounds};
 ghost use Rattle.blob_model.specs.Store.{Store, Blob, assigned, size_now, size_with, and_update, branch_of};
 ghost use Rattle.blob_model.specs.Answer.{first_refusal};
 ghost use Rattle.range_log.specs.Updates.{extents};
-ghost use Rattle.page_store.specs.Stored.{joined};
+ghost use Rattle.page_store.specs.Stored.{bytes_of_pages};
 ghost use Rattle.snapshot.specs.Versions.{IsVersion, under_blob, older_version};
 ghost use Rattle.border_hints.specs.Numbered.{own_touch, StandsFor};
 ghost use Rattle.publisher.specs.Windows.{window_on, version_of, waiting_of, published_of, with_numbered};
 ghost use Rattle.version_manager.specs.Desks.{OnRefused};
 ghost use Rattle.version_manager.specs.Blobs.{Takes};
-ghost use Rattle.version_manager.specs.Kept.{Keeps, update_tests};
+ghost use Rattle.version_manager.specs.DeskInvariant.{Keeps, update_tests};
 
 use crate::fault::DeskFault;
 use blob_model::{Limits, Place, Refusal};
@@ -90,25 +90,25 @@ pub(crate) fn ticket_over(
     window: &Window,
 ) -> Result<Ticket, DeskFault>
     requires kept { (b : Blob) × Keeps limits window.now b }
-    requires some { 1 ≤ length (joined (arc_value pages.now).pages) }
-    requires few { length (joined (arc_value pages.now).pages) ≤ 1048576 }
+    requires some { 1 ≤ length (bytes_of_pages (arc_value pages.now).pages) }
+    requires few { length (bytes_of_pages (arc_value pages.now).pages) ≤ 1048576 }
     requires page_size { (arc_value pages.now).page_size ≡ window.now.page_size }
     ensures refused { (b : Blob) → Keeps limits window.now b
-        → IfErr result (λ fault. OnRefused fault (λ refusal. first_refusal (update_tests limits b place (joined (arc_value pages.now).pages)) ≡ Some refusal)) }
-    ensures accepted { (b : Blob) → Keeps limits window.now b → IfOk result (λ _. first_refusal (update_tests limits b place (joined (arc_value pages.now).pages)) ≡ None) }
+        → IfErr result (λ fault. OnRefused fault (λ refusal. first_refusal (update_tests limits b place (bytes_of_pages (arc_value pages.now).pages)) ≡ Some refusal)) }
+    ensures accepted { (b : Blob) → Keeps limits window.now b → IfOk result (λ _. first_refusal (update_tests limits b place (bytes_of_pages (arc_value pages.now).pages)) ≡ None) }
     ensures version { (b : Blob) → Keeps limits window.now b → IfOk result (λ t. t.version ≡ assigned b + 1) }
     ensures at { (b : Blob) → Keeps limits window.now b → IfOk result (λ t. t.at ≡ offset_of place (size_now b)) }
-    ensures size { (b : Blob) → Keeps limits window.now b → IfOk result (λ t. t.size ≡ size_with b place (joined (arc_value pages.now).pages)) }
+    ensures size { (b : Blob) → Keeps limits window.now b → IfOk result (λ t. t.size ≡ size_with b place (bytes_of_pages (arc_value pages.now).pages)) }
     ensures caller { IfOk result (λ t. t.caller ≡ caller) }
     ensures blob { IfOk result (λ t. t.blob ≡ window.now.blob) }
-    ensures len { IfOk result (λ t. t.len ≡ length (joined (arc_value pages.now).pages)) }
+    ensures len { IfOk result (λ t. t.len ≡ length (bytes_of_pages (arc_value pages.now).pages)) }
     ensures published { IfOk result (λ t. IsVersion t.snapshot) }
     ensures snapshot { IfOk result (λ t. t.snapshot ≡ version_of window.now) }
     ensures waiting { IfOk result (λ t. t.waiting ≡ waiting_of window.now) }
     ensures pages { IfOk result (λ t. t.pages ≡ arc_value pages.now) }
-    ensures stands { (b : Blob) (u : Update) → Keeps limits window.now b → u.place ≡ place → u.bytes ≡ joined (arc_value pages.now).pages
+    ensures stands { (b : Blob) (u : Update) → Keeps limits window.now b → u.place ≡ place → u.bytes ≡ bytes_of_pages (arc_value pages.now).pages
         → IfOk result (λ t. StandsFor t (extents (b.updates ++ u ∷ []))) }
-    ensures kept { (b : Blob) (u : Update) → Keeps limits window.now b → u.place ≡ place → u.bytes ≡ joined (arc_value pages.now).pages
+    ensures kept { (b : Blob) (u : Update) → Keeps limits window.now b → u.place ≡ place → u.bytes ≡ bytes_of_pages (arc_value pages.now).pages
         → IfOk result (λ t. Keeps limits (with_numbered window.now (own_touch t)) (and_update b u)) }
     ensures few { IfOk result (λ _. length window.now.log < published_of window.now + 64) }
     ensures room { IfOk result (λ _. length window.now.log < 1048576) }
@@ -130,18 +130,18 @@ fn next_ticket(
     pages: &Arc<Pages>,
     window: &Window,
 ) -> Result<Ticket, NoMemory>
-    requires takes { (limits : Bounds) × (b : Blob) × Takes limits window.now b place (joined (arc_value pages.now).pages) }
+    requires takes { (limits : Bounds) × (b : Blob) × Takes limits window.now b place (bytes_of_pages (arc_value pages.now).pages) }
     requires page_size { (arc_value pages.now).page_size ≡ window.now.page_size }
     ensures caller { IfOk result (λ t. t.caller ≡ caller) }
     ensures blob { IfOk result (λ t. t.blob ≡ window.now.blob) }
     ensures version { IfOk result (λ t. t.version ≡ length window.now.log + 1) }
-    ensures len { IfOk result (λ t. t.len ≡ length (joined (arc_value pages.now).pages)) }
+    ensures len { IfOk result (λ t. t.len ≡ length (bytes_of_pages (arc_value pages.now).pages)) }
     ensures published { IfOk result (λ t. IsVersion t.snapshot) }
     ensures snapshot { IfOk result (λ t. t.snapshot ≡ version_of window.now) }
     ensures waiting { IfOk result (λ t. t.waiting ≡ waiting_of window.now) }
     ensures pages { IfOk result (λ t. t.pages ≡ arc_value pages.now) }
     ensures at { (limits : Bounds) (b : Blob) → Keeps limits window.now b → IfOk result (λ t. t.at ≡ offset_of place (size_now b)) }
-    ensures size { (limits : Bounds) (b : Blob) → Keeps limits window.now b → IfOk result (λ t. t.size ≡ size_with b place (joined (arc_value pages.now).pages)) }
+    ensures size { (limits : Bounds) (b : Blob) → Keeps limits window.now b → IfOk result (λ t. t.size ≡ size_with b place (bytes_of_pages (arc_value pages.now).pages)) }
 {
     let size = size_of_last(window);
     let at = offset_in(place, size);

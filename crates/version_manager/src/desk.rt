@@ -2,8 +2,8 @@
 ghost use Rattle.std.specs.Prelude.{◌≡◌, ℕ, ◌-◌, ◌^◌, ◌<◌, ◌≤◌, true, false, List, [], ◌∷◌, ◌++◌};
 ghost use Rattle.std.specs.Prelude.{length, map, MatchOption, IfOk, IfErr, OnOk, OnErr, vec_len};
 ghost use Rattle.std.specs.Arc.{arc_value};
-ghost use Rattle.page_store.specs.Stored.{joined, LieAmong};
-ghost use Rattle.node_store.specs.Rows.{IsRowIn};
+ghost use Rattle.page_store.specs.Stored.{bytes_of_pages, LieAmong};
+ghost use Rattle.node_store.specs.UpdateRows.{IsRowIn};
 ghost use Rattle.border_hints.specs.Numbered.{own_touch};
 ghost use Rattle.publisher.specs.Windows.{version_of, window_on, with_numbered, with_finished};
 ghost use Rattle.snapshot.specs.Versions.{IsVersionIn, older_version, under_blob, size_now};
@@ -54,7 +54,7 @@ impl Model for Desk {
     ghost use Rattle.std.specs.Arc.{arc_value};
     ghost use Rattle.version_manager.specs.Desks.{DeskState};
     ghost use Rattle.version_manager.specs.Entries.{event_of};
-    ghost use Rattle.version_manager.specs.Kept.{IsDesk};
+    ghost use Rattle.version_manager.specs.DeskInvariant.{IsDesk};
 
     ghost Value = { DeskState };
 
@@ -154,20 +154,20 @@ impl Desk {
         place: Place,
         pages: &Arc<Pages>,
     ) -> Result<Ticket, DeskFault>
-        requires some { 1 ≤ length (joined (arc_value pages.now).pages) }
-        requires few { length (joined (arc_value pages.now).pages) ≤ 1048576 }
+        requires some { 1 ≤ length (bytes_of_pages (arc_value pages.now).pages) }
+        requires few { length (bytes_of_pages (arc_value pages.now).pages) ≤ 1048576 }
         requires page_size { (arc_value pages.now).page_size ≡ self.old.page_size }
         requires here { LieAmong self.old.houses (arc_value pages.now).pages }
-        ensures assigned { IfOk result (λ t. outcome_now self.old caller (Calls.Assign blob place (joined (arc_value pages.now).pages)) ≡ Outcomes.Assigned t.version t.at t.size) }
+        ensures assigned { IfOk result (λ t. outcome_now self.old caller (Calls.Assign blob place (bytes_of_pages (arc_value pages.now).pages)) ≡ Outcomes.Assigned t.version t.at t.size) }
         ensures numbering { IfOk result (λ t. IsNumbering self.old caller blob t) }
         ensures hints { IfOk result (λ t. HasHints self.old blob t) }
         ensures pages { IfOk result (λ t. t.pages ≡ arc_value pages.now) }
         ensures ticket { IfOk result (λ t. IsTicketOf self.new t) }
-        ensures new { IfOk result (λ t. self.new ≡ with_event self.old (Events.Assign caller blob place (joined (arc_value pages.now).pages))
+        ensures new { IfOk result (λ t. self.new ≡ with_event self.old (Events.Assign caller blob place (bytes_of_pages (arc_value pages.now).pages))
             (windows_with self.old blob (with_numbered (window_in self.old blob) (own_touch t)))) }
         ensures unfinished { IfOk result (λ t. IsUnfinished self.new blob t.version) }
         ensures refused { IfErr result (λ fault. OnRefused fault (λ refusal.
-            outcome_now self.old caller (Calls.Assign blob place (joined (arc_value pages.now).pages)) ≡ Outcomes.Refused refusal)) }
+            outcome_now self.old caller (Calls.Assign blob place (bytes_of_pages (arc_value pages.now).pages)) ≡ Outcomes.Refused refusal)) }
         ensures same { IfErr result (λ _. self.new ≡ self.old) }
     {
         let Some(place_in) = place_of(&self.windows, blob) else {
@@ -220,8 +220,8 @@ impl Desk {
     {
         let blob = ticket.blob();
         let version = ticket.version();
-        let place = (blob - 1) as usize;
-        let window = &self.windows[place];
+        let index = (blob - 1) as usize;
+        let window = &self.windows[index];
         let _assigned = window.assigned();
         if window.is_finished(version) {
             return Err((DeskFault::Refused(Refusal::Already { version }), row));
@@ -232,7 +232,7 @@ impl Desk {
         if self.history.reserve(1).is_err() {
             return Err((DeskFault::NoMemory, row));
         }
-        match self.windows[place].finish(version, row) {
+        match self.windows[index].finish(version, row) {
             Ok(published) => {
                 self.history.push_reserved(Entry {
                     caller,
@@ -253,10 +253,10 @@ impl Desk {
         ensures refused { IfErr result (λ fault. OnRefused fault (λ refusal. outcome_now self.old caller (Calls.Branch blob version) ≡ Outcomes.Refused refusal)) }
         ensures same { IfErr result (λ _. self.new ≡ self.old) }
     {
-        let Some(place) = place_of(&self.windows, blob) else {
+        let Some(index) = index_of(&self.windows, blob) else {
             return Err(DeskFault::Refused(Refusal::NoBlob { blob }));
         };
-        let parent = &self.windows[place];
+        let parent = &self.windows[index];
         let published = parent.published();
         if version > published {
             return Err(DeskFault::Refused(Refusal::NotPublished { version, published }));
@@ -296,8 +296,8 @@ impl Desk {
         ensures here { IfOk result (λ s. IsVersionIn self.now.houses s) }
         ensures origins { IfOk result (λ s. LieUnderOrigins self.now.history blob s.rows) }
     {
-        match place_of(&self.windows, blob) {
-            Some(place) => snapshot_in(&self.windows[place], version),
+        match index_of(&self.windows, blob) {
+            Some(index) => snapshot_in(&self.windows[index], version),
             None => Err(DeskFault::Refused(Refusal::NoBlob { blob })),
         }
     }
@@ -306,8 +306,8 @@ impl Desk {
     pub fn recent(&self, blob: u64) -> Outcome
         ensures { (caller : ℕ) → result ≡ outcome_now self.now caller (Calls.Recent blob) }
     {
-        match place_of(&self.windows, blob) {
-            Some(place) => recent_in(&self.windows[place]),
+        match index_of(&self.windows, blob) {
+            Some(index) => recent_in(&self.windows[index]),
             None => Outcome::Refused(Refusal::NoBlob { blob }),
         }
     }
@@ -316,8 +316,8 @@ impl Desk {
     pub fn size(&self, blob: u64, version: u64) -> Outcome
         ensures { (caller : ℕ) → result ≡ outcome_now self.now caller (Calls.Size blob version) }
     {
-        match place_of(&self.windows, blob) {
-            Some(place) => size_in(&self.windows[place], version),
+        match index_of(&self.windows, blob) {
+            Some(index) => size_in(&self.windows[index], version),
             None => Outcome::Refused(Refusal::NoBlob { blob }),
         }
     }
@@ -326,8 +326,8 @@ impl Desk {
     pub fn sync(&self, blob: u64, version: u64) -> Outcome
         ensures { (caller : ℕ) → result ≡ outcome_now self.now caller (Calls.Sync blob version) }
     {
-        match place_of(&self.windows, blob) {
-            Some(place) => sync_in(&self.windows[place], version),
+        match index_of(&self.windows, blob) {
+            Some(index) => sync_in(&self.windows[index], version),
             None => Outcome::Refused(Refusal::NoBlob { blob }),
         }
     }
@@ -336,16 +336,16 @@ impl Desk {
     pub fn status(&self, blob: u64) -> Outcome
         ensures { (caller : ℕ) → result ≡ outcome_now self.now caller (Calls.Status blob) }
     {
-        match place_of(&self.windows, blob) {
-            Some(place) => status_in(&self.windows[place]),
+        match index_of(&self.windows, blob) {
+            Some(index) => status_in(&self.windows[index]),
             None => Outcome::Refused(Refusal::NoBlob { blob }),
         }
     }
 }
 
-// The place of a blob's window, if the blob is there.
-fn place_of(windows: &Vec<Window>, blob: u64) -> Option<usize>
-    ensures { MatchOption result (1 ≤ blob → vec_len windows.now < blob) (λ place. (place ≡ blob - 1) × (1 ≤ blob) × (blob ≤ vec_len windows.now)) }
+// The index of a blob's window, if the blob is there.
+fn index_of(windows: &Vec<Window>, blob: u64) -> Option<usize>
+    ensures { MatchOption result (1 ≤ blob → vec_len windows.now < blob) (λ index. (index ≡ blob - 1) × (1 ≤ blob) × (blob ≤ vec_len windows.now)) }
 {
     if blob == 0 || blob > windows.len() as u64 {
         return None;

@@ -9,7 +9,7 @@ ghost use Rattle.publisher.specs.Windows.{published_of, version_of};
 ghost use Rattle.snapshot.specs.Laws.{TellUpdates};
 ghost use Rattle.snapshot.specs.Versions.{older_version, size_now};
 ghost use Rattle.version_manager.specs.Desks.{OnRefused};
-ghost use Rattle.version_manager.specs.Kept.{Keeps};
+ghost use Rattle.version_manager.specs.DeskInvariant.{Keeps};
 
 use crate::fault::DeskFault;
 use blob_model::{Outcome, Refusal};

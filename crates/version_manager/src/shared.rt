@@ -1,7 +1,7 @@
 //! A desk that threads share: each call is one turn of one lock.
 ghost use Rattle.std.specs.Prelude.{◌≡◌, ◌≤◌, ◌<◌, ◌+◌, ◌++◌, [], ◌∷◌, ℕ, length, Some, IfOk, IfErr, IfSome, OnOk, OnErr, IsErr, ◌↔◌, Contains};
 ghost use Rattle.std.specs.Arc.{arc_value};
-ghost use Rattle.page_store.specs.Stored.{joined};
+ghost use Rattle.page_store.specs.Stored.{bytes_of_pages};
 ghost use Rattle.blob_model.specs.declared.call.Call.TheVariants as Calls;
 ghost use Rattle.blob_model.specs.declared.call.Event.TheVariants as Events;
 ghost use Rattle.blob_model.specs.declared.call.Outcome.TheVariants as Outcomes;
@@ -140,7 +140,7 @@ impl SharedDesk {
         requires pass { pass.old.lock ≡ self.now }
         requires ready { IfSome pass.old.fixed (λ f. MayAssign (arc_value pages.now) f) }
         ensures pass { pass.new ≡ record pass.old { seen = pass.new.seen } }
-        ensures turned { let bytes = joined (arc_value pages.now).pages in let by = pass.old.caller in
+        ensures turned { let bytes = bytes_of_pages (arc_value pages.now).pages in let by = pass.old.caller in
             Turned (λ before f after.
             Changed f (Calls.Assign blob place bytes) (Events.Assign by blob place bytes) (λ t. Outcomes.Assigned t.version t.at t.size) (λ fault. fault) before by result after
             × IfOk result (λ t. IsNewTicket f blob by (arc_value pages.now) before after t)) pass.old pass.new }

@@ -10,8 +10,8 @@ use Rattle.range_log.specs.Log.{size_at}
 use Rattle.range_log.specs.Rows.{row_of}
 use Rattle.range_log.specs.Updates.{extents}
 use Rattle.range_log.specs.Laws.{TouchesAre, EachTouchIs, SizesAre, ExtentsStand}
-use Rattle.page_store.specs.Stored.{joined}
-use Rattle.node_store.specs.Rows.{UpdateRow}
+use Rattle.page_store.specs.Stored.{bytes_of_pages}
+use Rattle.node_store.specs.UpdateRows.{UpdateRow}
 use Rattle.snapshot.specs.Versions.{IsRowOf}
 use Rattle.snapshot.specs.Laws.{OwnRowsStay}
 use Rattle.border_hints.specs.Numbered.{NumberedUpdate, own_touch, IsNumbered}
@@ -35,7 +35,7 @@ module _ (are : TouchesAre) (each : EachTouchIs) (sizes : SizesAre) (stand : Ext
       ∙ size_told each sizes stand b.window.page_size us (length us) is.stands.replayable (omega arith)
 
   pub numbered_blob : (b : OneBlob) → IsOneBlob b → (s : Start) (len size : ℕ) (touch : Touch) (w : Numbered) (touches : List Touch) (starts : List Start)
-      → s.pages.page_size ≡ b.window.page_size → len ≡ length (joined s.pages.pages) → 1 ≤ len → s.at ≤ size_at b.touches (length b.touches)
+      → s.pages.page_size ≡ b.window.page_size → len ≡ length (bytes_of_pages s.pages.pages) → 1 ≤ len → s.at ≤ size_at b.touches (length b.touches)
       → size ≡ max (size_at b.touches (length b.touches)) (s.at + len) → size ≤ 2 ^ 40 → touch ≡ touched_by b.window.page_size s.at len size
       → w ≡ with_numbered b.window touch → touches ≡ b.touches ++ touch ∷ [] → starts ≡ b.starts ++ s ∷ [] → IsOneBlob (blob_of w touches starts)
   numbered_blob b is s len size touch w touches starts alike long some begins whole fits is_touch w_is touches_are starts_are =

@@ -12,9 +12,9 @@ use Rattle.range_log.specs.Log.{size_at}
 use Rattle.range_log.specs.Extents.{Extent, IsLog, touches}
 use Rattle.range_log.specs.Updates.{update_at, no_update, extent_of, extents, Replayable}
 use Rattle.range_log.specs.Laws.{TouchesAre, EachTouchIs, SizesAre, RowsStay, ExtentsGrow, ExtentsStand}
-use Rattle.page_store.specs.Stored.{joined}
+use Rattle.page_store.specs.Stored.{bytes_of_pages}
 use Rattle.snapshot.specs.Versions.{Version, older_version}
-use Rattle.border_hints.specs.Numbered.{log_of, log_with, numbered}
+use Rattle.border_hints.specs.Numbered.{log_of, log_with, numbered_update}
 use Rattle.publisher.specs.Windows.{version_of, opens_from}
 use Rattle.publisher.specs.Laws.{PublishedLogIs}
 use Rattle.weaver_tests.specs.Blobs.{OneBlob, IsOneBlob, Start, update_of, updates_in, IsTicketOf}
@@ -37,7 +37,7 @@ pub record IsPicked (b : OneBlob) (from i : ℕ) (s : Start) (snap : Version) (o
   pub own : s ≡ slice_index_or b.starts i s
   pub taken : snap ≡ older_version (version_of b.window) from
   pub waits : opens ≡ opens_from (from + 1) (take (i - from) (drop from b.touches))
-  pub long : len ≡ length (joined s.pages.pages)
+  pub long : len ≡ length (bytes_of_pages s.pages.pages)
   pub touched : touch ≡ slice_index_or b.touches i touch
 
 module _ (are : TouchesAre) (each : EachTouchIs) (sizes : SizesAre) (stay : RowsStay) (grow : ExtentsGrow) (stand : ExtentsStand) (logs : PublishedLogIs) where
@@ -157,9 +157,9 @@ module _ (are : TouchesAre) (each : EachTouchIs) (sizes : SizesAre) (stay : Rows
         let P : Start → Type 0 = λ x. x.pages.page_size ≡ p in
         subst P (sym f.own) (is.cut i s f.within) ∙ sym page
 
-    pub is_ticket : (caller blob version : ℕ) → version ≡ suc i → IsTicketOf b (numbered caller blob version s.at len size snap opens s.pages)
+    pub is_ticket : (caller blob version : ℕ) → version ≡ suc i → IsTicketOf b (numbered_update caller blob version s.at len size snap opens s.pages)
     is_ticket caller blob version e =
-        let T : ℕ → Type 0 = λ v. IsTicketOf b (numbered caller blob v s.at len size snap opens s.pages) in
+        let T : ℕ → Type 0 = λ v. IsTicketOf b (numbered_update caller blob v s.at len size snap opens s.pages) in
         let within : suc i ≤ length us = omega (arith, count, f.within) in
         subst T (sym e) record {
           some = omega arith;

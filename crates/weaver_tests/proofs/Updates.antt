@@ -10,7 +10,7 @@ use Rattle.range_log.specs.Log.{touch_at, size_at}
 use Rattle.range_log.specs.Extents.{Extent, extent_at, size_after, touches}
 use Rattle.range_log.specs.Updates.{update_at, no_update, extent_of, extents, Replayable}
 use Rattle.range_log.specs.Laws.{TouchesAre, EachTouchIs, SizesAre, RowsStay, ExtentsGrow, ExtentsStand}
-use Rattle.page_store.specs.Stored.{joined}
+use Rattle.page_store.specs.Stored.{bytes_of_pages}
 use Rattle.publisher.specs.Laws.{IsNext}
 use Rattle.weaver_tests.specs.Blobs.{Start, update_of}
 use Rattle.range_log.proofs.Bytes.{length-extents, extent_is}
@@ -39,10 +39,10 @@ pub replayable_first : (us : List Update) (k : ℕ) → Replayable us → Replay
 replayable_first us k ok = replayable_front (take k us) (drop k us) (subst Replayable (sym (take-append-drop k us)) ok)
 
 -- the extent of one update more
-extent_of_next : (us : List Update) (s : Start) → extent_of (us ++ update_of s ∷ []) (suc (length us)) ≡ record { at = s.at; len = length (joined s.pages.pages) }
+extent_of_next : (us : List Update) (s : Start) → extent_of (us ++ update_of s ∷ []) (suc (length us)) ≡ record { at = s.at; len = length (bytes_of_pages s.pages.pages) }
 extent_of_next us s = ap (λ u. placed_at u (size_of (us ++ update_of s ∷ []) (length us))) (get_or-append_seam us (update_of s) [] no_update)
 
-replayable_next : (us : List Update) (s : Start) → Replayable us → s.at ≤ size_of us (length us) → 1 ≤ length (joined s.pages.pages) → Replayable (us ++ update_of s ∷ [])
+replayable_next : (us : List Update) (s : Start) → Replayable us → s.at ≤ size_of us (length us) → 1 ≤ length (bytes_of_pages s.pages.pages) → Replayable (us ++ update_of s ∷ [])
 replayable_next us s ok begins some k lt =
     let all : List Update = us ++ update_of s ∷ [] in
     let P : Extent → ℕ → Type 0 = λ x n. Begins x n in
@@ -65,7 +65,7 @@ size_with size x = max size (x.at + x.len)
 
 module _ (are : TouchesAre) (each : EachTouchIs) (stand : ExtentsStand) where
   -- one update more is the next one
-  pub is_next : (p : ℕ) (us : List Update) (s : Start) (len size : ℕ) (touch : Touch) → Replayable us → s.at ≤ size_of us (length us) → len ≡ length (joined s.pages.pages) → 1 ≤ len
+  pub is_next : (p : ℕ) (us : List Update) (s : Start) (len size : ℕ) (touch : Touch) → Replayable us → s.at ≤ size_of us (length us) → len ≡ length (bytes_of_pages s.pages.pages) → 1 ≤ len
       → size ≡ max (size_of us (length us)) (s.at + len) → size ≤ 2 ^ 40 → touch ≡ touched_by p s.at len size → IsNext p us (update_of s) touch
   is_next p us s len size touch ok begins long some whole fits is =
       let all : List Update = us ++ update_of s ∷ [] in

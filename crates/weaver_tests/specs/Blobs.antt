@@ -5,7 +5,7 @@ use Rattle.blob_model.specs.declared.call.Place.TheVariants.{WriteAt}
 use Rattle.tree_geom.specs.declared.touch.Touch.{Touch}
 use Rattle.tree_geom.specs.Geometry.{IsPageSize}
 use Rattle.range_log.specs.Updates.{update_at, extents}
-use Rattle.page_store.specs.Stored.{Cut, joined}
+use Rattle.page_store.specs.Stored.{Cut, bytes_of_pages}
 use Rattle.border_hints.specs.Numbered.{NumberedUpdate, StandsFor as TicketStandsFor}
 use Rattle.publisher.specs.Windows.{Numbered, StandsFor}
 
@@ -22,7 +22,7 @@ pub record OneBlob : Type 0 where
 
 -- the update that begins so
 abbrev pub update_of : Start → Update
-update_of s = record { caller = 0; place = WriteAt s.at; bytes = joined s.pages.pages }
+update_of s = record { caller = 0; place = WriteAt s.at; bytes = bytes_of_pages s.pages.pages }
 
 -- the updates of the blob
 abbrev pub updates_in : OneBlob → List Update
@@ -42,4 +42,4 @@ pub record IsTicketOf (b : OneBlob) (t : NumberedUpdate) : Type 0 where
   pub numbered : t.version ≤ length b.starts
   pub page_size : t.snapshot.page_size ≡ b.window.page_size
   pub stands : TicketStandsFor t (extents (take t.version (updates_in b)))
-  pub bytes : joined t.pages.pages ≡ (update_at (take t.version (updates_in b)) t.version).bytes
+  pub bytes : bytes_of_pages t.pages.pages ≡ (update_at (take t.version (updates_in b)) t.version).bytes

@@ -3,7 +3,7 @@ ghost use Rattle.std.specs.Prelude.{◌≡◌, ◌+◌, ◌-◌, ◌<◌, ◌≤
 ghost use Rattle.tree_geom.specs.declared.touch.Touch.{Touch};
 ghost use Rattle.range_log.specs.Rows.{row_of};
 ghost use Rattle.range_log.specs.Updates.{extents};
-ghost use Rattle.page_store.specs.Stored.{joined};
+ghost use Rattle.page_store.specs.Stored.{bytes_of_pages};
 ghost use Rattle.publisher.specs.Windows.{opens_from};
 
 use crate::pages::store;
@@ -128,7 +128,7 @@ impl Blob {
     /// Numbers the update that begins at byte `at` and has these pages.
     fn number(&mut self, alloc: Global, at: u64, pages: Pages) -> Result<u64, Fail>
         requires page_size { pages.page_size ≡ self.old.window.page_size }
-        requires some { 1 ≤ length (joined pages.pages) }
+        requires some { 1 ≤ length (bytes_of_pages pages.pages) }
     {
         range_log::laws::logs_are_grown();
         range_log::laws::page_bytes_stay();
@@ -184,13 +184,13 @@ impl Blob {
         if published >= version || version - published > 65 || published > latest.version() {
             return Err("not published, or too long ago".into());
         }
-        let place = version as usize - 1;
+        let index = version as usize - 1;
         let snapshot = latest.at(published)?;
-        let waiting = open_between(alloc, &self.touches, published as usize, place)?;
-        let begun = &self.begun[place];
+        let waiting = open_between(alloc, &self.touches, published as usize, index)?;
+        let begun = &self.begun[index];
         let pages = Arc::try_clone(&begun.pages)?;
         let len = pages.len();
-        let size = self.touches[place].size;
+        let size = self.touches[index].size;
         let hints = Hints { snapshot, waiting };
         Ok(Ticket::of(1, 1, version, begun.at, len, size, hints, pages))
     }

@@ -1,6 +1,6 @@
 //! Stored pages of zeros.
 ghost use Rattle.std.specs.Prelude.{◌≡◌, ◌≤◌, length, IfOk};
-ghost use Rattle.page_store.specs.Stored.{joined};
+ghost use Rattle.page_store.specs.Stored.{bytes_of_pages};
 
 use page_store::{PageHouse, Pages, StoredPage};
 use std::alloc::Global;
@@ -19,7 +19,7 @@ pub fn store(
     requires some { 1 ≤ length bytes.now }
     requires few { length bytes.now ≤ 1048576 }
     ensures page_size { IfOk result (λ pages. pages.page_size ≡ p) }
-    ensures some { IfOk result (λ pages. 1 ≤ length (joined pages.pages)) }
+    ensures some { IfOk result (λ pages. 1 ≤ length (bytes_of_pages pages.pages)) }
 {
     let size = p.bytes() as usize;
     let full = (bytes.len() - 1) / size;

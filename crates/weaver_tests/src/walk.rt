@@ -98,9 +98,9 @@ impl Walk {
         if count == 0 {
             return Ok(());
         }
-        let place = self.roll(count) as usize;
-        if place < self.held.len() {
-            let (version, published) = self.held.swap_remove(place);
+        let index = self.roll(count) as usize;
+        if index < self.held.len() {
+            let (version, published) = self.held.swap_remove(index);
             let _ = self.blob.finish(alloc, version, published)?;
         }
         Ok(())

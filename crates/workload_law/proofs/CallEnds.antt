@@ -10,9 +10,9 @@ use Rattle.blob_model.specs.declared.call.Outcome.TheVariants as Outcomes
 use Rattle.blob_model.specs.declared.call.Place.{Place}
 use Rattle.blob_model.specs.declared.call.Refusal.{Refusal}
 use Rattle.blob_model.specs.declared.call.Refusal.TheVariants as Refusals
-use Rattle.request_form.specs.Session.{Fixed, Held, Session, sees, outcome_at}
+use Rattle.request_form.specs.Session.{Fixed, HeldTicket, Session, sees, outcome_at}
 use Rattle.request_form.specs.Replies.{fault_of}
-use Rattle.request_form.specs.Answers.{Updated, CreateAnswer, UpdateAnswer, ReportAnswer, LookAnswer, Kept}
+use Rattle.request_form.specs.Answers.{Updated, CreateAnswer, UpdateAnswer, ReportAnswer, LookAnswer, TicketKept}
 use Rattle.request_form.specs.declared.form.Reply.{Reply}
 use Rattle.request_form.specs.declared.form.Reply.TheVariants as Replies
 use Rattle.request_form.specs.declared.form.Fault.{Fault}
@@ -148,7 +148,7 @@ module _ (s : Session) (blob : ℕ) (place : Place) (bytes : List ℕ) (done : �
   by_refusal others gap (Refusals.Pending v h) refused said seen = other_refusal others gap (Refusals.Pending v h) (λ limit same. cc) refused said seen
 
   -- numbered, and held under a ticket
-  kept_ends : Kept AllOther s blob place bytes reply s' → UpdateEnds s blob place bytes done reply s'
+  kept_ends : TicketKept AllOther s blob place bytes reply s' → UpdateEnds s blob place bytes done reply s'
   kept_ends k =
       let this : Event = Events.Assign s.caller blob place bytes in
       let goes : Goes s (k.others ++ this ∷ k.later) s' = record {
@@ -241,7 +241,7 @@ left_others : (s : Session) (others : List Event) (s' : Session) → AllOther s.
 left_others s others s' gap goes =
     left s s' [] others goes (gap_has_none s.caller s.seen others gap ∙ sym (append-nil (events_by s.caller s.seen))) (gap_stays s.fixed.limits s.caller s.seen others gap)
 
-pub reports_leave : (s : Session) (ticket : Held) (reply : Reply) (s' : Session) → IsNumberedBy s.fixed.limits s.seen s.caller ticket.blob ticket.version → ReportAnswer AllOther s ticket reply s'
+pub reports_leave : (s : Session) (ticket : HeldTicket) (reply : Reply) (s' : Session) → IsNumberedBy s.fixed.limits s.seen s.caller ticket.blob ticket.version → ReportAnswer AllOther s ticket reply s'
     → Leaves s [] s' ⊎ Leaves s (Events.Finish s.caller ticket.blob ticket.version ∷ []) s'
 reports_leave s ticket reply s' numbered (ReportAnswer.reported r) =
     let finish : Event = Events.Finish s.caller ticket.blob ticket.version in
@@ -261,4 +261,4 @@ stops_later s mid s' blob place bytes first same (StopsAt.numbered l t) =
 stops_later s mid s' blob place bytes first same (StopsAt.held l number version n t) =
     StopsAt.held (leaves_add s mid s' [] (Events.Assign s.caller blob place bytes ∷ []) first (subst (λ (c : ℕ). Leaves mid (Events.Assign c blob place bytes ∷ []) s') first.caller l)) number version
     (subst (λ (f : Fixed). IsNumberedBy f.limits s'.seen s.caller blob version) first.fixed (subst (λ (c : ℕ). IsNumberedBy mid.fixed.limits s'.seen c blob version) first.caller n))
-    (t ∙ ap (λ (l : List Held). l ++ record { number = number; blob = blob; version = version } ∷ []) same)
+    (t ∙ ap (λ (l : List HeldTicket). l ++ record { number = number; blob = blob; version = version } ∷ []) same)

@@ -35,11 +35,11 @@ pub cell_length : (seed worker op : ℕ) → length (cell_of seed worker op) ≡
 unfolding cell_of
 cell_length seed worker op = length-map-range_with_len (cell_byte seed worker op) 0 16
 
-pub cell_at : (seed worker op place : ℕ) → place < 16 → get_or (cell_of seed worker op) place 0 ≡ cell_byte seed worker op place
+pub cell_at : (seed worker op index : ℕ) → index < 16 → get_or (cell_of seed worker op) index 0 ≡ cell_byte seed worker op index
 unfolding cell_of
-cell_at seed worker op place within = get_or-map-range_with_len (cell_byte seed worker op) 0 16 place place 0 within (omega arith)
+cell_at seed worker op index within = get_or-map-range_with_len (cell_byte seed worker op) 0 16 index index 0 within (omega arith)
 
-cell_sum : (seed worker op : ℕ) → sum (cell_of seed worker op) ≡ sum_by (λ place. cell_byte seed worker op place) (range_with_len 0 16)
+cell_sum : (seed worker op : ℕ) → sum (cell_of seed worker op) ≡ sum_by (λ index. cell_byte seed worker op index) (range_with_len 0 16)
 unfolding cell_of
 cell_sum seed worker op = sum-map (cell_byte seed worker op) (range_with_len 0 16)
 
@@ -63,27 +63,27 @@ grid_length plan =
     let n = length-range_with_len 0 plan.ops in
     e ∙ (ap (λ (k : ℕ). k * (plan.workers * 16)) n ∙ omega arith)
 
-row_at : (plan : LoadPlan) (op column place : ℕ) → column < plan.workers → place < 16 → get_or (row plan op) (column * 16 + place) 0 ≡ cell_byte plan.seed (1 + column) op place
+row_at : (plan : LoadPlan) (op column index : ℕ) → column < plan.workers → index < 16 → get_or (row plan op) (column * 16 + index) 0 ≡ cell_byte plan.seed (1 + column) op index
 unfolding row
-row_at plan op column place short within =
+row_at plan op column index short within =
     let cells : ℕ → List ℕ = λ worker. cell_of plan.seed worker op in
-    even_at cells 16 (λ worker. cell_length plan.seed worker op) (range_with_len 1 plan.workers) column place 0 (omega (arith, length-range_with_len 1 plan.workers)) within
-    ∙ (ap (λ (w : ℕ). get_or (cell_of plan.seed w op) place 0) (get_or-range_with_len 1 plan.workers column 0 short) ∙ cell_at plan.seed (1 + column) op place within)
+    even_at cells 16 (λ worker. cell_length plan.seed worker op) (range_with_len 1 plan.workers) column index 0 (omega (arith, length-range_with_len 1 plan.workers)) within
+    ∙ (ap (λ (w : ℕ). get_or (cell_of plan.seed w op) index 0) (get_or-range_with_len 1 plan.workers column 0 short) ∙ cell_at plan.seed (1 + column) op index within)
 
-pub grid_at : (plan : LoadPlan) (op column place : ℕ) → op < plan.ops → column < plan.workers → place < 16
-    → get_or (grid_bytes plan) (16 * (op * plan.workers + column) + place) 0 ≡ cell_byte plan.seed (1 + column) op place
+pub grid_at : (plan : LoadPlan) (op column index : ℕ) → op < plan.ops → column < plan.workers → index < 16
+    → get_or (grid_bytes plan) (16 * (op * plan.workers + column) + index) 0 ≡ cell_byte plan.seed (1 + column) op index
 unfolding grid_bytes
-grid_at plan op column place few short within =
-    let e : 16 * (op * plan.workers + column) + place ≡ op * (plan.workers * 16) + (column * 16 + place) = omega arith in
-    let inside : column * 16 + place < plan.workers * 16 = omega arith in
+grid_at plan op column index few short within =
+    let e : 16 * (op * plan.workers + column) + index ≡ op * (plan.workers * 16) + (column * 16 + index) = omega arith in
+    let inside : column * 16 + index < plan.workers * 16 = omega arith in
     ap (λ (k : ℕ). get_or (flat_map (row plan) (range_with_len 0 plan.ops)) k 0) e
-    ∙ (even_at (row plan) (plan.workers * 16) (row_length plan) (range_with_len 0 plan.ops) op (column * 16 + place) 0 (omega (arith, length-range_with_len 0 plan.ops)) inside
-    ∙ (ap (λ (o : ℕ). get_or (row plan o) (column * 16 + place) 0) (get_or-range_with_len 0 plan.ops op 0 few ∙ omega arith) ∙ row_at plan op column place short within))
+    ∙ (even_at (row plan) (plan.workers * 16) (row_length plan) (range_with_len 0 plan.ops) op (column * 16 + index) 0 (omega (arith, length-range_with_len 0 plan.ops)) inside
+    ∙ (ap (λ (o : ℕ). get_or (row plan o) (column * 16 + index) 0) (get_or-range_with_len 0 plan.ops op 0 few ∙ omega arith) ∙ row_at plan op column index short within))
 
 pub grid_sum : (plan : LoadPlan) → sum (grid_bytes plan) ≡ cells_sum plan
 unfolding grid_bytes row cells_sum
 grid_sum plan =
-    let Cells : ℕ → ℕ → ℕ = λ worker op. sum_by (λ place. cell_byte plan.seed worker op place) (range_with_len 0 16) in
+    let Cells : ℕ → ℕ → ℕ = λ worker op. sum_by (λ index. cell_byte plan.seed worker op index) (range_with_len 0 16) in
     sum_flat_map (row plan) (range_with_len 0 plan.ops)
     ∙ (sum_by-same (λ op. sum (row plan op)) (λ op. sum_by (λ worker. Cells worker op) (range_with_len 1 plan.workers)) (range_with_len 0 plan.ops)
     (λ op. sum_flat_map (λ worker. cell_of plan.seed worker op) (range_with_len 1 plan.workers)

@@ -1,4 +1,4 @@
-mod Worked
+mod WorkedExamples
 pub mod Sums
 pub mod Parts
 pub mod Blobs

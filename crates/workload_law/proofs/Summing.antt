@@ -23,8 +23,8 @@ use Rattle.workload_law.proofs.Grid.{grid_bytes, grid_length, grid_sum, cell_len
 use Rattle.workload_law.proofs.Cells.{window, cell_fits, cell_is, cell_written, has_cell}
 use Rattle.workload_law.proofs.Records.{record_length, is_by_worker, by_worker, bytes_of_records, all_in_order}
 
-abbrev pub joined : List Update → List ℕ
-joined us = flat_map (λ u. u.bytes) us
+abbrev pub bytes_of_updates : List Update → List ℕ
+bytes_of_updates us = flat_map (λ u. u.bytes) us
 
 pub whole_content : (us : List Update) → content us (length us) ≡ content_from [] us
 whole_content us = ap (λ (l : List Update). content_from [] l) (take_all (length us) us (omega arith))
@@ -37,21 +37,21 @@ module _ (plan : LoadPlan) (us : List Update) (small : plan.workers < 2 ^ 64) (m
   log_appends : All (Appends 16) us
   log_appends = begun_all _ _ _ _ us (begun_of _ _ _ _ us merged) (Appends 16) (λ worker op from to few. record { place = refl; sized = record_length worker op })
 
-  log_content : content us (length us) ≡ joined us
+  log_content : content us (length us) ≡ bytes_of_updates us
   log_content = whole_content us ∙ appended 16 [] us log_appends
 
   log_count : length us ≡ all_ops plan
   log_count = merged_length _ _ _ _ us merged
 
-  log_length : length (joined us) ≡ 16 * all_ops plan
+  log_length : length (bytes_of_updates us) ≡ 16 * all_ops plan
   log_length = appended_length 16 us log_appends ∙ ap (λ (n : ℕ). 16 * n) log_count
 
-  log_pieces : pieces 16 (length (joined us) / 16) (joined us) ≡ map (λ u. u.bytes) us
+  log_pieces : pieces 16 (length (bytes_of_updates us) / 16) (bytes_of_updates us) ≡ map (λ u. u.bytes) us
   log_pieces =
-      let e : length (joined us) / 16 ≡ length us = ap (λ (n : ℕ). n / 16) (appended_length 16 us log_appends) ∙ divided (length us) in
-      ap (λ (n : ℕ). pieces 16 n (joined us)) e ∙ appended_pieces 16 us log_appends
+      let e : length (bytes_of_updates us) / 16 ≡ length us = ap (λ (n : ℕ). n / 16) (appended_length 16 us log_appends) ∙ divided (length us) in
+      ap (λ (n : ℕ). pieces 16 n (bytes_of_updates us)) e ∙ appended_pieces 16 us log_appends
 
-  log_records : (worker : ℕ) → 1 ≤ worker → worker ≤ plan.workers → records_by worker (joined us) ≡ records_of worker plan.ops
+  log_records : (worker : ℕ) → 1 ≤ worker → worker ≤ plan.workers → records_by worker (bytes_of_updates us) ≡ records_of worker plan.ops
   log_records worker from to =
       ap (λ (l : List (List ℕ)). filter (is_by worker) l) log_pieces
       ∙ (by_worker worker us
@@ -83,7 +83,7 @@ module _ (plan : LoadPlan) (us : List Update) (merged : IsMerged (λ (u : Update
 -- ---- the two blobs
 module _ (plan : LoadPlan) (log : Blob) (us : List Update) (small : plan.workers < 2 ^ 64) (merged : IsMerged (λ (u : Update). u.caller) plan.workers plan.ops log_update us)
     (updates : log.updates ≡ us) where
-  log_holds : content log.updates (assigned log) ≡ joined us
+  log_holds : content log.updates (assigned log) ≡ bytes_of_updates us
   log_holds = ap (λ (l : List Update). content l (length l)) updates ∙ log_content plan us small merged
 
   log_assigned : assigned log ≡ all_ops plan
@@ -107,7 +107,7 @@ is_done : (plan : LoadPlan) (log grid : Blob) (us vs : List Update) → plan.wor
     → IsMerged (λ (u : Update). u.caller) plan.workers plan.ops log_update us → IsMerged (λ (u : Update). u.caller) plan.workers plan.ops (cell_update plan) vs
     → log.updates ≡ us → grid.updates ≡ first_update plan ∷ vs → published log ≡ assigned log → published grid ≡ assigned grid → IsDone plan log grid
 is_done plan log grid us vs small logged filled log_is grid_is log_out grid_out =
-    let log_has : content log.updates (assigned log) ≡ joined us = log_holds plan log us small logged log_is in
+    let log_has : content log.updates (assigned log) ≡ bytes_of_updates us = log_holds plan log us small logged log_is in
     let grid_has : content grid.updates (assigned grid) ≡ grid_bytes plan = grid_holds plan grid vs filled grid_is in
     let log_sized : size_now log ≡ 16 * all_ops plan = ap (λ (l : List ℕ). length l) log_has ∙ log_length plan us small logged in
     let grid_sized : size_now grid ≡ 16 * all_ops plan = ap (λ (l : List ℕ). length l) grid_has ∙ grid_length plan in

@@ -10,7 +10,7 @@ use Rattle.blob_model.specs.declared.call.Event.TheVariants as Events
 use Rattle.blob_model.specs.declared.call.Outcome.TheVariants as Outcomes
 use Rattle.blob_model.specs.declared.call.Place.{Place}
 use Rattle.blob_model.specs.declared.call.Refusal.{Refusal}
-use Rattle.request_form.specs.Session.{Session, Held}
+use Rattle.request_form.specs.Session.{Session, HeldTicket}
 use Rattle.request_form.specs.Replies.{fault_of}
 use Rattle.request_form.specs.Answers.{Updated, CreateAnswer, UpdateAnswer, ReportAnswer, LookAnswer}
 use Rattle.request_form.specs.declared.form.Reply.{Reply}
@@ -113,5 +113,5 @@ LooksLeaveNone = (s : Session) (call : Call) (reply : Reply) (s' : Session) → 
 
 -- the report of an update that the session numbered leaves its finish, or nothing
 abbrev pub ReportsLeave : Type 0
-ReportsLeave = (s : Session) (ticket : Held) (reply : Reply) (s' : Session) → IsNumberedBy s.fixed.limits s.seen s.caller ticket.blob ticket.version → ReportAnswer AllOther s ticket reply s'
+ReportsLeave = (s : Session) (ticket : HeldTicket) (reply : Reply) (s' : Session) → IsNumberedBy s.fixed.limits s.seen s.caller ticket.blob ticket.version → ReportAnswer AllOther s ticket reply s'
     → Leaves s [] s' ⊎ Leaves s (Events.Finish s.caller ticket.blob ticket.version ∷ []) s'

@@ -19,8 +19,8 @@ pub fn cell(seed: u64, worker: u64, op: u64) -> [u8; 16]
 {
     let first = seed % 256 + worker % 256 + op % 256;
     let mut piece = [0; 16];
-    for place in 0..16 {
-        piece[place] = ((first + place as u64) % 256) as u8;
+    for index in 0..16 {
+        piece[index] = ((first + index as u64) % 256) as u8;
     }
     piece
 }

@@ -7,7 +7,7 @@ use Rattle.std.proofs.lemmas.List.Sums.{sum_by-append, sum_by-cons}
 use Rattle.std.proofs.lemmas.List.Elements.{Contains-append_left, Contains-push}
 use Rattle.blob_model.specs.declared.call.Event.{Event}
 use Rattle.turn_lock.specs.History.{entries_by, Begins}
-use Rattle.turn_lock.specs.Shown.{Owned}
+use Rattle.turn_lock.specs.Shown.{OwnerView}
 use Rattle.turn_lock.proofs.Histories.{begins_both}
 use Rattle.version_manager.specs.declared.journal.DeskFixed.{DeskFixed}
 use Rattle.request_form.specs.declared.form.Fault.{Fault}
@@ -83,7 +83,7 @@ module _ {D : Type 0} where
   -- ---- one more ends
 
   -- The workers from the last down to some have ended, and the others are left.
-  pub record Ending (faults : D → ℕ) (store : StoreState) (old new : Owned Event DeskFixed) (before after : ℕ) (all left : List (WorkerState D)) (stop : Option Fault) : Type 0 where
+  pub record Ending (faults : D → ℕ) (store : StoreState) (old new : OwnerView Event DeskFixed) (before after : ℕ) (all left : List (WorkerState D)) (stop : Option Fault) : Type 0 where
     pub taken : List (WorkerState D)
     pub split : all ≡ left ++ taken
     pub of_store : AreOfStore store left
@@ -97,7 +97,7 @@ module _ {D : Type 0} where
     pub stop_is : stop ≡ first_stop taken
     pub counted : min (before + sum_by (counted_by faults) all) (2 ^ 64 - 1) ≤ after + sum_by (counted_by faults) left
 
-  pub none_ended : (faults : D → ℕ) (store : StoreState) (owner : Owned Event DeskFixed) (count : ℕ) (all : List (WorkerState D)) → AreOfStore store all → Ending faults store owner owner count count all all None
+  pub none_ended : (faults : D → ℕ) (store : StoreState) (owner : OwnerView Event DeskFixed) (count : ℕ) (all : List (WorkerState D)) → AreOfStore store all → Ending faults store owner owner count count all all None
   none_ended faults store owner count all of_store = record {
     taken = [];
     split = sym (append-nil all);
@@ -113,7 +113,7 @@ module _ {D : Type 0} where
     counted = omega arith;
   }
 
-  module _ (faults : D → ℕ) (store : StoreState) (old mid new : Owned Event DeskFixed) (before between after : ℕ) (all left : List (WorkerState D)) (worker : WorkerState D) (stop : Option Fault)
+  module _ (faults : D → ℕ) (store : StoreState) (old mid new : OwnerView Event DeskFixed) (before between after : ℕ) (all left : List (WorkerState D)) (worker : WorkerState D) (stop : Option Fault)
       (ending : Ending faults store old mid before between all (left ++ worker ∷ []) stop)
       (counts : (mid.out ≡ new.out + 1) × (new ≡ record mid { out = new.out; seen = new.seen; kept = mid.kept ++ worker.session.caller ∷ [] }))
       (begins : Begins mid.seen new.seen × Begins worker.session.log new.seen)
@@ -124,7 +124,7 @@ module _ {D : Type 0} where
     caller_is = (each_last (λ place w. IsOfStore store place w) left worker ending.of_store).caller
 
     kept_is : new.kept ≡ mid.kept ++ worker.session.caller ∷ []
-    kept_is = ap (λ (o : Owned Event DeskFixed). o.kept) counts.1
+    kept_is = ap (λ (o : OwnerView Event DeskFixed). o.kept) counts.1
 
     kept_on : (c : ℕ) → Contains mid.kept c → Contains new.kept c
     kept_on c k = subst (λ (l : List ℕ). Contains l c) (sym kept_is) (Contains-append_left mid.kept (worker.session.caller ∷ []) c k)
@@ -154,14 +154,14 @@ module _ {D : Type 0} where
       kept = each_cons (λ place w. Contains new.kept (w.number + 1)) ending.taken worker kept_own (λ place d within. kept_on ((slice_index_or ending.taken place d).number + 1) (ending.kept place d within));
       kept_before = λ c k. kept_on c (ending.kept_before c k);
       stays = λ c k. others c (ending.kept_before c k) ∙ ending.stays c k;
-      made = ap (λ (o : Owned Event DeskFixed). o.made) counts.1 ∙ ending.made;
+      made = ap (λ (o : OwnerView Event DeskFixed). o.made) counts.1 ∙ ending.made;
       out = omega (arith, ending.out, counts.0);
       seen = begins_both old.seen mid.seen new.seen ending.seen begins.0;
       stop_is = stopped ∙ ap (λ (s : Option Fault). stop_or worker.told s) ending.stop_is;
       counted = omega (arith, ending.counted, sum_left, doors);
     }
 
-  module _ (faults : D → ℕ) (store : StoreState) (old new : Owned Event DeskFixed) (before after : ℕ) (all left : List (WorkerState D)) (stop : Option Fault)
+  module _ (faults : D → ℕ) (store : StoreState) (old new : OwnerView Event DeskFixed) (before after : ℕ) (all left : List (WorkerState D)) (stop : Option Fault)
       (ending : Ending faults store old new before after all left stop) (none : length left ≡ 0) where
     all_taken : all ≡ ending.taken
     all_taken = ending.split ∙ ap (λ (l : List (WorkerState D)). l ++ ending.taken) (no_items left none)

@@ -7,7 +7,7 @@ use Rattle.blob_model.specs.Limits.{greatest}
 use Rattle.blob_model.specs.History.{IsLegal, events_by, caller_of}
 use Rattle.blob_model.specs.declared.call.Event.{Event}
 use Rattle.turn_lock.specs.History.{IsUngiven, LacksUngiven}
-use Rattle.turn_lock.specs.Shown.{Owned}
+use Rattle.turn_lock.specs.Shown.{OwnerView}
 use Rattle.version_manager.specs.declared.journal.DeskFixed.{DeskFixed}
 use Rattle.version_manager.specs.Log.{tagged, events}
 use Rattle.version_manager.specs.Laws.{EntriesAreEvents}
@@ -63,7 +63,7 @@ one_given (suc zero) differs = absurd (differs refl)
 one_given (suc (suc n)) differs = inr (omega arith)
 
 module _ (are : EntriesAreEvents) (plan : LoadPlan) (sized : IsSized plan) where
-  pub half_opened : NothingElseHindersOpenings → (fault : Fault) (owner : Owned Event DeskFixed) → IsHalfOpened plan fault owner
+  pub half_opened : NothingElseHindersOpenings → (fault : Fault) (owner : OwnerView Event DeskFixed) → IsHalfOpened plan fault owner
       → LacksUngiven owner.made owner.seen → IsLegal greatest (events owner.seen) → owner.seen ≡ tagged (events owner.seen) → IsOutside fault
   half_opened nothing fault owner half lacks legal tags =
       let others : (other : ℕ) → other ≢ 1 → events_by other (events owner.seen) ≡ [] =
@@ -81,7 +81,7 @@ module _ (alone : SeenAlone) (first_is : OpeningsAreFirst) (plan : LoadPlan) (fi
       let legal_all : IsLegal greatest (opened_with plan version ++ later) = subst (λ (h : List Event). IsLegal greatest h) (split ∙ ap (λ (l : List Event). l ++ later) all) legal in
       all ∙ ap (λ (v : ℕ). opened_with plan v) (first_is plan version later legal_all)
 
-module _ (plan : LoadPlan) (first : List Event) (owner : Owned Event DeskFixed) (come : HaveCome plan first owner) where
+module _ (plan : LoadPlan) (first : List Event) (owner : OwnerView Event DeskFixed) (come : HaveCome plan first owner) where
   abbrev history_of : List Event
   history_of = events owner.seen
 
@@ -123,14 +123,14 @@ module _ (plan : LoadPlan) (first : List Event) (owner : Owned Event DeskFixed) 
     is_load all = record { later = come.opened.later; begins = begins_with; opened = opened_is; worked = all.done; only = only }
 
 -- callers that weren't given have no event
-pub only_theirs : EntriesAreEvents → (plan : LoadPlan) (owner : Owned Event DeskFixed) → owner.made ≡ plan.workers + 1 → LacksUngiven owner.made owner.seen → owner.seen ≡ tagged (events owner.seen)
+pub only_theirs : EntriesAreEvents → (plan : LoadPlan) (owner : OwnerView Event DeskFixed) → owner.made ≡ plan.workers + 1 → LacksUngiven owner.made owner.seen → owner.seen ≡ tagged (events owner.seen)
     → OnlyTheirs plan.workers (events owner.seen)
 only_theirs are plan owner made lacks tags caller whose_not =
     none_by are owner.seen caller tags (lacks caller (subst (λ (n : ℕ). IsUngiven n caller) (sym made) whose_not))
 
 -- ---- the last look
 
-module _ (plan : LoadPlan) (first : List Event) (old new : Owned Event DeskFixed) (told : Result Summary Fault) (all : HaveDone plan first old) (look : HasLooked plan old told new) where
+module _ (plan : LoadPlan) (first : List Event) (old new : OwnerView Event DeskFixed) (told : Result Summary Fault) (all : HaveDone plan first old) (look : HasLooked plan old told new) where
   abbrev old_history : List Event
   old_history = events old.seen
 
@@ -182,18 +182,18 @@ module _ (plan : LoadPlan) (first : List Event) (old new : Owned Event DeskFixed
 -- ---- once the store is closed
 
 module _ (are : EntriesAreEvents) (plan : LoadPlan) (sized : IsSized plan) where
-  pub closes_unopened : NothingElseHindersOpenings → (fault : Fault) (owner : Owned Event DeskFixed) → IsOutside fault ⊎ IsHalfOpened plan fault owner → ClosesAs plan (Err fault) owner
+  pub closes_unopened : NothingElseHindersOpenings → (fault : Fault) (owner : OwnerView Event DeskFixed) → IsOutside fault ⊎ IsHalfOpened plan fault owner → ClosesAs plan (Err fault) owner
   closes_unopened nothing fault owner (inl outside) lacks legal tags = outside
   closes_unopened nothing fault owner (inr half) lacks legal tags = half_opened are plan sized nothing fault owner half lacks legal tags
 
-  module _ (alone : SeenAlone) (first_is : OpeningsAreFirst) (mid : Owned Event DeskFixed) (opened : IsOpened plan mid) where
-    pub closes_stopped : NothingElseHinders → OwnsStay → IdleOwnsAll → (fault : Fault) (owner : Owned Event DeskFixed) → IsOutside fault ⊎ HaveStopped plan (events mid.seen) fault owner
+  module _ (alone : SeenAlone) (first_is : OpeningsAreFirst) (mid : OwnerView Event DeskFixed) (opened : IsOpened plan mid) where
+    pub closes_stopped : NothingElseHinders → OwnsStay → IdleOwnsAll → (fault : Fault) (owner : OwnerView Event DeskFixed) → IsOutside fault ⊎ HaveStopped plan (events mid.seen) fault owner
         → ClosesAs plan (Err fault) owner
     closes_stopped nothing stay idle fault owner (inl outside) lacks legal tags = outside
     closes_stopped nothing stay idle fault owner (inr stop) lacks legal tags =
         stopped plan (events mid.seen) owner stop.come alone first_is (only_theirs are plan owner stop.come.made lacks tags) legal opened.version opened.opened nothing stay idle sized opened.own fault stop
 
-    module _ (no_others : NobodysAreNone) (read_back : LoadsReadBack) (old new : Owned Event DeskFixed) (all : HaveDone plan (events mid.seen) old) where
+    module _ (no_others : NobodysAreNone) (read_back : LoadsReadBack) (old new : OwnerView Event DeskFixed) (all : HaveDone plan (events mid.seen) old) where
       pub closes_looked : (summary : Summary) → HasLooked plan old (Ok summary) new → ClosesAs plan (Ok summary) new
       closes_looked summary look lacks legal tags =
           let first : List Event = events mid.seen in (

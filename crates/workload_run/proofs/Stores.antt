@@ -7,7 +7,7 @@ use Rattle.blob_model.specs.History.{events_by, store_of}
 use Rattle.blob_model.specs.declared.call.Event.{Event}
 use Rattle.ports.specs.Counts.{RoseBy}
 use Rattle.turn_lock.specs.History.{entries_by, Begins}
-use Rattle.turn_lock.specs.Shown.{Owned}
+use Rattle.turn_lock.specs.Shown.{OwnerView}
 use Rattle.version_manager.specs.declared.journal.DeskFixed.{DeskFixed}
 use Rattle.version_manager.specs.Log.{tagged, events}
 use Rattle.version_manager.specs.Laws.{EntriesAreEvents}
@@ -15,7 +15,7 @@ use Rattle.request_form.specs.Session.{Session}
 use Rattle.request_form.specs.Replies.{page_faults}
 use Rattle.request_form.specs.declared.form.Fault.{Fault}
 use Rattle.client_session.specs.Sessions.{StoreState, SessionState, session_of}
-use Rattle.client_session.specs.Tickets.{OpenUpdate, all_held}
+use Rattle.client_session.specs.Tickets.{OpenUpdate, tickets_of}
 use Rattle.store_sessions.specs.Made.{IsNewSession}
 use Rattle.workload_law.specs.declared.plan.LoadPlan.{LoadPlan}
 use Rattle.workload_law.specs.declared.plan.Summary.{Summary}
@@ -42,7 +42,7 @@ module _ {D : Type 0} (s : SessionState D) where
     caller = caller;
     limits = limits;
     none = none_by are s.log (worker + 1) tags none;
-    none_held = ap (λ (l : List OpenUpdate). all_held l) none_held;
+    none_held = ap (λ (l : List OpenUpdate). tickets_of l) none_held;
   }
 
 -- what a session has done that hadn't done anything
@@ -60,7 +60,7 @@ module _ (idle : IdleOwnsAll) (worker : ℕ) (s s' : Session) (fresh : IsFresh w
 
 -- ---- the opening
 
-module _ {D : Type 0} (are : EntriesAreEvents) (idle : IdleOwnsAll) (stay : OwnsStay) (plan : LoadPlan) (s s' : SessionState D) (fresh : IsFresh 0 (session_of s)) (owner : Owned Event DeskFixed)
+module _ {D : Type 0} (are : EntriesAreEvents) (idle : IdleOwnsAll) (stay : OwnsStay) (plan : LoadPlan) (s s' : SessionState D) (fresh : IsFresh 0 (session_of s)) (owner : OwnerView Event DeskFixed)
     (made : owner.made ≡ 1) (out : owner.out ≡ 0) (tags : owner.seen ≡ tagged (events owner.seen)) (begins : Begins s'.log owner.seen) (back : entries_by s'.caller owner.seen ≡ entries_by s'.caller s'.log) where
   first_back : (own : List Event) → HasDoneOwn (session_of s) own (session_of s') → CameBack 1 (events s'.log) (events owner.seen)
   first_back own did =
@@ -235,7 +235,7 @@ module _ {D : Type 0} (are : EntriesAreEvents) (faults : D → ℕ) (plan : Load
         early_at : (fault : Fault) → new_at.told ≡ Err fault → HasEndedEarly plan (place + 1) fault (session_of old_at.session) (session_of new_at.session)
         early_at fault told = subst (λ (t : Told). WorkEnds plan (place + 1) t (session_of old_at.session) (session_of new_at.session)) told ends_at
 
-      module _ (owner : Owned Event DeskFixed) (is : owner.seen ≡ seen) (made : owner.made ≡ plan.workers + 1) (out : owner.out ≡ 0)
+      module _ (owner : OwnerView Event DeskFixed) (is : owner.seen ≡ seen) (made : owner.made ≡ plan.workers + 1) (out : owner.out ≡ 0)
           (kept : (caller : ℕ) → 1 ≤ caller → caller ≤ plan.workers + 1 → Contains owner.kept caller) (opened : CameBack 1 (events log) (events owner.seen)) where
         pub have_come : HaveCome plan (events log) owner
         have_come = record {
@@ -311,7 +311,7 @@ all_kept kept workers first each (suc (suc place)) some last =
 -- ---- the last look
 
 module _ {D : Type 0} (are : EntriesAreEvents) (idle : IdleOwnsAll) (plan : LoadPlan) (sized : IsSized plan) (faults : D → ℕ) (store : StoreState) (limits : store.fixed.limits ≡ greatest)
-    (old new : Owned Event DeskFixed) (s s' : SessionState D) (fresh : IsNewSession faults store old s) (told : Result Summary Fault) (ends : SummaryEnds plan told (session_of s) (session_of s'))
+    (old new : OwnerView Event DeskFixed) (s s' : SessionState D) (fresh : IsNewSession faults store old s) (told : Result Summary Fault) (ends : SummaryEnds plan told (session_of s) (session_of s'))
     (tags : new.seen ≡ tagged (events new.seen)) (goes_on : Begins old.seen new.seen) (begins : Begins s'.log new.seen) (back : entries_by s'.caller new.seen ≡ entries_by s'.caller s'.log)
     (before : (caller : ℕ) → Contains old.kept caller → entries_by caller new.seen ≡ entries_by caller old.seen) where
   tags_old : old.seen ≡ tagged (events old.seen)
@@ -357,7 +357,7 @@ module _ {D : Type 0} (are : EntriesAreEvents) (idle : IdleOwnsAll) (plan : Load
 -- ---- sessions that were made by an owner and went back to it
 
 -- what going back leaves, from before the session was made
-pub record WentBack (caller : ℕ) (log : List (ℕ × Event)) (old new : Owned Event DeskFixed) : Type 0 where
+pub record WentBack (caller : ℕ) (log : List (ℕ × Event)) (old new : OwnerView Event DeskFixed) : Type 0 where
   pub made : new.made ≡ old.made + 1
   pub out : new.out ≡ old.out
   pub kept_own : Contains new.kept caller
@@ -366,17 +366,17 @@ pub record WentBack (caller : ℕ) (log : List (ℕ × Event)) (old new : Owned 
   pub back : entries_by caller new.seen ≡ entries_by caller log
   pub before : (c : ℕ) → Contains old.kept c → entries_by c new.seen ≡ entries_by c old.seen
 
-pub went_back : (caller : ℕ) (log : List (ℕ × Event)) (old mid new : Owned Event DeskFixed) → mid ≡ record old { made = old.made + 1; out = old.out + 1 }
+pub went_back : (caller : ℕ) (log : List (ℕ × Event)) (old mid new : OwnerView Event DeskFixed) → mid ≡ record old { made = old.made + 1; out = old.out + 1 }
     → (mid.out ≡ new.out + 1) × (new ≡ record mid { out = new.out; seen = new.seen; kept = mid.kept ++ caller ∷ [] }) → Begins mid.seen new.seen × Begins log new.seen
     → entries_by caller new.seen ≡ entries_by caller log → ((c : ℕ) → Contains mid.kept c → entries_by c new.seen ≡ entries_by c mid.seen) → WentBack caller log old new
 went_back caller log old mid new given counts begins own before =
-    let out : mid.out ≡ old.out + 1 = ap (λ (o : Owned Event DeskFixed). o.out) given in
-    let seen : mid.seen ≡ old.seen = ap (λ (o : Owned Event DeskFixed). o.seen) given in
-    let kept : mid.kept ≡ old.kept = ap (λ (o : Owned Event DeskFixed). o.kept) given in
+    let out : mid.out ≡ old.out + 1 = ap (λ (o : OwnerView Event DeskFixed). o.out) given in
+    let seen : mid.seen ≡ old.seen = ap (λ (o : OwnerView Event DeskFixed). o.seen) given in
+    let kept : mid.kept ≡ old.kept = ap (λ (o : OwnerView Event DeskFixed). o.kept) given in
     record {
-      made = ap (λ (o : Owned Event DeskFixed). o.made) counts.1 ∙ ap (λ (o : Owned Event DeskFixed). o.made) given;
+      made = ap (λ (o : OwnerView Event DeskFixed). o.made) counts.1 ∙ ap (λ (o : OwnerView Event DeskFixed). o.made) given;
       out = omega (arith, out, counts.0);
-      kept_own = subst (λ (l : List ℕ). Contains l caller) (sym (ap (λ (o : Owned Event DeskFixed). o.kept) counts.1)) (Contains-push mid.kept caller);
+      kept_own = subst (λ (l : List ℕ). Contains l caller) (sym (ap (λ (o : OwnerView Event DeskFixed). o.kept) counts.1)) (Contains-push mid.kept caller);
       goes_on = subst (λ (l : List (ℕ × Event)). Begins l new.seen) seen begins.0;
       begins = begins.1;
       back = own;
@@ -385,7 +385,7 @@ went_back caller log old mid new given counts begins own before =
 
 -- how the opening ended for the owner
 module _ {D : Type 0} (are : EntriesAreEvents) (idle : IdleOwnsAll) (stay : OwnsStay) (plan : LoadPlan) (faults : D → ℕ) (store : StoreState) (limits : store.fixed.limits ≡ greatest)
-    (old new : Owned Event DeskFixed) (s s' : SessionState D) (fresh : IsNewSession faults store old s) (caller : s'.caller ≡ s.caller) (went : WentBack s'.caller s'.log old new)
+    (old new : OwnerView Event DeskFixed) (s s' : SessionState D) (fresh : IsNewSession faults store old s) (caller : s'.caller ≡ s.caller) (went : WentBack s'.caller s'.log old new)
     (tags : new.seen ≡ tagged (events new.seen)) (none_made : old.made ≡ 0) (none_out : old.out ≡ 0) where
   tags_first : old.seen ≡ tagged (events old.seen)
   tags_first = tags_of_front old.seen new.seen went.goes_on tags
@@ -411,7 +411,7 @@ module _ {D : Type 0} (are : EntriesAreEvents) (idle : IdleOwnsAll) (stay : Owns
 
 -- how the last look ended for the owner
 module _ {D : Type 0} (are : EntriesAreEvents) (idle : IdleOwnsAll) (plan : LoadPlan) (sized : IsSized plan) (faults : D → ℕ) (store : StoreState) (limits : store.fixed.limits ≡ greatest)
-    (old new : Owned Event DeskFixed) (s s' : SessionState D) (fresh : IsNewSession faults store old s) (went : WentBack s'.caller s'.log old new) (tags : new.seen ≡ tagged (events new.seen)) where
+    (old new : OwnerView Event DeskFixed) (s s' : SessionState D) (fresh : IsNewSession faults store old s) (went : WentBack s'.caller s'.log old new) (tags : new.seen ≡ tagged (events new.seen)) where
   looked : (told : Result Summary Fault) → SummaryEnds plan told (session_of s) (session_of s') → HasLooked plan old told new
   looked told ends = has_looked are idle plan sized faults store limits old new s s' fresh told ends tags went.goes_on went.begins went.back went.before went.made went.out
 
@@ -422,32 +422,32 @@ module _ {D : Type 0} (are : EntriesAreEvents) (idle : IdleOwnsAll) (plan : Load
 -- ---- the whole crew
 
 module _ {D : Type 0} (are : EntriesAreEvents) (stay : OwnsStay) (plan : LoadPlan) (sized : IsSized plan) (faults : D → ℕ) (store : StoreState) (limits : store.fixed.limits ≡ greatest)
-    (first mid last : Owned Event DeskFixed) (opened : IsOpened plan first) (given : mid ≡ record first { made = first.made + plan.workers; out = first.out + plan.workers })
+    (first mid last : OwnerView Event DeskFixed) (opened : IsOpened plan first) (given : mid ≡ record first { made = first.made + plan.workers; out = first.out + plan.workers })
     (old new : List (WorkerState D)) (count : length old ≡ plan.workers) (same_count : length new ≡ length old) (ready : AreReady faults store first.seen old) (run : HaveRun faults plan old new)
     (tags : last.seen ≡ tagged (events last.seen)) (back : AreBack new last.seen) (before : (c : ℕ) → Contains mid.kept c → entries_by c last.seen ≡ entries_by c mid.seen)
     (kept_before : (c : ℕ) → Contains mid.kept c → Contains last.kept c) (kept : AreKept new last.kept) (made : last.made ≡ mid.made) (out : mid.out ≡ last.out + plan.workers)
     (begins : Begins mid.seen last.seen) where
   crew_begins : Begins first.seen last.seen
-  crew_begins = subst (λ (o : Owned Event DeskFixed). Begins o.seen last.seen) given begins
+  crew_begins = subst (λ (o : OwnerView Event DeskFixed). Begins o.seen last.seen) given begins
 
   crew_tags : first.seen ≡ tagged (events first.seen)
   crew_tags = tags_of_front first.seen last.seen crew_begins tags
 
   crew_made : last.made ≡ plan.workers + 1
-  crew_made = let is : mid.made ≡ first.made + plan.workers = ap (λ (o : Owned Event DeskFixed). o.made) given in omega (arith, made, is, opened.made)
+  crew_made = let is : mid.made ≡ first.made + plan.workers = ap (λ (o : OwnerView Event DeskFixed). o.made) given in omega (arith, made, is, opened.made)
 
   crew_out : last.out ≡ 0
-  crew_out = let is : mid.out ≡ first.out + plan.workers = ap (λ (o : Owned Event DeskFixed). o.out) given in omega (arith, out, is, opened.out)
+  crew_out = let is : mid.out ≡ first.out + plan.workers = ap (λ (o : OwnerView Event DeskFixed). o.out) given in omega (arith, out, is, opened.out)
 
   crew_before : (c : ℕ) → Contains first.kept c → entries_by c last.seen ≡ entries_by c first.seen
-  crew_before = subst (λ (o : Owned Event DeskFixed). (c : ℕ) → Contains o.kept c → entries_by c last.seen ≡ entries_by c o.seen) given before
+  crew_before = subst (λ (o : OwnerView Event DeskFixed). (c : ℕ) → Contains o.kept c → entries_by c last.seen ≡ entries_by c o.seen) given before
 
   crew_first : CameBack 1 (events first.seen) (events last.seen)
   crew_first = came_back are 1 first.seen last.seen tags crew_begins (crew_before 1 opened.kept)
 
   crew_kept : (caller : ℕ) → 1 ≤ caller → caller ≤ plan.workers + 1 → Contains last.kept caller
   crew_kept =
-      all_kept last.kept plan.workers (kept_before 1 (subst (λ (o : Owned Event DeskFixed). Contains o.kept 1) (sym given) opened.kept))
+      all_kept last.kept plan.workers (kept_before 1 (subst (λ (o : OwnerView Event DeskFixed). Contains o.kept 1) (sym given) opened.kept))
       (λ place within.
       let d = first_worker are faults plan sized store limits first.seen crew_tags old count ready in
       let there : place < length new = omega (arith, within, count, same_count) in

@@ -9,7 +9,7 @@ use Rattle.blob_model.specs.declared.call.Event.TheVariants as Events
 use Rattle.blob_model.specs.declared.call.Place.{Place}
 use Rattle.blob_model.specs.declared.call.Place.TheVariants.{WriteAt, Append}
 use Rattle.ports.specs.Counts.{RoseBy}
-use Rattle.request_form.specs.Session.{Fixed, Session, Held}
+use Rattle.request_form.specs.Session.{Fixed, Session, HeldTicket}
 use Rattle.request_form.specs.Answers.{Unless, UpdateAnswer, Updated, ReportAnswer, LookAnswer, Answers, update_fault, max_update, max_tickets}
 use Rattle.request_form.specs.HangUp.{GivenUp, GivesUp, HungUp}
 use Rattle.request_form.specs.declared.form.Request.TheVariants as Requests
@@ -155,14 +155,14 @@ pub leaves_same : (s : Session) → Leaves s [] s
 leaves_same s = record { more = []; seen = sym (append-nil s.seen); mine = sym (append-nil (events_by s.caller s.seen)); caller = refl; fixed = refl; finishes = λ was. was }
 
 -- the session's own finish, or nothing
-abbrev Reports : Session → Held → Session → Type 0
+abbrev Reports : Session → HeldTicket → Session → Type 0
 Reports s ticket s' = Leaves s [] s' ⊎ Leaves s (Events.Finish s.caller ticket.blob ticket.version ∷ []) s'
 
-reports_as : (s : Session) (ticket : Held) (a b : Session) → Reports s ticket a → b.seen ≡ a.seen → b.caller ≡ a.caller → b.fixed ≡ a.fixed → Reports s ticket b
+reports_as : (s : Session) (ticket : HeldTicket) (a b : Session) → Reports s ticket a → b.seen ≡ a.seen → b.caller ≡ a.caller → b.fixed ≡ a.fixed → Reports s ticket b
 reports_as s ticket a b (inl l) seen caller fixed = inl (leaves_as s [] a b l seen caller fixed)
 reports_as s ticket a b (inr l) seen caller fixed = inr (leaves_as s (Events.Finish s.caller ticket.blob ticket.version ∷ []) a b l seen caller fixed)
 
-given_up : ReportsLeave → (s : Session) (ticket : Held) (reply : Reply) (s' : Session) → IsNumberedBy s.fixed.limits s.seen s.caller ticket.blob ticket.version → GivenUp AllOther s ticket reply s' → Reports s ticket s'
+given_up : ReportsLeave → (s : Session) (ticket : HeldTicket) (reply : Reply) (s' : Session) → IsNumberedBy s.fixed.limits s.seen s.caller ticket.blob ticket.version → GivenUp AllOther s ticket reply s' → Reports s ticket s'
 given_up reports s ticket reply s' numbered (GivenUp.reported r) = reports s ticket reply s' numbered (ReportAnswer.reported r)
 given_up reports s ticket reply s' numbered (GivenUp.found_finished r) = reports s ticket reply s' numbered (ReportAnswer.finished r)
 given_up reports s ticket reply s' numbered (GivenUp.dropped d) =
@@ -173,7 +173,7 @@ gives_none : (s : Session) (replies : List Reply) (s' : Session) → GivesUp All
 gives_none s [] s' same = same
 gives_none s (reply ∷ replies) s' never = absurd never
 
-gives_one : ReportsLeave → (s : Session) (ticket : Held) (replies : List Reply) (s' : Session) → IsNumberedBy s.fixed.limits s.seen s.caller ticket.blob ticket.version
+gives_one : ReportsLeave → (s : Session) (ticket : HeldTicket) (replies : List Reply) (s' : Session) → IsNumberedBy s.fixed.limits s.seen s.caller ticket.blob ticket.version
     → GivesUp AllOther s (ticket ∷ []) replies s' → Reports s ticket s'
 gives_one reports s ticket [] s' numbered never = absurd never
 gives_one reports s ticket (reply ∷ replies) s' numbered gives =
@@ -183,15 +183,15 @@ gives_one reports s ticket (reply ∷ replies) s' numbered gives =
 module _ (s : Session) (finished no_memory : ℕ) (s' : Session) (up : HungUp AllOther s finished no_memory s') where
   hung_none : s.tickets ≡ [] → Leaves s [] s'
   hung_none none =
-      let same : up.mid ≡ s = gives_none s up.replies up.mid (subst (λ (l : List Held). GivesUp AllOther s l up.replies up.mid) none up.gives_up) in
+      let same : up.mid ≡ s = gives_none s up.replies up.mid (subst (λ (l : List HeldTicket). GivesUp AllOther s l up.replies up.mid) none up.gives_up) in
       leaves_as s [] s s' (leaves_same s)
       (ap (λ (x : Session). x.seen) up.anew ∙ ap (λ (x : Session). x.seen) same)
       (ap (λ (x : Session). x.caller) up.anew ∙ ap (λ (x : Session). x.caller) same)
       (ap (λ (x : Session). x.fixed) up.anew ∙ ap (λ (x : Session). x.fixed) same)
 
-  hung_one : ReportsLeave → (ticket : Held) → s.tickets ≡ ticket ∷ [] → IsNumberedBy s.fixed.limits s.seen s.caller ticket.blob ticket.version → Reports s ticket s'
+  hung_one : ReportsLeave → (ticket : HeldTicket) → s.tickets ≡ ticket ∷ [] → IsNumberedBy s.fixed.limits s.seen s.caller ticket.blob ticket.version → Reports s ticket s'
   hung_one reports ticket one numbered =
-      let gave : Reports s ticket up.mid = gives_one reports s ticket up.replies up.mid numbered (subst (λ (l : List Held). GivesUp AllOther s l up.replies up.mid) one up.gives_up) in
+      let gave : Reports s ticket up.mid = gives_one reports s ticket up.replies up.mid numbered (subst (λ (l : List HeldTicket). GivesUp AllOther s l up.replies up.mid) one up.gives_up) in
       reports_as s ticket up.mid s' gave (ap (λ (x : Session). x.seen) up.anew) (ap (λ (x : Session). x.caller) up.anew) (ap (λ (x : Session). x.fixed) up.anew)
 
 module _ (adds : LeavesAdd) (stay : HindrancesStay) (reports : ReportsLeave) (s : Session) (blob : ℕ) (place : Place) (bytes : List ℕ) (fault : Fault) (mid : Session) (finished no_memory : ℕ) (s' : Session)
@@ -208,7 +208,7 @@ module _ (adds : LeavesAdd) (stay : HindrancesStay) (reports : ReportsLeave) (s 
         (stay s.fixed.limits s.caller blob place bytes (s.seen ++ hindered.more) mid.seen second.more fault hindered.hindered);
   }
 
-  stopped_held : (ticket : Held) → ticket.blob ≡ blob → Leaves s (Events.Assign s.caller blob place bytes ∷ []) mid → Reports mid ticket s' → IsStopped s blob place bytes fault s'
+  stopped_held : (ticket : HeldTicket) → ticket.blob ≡ blob → Leaves s (Events.Assign s.caller blob place bytes ∷ []) mid → Reports mid ticket s' → IsStopped s blob place bytes fault s'
   stopped_held ticket is l (inl r) = stopped_with 0 (Events.Assign s.caller blob place bytes ∷ []) [] (Events.Finish s.caller blob 0 ∷ []) refl l r
   stopped_held ticket is l (inr r) =
       stopped_with ticket.version (Events.Assign s.caller blob place bytes ∷ []) (Events.Finish s.caller blob ticket.version ∷ []) [] refl l
@@ -219,8 +219,8 @@ module _ (adds : LeavesAdd) (stay : HindrancesStay) (reports : ReportsLeave) (s 
   stopped_at none up (StopsAt.numbered l t) =
       stopped_with 0 (Events.Assign s.caller blob place bytes ∷ []) [] (Events.Finish s.caller blob 0 ∷ []) refl l (hung_none mid finished no_memory s' up (t ∙ none))
   stopped_at none up (StopsAt.held l number version n t) =
-      let ticket : Held = record { number = number; blob = blob; version = version } in
-      let one : mid.tickets ≡ ticket ∷ [] = t ∙ ap (λ (ts : List Held). ts ++ ticket ∷ []) none in
+      let ticket : HeldTicket = record { number = number; blob = blob; version = version } in
+      let one : mid.tickets ≡ ticket ∷ [] = t ∙ ap (λ (ts : List HeldTicket). ts ++ ticket ∷ []) none in
       let numbered : IsNumberedBy mid.fixed.limits mid.seen mid.caller blob version =
       subst (λ (f : Fixed). IsNumberedBy f.limits mid.seen mid.caller blob version) (sym l.fixed) (subst (λ (c : ℕ). IsNumberedBy s.fixed.limits mid.seen c blob version) (sym l.caller) n) in
       stopped_held ticket refl l (hung_one mid finished no_memory s' up reports ticket one numbered)

@@ -4,7 +4,7 @@ use Rattle.blob_model.specs.Limits.{greatest}
 use Rattle.blob_model.specs.History.{store_of, IsLegal, events_by}
 use Rattle.blob_model.specs.declared.call.Event.{Event}
 use Rattle.turn_lock.specs.History.{LacksUngiven}
-use Rattle.turn_lock.specs.Shown.{Owned}
+use Rattle.turn_lock.specs.Shown.{OwnerView}
 use Rattle.version_manager.specs.declared.journal.DeskFixed.{DeskFixed}
 use Rattle.version_manager.specs.Log.{tagged, events}
 use Rattle.request_form.specs.declared.form.Fault.{Fault}
@@ -26,7 +26,7 @@ pub record CameBack (caller : ℕ) (seen history : List Event) : Type 0 where
 -- ---- the first session
 
 -- the whole opening is there, and the first pass is the only one that was made
-pub record IsOpened (plan : LoadPlan) (owner : Owned Event DeskFixed) : Type 0 where
+pub record IsOpened (plan : LoadPlan) (owner : OwnerView Event DeskFixed) : Type 0 where
   pub made : owner.made ≡ 1
   pub out : owner.out ≡ 0
   pub kept : Contains owner.kept 1
@@ -35,7 +35,7 @@ pub record IsOpened (plan : LoadPlan) (owner : Owned Event DeskFixed) : Type 0 w
   pub own : FinishesItsOwn greatest (events owner.seen) 1
 
 -- it isn't, for what hindered one of its steps
-pub record IsHalfOpened (plan : LoadPlan) (fault : Fault) (owner : Owned Event DeskFixed) : Type 0 where
+pub record IsHalfOpened (plan : LoadPlan) (fault : Fault) (owner : OwnerView Event DeskFixed) : Type 0 where
   pub made : owner.made ≡ 1
   pub out : owner.out ≡ 0
   pub own : FinishesItsOwn greatest (events owner.seen) 1
@@ -46,14 +46,14 @@ pub record IsHalfOpened (plan : LoadPlan) (fault : Fault) (owner : Owned Event D
   pub hindered : OpeningHindered plan first seen fault
 
 -- how the opening ended; where memory was wanting for its session no pass may be made
-abbrev pub OpensAs : {A : Type 0} → LoadPlan → Result A Fault → Owned Event DeskFixed → Type 0
+abbrev pub OpensAs : {A : Type 0} → LoadPlan → Result A Fault → OwnerView Event DeskFixed → Type 0
 OpensAs plan (Ok done) owner = IsOpened plan owner
 OpensAs plan (Err fault) owner = (owner.out ≡ 0) × (IsOutside fault ⊎ IsHalfOpened plan fault owner)
 
 -- ---- the workers
 
 -- The workers' passes came back. `first` is what had been seen before they were made.
-pub record HaveCome (plan : LoadPlan) (first : List Event) (owner : Owned Event DeskFixed) : Type 0 where
+pub record HaveCome (plan : LoadPlan) (first : List Event) (owner : OwnerView Event DeskFixed) : Type 0 where
   pub made : owner.made ≡ plan.workers + 1
   pub out : owner.out ≡ 0
   pub kept : (caller : ℕ) → 1 ≤ caller → caller ≤ plan.workers + 1 → Contains owner.kept caller
@@ -63,12 +63,12 @@ pub record HaveCome (plan : LoadPlan) (first : List Event) (owner : Owned Event 
   pub own : (worker : ℕ) → 1 ≤ worker → worker ≤ plan.workers → FinishesItsOwn greatest (events owner.seen) (worker + 1)
 
 -- all of them came to their ends
-pub record HaveDone (plan : LoadPlan) (first : List Event) (owner : Owned Event DeskFixed) : Type 0 where
+pub record HaveDone (plan : LoadPlan) (first : List Event) (owner : OwnerView Event DeskFixed) : Type 0 where
   pub come : HaveCome plan first owner
   pub done : (worker : ℕ) → 1 ≤ worker → worker ≤ plan.workers → HasDone plan worker plan.ops (events_by (worker + 1) (events owner.seen))
 
 -- one of them didn't, for what hindered an operation
-pub record HaveStopped (plan : LoadPlan) (first : List Event) (fault : Fault) (owner : Owned Event DeskFixed) : Type 0 where
+pub record HaveStopped (plan : LoadPlan) (first : List Event) (fault : Fault) (owner : OwnerView Event DeskFixed) : Type 0 where
   pub come : HaveCome plan first owner
   pub worker : ℕ
   pub some : 1 ≤ worker
@@ -82,7 +82,7 @@ pub record HaveStopped (plan : LoadPlan) (first : List Event) (fault : Fault) (o
   pub hindered : OperationHindered plan worker op (first ++ later) seen fault
 
 -- how the work ended; where memory was wanting for the workers' sessions fewer passes may be made
-abbrev pub WorksAs : {A : Type 0} → LoadPlan → List Event → Result A Fault → Owned Event DeskFixed → Type 0
+abbrev pub WorksAs : {A : Type 0} → LoadPlan → List Event → Result A Fault → OwnerView Event DeskFixed → Type 0
 WorksAs plan first (Ok done) owner = HaveDone plan first owner
 WorksAs plan first (Err fault) owner = (owner.out ≡ 0) × (IsOutside fault ⊎ HaveStopped plan first fault owner)
 
@@ -94,7 +94,7 @@ TellsSummary plan (Ok summary) = summary ≡ summary_of plan
 TellsSummary plan (Err fault) = IsOutside fault
 
 -- One more pass was made and came back, and its caller has no event. Where it saw no more than had been seen before, what was told is what a load's store tells.
-pub record HasLooked (plan : LoadPlan) (old : Owned Event DeskFixed) (told : Result Summary Fault) (new : Owned Event DeskFixed) : Type 0 where
+pub record HasLooked (plan : LoadPlan) (old : OwnerView Event DeskFixed) (told : Result Summary Fault) (new : OwnerView Event DeskFixed) : Type 0 where
   pub made : new.made ≡ old.made + 1
   pub out : new.out ≡ old.out
   pub later : List Event
@@ -104,7 +104,7 @@ pub record HasLooked (plan : LoadPlan) (old : Owned Event DeskFixed) (told : Res
   pub tells : later ≡ [] → IsReadBack plan (store_of greatest (events old.seen)) (old.made + 1) → TellsSummary plan told
 
 -- how the look ended; where memory was wanting for its session no pass may be made
-abbrev pub LooksAs : LoadPlan → Owned Event DeskFixed → Result Summary Fault → Owned Event DeskFixed → Type 0
+abbrev pub LooksAs : LoadPlan → OwnerView Event DeskFixed → Result Summary Fault → OwnerView Event DeskFixed → Type 0
 LooksAs plan old (Ok summary) new = HasLooked plan old (Ok summary) new
 LooksAs plan old (Err fault) new = (new.out ≡ old.out) × (IsOutside fault ⊎ HasLooked plan old (Err fault) new)
 
@@ -116,5 +116,5 @@ TellsLoad plan (Ok summary) history = (summary ≡ summary_of plan) × IsLoad pl
 TellsLoad plan (Err fault) history = IsOutside fault
 
 -- so it is once the store is closed: then its history is legal, and has no events of callers that weren't given
-abbrev pub ClosesAs : LoadPlan → Result Summary Fault → Owned Event DeskFixed → Type 0
+abbrev pub ClosesAs : LoadPlan → Result Summary Fault → OwnerView Event DeskFixed → Type 0
 ClosesAs plan told owner = LacksUngiven owner.made owner.seen → IsLegal greatest (events owner.seen) → owner.seen ≡ tagged (events owner.seen) → TellsLoad plan told (events owner.seen)

@@ -1,7 +1,7 @@
 use Rattle.std.proofs.Common.{◌≡◌, ℕ, List, [], ◌∙◌, ap, subst, sym, sum_by}
 use Rattle.blob_model.specs.declared.call.Event.{Event}
 use Rattle.turn_lock.specs.History.{entries_by}
-use Rattle.turn_lock.specs.Shown.{Held}
+use Rattle.turn_lock.specs.Shown.{PassView}
 use Rattle.version_manager.specs.declared.journal.DeskFixed.{DeskFixed}
 use Rattle.client_session.specs.Sessions.{SessionState}
 use Rattle.store_sessions.proofs.Fresh.{fresh_doors}
@@ -16,8 +16,8 @@ returns-in-Ok-new-clause-session g c =
     let log : c.in-Ok-new.session.log ≡ c.in-Ok-pass.pass.seen = ap (λ (s : SessionState _). s.log) is in
     record {
       of_store = ap (λ (s : SessionState _). s.store) is;
-      caller = caller ∙ ap (λ (v : Held Event DeskFixed). v.caller) p;
-      log = log ∙ ap (λ (v : Held Event DeskFixed). v.seen) p;
+      caller = caller ∙ ap (λ (v : PassView Event DeskFixed). v.caller) p;
+      log = log ∙ ap (λ (v : PassView Event DeskFixed). v.seen) p;
       none =
           subst (λ (l : List (ℕ × Event)). entries_by c.in-Ok-new.session.caller l ≡ []) (sym log)
           (subst (λ (n : ℕ). entries_by n c.in-Ok-pass.pass.seen ≡ []) (sym caller) c.in-Ok-pass.ensures.own);

@@ -2,7 +2,7 @@ use Rattle.std.proofs.Common.{◌≡◌, ◌∙◌, ◌+◌, List, ap, subst, ar
 use Rattle.std.specs.List.{All}
 use Rattle.std.specs.Prelude.{sum_by}
 use Rattle.blob_model.specs.declared.call.Event.{Event}
-use Rattle.turn_lock.specs.Shown.{Owned}
+use Rattle.turn_lock.specs.Shown.{OwnerView}
 use Rattle.client_session.specs.Sessions.{SessionState}
 use Rattle.blob_server.specs.Peers.{IsIdle, faults_of_doors}
 use Rattle.turn_lock.proofs.Histories.{begins_both}
@@ -23,7 +23,7 @@ loop-session-preserved g c =
     record {
       idle = all_front (IsIdle c.args.shared.now) front one all;
       owner = e.owner;
-      made = ap (λ (o : Owned _ _). o.made) e.counts.1 ∙ i.made;
+      made = ap (λ (o : OwnerView _ _). o.made) e.counts.1 ∙ i.made;
       out = omega (arith, e.counts.0, i.out, c.in-Some.ensures.cases);
       seen = begins_both _ _ _ i.seen e.begins.0;
       doors = gave_back (faults c.args.maker.now) (faults c.loop-session.maker) (faults c.end_session.new.maker) (sum_by counted c.args.sessions.items) (sum_by counted front) (counted one) (omega (arith, i.doors, more)) e.doors;

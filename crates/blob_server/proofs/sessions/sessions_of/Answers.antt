@@ -3,7 +3,7 @@ use Rattle.std.proofs.lemmas.List.Elements.{All-push}
 use Rattle.blob_server.specs.Peers.{IsIdle}
 use Rattle.blob_model.specs.declared.call.Event.{Event}
 use Rattle.turn_lock.specs.History.{Log, Begins}
-use Rattle.turn_lock.specs.Shown.{Owned}
+use Rattle.turn_lock.specs.Shown.{OwnerView}
 use Rattle.blob_server.proofs.sessions.sessions_of.Goals as goal
 
 pub loop-preserved : goal.loop-preserved
@@ -17,8 +17,8 @@ loop-preserved g c =
       idle = rw p.items (All-push (IsIdle c.args.shared.now) c.loop.sessions.items c.in-Ok-open_session.session i.idle (record { of_store = m.session.of_store; none_held = m.session.none_held; first_next = m.session.first_next }));
       owner = m.owner;
       passes_left = i.passes_left;
-      made = omega (arith, ap (λ (o : Owned _ _). o.made) m.given, i.made);
-      out = omega (arith, ap (λ (o : Owned _ _). o.out) m.given, i.out);
+      made = omega (arith, ap (λ (o : OwnerView _ _). o.made) m.given, i.made);
+      out = omega (arith, ap (λ (o : OwnerView _ _). o.out) m.given, i.out);
       seen = subst (λ (l : Log Event). Begins c.args.owner.now.seen l) (sym m.seen) i.seen;
       maker_true = m.truth_stays.0 i.maker_true;
       doors = λ less.

@@ -2,7 +2,7 @@ use Rattle.std.specs.Prelude.{◌≡◌, [], sum_by}
 use Rattle.std.proofs.Common.{◌∙◌, ap, subst, arith}
 use Rattle.blob_model.specs.declared.call.Event.{Event}
 use Rattle.request_form.specs.Session.{Session}
-use Rattle.turn_lock.specs.Shown.{Held, Owned}
+use Rattle.turn_lock.specs.Shown.{PassView, OwnerView}
 use Rattle.version_manager.specs.Log.{events}
 use Rattle.version_manager.specs.declared.journal.DeskFixed.{DeskFixed}
 use Rattle.server_core.specs.Served.{Input}
@@ -16,10 +16,10 @@ returns-clause-lines g c =
     let pass = c.in-Ok.pass in
     let back = served.result.1 in
     let given = c.in-Ok.ensures in
-    let made : c.pass.new.owner.made ≡ 1 = ap (λ (o : Owned Event DeskFixed). o.made) given.counts ∙ omega (arith, c.requires.no_pass) in
-    let one : c.take_back.new.owner.made ≡ 1 = ap (λ (o : Owned Event DeskFixed). o.made) c.take_back.ensures.counts.1 ∙ made in
-    let caller : pass.caller ≡ 1 = ap (λ (p : Held Event DeskFixed). p.caller) given.pass ∙ omega (arith, c.requires.no_pass) in
-    let none : pass.seen ≡ [] = ap (λ (p : Held Event DeskFixed). p.seen) given.pass ∙ c.requires.new in
+    let made : c.pass.new.owner.made ≡ 1 = ap (λ (o : OwnerView Event DeskFixed). o.made) given.counts ∙ omega (arith, c.requires.no_pass) in
+    let one : c.take_back.new.owner.made ≡ 1 = ap (λ (o : OwnerView Event DeskFixed). o.made) c.take_back.ensures.counts.1 ∙ made in
+    let caller : pass.caller ≡ 1 = ap (λ (p : PassView Event DeskFixed). p.caller) given.pass ∙ omega (arith, c.requires.no_pass) in
+    let none : pass.seen ≡ [] = ap (λ (p : PassView Event DeskFixed). p.seen) given.pass ∙ c.requires.new in
     let script = c.args.script.now in
     let after = served.new.script in
     let before : Input = record { given = g.S.Ends.given script; left = g.S.Ends.left script; ends = g.S.Ends.ends script } in

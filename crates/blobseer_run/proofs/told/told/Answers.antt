@@ -30,7 +30,7 @@ returns-in-Ok-clause-settled g c =
       asks = c.in_ok-command.ensures.asks;
       gives = subst (λ (name : Option Bytes). FileGives known name c.in_ok-file.file) named c.in_ok-file.ensures.gives;
       merges = c.in-Ok.ensures.settings;
-      places = c.in-Ok.ensures.settled.places;
+      replicas_fit = c.in-Ok.ensures.settled.replicas_fit;
     }
 
 pub returns-in-Err-clause-stopped : goal.returns-in-Err-clause-stopped

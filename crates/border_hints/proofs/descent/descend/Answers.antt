@@ -42,7 +42,7 @@ loop-level-preserved g c =
     record {
       down =
           down_turn t.snapshot.page_size (log_upto t) (log_of t.snapshot) (length t.snapshot.rows) (t.version - 1) (height_of t.snapshot.page_size t.size) c.args.page c.loop-level.level c.loop-level.at
-          c.turn-on.result.0 c.turn-on.result.1 c.loop-level.besides (omega (arith, c.loop-level-test.true)) (omega (arith, inv.down.place, high, c.height-level.ensures.bound))
+          c.turn-on.result.0 c.turn-on.result.1 c.loop-level.besides (omega (arith, c.loop-level-test.true)) (omega (arith, inv.down.below_root, high, c.height-level.ensures.bound))
           inv.down c.turn-on.ensures.on c.turn-on.ensures.off;
       counted = omega (arith, c.turn-on.ensures.steps, inv.counted, c.loop-level-test.true);
     }

@@ -1,8 +1,8 @@
 use Rattle.std.proofs.Common.{◌∙◌, ◌+◌, ℕ, List, [], ◌∷◌, ◌++◌, ap}
-use Rattle.frame_wire.specs.Begun.{opened}
+use Rattle.frame_wire.specs.Begun.{frame_part}
 use Rattle.frame_wire.proofs.ReplyLemmas.{framed_bytes}
 use Rattle.frame_wire.proofs.reply.content_parts.Goals as goal
 
 pub returns : goal.returns
 returns c =
-    ap (λ (l : List ℕ). l ++ c.args.bytes) (c.of.ensures ∙ c.in_ok-head.ensures ∙ ap (λ (n : ℕ). opened (1 + n) (135 ∷ [])) c.len-2.ensures) ∙ framed_bytes 135 c.args.bytes
+    ap (λ (l : List ℕ). l ++ c.args.bytes) (c.of.ensures ∙ c.in_ok-head.ensures ∙ ap (λ (n : ℕ). frame_part (1 + n) (135 ∷ [])) c.len-2.ensures) ∙ framed_bytes 135 c.args.bytes

@@ -1,6 +1,6 @@
 use Rattle.std.proofs.Common.{◌≡◌, ◌∙◌, ◌+◌, ◌*◌, ℕ, List, ◌∷◌, ◌++◌, length, take, get_or, ap, arith}
 use Rattle.frame_wire.specs.Said.{field, fields}
-use Rattle.frame_wire.specs.Begun.{opened}
+use Rattle.frame_wire.specs.Begun.{frame_part}
 use Rattle.frame_wire.proofs.ReplyLemmas.{numbers_more, framed_numbers}
 use Rattle.frame_wire.proofs.reply.numbers_frame.Goals as goal
 
@@ -16,4 +16,4 @@ pub returns : goal.returns
 returns c =
     let ns = c.args.numbers.now in
     let all : c.loop-number.number-index ≡ length ns = omega arith in
-    c.loop-number.invariant ∙ ap (λ (i : ℕ). opened (1 + 8 * length ns) (c.args.operation ∷ fields (take i ns))) all ∙ framed_numbers c.args.operation ns
+    c.loop-number.invariant ∙ ap (λ (i : ℕ). frame_part (1 + 8 * length ns) (c.args.operation ∷ fields (take i ns))) all ∙ framed_numbers c.args.operation ns

@@ -1,7 +1,7 @@
 use Rattle.std.proofs.Common.{◌≡◌, ◌+◌, ◌*◌, ◌∷◌, length, take}
 use Rattle.frame_wire.specs.Said.{fields}
-use Rattle.frame_wire.specs.Begun.{opened}
+use Rattle.frame_wire.specs.Begun.{frame_part}
 use Rattle.frame_wire.proofs.reply.numbers_frame.Given as goal
 
 abbrev pub invariant-loop-number : goal.invariant-loop-number
-invariant-loop-number l = l.frame.items ≡ opened (1 + 8 * length l.numbers) (l.operation ∷ fields (take l.number-index l.numbers))
+invariant-loop-number l = l.frame.items ≡ frame_part (1 + 8 * length l.numbers) (l.operation ∷ fields (take l.number-index l.numbers))

@@ -1,6 +1,6 @@
 use Rattle.std.proofs.Common.{◌≡◌, ℕ, ◌<◌, length, map, take}
 use Rattle.std.specs.Prelude.{All, slice_index_or}
-use Rattle.page_store.specs.Page.{Place}
+use Rattle.page_store.specs.Page.{Spot}
 use Rattle.page_fan.specs.Counts.{NoneFell, RoseAt, OthersStay}
 use Rattle.page_fan.proofs.fetching.fetch.Given as goal
 
@@ -9,9 +9,9 @@ invariant-loop-i g l =
     let counts = map g.D.Door.faults in
     let is_true = g.D.Door.is_true in
     record {
-      rose : (k : ℕ) (d : Place) → k < l.i → RoseAt (counts l.fn.doors) (counts l.doors) (slice_index_or l.page.places k d).provider;
+      rose : (k : ℕ) (d : Spot) → k < l.i → RoseAt (counts l.fn.doors) (counts l.doors) (slice_index_or l.page.spots k d).provider;
       kept : NoneFell (counts l.fn.doors) (counts l.doors);
-      others : OthersStay (take l.i l.page.places) (counts l.fn.doors) (counts l.doors);
+      others : OthersStay (take l.i l.page.spots) (counts l.fn.doors) (counts l.doors);
       truth : All is_true l.fn.doors → All is_true l.doors;
       count : length l.doors ≡ length l.fn.doors;
     }

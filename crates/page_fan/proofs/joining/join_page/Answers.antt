@@ -2,7 +2,7 @@ use Rattle.std.proofs.Common.{ℕ, List, ◌≤◌, arith, length, length-take, 
 use Rattle.replica_place.specs.Chosen.{chosen}
 use Rattle.page_fan.specs.declared.stand.Stand.{Stand}
 use Rattle.page_fan.proofs.Answering.{answer_at_end}
-use Rattle.page_fan.proofs.Kept.{kept_more, kept_longer, same_bytes}
+use Rattle.page_fan.proofs.StoredSoFar.{kept_more, kept_longer, same_bytes}
 use Rattle.page_fan.proofs.Rises.{none_fell_since}
 use Rattle.page_fan.proofs.Standing.{stands_at_next, stands_without_next}
 use Rattle.page_fan.proofs.joining.join_page.Goals as goal
@@ -22,8 +22,8 @@ loop-i-preserved g c =
           let with = w.in_ok-with_replica-in-Stored in
           let page = w.in-Stored.ensures.answer g.before i.replies in
           record {
-            stored = rw w.stored-is (kept_more c.args.houses.now content index c.loop-i.stored w.in-Stored.page with.field-0 i.stored page.here page.bytes with.ensures.bytes with.ensures.places);
-            replicas = rw w.stored-is (stands_at_next g.before mid now (chosen c.args.placement.now) index _ _ w.in-Stored.page.place a.none_fell c.loop-i-test.true page.there with.ensures.places i.replicas);
+            stored = rw w.stored-is (kept_more c.args.houses.now content index c.loop-i.stored w.in-Stored.page with.field-0 i.stored page.here page.bytes with.ensures.bytes with.ensures.spots);
+            replicas = rw w.stored-is (stands_at_next g.before mid now (chosen c.args.placement.now) index _ _ w.in-Stored.page.spot a.none_fell c.loop-i-test.true page.there with.ensures.spots i.replicas);
             replies = a.replies g.before i.replies;
             kept = none_fell_since (counts c.args.stands.now) mid now i.kept a.none_fell;
             truth = λ t. a.truth_stays (i.truth t);

@@ -20,14 +20,14 @@ loop-at-preserved g c =
     let buffer = c.args.buffer.now in
     let answers = c.loop-at.answer.items in
     let chosen = λ (k : ℕ). slice_index_or c.args.placements.now k [] in
-    let one : IsPageAnswer houses (page_of size buffer c.loop-at.i) (chosen c.loop-at.i) g.before now c.in_ok-join_page.field-0 = rw (← i.place, ← c.of-placement.ensures, c.bytes-page_size.ensures.is) c.in_ok-join_page.ensures.answered in
+    let one : IsPageAnswer houses (page_of size buffer c.loop-at.i) (chosen c.loop-at.i) g.before now c.in_ok-join_page.field-0 = rw (← i.position, ← c.of-placement.ensures, c.bytes-page_size.ensures.is) c.in_ok-join_page.ensures.answered in
     record {
       few = i.few;
       enough = i.enough;
       room = omega (arith, i.room, c.push_reserved.ensures.capacity);
       counted = omega (arith, i.counted, c.push_reserved.ensures.len, c.loop-at.answer.ok.0);
-      place = omega (arith, i.place);
-      within = below_more (λ (k : ℕ). k * size < length buffer) c.loop-at.i i.within (rw (← i.place) c.loop-at-test.true);
+      position = omega (arith, i.position);
+      within = below_more (λ (k : ℕ). k * size < length buffer) c.loop-at.i i.within (rw (← i.position) c.loop-at-test.true);
       each = rw c.push_reserved.ensures.items (each_more (λ k r. IsPageAnswer houses (page_of size buffer k) (chosen k) g.before now r) None answers c.in_ok-join_page.field-0
           (λ k l. answer_later houses (page_of size buffer k) (chosen k) g.before mid now _ p.none_fell (i.each k l)) (rw i.counted one));
       replies = p.replies;
@@ -40,7 +40,7 @@ pub overflow_add-i : goal.overflow_add-i
 overflow_add-i g c =
     let m = length c.args.placements.now in
     let i = c.loop-at.invariant in
-    let place = rw c.bytes-page_size.ensures.is at i.place in
-    let begun : c.loop-at.i * c.args.p < m * c.args.p = omega (arith, place, c.loop-at-test.true, i.enough) in
+    let position = rw c.bytes-page_size.ensures.is at i.position in
+    let begun : c.loop-at.i * c.args.p < m * c.args.p = omega (arith, position, c.loop-at-test.true, i.enough) in
     let below = index_within c.args.p c.loop-at.i m begun in
     omega (arith, below, i.few)

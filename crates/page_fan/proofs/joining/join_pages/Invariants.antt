@@ -16,7 +16,7 @@ invariant-loop-at g l =
       enough : length l.buffer ≤ length l.placements * l.p;
       room : length l.placements ≤ vec_capacity l.answer;
       counted : length l.answer.items ≡ l.i;
-      place : l.at ≡ l.i * l.page_size;
+      position : l.at ≡ l.i * l.page_size;
       within : (k : ℕ) → k < l.i → k * l.page_size < length l.buffer;
       each : (k : ℕ) → k < length l.answer.items → IsPageAnswer l.houses (page_of l.page_size l.buffer k) (slice_index_or l.placements k []) g.before (counts l.stands) (slice_index_or l.answer.items k None);
       replies : AllReplied l.houses l.p l.buffer g.before (counts l.stands) (map (λ s. s.tray.items) l.stands);

@@ -6,7 +6,7 @@ use Rattle.page_fan.proofs.listing.list_puts.Given as goal
 
 abbrev pub invariant-loop-at : goal.invariant-loop-at
 invariant-loop-at l = record {
-  place : l.at ≡ l.i * l.page_size;
+  position : l.at ≡ l.i * l.page_size;
   puts : (providers : ℕ) → All (All (IsProvider providers)) l.placements → All (CanBePut providers l.buffer) l.puts.items;
 }
 

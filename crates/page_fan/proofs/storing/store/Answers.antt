@@ -43,7 +43,7 @@ gather-requires-clause-lengths g c =
 
 pub returns-clause-bytes : goal.returns-clause-bytes
 returns-clause-bytes g c =
-    let d : Stored = record { bytes = []; places = [] } in
+    let d : Stored = record { bytes = []; spots = [] } in
     let pages = c.gather.result.pages in
     let answered = c.in-Ok-put_pages.ensures.answered in
     let count : length pages ≡ length c.in-Ok-put_pages.answer.items = sym (length-map pages (λ (s : Stored). Some s)) ∙ ap length c.gather.ensures.all in

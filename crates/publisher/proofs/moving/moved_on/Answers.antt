@@ -3,8 +3,8 @@ use Rattle.std.specs.Arc.{arc_value}
 use Rattle.std.proofs.lemmas.List.{append_assoc}
 use Rattle.snapshot.specs.Versions.{Version}
 use Rattle.publisher.specs.Windows.{leading}
-use Rattle.publisher.specs.Kept.{Ready}
-use Rattle.publisher.proofs.Leading.{place_leads}
+use Rattle.publisher.specs.WindowInvariant.{Ready}
+use Rattle.publisher.proofs.Leading.{slot_leads}
 use Rattle.publisher.proofs.Standing.{ready_front, ready_next}
 use Rattle.publisher.proofs.moving.moved_on.Goals as goal
 
@@ -17,14 +17,14 @@ with_next-requires c =
 
 pub with_next-requires-in-Some : goal.with_next-requires-in-Some
 with_next-requires-in-Some c =
-    let s = c.loop-place.snapshot in
+    let s = c.loop-slot.snapshot in
     let base = c.args.base.now in
     let row = arc_value c.args.row.now in
     let next = arc_value c.in-Some.row in
     let rest = leading (map (option_map arc_value) c.args.above.now) in
     let first = c.in_ok-snapshot.ensures in
-    let pages = c.loop-place.invariant.page_size ∙ ap (λ (v : Version). v.page_size) first in
-    let whole = c.loop-place.invariant.rows ∙ ap (λ (v : Version). v.rows ++ rest) first ∙ append_assoc base.rows (row ∷ []) rest in
-    let leads = place_leads arc_value c.args.above.now c.loop-place.place-index c.place-item.result c.in-Some.row c.loop-place-test.true c.place-item.is c.in-Some.is in
+    let pages = c.loop-slot.invariant.page_size ∙ ap (λ (v : Version). v.page_size) first in
+    let whole = c.loop-slot.invariant.rows ∙ ap (λ (v : Version). v.rows ++ rest) first ∙ append_assoc base.rows (row ∷ []) rest in
+    let leads = slot_leads arc_value c.args.above.now c.loop-slot.slot-index c.slot-item.result c.in-Some.row c.loop-slot-test.true c.slot-item.is c.in-Some.is in
     let P : ℕ → Type 0 = λ p. Ready p (s.rows ++ next ∷ []) in
     subst P (sym pages) (ready_next base.page_size s.rows next _ _ _ whole leads c.requires)

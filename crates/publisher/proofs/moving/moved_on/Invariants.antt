@@ -3,9 +3,9 @@ use Rattle.std.specs.Arc.{arc_value}
 use Rattle.publisher.specs.Windows.{leading}
 use Rattle.publisher.proofs.moving.moved_on.Given as goal
 
-abbrev pub invariant-loop-place : goal.invariant-loop-place
-invariant-loop-place l = record {
+abbrev pub invariant-loop-slot : goal.invariant-loop-slot
+invariant-loop-slot l = record {
   blob : l.snapshot.blob ≡ l.initial.snapshot.blob;
   page_size : l.snapshot.page_size ≡ l.initial.snapshot.page_size;
-  rows : l.snapshot.rows ++ leading (map (option_map arc_value) (drop l.place-index l.above)) ≡ l.initial.snapshot.rows ++ leading (map (option_map arc_value) l.above);
+  rows : l.snapshot.rows ++ leading (map (option_map arc_value) (drop l.slot-index l.above)) ≡ l.initial.snapshot.rows ++ leading (map (option_map arc_value) l.above);
 }

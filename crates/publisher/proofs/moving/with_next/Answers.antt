@@ -1,7 +1,7 @@
 use Rattle.std.proofs.Common.{[], ◌∷◌, ◌++◌, sym, subst}
 use Rattle.std.specs.Arc.{arc_value}
-use Rattle.node_store.specs.Rows.{UpdateRow}
-use Rattle.publisher.specs.Kept.{Ready}
+use Rattle.node_store.specs.UpdateRows.{UpdateRow}
+use Rattle.publisher.specs.WindowInvariant.{Ready}
 use Rattle.publisher.proofs.Standing.{next_ready}
 use Rattle.publisher.proofs.moving.with_next.Goals as goal
 

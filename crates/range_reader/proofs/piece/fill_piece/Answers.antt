@@ -12,7 +12,7 @@ fill_marked-requires-clause-here g c =
 
 pub fill_marked-requires-clause-served : goal.fill_marked-requires-clause-served
 fill_marked-requires-clause-served g c =
-    served c.args.source.now.houses.now (length c.args.doors.now) c.page-stored.result.now.places c.requires.doors
+    served c.args.source.now.houses.now (length c.args.doors.now) c.page-stored.result.now.spots c.requires.doors
     (page_in c.args.source.now.houses.now c.args.source.now.snapshot.now c.args.j c.args.piece.page c.page-stored.result.now
     c.requires.here c.requires.version.0 c.requires.version.1 c.page-stored.ensures.this)
 

@@ -13,7 +13,7 @@ fetch-requires-clause-here g c =
 
 pub fetch-requires-clause-served : goal.fetch-requires-clause-served
 fetch-requires-clause-served g c =
-    served c.args.source.now.houses.now (length c.args.doors.now) c.page-stored.result.now.places c.requires.doors
+    served c.args.source.now.houses.now (length c.args.doors.now) c.page-stored.result.now.spots c.requires.doors
     (page_in c.args.source.now.houses.now c.args.source.now.snapshot.now c.args.j c.args.piece.page c.page-stored.result.now
     c.requires.here c.requires.version.0 c.requires.version.1 c.page-stored.ensures.this)
 

@@ -12,16 +12,16 @@ kept-within loads kept n room k e same h =
     (All-take (IsProvider loads) room (ordered loads n)
     (All-weaker (InRange n) (IsProvider loads) (λ p (w : InRange n p). (w.0, omega (arith, w.1))) (ordered loads n) (ordered-within loads n)))
 
-pub place_of-place-requires-clause-providers : goal.place_of-place-requires-clause-providers
-place_of-place-requires-clause-providers c =
+pub position_of-position-requires-clause-providers : goal.position_of-position-requires-clause-providers
+position_of-position-requires-clause-providers c =
     kept-within c.args.loads.now c.args.kept.now c.args.before (length c.args.kept.now) c.min.result c.min.ensures c.requires.least (omega arith)
 
-pub returns-then-place-room : goal.returns-then-place-room
-returns-then-place-room c = record {
-  least = admitted c.args.loads.now c.args.kept.now c.put.new.kept c.args.before (c.args.before + 1) (length c.args.kept.now) c.min.result c.place_of-place.result refl c.min.ensures c.requires.least c.place_of-place.ensures c.if-place-room.true c.put.ensures;
+pub returns-then-position-room : goal.returns-then-position-room
+returns-then-position-room c = record {
+  least = admitted c.args.loads.now c.args.kept.now c.put.new.kept c.args.before (c.args.before + 1) (length c.args.kept.now) c.min.result c.position_of-position.result refl c.min.ensures c.requires.least c.position_of-position.ensures c.if-position-room.true c.put.ensures;
 }
 
-pub returns-else-place-room : goal.returns-else-place-room
-returns-else-place-room c = record {
-  least = left_out c.args.loads.now c.args.kept.now c.args.before (c.args.before + 1) (length c.args.kept.now) c.min.result c.place_of-place.result refl c.min.ensures c.requires.least c.place_of-place.ensures c.if-place-room.false;
+pub returns-else-position-room : goal.returns-else-position-room
+returns-else-position-room c = record {
+  least = left_out c.args.loads.now c.args.kept.now c.args.before (c.args.before + 1) (length c.args.kept.now) c.min.result c.position_of-position.result refl c.min.ensures c.requires.least c.position_of-position.ensures c.if-position-room.false;
 }

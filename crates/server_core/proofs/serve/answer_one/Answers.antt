@@ -1,5 +1,5 @@
 use Rattle.std.proofs.Common.{◌∙◌, sym}
-use Rattle.server_core.proofs.Steps.{Progress-one}
+use Rattle.server_core.proofs.GoingOn.{Progress-one}
 use Rattle.server_core.proofs.serve.answer_one.Goals as goal
 
 pub returns-then-last-clause-answered : goal.returns-then-last-clause-answered

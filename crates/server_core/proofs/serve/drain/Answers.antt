@@ -1,5 +1,5 @@
 use Rattle.std.proofs.Common.{rules, refl, arith}
-use Rattle.server_core.proofs.Steps.{goes_from, Goes-more, Quits-at, Stops-at, stops_there}
+use Rattle.server_core.proofs.GoingOn.{goes_from, Goes-more, Quits-at, Stops-at, stops_there}
 use Rattle.server_core.proofs.serve.drain.Goals as goal
 
 pub items-init : goal.items-init

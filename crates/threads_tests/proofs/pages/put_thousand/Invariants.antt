@@ -3,4 +3,4 @@ use Rattle.page_store.specs.Page.{IsIn}
 use Rattle.threads_tests.proofs.pages.put_thousand.Given as goal
 
 abbrev pub invariant-loop-i : goal.invariant-loop-i
-invariant-loop-i g l = All (λ page. IsIn l.house page.place) l.pages.items
+invariant-loop-i g l = All (λ page. IsIn l.house page.spot) l.pages.items

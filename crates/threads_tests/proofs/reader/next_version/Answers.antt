@@ -1,7 +1,7 @@
 use Rattle.std.proofs.Common.{sym, subst}
 use Rattle.std.proofs.lemmas.List.Elements.{All-push}
 use Rattle.page_store.specs.Stored.{Cut, LieAmong}
-use Rattle.node_store.specs.Rows.{UpdateRow, IsRowIn}
+use Rattle.node_store.specs.UpdateRows.{UpdateRow, IsRowIn}
 use Rattle.snapshot.specs.Versions.{Version, IsVersionIn}
 use Rattle.threads_tests.proofs.reader.next_version.Goals as goal
 

@@ -1,5 +1,5 @@
 use Rattle.std.proofs.Common.{[], ◌∷◌, arith, ap, sym, ◌∙◌, subst}
-use Rattle.page_store.specs.Stored.{joined}
+use Rattle.page_store.specs.Stored.{bytes_of_pages}
 use Rattle.snapshot.specs.Versions.{Version, updates_of, IsVersionIn}
 use Rattle.threads_tests.proofs.ByHandRows.{four_touch, part_touch, abcd, leaf_pairs, after_four, after_first, four_next, first_next, second_next}
 use Rattle.threads_tests.proofs.HandMade.{next_same, told_same}
@@ -13,15 +13,15 @@ next_version-requires-clause-next g c =
 pub next_version-requires-2-clause-next : goal.next_version-requires-2-clause-next
 next_version-requires-2-clause-next g c =
     let one = c.in_ok-one.ensures.told
-    ∙ told_same (updates_of c.in_ok-none.none) [] 0 (joined c.in_ok-pages.pages.pages) abcd (ap (λ (v : Version). updates_of v) c.in_ok-none.ensures) c.in_ok-pages.ensures.bytes in
+    ∙ told_same (updates_of c.in_ok-none.none) [] 0 (bytes_of_pages c.in_ok-pages.pages.pages) abcd (ap (λ (v : Version). updates_of v) c.in_ok-none.ensures) c.in_ok-pages.ensures.bytes in
     next_same _ after_four 0 part_touch _ (255 ∷ []) _ (leaf_pairs 0 1 1 1) one c.in_ok-pages-2.ensures.bytes (rw (c.range_of-2.ensures, c.leaf_of-2.ensures)) first_next
 
 pub next_version-requires-3-clause-next : goal.next_version-requires-3-clause-next
 next_version-requires-3-clause-next g c =
     let one = c.in_ok-one.ensures.told
-    ∙ told_same (updates_of c.in_ok-none.none) [] 0 (joined c.in_ok-pages.pages.pages) abcd (ap (λ (v : Version). updates_of v) c.in_ok-none.ensures) c.in_ok-pages.ensures.bytes in
+    ∙ told_same (updates_of c.in_ok-none.none) [] 0 (bytes_of_pages c.in_ok-pages.pages.pages) abcd (ap (λ (v : Version). updates_of v) c.in_ok-none.ensures) c.in_ok-pages.ensures.bytes in
     let two = c.in_ok-two.ensures.told
-    ∙ told_same (updates_of c.in_ok-one.one) after_four 0 (joined c.in_ok-pages-2.pages.pages) (255 ∷ []) one c.in_ok-pages-2.ensures.bytes in
+    ∙ told_same (updates_of c.in_ok-one.one) after_four 0 (bytes_of_pages c.in_ok-pages-2.pages.pages) (255 ∷ []) one c.in_ok-pages-2.ensures.bytes in
     next_same _ after_first 1 part_touch _ (254 ∷ []) _ (leaf_pairs 1 1 2 2) two c.in_ok-pages-3.ensures.bytes (rw (c.range_of-3.ensures, c.leaf_of-3.ensures)) second_next
 
 pub returns-clause-here : goal.returns-clause-here

@@ -3,4 +3,4 @@ use Rattle.turn_lock.specs.Told.{Stays}
 use Rattle.turn_lock.proofs.steps.enter.Given as goal
 
 abbrev pub invariant-loop : goal.invariant-loop
-invariant-loop g l = Stays l.initial.place l.place × (l.place.me ≡ l.initial.place.me)
+invariant-loop g l = Stays l.initial.seat l.seat × (l.seat.me ≡ l.initial.seat.me)

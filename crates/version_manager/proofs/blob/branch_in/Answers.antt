@@ -3,7 +3,7 @@ use Rattle.std.proofs.lemmas.Result.{IfOk-weaker}
 use Rattle.blob_model.specs.Store.{branch_of}
 use Rattle.snapshot.specs.Versions.{IsVersion, under_blob}
 use Rattle.publisher.specs.Windows.{Numbered, window_on}
-use Rattle.version_manager.specs.Kept.{Keeps}
+use Rattle.version_manager.specs.DeskInvariant.{Keeps}
 use Rattle.version_manager.proofs.Blobs.{branch_kept}
 use Rattle.version_manager.proofs.blob.branch_in.Goals as goal
 

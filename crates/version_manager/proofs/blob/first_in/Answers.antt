@@ -1,7 +1,7 @@
 use Rattle.std.proofs.Common.{◌≡◌, [], sym, subst, ap, ◌∙◌}
 use Rattle.std.proofs.lemmas.Result.{IfOk-weaker}
 use Rattle.publisher.specs.Windows.{Numbered, window_on}
-use Rattle.version_manager.specs.Kept.{Keeps}
+use Rattle.version_manager.specs.DeskInvariant.{Keeps}
 use Rattle.version_manager.proofs.Blobs.{first_kept}
 use Rattle.version_manager.proofs.blob.first_in.Goals as goal
 

@@ -1,7 +1,7 @@
 use Rattle.std.proofs.Common.{◌≡◌, ◌+◌, ◌-◌, length, ap, sym, ◌∙◌, arith}
 use Rattle.std.specs.Arc.{arc_value}
 use Rattle.blob_model.specs.Content.{offset_of}
-use Rattle.page_store.specs.Stored.{Cut, joined}
+use Rattle.page_store.specs.Stored.{Cut, bytes_of_pages}
 use Rattle.version_manager.proofs.BlobsTests.{end_is}
 use Rattle.version_manager.proofs.BlobsNext.{hints_tell}
 use Rattle.version_manager.proofs.blob.next_ticket.Goals as goal
@@ -11,8 +11,8 @@ overflow_add-at c =
     let limits = c.requires.takes.0 in
     let b = c.requires.takes.1 in
     let may = c.requires.takes.2 in
-    let bytes = joined (arc_value c.args.pages.now).pages in
-    let n : length bytes ≡ c.len-len.result = sym (c.len-len.ensures ∙ ap (λ (x : Cut). length (joined x.pages)) c.deref.ensures) in
+    let bytes = bytes_of_pages (arc_value c.args.pages.now).pages in
+    let n : length bytes ≡ c.len-len.result = sym (c.len-len.ensures ∙ ap (λ (x : Cut). length (bytes_of_pages x.pages)) c.deref.ensures) in
     let s = c.size_of_last-size.ensures limits b may.kept in
     omega (arith, end_is limits b c.args.place bytes c.size_of_last-size.result c.offset_in-at.result c.len-len.result s c.offset_in-at.ensures n, may.fits, may.bounds.size)
 
@@ -59,8 +59,8 @@ of-requires-clause-fits c =
     let limits = c.requires.takes.0 in
     let b = c.requires.takes.1 in
     let may = c.requires.takes.2 in
-    let bytes = joined (arc_value c.args.pages.now).pages in
-    let n : length bytes ≡ c.len-len.result = sym (c.len-len.ensures ∙ ap (λ (x : Cut). length (joined x.pages)) c.deref.ensures) in
+    let bytes = bytes_of_pages (arc_value c.args.pages.now).pages in
+    let n : length bytes ≡ c.len-len.result = sym (c.len-len.ensures ∙ ap (λ (x : Cut). length (bytes_of_pages x.pages)) c.deref.ensures) in
     let s = c.size_of_last-size.ensures limits b may.kept in
     omega (arith, end_is limits b c.args.place bytes c.size_of_last-size.result c.offset_in-at.result c.len-len.result s c.offset_in-at.ensures n, may.fits, may.bounds.size)
 
@@ -70,8 +70,8 @@ returns-clause-at c limits b k =
 
 pub returns-clause-size : goal.returns-clause-size
 returns-clause-size c limits b k =
-    let bytes = joined (arc_value c.args.pages.now).pages in
-    let n : length bytes ≡ c.len-len.result = sym (c.len-len.ensures ∙ ap (λ (x : Cut). length (joined x.pages)) c.deref.ensures) in
+    let bytes = bytes_of_pages (arc_value c.args.pages.now).pages in
+    let n : length bytes ≡ c.len-len.result = sym (c.len-len.ensures ∙ ap (λ (x : Cut). length (bytes_of_pages x.pages)) c.deref.ensures) in
     let s = c.size_of_last-size.ensures limits b k in
     ap (λ t. t.size) c.of.ensures
     ∙ c.max-end.ensures

@@ -8,15 +8,15 @@ use Rattle.workload_law.proofs.pieces.cell.Goals as goal
 low_sum : (a b c k : ℕ) → (a % 256 + b % 256 + c % 256 + k) % 256 ≡ (a + b + c + k) % 256
 low_sum a b c k = omega arith
 
-pub loop-place-preserved : goal.loop-place-preserved
-loop-place-preserved c = record {
+pub loop-index-preserved : goal.loop-index-preserved
+loop-index-preserved c = record {
   first = refl;
-  long = length-set c.loop-place.piece c.loop-place.place _ ∙ c.loop-place.invariant.long;
+  long = length-set c.loop-index.piece c.loop-index.index _ ∙ c.loop-index.invariant.long;
   made = below_more _ _
-      (λ k h. get_or-set_other c.loop-place.piece c.loop-place.place k _ 0 (omega arith) ∙ c.loop-place.invariant.made k h)
-      (get_or-set_same c.loop-place.piece c.loop-place.place _ 0 (omega arith) ∙ low_sum c.args.seed c.args.worker c.args.op c.loop-place.place);
+      (λ k h. get_or-set_other c.loop-index.piece c.loop-index.index k _ 0 (omega arith) ∙ c.loop-index.invariant.made k h)
+      (get_or-set_same c.loop-index.piece c.loop-index.index _ 0 (omega arith) ∙ low_sum c.args.seed c.args.worker c.args.op c.loop-index.index);
 }
 
 pub returns : goal.returns
 unfolding cell_of
-returns c = fill_by_all (cell_byte c.args.seed c.args.worker c.args.op) c.loop-place.piece 16 0 (omega arith) (λ k h. c.loop-place.invariant.made k (omega arith))
+returns c = fill_by_all (cell_byte c.args.seed c.args.worker c.args.op) c.loop-index.piece 16 0 (omega arith) (λ k h. c.loop-index.invariant.made k (omega arith))

@@ -5,7 +5,7 @@ use Rattle.tree_geom.specs.declared.range.Range.{Range}
 use Rattle.tree_geom.specs.declared.node.Node.{Node}
 use Rattle.tree_geom.specs.declared.node.Node.TheVariants.{Inner, Leaf}
 use Rattle.tree_geom.specs.Geometry.{page_range}
-use Rattle.blob_core.specs.World.{World, Kept, kept_at, node_in, origin}
+use Rattle.blob_core.specs.World.{World, UpdateEntry, kept_at, node_in, origin}
 use Rattle.branching.specs.Parents.{origin_of}
 use Rattle.blob_core.specs.Walk.{bytes_of_piece, leaf_walk}
 use Rattle.branching.specs.declared.Parent.{Parent}
@@ -37,7 +37,7 @@ returns-in_default-find_kept t c =
     c.origin-numbered_in.ensures ∙ ap (λ (l : List (Option Parent)). origin_of l c.args.blob c.args.version) (c.as_slice.ensures.value ∙ ap (λ (x : World). x.lineage) c.self.view_is) in
     let updates : c.as_slice-2.result.now ≡ w.updates = c.as_slice-2.ensures.value ∙ ap (λ (x : World). x.updates) c.self.view_is in
     let there : kept_at w.updates (origin w c.args.blob c.args.version) c.args.version ≡ kept_at c.as_slice-2.result.now c.origin-numbered_in.result c.args.version =
-    ap (λ (o : ℕ). kept_at w.updates o c.args.version) (sym own) ∙ ap (λ (l : List (UpdateKey × Kept)). kept_at l c.origin-numbered_in.result c.args.version) (sym updates) in
+    ap (λ (o : ℕ). kept_at w.updates o c.args.version) (sym own) ∙ ap (λ (l : List (UpdateKey × UpdateEntry)). kept_at l c.origin-numbered_in.result c.args.version) (sym updates) in
     c.new-own.ensures.items ∙ sym (leaf_unkept c.args.most c.args.p w c.args.blob c.args.version c.args.page c.in-Some.node (at ∙ sym c.in-Some.ensures) (there ∙ c.in_default-find_kept.ensures))
 
 pub returns-in_default-node : goal.returns-in_default-node
@@ -51,7 +51,7 @@ returns-in_default-node t c =
     c.origin-numbered_in.ensures ∙ ap (λ (l : List (Option Parent)). origin_of l c.args.blob c.args.version) (c.as_slice.ensures.value ∙ ap (λ (x : World). x.lineage) c.self.view_is) in
     let updates : c.as_slice-2.result.now ≡ w.updates = c.as_slice-2.ensures.value ∙ ap (λ (x : World). x.updates) c.self.view_is in
     let there : kept_at w.updates (origin w c.args.blob c.args.version) c.args.version ≡ kept_at c.as_slice-2.result.now c.origin-numbered_in.result c.args.version =
-    ap (λ (o : ℕ). kept_at w.updates o c.args.version) (sym own) ∙ ap (λ (l : List (UpdateKey × Kept)). kept_at l c.origin-numbered_in.result c.args.version) (sym updates) in
+    ap (λ (o : ℕ). kept_at w.updates o c.args.version) (sym own) ∙ ap (λ (l : List (UpdateKey × UpdateEntry)). kept_at l c.origin-numbered_in.result c.args.version) (sym updates) in
     let some : Node → Option Node = λ n. Some n in
     c.new-own.ensures.items
     ∙ sym (leaf_inner c.args.most c.args.p w c.args.blob c.args.version c.args.page (Inner c.in_default-node.field-0 c.in_default-node.field-1) c.in-Some-find_kept.kept.now refl (at ∙ sym c.in-Some.ensures ∙ ap some c.in_default-node.is) (there ∙ c.in-Some-find_kept.ensures))
@@ -67,10 +67,10 @@ returns t c =
     c.origin-numbered_in.ensures ∙ ap (λ (l : List (Option Parent)). origin_of l c.args.blob c.args.version) (c.as_slice.ensures.value ∙ ap (λ (x : World). x.lineage) c.self.view_is) in
     let updates : c.as_slice-2.result.now ≡ w.updates = c.as_slice-2.ensures.value ∙ ap (λ (x : World). x.updates) c.self.view_is in
     let there : kept_at w.updates (origin w c.args.blob c.args.version) c.args.version ≡ kept_at c.as_slice-2.result.now c.origin-numbered_in.result c.args.version =
-    ap (λ (o : ℕ). kept_at w.updates o c.args.version) (sym own) ∙ ap (λ (l : List (UpdateKey × Kept)). kept_at l c.origin-numbered_in.result c.args.version) (sym updates) in
+    ap (λ (o : ℕ). kept_at w.updates o c.args.version) (sym own) ∙ ap (λ (l : List (UpdateKey × UpdateEntry)). kept_at l c.origin-numbered_in.result c.args.version) (sym updates) in
     let some : Node → Option Node = λ n. Some n in
-    let kept : Kept = c.in-Some-find_kept.kept.now in
-    let pages : c.kept.inside.pages.items ≡ kept.pages = ap (λ (k : Kept). k.pages) c.kept.view_is in
+    let kept : UpdateEntry = c.in-Some-find_kept.kept.now in
+    let pages : c.kept.inside.pages.items ≡ kept.pages = ap (λ (k : UpdateEntry). k.pages) c.kept.view_is in
     let older : List ℕ = c.if-back-eq0.older.items in
     let own_is : c.add_piece-2.new.bytes.items ≡ bytes_of_piece w kept.pages c.in-Leaf.first ++ bytes_of_piece w kept.pages c.in-Leaf.second =
     c.in_ok-add_piece-2.ensures

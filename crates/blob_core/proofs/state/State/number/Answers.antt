@@ -10,7 +10,7 @@ use Rattle.blob_model.specs.declared.call.Call.TheVariants as Calls
 use Rattle.range_log.specs.declared.«open».OpenTouch.{OpenTouch}
 use Rattle.tree_geom.specs.declared.touch.Touch.{Touch}
 use Rattle.range_log.specs.Log.{size_at}
-use Rattle.blob_core.specs.World.{World, Kept, waiting_after}
+use Rattle.blob_core.specs.World.{World, UpdateEntry, waiting_after}
 use Rattle.blob_core.specs.Standing.{IsSound}
 use Rattle.blob_core.specs.Steps.{next_kept}
 use Rattle.blob_core.specs.Acts.{IsDone, AreJoined}
@@ -83,18 +83,18 @@ returns-clause-done c =
     let set : put c.add_update.new.blob ≡ put (and_update b u) = ap put (c.in_ok-add_update.ensures.done ∙ ap (λ (x : Blob). and_update x u) old) in
     let numbered : ℕ → UpdateKey = λ n. record { blob = c.args.blob; version = n + 1 } in
     let count : c.len-2.result ≡ assigned b = omega (arith, c.len-2.ensures, c.in_ok-log.ensures.count) in
-    let K : List ℕ → ℕ → List OpenTouch → Kept = λ l n t. record { pages = l; published = n; waiting = t } in
-    let kept : Kept = c.in_ok-kept.kept in
+    let K : List ℕ → ℕ → List OpenTouch → UpdateEntry = λ l n t. record { pages = l; published = n; waiting = t } in
+    let kept : UpdateEntry = c.in_ok-kept.kept in
     let W : List Touch → List OpenTouch = λ l. waiting_after l (published b) (assigned b - published b) in
     let beside : kept ≡ next_kept c.args.p b c.args.pages.now =
     ap (λ (l : List ℕ). K l kept.published kept.waiting) c.in_ok-kept.ensures.pages
     ∙ ap (λ (n : ℕ). K c.args.pages.now n kept.waiting) c.in_ok-kept.ensures.published
     ∙ ap (λ (t : List OpenTouch). K c.args.pages.now (published b) t) (c.in_ok-kept.ensures.waiting ∙ ap W (c.as_slice-4.ensures.value ∙ c.in_ok-log.ensures.log)) in
-    let entry : UpdateKey × Kept = (numbered c.len-2.result, kept) in
+    let entry : UpdateKey × UpdateEntry = (numbered c.len-2.result, kept) in
     let room : vec_len c.try_reserve.new.self < vec_capacity c.try_reserve.new.self = omega (arith, c.in_ok-try_reserve.ensures.ok) in
-    let pick : Bool → List (UpdateKey × Kept) = λ t. if t then insert c.try_reserve.new.self.items 0 entry else c.try_reserve.new.self.items in
+    let pick : Bool → List (UpdateKey × UpdateEntry) = λ t. if t then insert c.try_reserve.new.self.items 0 entry else c.try_reserve.new.self.items in
     let more : c.insert.new.self.items ≡ entry ∷ v.updates =
-    c.insert.ensures.items ∙ ap pick (c.insert.ensures.succeeds room) ∙ ap (λ (l : List (UpdateKey × Kept)). entry ∷ l) c.in_ok-try_reserve.ensures.items in
+    c.insert.ensures.items ∙ ap pick (c.insert.ensures.succeeds room) ∙ ap (λ (l : List (UpdateKey × UpdateEntry)). entry ∷ l) c.in_ok-try_reserve.ensures.items in
     let Done : World → Type 0 = λ x. IsDone c.args.p x (Moves.Assign c.args.caller c.args.blob c.args.place c.args.pages.now)
     (record v { store = record { limits = v.store.limits; blobs = put c.add_update.new.blob }; updates = c.insert.new.self.items }) in
     subst Done to

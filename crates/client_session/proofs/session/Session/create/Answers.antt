@@ -3,7 +3,7 @@ use Rattle.blob_model.specs.declared.call.Call.TheVariants as Calls
 use Rattle.blob_model.specs.declared.call.Event.TheVariants as Events
 use Rattle.blob_model.specs.declared.call.Event.{Event}
 use Rattle.blob_model.specs.declared.call.Outcome.TheVariants as Outcomes
-use Rattle.turn_lock.specs.Shown.{Held}
+use Rattle.turn_lock.specs.Shown.{PassView}
 use Rattle.version_manager.specs.Log.{Changed}
 use Rattle.version_manager.specs.declared.journal.DeskFixed.{DeskFixed}
 use Rattle.version_manager.specs.declared.fault.DeskFault.{DeskFault}
@@ -31,7 +31,7 @@ returns-clause-answers g c =
     let t : Took by i.pass.seen c.create.new.pass.seen (λ before after. Changed fixed (Calls.Create) (Events.Create by) (λ id. Outcomes.Blob id) (λ (x : DeskFault). x) before by c.create.result after) =
     took c.gaps_are_of_others.ensures fixed i.pass c.create.new.pass (λ before f after. Changed f (Calls.Create) (Events.Create by) (λ id. Outcomes.Blob id) (λ (x : DeskFault). x) before by c.create.result after) c.self.invariant.pass_is.fixed (λ before after x. x.log) c.create.ensures.turned
     in
-    let same : c.create.new.pass.caller ≡ by = ap (λ (p : Held Event DeskFixed). p.caller) c.create.ensures.pass in
+    let same : c.create.new.pass.caller ≡ by = ap (λ (p : PassView Event DeskFixed). p.caller) c.create.ensures.pass in
     rw (← c.self.view_is, c.told.ensures.is, same) (create_told fixed by i.pass.seen c.create.new.pass.seen i.held i.next c.create.result t)
 
 pub returns-clause-goes_on : goal.returns-clause-goes_on
@@ -44,6 +44,6 @@ returns-clause-goes_on g c =
     in
     rw (← c.self.view_is) (record {
       store = refl;
-      caller = ap (λ (p : Held Event DeskFixed). p.caller) c.create.ensures.pass;
+      caller = ap (λ (p : PassView Event DeskFixed). p.caller) c.create.ensures.pass;
       begins = (went_changed fixed by i.pass.seen c.create.new.pass.seen (Calls.Create) (Events.Create by) (λ id. Outcomes.Blob id) (λ (x : DeskFault). x) c.create.result t).begins;
     })

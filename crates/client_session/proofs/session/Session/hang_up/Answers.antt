@@ -1,8 +1,8 @@
 use Rattle.std.proofs.Common.{◌≡◌, ap, subst, ℕ, ◌+◌, ◌<◌, ◌≤◌, List, ◌∷◌, length, true, false, Bool, arith}
-use Rattle.request_form.specs.Session.{Held}
+use Rattle.request_form.specs.Session.{HeldTicket}
 use Rattle.request_form.specs.HangUp.{numbers_anew}
 use Rattle.client_session.specs.Sessions.{SessionState, session_of}
-use Rattle.client_session.specs.Tickets.{all_held}
+use Rattle.client_session.specs.Tickets.{tickets_of}
 use Rattle.client_session.specs.HangUp.{GivesUpOne, GivingUp}
 use Rattle.client_session.proofs.HangingUp.{some_held, giving_start, giving_more, hung_up}
 use Rattle.client_session.proofs.session.Session.hang_up.Goals as goal
@@ -19,9 +19,9 @@ tickets-preserved-then-give_up_first g c =
     let b = c.tickets.self in
     let some : 0 < length b.held = subst (λ (s : SessionState g.row.D.Denot). 0 < length s.held) c.self-in-tickets.view_is (let n = c.count.ensures.count in let t = c.tickets-test.true in omega arith) in
     let first = some_held b.held some in
-    let t : Held = first.0 in
-    let ts : List Held = first.1.0 in
-    let is : all_held b.held ≡ t ∷ ts = first.1.1 in
+    let t : HeldTicket = first.0 in
+    let ts : List HeldTicket = first.1.0 in
+    let is : tickets_of b.held ≡ t ∷ ts = first.1.1 in
     let x = c.give_up_first.ensures in
     let d = c.give_up_first.new.self in
     let one : GivesUpOne (session_of b) t ts true (session_of d) = subst (λ (z : Bool). GivesUpOne (session_of b) t ts z (session_of d)) c.if-give_up_first.true (x.given_up t ts is) in
@@ -33,9 +33,9 @@ tickets-preserved g c =
     let b = c.tickets.self in
     let some : 0 < length b.held = subst (λ (s : SessionState g.row.D.Denot). 0 < length s.held) c.self-in-tickets.view_is (let n = c.count.ensures.count in let t = c.tickets-test.true in omega arith) in
     let first = some_held b.held some in
-    let t : Held = first.0 in
-    let ts : List Held = first.1.0 in
-    let is : all_held b.held ≡ t ∷ ts = first.1.1 in
+    let t : HeldTicket = first.0 in
+    let ts : List HeldTicket = first.1.0 in
+    let is : tickets_of b.held ≡ t ∷ ts = first.1.1 in
     let x = c.give_up_first.ensures in
     let d = c.give_up_first.new.self in
     let one : GivesUpOne (session_of b) t ts false (session_of d) = subst (λ (z : Bool). GivesUpOne (session_of b) t ts z (session_of d)) c.if-give_up_first.false (x.given_up t ts is) in

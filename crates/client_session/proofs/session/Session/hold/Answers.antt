@@ -2,7 +2,7 @@ use Rattle.std.proofs.Common.{◌≡◌, refl, sym, ◌∙◌, ap, subst, ◌+�
 use Rattle.std.specs.Prelude.{option_map}
 use Rattle.std.specs.Arc.{arc_value}
 use Rattle.client_session.specs.Tickets.{OpenUpdate}
-use Rattle.client_session.specs.Kept.{IsOpen, IsSession}
+use Rattle.client_session.specs.SessionInvariant.{IsOpen, IsSession}
 use Rattle.client_session.specs.Sessions.{SessionState}
 use Rattle.client_session.proofs.Holding.{holding_push}
 use Rattle.client_session.proofs.session.Session.hold.Goals as goal

@@ -8,10 +8,10 @@ use Rattle.blob_model.specs.declared.call.Event.{Event}
 use Rattle.blob_model.specs.declared.call.Event.TheVariants as Events
 use Rattle.blob_model.specs.declared.call.Outcome.TheVariants as Outcomes
 use Rattle.page_store.specs.House.{House}
-use Rattle.page_store.specs.Stored.{Cut, joined, LieAmong}
-use Rattle.node_store.specs.Rows.{UpdateRow}
+use Rattle.page_store.specs.Stored.{Cut, bytes_of_pages, LieAmong}
+use Rattle.node_store.specs.UpdateRows.{UpdateRow}
 use Rattle.border_hints.specs.Numbered.{NumberedUpdate}
-use Rattle.turn_lock.specs.Shown.{Held}
+use Rattle.turn_lock.specs.Shown.{PassView}
 use Rattle.version_manager.specs.Desks.{IsUnfinished}
 use Rattle.version_manager.specs.Log.{Changed, IsNewTicket, tag, events, desk_at}
 use Rattle.version_manager.specs.declared.journal.DeskFixed.{DeskFixed}
@@ -21,10 +21,10 @@ use Rattle.request_form.specs.Answers.{UpdateAnswer, Unless, update_fault}
 use Rattle.request_form.specs.declared.form.Fault.{Fault}
 use Rattle.request_form.specs.declared.form.Reply.{Reply}
 use Rattle.request_form.specs.declared.form.Reply.TheVariants as Replies
-use Rattle.client_session.specs.Kept.{IsWoven}
+use Rattle.client_session.specs.SessionInvariant.{IsWoven}
 use Rattle.client_session.specs.Results.{desk_fault}
 use Rattle.client_session.specs.Sessions.{session_at}
-use Rattle.client_session.specs.Tickets.{held_of}
+use Rattle.client_session.specs.Tickets.{ticket_of}
 use Rattle.client_session.specs.Updates.{IsNumbered}
 use Rattle.client_session.proofs.Turns.{Took, took, went_changed, outcome_of_gap, seen_event}
 use Rattle.client_session.proofs.Standing.{session_after, session_doors}
@@ -50,7 +50,7 @@ pub returns-in-Some-clause-refused : goal.returns-in-Some-clause-refused
 returns-in-Some-clause-refused g c =
     let i = c.self.inside in
     let s : Session = session_at i.shared.now.fixed i.pass.caller i.pass.seen i.held i.next in
-    let tickets : length s.tickets ≡ c.count.result = length-map i.held held_of ∙ sym c.count.ensures.count in
+    let tickets : length s.tickets ≡ c.count.result = length-map i.held ticket_of ∙ sym c.count.ensures.count in
     rw (← c.self.view_is) (said_first (update_fault s c.args.bytes.now) c.in-Some.fault s _ (sym c.in-Some.is ∙ c.fault_of_update.ensures.fault s tickets))
 
 pub invariant_of-self-in-Err-assign : goal.invariant_of-self-in-Err-assign
@@ -60,7 +60,7 @@ invariant_of-self-in-Err-assign g c =
     let fixed = i.shared.now.fixed in
     let new = c.assign.new.pass in
     let cut : Cut = arc_value c.in-Ok.pages in
-    let bytes : List ℕ = joined cut.pages in
+    let bytes : List ℕ = bytes_of_pages cut.pages in
     let r : Result NumberedUpdate DeskFault = Err c.in-Err-assign.fault in
     let t : Took by i.pass.seen new.seen (λ before after. Changed fixed (Calls.Assign c.args.blob c.args.place bytes) (Events.Assign by c.args.blob c.args.place bytes) (λ (t : NumberedUpdate). Outcomes.Assigned t.version t.at t.size) (λ (x : DeskFault). x) before by r after × IfOk r (λ t. IsNewTicket fixed c.args.blob by cut before after t)) =
     took c.gaps_are_of_others.ensures fixed i.pass new (λ before f after. Changed f (Calls.Assign c.args.blob c.args.place bytes) (Events.Assign by c.args.blob c.args.place bytes) (λ (t : NumberedUpdate). Outcomes.Assigned t.version t.at t.size) (λ (x : DeskFault). x) before by r after × IfOk r (λ t. IsNewTicket f c.args.blob by cut before after t)) c.self.invariant.pass_is.fixed (λ before after x. x.0.log) c.in-Err-assign.ensures.turned
@@ -79,7 +79,7 @@ returns-in-Err-assign-clause-refused g c =
     let fixed = i.shared.now.fixed in
     let new = c.assign.new.pass in
     let cut : Cut = arc_value c.in-Ok.pages in
-    let bytes : List ℕ = joined cut.pages in
+    let bytes : List ℕ = bytes_of_pages cut.pages in
     let r : Result NumberedUpdate DeskFault = Err c.in-Err-assign.fault in
     let t : Took by i.pass.seen new.seen (λ before after. Changed fixed (Calls.Assign c.args.blob c.args.place bytes) (Events.Assign by c.args.blob c.args.place bytes) (λ (t : NumberedUpdate). Outcomes.Assigned t.version t.at t.size) (λ (x : DeskFault). x) before by r after × IfOk r (λ t. IsNewTicket fixed c.args.blob by cut before after t)) =
     took c.gaps_are_of_others.ensures fixed i.pass new (λ before f after. Changed f (Calls.Assign c.args.blob c.args.place bytes) (Events.Assign by c.args.blob c.args.place bytes) (λ (t : NumberedUpdate). Outcomes.Assigned t.version t.at t.size) (λ (x : DeskFault). x) before by r after × IfOk r (λ t. IsNewTicket f c.args.blob by cut before after t)) c.self.invariant.pass_is.fixed (λ before after x. x.0.log) c.in-Err-assign.ensures.turned
@@ -90,13 +90,13 @@ returns-in-Err-assign-clause-refused g c =
     let s : Session = session_at fixed by i.pass.seen i.held i.next in
     let s' : Session = session_at fixed by new.seen i.held i.next in
     let reply : Reply = Replies.Refused (desk_fault c.in-Err-assign.fault) in
-    let tickets : length s.tickets ≡ c.count.result = length-map i.held held_of ∙ sym c.count.ensures.count in
+    let tickets : length s.tickets ≡ c.count.result = length-map i.held ticket_of ∙ sym c.count.ensures.count in
     let none : None ≡ update_fault s c.args.bytes.now = sym c.in_default.is ∙ c.fault_of_update.ensures.fault s tickets in
     let answer : UpdateAnswer AllOther s c.args.blob c.args.place c.args.bytes.now ⊥ reply s' =
     subst (λ (b : List ℕ). UpdateAnswer AllOther s c.args.blob c.args.place b ⊥ reply s') c.in-Ok.ensures.bytes
     (not_assigned fixed by i.pass.seen new.seen i.held i.next c.args.blob c.args.place bytes (λ (t : NumberedUpdate). Outcomes.Assigned t.version t.at t.size) ⊥ c.in-Err-assign.fault t0)
     in
-    let same : new.caller ≡ by = ap (λ (p : Held Event DeskFixed). p.caller) c.assign.ensures.pass in
+    let same : new.caller ≡ by = ap (λ (p : PassView Event DeskFixed). p.caller) c.assign.ensures.pass in
     rw (← c.self.view_is, c.fault_of.ensures.is, same) (not_said (update_fault s c.args.bytes.now) s reply s' _ none answer)
 
 pub invariant_of-self-2 : goal.invariant_of-self-2
@@ -106,7 +106,7 @@ invariant_of-self-2 g c =
     let fixed = i.shared.now.fixed in
     let new = c.assign.new.pass in
     let cut : Cut = arc_value c.in-Ok.pages in
-    let bytes : List ℕ = joined cut.pages in
+    let bytes : List ℕ = bytes_of_pages cut.pages in
     let r : Result NumberedUpdate DeskFault = Ok c.in-Ok-assign.ticket in
     let t : Took by i.pass.seen new.seen (λ before after. Changed fixed (Calls.Assign c.args.blob c.args.place bytes) (Events.Assign by c.args.blob c.args.place bytes) (λ (t : NumberedUpdate). Outcomes.Assigned t.version t.at t.size) (λ (x : DeskFault). x) before by r after × IfOk r (λ t. IsNewTicket fixed c.args.blob by cut before after t)) =
     took c.gaps_are_of_others.ensures fixed i.pass new (λ before f after. Changed f (Calls.Assign c.args.blob c.args.place bytes) (Events.Assign by c.args.blob c.args.place bytes) (λ (t : NumberedUpdate). Outcomes.Assigned t.version t.at t.size) (λ (x : DeskFault). x) before by r after × IfOk r (λ t. IsNewTicket f c.args.blob by cut before after t)) c.self.invariant.pass_is.fixed (λ before after x. x.0.log) c.in-Ok-assign.ensures.turned
@@ -125,7 +125,7 @@ returns-clause-numbered g c =
     let fixed = i.shared.now.fixed in
     let new = c.assign.new.pass in
     let cut : Cut = arc_value c.in-Ok.pages in
-    let bytes : List ℕ = joined cut.pages in
+    let bytes : List ℕ = bytes_of_pages cut.pages in
     let r : Result NumberedUpdate DeskFault = Ok c.in-Ok-assign.ticket in
     let t : Took by i.pass.seen new.seen (λ before after. Changed fixed (Calls.Assign c.args.blob c.args.place bytes) (Events.Assign by c.args.blob c.args.place bytes) (λ (t : NumberedUpdate). Outcomes.Assigned t.version t.at t.size) (λ (x : DeskFault). x) before by r after × IfOk r (λ t. IsNewTicket fixed c.args.blob by cut before after t)) =
     took c.gaps_are_of_others.ensures fixed i.pass new (λ before f after. Changed f (Calls.Assign c.args.blob c.args.place bytes) (Events.Assign by c.args.blob c.args.place bytes) (λ (t : NumberedUpdate). Outcomes.Assigned t.version t.at t.size) (λ (x : DeskFault). x) before by r after × IfOk r (λ t. IsNewTicket f c.args.blob by cut before after t)) c.self.invariant.pass_is.fixed (λ before after x. x.0.log) c.in-Ok-assign.ensures.turned
@@ -136,7 +136,7 @@ returns-clause-numbered g c =
     let ticket : NumberedUpdate = c.in-Ok-assign.ticket in
     let n : IsNewTicket fixed c.args.blob by cut (i.pass.seen ++ t.gap) new.seen ticket = t.gives.1 in
     let s : Session = session_at fixed by i.pass.seen i.held i.next in
-    let tickets : length s.tickets ≡ c.count.result = length-map i.held held_of ∙ sym c.count.ensures.count in
+    let tickets : length s.tickets ≡ c.count.result = length-map i.held ticket_of ∙ sym c.count.ensures.count in
     let none : update_fault s c.args.bytes.now ≡ None = sym (c.fault_of_update.ensures.fault s tickets) ∙ c.in_default.is in
     let row : Option UpdateRow = option_map (λ x. arc_value x) c.match-weave.row in
     let pages : LieAmong fixed.houses ticket.pages.pages =
@@ -149,7 +149,7 @@ returns-clause-numbered g c =
     ]
     in
     let few : length i.held < 64 = let a = c.count.ensures.count in let b = c.count.ensures.few in let d = c.in_default.ensures.room in omega arith in
-    let same : new.caller ≡ by = ap (λ (p : Held Event DeskFixed). p.caller) c.assign.ensures.pass in
+    let same : new.caller ≡ by = ap (λ (p : PassView Event DeskFixed). p.caller) c.assign.ensures.pass in
     let e : Event = Events.Assign by c.args.blob c.args.place bytes in
     let made : IsNumbered (record { store = i.shared.now; caller = by; log = i.pass.seen; held = i.held; next = i.next; doors = i.doors }) c.args.blob c.args.place bytes ticket row (record { store = i.shared.now; caller = by; log = new.seen; held = i.held; next = i.next; doors = c.store_bytes.new.doors }) =
     record {
@@ -179,7 +179,7 @@ returns-clause-goes_on g c =
     let fixed = i.shared.now.fixed in
     let new = c.assign.new.pass in
     let cut : Cut = arc_value c.in-Ok.pages in
-    let bytes : List ℕ = joined cut.pages in
+    let bytes : List ℕ = bytes_of_pages cut.pages in
     let r : Result NumberedUpdate DeskFault = Ok c.in-Ok-assign.ticket in
     let t : Took by i.pass.seen new.seen (λ before after. Changed fixed (Calls.Assign c.args.blob c.args.place bytes) (Events.Assign by c.args.blob c.args.place bytes) (λ (t : NumberedUpdate). Outcomes.Assigned t.version t.at t.size) (λ (x : DeskFault). x) before by r after × IfOk r (λ t. IsNewTicket fixed c.args.blob by cut before after t)) =
     took c.gaps_are_of_others.ensures fixed i.pass new (λ before f after. Changed f (Calls.Assign c.args.blob c.args.place bytes) (Events.Assign by c.args.blob c.args.place bytes) (λ (t : NumberedUpdate). Outcomes.Assigned t.version t.at t.size) (λ (x : DeskFault). x) before by r after × IfOk r (λ t. IsNewTicket f c.args.blob by cut before after t)) c.self.invariant.pass_is.fixed (λ before after x. x.0.log) c.in-Ok-assign.ensures.turned
@@ -189,6 +189,6 @@ returns-clause-goes_on g c =
     in
     rw (← c.self.view_is) (record {
       store = refl;
-      caller = ap (λ (p : Held Event DeskFixed). p.caller) c.assign.ensures.pass;
+      caller = ap (λ (p : PassView Event DeskFixed). p.caller) c.assign.ensures.pass;
       begins = (went_changed fixed by i.pass.seen new.seen (Calls.Assign c.args.blob c.args.place bytes) (Events.Assign by c.args.blob c.args.place bytes) (λ (t : NumberedUpdate). Outcomes.Assigned t.version t.at t.size) (λ (x : DeskFault). x) r t0).begins;
     })

@@ -7,7 +7,7 @@ use Rattle.blob_model.specs.declared.call.Event.{Event}
 use Rattle.blob_model.specs.declared.call.Outcome.TheVariants as Outcomes
 use Rattle.snapshot.specs.Versions.{Version, IsVersionIn, size_now}
 use Rattle.snapshot.specs.Laws.{TellUpdates}
-use Rattle.turn_lock.specs.Shown.{Held as Seat}
+use Rattle.turn_lock.specs.Shown.{PassView as Seat}
 use Rattle.version_manager.specs.Desks.{updates_in}
 use Rattle.version_manager.specs.Log.{Opened, desk_at, outcome_in}
 use Rattle.version_manager.specs.declared.journal.DeskFixed.{DeskFixed}

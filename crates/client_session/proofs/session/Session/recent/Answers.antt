@@ -1,7 +1,7 @@
 use Rattle.std.proofs.Common.{◌≡◌, ap}
 use Rattle.blob_model.specs.declared.call.Call.TheVariants as Calls
 use Rattle.blob_model.specs.declared.call.Event.{Event}
-use Rattle.turn_lock.specs.Shown.{Held}
+use Rattle.turn_lock.specs.Shown.{PassView}
 use Rattle.version_manager.specs.Log.{Looked}
 use Rattle.version_manager.specs.declared.journal.DeskFixed.{DeskFixed}
 use Rattle.client_session.proofs.Turns.{Took, took, looked, went_looked}
@@ -27,5 +27,5 @@ returns-clause-answers g c =
     let t : Took by i.pass.seen c.recent.new.pass.seen (λ before after. Looked fixed (Calls.Recent c.args.blob) before by c.recent.result after) =
     took c.gaps_are_of_others.ensures fixed i.pass c.recent.new.pass (λ before f after. Looked f (Calls.Recent c.args.blob) before by c.recent.result after) c.self.invariant.pass_is.fixed (λ before after x. x.log) c.recent.ensures.turned
     in
-    let same : c.recent.new.pass.caller ≡ by = ap (λ (p : Held Event DeskFixed). p.caller) c.recent.ensures.pass in
+    let same : c.recent.new.pass.caller ≡ by = ap (λ (p : PassView Event DeskFixed). p.caller) c.recent.ensures.pass in
     rw (← c.self.view_is, same) (looked fixed by i.pass.seen c.recent.new.pass.seen (Calls.Recent c.args.blob) c.recent.result i.held i.next t)

@@ -3,11 +3,11 @@ use Rattle.std.specs.Prelude.{option_map, slice_get, slice_set}
 use Rattle.std.specs.Arc.{arc_value}
 use Rattle.page_store.specs.Stored.{Cut, LieAmong}
 use Rattle.border_hints.specs.Numbered.{NumberedUpdate}
-use Rattle.node_store.specs.Rows.{UpdateRow}
+use Rattle.node_store.specs.UpdateRows.{UpdateRow}
 use Rattle.client_session.specs.Tickets.{OpenUpdate, with_row}
-use Rattle.client_session.specs.Kept.{IsOpen, IsWoven, IsSession}
+use Rattle.client_session.specs.SessionInvariant.{IsOpen, IsWoven, IsSession}
 use Rattle.client_session.specs.Sessions.{SessionState}
-use Rattle.client_session.proofs.Rows.{at_place, kept_row, same_at}
+use Rattle.client_session.proofs.HeldRows.{at_index, kept_row, same_at}
 use Rattle.client_session.proofs.Holding.{holding_row}
 use Rattle.client_session.proofs.session.Session.row_at.Goals as goal
 
@@ -16,11 +16,11 @@ returns-in-Some-clause-kept g c = λ o at.
     let i = c.self.inside in
     let v = c.args.self.now in
     let held : i.held ≡ v.held = ap (λ (s : SessionState g.row.D.Denot). s.held) c.self.view_is in
-    let there : slice_get i.held c.args.place ≡ Some o = ap (λ (os : List OpenUpdate). slice_get os c.args.place) held ∙ at in
-    let same : o ≡ c.at.result.now = same_at i.held c.args.place o c.at.result.now there c.at.ensures in
+    let there : slice_get i.held c.args.index ≡ Some o = ap (λ (os : List OpenUpdate). slice_get os c.args.index) held ∙ at in
+    let same : o ≡ c.at.result.now = same_at i.held c.args.index o c.at.result.now there c.at.ensures in
     let asked : option_map (λ r. arc_value r) c.in_ok-row.field-0 ≡ c.at.result.now.row = c.in_ok-row.ensures in
     let row : option_map (λ r. arc_value r) c.in_ok-row.field-0 ≡ Some (arc_value c.in-Some.row) = ap (λ r. option_map (λ x. arc_value x) r) c.in-Some.is in
-    let stays : v.held ≡ slice_set v.held c.args.place (with_row o (arc_value c.in-Some.row)) = kept_row v.held c.args.place o (arc_value c.in-Some.row) at (ap (λ (x : OpenUpdate). x.row) same ∙ (sym asked ∙ row)) in
+    let stays : v.held ≡ slice_set v.held c.args.index (with_row o (arc_value c.in-Some.row)) = kept_row v.held c.args.index o (arc_value c.in-Some.row) at (ap (λ (x : OpenUpdate). x.row) same ∙ (sym asked ∙ row)) in
     ap (λ (os : List OpenUpdate). record { store = v.store; caller = v.caller; log = v.log; held = os; next = v.next; doors = v.doors }) stays
 
 pub invariant_of-self : goal.invariant_of-self
@@ -28,7 +28,7 @@ invariant_of-self g c =
     let i = c.self.inside in
     let o : OpenUpdate = c.at-2.result.now in
     let fixed = i.shared.now.fixed in
-    let open_ : IsOpen fixed i.pass.seen o = at_place (IsOpen fixed i.pass.seen) i.held c.args.place o c.at-2.ensures c.self.invariant.holding.open_ in
+    let open_ : IsOpen fixed i.pass.seen o = at_index (IsOpen fixed i.pass.seen) i.held c.args.index o c.at-2.ensures c.self.invariant.holding.open_ in
     let pages : (arc_value c.in_ok-row-2.row).pages ≡ o.ticket.pages = c.in_ok-row-2.ensures.pages ∙ ap (λ (t : NumberedUpdate). t.pages) c.ticket.ensures in
     let own : IsWoven fixed.houses c.ticket.result.now (arc_value c.in_ok-row-2.row) =
     record { for = c.in_ok-row-2.ensures.row; under = c.in_ok-row-2.ensures.under; here = subst (λ (x : Cut). LieAmong fixed.houses x.pages) (sym pages) open_.here }
@@ -38,13 +38,13 @@ invariant_of-self g c =
     in
     let s = c.self.invariant in
     let kept : arc_value c.in_ok-kept.kept ≡ arc_value c.in_ok-row-2.row = c.in_ok-kept.ensures in
-    let held : c.set_row.new.self ≡ slice_set i.held c.args.place (with_row o (arc_value c.in_ok-row-2.row)) =
-    c.set_row.ensures o c.at-2.ensures ∙ ap (λ (r : UpdateRow). slice_set i.held c.args.place (with_row o r)) kept
+    let held : c.set_row.new.self ≡ slice_set i.held c.args.index (with_row o (arc_value c.in_ok-row-2.row)) =
+    c.set_row.ensures o c.at-2.ensures ∙ ap (λ (r : UpdateRow). slice_set i.held c.args.index (with_row o r)) kept
     in
     subst (λ (os : List OpenUpdate). IsSession g.D.Door.is_true i.shared.now i.pass os i.next i.doors i.room) (sym held)
     (record {
       pass_is = s.pass_is;
-      holding = holding_row fixed i.pass.seen i.held i.next c.args.place o (arc_value c.in_ok-row-2.row) c.at-2.ensures woven s.holding;
+      holding = holding_row fixed i.pass.seen i.held i.next c.args.index o (arc_value c.in_ok-row-2.row) c.at-2.ensures woven s.holding;
       housed = s.housed;
       served = s.served;
       true_doors = s.true_doors;
@@ -56,7 +56,7 @@ returns-clause-woven g c = λ u at.
     let i = c.self.inside in
     let o : OpenUpdate = c.at-2.result.now in
     let fixed = i.shared.now.fixed in
-    let open_ : IsOpen fixed i.pass.seen o = at_place (IsOpen fixed i.pass.seen) i.held c.args.place o c.at-2.ensures c.self.invariant.holding.open_ in
+    let open_ : IsOpen fixed i.pass.seen o = at_index (IsOpen fixed i.pass.seen) i.held c.args.index o c.at-2.ensures c.self.invariant.holding.open_ in
     let pages : (arc_value c.in_ok-row-2.row).pages ≡ o.ticket.pages = c.in_ok-row-2.ensures.pages ∙ ap (λ (t : NumberedUpdate). t.pages) c.ticket.ensures in
     let own : IsWoven fixed.houses c.ticket.result.now (arc_value c.in_ok-row-2.row) =
     record { for = c.in_ok-row-2.ensures.row; under = c.in_ok-row-2.ensures.under; here = subst (λ (x : Cut). LieAmong fixed.houses x.pages) (sym pages) open_.here }
@@ -65,7 +65,7 @@ returns-clause-woven g c = λ u at.
     subst (λ (t : NumberedUpdate). IsWoven fixed.houses t (arc_value c.in_ok-row-2.row)) c.ticket.ensures own
     in
     let v = c.args.self.now in
-    let there : slice_get i.held c.args.place ≡ Some u = ap (λ (s : SessionState g.row.D.Denot). slice_get s.held c.args.place) c.self.view_is ∙ at in
-    let same : o ≡ u = same_at i.held c.args.place o u c.at-2.ensures there in
+    let there : slice_get i.held c.args.index ≡ Some u = ap (λ (s : SessionState g.row.D.Denot). slice_get s.held c.args.index) c.self.view_is ∙ at in
+    let same : o ≡ u = same_at i.held c.args.index o u c.at-2.ensures there in
     subst (λ (s : SessionState g.row.D.Denot). IsWoven s.store.fixed.houses u.ticket (arc_value c.in_ok-row-2.row)) c.self.view_is
     (subst (λ (x : OpenUpdate). IsWoven fixed.houses x.ticket (arc_value c.in_ok-row-2.row)) same woven)

@@ -2,15 +2,15 @@ use Rattle.std.proofs.Common.{◌≡◌, sym, ◌∙◌, ap, subst, ℕ, List, O
 use Rattle.std.specs.Prelude.{option_map}
 use Rattle.std.specs.Arc.{arc_value}
 use Rattle.blob_model.specs.declared.call.Event.{Event}
-use Rattle.node_store.specs.Rows.{UpdateRow}
+use Rattle.node_store.specs.UpdateRows.{UpdateRow}
 use Rattle.border_hints.specs.Numbered.{NumberedUpdate}
-use Rattle.turn_lock.specs.Shown.{Held as Seat}
+use Rattle.turn_lock.specs.Shown.{PassView}
 use Rattle.version_manager.specs.declared.journal.DeskFixed.{DeskFixed}
 use Rattle.request_form.specs.Session.{Session, holds}
 use Rattle.request_form.specs.declared.form.Reply.TheVariants as Replies
 use Rattle.request_form.specs.declared.form.Fault.TheVariants as Faults
 use Rattle.request_form.specs.Replies.{fault_of}
-use Rattle.client_session.specs.Kept.{IsOpen}
+use Rattle.client_session.specs.SessionInvariant.{IsOpen}
 use Rattle.turn_lock.specs.History.{Begins}
 use Rattle.client_session.specs.Sessions.{SessionState, Continues, session_at, session_of}
 use Rattle.client_session.specs.Updates.{IsNumbered, update_reply}
@@ -86,7 +86,7 @@ returns-in-Ok-report-clause-answers g c =
     let mid : SessionState g.row.D.Denot = record { store = i.shared.now; caller = i.pass.caller; log = i.pass.seen; held = i.held; next = i.next; doors = i.doors } in
     let n : IsNumbered s c.args.blob c.args.place c.args.bytes.now t row mid = subst (λ (m : SessionState g.row.D.Denot). IsNumbered s c.args.blob c.args.place c.args.bytes.now t row m) (sym c.self.view_is) c.in-Ok.ensures.numbered in
     let next : mid.next ≡ s.next = ap (λ (x : Session). x.next) n.seen in
-    let same : c.report.new.pass.caller ≡ i.pass.caller = ap (λ (p : Seat Event DeskFixed). p.caller) c.report.ensures.pass in
+    let same : c.report.new.pass.caller ≡ i.pass.caller = ap (λ (p : PassView Event DeskFixed). p.caller) c.report.ensures.pass in
     let after : Session = session_at i.shared.now.fixed i.pass.caller c.report.new.pass.seen i.held i.next in
     rw (same, c.version.ensures.version, c.at.ensures, c.size.ensures)
     (update_done (session_of s) c.args.blob c.args.place c.args.bytes.now (update_reply c.args.place t.version t.at t.size) after n.taken
@@ -101,7 +101,7 @@ returns-in-Err-Refused-default-clause-answers g c =
     let mid : SessionState g.row.D.Denot = record { store = i.shared.now; caller = i.pass.caller; log = i.pass.seen; held = i.held; next = i.next; doors = i.doors } in
     let n : IsNumbered s c.args.blob c.args.place c.args.bytes.now t row mid = subst (λ (m : SessionState g.row.D.Denot). IsNumbered s c.args.blob c.args.place c.args.bytes.now t row m) (sym c.self.view_is) c.in-Ok.ensures.numbered in
     let next : mid.next ≡ s.next = ap (λ (x : Session). x.next) n.seen in
-    let same : c.report.new.pass.caller ≡ i.pass.caller = ap (λ (p : Seat Event DeskFixed). p.caller) c.report.ensures.pass in
+    let same : c.report.new.pass.caller ≡ i.pass.caller = ap (λ (p : PassView Event DeskFixed). p.caller) c.report.ensures.pass in
     let after : Session = session_at i.shared.now.fixed i.pass.caller c.report.new.pass.seen i.held i.next in
     let refusal = c.in-Err-Refused-default.refusal in
     rw (same, c.of.ensures)
@@ -120,7 +120,7 @@ returns-in-Err-NoMemory-default-clause-answers g c =
     let new = c.report.new.pass in
     let m1 : SessionState g.row.D.Denot = record { store = i.shared.now; caller = new.caller; log = new.seen; held = i.held; next = i.next; doors = i.doors } in
     let more = c.hold-ticket-in-Err-NoMemory-default in
-    let same : new.caller ≡ i.pass.caller = ap (λ (p : Seat Event DeskFixed). p.caller) c.report.ensures.pass in
+    let same : new.caller ≡ i.pass.caller = ap (λ (p : PassView Event DeskFixed). p.caller) c.report.ensures.pass in
     let s' : Session = session_of more.new.self in
     let is : s' ≡ holds (session_at i.shared.now.fixed i.pass.caller new.seen i.held i.next) t.blob t.version =
     held_more m1 more.new.self t (Some (arc_value c.in-Err-NoMemory-default.row)) more.ensures.held ∙ ap (λ (k : ℕ). holds (session_at i.shared.now.fixed k new.seen i.held i.next) t.blob t.version) same
@@ -139,7 +139,7 @@ returns-in-Err-NoMemory-default-clause-goes_on g c =
     let before : Continues s mid = subst (λ (m : SessionState g.row.D.Denot). Continues s m) (sym c.self.view_is) c.number.ensures.goes_on in
     record {
       store = ap (λ (x : SessionState g.row.D.Denot). x.store) more.ensures.held ∙ before.store;
-      caller = ap (λ (x : SessionState g.row.D.Denot). x.caller) more.ensures.held ∙ (ap (λ (p : Seat Event DeskFixed). p.caller) c.report.ensures.pass ∙ before.caller);
+      caller = ap (λ (x : SessionState g.row.D.Denot). x.caller) more.ensures.held ∙ (ap (λ (p : PassView Event DeskFixed). p.caller) c.report.ensures.pass ∙ before.caller);
       begins = subst (λ (l : List (ℕ × Event)). Begins s.log l) (sym (ap (λ (x : SessionState g.row.D.Denot). x.log) more.ensures.held)) (begins_both s.log i.pass.seen c.report.new.pass.seen before.begins c.report.ensures.went.begins);
     }
 
@@ -151,6 +151,6 @@ returns-in-Ok-report-clause-goes_on g c =
     let before : Continues s mid = subst (λ (m : SessionState g.row.D.Denot). Continues s m) (sym c.self.view_is) c.number.ensures.goes_on in
     record {
       store = before.store;
-      caller = ap (λ (p : Seat Event DeskFixed). p.caller) c.report.ensures.pass ∙ before.caller;
+      caller = ap (λ (p : PassView Event DeskFixed). p.caller) c.report.ensures.pass ∙ before.caller;
       begins = begins_both s.log i.pass.seen c.report.new.pass.seen before.begins c.report.ensures.went.begins;
     }

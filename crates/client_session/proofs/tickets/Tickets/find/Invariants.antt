@@ -1,5 +1,5 @@
 use Rattle.client_session.proofs.Finding.{NoneBefore}
 use Rattle.client_session.proofs.tickets.Tickets.find.Given as goal
 
-abbrev pub invariant-loop-place : goal.invariant-loop-place
-invariant-loop-place l = NoneBefore l.open-items l.number l.place
+abbrev pub invariant-loop-index : goal.invariant-loop-index
+invariant-loop-index l = NoneBefore l.open-items l.number l.index

@@ -11,10 +11,10 @@ returns-clause-none_fell g c =
     let stands = c.self.inside.stands.items in
     let served = rw (← c.self.view_is) at c.requires.served in
     let same = c.provider-provider.ensures in
-    let place = c.provider-provider.result - 1 in
-    let within : place < length stands = omega (arith, same, served.0, served.1, length-map stands door) in
-    let here : c.index_mut-stand.result.now.door ≡ get_or (map door stands) place c.index_mut-stand.result.now.door = ap door c.index_mut-stand.ensures.value ∙ sym (get_or-map door stands place c.index_mut-stand.result.now _ within) in
-    rw (← c.self.view_is, map-set door stands place _) (none_falls g.D.Door.faults (map door stands) place _ c.get.new.self here c.get.ensures.never_falls)
+    let index = c.provider-provider.result - 1 in
+    let within : index < length stands = omega (arith, same, served.0, served.1, length-map stands door) in
+    let here : c.index_mut-stand.result.now.door ≡ get_or (map door stands) index c.index_mut-stand.result.now.door = ap door c.index_mut-stand.ensures.value ∙ sym (get_or-map door stands index c.index_mut-stand.result.now _ within) in
+    rw (← c.self.view_is, map-set door stands index _) (none_falls g.D.Door.faults (map door stands) index _ c.get.new.self here c.get.ensures.never_falls)
 
 pub returns-clause-failed : goal.returns-clause-failed
 returns-clause-failed g c =
@@ -22,10 +22,10 @@ returns-clause-failed g c =
     let stands = c.self.inside.stands.items in
     let served = rw (← c.self.view_is) at c.requires.served in
     let same = c.provider-provider.ensures in
-    let place = c.provider-provider.result - 1 in
-    let within : place < length stands = omega (arith, same, served.0, served.1, length-map stands door) in
-    let here : c.index_mut-stand.result.now.door ≡ get_or (map door stands) place c.index_mut-stand.result.now.door = ap door c.index_mut-stand.ensures.value ∙ sym (get_or-map door stands place c.index_mut-stand.result.now _ within) in
-    rw (← c.self.view_is, ← same, map-set door stands place _) (OnGetFailed-weaken _ _ (rises_at g.D.Door.faults (map door stands) place _ c.get.new.self (omega (arith, within, length-map stands door)) here) c.get.result c.get.ensures.failed)
+    let index = c.provider-provider.result - 1 in
+    let within : index < length stands = omega (arith, same, served.0, served.1, length-map stands door) in
+    let here : c.index_mut-stand.result.now.door ≡ get_or (map door stands) index c.index_mut-stand.result.now.door = ap door c.index_mut-stand.ensures.value ∙ sym (get_or-map door stands index c.index_mut-stand.result.now _ within) in
+    rw (← c.self.view_is, ← same, map-set door stands index _) (OnGetFailed-weaken _ _ (rises_at g.D.Door.faults (map door stands) index _ c.get.new.self (omega (arith, within, length-map stands door)) here) c.get.result c.get.ensures.failed)
 
 pub returns-clause-others : goal.returns-clause-others
 returns-clause-others g c =
@@ -33,7 +33,7 @@ returns-clause-others g c =
     let stands = c.self.inside.stands.items in
     let served = rw (← c.self.view_is) at c.requires.served in
     let same = c.provider-provider.ensures in
-    rw (← c.self.view_is, same, map-set door stands (c.args.page.now.place.provider - 1) _) (others_stay g.D.Door.faults (map door stands) c.args.page.now.place c.get.new.self served.0)
+    rw (← c.self.view_is, same, map-set door stands (c.args.page.now.spot.provider - 1) _) (others_stay g.D.Door.faults (map door stands) c.args.page.now.spot c.get.new.self served.0)
 
 pub returns-clause-got : goal.returns-clause-got
 returns-clause-got g c = λ t.
@@ -41,11 +41,11 @@ returns-clause-got g c = λ t.
     let stands = c.self.inside.stands.items in
     let served = rw (← c.self.view_is) at c.requires.served in
     let same = c.provider-provider.ensures in
-    let place = c.provider-provider.result - 1 in
-    let within : place < length stands = omega (arith, same, served.0, served.1, length-map stands door) in
-    let here : c.index_mut-stand.result.now.door ≡ get_or (map door stands) place c.index_mut-stand.result.now.door = ap door c.index_mut-stand.ensures.value ∙ sym (get_or-map door stands place c.index_mut-stand.result.now _ within) in
+    let index = c.provider-provider.result - 1 in
+    let within : index < length stands = omega (arith, same, served.0, served.1, length-map stands door) in
+    let here : c.index_mut-stand.result.now.door ≡ get_or (map door stands) index c.index_mut-stand.result.now.door = ap door c.index_mut-stand.ensures.value ∙ sym (get_or-map door stands index c.index_mut-stand.result.now _ within) in
     let all = rw (← c.self.view_is) at t in
-    let true_door : g.D.Door.is_true c.index_mut-stand.result.now.door = rw here (all place c.index_mut-stand.result.now.door (omega (arith, within, length-map stands door))) in
+    let true_door : g.D.Door.is_true c.index_mut-stand.result.now.door = rw here (all index c.index_mut-stand.result.now.door (omega (arith, within, length-map stands door))) in
     OnGot-given _ _ true_door c.get.result c.get.ensures.got
 
 pub returns-clause-truth_stays : goal.returns-clause-truth_stays
@@ -54,9 +54,9 @@ returns-clause-truth_stays g c = λ t.
     let stands = c.self.inside.stands.items in
     let served = rw (← c.self.view_is) at c.requires.served in
     let same = c.provider-provider.ensures in
-    let place = c.provider-provider.result - 1 in
-    let within : place < length stands = omega (arith, same, served.0, served.1, length-map stands door) in
-    let here : c.index_mut-stand.result.now.door ≡ get_or (map door stands) place c.index_mut-stand.result.now.door = ap door c.index_mut-stand.ensures.value ∙ sym (get_or-map door stands place c.index_mut-stand.result.now _ within) in
+    let index = c.provider-provider.result - 1 in
+    let within : index < length stands = omega (arith, same, served.0, served.1, length-map stands door) in
+    let here : c.index_mut-stand.result.now.door ≡ get_or (map door stands) index c.index_mut-stand.result.now.door = ap door c.index_mut-stand.ensures.value ∙ sym (get_or-map door stands index c.index_mut-stand.result.now _ within) in
     let all = rw (← c.self.view_is) at t in
-    let true_door : g.D.Door.is_true c.index_mut-stand.result.now.door = rw here (all place c.index_mut-stand.result.now.door (omega (arith, within, length-map stands door))) in
-    rw (map-set door stands place _) (all_after_set g.D.Door.is_true (map door stands) place c.get.new.self all (c.get.ensures.truth_stays.0 true_door))
+    let true_door : g.D.Door.is_true c.index_mut-stand.result.now.door = rw here (all index c.index_mut-stand.result.now.door (omega (arith, within, length-map stands door))) in
+    rw (map-set door stands index _) (all_after_set g.D.Door.is_true (map door stands) index c.get.new.self all (c.get.ensures.truth_stays.0 true_door))

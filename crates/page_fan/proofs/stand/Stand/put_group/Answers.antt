@@ -6,13 +6,13 @@ use Rattle.page_fan.specs.Groups.{IsAnswer}
 use Rattle.page_fan.proofs.Group.{group_first, group_same, reply_next}
 use Rattle.page_fan.proofs.Replies.{replies_more}
 use Rattle.page_fan.proofs.stand.Stand.put_group.Goals as goal
-use Rattle.page_fan.proofs.stand.Stand.put_group.Goals.{then-put-place+else-is_err, else-put-place}
+use Rattle.page_fan.proofs.stand.Stand.put_group.Goals.{then-put-index+else-is_err, else-put-index}
 
 pub returns-then-is_err-clause-each : goal.returns-then-is_err-clause-each
 returns-then-is_err-clause-each g c =
     let kept : c.push_back.new.self.items ≡ c.loop-put.self.tray.items = search rules in
     let full : deque_capacity c.loop-put.self.tray ≤ length c.loop-put.self.tray.items = search rules in
-    let first = group_first (c.args.place + 1) c.args.puts.now c.loop-put.put-index c.loop-put.self.tray.items c.loop-put.invariant.group in
+    let first = group_first (c.args.index + 1) c.args.puts.now c.loop-put.put-index c.loop-put.self.tray.items c.loop-put.invariant.group in
     record {
       in_order = rw kept first;
       missing = λ few. rw kept (omega (arith, full, c.loop-put.invariant.room));
@@ -24,13 +24,13 @@ loop-put-preserved g c =
     let puts = c.args.puts.now in
     let i = c.loop-put.put-index in
     let known = c.requires i d c.loop-put-test.true in
-    elim c.if-put-place.branch [
-      | then-put-place+else-is_err w ↦
-          let own : (get_or puts i d).provider ≡ c.args.place + 1 = omega (arith, known.known.0, w.if-put-place.true) in
+    elim c.if-put-index.branch [
+      | then-put-index+else-is_err w ↦
+          let own : (get_or puts i d).provider ≡ c.args.index + 1 = omega (arith, known.known.0, w.if-put-index.true) in
           let reply : Reply = record { at = (get_or puts i d).at; answer = w.put-answer.result } in
           let pushed : w.push_back.new.self.items ≡ c.loop-put.self.tray.items ++ reply ∷ [] = search rules in
           let content : w.page_bytes-bytes.result.now ≡ take c.args.p (drop reply.at c.args.buffer.now) = rw w.bytes.ensures.is at w.page_bytes-bytes.ensures.bytes in
-          let answer : IsAnswer c.args.houses.now (c.args.place + 1) (take c.args.p (drop reply.at c.args.buffer.now)) (g.D.Door.faults c.loop-put.self.door) (g.D.Door.faults w.put-answer.new.self.door) reply.answer =
+          let answer : IsAnswer c.args.houses.now (c.args.index + 1) (take c.args.p (drop reply.at c.args.buffer.now)) (g.D.Door.faults c.loop-put.self.door) (g.D.Door.faults w.put-answer.new.self.door) reply.answer =
           rw (← own, ← content) record {
             here = w.put-answer.ensures.here;
             there = w.put-answer.ensures.there;
@@ -38,17 +38,17 @@ loop-put-preserved g c =
             failed = w.put-answer.ensures.failed;
           } in
           rw w.self-is record {
-            replies = rw pushed (replies_more c.args.houses.now c.args.p c.args.buffer.now (c.args.place + 1) _ _ _ c.loop-put.self.tray.items reply w.put-answer.ensures.never_falls answer c.loop-put.invariant.replies);
+            replies = rw pushed (replies_more c.args.houses.now c.args.p c.args.buffer.now (c.args.index + 1) _ _ _ c.loop-put.self.tray.items reply w.put-answer.ensures.never_falls answer c.loop-put.invariant.replies);
             truth = search rules;
-            group = reply_next (c.args.place + 1) puts i d c.loop-put.self.tray.items w.push_back.new.self.items _ c.loop-put-test.true own c.loop-put.invariant.group pushed refl;
+            group = reply_next (c.args.index + 1) puts i d c.loop-put.self.tray.items w.push_back.new.self.items _ c.loop-put-test.true own c.loop-put.invariant.group pushed refl;
             room = search rules;
           }
-      | else-put-place w ↦
-          let other : (get_or puts i d).provider ≢ c.args.place + 1 = λ same. absurd (omega (arith, same, w.if-put-place.false)) in
+      | else-put-index w ↦
+          let other : (get_or puts i d).provider ≢ c.args.index + 1 = λ same. absurd (omega (arith, same, w.if-put-index.false)) in
           rw w.self-is record {
             replies = c.loop-put.invariant.replies;
             truth = c.loop-put.invariant.truth;
-            group = c.loop-put.invariant.group ∙ sym (group_same (c.args.place + 1) puts i d c.loop-put-test.true other);
+            group = c.loop-put.invariant.group ∙ sym (group_same (c.args.index + 1) puts i d c.loop-put-test.true other);
             room = c.loop-put.invariant.room;
           }
     ]

@@ -10,8 +10,8 @@ invariant-loop-put g l =
     let faults = g.D.Door.faults in
     let is_true = g.D.Door.is_true in
     record {
-      replies : HasReplies l.houses l.p l.buffer (l.place + 1) (faults l.fn.self.door) (faults l.self.door) l.self.tray.items;
+      replies : HasReplies l.houses l.p l.buffer (l.index + 1) (faults l.fn.self.door) (faults l.self.door) l.self.tray.items;
       truth : is_true l.fn.self.door ↔ is_true l.self.door;
-      group : map (λ reply. reply.at) l.self.tray.items ≡ group_of (l.place + 1) (take l.put-index l.puts);
+      group : map (λ reply. reply.at) l.self.tray.items ≡ group_of (l.index + 1) (take l.put-index l.puts);
       room : deque_capacity l.fn.self.tray ≤ deque_capacity l.self.tray;
     }

@@ -1,6 +1,6 @@
 use Rattle.std.proofs.Common.{length, arith, ap, ◌∙◌, length-append, [], ◌∷◌}
-use Rattle.page_store.specs.Stored.{joined}
-use Rattle.page_store.proofs.Cuts.{IsCut-push, length-joined-push}
+use Rattle.page_store.specs.Stored.{bytes_of_pages}
+use Rattle.page_store.proofs.Cuts.{IsCut-push, length-bytes_of_pages-push}
 use Rattle.page_store.proofs.stored.Pages.add.Goals as goal
 
 pub invariant_of-self : goal.invariant_of-self
@@ -12,7 +12,7 @@ invariant_of-self c =
     let fits = rw (← c.self.view_is) at c.requires.fits in
     let more = c.push_reserved.ensures.items in
     let count = ap length more ∙ length-append pages (c.args.page ∷ []) in
-    let total = ap (λ l. length (joined l)) more ∙ length-joined-push pages c.args.page in
+    let total = ap (λ l. length (bytes_of_pages l)) more ∙ length-bytes_of_pages-push pages c.args.page in
     record {
       least = kept.least;
       greatest = kept.greatest;

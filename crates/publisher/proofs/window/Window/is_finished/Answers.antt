@@ -18,9 +18,9 @@ returns c =
     let items = w.above.items in
     let above = map (option_map arc_value) items in
     let version = c.args.version in
-    let place = version - c.version-published.result - 1 in
+    let slot = version - c.version-published.result - 1 in
     let log = sym (ap (λ (x : Numbered). length x.log) c.self.view_is) ∙ log_count w.snapshot w.waiting above in
-    let is : version ≡ length w.snapshot.rows + place + 1 = omega (arith, c.version-published.ensures.count, c.if-version-published.false) in
-    let within : place < length items = omega (arith, is, log, c.requires.1, c.self.invariant.paired, length-map items (option_map arc_value)) in
+    let is : version ≡ length w.snapshot.rows + slot + 1 = omega (arith, c.version-published.ensures.count, c.if-version-published.false) in
+    let within : slot < length items = omega (arith, is, log, c.requires.1, c.self.invariant.paired, length-map items (option_map arc_value)) in
     let F : Numbered → Type 0 = λ x. c.is_some.result ≡ is_finished x version in
-    subst F c.self.view_is (c.is_some.ensures ∙ sym (finished_read w.snapshot w.waiting arc_value items version place c.index.result.now is within c.index.ensures))
+    subst F c.self.view_is (c.is_some.ensures ∙ sym (finished_read w.snapshot w.waiting arc_value items version slot c.index.result.now is within c.index.ensures))

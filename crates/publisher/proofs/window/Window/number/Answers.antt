@@ -2,9 +2,9 @@ use Rattle.std.proofs.Common.{◌≡◌, ℕ, ◌+◌, ◌-◌, ◌<◌, List, [
 use Rattle.std.specs.Arc.{arc_value}
 use Rattle.std.proofs.lemmas.List.{length-map, map-append}
 use Rattle.range_log.specs.declared.open.OpenTouch.{OpenTouch}
-use Rattle.node_store.specs.Rows.{UpdateRow}
+use Rattle.node_store.specs.UpdateRows.{UpdateRow}
 use Rattle.publisher.specs.Windows.{Numbered, published_of}
-use Rattle.publisher.specs.Kept.{KeepsWindow}
+use Rattle.publisher.specs.WindowInvariant.{KeepsWindow}
 use Rattle.publisher.proofs.Windows.{published_is, log_count, open_version, keeps_numbered}
 use Rattle.publisher.proofs.window.Window.number.Goals as goal
 

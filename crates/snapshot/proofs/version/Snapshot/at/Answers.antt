@@ -1,6 +1,6 @@
 use Rattle.std.proofs.Common.{List, take, drop, sym, ap, subst}
 use Rattle.std.proofs.lemmas.List.{take-append-drop}
-use Rattle.node_store.specs.Rows.{UpdateRow}
+use Rattle.node_store.specs.UpdateRows.{UpdateRow}
 use Rattle.snapshot.specs.Versions.{IsVersion}
 use Rattle.snapshot.proofs.Growing.{IsVersion-front, of_rows}
 use Rattle.snapshot.proofs.version.Snapshot.at.Goals as goal

@@ -1,5 +1,5 @@
 use Rattle.std.proofs.Common.{ap, ◌∙◌}
-use Rattle.node_store.specs.Rows.{UpdateRow, cut_at}
+use Rattle.node_store.specs.UpdateRows.{UpdateRow, bytes_of_page}
 use Rattle.snapshot.specs.Versions.{row_at, bytes_of}
 use Rattle.snapshot.proofs.version.Snapshot.page.Goals as goal
 
@@ -7,5 +7,5 @@ pub returns-clause-bytes : goal.returns-clause-bytes
 returns-clause-bytes c =
     let s = c.args.self.now in
     let own = c.row.ensures.stands.rows c.args.j c.requires.version.0 c.requires.version.1 in
-    c.page.ensures.bytes ∙ ap (λ (r : UpdateRow). cut_at r.pages.page_size (bytes_of r) c.args.q) c.row.ensures.this
-    ∙ ap (λ p. cut_at p (bytes_of (row_at s.rows c.args.j)) c.args.q) own.page_size
+    c.page.ensures.bytes ∙ ap (λ (r : UpdateRow). bytes_of_page r.pages.page_size (bytes_of r) c.args.q) c.row.ensures.this
+    ∙ ap (λ p. bytes_of_page p (bytes_of (row_at s.rows c.args.j)) c.args.q) own.page_size

@@ -1,6 +1,6 @@
 use Rattle.std.proofs.Common.{◌≤◌, length, arith, ap, ◌∙◌}
 use Rattle.tree_geom.specs.declared.touch.Touch.{Touch}
-use Rattle.node_store.specs.Rows.{UpdateRow}
+use Rattle.node_store.specs.UpdateRows.{UpdateRow}
 use Rattle.snapshot.specs.Versions.{updates_of, row_at}
 use Rattle.snapshot.proofs.Lists.{length-updates}
 use Rattle.snapshot.proofs.Finding.{touch_size}

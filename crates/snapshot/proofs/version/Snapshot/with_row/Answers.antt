@@ -1,6 +1,6 @@
 use Rattle.std.proofs.Common.{List, sym, ap, subst, ◌∙◌}
 use Rattle.std.specs.Arc.{arc_value}
-use Rattle.node_store.specs.Rows.{UpdateRow}
+use Rattle.node_store.specs.UpdateRows.{UpdateRow}
 use Rattle.snapshot.specs.Versions.{IsVersion}
 use Rattle.snapshot.proofs.Growing.{IsVersion-push, of_rows, paged_of}
 use Rattle.snapshot.proofs.version.Snapshot.with_row.Goals as goal

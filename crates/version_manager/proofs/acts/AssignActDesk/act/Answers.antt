@@ -2,7 +2,7 @@ use Rattle.std.specs.Arc.{arc_value}
 use Rattle.blob_model.specs.declared.call.Call.TheVariants as Calls
 use Rattle.blob_model.specs.declared.call.Event.TheVariants as Events
 use Rattle.blob_model.specs.declared.call.Outcome.TheVariants as Outcomes
-use Rattle.page_store.specs.Stored.{joined}
+use Rattle.page_store.specs.Stored.{bytes_of_pages}
 use Rattle.border_hints.specs.Numbered.{NumberedUpdate, own_touch}
 use Rattle.publisher.specs.Windows.{with_numbered}
 use Rattle.version_manager.specs.Desks.{windows_with, window_in}
@@ -18,7 +18,7 @@ returns-clause-gives c =
     let blob = c.args.self.blob in
     let place = c.args.self.place in
     let pages = arc_value c.args.self.pages.now in
-    let bytes = joined pages.pages in
+    let bytes = bytes_of_pages pages.pages in
     let done = c.assign-assigned.ensures in
     let before = c.limits-before.ensures in
     let after = c.limits-after.ensures in

@@ -2,7 +2,7 @@ use Rattle.std.proofs.Common.{◌≡◌, ℕ, ◌+◌, ◌-◌, ◌<◌, List, [
 use Rattle.std.specs.Arc.{arc_value}
 use Rattle.std.proofs.lemmas.List.Elements.{All-set}
 use Rattle.tree_geom.specs.declared.touch.Touch.{Touch}
-use Rattle.page_store.specs.Stored.{Cut, joined}
+use Rattle.page_store.specs.Stored.{Cut, bytes_of_pages}
 use Rattle.snapshot.specs.Versions.{Version, IsVersion}
 use Rattle.blob_model.specs.Content.{Update, offset_of}
 use Rattle.blob_model.specs.Store.{Blob, blob_at, size_now, size_with}
@@ -16,9 +16,9 @@ use Rattle.border_hints.specs.Numbered.{own_touch}
 use Rattle.publisher.specs.Windows.{Numbered, published_of, version_of, waiting_of, with_numbered}
 use Rattle.version_manager.specs.Desks.{DeskState, no_window, OnRefused, updates_or_none, IsNumbering, HasHints}
 use Rattle.version_manager.specs.Entries.{event_of}
-use Rattle.version_manager.specs.Kept.{KeepsDesk}
+use Rattle.version_manager.specs.DeskInvariant.{KeepsDesk}
 use Rattle.version_manager.specs.Origins.{parents_of, AreUnder}
-use Rattle.version_manager.proofs.Desks.{at_place, short_yet}
+use Rattle.version_manager.proofs.Desks.{at_index, short_yet}
 use Rattle.version_manager.proofs.Numbering.{numbered_event, is_ticket, is_unfinished, assign_fault, assign_outcome, assign_keeps, assign_there, even_of}
 use Rattle.version_manager.specs.declared.entry.Change.TheVariants as Changes
 use Rattle.version_manager.specs.declared.entry.Entry.{Entry}
@@ -30,20 +30,20 @@ use Rattle.version_manager.proofs.desk.Desk.assign.Goals as goal
 pub ticket_over-requires-clause-kept : goal.ticket_over-requires-clause-kept
 ticket_over-requires-clause-kept c =
     let d = c.self.inside in
-    let x = at_place d.limits d.page_size (map event_of d.history.items) d.windows.items c.self.invariant.kept c.args.blob c.in-Some.place_in _ c.index-window.result.now d.windows.ok.0 c.in-Some.ensures c.index-window.ensures in
+    let x = at_index d.limits d.page_size (map event_of d.history.items) d.windows.items c.self.invariant.kept c.args.blob c.in-Some.place_in _ c.index-window.result.now d.windows.ok.0 c.in-Some.ensures c.index-window.ensures in
     (x.found.b, x.keeps)
 
 pub ticket_over-requires-clause-page_size : goal.ticket_over-requires-clause-page_size
 ticket_over-requires-clause-page_size c =
     let d = c.self.inside in
-    let x = at_place d.limits d.page_size (map event_of d.history.items) d.windows.items c.self.invariant.kept c.args.blob c.in-Some.place_in _ c.index-window.result.now d.windows.ok.0 c.in-Some.ensures c.index-window.ensures in
+    let x = at_index d.limits d.page_size (map event_of d.history.items) d.windows.items c.self.invariant.kept c.args.blob c.in-Some.place_in _ c.index-window.result.now d.windows.ok.0 c.in-Some.ensures c.index-window.ensures in
     c.requires.page_size ∙ sym (ap (λ (s : DeskState). s.page_size) c.self.view_is) ∙ sym x.page
 
 pub returns-in-Err-clause-refused : goal.returns-in-Err-clause-refused
 returns-in-Err-clause-refused c =
     let d = c.self.inside in
-    let bytes = joined (arc_value c.args.pages.now).pages in
-    let x = at_place d.limits d.page_size (map event_of d.history.items) d.windows.items c.self.invariant.kept c.args.blob c.in-Some.place_in _ c.index-window.result.now d.windows.ok.0 c.in-Some.ensures c.index-window.ensures in
+    let bytes = bytes_of_pages (arc_value c.args.pages.now).pages in
+    let x = at_index d.limits d.page_size (map event_of d.history.items) d.windows.items c.self.invariant.kept c.args.blob c.in-Some.place_in _ c.index-window.result.now d.windows.ok.0 c.in-Some.ensures c.index-window.ensures in
     let P : DeskState → Type 0 = λ s. OnRefused c.in-Err.fault (λ refusal. (answer (store_of s.limits s.history) c.args.caller (Calls.Assign c.args.blob c.args.place bytes)).1 ≡ Outcomes.Refused refusal) in
     subst P c.self.view_is (assign_fault d.limits d.page_size (map event_of d.history.items) d.windows.items c.self.invariant.kept c.args.caller c.args.blob c.args.place bytes x.found c.in-Err.fault (c.in-Err.ensures.refused x.found.b x.keeps))
 
@@ -51,8 +51,8 @@ pub number-requires-clause-few : goal.number-requires-clause-few
 number-requires-clause-few c =
     let d = c.self.inside in
     let h = map event_of d.history.items in
-    let x = at_place d.limits d.page_size h d.windows.items c.self.invariant.kept c.args.blob c.in-Some.place_in _ c.index-window.result.now d.windows.ok.0 c.in-Some.ensures c.index-window.ensures in
-    let y = at_place d.limits d.page_size h d.windows.items c.self.invariant.kept c.args.blob c.in-Some.place_in _ c.index_mut.result.now d.windows.ok.0 c.in-Some.ensures c.index_mut.ensures.value in
+    let x = at_index d.limits d.page_size h d.windows.items c.self.invariant.kept c.args.blob c.in-Some.place_in _ c.index-window.result.now d.windows.ok.0 c.in-Some.ensures c.index-window.ensures in
+    let y = at_index d.limits d.page_size h d.windows.items c.self.invariant.kept c.args.blob c.in-Some.place_in _ c.index_mut.result.now d.windows.ok.0 c.in-Some.ensures c.index_mut.ensures.value in
     let F : Numbered → Type 0 = λ w. length w.log < published_of w + 64 in
     subst F (x.window ∙ sym y.window) c.in-Ok.ensures.few
 
@@ -60,8 +60,8 @@ pub number-requires-clause-room : goal.number-requires-clause-room
 number-requires-clause-room c =
     let d = c.self.inside in
     let h = map event_of d.history.items in
-    let x = at_place d.limits d.page_size h d.windows.items c.self.invariant.kept c.args.blob c.in-Some.place_in _ c.index-window.result.now d.windows.ok.0 c.in-Some.ensures c.index-window.ensures in
-    let y = at_place d.limits d.page_size h d.windows.items c.self.invariant.kept c.args.blob c.in-Some.place_in _ c.index_mut.result.now d.windows.ok.0 c.in-Some.ensures c.index_mut.ensures.value in
+    let x = at_index d.limits d.page_size h d.windows.items c.self.invariant.kept c.args.blob c.in-Some.place_in _ c.index-window.result.now d.windows.ok.0 c.in-Some.ensures c.index-window.ensures in
+    let y = at_index d.limits d.page_size h d.windows.items c.self.invariant.kept c.args.blob c.in-Some.place_in _ c.index_mut.result.now d.windows.ok.0 c.in-Some.ensures c.index_mut.ensures.value in
     let F : Numbered → Type 0 = λ w. length w.log < 1048576 in
     subst F (x.window ∙ sym y.window) c.in-Ok.ensures.room
 
@@ -70,10 +70,10 @@ invariant_of-self-2 c =
     let d = c.self.inside in
     let h = map event_of d.history.items in
     let blob = c.args.blob in
-    let bytes = joined (arc_value c.args.pages.now).pages in
+    let bytes = bytes_of_pages (arc_value c.args.pages.now).pages in
     let u : Update = record { caller = c.args.caller; place = c.args.place; bytes = bytes } in
-    let x = at_place d.limits d.page_size h d.windows.items c.self.invariant.kept blob c.in-Some.place_in _ c.index-window.result.now d.windows.ok.0 c.in-Some.ensures c.index-window.ensures in
-    let y = at_place d.limits d.page_size h d.windows.items c.self.invariant.kept blob c.in-Some.place_in _ c.index_mut.result.now d.windows.ok.0 c.in-Some.ensures c.index_mut.ensures.value in
+    let x = at_index d.limits d.page_size h d.windows.items c.self.invariant.kept blob c.in-Some.place_in _ c.index-window.result.now d.windows.ok.0 c.in-Some.ensures c.index-window.ensures in
+    let y = at_index d.limits d.page_size h d.windows.items c.self.invariant.kept blob c.in-Some.place_in _ c.index_mut.result.now d.windows.ok.0 c.in-Some.ensures c.index_mut.ensures.value in
     let W : Numbered = with_numbered c.index-window.result.now (own_touch c.in-Ok.ticket) in
     let is : c.number.new.self ≡ W = c.number.ensures.new ∙ ap (λ (t : Touch). with_numbered c.index_mut.result.now t) c.touch.ensures ∙ ap (λ (w : Numbered). with_numbered w (own_touch c.in-Ok.ticket)) (y.window ∙ sym x.window) in
     let keeps = assign_keeps d.limits d.page_size h d.windows.items c.self.invariant.kept c.args.caller blob c.args.place bytes x.found (c.in-Ok.ensures.accepted x.found.b x.keeps) c.requires.some x.some W (c.in-Ok.ensures.kept x.found.b u x.keeps refl refl) x.id x.page in
@@ -106,8 +106,8 @@ returns-clause-assigned c =
     let h = map event_of d.history.items in
     let blob = c.args.blob in
     let t = c.in-Ok.ticket in
-    let bytes = joined (arc_value c.args.pages.now).pages in
-    let x = at_place d.limits d.page_size h d.windows.items c.self.invariant.kept blob c.in-Some.place_in _ c.index-window.result.now d.windows.ok.0 c.in-Some.ensures c.index-window.ensures in
+    let bytes = bytes_of_pages (arc_value c.args.pages.now).pages in
+    let x = at_index d.limits d.page_size h d.windows.items c.self.invariant.kept blob c.in-Some.place_in _ c.index-window.result.now d.windows.ok.0 c.in-Some.ensures c.index-window.ensures in
     let b : Blob = x.found.b in
     let free = c.in-Ok.ensures.accepted b x.keeps in
     let P : DeskState → Type 0 = λ s. (answer (store_of s.limits s.history) c.args.caller (Calls.Assign blob c.args.place bytes)).1 ≡ Outcomes.Assigned t.version t.at t.size in
@@ -124,13 +124,13 @@ returns-clause-numbering c =
     let h = map event_of d.history.items in
     let blob = c.args.blob in
     let t = c.in-Ok.ticket in
-    let x = at_place d.limits d.page_size h d.windows.items c.self.invariant.kept blob c.in-Some.place_in _ c.index-window.result.now d.windows.ok.0 c.in-Some.ensures c.index-window.ensures in
+    let x = at_index d.limits d.page_size h d.windows.items c.self.invariant.kept blob c.in-Some.place_in _ c.index-window.result.now d.windows.ok.0 c.in-Some.ensures c.index-window.ensures in
     let P : DeskState → Type 0 = λ s. IsNumbering s c.args.caller blob t in
     subst P c.self.view_is record {
       caller = c.in-Ok.ensures.caller;
       blob = c.in-Ok.ensures.blob ∙ x.id;
       version = c.in-Ok.ensures.version x.found.b x.keeps ∙ ap (λ o. length (updates_or_none o) + 1) (sym x.found.at);
-      len = c.in-Ok.ensures.len ∙ ap (λ (q : Cut). length (joined q.pages)) (sym c.in-Ok.ensures.pages);
+      len = c.in-Ok.ensures.len ∙ ap (λ (q : Cut). length (bytes_of_pages q.pages)) (sym c.in-Ok.ensures.pages);
       snapshot = c.in-Ok.ensures.snapshot ∙ ap version_of x.window;
       waiting = c.in-Ok.ensures.waiting ∙ ap waiting_of x.window;
     }
@@ -141,9 +141,9 @@ returns-clause-ticket c =
     let h = map event_of d.history.items in
     let blob = c.args.blob in
     let t = c.in-Ok.ticket in
-    let bytes = joined (arc_value c.args.pages.now).pages in
+    let bytes = bytes_of_pages (arc_value c.args.pages.now).pages in
     let u : Update = record { caller = c.args.caller; place = c.args.place; bytes = bytes } in
-    let x = at_place d.limits d.page_size h d.windows.items c.self.invariant.kept blob c.in-Some.place_in _ c.index-window.result.now d.windows.ok.0 c.in-Some.ensures c.index-window.ensures in
+    let x = at_index d.limits d.page_size h d.windows.items c.self.invariant.kept blob c.in-Some.place_in _ c.index-window.result.now d.windows.ok.0 c.in-Some.ensures c.index-window.ensures in
     let b : Blob = x.found.b in
     let e : Event = Events.Assign c.args.caller blob c.args.place bytes in
     let history : map event_of c.push_reserved.new.self.items ≡ h ++ e ∷ [] = numbered_event d.history.items c.reserve.new.self.items c.push_reserved.new.self.items c.args.caller blob c.args.place c.in-Ok-try_clone.pages _ c.reserve.ensures.items c.push_reserved.ensures.items c.in-Ok-try_clone.ensures in
@@ -153,16 +153,16 @@ returns-clause-ticket c =
     let updates : O (map event_of c.push_reserved.new.self.items) t.blob ≡ b.updates ++ u ∷ [] =
     ap (λ (i : ℕ). O (map event_of c.push_reserved.new.self.items) i) on ∙ ap (λ (l : List Event). O l blob) history ∙ ap updates_or_none there in
     is_ticket _ t b.updates u updates (c.in-Ok.ensures.version b x.keeps) (ap (λ (s : Version). s.page_size) c.in-Ok.ensures.snapshot ∙ x.page) (sym c.in-Ok.ensures.caller)
-    (ap (λ (q : Cut). joined q.pages) c.in-Ok.ensures.pages) (c.in-Ok.ensures.stands b u x.keeps refl refl)
+    (ap (λ (q : Cut). bytes_of_pages q.pages) c.in-Ok.ensures.pages) (c.in-Ok.ensures.stands b u x.keeps refl refl)
 
 pub returns-clause-unfinished : goal.returns-clause-unfinished
 returns-clause-unfinished c =
     let d = c.self.inside in
     let h = map event_of d.history.items in
     let blob = c.args.blob in
-    let bytes = joined (arc_value c.args.pages.now).pages in
+    let bytes = bytes_of_pages (arc_value c.args.pages.now).pages in
     let u : Update = record { caller = c.args.caller; place = c.args.place; bytes = bytes } in
-    let x = at_place d.limits d.page_size h d.windows.items c.self.invariant.kept blob c.in-Some.place_in _ c.index-window.result.now d.windows.ok.0 c.in-Some.ensures c.index-window.ensures in
+    let x = at_index d.limits d.page_size h d.windows.items c.self.invariant.kept blob c.in-Some.place_in _ c.index-window.result.now d.windows.ok.0 c.in-Some.ensures c.index-window.ensures in
     let b : Blob = x.found.b in
     let e : Event = Events.Assign c.args.caller blob c.args.place bytes in
     let history : map event_of c.push_reserved.new.self.items ≡ h ++ e ∷ [] = numbered_event d.history.items c.reserve.new.self.items c.push_reserved.new.self.items c.args.caller blob c.args.place c.in-Ok-try_clone.pages _ c.reserve.ensures.items c.push_reserved.ensures.items c.in-Ok-try_clone.ensures in
@@ -176,7 +176,7 @@ returns-clause-hints c =
     let h = map event_of d.history.items in
     let blob = c.args.blob in
     let t = c.in-Ok.ticket in
-    let x = at_place d.limits d.page_size h d.windows.items c.self.invariant.kept blob c.in-Some.place_in _ c.index-window.result.now d.windows.ok.0 c.in-Some.ensures c.index-window.ensures in
+    let x = at_index d.limits d.page_size h d.windows.items c.self.invariant.kept blob c.in-Some.place_in _ c.index-window.result.now d.windows.ok.0 c.in-Some.ensures c.index-window.ensures in
     let w = c.index-window.result.now in
     let L : Numbered → Type 0 = λ v. AreRowsIn (arc_value d.houses) v in
     let within : c.in-Some.place_in < length d.windows.items = omega (arith, d.windows.ok.0, c.in-Some.ensures.0, c.in-Some.ensures.1, c.in-Some.ensures.2) in

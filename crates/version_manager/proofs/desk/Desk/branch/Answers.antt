@@ -17,9 +17,9 @@ use Rattle.version_manager.specs.declared.entry.Entry.{Entry}
 use Rattle.version_manager.specs.declared.entry.Change.TheVariants as Changes
 use Rattle.version_manager.specs.Desks.{DeskState, no_window}
 use Rattle.version_manager.specs.Entries.{event_of}
-use Rattle.version_manager.specs.Kept.{KeepsDesk}
+use Rattle.version_manager.specs.DeskInvariant.{KeepsDesk}
 use Rattle.version_manager.specs.Origins.{parents_of, AreUnder}
-use Rattle.version_manager.proofs.Desks.{at_place, pushed_event, short_yet}
+use Rattle.version_manager.proofs.Desks.{at_index, pushed_event, short_yet}
 use Rattle.version_manager.proofs.NewBlobs.{branch_ahead, branch_full, branch_outcome, branch_keeps}
 use Rattle.version_manager.proofs.Houses.{AreRowsIn, branch_in_houses, window_lies}
 use Rattle.version_manager.proofs.Origins.{branch_under, origins_at, origins_pushed, origins_after}
@@ -32,7 +32,7 @@ returns-then-version-published-clause-refused c =
     let ws = d.windows.items in
     let blob = c.args.blob in
     let version = c.args.version in
-    let x = at_place d.limits d.page_size h ws c.self.invariant.kept blob c.in-Some.place _ c.index-parent.result.now d.windows.ok.0 c.in-Some.ensures c.index-parent.ensures in
+    let x = at_index d.limits d.page_size h ws c.self.invariant.kept blob c.in-Some.index _ c.index-parent.result.now d.windows.ok.0 c.in-Some.ensures c.index-parent.ensures in
     let is : c.published-published.result ≡ published_of (get_or ws (blob - 1) no_window) = c.published-published.ensures ∙ ap published_of x.window in
     let lt : published_of (get_or ws (blob - 1) no_window) < version = omega (arith, is, c.if-version-published.true) in
     let P : DeskState → Type 0 = λ s. (answer (store_of s.limits s.history) c.args.caller (Calls.Branch blob version)).1 ≡ Outcomes.Refused (Refusals.NotPublished version c.published-published.result) in
@@ -45,7 +45,7 @@ returns-then-count-limit-clause-refused c =
     let ws = d.windows.items in
     let blob = c.args.blob in
     let version = c.args.version in
-    let x = at_place d.limits d.page_size h ws c.self.invariant.kept blob c.in-Some.place _ c.index-parent.result.now d.windows.ok.0 c.in-Some.ensures c.index-parent.ensures in
+    let x = at_index d.limits d.page_size h ws c.self.invariant.kept blob c.in-Some.index _ c.index-parent.result.now d.windows.ok.0 c.in-Some.ensures c.index-parent.ensures in
     let is : c.published-published.result ≡ published_of (get_or ws (blob - 1) no_window) = c.published-published.ensures ∙ ap published_of x.window in
     let le : version ≤ published_of (get_or ws (blob - 1) no_window) = omega (arith, is, c.if-version-published.false) in
     let most : c.limits.inside.max_blobs ≡ d.limits.max_blobs = ap (λ (l : Bounds). l.max_blobs) c.limits.view_is in
@@ -60,7 +60,7 @@ invariant_of-self-2 c =
     let ws = d.windows.items in
     let blob = c.args.blob in
     let version = c.args.version in
-    let x = at_place d.limits d.page_size h ws c.self.invariant.kept blob c.in-Some.place _ c.index-parent.result.now d.windows.ok.0 c.in-Some.ensures c.index-parent.ensures in
+    let x = at_index d.limits d.page_size h ws c.self.invariant.kept blob c.in-Some.index _ c.index-parent.result.now d.windows.ok.0 c.in-Some.ensures c.index-parent.ensures in
     let is : c.published-published.result ≡ published_of (get_or ws (blob - 1) no_window) = c.published-published.ensures ∙ ap published_of x.window in
     let w = c.in-Ok.window in
     let le : version ≤ published_of (get_or ws (blob - 1) no_window) = omega (arith, is, c.if-version-published.false) in
@@ -77,8 +77,8 @@ invariant_of-self-2 c =
     let houses = arc_value d.houses in
     let W : Numbered → Type 0 = λ v. AreRowsIn houses v in
     let A : List Numbered → Type 0 = λ l. All (AreRowsIn houses) l in
-    let within : c.in-Some.place < length d.windows.items = omega (arith, d.windows.ok.0, c.in-Some.ensures.0, c.in-Some.ensures.1, c.in-Some.ensures.2) in
-    let was : W c.index-parent.result.now = window_lies houses d.windows.items c.in-Some.place c.index-parent.result.now _ c.self.invariant.lies within c.index-parent.ensures in
+    let within : c.in-Some.index < length d.windows.items = omega (arith, d.windows.ok.0, c.in-Some.ensures.0, c.in-Some.ensures.1, c.in-Some.ensures.2) in
+    let was : W c.index-parent.result.now = window_lies houses d.windows.items c.in-Some.index c.index-parent.result.now _ c.self.invariant.lies within c.index-parent.ensures in
     let new : W w = subst W (sym c.in-Ok.ensures.new) (branch_in_houses houses c.index-parent.result.now version (c.len-count.result + 1) was) in
     let parent : Parent = record { blob = blob; version = version } in
     let k = c.self.invariant.origins in
@@ -101,7 +101,7 @@ returns-clause-blob c =
     let ws = d.windows.items in
     let blob = c.args.blob in
     let version = c.args.version in
-    let x = at_place d.limits d.page_size h ws c.self.invariant.kept blob c.in-Some.place _ c.index-parent.result.now d.windows.ok.0 c.in-Some.ensures c.index-parent.ensures in
+    let x = at_index d.limits d.page_size h ws c.self.invariant.kept blob c.in-Some.index _ c.index-parent.result.now d.windows.ok.0 c.in-Some.ensures c.index-parent.ensures in
     let is : c.published-published.result ≡ published_of (get_or ws (blob - 1) no_window) = c.published-published.ensures ∙ ap published_of x.window in
     let le : version ≤ published_of (get_or ws (blob - 1) no_window) = omega (arith, is, c.if-version-published.false) in
     let most : c.limits.inside.max_blobs ≡ d.limits.max_blobs = ap (λ (l : Bounds). l.max_blobs) c.limits.view_is in

@@ -14,7 +14,7 @@ use Rattle.blob_model.specs.declared.call.Refusal.TheVariants as Refusals
 use Rattle.publisher.specs.Windows.{Numbered}
 use Rattle.version_manager.specs.Desks.{DeskState}
 use Rattle.version_manager.specs.Entries.{event_of}
-use Rattle.version_manager.specs.Kept.{KeepsDesk}
+use Rattle.version_manager.specs.DeskInvariant.{KeepsDesk}
 use Rattle.version_manager.specs.Origins.{parents_of}
 use Rattle.version_manager.proofs.Desks.{short_yet}
 use Rattle.version_manager.proofs.NewBlobs.{create_refused, create_outcome, create_keeps}

@@ -9,13 +9,13 @@ use Rattle.blob_model.specs.declared.call.Event.{Event}
 use Rattle.blob_model.specs.declared.call.Event.TheVariants as Events
 use Rattle.blob_model.specs.declared.call.Outcome.TheVariants as Outcomes
 use Rattle.blob_model.specs.declared.call.Refusal.TheVariants as Refusals
-use Rattle.node_store.specs.Rows.{IsRowIn}
+use Rattle.node_store.specs.UpdateRows.{IsRowIn}
 use Rattle.publisher.specs.Windows.{Numbered, with_finished}
 use Rattle.version_manager.specs.declared.entry.Entry.{Entry}
 use Rattle.version_manager.specs.declared.entry.Change.TheVariants as Changes
 use Rattle.version_manager.specs.Desks.{DeskState, no_window, finished_or_not, with_event, window_in, windows_with, IsTicketOf, IsRowFor}
 use Rattle.version_manager.specs.Entries.{event_of}
-use Rattle.version_manager.specs.Kept.{KeepsDesk}
+use Rattle.version_manager.specs.DeskInvariant.{KeepsDesk}
 use Rattle.version_manager.specs.Origins.{parents_of, AreUnder}
 use Rattle.version_manager.proofs.Blobs.{finish_kept, published_is, assigned_is, finished_is}
 use Rattle.version_manager.proofs.Desks.{pushed_event, short_yet}

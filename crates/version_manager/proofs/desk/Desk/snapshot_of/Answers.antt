@@ -13,7 +13,7 @@ use Rattle.version_manager.specs.declared.fault.DeskFault.{DeskFault}
 use Rattle.version_manager.specs.Desks.{DeskState, no_window, OnRefused, updates_in, updates_or_none}
 use Rattle.version_manager.specs.Entries.{event_of}
 use Rattle.version_manager.specs.Origins.{LieUnderOrigins, parents_of}
-use Rattle.version_manager.proofs.Desks.{at_place}
+use Rattle.version_manager.proofs.Desks.{at_index}
 use Rattle.version_manager.proofs.Houses.{AreRowsIn, older_in, window_lies}
 use Rattle.version_manager.proofs.Looking.{look_none, look_at, on_refused, size_in}
 use Rattle.version_manager.proofs.Origins.{origins_at, older_under}
@@ -24,7 +24,7 @@ pub returns-in-Some-clause-size : goal.returns-in-Some-clause-size
 returns-in-Some-clause-size c = λ caller.
     let d = c.self.inside in
     let h = map event_of d.history.items in
-    let x = at_place d.limits d.page_size h d.windows.items c.self.invariant.kept c.args.blob c.in-Some.place _ c.index.result.now d.windows.ok.0 c.in-Some.ensures c.index.ensures in
+    let x = at_index d.limits d.page_size h d.windows.items c.self.invariant.kept c.args.blob c.in-Some.index _ c.index.result.now d.windows.ok.0 c.in-Some.ensures c.index.ensures in
     let s = store_of d.limits h in
     let P : DeskState → Type 0 = λ v. IfOk c.snapshot_in.result (λ (a : Version). (answer (store_of v.limits v.history) caller (Calls.Size c.args.blob c.args.version)).1 ≡ Outcomes.Size (size_now a)) in
     subst P c.self.view_is (if_ok c.snapshot_in.result _ _ (λ a e. look_at d.limits d.page_size h d.windows.items c.self.invariant.kept c.args.blob (size_in s c.args.version) x.found ∙ e) (c.snapshot_in.ensures.size d.limits s x.found.b x.keeps))
@@ -33,14 +33,14 @@ pub returns-in-Some-clause-page_size : goal.returns-in-Some-clause-page_size
 returns-in-Some-clause-page_size c =
     let d = c.self.inside in
     let h = map event_of d.history.items in
-    let x = at_place d.limits d.page_size h d.windows.items c.self.invariant.kept c.args.blob c.in-Some.place _ c.index.result.now d.windows.ok.0 c.in-Some.ensures c.index.ensures in
+    let x = at_index d.limits d.page_size h d.windows.items c.self.invariant.kept c.args.blob c.in-Some.index _ c.index.result.now d.windows.ok.0 c.in-Some.ensures c.index.ensures in
     if_ok c.snapshot_in.result _ _ (λ (a : Version) e. ap (λ (v : Version). v.page_size) e ∙ x.page ∙ ap (λ (v : DeskState). v.page_size) c.self.view_is) c.snapshot_in.ensures.this
 
 pub returns-in-Some-clause-tells : goal.returns-in-Some-clause-tells
 returns-in-Some-clause-tells c =
     let d = c.self.inside in
     let h = map event_of d.history.items in
-    let x = at_place d.limits d.page_size h d.windows.items c.self.invariant.kept c.args.blob c.in-Some.place _ c.index.result.now d.windows.ok.0 c.in-Some.ensures c.index.ensures in
+    let x = at_index d.limits d.page_size h d.windows.items c.self.invariant.kept c.args.blob c.in-Some.index _ c.index.result.now d.windows.ok.0 c.in-Some.ensures c.index.ensures in
     let w = c.index.result.now in
     let b = x.found.b in
     let P : DeskState → Type 0 = λ v. IfOk c.snapshot_in.result (λ (a : Version). TellUpdates v.page_size (updates_in v c.args.blob) a.rows) in
@@ -52,7 +52,7 @@ pub returns-in-Some-clause-refused : goal.returns-in-Some-clause-refused
 returns-in-Some-clause-refused c = λ caller.
     let d = c.self.inside in
     let h = map event_of d.history.items in
-    let x = at_place d.limits d.page_size h d.windows.items c.self.invariant.kept c.args.blob c.in-Some.place _ c.index.result.now d.windows.ok.0 c.in-Some.ensures c.index.ensures in
+    let x = at_index d.limits d.page_size h d.windows.items c.self.invariant.kept c.args.blob c.in-Some.index _ c.index.result.now d.windows.ok.0 c.in-Some.ensures c.index.ensures in
     let s = store_of d.limits h in
     let P : DeskState → Type 0 = λ v. IfErr c.snapshot_in.result (λ (fault : DeskFault). OnRefused fault (λ refusal. (answer (store_of v.limits v.history) caller (Calls.Size c.args.blob c.args.version)).1 ≡ Outcomes.Refused refusal)) in
     subst P c.self.view_is (
@@ -64,8 +64,8 @@ pub returns-in-Some-clause-here : goal.returns-in-Some-clause-here
 returns-in-Some-clause-here c =
     let d = c.self.inside in
     let houses = arc_value d.houses in
-    let within : c.in-Some.place < length d.windows.items = omega (arith, d.windows.ok.0, c.in-Some.ensures.0, c.in-Some.ensures.1, c.in-Some.ensures.2) in
-    let was : AreRowsIn houses c.index.result.now = window_lies houses d.windows.items c.in-Some.place c.index.result.now _ c.self.invariant.lies within c.index.ensures in
+    let within : c.in-Some.index < length d.windows.items = omega (arith, d.windows.ok.0, c.in-Some.ensures.0, c.in-Some.ensures.1, c.in-Some.ensures.2) in
+    let was : AreRowsIn houses c.index.result.now = window_lies houses d.windows.items c.in-Some.index c.index.result.now _ c.self.invariant.lies within c.index.ensures in
     let V : Version → Type 0 = λ s. IsVersionIn houses s in
     let P : DeskState → Type 0 = λ s. IfOk c.snapshot_in.result (λ (a : Version). IsVersionIn s.houses a) in
     subst P c.self.view_is (if_ok c.snapshot_in.result _ _ (λ (a : Version) e. subst V (sym e) (older_in houses c.index.result.now c.args.version was)) c.snapshot_in.ensures.this)
@@ -75,7 +75,7 @@ returns-in-Some-clause-origins c =
     let d = c.self.inside in
     let h = map event_of d.history.items in
     let blob = c.args.blob in
-    let x = at_place d.limits d.page_size h d.windows.items c.self.invariant.kept blob c.in-Some.place _ c.index.result.now d.windows.ok.0 c.in-Some.ensures c.index.ensures in
+    let x = at_index d.limits d.page_size h d.windows.items c.self.invariant.kept blob c.in-Some.index _ c.index.result.now d.windows.ok.0 c.in-Some.ensures c.index.ensures in
     let w = c.index.result.now in
     let under = origins_at (parents_of h) d.windows.items c.self.invariant.origins blob w no_window x.some (omega (arith, d.windows.ok.0, c.in-Some.ensures.2)) x.window in
     let O : Version → Type 0 = λ s. LieUnderOrigins h blob s.rows in

@@ -2,9 +2,9 @@ use Rattle.std.proofs.Common.{ℕ, ◌≡◌, suc, ◌+◌, ◌-◌, List, take,
 use Rattle.std.specs.Prelude.{slice_index_or}
 use Rattle.std.specs.Arc.{arc_value}
 use Rattle.tree_geom.specs.declared.touch.Touch.{Touch}
-use Rattle.page_store.specs.Stored.{Cut, joined}
+use Rattle.page_store.specs.Stored.{Cut, bytes_of_pages}
 use Rattle.snapshot.specs.Versions.{Version, older_version}
-use Rattle.border_hints.specs.Numbered.{NumberedUpdate, numbered}
+use Rattle.border_hints.specs.Numbered.{NumberedUpdate, numbered_update}
 use Rattle.publisher.specs.Windows.{opens_from}
 use Rattle.weaver_tests.specs.Blobs.{OneBlob, Start, IsTicketOf}
 use Rattle.weaver_tests.proofs.Steady.{blob_of}
@@ -25,7 +25,7 @@ of-requires c =
       own = subst O (sym c.begun.view_is) c.index-begun.ensures;
       taken = c.in_ok-snapshot.ensures ∙ ap (λ (v : Version). older_version v c.args.published) c.snapshot-latest.ensures;
       waits = c.in_ok-waiting.ensures ∙ ap (λ (l : List Touch). opens_from (c.args.published + 1) (take (i - c.args.published) (drop c.args.published l))) c.deref.ensures.value;
-      long = c.len-len.ensures ∙ ap (λ (x : Cut). length (joined x.pages)) (c.deref-2.ensures ∙ same);
+      long = c.len-len.ensures ∙ ap (λ (x : Cut). length (bytes_of_pages x.pages)) (c.deref-2.ensures ∙ same);
       touched = c.index.ensures;
     } in
     let v : c.args.version ≡ suc i = omega arith in
@@ -33,7 +33,7 @@ of-requires c =
       waiting = first_waits c.logs_are_grown.ensures.count c.logs_are_grown.ensures.touches c.logs_are_grown.ensures.sizes c.older_versions_stay.ensures.rows c.older_versions_stay.ensures.extents c.page_bytes_stay.ensures.extents c.windows_stand.ensures.logs b c.self.invariant c.args.published i s c.in_ok-snapshot.snapshot c.in_ok-waiting.waiting c.len-len.result c.index.result.now f;
       version = version_next c.logs_are_grown.ensures.count c.logs_are_grown.ensures.touches c.logs_are_grown.ensures.sizes c.older_versions_stay.ensures.rows c.older_versions_stay.ensures.extents c.page_bytes_stay.ensures.extents c.windows_stand.ensures.logs b c.self.invariant c.args.published i s c.in_ok-snapshot.snapshot c.in_ok-waiting.waiting c.len-len.result c.index.result.now f c.args.version v;
       of_updates = below_is_log c.logs_are_grown.ensures.count c.logs_are_grown.ensures.touches c.logs_are_grown.ensures.sizes c.older_versions_stay.ensures.rows c.older_versions_stay.ensures.extents c.page_bytes_stay.ensures.extents c.windows_stand.ensures.logs b c.self.invariant c.args.published i s c.in_ok-snapshot.snapshot c.in_ok-waiting.waiting c.len-len.result c.index.result.now f;
-      len = c.len-len.ensures ∙ ap (λ (x : Cut). length (joined x.pages)) c.deref-2.ensures;
+      len = c.len-len.ensures ∙ ap (λ (x : Cut). length (bytes_of_pages x.pages)) c.deref-2.ensures;
       some = some_bytes c.logs_are_grown.ensures.count c.logs_are_grown.ensures.touches c.logs_are_grown.ensures.sizes c.older_versions_stay.ensures.rows c.older_versions_stay.ensures.extents c.page_bytes_stay.ensures.extents c.windows_stand.ensures.logs b c.self.invariant c.args.published i s c.in_ok-snapshot.snapshot c.in_ok-waiting.waiting c.len-len.result c.index.result.now f;
       page_size = ap (λ (x : Cut). x.page_size) same ∙ cut_alike c.logs_are_grown.ensures.count c.logs_are_grown.ensures.touches c.logs_are_grown.ensures.sizes c.older_versions_stay.ensures.rows c.older_versions_stay.ensures.extents c.page_bytes_stay.ensures.extents c.windows_stand.ensures.logs b c.self.invariant c.args.published i s c.in_ok-snapshot.snapshot c.in_ok-waiting.waiting c.len-len.result c.index.result.now f;
       at = begins_before c.logs_are_grown.ensures.count c.logs_are_grown.ensures.touches c.logs_are_grown.ensures.sizes c.older_versions_stay.ensures.rows c.older_versions_stay.ensures.extents c.page_bytes_stay.ensures.extents c.windows_stand.ensures.logs b c.self.invariant c.args.published i s c.in_ok-snapshot.snapshot c.in_ok-waiting.waiting c.len-len.result c.index.result.now f c.args.version v;
@@ -55,11 +55,11 @@ returns c =
       own = subst O (sym c.begun.view_is) c.index-begun.ensures;
       taken = c.in_ok-snapshot.ensures ∙ ap (λ (v : Version). older_version v c.args.published) c.snapshot-latest.ensures;
       waits = c.in_ok-waiting.ensures ∙ ap (λ (l : List Touch). opens_from (c.args.published + 1) (take (i - c.args.published) (drop c.args.published l))) c.deref.ensures.value;
-      long = c.len-len.ensures ∙ ap (λ (x : Cut). length (joined x.pages)) (c.deref-2.ensures ∙ same);
+      long = c.len-len.ensures ∙ ap (λ (x : Cut). length (bytes_of_pages x.pages)) (c.deref-2.ensures ∙ same);
       touched = c.index.ensures;
     } in
     let v : c.args.version ≡ suc i = omega arith in
     let T : OneBlob → Type 0 = λ x. IsTicketOf x c.of.result in
     let N : NumberedUpdate → Type 0 = λ t. IsTicketOf b t in
-    let P : Cut → Type 0 = λ x. IsTicketOf b (numbered 1 1 c.args.version s.at c.len-len.result c.index.result.now.size c.in_ok-snapshot.snapshot c.in_ok-waiting.waiting x) in
+    let P : Cut → Type 0 = λ x. IsTicketOf b (numbered_update 1 1 c.args.version s.at c.len-len.result c.index.result.now.size c.in_ok-snapshot.snapshot c.in_ok-waiting.waiting x) in
     subst T c.self.view_is (subst N (sym c.of.ensures) (subst P (sym same) (is_ticket c.logs_are_grown.ensures.count c.logs_are_grown.ensures.touches c.logs_are_grown.ensures.sizes c.older_versions_stay.ensures.rows c.older_versions_stay.ensures.extents c.page_bytes_stay.ensures.extents c.windows_stand.ensures.logs b c.self.invariant c.args.published i s c.in_ok-snapshot.snapshot c.in_ok-waiting.waiting c.len-len.result c.index.result.now f 1 1 c.args.version v)))

@@ -19,7 +19,7 @@ pub enum End {
 
 /// Whether the stream goes on after some items.
 #[derive(Clone, Copy, Debug, PartialEq, Eq)]
-pub enum Step {
+pub enum Flow {
     /// It goes on.
     Goes,
     /// The last item was a request to end, and is answered.

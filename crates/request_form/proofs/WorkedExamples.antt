@@ -14,7 +14,7 @@ use Rattle.request_form.specs.declared.form.Heard.{Heard}
 use Rattle.request_form.specs.declared.form.Heard.TheVariants.{Asked, Wrong}
 use Rattle.request_form.specs.declared.form.Fault.TheVariants as Faults
 use Rattle.blob_model.specs.History.{AllOther}
-use Rattle.request_form.specs.Session.{Session, Held, IsNobody, sees, holds, held_at, without_ticket}
+use Rattle.request_form.specs.Session.{Session, HeldTicket, IsNobody, sees, holds, ticket_at, without_ticket}
 use Rattle.request_form.specs.Answers.{Updated, Reported, FoundFinished, LookAnswer, update_fault}
 use Rattle.request_form.specs.Transcript.{Transcript, first_session}
 use Rattle.request_form.proofs.Told.{replies_told, told_is}
@@ -130,7 +130,7 @@ wrong_and_quit = told_is (session_with greatest) (Asked Create ∷ Wrong Faults.
 
 -- ---- tickets
 
-abbrev ticket : ℕ → Held
+abbrev ticket : ℕ → HeldTicket
 ticket number = record { number = number; blob = 1; version = number }
 
 abbrev with_tickets : ℕ → Session
@@ -143,8 +143,8 @@ tickets_refuse : (update_fault (with_tickets 64) (97 ∷ []) ≡ Some Faults.Too
     × (update_fault (with_tickets 63) (97 ∷ []) ≡ None)
 tickets_refuse = (refl, refl, refl)
 
-ticket_found : (held_at (ticket 1 ∷ ticket 3 ∷ ticket 4 ∷ []) 3 ≡ Some (ticket 3))
-    × (held_at (ticket 1 ∷ ticket 3 ∷ []) 2 ≡ None)
+ticket_found : (ticket_at (ticket 1 ∷ ticket 3 ∷ ticket 4 ∷ []) 3 ≡ Some (ticket 3))
+    × (ticket_at (ticket 1 ∷ ticket 3 ∷ []) 2 ≡ None)
     × (without_ticket (ticket 1 ∷ ticket 3 ∷ ticket 4 ∷ []) 3 ≡ ticket 1 ∷ ticket 4 ∷ [])
     × (without_ticket (ticket 1 ∷ []) 2 ≡ ticket 1 ∷ [])
 ticket_found = (refl, refl, refl, refl)

@@ -10,23 +10,23 @@ use Rattle.page_store.specs.Stored.{Stored}
 -- the page stands for the bytes, lies in the houses, and has a replica and at most n
 pub record KeptAs (houses : List House) (content : List ℕ) (n : ℕ) (page : Stored) : Type 0 where
   pub bytes : page.bytes ≡ content
-  pub here : All (IsAmong houses) page.places
-  pub few : length page.places ≤ n
-  pub some : 1 ≤ length page.places
+  pub here : All (IsAmong houses) page.spots
+  pub few : length page.spots ≤ n
+  pub some : 1 ≤ length page.spots
 
 pub kept_more : (houses : List House) (bytes : List ℕ) (n : ℕ) (stored : Option Stored) (page : Page) (new : Stored)
-    → IfSome stored (KeptAs houses bytes n) → IsAmong houses page.place → page.bytes ≡ bytes
-    → new.bytes ≡ page.bytes → new.places ≡ option_map_or (λ (s : Stored). s.places) stored [] ++ page.place ∷ []
+    → IfSome stored (KeptAs houses bytes n) → IsAmong houses page.spot → page.bytes ≡ bytes
+    → new.bytes ≡ page.bytes → new.spots ≡ option_map_or (λ (s : Stored). s.spots) stored [] ++ page.spot ∷ []
     → KeptAs houses bytes (n + 1) new
 kept_more houses bytes n (Some s) page new h a b nb np = record {
   bytes = nb ∙ b;
-  here = rw np (All-push (IsAmong houses) s.places page.place h.here a);
-  few = rw np (omega (arith, h.few, length-append s.places (page.place ∷ [])));
-  some = rw np (omega (arith, length-append s.places (page.place ∷ [])));
+  here = rw np (All-push (IsAmong houses) s.spots page.spot h.here a);
+  few = rw np (omega (arith, h.few, length-append s.spots (page.spot ∷ [])));
+  some = rw np (omega (arith, length-append s.spots (page.spot ∷ [])));
 }
 kept_more houses bytes n None page new h a b nb np = record {
   bytes = nb ∙ b;
-  here = rw np (All-push (IsAmong houses) [] page.place (All-nil (IsAmong houses)) a);
+  here = rw np (All-push (IsAmong houses) [] page.spot (All-nil (IsAmong houses)) a);
   few = rw np (omega arith);
   some = rw np (omega arith);
 }

@@ -4,7 +4,7 @@ use Rattle.blob_model.specs.Content.{Update, size_of}
 use Rattle.tree_geom.specs.declared.touch.Touch.{Touch}
 use Rattle.range_log.specs.declared.open.OpenTouch.{OpenTouch}
 use Rattle.range_log.specs.Updates.{Replayable}
-use Rattle.node_store.specs.Rows.{UpdateRow}
+use Rattle.node_store.specs.UpdateRows.{UpdateRow}
 use Rattle.snapshot.specs.Versions.{Version}
 use Rattle.snapshot.specs.Laws.{AreRowsOf}
 use Rattle.publisher.specs.Windows.{Numbered, leading, opens_from}
@@ -30,7 +30,7 @@ over s opens above = record {
   rows = present s.rows ++ above;
 }
 
--- there is a place for the row of each waiting update, the versions go on from the published one, and the least of them is unfinished
+-- there is a slot for the row of each waiting update, the versions go on from the published one, and the least of them is unfinished
 pub record KeepsWindow (s : Version) (opens : List OpenTouch) (above : List (Option UpdateRow)) (room : ℕ) : Type 0 where
   pub paired : length above ≡ length opens
   pub few : length above ≤ 64

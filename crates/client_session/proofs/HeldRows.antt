@@ -4,9 +4,9 @@ use Rattle.std.specs.Prelude.{All, remove, slice_get, slice_set}
 use Rattle.std.proofs.lemmas.List.{set-get_or, map-append, take-map, drop-map}
 use Rattle.std.proofs.lemmas.Option.{get_or_from_slice_get, slice_get_within}
 use Rattle.std.proofs.Common.{take, drop, ◌++◌}
-use Rattle.node_store.specs.Rows.{UpdateRow}
-use Rattle.request_form.specs.Session.{Held}
-use Rattle.client_session.specs.Tickets.{OpenUpdate, held_of, all_held, with_row}
+use Rattle.node_store.specs.UpdateRows.{UpdateRow}
+use Rattle.request_form.specs.Session.{HeldTicket}
+use Rattle.client_session.specs.Tickets.{OpenUpdate, ticket_of, tickets_of, with_row}
 
 -- the row that an update has may be kept again
 pub kept_row : (os : List OpenUpdate) (i : ℕ) (o : OpenUpdate) (row : UpdateRow) → slice_get os i ≡ Some o → o.row ≡ Some row → os ≡ slice_set os i (with_row o row)
@@ -16,12 +16,12 @@ kept_row os i o row at is =
     sym (ap (λ (x : OpenUpdate). slice_set os i x) same ∙ stays)
 
 -- the session shows no rows
-pub all_held-with_row : (os : List OpenUpdate) (i : ℕ) (o : OpenUpdate) (row : UpdateRow) → slice_get os i ≡ Some o → all_held (slice_set os i (with_row o row)) ≡ all_held os
-all_held-with_row [] i o row at = refl
-all_held-with_row (x ∷ os) zero o row at =
+pub tickets_of-with_row : (os : List OpenUpdate) (i : ℕ) (o : OpenUpdate) (row : UpdateRow) → slice_get os i ≡ Some o → tickets_of (slice_set os i (with_row o row)) ≡ tickets_of os
+tickets_of-with_row [] i o row at = refl
+tickets_of-with_row (x ∷ os) zero o row at =
     let same : x ≡ o = cc in
-    ap (λ (y : OpenUpdate). held_of y ∷ all_held os) (sym same)
-all_held-with_row (x ∷ os) (suc i) o row at = ap (λ (hs : List Held). held_of x ∷ hs) (all_held-with_row os i o row at)
+    ap (λ (y : OpenUpdate). ticket_of y ∷ tickets_of os) (sym same)
+tickets_of-with_row (x ∷ os) (suc i) o row at = ap (λ (hs : List HeldTicket). ticket_of x ∷ hs) (tickets_of-with_row os i o row at)
 
 -- the update that stands there once its row is kept
 pub at-with_row : (os : List OpenUpdate) (i : ℕ) (o : OpenUpdate) (row : UpdateRow) → slice_get os i ≡ Some o → slice_get (slice_set os i (with_row o row)) i ≡ Some (with_row o row)
@@ -29,17 +29,17 @@ at-with_row [] i o row at = cc
 at-with_row (x ∷ os) zero o row at = refl
 at-with_row (x ∷ os) (suc i) o row at = at-with_row os i o row at
 
--- one place has one update
+-- one index has one update
 pub same_at : (os : List OpenUpdate) (i : ℕ) (a b : OpenUpdate) → slice_get os i ≡ Some a → slice_get os i ≡ Some b → a ≡ b
 same_at os i a b is is' = cc
 
--- what holds of all holds of the one at a place
-pub at_place : (P : OpenUpdate → Type 0) (os : List OpenUpdate) (i : ℕ) (o : OpenUpdate) → slice_get os i ≡ Some o → All P os → P o
-at_place P os i o at all = subst P (get_or_from_slice_get os i o o at) (all i o (slice_get_within os i o at))
+-- what holds of all holds of the one at an index
+pub at_index : (P : OpenUpdate → Type 0) (os : List OpenUpdate) (i : ℕ) (o : OpenUpdate) → slice_get os i ≡ Some o → All P os → P o
+at_index P os i o at all = subst P (get_or_from_slice_get os i o o at) (all i o (slice_get_within os i o at))
 
 -- what is shown of the updates that are left
-pub all_held-remove : (os : List OpenUpdate) (i : ℕ) → all_held (remove os i) ≡ remove (all_held os) i
-all_held-remove os i =
-    map-append held_of (take i os) (drop (suc i) os)
-    ∙ (ap (λ (hs : List Held). hs ++ all_held (drop (suc i) os)) (sym (take-map held_of i os))
-    ∙ ap (λ (hs : List Held). take i (all_held os) ++ hs) (sym (drop-map held_of (suc i) os)))
+pub tickets_of-remove : (os : List OpenUpdate) (i : ℕ) → tickets_of (remove os i) ≡ remove (tickets_of os) i
+tickets_of-remove os i =
+    map-append ticket_of (take i os) (drop (suc i) os)
+    ∙ (ap (λ (hs : List HeldTicket). hs ++ tickets_of (drop (suc i) os)) (sym (take-map ticket_of i os))
+    ∙ ap (λ (hs : List HeldTicket). take i (tickets_of os) ++ hs) (sym (drop-map ticket_of (suc i) os)))

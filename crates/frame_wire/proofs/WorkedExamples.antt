@@ -7,7 +7,7 @@ use Rattle.request_form.specs.declared.form.Heard.{Heard}
 use Rattle.request_form.specs.declared.form.Heard.TheVariants.{Asked, Wrong}
 use Rattle.request_form.specs.declared.form.Fault.TheVariants as Faults
 use Rattle.frame_wire.specs.Frames.{heard}
-use Rattle.frame_wire.specs.Said.{field, wide_field, framed, said}
+use Rattle.frame_wire.specs.Said.{field, wide_field, frame_of, said}
 
 -- a stream that ends behind a whole frame
 whole : List Heard → Stream
@@ -67,29 +67,29 @@ cut_heard = (refl, refl)
 -- ---- how replies are framed
 
 bye_said : said Replies.Bye ≡ counted 1 (141 ∷ [])
-unfolding framed counted
+unfolding frame_of counted
 bye_said = refl
 
 created_said : said (Replies.Created 1) ≡ counted 9 (129 ∷ small 1)
-unfolding framed field counted small
+unfolding frame_of field counted small
 created_said = refl
 
 appended_said : said (Replies.Appended 1 0 3) ≡ counted 25 (130 ∷ small 1 ++ small 0 ++ small 3)
-unfolding framed field counted small
+unfolding frame_of field counted small
 appended_said = refl
 
 content_said : said (Replies.Content (codes "abc")) ≡ counted 4 (135 ∷ codes "abc")
-unfolding framed counted
+unfolding frame_of counted
 content_said = refl
 
 bad_frame_said : said (Replies.Refused Faults.BadFrame) ≡ counted 9 (255 ∷ small 19)
-unfolding framed field counted small
+unfolding frame_of field counted small
 bad_frame_said = refl
 
 not_published_said : said (Replies.Refused (Faults.NotPublished 1 0)) ≡ counted 25 (255 ∷ small 2 ++ small 1 ++ small 0)
-unfolding framed field counted small
+unfolding frame_of field counted small
 not_published_said = refl
 
 range_said : said (Replies.Refused (Faults.RangePastSize 18446744073709551616 6)) ≡ counted 33 (255 ∷ small 12 ++ small 1 ++ small 0 ++ small 6)
-unfolding framed field wide_field counted small
+unfolding frame_of field wide_field counted small
 range_said = refl

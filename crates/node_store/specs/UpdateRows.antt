@@ -22,8 +22,8 @@ abbrev pub stored_of : UpdateRow → List Stored
 stored_of row = row.pages.pages
 
 -- the bytes of stored page q of an update with these bytes
-abbrev pub cut_at : ℕ → List ℕ → ℕ → List ℕ
-cut_at p bytes q = slice_range bytes (q * p) (min ((q + 1) * p) (length bytes))
+abbrev pub bytes_of_page : ℕ → List ℕ → ℕ → List ℕ
+bytes_of_page p bytes q = slice_range bytes (q * p) (min ((q + 1) * p) (length bytes))
 
 -- the row has no node of that range
 abbrev pub HasNoNodeFor : UpdateRow → Range → Type 0

@@ -1,4 +1,4 @@
--- Lists that begin with what was put at a place.
+-- Lists that begin with what was put at a position.
 use Rattle.std.proofs.Common.{◌≡◌, ℕ, zero, suc, ◌+◌, ◌-◌, ◌<◌, ◌≤◌, Bool, true, false, cond, min, List, [], ◌∷◌, ◌++◌, length, get_or, set, take, drop, insert, refl, ap, sym, ◌∙◌, arith}
 use Rattle.std.proofs.lemmas.List.{take-append-le, take-take, length-take-le, length-drop, drop_more, drop_all, drop-take, set_at, take_rest, append-nil}
 use borrow.Rule.Slice.PartMut.{put_mid, mid_of}
@@ -25,7 +25,7 @@ prefix_len-take p (suc n) (x ∷ xs) =
     let more : prefix_len p (take n xs) ≡ min n (prefix_len p xs) = prefix_len-take p n xs in
     elim (p x) as (λ b. cond b (1 + prefix_len p (take n xs)) 0 ≡ min (suc n) (cond b (1 + prefix_len p xs) 0)) [ true ↦ omega arith | false ↦ omega arith ]
 
--- a list whose items from a place on moved up by one, the last one to that place, and were then written over there
+-- a list whose items from a position on moved up by one, the last one to that position, and were then written over there
 pub put-rotated : (xs ys : List ℕ) (a p : ℕ) → a < length xs → ys ≡ drop (length (drop a xs) - 1) (drop a xs) ++ take (length (drop a xs) - 1) (drop a xs) → set (take a xs ++ ys) a p ≡ take (length xs) (insert xs a p)
 put-rotated xs ys a p h e =
     let z = drop a xs in
