@@ -7,7 +7,7 @@ use Rattle.client_session.proofs.PartsWeaving.{row_for}
 use Rattle.client_session.proofs.weaving.weave.Goals as goal
 
 pub returns-clause-row : goal.returns-clause-row
-returns-clause-row g c =
+returns-clause-row c =
     let t = c.args.ticket.now in
     let e = c.put_row.ensures in
     let cases = elim c.put_row.result as (λ r.

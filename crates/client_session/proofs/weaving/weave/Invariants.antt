@@ -1,4 +1,4 @@
 use Rattle.client_session.proofs.weaving.weave.Given as goal
 
 abbrev pub ghosts-planned : goal.ghosts-planned
-ghosts-planned g a = record { name = a.blank.name; parts = a.blank.parts }
+ghosts-planned a = record { name = a.blank.name; parts = a.blank.parts }
