@@ -170,10 +170,10 @@ impl Desk {
             outcome_now self.old caller (Calls.Assign blob place (bytes_of_pages (arc_value pages.now).pages)) ≡ Outcomes.Refused refusal)) }
         ensures same { IfErr result (λ _. self.new ≡ self.old) }
     {
-        let Some(place_in) = place_of(&self.windows, blob) else {
+        let Some(index) = index_of(&self.windows, blob) else {
             return Err(DeskFault::Refused(Refusal::NoBlob { blob }));
         };
-        let window = &self.windows[place_in];
+        let window = &self.windows[index];
         let _assigned = window.assigned();
         let ticket = match ticket_over(self.alloc, self.limits, caller, place, pages, window) {
             Ok(ticket) => ticket,
@@ -192,7 +192,7 @@ impl Desk {
             caller,
             change: Change::Assign { blob, place, pages },
         });
-        self.windows[place_in].number(ticket.touch());
+        self.windows[index].number(ticket.touch());
         Ok(ticket)
     }
 

@@ -30,20 +30,20 @@ use Rattle.version_manager.proofs.desk.Desk.assign.Goals as goal
 pub ticket_over-requires-clause-kept : goal.ticket_over-requires-clause-kept
 ticket_over-requires-clause-kept c =
     let d = c.self.inside in
-    let x = at_index d.limits d.page_size (map event_of d.history.items) d.windows.items c.self.invariant.kept c.args.blob c.in-Some.place_in _ c.index-window.result.now d.windows.ok.0 c.in-Some.ensures c.index-window.ensures in
+    let x = at_index d.limits d.page_size (map event_of d.history.items) d.windows.items c.self.invariant.kept c.args.blob c.in-Some.index _ c.index-window.result.now d.windows.ok.0 c.in-Some.ensures c.index-window.ensures in
     (x.found.b, x.keeps)
 
 pub ticket_over-requires-clause-page_size : goal.ticket_over-requires-clause-page_size
 ticket_over-requires-clause-page_size c =
     let d = c.self.inside in
-    let x = at_index d.limits d.page_size (map event_of d.history.items) d.windows.items c.self.invariant.kept c.args.blob c.in-Some.place_in _ c.index-window.result.now d.windows.ok.0 c.in-Some.ensures c.index-window.ensures in
+    let x = at_index d.limits d.page_size (map event_of d.history.items) d.windows.items c.self.invariant.kept c.args.blob c.in-Some.index _ c.index-window.result.now d.windows.ok.0 c.in-Some.ensures c.index-window.ensures in
     c.requires.page_size ∙ sym (ap (λ (s : DeskState). s.page_size) c.self.view_is) ∙ sym x.page
 
 pub returns-in-Err-clause-refused : goal.returns-in-Err-clause-refused
 returns-in-Err-clause-refused c =
     let d = c.self.inside in
     let bytes = bytes_of_pages (arc_value c.args.pages.now).pages in
-    let x = at_index d.limits d.page_size (map event_of d.history.items) d.windows.items c.self.invariant.kept c.args.blob c.in-Some.place_in _ c.index-window.result.now d.windows.ok.0 c.in-Some.ensures c.index-window.ensures in
+    let x = at_index d.limits d.page_size (map event_of d.history.items) d.windows.items c.self.invariant.kept c.args.blob c.in-Some.index _ c.index-window.result.now d.windows.ok.0 c.in-Some.ensures c.index-window.ensures in
     let P : DeskState → Type 0 = λ s. OnRefused c.in-Err.fault (λ refusal. (answer (store_of s.limits s.history) c.args.caller (Calls.Assign c.args.blob c.args.place bytes)).1 ≡ Outcomes.Refused refusal) in
     subst P c.self.view_is (assign_fault d.limits d.page_size (map event_of d.history.items) d.windows.items c.self.invariant.kept c.args.caller c.args.blob c.args.place bytes x.found c.in-Err.fault (c.in-Err.ensures.refused x.found.b x.keeps))
 
@@ -51,8 +51,8 @@ pub number-requires-clause-few : goal.number-requires-clause-few
 number-requires-clause-few c =
     let d = c.self.inside in
     let h = map event_of d.history.items in
-    let x = at_index d.limits d.page_size h d.windows.items c.self.invariant.kept c.args.blob c.in-Some.place_in _ c.index-window.result.now d.windows.ok.0 c.in-Some.ensures c.index-window.ensures in
-    let y = at_index d.limits d.page_size h d.windows.items c.self.invariant.kept c.args.blob c.in-Some.place_in _ c.index_mut.result.now d.windows.ok.0 c.in-Some.ensures c.index_mut.ensures.value in
+    let x = at_index d.limits d.page_size h d.windows.items c.self.invariant.kept c.args.blob c.in-Some.index _ c.index-window.result.now d.windows.ok.0 c.in-Some.ensures c.index-window.ensures in
+    let y = at_index d.limits d.page_size h d.windows.items c.self.invariant.kept c.args.blob c.in-Some.index _ c.index_mut.result.now d.windows.ok.0 c.in-Some.ensures c.index_mut.ensures.value in
     let F : Numbered → Type 0 = λ w. length w.log < published_of w + 64 in
     subst F (x.window ∙ sym y.window) c.in-Ok.ensures.few
 
@@ -60,8 +60,8 @@ pub number-requires-clause-room : goal.number-requires-clause-room
 number-requires-clause-room c =
     let d = c.self.inside in
     let h = map event_of d.history.items in
-    let x = at_index d.limits d.page_size h d.windows.items c.self.invariant.kept c.args.blob c.in-Some.place_in _ c.index-window.result.now d.windows.ok.0 c.in-Some.ensures c.index-window.ensures in
-    let y = at_index d.limits d.page_size h d.windows.items c.self.invariant.kept c.args.blob c.in-Some.place_in _ c.index_mut.result.now d.windows.ok.0 c.in-Some.ensures c.index_mut.ensures.value in
+    let x = at_index d.limits d.page_size h d.windows.items c.self.invariant.kept c.args.blob c.in-Some.index _ c.index-window.result.now d.windows.ok.0 c.in-Some.ensures c.index-window.ensures in
+    let y = at_index d.limits d.page_size h d.windows.items c.self.invariant.kept c.args.blob c.in-Some.index _ c.index_mut.result.now d.windows.ok.0 c.in-Some.ensures c.index_mut.ensures.value in
     let F : Numbered → Type 0 = λ w. length w.log < 1048576 in
     subst F (x.window ∙ sym y.window) c.in-Ok.ensures.room
 
@@ -72,8 +72,8 @@ invariant_of-self-2 c =
     let blob = c.args.blob in
     let bytes = bytes_of_pages (arc_value c.args.pages.now).pages in
     let u : Update = record { caller = c.args.caller; place = c.args.place; bytes = bytes } in
-    let x = at_index d.limits d.page_size h d.windows.items c.self.invariant.kept blob c.in-Some.place_in _ c.index-window.result.now d.windows.ok.0 c.in-Some.ensures c.index-window.ensures in
-    let y = at_index d.limits d.page_size h d.windows.items c.self.invariant.kept blob c.in-Some.place_in _ c.index_mut.result.now d.windows.ok.0 c.in-Some.ensures c.index_mut.ensures.value in
+    let x = at_index d.limits d.page_size h d.windows.items c.self.invariant.kept blob c.in-Some.index _ c.index-window.result.now d.windows.ok.0 c.in-Some.ensures c.index-window.ensures in
+    let y = at_index d.limits d.page_size h d.windows.items c.self.invariant.kept blob c.in-Some.index _ c.index_mut.result.now d.windows.ok.0 c.in-Some.ensures c.index_mut.ensures.value in
     let W : Numbered = with_numbered c.index-window.result.now (own_touch c.in-Ok.ticket) in
     let is : c.number.new.self ≡ W = c.number.ensures.new ∙ ap (λ (t : Touch). with_numbered c.index_mut.result.now t) c.touch.ensures ∙ ap (λ (w : Numbered). with_numbered w (own_touch c.in-Ok.ticket)) (y.window ∙ sym x.window) in
     let keeps = assign_keeps d.limits d.page_size h d.windows.items c.self.invariant.kept c.args.caller blob c.args.place bytes x.found (c.in-Ok.ensures.accepted x.found.b x.keeps) c.requires.some x.some W (c.in-Ok.ensures.kept x.found.b u x.keeps refl refl) x.id x.page in
@@ -81,12 +81,12 @@ invariant_of-self-2 c =
     let history : map event_of c.push_reserved.new.self.items ≡ h ++ e ∷ [] = numbered_event d.history.items c.reserve.new.self.items c.push_reserved.new.self.items c.args.caller blob c.args.place c.in-Ok-try_clone.pages _ c.reserve.ensures.items c.push_reserved.ensures.items c.in-Ok-try_clone.ensures in
     let P : List Event → Type 0 = λ l. KeepsDesk d.limits d.page_size l (set d.windows.items (blob - 1) W) in
     let Q : ℕ → Type 0 = λ i. KeepsDesk d.limits d.page_size (map event_of c.push_reserved.new.self.items) (set d.windows.items i W) in
-    let R : Numbered → Type 0 = λ w. KeepsDesk d.limits d.page_size (map event_of c.push_reserved.new.self.items) (set d.windows.items c.in-Some.place_in w) in
+    let R : Numbered → Type 0 = λ w. KeepsDesk d.limits d.page_size (map event_of c.push_reserved.new.self.items) (set d.windows.items c.in-Some.index w) in
     let entry : Entry = record { caller = c.args.caller; change = Changes.Assign blob c.args.place c.in-Ok-try_clone.pages } in
     let houses = arc_value d.houses in
     let L : Numbered → Type 0 = λ w. AreRowsIn houses w in
-    let within : c.in-Some.place_in < length d.windows.items = omega (arith, d.windows.ok.0, c.in-Some.ensures.0, c.in-Some.ensures.1, c.in-Some.ensures.2) in
-    let was : L c.index_mut.result.now = window_lies houses d.windows.items c.in-Some.place_in c.index_mut.result.now _ c.self.invariant.lies within c.index_mut.ensures.value in
+    let within : c.in-Some.index < length d.windows.items = omega (arith, d.windows.ok.0, c.in-Some.ensures.0, c.in-Some.ensures.1, c.in-Some.ensures.2) in
+    let was : L c.index_mut.result.now = window_lies houses d.windows.items c.in-Some.index c.index_mut.result.now _ c.self.invariant.lies within c.index_mut.ensures.value in
     let now : L c.number.new.self = subst L (sym c.number.ensures.new) (numbered_in houses c.index_mut.result.now c.touch.result was) in
     let old = c.index_mut.result.now in
     let there = origins_at (parents_of h) d.windows.items c.self.invariant.origins blob old no_window x.some (omega (arith, d.windows.ok.0, c.in-Some.ensures.2)) y.window in
@@ -95,7 +95,7 @@ invariant_of-self-2 c =
     let placed = ap (λ (i : ℕ). set d.windows.items i c.number.new.self) x.at in
     record {
       kept = subst R (sym is) (subst Q (sym x.at) (subst P (sym history) keeps));
-      lies = All-set (AreRowsIn houses) d.windows.items c.in-Some.place_in c.number.new.self now c.self.invariant.lies;
+      lies = All-set (AreRowsIn houses) d.windows.items c.in-Some.index c.number.new.self now c.self.invariant.lies;
       origins = origins_after h _ e _ _ history placed (origins_set (parents_of h) d.windows.items c.self.invariant.origins blob c.number.new.self x.some own);
       short = short_yet d.history.items c.push_reserved.new.self.items entry (c.push_reserved.ensures.items ∙ ap (λ (l : List Entry). l ++ entry ∷ []) c.reserve.ensures.items) (omega (arith, c.len.ensures, d.history.ok.0, c.if-len-ge-MAX_ENTRIES.false));
     }
@@ -107,7 +107,7 @@ returns-clause-assigned c =
     let blob = c.args.blob in
     let t = c.in-Ok.ticket in
     let bytes = bytes_of_pages (arc_value c.args.pages.now).pages in
-    let x = at_index d.limits d.page_size h d.windows.items c.self.invariant.kept blob c.in-Some.place_in _ c.index-window.result.now d.windows.ok.0 c.in-Some.ensures c.index-window.ensures in
+    let x = at_index d.limits d.page_size h d.windows.items c.self.invariant.kept blob c.in-Some.index _ c.index-window.result.now d.windows.ok.0 c.in-Some.ensures c.index-window.ensures in
     let b : Blob = x.found.b in
     let free = c.in-Ok.ensures.accepted b x.keeps in
     let P : DeskState → Type 0 = λ s. (answer (store_of s.limits s.history) c.args.caller (Calls.Assign blob c.args.place bytes)).1 ≡ Outcomes.Assigned t.version t.at t.size in
@@ -124,7 +124,7 @@ returns-clause-numbering c =
     let h = map event_of d.history.items in
     let blob = c.args.blob in
     let t = c.in-Ok.ticket in
-    let x = at_index d.limits d.page_size h d.windows.items c.self.invariant.kept blob c.in-Some.place_in _ c.index-window.result.now d.windows.ok.0 c.in-Some.ensures c.index-window.ensures in
+    let x = at_index d.limits d.page_size h d.windows.items c.self.invariant.kept blob c.in-Some.index _ c.index-window.result.now d.windows.ok.0 c.in-Some.ensures c.index-window.ensures in
     let P : DeskState → Type 0 = λ s. IsNumbering s c.args.caller blob t in
     subst P c.self.view_is record {
       caller = c.in-Ok.ensures.caller;
@@ -143,7 +143,7 @@ returns-clause-ticket c =
     let t = c.in-Ok.ticket in
     let bytes = bytes_of_pages (arc_value c.args.pages.now).pages in
     let u : Update = record { caller = c.args.caller; place = c.args.place; bytes = bytes } in
-    let x = at_index d.limits d.page_size h d.windows.items c.self.invariant.kept blob c.in-Some.place_in _ c.index-window.result.now d.windows.ok.0 c.in-Some.ensures c.index-window.ensures in
+    let x = at_index d.limits d.page_size h d.windows.items c.self.invariant.kept blob c.in-Some.index _ c.index-window.result.now d.windows.ok.0 c.in-Some.ensures c.index-window.ensures in
     let b : Blob = x.found.b in
     let e : Event = Events.Assign c.args.caller blob c.args.place bytes in
     let history : map event_of c.push_reserved.new.self.items ≡ h ++ e ∷ [] = numbered_event d.history.items c.reserve.new.self.items c.push_reserved.new.self.items c.args.caller blob c.args.place c.in-Ok-try_clone.pages _ c.reserve.ensures.items c.push_reserved.ensures.items c.in-Ok-try_clone.ensures in
@@ -162,7 +162,7 @@ returns-clause-unfinished c =
     let blob = c.args.blob in
     let bytes = bytes_of_pages (arc_value c.args.pages.now).pages in
     let u : Update = record { caller = c.args.caller; place = c.args.place; bytes = bytes } in
-    let x = at_index d.limits d.page_size h d.windows.items c.self.invariant.kept blob c.in-Some.place_in _ c.index-window.result.now d.windows.ok.0 c.in-Some.ensures c.index-window.ensures in
+    let x = at_index d.limits d.page_size h d.windows.items c.self.invariant.kept blob c.in-Some.index _ c.index-window.result.now d.windows.ok.0 c.in-Some.ensures c.index-window.ensures in
     let b : Blob = x.found.b in
     let e : Event = Events.Assign c.args.caller blob c.args.place bytes in
     let history : map event_of c.push_reserved.new.self.items ≡ h ++ e ∷ [] = numbered_event d.history.items c.reserve.new.self.items c.push_reserved.new.self.items c.args.caller blob c.args.place c.in-Ok-try_clone.pages _ c.reserve.ensures.items c.push_reserved.ensures.items c.in-Ok-try_clone.ensures in
@@ -176,11 +176,11 @@ returns-clause-hints c =
     let h = map event_of d.history.items in
     let blob = c.args.blob in
     let t = c.in-Ok.ticket in
-    let x = at_index d.limits d.page_size h d.windows.items c.self.invariant.kept blob c.in-Some.place_in _ c.index-window.result.now d.windows.ok.0 c.in-Some.ensures c.index-window.ensures in
+    let x = at_index d.limits d.page_size h d.windows.items c.self.invariant.kept blob c.in-Some.index _ c.index-window.result.now d.windows.ok.0 c.in-Some.ensures c.index-window.ensures in
     let w = c.index-window.result.now in
     let L : Numbered → Type 0 = λ v. AreRowsIn (arc_value d.houses) v in
-    let within : c.in-Some.place_in < length d.windows.items = omega (arith, d.windows.ok.0, c.in-Some.ensures.0, c.in-Some.ensures.1, c.in-Some.ensures.2) in
-    let lies : L w = window_lies (arc_value d.houses) d.windows.items c.in-Some.place_in w _ c.self.invariant.lies within c.index-window.ensures in
+    let within : c.in-Some.index < length d.windows.items = omega (arith, d.windows.ok.0, c.in-Some.ensures.0, c.in-Some.ensures.1, c.in-Some.ensures.2) in
+    let lies : L w = window_lies (arc_value d.houses) d.windows.items c.in-Some.index w _ c.self.invariant.lies within c.index-window.ensures in
     let under = origins_at (parents_of h) d.windows.items c.self.invariant.origins blob w no_window x.some (omega (arith, d.windows.ok.0, c.in-Some.ensures.2)) x.window in
     let P : DeskState → Type 0 = λ s. HasHints s blob t in
     subst P c.self.view_is (has_hints _ blob t x.found.b w d.limits x.found.at x.page x.keeps (sym c.assigned-assigned.ensures.rows ∙ c.assigned-assigned.ensures.log) (subst (λ (v : Version). IsVersion v) c.in-Ok.ensures.snapshot c.in-Ok.ensures.published) c.in-Ok.ensures.snapshot c.in-Ok.ensures.waiting lies (version_under h blob w under))
