@@ -1,5 +1,6 @@
 // A page with its replicas, and the pages of one update.
-ghost use Rattle.std.specs.Prelude.{◌≡◌, ◌+◌, ◌*◌, ◌<◌, ◌≤◌, length, IfOk, OnOk, OnErr, Some, slice_get, slice_range, [], ◌∷◌, ◌++◌, min};
+ghost use Rattle.std.specs.Prelude.{◌≡◌, ◌+◌, ◌*◌, ◌<◌, ◌≤◌, length, IfOk, OnOk, OnErr, Some, min};
+ghost use Rattle.std.specs.Prelude.{slice_get, slice_range, [], ◌∷◌, ◌++◌};
 ghost use Rattle.page_store.specs.Stored.{bytes_of_pages, AllFull, IsCut};
 
 use crate::NoMemory;
