@@ -9,7 +9,7 @@ mod Reaching
 mod Reading
 mod Promising
 mod Needed
-mod Orders
+mod Worked
 mod Refusing
 mod Cutting
 mod Logs

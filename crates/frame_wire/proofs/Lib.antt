@@ -5,4 +5,4 @@ pub mod RequestLemmas
 pub mod TakenLemmas
 pub mod ReplyLemmas
 pub mod DialectLemmas
-mod WorkedExamples
+mod Worked

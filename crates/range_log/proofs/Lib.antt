@@ -1,4 +1,4 @@
-mod WorkedExamples
+mod Worked
 pub mod Greatest
 pub mod Grown
 pub mod Links

@@ -1,4 +1,4 @@
 pub mod Admission
 pub mod Orders
 pub mod Insertions
-pub mod WorkedExamples
+pub mod Worked

@@ -1,4 +1,4 @@
-mod WorkedExamples
+mod Worked
 mod Walks
 pub mod Parses
 pub mod NumberLemmas

@@ -1,5 +1,5 @@
 pub mod Spans
 pub mod Pages
 pub mod Touches
-mod WorkedExamples
+mod Worked
 pub mod Covers

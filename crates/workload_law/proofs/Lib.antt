@@ -1,4 +1,4 @@
-mod WorkedExamples
+mod Worked
 pub mod Sums
 pub mod Parts
 pub mod Blobs
