@@ -217,11 +217,11 @@ fn each_other_reply_has_no_body(rt: HostRuntime) -> Result<(), Fail> {
     let alloc = rt.alloc();
     let lines = ScriptDialect::new(alloc)?;
     let parts = parts_of_content(&rt, alloc, &lines, b"\x00abz\xff")?;
-    assert_eq!(rt; parts.head.as_slice(), b"data 0061627aff\n");
+    assert_eq!(rt; parts.head.as_slice(), b"data 0061627aff\n".as_slice());
     assert!(rt; parts.body.is_empty());
     let frames = FrameDialect::new(alloc)?;
     let parts = frames.say_in_parts(Reply::Bye)?;
-    assert_eq!(rt; parts.head.as_slice(), b"\x00\x00\x00\x01\x8d");
+    assert_eq!(rt; parts.head.as_slice(), b"\x00\x00\x00\x01\x8d".as_slice());
     assert!(rt; parts.body.is_empty());
     Ok(())
 }
