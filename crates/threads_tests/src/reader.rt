@@ -422,14 +422,13 @@ fn two_readers<R: Threads + Wait + Sync>(
     )
 }
 
-// Stores two versions with doors of its own, and tells whether both were stored.
-fn store_again<R: Threads + Wait + Sync>(rt: &R, alloc: Global, houses: &Houses) -> bool
+// Stores two versions with doors of its own.
+fn store_again<R: Threads + Wait + Sync>(rt: &R, alloc: Global, houses: &Houses) -> Result<(), Fail>
     requires houses { length houses.now ≡ 1 }
 {
-    let Ok(mut doors) = Doors::new(alloc, &mut PlainMaker::new(), 1) else {
-        return false;
-    };
-    two_over(rt, alloc, &mut doors, houses).is_ok()
+    let mut doors = Doors::new(alloc, &mut PlainMaker::new(), 1)?;
+    let _two = two_over(rt, alloc, &mut doors, houses)?;
+    Ok(())
 }
 
 #[test]
@@ -445,11 +444,11 @@ fn two_threads_read_while_a_third_stores_versions(rt: HostRuntime) -> Result<(),
             requires page_size { two.page_size ≡ 4 }
             requires houses { length houses ≡ 1 }
         { two_readers(&rt, alloc, &two, &houses) },
-        || -> bool
+        || -> Result<(), Fail>
             requires houses { length houses ≡ 1 }
         { store_again(&rt, alloc, &houses) },
     );
-    assert!(rt; stored);
+    stored?;
     assert_eq!(rt; right, (100, 100));
     Ok(())
 }
