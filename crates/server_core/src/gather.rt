@@ -11,18 +11,15 @@ use request_form::NoMemory;
 use std::alloc::Global;
 
 // From so many bytes on replies aren't gathered, but written.
-const MOST: usize = 65536;
+const MOST: usize = 131_072;
 
-// From so many bytes on a reply's body isn't copied to those that are gathered, but written from where it lies.
-const LONG_BODY: usize = 16384;
-
-/// Replies that were said and aren't written yet, fewer than 65,536 bytes.
+/// Replies that were said and aren't written yet, fewer than 131,072 bytes.
 ///
 /// Its memory is taken when it is made.
 #[derive(Drop)]
 pub(crate) struct Gathered {
     bytes: Vec<u8>,
-    ghost few: { length bytes.items < 65536 },
+    ghost few: { length bytes.items < 131072 },
 }
 
 impl Gathered {
@@ -45,7 +42,7 @@ impl Gathered {
 
     // Adds a text that fits.
     fn hold(&mut self, text: &[u8]) -> Flow
-        requires { length self.old.bytes.items + length text.now < 65536 }
+        requires { length self.old.bytes.items + length text.now < 131072 }
         ensures put { (written : Option (List ℕ)) → IsPut self.old.bytes.items text.now written self.new.bytes.items written result }
         ensures unwritten { flow_write_faults result ≡ 0 }
     {
@@ -75,8 +72,8 @@ impl Gathered {
         written
     }
 
-    // Adds a text where nothing is held, or writes it by itself from so many bytes on, and where it is too long to be held.
-    fn put_first<I: Sink>(&mut self, io: &mut I, text: &[u8], long: usize) -> Flow
+    // Adds a text where nothing is held, or writes it by itself where it is too long to be held.
+    fn put_first<I: Sink>(&mut self, io: &mut I, text: &[u8]) -> Flow
         requires { self.old.bytes.items ≡ [] }
         ensures put { IsPut [] text.now (I.written io.old) self.new.bytes.items (I.written io.new) result }
         ensures write_faults { RoseBy (flow_write_faults result) (I.write_faults io.old) (I.write_faults io.new) }
@@ -86,7 +83,7 @@ impl Gathered {
         ensures ends { I.ends io.new ≡ I.ends io.old }
         ensures objects { I.objects io.new ≡ I.objects io.old }
     {
-        if text.len() < MOST.min(long) {
+        if text.len() < MOST {
             return self.hold(text);
         }
         match io.write(text) {
@@ -95,9 +92,9 @@ impl Gathered {
         }
     }
 
-    // Adds a text. Where it doesn't fit, or has so many bytes, what is held is written first. A text of so many bytes, or that
-    // is too long to be held, is written by itself then.
-    fn put<I: Sink>(&mut self, io: &mut I, text: &[u8], long: usize) -> Flow
+    // Adds a text. Where it doesn't fit, what is held is written first, and a text that is too long to be held is written by
+    // itself.
+    fn put<I: Sink>(&mut self, io: &mut I, text: &[u8]) -> Flow
         ensures put { IsPut self.old.bytes.items text.now (I.written io.old) self.new.bytes.items (I.written io.new) result }
         ensures write_faults { RoseBy (flow_write_faults result) (I.write_faults io.old) (I.write_faults io.new) }
         ensures given { I.given io.new ≡ I.given io.old }
@@ -106,18 +103,17 @@ impl Gathered {
         ensures ends { I.ends io.new ≡ I.ends io.old }
         ensures objects { I.objects io.new ≡ I.objects io.old }
     {
-        let room = MOST - self.bytes.len();
-        if text.len() < room.min(long) {
+        if text.len() < MOST - self.bytes.len() {
             return self.hold(text);
         }
         match self.flush(io) {
             Written::Failed(_) => Flow::WriteFault,
-            Written::Whole => self.put_first(io, text, long),
+            Written::Whole => self.put_first(io, text),
         }
     }
 
-    /// Adds a reply, which is written as a head and a body. What doesn't fit is written first, and what is too long to be held
-    /// is written by itself. A long body isn't copied.
+    /// Adds a reply, which is written as a head and a body. Where one of them doesn't fit, what is held is written first, and a
+    /// body that is too long to be held is written from where it lies.
     pub(crate) fn put_reply<I: Sink>(&mut self, io: &mut I, head: &[u8], body: &[u8]) -> Flow
         ensures put { IsPut self.old.bytes.items (head.now ++ body.now) (I.written io.old) self.new.bytes.items (I.written io.new) result }
         ensures write_faults { RoseBy (flow_write_faults result) (I.write_faults io.old) (I.write_faults io.new) }
@@ -127,8 +123,8 @@ impl Gathered {
         ensures ends { I.ends io.new ≡ I.ends io.old }
         ensures objects { I.objects io.new ≡ I.objects io.old }
     {
-        match self.put(io, head, MOST) {
-            Flow::Goes => self.put(io, body, LONG_BODY),
+        match self.put(io, head) {
+            Flow::Goes => self.put(io, body),
             Flow::Quits => unreachable!(),
             Flow::WriteFault => Flow::WriteFault,
             Flow::NoMemory => Flow::NoMemory,

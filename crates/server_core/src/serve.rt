@@ -305,10 +305,9 @@ fn answer_piece<R: Wait + Threads + Sync, V: Service, T: Dialect, I: Source + Si
 
 /// Answers the requests of one stream until it ends, takes at most `limit` bytes, and says how it ended.
 ///
-/// A read takes up to 65,536 bytes. Replies are gathered: they are written whenever as many bytes come together, and
-/// at the latest before the next read and before it answers, and a longer one is written by itself. The body of a reply that
-/// has 16,384 bytes or more is written from where it lies, behind what was gathered. After want of memory the dialect isn't
-/// used again.
+/// A read takes up to 65,536 bytes. Replies are gathered: they are written whenever 131,072 bytes come together, and
+/// at the latest before the next read and before it answers. A longer one is written by itself, and the body of a reply from
+/// where it lies. After want of memory the dialect isn't used again.
 pub fn serve_stream<R: Wait + Threads + Sync, V: Service, T: Dialect, I: Source + Sink>(
     rt: &R,
     alloc: Global,

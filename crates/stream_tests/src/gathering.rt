@@ -86,17 +86,17 @@ fn replies_to_many_lines_are_written_in_few_writes(rt: HostRuntime) -> Result<()
         match act {
             Act::Read => reads = reads.saturating_add(1),
             Act::Wrote(n) => {
-                assert!(rt; *n <= 65_536);
+                assert!(rt; *n < 131_072);
                 writes = writes.saturating_add(1);
                 bytes = bytes.saturating_add(*n);
             }
         }
     }
     assert_eq!(rt; bytes, 100_000 * REPLY);
-    // Three whole pieces of 32,768 lines, the rest of 1,696 lines, and the end. Fewer than 65,536 bytes are held.
+    // Three whole pieces of 32,768 lines, the rest of 1,696 lines, and the end. Fewer than 131,072 bytes are held.
     assert_eq!(rt; reads, 5);
-    assert_eq!(rt; writes, 3 * 9 + 1);
-    assert!(rt; writes as usize <= bytes / 65_536 + reads as usize);
+    assert_eq!(rt; writes, 3 * 5 + 1);
+    assert!(rt; writes as usize <= bytes / 131_072 + reads as usize);
     Ok(())
 }
 
@@ -121,22 +121,22 @@ fn acts_of_sizes<R: Wait + Threads + Sync>(
 #[test]
 fn a_long_reply_is_written_by_itself(rt: HostRuntime) -> Result<(), Fail> {
     // Those before it go out in one write, and those behind it are gathered again.
-    let io = acts_of_sizes(&rt, rt.alloc(), &[1, 2, 100, 3, 4, 5], false)?;
+    let io = acts_of_sizes(&rt, rt.alloc(), &[1, 2, 200, 3, 4, 5], false)?;
     let expected = [
         Act::Read,
         Act::Wrote(3_000),
-        Act::Wrote(100_000),
+        Act::Wrote(200_000),
         Act::Wrote(12_000),
         Act::Read,
     ];
     assert_eq!(rt; io.acts(), expected.as_slice());
-    // Where none is held, it goes out at once. One of 65,000 bytes is held, and goes out where another doesn't fit.
-    let io = acts_of_sizes(&rt, rt.alloc(), &[100, 66, 65, 1], false)?;
+    // Where none is held, it goes out at once. One of 131,000 bytes is held, and goes out where another doesn't fit.
+    let io = acts_of_sizes(&rt, rt.alloc(), &[200, 132, 131, 1], false)?;
     let expected = [
         Act::Read,
-        Act::Wrote(100_000),
-        Act::Wrote(66_000),
-        Act::Wrote(65_000),
+        Act::Wrote(200_000),
+        Act::Wrote(132_000),
+        Act::Wrote(131_000),
         Act::Wrote(1_000),
         Act::Read,
     ];
@@ -145,14 +145,13 @@ fn a_long_reply_is_written_by_itself(rt: HostRuntime) -> Result<(), Fail> {
 }
 
 #[test]
-fn a_long_body_is_written_from_where_it_lies(rt: HostRuntime) -> Result<(), Fail> {
-    // From 16,384 bytes on a body isn't gathered. What was gathered before it goes out first.
-    let io = acts_of_sizes(&rt, rt.alloc(), &[1, 16, 17, 100, 2, 3], true)?;
+fn bodies_are_gathered_like_heads_unless_they_are_long(rt: HostRuntime) -> Result<(), Fail> {
+    // What was gathered before a long body goes out first.
+    let io = acts_of_sizes(&rt, rt.alloc(), &[1, 16, 65, 200, 2, 3], true)?;
     let expected = [
         Act::Read,
-        Act::Wrote(17_000),
-        Act::Wrote(17_000),
-        Act::Wrote(100_000),
+        Act::Wrote(82_000),
+        Act::Wrote(200_000),
         Act::Wrote(5_000),
         Act::Read,
     ];

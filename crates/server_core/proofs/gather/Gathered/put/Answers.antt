@@ -1,8 +1,8 @@
 use Rattle.server_core.proofs.Writing.{Writes-part, put_after}
 use Rattle.server_core.proofs.gather.Gathered.put.Goals as goal
 
-pub returns-then-text-min-clause-put : goal.returns-then-text-min-clause-put
-returns-then-text-min-clause-put g c = c.hold.ensures.put (g.I.Ends.written c.args.io.now)
+pub returns-then-text-len-clause-put : goal.returns-then-text-len-clause-put
+returns-then-text-len-clause-put g c = c.hold.ensures.put (g.I.Ends.written c.args.io.now)
 
 pub returns-in-Failed-clause-put : goal.returns-in-Failed-clause-put
 returns-in-Failed-clause-put g c = Writes-part c.args.self.now.bytes.items c.args.text.now c.in-Failed.field-0 _ _ c.in-Failed.ensures.part c.in-Failed.ensures.written
