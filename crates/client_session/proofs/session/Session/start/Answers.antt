@@ -52,7 +52,7 @@ returns-clause-woven g c =
     let o : OpenUpdate = record { number = mid.next; ticket = c.in-Ok.numbered.0; row = Some (arc_value c.in-Some.row) } in
     let held : c.hold-ticket-2.new.self.held ≡ mid.held ++ o ∷ [] = ap (λ (x : SessionState g.row.D.Denot). x.held) c.hold-ticket-2.ensures.held in
     record {
-      place = length mid.held;
+      index = length mid.held;
       update = o;
       is = ap (λ (os : List OpenUpdate). slice_get os (length mid.held)) held ∙ last_is mid.held o;
       number_is = sym c.hold-ticket-2.ensures.number;
