@@ -20,7 +20,7 @@ returns-in-Ok-served-clause-served g c =
     let took = subst (λ (s : SettingsValues). TookPeers s.connections peers before after) c.settings.view_is (took_since _ _ _ _ x.handed x.done x.faults peers c.in-Ok-served.ensures.ended) in
     served_there _ _ _ peers _ _ _ _ _ c.in-Ok-served.ensures.listens took c.tell_served.ensures.told
 
-pub returns-clause-served : goal.returns-clause-served
-returns-clause-served g c =
+pub returns-in-Err-clause-served : goal.returns-in-Err-clause-served
+returns-in-Err-clause-served g c =
     let x = c.if-not-listen.ensures in
     rw c.status_of.ensures (faulted_there _ _ _ _ _ _ c.in-Err.fault _ _ refl x.handed x.done x.faults c.in-Err.ensures.ended)
