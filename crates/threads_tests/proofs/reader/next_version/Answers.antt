@@ -6,7 +6,7 @@ use Rattle.snapshot.specs.Versions.{Version, IsVersionIn}
 use Rattle.threads_tests.proofs.reader.next_version.Goals as goal
 
 pub returns-in-Ok-clause-here : goal.returns-in-Ok-clause-here
-returns-in-Ok-clause-here g c = λ houses before pages.
+returns-in-Ok-clause-here c = λ houses before pages.
     let is = c.in_ok-row.ensures.is in
     let C : Cut → Type 0 = λ x. LieAmong houses x.pages in
     let P : UpdateRow → Type 0 = λ r. IsRowIn houses r in

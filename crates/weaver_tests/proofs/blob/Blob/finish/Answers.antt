@@ -8,7 +8,7 @@ use Rattle.weaver_tests.proofs.Steady.{blob_of, own_row, finished_or_not, still_
 use Rattle.weaver_tests.proofs.blob.Blob.finish.Goals as goal
 
 pub finish-requires-clause-own : goal.finish-requires-clause-own
-finish-requires-clause-own g c =
+finish-requires-clause-own c =
     let b : OneBlob = blob_of c.self.inside.window c.self.inside.touches.items c.self.inside.begun.items in
     let t = c.in_ok-ticket.ticket in
     let row = arc_value c.in_ok-row.row in
@@ -23,7 +23,7 @@ finish-requires-clause-own g c =
     )
 
 pub invariant_of-self : goal.invariant_of-self
-invariant_of-self g c =
+invariant_of-self c =
     let b : OneBlob = blob_of c.self.inside.window c.self.inside.touches.items c.self.inside.begun.items in
     let t = c.in_ok-ticket.ticket in
     let row = arc_value c.in_ok-row.row in
