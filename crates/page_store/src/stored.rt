@@ -147,6 +147,14 @@ impl Pages {
         self.pages.len() as u32
     }
 
+    /// The pages cut an update's bytes, all of the page size but the last. For proofs: it does nothing.
+    pub fn stands(&self)
+        ensures cut { IsCut self.now.page_size self.now.pages }
+        ensures enough { length (bytes_of_pages self.now.pages) ≤ length self.now.pages * self.now.page_size }
+    {
+        let _count = self.count();
+    }
+
     /// The number of bytes of all pages.
     pub fn len(&self) -> u64
         ensures { result ≡ length (bytes_of_pages self.now.pages) }

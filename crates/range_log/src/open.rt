@@ -121,6 +121,14 @@ impl OpenCopy {
         self.items.len() as u32
     }
 
+    /// At most 64 updates waited, and their versions rise. For proofs: it does nothing.
+    pub fn stands(&self)
+        ensures few { length self.now ≤ 64 }
+        ensures rises { Rises self.now }
+    {
+        let _items = &self.items;
+    }
+
     /// The update of that number, the lowest version being number 0. There are more than `i`.
     pub fn at(&self, i: u32) -> OpenTouch
         requires { i < length self.now }

@@ -12,7 +12,7 @@ mod steps;
 mod touch;
 
 pub use node::{Node, NodeKey, Piece};
-pub use page::{PageSize, height, span};
+pub use page::{PageSize, height, span, span_stands};
 pub use range::{Range, halves, range_of_page};
 pub use steps::Steps;
 pub use touch::{Touch, covers_page, meets, touched};

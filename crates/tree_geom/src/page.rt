@@ -43,6 +43,14 @@ impl PageSize {
     {
         self.bytes
     }
+
+    /// A page size is a power of two from 4 to 1,048,576. For proofs: it does nothing.
+    pub fn stands(&self)
+        ensures bounds { (4 ≤ self.now) × (self.now ≤ 1048576) }
+        ensures power { IsPageSize self.now }
+    {
+        let _bytes = self.bytes();
+    }
 }
 
 /// The height of the tree over `size` bytes: the least `h` for which `p * 2^h` is at least the size.
@@ -80,4 +88,15 @@ pub fn span(p: PageSize, size: u64) -> u64
         return 0;
     }
     p.bytes() * 2u64.pow(height(p, size))
+}
+
+/// What the span of a size is. For proofs: it leaves nothing behind.
+pub fn span_stands(p: PageSize, size: u64)
+    requires { size ≤ 2 ^ 40 }
+    ensures none { size ≡ 0 → span_of p size ≡ 0 }
+    ensures least { 1 ≤ size → (h : ℕ) × IsHeight p size h × (span_of p size ≡ p * 2 ^ h) }
+    ensures holds { size ≤ span_of p size }
+    ensures fits { span_of p size ≤ 2 ^ 40 }
+{
+    let _span = span(p, size);
 }
