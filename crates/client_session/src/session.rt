@@ -214,7 +214,7 @@ impl<'a, D: Door, G: Gate> Session<'a, D, G> {
         ensures goes_on { Continues self.old self.new }
     {
         for _ in rt.forever() {
-            let finishes = self.shared.notices().count(rt);
+            let finishes = self.shared.notices().count();
             let outcome = self.sync(rt, blob, version);
             if !matches!(outcome, Outcome::Refused(Refusal::Pending { .. })) {
                 return outcome;

@@ -88,7 +88,7 @@ fn report<R: Wait>(
     let _version = ticket.version();
     let reported = shared.desk().finish(rt, pass, ticket, row);
     if reported.is_ok() {
-        shared.notices().notify(rt);
+        shared.notices().notify();
     }
     reported
 }

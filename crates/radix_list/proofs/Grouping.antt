@@ -97,17 +97,17 @@ map_range f g a (suc n) same =
     ap (λ x. x ∷ map f (range_with_len (a + 1) n)) (same a (omega arith) (omega arith))
     ∙ ap (λ l. g a ∷ l) (map_range f g (a + 1) n (λ i le lt. same i (omega arith) (omega arith)))
 
--- the group of the new item
-group_new : {X : Type 0} (xs : List X) (q : ℕ) (y : X) → q ≤ length xs
-    → group (take q xs ++ y ∷ []) (q / 32) ≡ take (q % 32) (unwrap_or (slice_get (groups xs) (q / 32)) []) ++ y ∷ []
-group_new {X} xs q y within =
+-- the group of the new items
+group_new : {X : Type 0} (xs : List X) (q : ℕ) (ws : List X) → q ≤ length xs → q % 32 + length ws ≤ 32
+    → group (take q xs ++ ws) (q / 32) ≡ take (q % 32) (unwrap_or (slice_get (groups xs) (q / 32)) []) ++ ws
+group_new {X} xs q ws within fit =
     let n = 32 * (q / 32) in
     let rest : q - n ≡ q % 32 = omega arith in
     let kept = take (q % 32) (drop n xs) in
     let count : length kept ≡ q % 32 = length-take-le (q % 32) (drop n xs) (omega (arith, length-drop n xs)) in
-    let whole : group (take q xs ++ y ∷ []) (q / 32) ≡ kept ++ y ∷ [] =
-    ap (take 32) (front_from xs (y ∷ []) q n (omega arith) within ∙ ap (λ m. take m (drop n xs) ++ y ∷ []) rest)
-    ∙ take_all 32 (kept ++ y ∷ []) (omega (arith, length-append kept (y ∷ []))) in
+    let whole : group (take q xs ++ ws) (q / 32) ≡ kept ++ ws =
+    ap (take 32) (front_from xs ws q n (omega arith) within ∙ ap (λ m. take m (drop n xs) ++ ws) rest)
+    ∙ take_all 32 (kept ++ ws) (omega (arith, length-append kept ws)) in
     let old : kept ≡ take (q % 32) (unwrap_or (slice_get (groups xs) (q / 32)) []) =
     elim (cases_lt (q / 32) ((length xs + 31) / 32)) [
       | inl there ↦
@@ -116,23 +116,23 @@ group_new {X} xs q y within =
           (let none : q % 32 ≡ 0 = omega arith in
           ap (λ m. take m (drop n xs)) none ∙ sym (ap (λ m. take m (unwrap_or (slice_get (groups xs) (q / 32)) [])) none))
     ] in
-    whole ∙ ap (λ l. l ++ y ∷ []) old
+    whole ∙ ap (λ l. l ++ ws) old
 
-pub groups-ending : {X : Type 0} (xs : List X) (q : ℕ) (y : X) → q ≤ length xs
-    → groups (take q xs ++ y ∷ []) ≡ take (q / 32) (groups xs) ++ (take (q % 32) (unwrap_or (slice_get (groups xs) (q / 32)) []) ++ y ∷ []) ∷ []
+pub groups-ending : {X : Type 0} (xs : List X) (q : ℕ) (ws : List X) → q ≤ length xs → 1 ≤ length ws → q % 32 + length ws ≤ 32
+    → groups (take q xs ++ ws) ≡ take (q / 32) (groups xs) ++ (take (q % 32) (unwrap_or (slice_get (groups xs) (q / 32)) []) ++ ws) ∷ []
 unfolding groups
-groups-ending {X} xs q y within =
+groups-ending {X} xs q ws within some fit =
     let k = q / 32 in
-    let ys = take q xs ++ y ∷ [] in
-    let count : length ys ≡ q + 1 = length-append (take q xs) (y ∷ []) ∙ ap (λ n. n + 1) (length-take-le q xs within) in
+    let ys = take q xs ++ ws in
+    let count : length ys ≡ q + length ws = length-append (take q xs) ws ∙ ap (λ n. n + length ws) (length-take-le q xs within) in
     let number : (length ys + 31) / 32 ≡ k + 1 = omega arith in
     let z : 0 + k ≡ k = omega arith in
     ap (λ n. map (group ys) (range_with_len 0 n)) number
     ∙ (map-range_with_len_more (group ys) 0 k k z
     ∙ (ap (λ l. l ++ group ys k ∷ [])
-    (map_range (group ys) (group xs) 0 k (λ i le lt. group_below xs (y ∷ []) q i within (omega arith))
+    (map_range (group ys) (group xs) 0 k (λ i le lt. group_below xs ws q i within (omega arith))
     ∙ sym (take-map-range_with_len (group xs) 0 ((length xs + 31) / 32) k (omega arith)))
-    ∙ ap (λ g. take k (map (group xs) (range_with_len 0 ((length xs + 31) / 32))) ++ g ∷ []) (group_new xs q y within)))
+    ∙ ap (λ g. take k (map (group xs) (range_with_len 0 ((length xs + 31) / 32))) ++ g ∷ []) (group_new xs q ws within fit)))
 
 pub groups-nil : {X : Type 0} → groups {X = X} [] ≡ []
 unfolding groups

@@ -1,5 +1,5 @@
 // A node of the tree, which shares its children with other nodes.
-ghost use Rattle.std.specs.Prelude.{◌≡◌, ◌+◌, ◌^◌, ◌<◌, ◌≤◌, [], ◌∷◌, ◌++◌, length, take, map, unwrap_or, vec_len, vec_capacity, IfOk, slice_get};
+ghost use Rattle.std.specs.Prelude.{◌≡◌, ◌+◌, ◌^◌, ◌<◌, ◌≤◌, [], ◌∷◌, ◌++◌, length, take, map, unwrap_or, vec_len, vec_capacity, IfOk, OnOk, slice_get};
 ghost use Rattle.std.specs.Arc.{arc_value};
 ghost use Rattle.std.specs.Option.{option_copied, option_map};
 
@@ -32,15 +32,6 @@ impl<C> Model for Branch<C> {
 }
 
 impl<C> Branch<C> {
-    /// A node without children. It takes no memory.
-    pub(crate) fn empty(alloc: Global) -> Branch<C>
-        ensures { result ≡ [] }
-    {
-        Branch {
-            children: Vec::new(alloc),
-        }
-    }
-
     /// Child `k` from 0, and the share that this node has in it.
     pub(crate) fn handle(&self, k: usize) -> Option<&Arc<C>>
         ensures { option_map (λ child. arc_value child.now) result ≡ slice_get self.now k }
@@ -87,18 +78,30 @@ impl<C: Drop> Branch<C> {
             Some(node) => node.front(keep),
             None => &[],
         };
-        let mut children = copy_of(alloc, kept, keep + 1)?;
+        let mut children = Vec::with_capacity(alloc, keep + 1)?;
+        add_shares(&mut children, kept)?;
         children.push_reserved(child);
         Ok(Branch { children })
     }
 
-    /// The same children once more.
-    pub(crate) fn share(&self, alloc: Global) -> Result<Branch<C>, NoMemory>
-        ensures { IfOk result (λ node. node ≡ self.now) }
+    /// A node of the first `keep` children of `base`, or of all that it has, and then these.
+    pub(crate) fn ending_in(
+        alloc: Global,
+        base: Option<&Branch<C>>,
+        keep: usize,
+        more: &[Arc<C>],
+    ) -> Result<Branch<C>, NoMemory>
+        requires { keep + length more.now ≤ WIDTH }
+        ensures { IfOk result (λ node. node ≡ take keep (unwrap_or (option_copied base.entry) []) ++ map arc_value more.now) }
     {
-        Ok(Branch {
-            children: copy_of(alloc, &self.children, self.children.len())?,
-        })
+        let kept: &[Arc<C>] = match base {
+            Some(node) => node.front(keep),
+            None => &[],
+        };
+        let mut children = Vec::with_capacity(alloc, keep + more.len())?;
+        add_shares(&mut children, kept)?;
+        add_shares(&mut children, more)?;
+        Ok(Branch { children })
     }
 
     // The first `count` children, or all.
@@ -110,20 +113,45 @@ impl<C: Drop> Branch<C> {
     }
 }
 
-// The same children once more, in a vector with room for `room` children.
-fn copy_of<C: Drop>(
-    alloc: Global,
-    children: &[Arc<C>],
-    room: usize,
-) -> Result<Vec<Arc<C>>, NoMemory>
-    requires { length children.now ≤ room }
-    ensures children { IfOk result (λ copy. map arc_value copy.items ≡ map arc_value children.now) }
-    ensures count { IfOk result (λ copy. vec_len copy ≡ length children.now) }
-    ensures room { IfOk result (λ copy. vec_capacity copy ≡ room) }
+// Adds these children once more, for which there is room.
+fn add_shares<C: Drop>(children: &mut Vec<Arc<C>>, more: &[Arc<C>]) -> Result<(), NoMemory>
+    requires { vec_len children.old + length more.now ≤ vec_capacity children.old }
+    ensures children { OnOk result (map arc_value children.new.items ≡ map arc_value children.old.items ++ map arc_value more.now) }
+    ensures count { OnOk result (vec_len children.new ≡ vec_len children.old + length more.now) }
+    ensures room { vec_capacity children.new ≡ vec_capacity children.old }
 {
-    let mut copy = Vec::with_capacity(alloc, room)?;
-    for child in children {
-        copy.push_reserved(Arc::try_clone(child)?);
+    for child in more {
+        children.push_reserved(Arc::try_clone(child)?);
     }
-    Ok(copy)
+    Ok(())
+}
+
+/// A share in the same node once more, where there is one.
+pub(crate) fn share_of<N>(node: &Option<Arc<N>>) -> Result<Option<Arc<N>>, NoMemory>
+    ensures { IfOk result (λ shared. option_map arc_value shared ≡ option_map arc_value node.now) }
+{
+    match node {
+        Some(node) => Ok(Some(Arc::try_clone(node)?)),
+        None => Ok(None),
+    }
+}
+
+/// The node, where there is one.
+pub(crate) fn node_of<N>(node: &Option<Arc<N>>) -> Option<&N>
+    ensures { option_copied result ≡ option_map arc_value node.now }
+{
+    match node {
+        Some(node) => Some(node),
+        None => None,
+    }
+}
+
+/// The shares that the node has in its children, in order. There are none where there is no node.
+pub(crate) fn handles_of<C>(node: &Option<Arc<Branch<C>>>) -> &[Arc<C>]
+    ensures { map arc_value result.now ≡ unwrap_or (option_map arc_value node.now) [] }
+{
+    match node {
+        Some(node) => &node.children,
+        None => &[],
+    }
 }

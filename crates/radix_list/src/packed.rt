@@ -1,11 +1,11 @@
 // A list in a tree of four levels, all of whose items are the list's.
-ghost use Rattle.std.specs.Prelude.{◌≡◌, ℕ, ◌+◌, ◌*◌, ◌/◌, ◌<◌, ◌≤◌, [], ◌∷◌, ◌++◌, length, take, IfOk, IfSome, slice_get};
+ghost use Rattle.std.specs.Prelude.{◌≡◌, ℕ, ◌+◌, ◌*◌, ◌/◌, ◌%◌, ◌<◌, ◌≤◌, [], ◌∷◌, ◌++◌, length, take, map, IfOk, IfSome, slice_get};
 ghost use Rattle.std.specs.Arc.{arc_value};
 ghost use Rattle.std.specs.Option.{option_copied};
 ghost use Rattle.radix_list.specs.Packing.{groups};
 
 use crate::NoMemory;
-use crate::branch::{Branch, WIDTH};
+use crate::branch::{Branch, WIDTH, node_of, share_of};
 use std::alloc::Global;
 use std::marker::Model;
 use std::sync::Arc;
@@ -18,17 +18,22 @@ type Twig<T> = Branch<Leaf<T>>;
 
 type Limb<T> = Branch<Twig<T>>;
 
-/// A list of up to 1,048,576 shared items. It never changes: what adds an item to a front of it makes another list, which
+type Root<T> = Branch<Limb<T>>;
+
+/// A list of up to 1,048,576 shared items. It never changes: what adds items to a front of it makes another list, which
 /// shares with this one all nodes but those on one path, and all items.
 #[derive(Drop)]
 pub(crate) struct PackedList<T> {
-    root: Branch<Limb<T>>,
+    // none where there are no items
+    root: Option<Arc<Root<T>>>,
     len: u64,
     alloc: Global,
 }
 
 impl<T> Model for PackedList<T> {
-    ghost use Rattle.std.specs.Prelude.{List};
+    ghost use Rattle.std.specs.Prelude.{List, [], unwrap_or};
+    ghost use Rattle.std.specs.Arc.{arc_value};
+    ghost use Rattle.std.specs.Option.{option_map};
     ghost use Rattle.std.specs.Coded.{coded_list};
     ghost use Rattle.radix_list.specs.Packing.{items_of, IsPacked};
 
@@ -36,9 +41,9 @@ impl<T> Model for PackedList<T> {
 
     ghost coded = { coded_list T.code };
 
-    ghost view = { λ l. items_of l.root };
+    ghost view = { λ l. items_of (unwrap_or (option_map arc_value l.root) []) };
 
-    ghost invariant = { λ l. IsPacked l.root l.len };
+    ghost invariant = { λ l. IsPacked (unwrap_or (option_map arc_value l.root) []) l.len };
 }
 
 impl<T> PackedList<T> {
@@ -47,7 +52,7 @@ impl<T> PackedList<T> {
         ensures { result ≡ [] }
     {
         PackedList {
-            root: Branch::empty(alloc),
+            root: None,
             len: 0,
             alloc,
         }
@@ -69,37 +74,39 @@ impl<T> PackedList<T> {
         ensures counted { IfSome result (λ _. steps.new ≡ steps.old + 4) }
     {
         let i = i as usize;
-        let limb = self.root.visit(i / WIDTH / WIDTH / WIDTH, steps)?;
+        let limb = node_of(&self.root)?.visit(i / WIDTH / WIDTH / WIDTH, steps)?;
         let twig = limb.visit(i / WIDTH / WIDTH % WIDTH, steps)?;
         let leaf = twig.visit(i / WIDTH % WIDTH, steps)?;
         leaf.visit(i % WIDTH, steps)
     }
 
-    /// The same list once more. Of its nodes and items none is copied, but for the root's pointers to its children, 32 at most.
+    /// The same list once more. No node is copied.
     pub(crate) fn share(&self) -> Result<PackedList<T>, NoMemory>
     where
         T: Drop,
         ensures { IfOk result (λ list. list ≡ self.now) }
     {
         Ok(PackedList {
-            root: self.root.share(self.alloc)?,
+            root: share_of(&self.root)?,
             len: self.len,
             alloc: self.alloc,
         })
     }
 
-    /// The first `keep` items and then this one, in new nodes on the path to it. All other nodes are shared.
-    pub(crate) fn ending(&self, keep: u64, item: &Arc<T>) -> Result<PackedList<T>, NoMemory>
+    /// The first `keep` items and then these, which stand in one leaf, in new nodes on the path to them. All other nodes are
+    /// shared.
+    pub(crate) fn ending(&self, keep: u64, more: &[Arc<T>]) -> Result<PackedList<T>, NoMemory>
     where
         T: Drop,
         requires within { keep ≤ length self.now }
-        requires room { keep < 1048576 }
-        ensures { IfOk result (λ list. list ≡ take keep self.now ++ arc_value item.now ∷ []) }
+        requires some { 1 ≤ length more.now }
+        requires one_leaf { keep % 32 + length more.now ≤ 32 }
+        requires room { keep + length more.now ≤ 1048576 }
+        ensures { IfOk result (λ list. list ≡ take keep self.now ++ map arc_value more.now) }
     {
         let alloc = self.alloc;
-        let item = Arc::try_clone(item)?;
         let at = keep as usize;
-        let leaf = Branch::ending(alloc, self.leaf(at), at % WIDTH, item)?;
+        let leaf = Branch::ending_in(alloc, self.leaf(at), at % WIDTH, more)?;
         let leaf = Arc::new(alloc, leaf)?;
         let at = at / WIDTH;
         let twig = Branch::ending(alloc, self.twig(at), at % WIDTH, leaf)?;
@@ -108,10 +115,11 @@ impl<T> PackedList<T> {
         let limb = Branch::ending(alloc, self.limb(at), at % WIDTH, twig)?;
         let limb = Arc::new(alloc, limb)?;
         let at = at / WIDTH;
-        let root = Branch::ending(alloc, Some(&self.root), at, limb)?;
+        let root = Branch::ending(alloc, node_of(&self.root), at, limb)?;
+        let root = Arc::new(alloc, root)?;
         Ok(PackedList {
-            root,
-            len: keep + 1,
+            root: Some(root),
+            len: keep + more.len() as u64,
             alloc,
         })
     }
@@ -136,6 +144,6 @@ impl<T> PackedList<T> {
     fn limb(&self, i: usize) -> Option<&Limb<T>>
         ensures { option_copied result ≡ slice_get (groups (groups (groups self.now))) (i / 32) }
     {
-        self.root.at(i / WIDTH)
+        node_of(&self.root)?.at(i / WIDTH)
     }
 }
