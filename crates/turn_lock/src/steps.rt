@@ -11,8 +11,8 @@ use crate::rule::{Board, DRAWN, ENTRIES, PASSED, Room, STATE, TurnSeat};
 use std::hint::spin_loop;
 use std::sync::Wait;
 
-/// How often a seat looks before it sleeps between two looks.
-const LOOKS: u32 = 64;
+/// How often a thread looks before it sleeps: a turn is short, and a sleep costs more than these looks.
+pub const LOOKS: u32 = 64;
 
 // Draws a number.
 fn draw<S: Journaled>(board: &Board<S>, seat: &mut TurnSeat<S>) -> u64

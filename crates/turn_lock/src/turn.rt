@@ -5,12 +5,13 @@ ghost use Rattle.turn_lock.specs.Shown.{Turned};
 
 use crate::journal::{Act, Journaled};
 use crate::rule::{Room, TurnSeat};
-use crate::steps::{deal, end_turns, take_in, take_turn};
+use crate::steps::{LOOKS, deal, end_turns, take_in, take_turn};
 use no_memory::NoMemory;
 use std::alloc::Global;
+use std::hint::spin_loop;
 use std::marker::Model;
 use std::snapshot::Snapshot;
-use std::sync::{Mutex, Wait};
+use std::sync::{Mutex, MutexGuard, Wait};
 use thiserror::Error;
 
 // The most passes that one lock gives.
@@ -133,8 +134,19 @@ impl<S: Journaled> Turn<S> {
         ensures turned { Turned (λ before f after. A.gives act before f pass.old.caller result after) pass.old pass.new }
     {
         let caller = pass.caller;
-        let _queued = self.queue.lock(rt);
+        let _queued = self.queued(rt);
         take_turn(rt, &self.table.shared, &mut pass.seat, act, caller)
+    }
+
+    // Waits until the pass may draw a number: it looks a few times, and sleeps then.
+    fn queued<R: Wait>(&self, rt: &R) -> MutexGuard<'_, ()> {
+        for _ in 0..LOOKS {
+            if let Some(queued) = self.queue.try_lock() {
+                return queued;
+            }
+            spin_loop();
+        }
+        self.queue.lock(rt)
     }
 }
 
