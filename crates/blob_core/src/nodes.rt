@@ -20,7 +20,7 @@ use crate::state::{ActFault, State, StoredBlob};
 use crate::updates::{offset_in, size_at, touches_of};
 use range_log::{NoMemory, laws, newest, row_keys};
 use std::alloc::Global;
-use tree_geom::{Node, NodeKey, PageSize, Piece, Range, Touch, covers_page, halves, span};
+use tree_geom::{Node, NodeKey, PageSize, Piece, Range, Touch, covers_page, halves, span_stands};
 
 /// The pieces of `len` bytes of an update's buffer from byte `from` on, and how many they are.
 ///
@@ -115,7 +115,7 @@ fn row_node(
     laws::page_bytes_stay();
     laws::leaves_fill();
     let size = size_at(log, version);
-    let _root = span(p, size);
+    span_stands(p, size);
     if range.size != p.bytes() {
         let (left, right) = halves(range);
         return Ok(Node::Inner {

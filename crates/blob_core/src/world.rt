@@ -50,7 +50,7 @@ impl World {
         ensures page { result.page ≡ p }
         ensures world { result.world ≡ empty_world limits }
     {
-        let _size = p.bytes();
+        p.stands();
         let _size = limits.max_size;
         World {
             page: p,

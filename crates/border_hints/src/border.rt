@@ -91,7 +91,7 @@ impl Borders {
             → result ≡ depth_of self.now.page_size log (k + 1) page }
     {
         tree_geom::laws::meets_is_decided();
-        let _size = self.page_size.bytes();
+        self.page_size.stands();
         if !self.touch.leaves_open(page) {
             return 0;
         }

@@ -12,7 +12,7 @@ use crate::known::{depth_known, halves_known};
 use crate::ticket::Ticket;
 use snapshot::Snapshot;
 use std::sync::ledger::Ledger;
-use tree_geom::{PageSize, Range, Steps, Touch, height, meets, range_of_page, span};
+use tree_geom::{PageSize, Range, Steps, Touch, height, meets, range_of_page, span_stands};
 
 // The newest lower version for the range: the newest waiting update that touches it, or else `known`, that of the snapshot.
 fn newest_below(ticket: &Ticket, range: Range, known: u64) -> u64
@@ -22,7 +22,7 @@ fn newest_below(ticket: &Ticket, range: Range, known: u64) -> u64
 {
     range_log::laws::logs_are_grown();
     range_log::laws::older_versions_stay();
-    let _version = ticket.version();
+    ticket.stands();
     let hints = ticket.hints();
     let p = hints.snapshot.page_size();
     for i in (0..hints.waiting.count()).rev() {
@@ -60,7 +60,7 @@ fn depth_below(ticket: &Ticket, page: u64, known: u32) -> u32
 {
     range_log::laws::logs_are_grown();
     range_log::laws::depth_counts_backs();
-    let _version = ticket.version();
+    ticket.stands();
     let hints = ticket.hints();
     let p = hints.snapshot.page_size();
     let mut depth = known;
@@ -105,7 +105,7 @@ fn turn<L: Ledger>(
 {
     tree_geom::laws::spans_hold();
     tree_geom::laws::ranges_align();
-    let _version = ticket.version();
+    ticket.stands();
     let snapshot = &ticket.hints().snapshot;
     let pages = 2u64.pow(level);
     let size = snapshot.page_size().bytes() * pages;
@@ -144,8 +144,8 @@ fn descend<L: Ledger>(ticket: &Ticket, page: u64, steps: &mut Steps<L>) -> Edge
     range_log::laws::older_versions_stay();
     let snapshot = &ticket.hints().snapshot;
     let p = snapshot.page_size();
-    let _version = ticket.version();
-    let _root = span(p, ticket.size());
+    ticket.stands();
+    span_stands(p, ticket.size());
     let tall = tree_height(snapshot);
     let mut at = snapshot.version();
     let mut besides = [0; HEIGHTS];
@@ -174,9 +174,9 @@ pub fn borders<L: Ledger>(ticket: &Ticket, steps: &mut Steps<L>) -> Borders
     ensures borders { AreBorders (log_upto ticket.now) (ticket.now.version - 1) result }
     ensures steps { steps.new ≤ steps.old + 4 * height_of ticket.now.snapshot.page_size ticket.now.size + 4 }
 {
-    let _version = ticket.version();
+    ticket.stands();
     let page_size = ticket.hints().snapshot.page_size();
-    let _root = span(page_size, ticket.size());
+    span_stands(page_size, ticket.size());
     let touch = ticket.touch();
     let first = descend(ticket, touch.first, steps);
     let last = if touch.last == touch.first {

@@ -20,7 +20,7 @@ fn leaf_depth<L: Ledger>(snapshot: &Snapshot, j: u64, page: u64, steps: &mut Ste
     ensures step { steps.new ≡ steps.old + 1 }
 {
     range_log::laws::logs_are_grown();
-    let _version = snapshot.version();
+    snapshot.stands();
     let range = range_of_page(snapshot.page_size(), page);
     let Some(node) = snapshot.find(j, range, steps) else {
         unreachable!()
@@ -49,7 +49,7 @@ pub(crate) fn depth_known<L: Ledger>(
     range_log::laws::logs_are_grown();
     range_log::laws::page_bytes_stay();
     tree_geom::laws::ranges_align();
-    let _version = snapshot.version();
+    snapshot.stands();
     if at == 0 {
         return 0;
     }
@@ -101,7 +101,7 @@ pub(crate) fn halves_known<L: Ledger>(
     range_log::laws::page_bytes_stay();
     tree_geom::laws::spans_hold();
     tree_geom::laws::ranges_align();
-    let _version = snapshot.version();
+    snapshot.stands();
     if at == 0 {
         return (0, 0);
     }

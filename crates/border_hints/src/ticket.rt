@@ -78,8 +78,8 @@ impl Ticket {
         laws::logs_are_grown();
         laws::older_versions_stay();
         laws::page_bytes_stay();
-        let _version = hints.snapshot.version();
-        let _waiting = hints.waiting.count();
+        hints.snapshot.stands();
+        hints.waiting.stands();
         Ticket {
             caller,
             blob,
@@ -112,6 +112,13 @@ impl Ticket {
         ensures stands { IsNumbered self.now }
     {
         self.version
+    }
+
+    /// A ticket's parts fit together, as those of a numbered update. For proofs: it does nothing.
+    pub fn stands(&self)
+        ensures { IsNumbered self.now }
+    {
+        let _version = self.version;
     }
 
     /// The byte of the blob at which the update begins.

@@ -36,7 +36,7 @@ fn with_next(snapshot: &Snapshot, row: &Arc<Row>) -> Result<Snapshot, NoMemory>
     ensures { IfOk result (λ s. s ≡ next_version snapshot.now (arc_value row.now)) }
 {
     laws::rows_tell();
-    let _version = snapshot.version();
+    snapshot.stands();
     match snapshot.with_row(Arc::try_clone(row)?) {
         Ok(next) => Ok(next),
         Err(_) => Err(NoMemory),

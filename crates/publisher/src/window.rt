@@ -1,7 +1,7 @@
 // The numbered updates of one blob.
 ghost use Rattle.std.specs.Prelude.{◌≡◌, ◌+◌, ◌<◌, ◌≤◌, ◌↔◌, true, false, length, IfOk, IfErr};
 ghost use Rattle.std.specs.Arc.{arc_value};
-ghost use Rattle.snapshot.specs.Versions.{older_version};
+ghost use Rattle.snapshot.specs.Versions.{older_version, IsVersion};
 
 use crate::moving::{drop_first, moved_on};
 use node_store::{NoMemory, Row};
@@ -59,7 +59,7 @@ impl Window {
     pub fn new(alloc: Global, base: Snapshot) -> Result<Window, NoMemory>
         ensures { IfOk result (λ window. window ≡ window_on base) }
     {
-        let _version = base.version();
+        base.stands();
         let waiting = OpenList::new(alloc)?;
         Ok(Window {
             snapshot: base,
@@ -143,6 +143,15 @@ impl Window {
         ensures rows { result ≡ length self.now.rows }
     {
         self.snapshot.version() + self.waiting.count() as u64
+    }
+
+    /// Each numbered update has its place for a row, and the published version is one. For proofs: it does nothing.
+    pub fn stands(&self)
+        ensures log { length self.now.log ≡ length self.now.rows }
+        ensures version { IsVersion (version_of self.now) }
+    {
+        self.snapshot().stands();
+        let _assigned = self.assigned();
     }
 
     /// The published version.

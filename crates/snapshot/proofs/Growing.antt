@@ -158,9 +158,9 @@ IsVersion-push stay grow blob p rows row is room new ok paged fits =
     }
 
 -- the pages hold no more than their number times the page size
-pub paged_of : (pages told : Cut) (count p : ℕ) → pages ≡ told → count ≡ length told.pages → length (bytes_of_pages told.pages) ≤ count * told.page_size → pages.page_size ≡ p
+pub paged_of : (pages told : Cut) (p : ℕ) → pages ≡ told → length (bytes_of_pages told.pages) ≤ length told.pages * told.page_size → pages.page_size ≡ p
     → length (bytes_of_pages pages.pages) ≤ length pages.pages * p
-paged_of pages told count p same is enough size =
+paged_of pages told p same enough size =
     let P : Cut → Type 0 = λ c. c.page_size ≡ p → length (bytes_of_pages c.pages) ≤ length c.pages * p in
-    let told_pages : P told = λ e. rw (← e, ← is) enough in
+    let told_pages : P told = λ e. rw (← e) enough in
     subst P (sym same) told_pages size

@@ -61,7 +61,7 @@ impl Snapshot {
         ensures err { IfErr result (λ r. r ≡ row) }
     {
         laws::older_versions_stay();
-        let _pages = row.pages().count();
+        row.pages().stands();
         let rows = self.rows.push(row)?;
         Ok(Snapshot {
             blob: self.blob,
@@ -109,6 +109,13 @@ impl Snapshot {
         ensures stands { IsVersion self.now }
     {
         self.rows.len()
+    }
+
+    /// The rows are those of some updates within bounds, as a version keeps them. For proofs: it does nothing.
+    pub fn stands(&self)
+        ensures { IsVersion self.now }
+    {
+        let _version = self.version();
     }
 
     /// The size of the version, in bytes.

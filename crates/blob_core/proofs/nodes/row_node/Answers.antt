@@ -14,8 +14,8 @@ use Rattle.blob_core.proofs.Rowing.{LeafFacts, leaf_facts, log_is, even_size, ba
 use Rattle.blob_core.proofs.nodes.row_node.Goals as goal
 use Rattle.blob_core.proofs.nodes.row_node.Goals.{then-covers_page, else-covers_page}
 
-pub span-root-requires : goal.span-root-requires
-span-root-requires c =
+pub span_stands-requires : goal.span_stands-requires
+span_stands-requires c =
     let us : List Update = c.args.blob.now.updates in
     let l = log_is c.page_bytes_stay.ensures.extents c.args.p us c.args.log.now c.requires.replay c.requires.log in
     let upto : c.args.version ≤ length us = omega (arith, c.requires.has.version.1, length_log c.args.p us) in

@@ -20,7 +20,7 @@ some_bytes t is = omega (arith, is.some, is.size)
 pub loop-level-init : goal.loop-level-init
 loop-level-init g c =
     let t = c.args.ticket.now in
-    let is = c.version-version.ensures.stands in
+    let is = c.stands.ensures in
     let size = c.page_size-p.ensures ∙ ap (λ (s : Version). s.page_size) c.hints.ensures.snapshot in
     let pos = page_pos t.snapshot.page_size is.published.page_size in
     record {
@@ -72,8 +72,8 @@ newest_below-requires-clause-fits g c =
     let t = c.args.ticket.now in
     let size = c.page_size-p.ensures ∙ ap (λ (s : Version). s.page_size) c.hints.ensures.snapshot in
     leaf_fits c.args.page t.snapshot.page_size c.range_of_page.result (range_here c.page_size-p.result t.snapshot.page_size c.args.page c.range_of_page.result size c.range_of_page.ensures)
-    (ends c.ranges_align.ensures.nest c.spans_hold.ensures.heights c.spans_hold.ensures.some t c.args.page c.page_size-p.result c.size.result c.span-root.result c.version-version.ensures.stands c.requires.page
-    size c.size.ensures c.span-root.ensures.is c.span-root.ensures.fits)
+    (ends c.ranges_align.ensures.nest c.spans_hold.ensures.heights c.spans_hold.ensures.some t c.args.page c.page_size-p.result c.size.result (span_of c.page_size-p.result c.size.result) c.stands.ensures c.requires.page
+    size c.size.ensures refl c.span_stands.ensures.fits)
 
 pub newest_below-requires-clause-known : goal.newest_below-requires-clause-known
 newest_below-requires-clause-known g c =
@@ -86,8 +86,8 @@ pub depth_below-requires-clause-fits : goal.depth_below-requires-clause-fits
 depth_below-requires-clause-fits g c =
     let t = c.args.ticket.now in
     let size = c.page_size-p.ensures ∙ ap (λ (s : Version). s.page_size) c.hints.ensures.snapshot in
-    ends c.ranges_align.ensures.nest c.spans_hold.ensures.heights c.spans_hold.ensures.some t c.args.page c.page_size-p.result c.size.result c.span-root.result c.version-version.ensures.stands c.requires.page
-    size c.size.ensures c.span-root.ensures.is c.span-root.ensures.fits
+    ends c.ranges_align.ensures.nest c.spans_hold.ensures.heights c.spans_hold.ensures.some t c.args.page c.page_size-p.result c.size.result (span_of c.page_size-p.result c.size.result) c.stands.ensures c.requires.page
+    size c.size.ensures refl c.span_stands.ensures.fits
 
 pub returns-clause-knows : goal.returns-clause-knows
 returns-clause-knows g c =

@@ -29,7 +29,7 @@ returns-then-meets c =
     let size = c.page_size-p.ensures ∙ ap (λ (s : Version). s.page_size) c.hints-hints.ensures.snapshot in
     let lt = index_fits t.waiting _ c.count-i.result i c.hints-hints.ensures.waiting c.count-i.ensures.count (omega (arith, c.loop-i.auto.i)) (omega (arith, c.loop-i-test.true)) in
     ap (λ (o : OpenTouch). o.version) got
-    ∙ sym (waiting_hit c.logs_are_grown.ensures.count t c.version-version.ensures.stands c.args.range (i - 1) i lt (omega (arith, c.loop-i-test.true))
+    ∙ sym (waiting_hit c.logs_are_grown.ensures.count t c.stands.ensures c.args.range (i - 1) i lt (omega (arith, c.loop-i-test.true))
     (tested t.snapshot.page_size c.page_size-p.result c.at-waiting.result (open_at t.waiting (i - 1)) c.args.range c.meets.result true size got c.meets.ensures.is c.if-meets.true))
     ∙ c.loop-i.invariant
 

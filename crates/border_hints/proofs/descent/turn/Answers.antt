@@ -19,12 +19,12 @@ pub halves_known-low-requires-clause-fits : goal.halves_known-low-requires-claus
 halves_known-low-requires-clause-fits g c =
     let t = c.args.ticket.now in
     let F : Version → Type 0 = λ s. c.args.page / c.pow-pages.result / 2 * (s.page_size * 2 ^ (c.args.level + 1)) ≤ 2 ^ 40 in
-    subst F (sym c.hints.ensures.snapshot) (path_fits c.args.page c.pow-pages.result c.args.level t.snapshot.page_size t.size c.pow-pages.ensures c.requires.page c.version-version.ensures.stands.fits)
+    subst F (sym c.hints.ensures.snapshot) (path_fits c.args.page c.pow-pages.result c.args.level t.snapshot.page_size t.size c.pow-pages.ensures c.requires.page c.stands.ensures.fits)
 
 pub newest_below-requires-clause-fits : goal.newest_below-requires-clause-fits
 newest_below-requires-clause-fits g c =
     let t = c.args.ticket.now in
-    let is = c.version-version.ensures.stands in
+    let is = c.stands.ensures in
     side_fits c.ranges_align.ensures.nest c.spans_hold.ensures.heights t.snapshot.page_size c.args.page t.size c.args.level (c.args.page / c.pow-pages.result + 1) c.pow-pages.result (c.bytes.result * c.pow-pages.result)
     (page_pos t.snapshot.page_size is.published.page_size) c.requires.page c.requires.level c.requires.root c.pow-pages.ensures
     (size_is c.bytes.result c.pow-pages.result t.snapshot.page_size c.page_size.result c.args.level c.bytes.ensures.is (c.page_size.ensures ∙ ap (λ (s : Version). s.page_size) c.hints.ensures.snapshot) c.pow-pages.ensures)
@@ -36,7 +36,7 @@ overflow_mul-range g c = let e = newest_below-requires-clause-fits g c in omega 
 pub newest_below-requires-else-number-eq0-clause-fits : goal.newest_below-requires-else-number-eq0-clause-fits
 newest_below-requires-else-number-eq0-clause-fits g c =
     let t = c.args.ticket.now in
-    let is = c.version-version.ensures.stands in
+    let is = c.stands.ensures in
     side_fits c.ranges_align.ensures.nest c.spans_hold.ensures.heights t.snapshot.page_size c.args.page t.size c.args.level (c.args.page / c.pow-pages.result - 1) c.pow-pages.result (c.bytes.result * c.pow-pages.result)
     (page_pos t.snapshot.page_size is.published.page_size) c.requires.page c.requires.level c.requires.root c.pow-pages.ensures
     (size_is c.bytes.result c.pow-pages.result t.snapshot.page_size c.page_size.result c.args.level c.bytes.ensures.is (c.page_size.ensures ∙ ap (λ (s : Version). s.page_size) c.hints.ensures.snapshot) c.pow-pages.ensures)

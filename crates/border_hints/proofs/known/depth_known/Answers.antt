@@ -17,7 +17,7 @@ returns-then-at-eq0-clause-depth g c =
 pub leaf_depth-requires-clause-has : goal.leaf_depth-requires-clause-has
 leaf_depth-requires-clause-has g c =
     let s = c.args.snapshot.now in
-    let is = c.version-version.ensures.stands in
+    let is = c.stands.ensures in
     let pos = page_pos s.page_size is.page_size in
     newest_leaf c.newest_has_node.ensures.node c.ranges_align.ensures.pages s.page_size (log_of s) (length s.rows) c.args.page c.args.at
     (log_grown c.logs_are_grown.ensures.grown c.page_bytes_stay.ensures.extents s is pos) pos (omega (arith, length-log_of c.logs_are_grown.ensures.count s)) c.requires.at (omega (arith, c.if-at-eq0.false))

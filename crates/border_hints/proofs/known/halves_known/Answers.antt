@@ -35,7 +35,7 @@ tall_is sizes stand s tall is e = ap (height_of s.page_size) (log_size sizes sta
 pub returns-then-tall-level-clause-low : goal.returns-then-tall-level-clause-low
 returns-then-tall-level-clause-low g c =
     let s = c.args.snapshot.now in
-    let is = c.version-version.ensures.stands in
+    let is = c.stands.ensures in
     (above_root c.newest_is_greatest.ensures.hit c.newest_is_greatest.ensures.none c.newest_has_node.ensures.none c.spans_hold.ensures.heights s.page_size (log_of s) (length s.rows)
     (grown c.logs_are_grown.ensures.grown c.page_bytes_stay.ensures.extents s is) (page_pos s.page_size is.page_size) (in_log c.logs_are_grown.ensures.count s)
     c.args.level c.args.q c.args.at c.requires.at (omega (arith, c.if-at-eq0.false))
@@ -44,7 +44,7 @@ returns-then-tall-level-clause-low g c =
 pub returns-then-tall-level-clause-high : goal.returns-then-tall-level-clause-high
 returns-then-tall-level-clause-high g c =
     let s = c.args.snapshot.now in
-    let is = c.version-version.ensures.stands in
+    let is = c.stands.ensures in
     (above_root c.newest_is_greatest.ensures.hit c.newest_is_greatest.ensures.none c.newest_has_node.ensures.none c.spans_hold.ensures.heights s.page_size (log_of s) (length s.rows)
     (grown c.logs_are_grown.ensures.grown c.page_bytes_stay.ensures.extents s is) (page_pos s.page_size is.page_size) (in_log c.logs_are_grown.ensures.count s)
     c.args.level c.args.q c.args.at c.requires.at (omega (arith, c.if-at-eq0.false))
@@ -53,7 +53,7 @@ returns-then-tall-level-clause-high g c =
 pub links-requires-clause-has : goal.links-requires-clause-has
 links-requires-clause-has g c =
     let s = c.args.snapshot.now in
-    let is = c.version-version.ensures.stands in
+    let is = c.stands.ensures in
     let P : Range → Type 0 = λ r. HasNode s.page_size (log_of s) c.args.at r in
     subst P (sym (range_is s.page_size (c.args.level + 1) c.args.q _ (size_is _ _ s.page_size _ (c.args.level + 1) c.bytes.ensures.is c.page_size.ensures c.pow.ensures)))
     (node_below s.page_size (log_of s) (length s.rows)
@@ -65,7 +65,7 @@ links-requires-clause-has g c =
 pub links-requires-clause-inner : goal.links-requires-clause-inner
 links-requires-clause-inner g c =
     let s = c.args.snapshot.now in
-    let is = c.version-version.ensures.stands in
+    let is = c.stands.ensures in
     inner_size s.page_size c.args.level _ (page_pos s.page_size is.page_size) (size_is _ _ s.page_size _ (c.args.level + 1) c.bytes.ensures.is c.page_size.ensures c.pow.ensures)
 
 pub returns-clause-low : goal.returns-clause-low

@@ -13,5 +13,5 @@ pub returns-clause-depth : goal.returns-clause-depth
 returns-clause-depth g c =
     let s = c.args.snapshot.now in
     ap depth_in (sym c.in-Leaf.is)
-    ∙ leaf_says s c.args.j c.args.page c.range_of_page-range.result c.in-Some.node.now (page_pos s.page_size c.version-version.ensures.stands.page_size)
+    ∙ leaf_says s c.args.j c.args.page c.range_of_page-range.result c.in-Some.node.now (page_pos s.page_size c.stands.ensures.page_size)
     (c.range_of_page-range.ensures ∙ ap (λ n. page_range n c.args.page) c.page_size.ensures) c.in-Some.ensures.found.is

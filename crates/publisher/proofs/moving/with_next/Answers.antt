@@ -9,16 +9,16 @@ pub with_row-requires-clause-row : goal.with_row-requires-clause-row
 with_row-requires-clause-row c =
     let s = c.args.snapshot.now in
     let P : UpdateRow → Type 0 = λ r. Ready s.page_size (s.rows ++ r ∷ []) in
-    (next_ready c.rows_tell.ensures s (arc_value c.in_ok-try_clone.field-0) c.version-version.ensures.stands (subst P (sym c.in_ok-try_clone.ensures) c.requires)).0
+    (next_ready c.rows_tell.ensures s (arc_value c.in_ok-try_clone.field-0) c.stands.ensures (subst P (sym c.in_ok-try_clone.ensures) c.requires)).0
 
 pub with_row-requires-clause-in_bounds : goal.with_row-requires-clause-in_bounds
 with_row-requires-clause-in_bounds c =
     let s = c.args.snapshot.now in
     let P : UpdateRow → Type 0 = λ r. Ready s.page_size (s.rows ++ r ∷ []) in
-    (next_ready c.rows_tell.ensures s (arc_value c.in_ok-try_clone.field-0) c.version-version.ensures.stands (subst P (sym c.in_ok-try_clone.ensures) c.requires)).1
+    (next_ready c.rows_tell.ensures s (arc_value c.in_ok-try_clone.field-0) c.stands.ensures (subst P (sym c.in_ok-try_clone.ensures) c.requires)).1
 
 pub with_row-requires-clause-fits : goal.with_row-requires-clause-fits
 with_row-requires-clause-fits c =
     let s = c.args.snapshot.now in
     let P : UpdateRow → Type 0 = λ r. Ready s.page_size (s.rows ++ r ∷ []) in
-    (next_ready c.rows_tell.ensures s (arc_value c.in_ok-try_clone.field-0) c.version-version.ensures.stands (subst P (sym c.in_ok-try_clone.ensures) c.requires)).2
+    (next_ready c.rows_tell.ensures s (arc_value c.in_ok-try_clone.field-0) c.stands.ensures (subst P (sym c.in_ok-try_clone.ensures) c.requires)).2

@@ -15,7 +15,7 @@ returns-then-not-leaves_open c =
     let P : BorderLinks → Type 0 = λ x. (log : List Touch) (k : ℕ) → AreBorders log k x → touch_at log (k + 1) ≡ x.touch → 0 ≡ depth_of x.page_size log (k + 1) c.args.page in
     let E : BorderLinks → Type 0 = λ x. (c.args.page ≡ x.touch.first) ⊎ (c.args.page ≡ x.touch.last) in
     let edge : E b = subst E (sym c.self.view_is) c.requires.edge in
-    let pos : 1 ≤ in'.page_size = omega (arith, c.bytes-size.ensures.bounds, c.bytes-size.ensures.is) in
+    let pos : 1 ≤ in'.page_size = omega (arith, c.stands.ensures.bounds) in
     subst P c.self.view_is
     (λ log k are own. whole_edge c.meets_is_decided.ensures.met b c.args.page pos c.self.invariant.0 edge (sym c.leaves_open.ensures ∙ c.if-not-leaves_open.true) log k own)
 
@@ -27,7 +27,7 @@ returns-then-page-self c =
     let P : BorderLinks → Type 0 = λ x. (log : List Touch) (k : ℕ) → AreBorders log k x → touch_at log (k + 1) ≡ x.touch → in'.first.depth + 1 ≡ depth_of x.page_size log (k + 1) c.args.page in
     let E : BorderLinks → Type 0 = λ x. (c.args.page ≡ x.touch.first) ⊎ (c.args.page ≡ x.touch.last) in
     let edge : E b = subst E (sym c.self.view_is) c.requires.edge in
-    let pos : 1 ≤ in'.page_size = omega (arith, c.bytes-size.ensures.bounds, c.bytes-size.ensures.is) in
+    let pos : 1 ≤ in'.page_size = omega (arith, c.stands.ensures.bounds) in
     subst P c.self.view_is
     (first_edge c.meets_is_decided.ensures.met b c.args.page pos c.self.invariant.0 edge (sym c.leaves_open.ensures ∙ c.if-not-leaves_open.false) c.if-page-self.true)
 
@@ -39,6 +39,6 @@ returns-else-page-self c =
     let P : BorderLinks → Type 0 = λ x. (log : List Touch) (k : ℕ) → AreBorders log k x → touch_at log (k + 1) ≡ x.touch → in'.last.depth + 1 ≡ depth_of x.page_size log (k + 1) c.args.page in
     let E : BorderLinks → Type 0 = λ x. (c.args.page ≡ x.touch.first) ⊎ (c.args.page ≡ x.touch.last) in
     let edge : E b = subst E (sym c.self.view_is) c.requires.edge in
-    let pos : 1 ≤ in'.page_size = omega (arith, c.bytes-size.ensures.bounds, c.bytes-size.ensures.is) in
+    let pos : 1 ≤ in'.page_size = omega (arith, c.stands.ensures.bounds) in
     subst P c.self.view_is
     (last_edge c.meets_is_decided.ensures.met b c.args.page pos c.self.invariant.0 edge (sym c.leaves_open.ensures ∙ c.if-not-leaves_open.false) c.if-page-self.false)
