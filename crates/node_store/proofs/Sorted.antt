@@ -7,7 +7,7 @@ use Rattle.tree_geom.specs.declared.range.Range.{Range}
 use Rattle.tree_geom.specs.declared.node.Node.{Node}
 use Rattle.node_store.specs.Order.{Before, InRowOrder}
 
-Before-trans : (a b c : Range) → Before a b → Before b c → Before a c
+pub Before-trans : (a b c : Range) → Before a b → Before b c → Before a c
 Before-trans a b c p q = (omega arith, λ le. let f : a.offset < b.offset = p.1 (omega arith) in let g : b.offset < c.offset = q.1 (omega arith) in omega arith)
 
 -- two nodes of a row stand in order

@@ -20,7 +20,7 @@ use tree_geom::{NodeKey, PageSize, Range, Steps, span};
 
 /// A published version of a blob, and what is needed to read it: the rows of updates 1 to the version.
 ///
-/// The rows never change, and other versions share them, and all of the list that holds them but one path.
+/// The rows never change, and other versions share them, and most nodes of the list that holds them.
 #[derive(Drop)]
 pub struct Snapshot {
     blob: u64,

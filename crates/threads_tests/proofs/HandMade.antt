@@ -5,16 +5,14 @@ use Rattle.tree_geom.specs.declared.range.Range.{Range}
 use Rattle.tree_geom.specs.declared.touch.Touch.{Touch}
 use Rattle.tree_geom.specs.declared.node.Node.{Node}
 use Rattle.node_store.specs.Order.{Before, InRowOrder}
+use Rattle.node_store.proofs.Sorted.{Before-trans}
 use Rattle.threads_tests.specs.ByHand.{told, IsNext, InOrder}
-
-before_trans : (a b c : Range) → Before a b → Before b c → Before a c
-before_trans a b c p q = (omega arith, λ le. let f : a.offset < b.offset = p.1 (omega arith) in let g : b.offset < c.offset = q.1 (omega arith) in omega arith)
 
 -- the first of such nodes stands before each later one
 first_before : (a : Range × Node) (rest : List (Range × Node)) (j : ℕ) (d : Range × Node) → InOrder (a ∷ rest) → j < length rest → Before a.0 (get_or rest j d).0
 first_before a [] j d o lt = absurd (omega arith)
 first_before a (b ∷ rest) zero d o lt = o.0
-first_before a (b ∷ rest) (suc j) d o lt = before_trans a.0 b.0 (get_or rest j d).0 o.0 (first_before b rest j d o.1 (omega arith))
+first_before a (b ∷ rest) (suc j) d o lt = Before-trans a.0 b.0 (get_or rest j d).0 o.0 (first_before b rest j d o.1 (omega arith))
 
 rest_in_order : (a : Range × Node) (rest : List (Range × Node)) → InOrder (a ∷ rest) → InOrder rest
 rest_in_order a [] o = tt
