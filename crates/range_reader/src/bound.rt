@@ -84,7 +84,7 @@ fn depths<L: Ledger>(
     tree_walk::laws::visited_are_few();
     range_log::laws::page_bytes_stay();
     range_log::laws::depth_counts_backs();
-    let _version = snapshot.version();
+    snapshot.stands();
     let size = snapshot.page_size().bytes();
     if range.size == size {
         let newest = leaf(snapshot, at, range.offset / size, steps);

@@ -47,7 +47,7 @@ fn fill_leaf<D: Door>(
 {
     range_log::laws::leaves_fill();
     range_log::laws::page_bytes_stay();
-    let _version = source.snapshot.version();
+    source.snapshot.stands();
     let start = leaf.start as usize;
     if !fill_piece(source, doors, j, leaf.first, start, begin, marks, out) {
         return false;
@@ -96,7 +96,7 @@ fn fill_along<D: Door, L: Ledger>(
     range_log::laws::no_holes();
     range_log::laws::newest_is_greatest();
     range_log::laws::backs_step();
-    let _version = source.snapshot.version();
+    source.snapshot.stands();
     mark_all(marks, true);
     let mut first = 0;
     let mut at = newest;
@@ -147,7 +147,7 @@ pub(crate) fn fill_page<D: Door, L: Ledger>(
 {
     range_log::laws::leaves_fill();
     range_log::laws::page_bytes_stay();
-    let _version = source.snapshot.version();
+    source.snapshot.stands();
     let parts = leaf(source.snapshot, newest, page, steps);
     if parts.has_all(begin, out.len()) {
         return take_leaf(source, doors, newest, page, parts, begin, out);

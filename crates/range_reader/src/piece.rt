@@ -86,14 +86,14 @@ pub(crate) fn fill_piece<D: Door>(
     ensures count { length doors.new ≡ length doors.old }
     ensures truth_stays { All D.is_true doors.old → All D.is_true doors.new }
 {
-    let _size = source.snapshot.page_size().bytes();
+    source.snapshot.page_size().stands();
     let end = (start + piece.len as usize).min(begin + out.len());
     let low = start.max(begin);
     if end <= low {
         return true;
     }
     let snapshot = source.snapshot;
-    let _version = snapshot.version();
+    snapshot.stands();
     let stored = snapshot.page(j, piece.page);
     let from = piece.from + (low - start) as u32;
     fill_marked(

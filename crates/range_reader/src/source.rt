@@ -85,7 +85,7 @@ pub(crate) fn leaf<L: Ledger>(
     ensures leaf { IsLeafOf snapshot.now j page result }
     ensures step { steps.new ≡ steps.old + 1 }
 {
-    let _version = snapshot.version();
+    snapshot.stands();
     let range = range_of_page(snapshot.page_size(), page);
     match node(snapshot, j, range, steps) {
         Node::Leaf {

@@ -50,7 +50,7 @@ pub(crate) fn walk<D: Door, L: Ledger>(
     tree_walk::laws::links_step();
     tree_walk::laws::visited_are_few();
     range_log::laws::page_bytes_stay();
-    let _version = source.snapshot.version();
+    source.snapshot.stands();
     let size = source.snapshot.page_size().bytes();
     if range.size == size {
         let page = range.offset / size;

@@ -37,9 +37,9 @@ fn take_piece<D: Door>(
     ensures count { length doors.new ≡ length doors.old }
     ensures truth_stays { All D.is_true doors.old → All D.is_true doors.new }
 {
-    let _size = source.snapshot.page_size().bytes();
+    source.snapshot.page_size().stands();
     let snapshot = source.snapshot;
-    let _version = snapshot.version();
+    snapshot.stands();
     let stored = snapshot.page(j, piece.page);
     fetch(doors, source.houses, stored, piece.from + skip as u32, out)
 }
@@ -72,7 +72,7 @@ pub(crate) fn take_leaf<D: Door>(
 {
     range_log::laws::leaves_fill();
     range_log::laws::page_bytes_stay();
-    let _version = source.snapshot.version();
+    source.snapshot.stands();
     let skip = begin - leaf.start as usize;
     let first = leaf.first.len as usize;
     if skip + out.len() <= first {

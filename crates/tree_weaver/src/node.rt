@@ -69,7 +69,7 @@ fn part(ticket: &Ticket, page: u64) -> OwnPart
     ensures in_page { result.start + result.len ≤ ticket.now.snapshot.page_size }
     ensures in_buffer { result.from + result.len ≤ ticket.now.len }
 {
-    let _version = ticket.version();
+    ticket.stands();
     let size = ticket.hints().snapshot.page_size().bytes();
     let begin = page * size;
     let end = (ticket.at() + ticket.len()).min(begin + size);
@@ -122,7 +122,7 @@ fn covers_page(ticket: &Ticket, page: u64) -> bool
     requires last { page ≤ (own_touch ticket.now).last }
     ensures { result ≡ covers ticket.now.snapshot.page_size ticket.now.at ticket.now.len ticket.now.size page }
 {
-    let _version = ticket.version();
+    ticket.stands();
     let p = ticket.hints().snapshot.page_size();
     tree_geom::covers_page(p, ticket.at(), ticket.len(), ticket.size(), page)
 }
@@ -142,7 +142,7 @@ fn back(ticket: &Ticket, borders: &Borders, page: u64) -> (u64, u32)
     range_log::laws::logs_are_grown();
     tree_geom::laws::meets_is_decided();
     touches_tell_cover();
-    let _version = ticket.version();
+    ticket.stands();
     if covers_page(ticket, page) {
         return (0, 0);
     }
@@ -163,7 +163,7 @@ pub(crate) fn leaf(ticket: &Ticket, borders: &Borders, page: u64) -> Node
     requires last { page ≤ (own_touch ticket.now).last }
     ensures { result ≡ own_leaf ticket.now page }
 {
-    let _version = ticket.version();
+    ticket.stands();
     let _pages = ticket.pages().count();
     let part = part(ticket, page);
     let (count, first, second) = pieces(ticket.hints().snapshot.page_size(), part.from, part.len);

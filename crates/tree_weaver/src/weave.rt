@@ -14,7 +14,7 @@ use node_store::NoMemory;
 use std::alloc::Global;
 use std::marker::Model;
 use std::sync::ledger::Ledger;
-use tree_geom::{Node, Range, Steps, Touch, height, span};
+use tree_geom::{Node, Range, Steps, Touch, height, span_stands};
 
 /// The nodes of a numbered update beside their ranges, in the order of its row: the largest ranges first, and then by offset.
 #[derive(Drop)]
@@ -69,7 +69,7 @@ fn node(ticket: &Ticket, borders: &Borders, level: u32, q: u64) -> (Range, Node)
 {
     tree_geom::laws::spans_hold();
     tree_geom::laws::ranges_align();
-    let _version = ticket.version();
+    ticket.stands();
     let size = ticket.hints().snapshot.page_size().bytes() * 2u64.pow(level);
     let range = Range {
         offset: q * size,
@@ -98,7 +98,7 @@ fn plan_level(
     requires root { ticket.now.snapshot.page_size * 2 ^ height_of ticket.now.snapshot.page_size ticket.now.size ≤ 2 ^ 40 }
     ensures { IfOk result (λ _. row.new.items ≡ row.old.items ++ own_nodes ticket.now (level_of ticket.now.snapshot.page_size (own_touch ticket.now) level)) }
 {
-    let _version = ticket.version();
+    ticket.stands();
     let touch = ticket.touch();
     let pages = 2u64.pow(level);
     for q in touch.first / pages..touch.last / pages + 1 {
@@ -135,8 +135,8 @@ pub fn plan<L: Ledger>(
     tree_geom::laws::spans_hold();
     let borders = borders(ticket, steps);
     let p = ticket.hints().snapshot.page_size();
-    let _version = ticket.version();
-    let _root = span(p, ticket.size());
+    ticket.stands();
+    span_stands(p, ticket.size());
     let top = height(p, ticket.size());
     let mut row = Vec::with_capacity(alloc, expected(ticket.touch(), top))?;
     for level in (0..top + 1).rev() {

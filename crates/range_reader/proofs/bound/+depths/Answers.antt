@@ -14,7 +14,7 @@ use Rattle.range_reader.proofs.bound.+depths.Goals as goal
 pub leaf-newest-requires-clause-has : goal.leaf-newest-requires-clause-has
 leaf-newest-requires-clause-has g t c =
     let s = c.args.snapshot.now in
-    let is = c.version-version.ensures.stands in
+    let is = c.stands.ensures in
     let size = c.bytes-size.ensures.is ∙ c.page_size.ensures in
     let pos = page_pos s.page_size is.page_size in
     let at = page_of_range s.page_size c.args.range pos c.requires.has.aligned (c.if-range-size.true ∙ size) ∙ ap (λ n. page_range s.page_size (c.args.range.offset / n)) (sym size) in
@@ -24,7 +24,7 @@ leaf-newest-requires-clause-has g t c =
 pub returns-then-range-size-clause-depths : goal.returns-then-range-size-clause-depths
 returns-then-range-size-clause-depths g t c =
     let s = c.args.snapshot.now in
-    let is = c.version-version.ensures.stands in
+    let is = c.stands.ensures in
     let size = c.bytes-size.ensures.is ∙ c.page_size.ensures in
     c.from.ensures ∙ c.leaf-newest.ensures.leaf.depth ∙ ap (λ n. depth_of s.page_size (log_of s) c.args.at (c.args.range.offset / n)) size
     ∙ sym (page_depth c.depth_counts_backs.ensures.backs c.page_bytes_stay.ensures.extents s is c.args.at c.args.from c.args.count c.args.range c.requires.newest c.requires.has
@@ -33,7 +33,7 @@ returns-then-range-size-clause-depths g t c =
 pub returns-then-range-size-clause-few : goal.returns-then-range-size-clause-few
 returns-then-range-size-clause-few g t c =
     let s = c.args.snapshot.now in
-    let is = c.version-version.ensures.stands in
+    let is = c.stands.ensures in
     let depth = c.from.ensures ∙ c.leaf-newest.ensures.leaf.depth in
     let few = c.depth_counts_backs.ensures.few s.page_size c.args.at (c.args.range.offset / c.bytes-size.result) (log_of s) in
     omega (arith, depth, few, (in_rows s c.args.at c.args.range c.requires.has).1, is.counted, c.requires.some)
@@ -42,7 +42,7 @@ pub returns-then-range-size-clause-steps : goal.returns-then-range-size-clause-s
 returns-then-range-size-clause-steps g t c =
     λ h q first last e before after.
     let s = c.args.snapshot.now in
-    let is = c.version-version.ensures.stands in
+    let is = c.stands.ensures in
     let size = c.bytes-size.ensures.is ∙ c.page_size.ensures in
     let pos = page_pos s.page_size is.page_size in
     let step = page_step s c.args.range c.args.from c.args.count pos c.requires.has.aligned (c.if-range-size.true ∙ size) c.requires.begins c.requires.ends c.requires.some in
@@ -51,7 +51,7 @@ returns-then-range-size-clause-steps g t c =
 pub halves-requires-clause-even : goal.halves-requires-clause-even
 halves-requires-clause-even g t c =
     let s = c.args.snapshot.now in
-    let is = c.version-version.ensures.stands in
+    let is = c.stands.ensures in
     let size = c.bytes-size.ensures.is ∙ c.page_size.ensures in
     let large : s.page_size < c.args.range.size = larger s.page_size c.args.range (page_pos s.page_size is.page_size) c.requires.has.aligned (λ e. c.if-range-size.false (e ∙ sym size)) in
     even s.page_size c.args.range c.requires.has.aligned large
@@ -59,7 +59,7 @@ halves-requires-clause-even g t c =
 pub depths-requires : goal.depths-requires
 depths-requires g t c κs within =
     let s = c.args.snapshot.now in
-    let is = c.version-version.ensures.stands in
+    let is = c.stands.ensures in
     let size = c.bytes-size.ensures.is ∙ c.page_size.ensures in
     let large : s.page_size < c.args.range.size = larger s.page_size c.args.range (page_pos s.page_size is.page_size) c.requires.has.aligned (λ e. c.if-range-size.false (e ∙ sym size)) in
     let next = child c.links_step.ensures.step c.page_bytes_stay.ensures.extents s is c.args.at c.links-left.result.0 c.args.range c.halves.result.0 c.requires.newest c.requires.has large
@@ -71,7 +71,7 @@ pub returns-then-end-high-clause-steps : goal.returns-then-end-high-clause-steps
 returns-then-end-high-clause-steps g t c =
     λ h q first last e before after.
     let s = c.args.snapshot.now in
-    let is = c.version-version.ensures.stands in
+    let is = c.stands.ensures in
     let size = c.bytes-size.ensures.is ∙ c.page_size.ensures in
     let large : s.page_size < c.args.range.size = larger s.page_size c.args.range (page_pos s.page_size is.page_size) c.requires.has.aligned (λ e. c.if-range-size.false (e ∙ sym size)) in
     let inner = inner_step c.visited_are_few.ensures.inner s.page_size h q first last c.args.from c.args.count c.args.range (page_pos s.page_size is.page_size) e large before after
@@ -82,7 +82,7 @@ returns-then-end-high-clause-steps g t c =
 pub depths-requires-then-high-from : goal.depths-requires-then-high-from
 depths-requires-then-high-from g t c κs within =
     let s = c.args.snapshot.now in
-    let is = c.version-version.ensures.stands in
+    let is = c.stands.ensures in
     let size = c.bytes-size.ensures.is ∙ c.page_size.ensures in
     let large : s.page_size < c.args.range.size = larger s.page_size c.args.range (page_pos s.page_size is.page_size) c.requires.has.aligned (λ e. c.if-range-size.false (e ∙ sym size)) in
     let next = child c.links_step.ensures.step c.page_bytes_stay.ensures.extents s is c.args.at c.links-left.result.1 c.args.range c.halves.result.1 c.requires.newest c.requires.has large
@@ -97,7 +97,7 @@ pub returns-then-high-from-clause-steps : goal.returns-then-high-from-clause-ste
 returns-then-high-from-clause-steps g t c =
     λ h q first last e before after.
     let s = c.args.snapshot.now in
-    let is = c.version-version.ensures.stands in
+    let is = c.stands.ensures in
     let size = c.bytes-size.ensures.is ∙ c.page_size.ensures in
     let large : s.page_size < c.args.range.size = larger s.page_size c.args.range (page_pos s.page_size is.page_size) c.requires.has.aligned (λ e. c.if-range-size.false (e ∙ sym size)) in
     let inner = inner_step c.visited_are_few.ensures.inner s.page_size h q first last c.args.from c.args.count c.args.range (page_pos s.page_size is.page_size) e large before after
@@ -108,7 +108,7 @@ returns-then-high-from-clause-steps g t c =
 pub depths-front-requires : goal.depths-front-requires
 depths-front-requires g t c κs within =
     let s = c.args.snapshot.now in
-    let is = c.version-version.ensures.stands in
+    let is = c.stands.ensures in
     let size = c.bytes-size.ensures.is ∙ c.page_size.ensures in
     let large : s.page_size < c.args.range.size = larger s.page_size c.args.range (page_pos s.page_size is.page_size) c.requires.has.aligned (λ e. c.if-range-size.false (e ∙ sym size)) in
     let next = child c.links_step.ensures.step c.page_bytes_stay.ensures.extents s is c.args.at c.links-left.result.0 c.args.range c.halves.result.0 c.requires.newest c.requires.has large
@@ -119,7 +119,7 @@ depths-front-requires g t c κs within =
 pub depths-back-requires : goal.depths-back-requires
 depths-back-requires g t c κs within =
     let s = c.args.snapshot.now in
-    let is = c.version-version.ensures.stands in
+    let is = c.stands.ensures in
     let size = c.bytes-size.ensures.is ∙ c.page_size.ensures in
     let large : s.page_size < c.args.range.size = larger s.page_size c.args.range (page_pos s.page_size is.page_size) c.requires.has.aligned (λ e. c.if-range-size.false (e ∙ sym size)) in
     let next = child c.links_step.ensures.step c.page_bytes_stay.ensures.extents s is c.args.at c.links-left.result.1 c.args.range c.halves.result.1 c.requires.newest c.requires.has large
@@ -136,7 +136,7 @@ depths-back-requires g t c κs within =
 pub returns-clause-depths : goal.returns-clause-depths
 returns-clause-depths g t c =
     let s = c.args.snapshot.now in
-    let is = c.version-version.ensures.stands in
+    let is = c.stands.ensures in
     let size = c.bytes-size.ensures.is ∙ c.page_size.ensures in
     let large : s.page_size < c.args.range.size = larger s.page_size c.args.range (page_pos s.page_size is.page_size) c.requires.has.aligned (λ e. c.if-range-size.false (e ∙ sym size)) in
     let mid = c.halves.result.1.offset in
@@ -150,7 +150,7 @@ pub returns-clause-steps : goal.returns-clause-steps
 returns-clause-steps g t c =
     λ h q first last e before after.
     let s = c.args.snapshot.now in
-    let is = c.version-version.ensures.stands in
+    let is = c.stands.ensures in
     let size = c.bytes-size.ensures.is ∙ c.page_size.ensures in
     let large : s.page_size < c.args.range.size = larger s.page_size c.args.range (page_pos s.page_size is.page_size) c.requires.has.aligned (λ e. c.if-range-size.false (e ∙ sym size)) in
     let inner = inner_step c.visited_are_few.ensures.inner s.page_size h q first last c.args.from c.args.count c.args.range (page_pos s.page_size is.page_size) e large before after

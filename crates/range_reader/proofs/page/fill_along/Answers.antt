@@ -23,7 +23,7 @@ loop-parts-init g c =
     let s = c.args.source.now.snapshot.now in
     let p = s.page_size in
     let i = c.args.page in
-    let is = c.version-version.ensures.stands in
+    let is = c.stands.ensures in
     let P : ℕ → Type 0 = λ j. IsLedTo s i j in
     record {
       within = omega (arith, c.requires.some);
@@ -68,7 +68,7 @@ returns-then-first-out-clause-bytes g c = λ all _.
     let i = c.args.page in
     let at = c.loop-parts.at in
     let begin = c.args.begin in
-    let is = c.version-version.ensures.stands in
+    let is = c.stands.ensures in
     let inv = c.loop-parts.invariant in
     let ok = c.if-not-fill_leaf.false in
     let fill = c.leaves_fill.ensures in
@@ -103,7 +103,7 @@ has_back g c =
     let us = updates_of s in
     let i = c.args.page in
     let at = c.loop-parts.at in
-    let is = c.version-version.ensures.stands in
+    let is = c.stands.ensures in
     let inv = c.loop-parts.invariant in
     let fill = c.leaves_fill.ensures in
     let leaf = leaf_of_version fill.fill fill.fit fill.pieces c.page_bytes_stay.ensures.bytes c.page_bytes_stay.ensures.extents s is at i inv.has in
@@ -125,7 +125,7 @@ back_has : (g : Over) (c : Else-first-out g) → HasNodeFor c.args.source.now.sn
 back_has g c =
     let s = c.args.source.now.snapshot.now in
     let p = s.page_size in
-    let is = c.version-version.ensures.stands in
+    let is = c.stands.ensures in
     let inv = c.loop-parts.invariant in
     let N : ℕ → Type 0 = λ j. HasNodeFor s j (page_range p c.args.page) in
     subst N (sym inv.leaf.back) (c.links_name_nodes.ensures.backs p c.loop-parts.at c.args.page (falls s) (page_pos p is.page_size)
@@ -136,13 +136,13 @@ leaf-parts-requires-clause-has g c = back_has g (goal.at.leaf-parts-requires-cla
 
 pub leaf-parts-requires-clause-fits : goal.leaf-parts-requires-clause-fits
 leaf-parts-requires-clause-fits g c =
-    let fits = c.version-version.ensures.stands.fits (length c.args.source.now.snapshot.now.rows) (omega arith) in
+    let fits = c.stands.ensures.fits (length c.args.source.now.snapshot.now.rows) (omega arith) in
     omega (arith, c.requires.valid, fits)
 
 pub loop-parts-smaller : goal.loop-parts-smaller
 loop-parts-smaller g c =
     let s = c.args.source.now.snapshot.now in
-    let is = c.version-version.ensures.stands in
+    let is = c.stands.ensures in
     let inv = c.loop-parts.invariant in
     omega (arith, inv.leaf.back, back_less c.no_holes.ensures.backs s.page_size c.loop-parts.at c.args.page (falls s) (page_pos s.page_size is.page_size) (c.page_bytes_stay.ensures.extents (updates_of s) is.replayable).0 inv.has)
 
@@ -155,7 +155,7 @@ loop-parts-preserved g c =
     let i = c.args.page in
     let at = c.loop-parts.at in
     let begin = c.args.begin in
-    let is = c.version-version.ensures.stands in
+    let is = c.stands.ensures in
     let inv = c.loop-parts.invariant in
     let ok = c.if-not-fill_leaf.false in
     let has = inv.has in

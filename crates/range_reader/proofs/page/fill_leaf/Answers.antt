@@ -12,39 +12,39 @@ pub fill_piece-requires-clause-version : goal.fill_piece-requires-clause-version
 fill_piece-requires-clause-version g c =
     let f = c.leaves_fill.ensures in
     let s = c.args.source.now.snapshot.now in
-    let leaf = leaf_of_version f.fill f.fit f.pieces c.page_bytes_stay.ensures.bytes c.page_bytes_stay.ensures.extents s c.version-version.ensures.stands c.args.j c.args.page c.requires.has in
+    let leaf = leaf_of_version f.fill f.fit f.pieces c.page_bytes_stay.ensures.bytes c.page_bytes_stay.ensures.extents s c.stands.ensures c.args.j c.args.page c.requires.has in
     leaf.bounds
 
 pub fill_piece-requires-clause-fits : goal.fill_piece-requires-clause-fits
 fill_piece-requires-clause-fits g c =
     let f = c.leaves_fill.ensures in
     let s = c.args.source.now.snapshot.now in
-    let leaf = leaf_of_version f.fill f.fit f.pieces c.page_bytes_stay.ensures.bytes c.page_bytes_stay.ensures.extents s c.version-version.ensures.stands c.args.j c.args.page c.requires.has in
-    let pos : 1 ≤ s.page_size = page_pos s.page_size c.version-version.ensures.stands.page_size in
+    let leaf = leaf_of_version f.fill f.fit f.pieces c.page_bytes_stay.ensures.bytes c.page_bytes_stay.ensures.extents s c.stands.ensures c.args.j c.args.page c.requires.has in
+    let pos : 1 ≤ s.page_size = page_pos s.page_size c.stands.ensures.page_size in
     first_fits s c.args.j c.args.page c.args.leaf c.requires.leaf leaf pos
 
 pub fill_piece-requires-clause-placed : goal.fill_piece-requires-clause-placed
 fill_piece-requires-clause-placed g c =
     let f = c.leaves_fill.ensures in
     let s = c.args.source.now.snapshot.now in
-    let leaf = leaf_of_version f.fill f.fit f.pieces c.page_bytes_stay.ensures.bytes c.page_bytes_stay.ensures.extents s c.version-version.ensures.stands c.args.j c.args.page c.requires.has in
-    let pos : 1 ≤ s.page_size = page_pos s.page_size c.version-version.ensures.stands.page_size in
+    let leaf = leaf_of_version f.fill f.fit f.pieces c.page_bytes_stay.ensures.bytes c.page_bytes_stay.ensures.extents s c.stands.ensures c.args.j c.args.page c.requires.has in
+    let pos : 1 ≤ s.page_size = page_pos s.page_size c.stands.ensures.page_size in
     omega (arith, c.requires.leaf.start, lens s c.args.j c.args.page c.args.leaf c.requires.leaf leaf pos, leaf.leaf.inside)
 
 pub returns-then-not-fill_piece-clause-failed : goal.returns-then-not-fill_piece-clause-failed
 returns-then-not-fill_piece-clause-failed g c = λ no.
     let f = c.leaves_fill.ensures in
     let s = c.args.source.now.snapshot.now in
-    let leaf = leaf_of_version f.fill f.fit f.pieces c.page_bytes_stay.ensures.bytes c.page_bytes_stay.ensures.extents s c.version-version.ensures.stands c.args.j c.args.page c.requires.has in
-    let pos : 1 ≤ s.page_size = page_pos s.page_size c.version-version.ensures.stands.page_size in
+    let leaf = leaf_of_version f.fill f.fit f.pieces c.page_bytes_stay.ensures.bytes c.page_bytes_stay.ensures.extents s c.stands.ensures c.args.j c.args.page c.requires.has in
+    let pos : 1 ≤ s.page_size = page_pos s.page_size c.stands.ensures.page_size in
     record { number = c.args.leaf.first.page; piece = first_in s c.args.j c.args.page c.args.leaf c.requires.leaf leaf pos; failed = c.fill_piece.ensures.failed c.if-not-fill_piece.true }
 
 pub returns-then-leaf-eq0-clause-overlaid : goal.returns-then-leaf-eq0-clause-overlaid
 returns-then-leaf-eq0-clause-overlaid g c = λ all ok.
     let f = c.leaves_fill.ensures in
     let s = c.args.source.now.snapshot.now in
-    let leaf = leaf_of_version f.fill f.fit f.pieces c.page_bytes_stay.ensures.bytes c.page_bytes_stay.ensures.extents s c.version-version.ensures.stands c.args.j c.args.page c.requires.has in
-    let pos : 1 ≤ s.page_size = page_pos s.page_size c.version-version.ensures.stands.page_size in
+    let leaf = leaf_of_version f.fill f.fit f.pieces c.page_bytes_stay.ensures.bytes c.page_bytes_stay.ensures.extents s c.stands.ensures c.args.j c.args.page c.requires.has in
+    let pos : 1 ≤ s.page_size = page_pos s.page_size c.stands.ensures.page_size in
     let len : c.args.leaf.first.len ≡ own_len s c.args.j c.args.page = omega (arith, lens s c.args.j c.args.page c.args.leaf c.requires.leaf leaf pos, c.if-leaf-eq0.true) in
     overlaid_same _ _ _ _ _ _ c.args.begin (bytes_of (row_at s.rows c.args.j)) c.args.marks.now c.args.out.now c.fill_piece.new.out c.requires.leaf.start len (first_at s c.args.j c.args.page c.args.leaf c.requires.leaf leaf pos)
     (c.fill_piece.ensures.overlaid all c.if-not-fill_piece.false)
@@ -53,8 +53,8 @@ pub returns-then-leaf-eq0-clause-taken : goal.returns-then-leaf-eq0-clause-taken
 returns-then-leaf-eq0-clause-taken g c = λ ok.
     let f = c.leaves_fill.ensures in
     let s = c.args.source.now.snapshot.now in
-    let leaf = leaf_of_version f.fill f.fit f.pieces c.page_bytes_stay.ensures.bytes c.page_bytes_stay.ensures.extents s c.version-version.ensures.stands c.args.j c.args.page c.requires.has in
-    let pos : 1 ≤ s.page_size = page_pos s.page_size c.version-version.ensures.stands.page_size in
+    let leaf = leaf_of_version f.fill f.fit f.pieces c.page_bytes_stay.ensures.bytes c.page_bytes_stay.ensures.extents s c.stands.ensures c.args.j c.args.page c.requires.has in
+    let pos : 1 ≤ s.page_size = page_pos s.page_size c.stands.ensures.page_size in
     let len : c.args.leaf.first.len ≡ own_len s c.args.j c.args.page = omega (arith, lens s c.args.j c.args.page c.args.leaf c.requires.leaf leaf pos, c.if-leaf-eq0.true) in
     taken_same _ _ _ _ c.args.begin c.args.marks.now c.fill_piece.new.marks c.requires.leaf.start len (c.fill_piece.ensures.taken c.if-not-fill_piece.false)
 
@@ -62,15 +62,15 @@ pub fill_piece-requires-2-clause-version : goal.fill_piece-requires-2-clause-ver
 fill_piece-requires-2-clause-version g c =
     let f = c.leaves_fill.ensures in
     let s = c.args.source.now.snapshot.now in
-    let leaf = leaf_of_version f.fill f.fit f.pieces c.page_bytes_stay.ensures.bytes c.page_bytes_stay.ensures.extents s c.version-version.ensures.stands c.args.j c.args.page c.requires.has in
+    let leaf = leaf_of_version f.fill f.fit f.pieces c.page_bytes_stay.ensures.bytes c.page_bytes_stay.ensures.extents s c.stands.ensures c.args.j c.args.page c.requires.has in
     leaf.bounds
 
 pub fill_piece-requires-2-clause-fits : goal.fill_piece-requires-2-clause-fits
 fill_piece-requires-2-clause-fits g c =
     let f = c.leaves_fill.ensures in
     let s = c.args.source.now.snapshot.now in
-    let leaf = leaf_of_version f.fill f.fit f.pieces c.page_bytes_stay.ensures.bytes c.page_bytes_stay.ensures.extents s c.version-version.ensures.stands c.args.j c.args.page c.requires.has in
-    let pos : 1 ≤ s.page_size = page_pos s.page_size c.version-version.ensures.stands.page_size in
+    let leaf = leaf_of_version f.fill f.fit f.pieces c.page_bytes_stay.ensures.bytes c.page_bytes_stay.ensures.extents s c.stands.ensures c.args.j c.args.page c.requires.has in
+    let pos : 1 ≤ s.page_size = page_pos s.page_size c.stands.ensures.page_size in
     let some : 1 ≤ c.args.leaf.second.len = omega (arith, c.if-leaf-eq0.false) in
     second_fits s c.args.j c.args.page c.args.leaf c.requires.leaf leaf pos some
 
@@ -78,16 +78,16 @@ pub fill_piece-requires-2-clause-placed : goal.fill_piece-requires-2-clause-plac
 fill_piece-requires-2-clause-placed g c =
     let f = c.leaves_fill.ensures in
     let s = c.args.source.now.snapshot.now in
-    let leaf = leaf_of_version f.fill f.fit f.pieces c.page_bytes_stay.ensures.bytes c.page_bytes_stay.ensures.extents s c.version-version.ensures.stands c.args.j c.args.page c.requires.has in
-    let pos : 1 ≤ s.page_size = page_pos s.page_size c.version-version.ensures.stands.page_size in
+    let leaf = leaf_of_version f.fill f.fit f.pieces c.page_bytes_stay.ensures.bytes c.page_bytes_stay.ensures.extents s c.stands.ensures c.args.j c.args.page c.requires.has in
+    let pos : 1 ≤ s.page_size = page_pos s.page_size c.stands.ensures.page_size in
     omega (arith, c.requires.leaf.start, lens s c.args.j c.args.page c.args.leaf c.requires.leaf leaf pos, leaf.leaf.inside)
 
 pub returns-clause-overlaid : goal.returns-clause-overlaid
 returns-clause-overlaid g c = λ all ok.
     let f = c.leaves_fill.ensures in
     let s = c.args.source.now.snapshot.now in
-    let leaf = leaf_of_version f.fill f.fit f.pieces c.page_bytes_stay.ensures.bytes c.page_bytes_stay.ensures.extents s c.version-version.ensures.stands c.args.j c.args.page c.requires.has in
-    let pos : 1 ≤ s.page_size = page_pos s.page_size c.version-version.ensures.stands.page_size in
+    let leaf = leaf_of_version f.fill f.fit f.pieces c.page_bytes_stay.ensures.bytes c.page_bytes_stay.ensures.extents s c.stands.ensures c.args.j c.args.page c.requires.has in
+    let pos : 1 ≤ s.page_size = page_pos s.page_size c.stands.ensures.page_size in
     let some : 1 ≤ c.args.leaf.second.len = omega (arith, c.if-leaf-eq0.false) in
     let p = s.page_size in
     let bytes = bytes_of (row_at s.rows c.args.j) in
@@ -103,8 +103,8 @@ pub returns-clause-taken : goal.returns-clause-taken
 returns-clause-taken g c = λ ok.
     let f = c.leaves_fill.ensures in
     let s = c.args.source.now.snapshot.now in
-    let leaf = leaf_of_version f.fill f.fit f.pieces c.page_bytes_stay.ensures.bytes c.page_bytes_stay.ensures.extents s c.version-version.ensures.stands c.args.j c.args.page c.requires.has in
-    let pos : 1 ≤ s.page_size = page_pos s.page_size c.version-version.ensures.stands.page_size in
+    let leaf = leaf_of_version f.fill f.fit f.pieces c.page_bytes_stay.ensures.bytes c.page_bytes_stay.ensures.extents s c.stands.ensures c.args.j c.args.page c.requires.has in
+    let pos : 1 ≤ s.page_size = page_pos s.page_size c.stands.ensures.page_size in
     taken_same _ _ _ _ c.args.begin c.args.marks.now c.fill_piece-2.new.marks c.requires.leaf.start (lens s c.args.j c.args.page c.args.leaf c.requires.leaf leaf pos)
     (taken_twice c.args.leaf.start c.args.leaf.first.len c.args.leaf.second.len 0 c.args.begin (bytes_of (row_at s.rows c.args.j)) c.args.marks.now c.fill_piece.new.marks c.fill_piece-2.new.marks
     c.fill_piece.auto.marks (c.fill_piece.ensures.taken c.if-not-fill_piece.false) (c.fill_piece-2.ensures.taken ok))
@@ -113,8 +113,8 @@ pub returns-clause-failed : goal.returns-clause-failed
 returns-clause-failed g c = λ no.
     let f = c.leaves_fill.ensures in
     let s = c.args.source.now.snapshot.now in
-    let leaf = leaf_of_version f.fill f.fit f.pieces c.page_bytes_stay.ensures.bytes c.page_bytes_stay.ensures.extents s c.version-version.ensures.stands c.args.j c.args.page c.requires.has in
-    let pos : 1 ≤ s.page_size = page_pos s.page_size c.version-version.ensures.stands.page_size in
+    let leaf = leaf_of_version f.fill f.fit f.pieces c.page_bytes_stay.ensures.bytes c.page_bytes_stay.ensures.extents s c.stands.ensures c.args.j c.args.page c.requires.has in
+    let pos : 1 ≤ s.page_size = page_pos s.page_size c.stands.ensures.page_size in
     let some : 1 ≤ c.args.leaf.second.len = omega (arith, c.if-leaf-eq0.false) in
     let counts = map g.D.Door.faults in
     record {

@@ -9,7 +9,7 @@ use Rattle.range_reader.proofs.source.leaf.Goals as goal
 pub returns-clause-leaf : goal.returns-clause-leaf
 returns-clause-leaf g c =
     let s = c.args.snapshot.now in
-    let pos = page_pos s.page_size c.version-version.ensures.stands.page_size in
+    let pos = page_pos s.page_size c.stands.ensures.page_size in
     let range = c.range_of_page-range.ensures ∙ ap (λ n. page_range n c.args.page) c.page_size.ensures in
     let parts = leaf_parts s.page_size c.args.j c.args.page (falls s) _ pos (c.in-Leaf.ensures.node ∙ ap (node_of s.page_size (falls s) c.args.j) range) in
     record { start = parts.starts; first = parts.one; second = parts.two; back = parts.leads; depth = parts.deep }

@@ -16,7 +16,7 @@ use Rattle.range_reader.proofs.walk.+walk.Goals as goal
 pub fill_page-requires-clause-newest : goal.fill_page-requires-clause-newest
 fill_page-requires-clause-newest g t c =
     let s = c.args.source.now.snapshot.now in
-    let is = c.version-version.ensures.stands in
+    let is = c.stands.ensures in
     let size = c.bytes-size.ensures.is ∙ c.page_size.ensures in
     let pos = page_pos s.page_size is.page_size in
     let at = page_of_range s.page_size c.args.range pos c.requires.has.aligned (c.if-range-size.true ∙ size) ∙ ap (λ n. page_range s.page_size (c.args.range.offset / n)) (sym size) in
@@ -25,7 +25,7 @@ fill_page-requires-clause-newest g t c =
 pub fill_page-requires-clause-has : goal.fill_page-requires-clause-has
 fill_page-requires-clause-has g t c =
     let s = c.args.source.now.snapshot.now in
-    let is = c.version-version.ensures.stands in
+    let is = c.stands.ensures in
     let size = c.bytes-size.ensures.is ∙ c.page_size.ensures in
     let pos = page_pos s.page_size is.page_size in
     let at = page_of_range s.page_size c.args.range pos c.requires.has.aligned (c.if-range-size.true ∙ size) ∙ ap (λ n. page_range s.page_size (c.args.range.offset / n)) (sym size) in
@@ -36,7 +36,7 @@ pub returns-in-true-clause-bytes : goal.returns-in-true-clause-bytes
 returns-in-true-clause-bytes g t c =
     λ all.
     let s = c.args.source.now.snapshot.now in
-    let is = c.version-version.ensures.stands in
+    let is = c.stands.ensures in
     let size = c.bytes-size.ensures.is ∙ c.page_size.ensures in
     let pos = page_pos s.page_size is.page_size in
     let at = page_of_range s.page_size c.args.range pos c.requires.has.aligned (c.if-range-size.true ∙ size) ∙ ap (λ n. page_range s.page_size (c.args.range.offset / n)) (sym size) in
@@ -49,7 +49,7 @@ pub returns-in-true-clause-steps : goal.returns-in-true-clause-steps
 returns-in-true-clause-steps g t c =
     λ h q first last e before after.
     let s = c.args.source.now.snapshot.now in
-    let is = c.version-version.ensures.stands in
+    let is = c.stands.ensures in
     let size = c.bytes-size.ensures.is ∙ c.page_size.ensures in
     let pos = page_pos s.page_size is.page_size in
     let at = page_of_range s.page_size c.args.range pos c.requires.has.aligned (c.if-range-size.true ∙ size) ∙ ap (λ n. page_range s.page_size (c.args.range.offset / n)) (sym size) in
@@ -62,7 +62,7 @@ pub returns-in-false-clause-steps : goal.returns-in-false-clause-steps
 returns-in-false-clause-steps g t c =
     λ h q first last e before after.
     let s = c.args.source.now.snapshot.now in
-    let is = c.version-version.ensures.stands in
+    let is = c.stands.ensures in
     let size = c.bytes-size.ensures.is ∙ c.page_size.ensures in
     let pos = page_pos s.page_size is.page_size in
     let at = page_of_range s.page_size c.args.range pos c.requires.has.aligned (c.if-range-size.true ∙ size) ∙ ap (λ n. page_range s.page_size (c.args.range.offset / n)) (sym size) in
@@ -74,7 +74,7 @@ returns-in-false-clause-steps g t c =
 pub returns-in-false-clause-failed : goal.returns-in-false-clause-failed
 returns-in-false-clause-failed g t c =
     let s = c.args.source.now.snapshot.now in
-    let is = c.version-version.ensures.stands in
+    let is = c.stands.ensures in
     let size = c.bytes-size.ensures.is ∙ c.page_size.ensures in
     let pos = page_pos s.page_size is.page_size in
     let at = page_of_range s.page_size c.args.range pos c.requires.has.aligned (c.if-range-size.true ∙ size) ∙ ap (λ n. page_range s.page_size (c.args.range.offset / n)) (sym size) in
@@ -89,7 +89,7 @@ returns-in-false-clause-failed g t c =
 pub halves-requires-clause-even : goal.halves-requires-clause-even
 halves-requires-clause-even g t c =
     let s = c.args.source.now.snapshot.now in
-    let is = c.version-version.ensures.stands in
+    let is = c.stands.ensures in
     let size = c.bytes-size.ensures.is ∙ c.page_size.ensures in
     let large : s.page_size < c.args.range.size = larger s.page_size c.args.range (page_pos s.page_size is.page_size) c.requires.has.aligned (λ e. c.if-range-size.false (e ∙ sym size)) in
     even s.page_size c.args.range c.requires.has.aligned large
@@ -109,7 +109,7 @@ walk-requires g t c = λ κs lives. (
             search rules,
             (
               (let s = c.args.source.now.snapshot.now in
-                  let is = c.version-version.ensures.stands in
+                  let is = c.stands.ensures in
                   let size = c.bytes-size.ensures.is ∙ c.page_size.ensures in
                   let large : s.page_size < c.args.range.size = larger s.page_size c.args.range (page_pos s.page_size is.page_size) c.requires.has.aligned (λ e. c.if-range-size.false (e ∙ sym size)) in
                   (child c.links_step.ensures.step c.page_bytes_stay.ensures.extents s is c.args.at c.links-left.result.0 c.args.range c.halves.result.0 c.requires.newest c.requires.has large
@@ -117,7 +117,7 @@ walk-requires g t c = λ κs lives. (
                   (c.links-left.ensures.left ∙ ap (newest_of s.page_size (log_of s) c.args.at) (sym c.halves.ensures.lower))).0),
               (
                 (let s = c.args.source.now.snapshot.now in
-                    let is = c.version-version.ensures.stands in
+                    let is = c.stands.ensures in
                     let size = c.bytes-size.ensures.is ∙ c.page_size.ensures in
                     let large : s.page_size < c.args.range.size = larger s.page_size c.args.range (page_pos s.page_size is.page_size) c.requires.has.aligned (λ e. c.if-range-size.false (e ∙ sym size)) in
                     (child c.links_step.ensures.step c.page_bytes_stay.ensures.extents s is c.args.at c.links-left.result.0 c.args.range c.halves.result.0 c.requires.newest c.requires.has large
@@ -149,7 +149,7 @@ pub returns-then-end-high-clause-steps : goal.returns-then-end-high-clause-steps
 returns-then-end-high-clause-steps g t c =
     λ h q first last e before after.
     let s = c.args.source.now.snapshot.now in
-    let is = c.version-version.ensures.stands in
+    let is = c.stands.ensures in
     let size = c.bytes-size.ensures.is ∙ c.page_size.ensures in
     let large : s.page_size < c.args.range.size = larger s.page_size c.args.range (page_pos s.page_size is.page_size) c.requires.has.aligned (λ e. c.if-range-size.false (e ∙ sym size)) in
     let inner = inner_step c.visited_are_few.ensures.inner s.page_size h q first last c.args.from (length c.args.out.now) c.args.range (page_pos s.page_size is.page_size) e large before after
@@ -172,7 +172,7 @@ walk-requires-then-high-from g t c = λ κs lives. (
             search rules,
             (
               (let s = c.args.source.now.snapshot.now in
-                  let is = c.version-version.ensures.stands in
+                  let is = c.stands.ensures in
                   let size = c.bytes-size.ensures.is ∙ c.page_size.ensures in
                   let large : s.page_size < c.args.range.size = larger s.page_size c.args.range (page_pos s.page_size is.page_size) c.requires.has.aligned (λ e. c.if-range-size.false (e ∙ sym size)) in
                   (child c.links_step.ensures.step c.page_bytes_stay.ensures.extents s is c.args.at c.links-left.result.1 c.args.range c.halves.result.1 c.requires.newest c.requires.has large
@@ -180,7 +180,7 @@ walk-requires-then-high-from g t c = λ κs lives. (
                   (c.links-left.ensures.right ∙ ap (newest_of s.page_size (log_of s) c.args.at) (sym c.halves.ensures.upper))).0),
               (
                 (let s = c.args.source.now.snapshot.now in
-                    let is = c.version-version.ensures.stands in
+                    let is = c.stands.ensures in
                     let size = c.bytes-size.ensures.is ∙ c.page_size.ensures in
                     let large : s.page_size < c.args.range.size = larger s.page_size c.args.range (page_pos s.page_size is.page_size) c.requires.has.aligned (λ e. c.if-range-size.false (e ∙ sym size)) in
                     (child c.links_step.ensures.step c.page_bytes_stay.ensures.extents s is c.args.at c.links-left.result.1 c.args.range c.halves.result.1 c.requires.newest c.requires.has large
@@ -190,7 +190,7 @@ walk-requires-then-high-from g t c = λ κs lives. (
                   search rules,
                   (
                     (let s = c.args.source.now.snapshot.now in
-                        let is = c.version-version.ensures.stands in
+                        let is = c.stands.ensures in
                         let size = c.bytes-size.ensures.is ∙ c.page_size.ensures in
                         let large : s.page_size < c.args.range.size = larger s.page_size c.args.range (page_pos s.page_size is.page_size) c.requires.has.aligned (λ e. c.if-range-size.false (e ∙ sym size)) in
                         let two = even s.page_size c.args.range c.requires.has.aligned large in
@@ -219,7 +219,7 @@ pub returns-then-high-from-clause-steps : goal.returns-then-high-from-clause-ste
 returns-then-high-from-clause-steps g t c =
     λ h q first last e before after.
     let s = c.args.source.now.snapshot.now in
-    let is = c.version-version.ensures.stands in
+    let is = c.stands.ensures in
     let size = c.bytes-size.ensures.is ∙ c.page_size.ensures in
     let large : s.page_size < c.args.range.size = larger s.page_size c.args.range (page_pos s.page_size is.page_size) c.requires.has.aligned (λ e. c.if-range-size.false (e ∙ sym size)) in
     let inner = inner_step c.visited_are_few.ensures.inner s.page_size h q first last c.args.from (length c.args.out.now) c.args.range (page_pos s.page_size is.page_size) e large before after
@@ -242,7 +242,7 @@ walk-requires-2 g t c = λ κs lives. (
             search rules,
             (
               (let s = c.args.source.now.snapshot.now in
-                  let is = c.version-version.ensures.stands in
+                  let is = c.stands.ensures in
                   let size = c.bytes-size.ensures.is ∙ c.page_size.ensures in
                   let large : s.page_size < c.args.range.size = larger s.page_size c.args.range (page_pos s.page_size is.page_size) c.requires.has.aligned (λ e. c.if-range-size.false (e ∙ sym size)) in
                   (child c.links_step.ensures.step c.page_bytes_stay.ensures.extents s is c.args.at c.links-left.result.0 c.args.range c.halves.result.0 c.requires.newest c.requires.has large
@@ -250,7 +250,7 @@ walk-requires-2 g t c = λ κs lives. (
                   (c.links-left.ensures.left ∙ ap (newest_of s.page_size (log_of s) c.args.at) (sym c.halves.ensures.lower))).0),
               (
                 (let s = c.args.source.now.snapshot.now in
-                    let is = c.version-version.ensures.stands in
+                    let is = c.stands.ensures in
                     let size = c.bytes-size.ensures.is ∙ c.page_size.ensures in
                     let large : s.page_size < c.args.range.size = larger s.page_size c.args.range (page_pos s.page_size is.page_size) c.requires.has.aligned (λ e. c.if-range-size.false (e ∙ sym size)) in
                     (child c.links_step.ensures.step c.page_bytes_stay.ensures.extents s is c.args.at c.links-left.result.0 c.args.range c.halves.result.0 c.requires.newest c.requires.has large
@@ -282,7 +282,7 @@ pub returns-in_err-walk-clause-steps : goal.returns-in_err-walk-clause-steps
 returns-in_err-walk-clause-steps g t c =
     λ h q first last e before after.
     let s = c.args.source.now.snapshot.now in
-    let is = c.version-version.ensures.stands in
+    let is = c.stands.ensures in
     let size = c.bytes-size.ensures.is ∙ c.page_size.ensures in
     let large : s.page_size < c.args.range.size = larger s.page_size c.args.range (page_pos s.page_size is.page_size) c.requires.has.aligned (λ e. c.if-range-size.false (e ∙ sym size)) in
     let inner = inner_step c.visited_are_few.ensures.inner s.page_size h q first last c.args.from (length c.args.out.now) c.args.range (page_pos s.page_size is.page_size) e large before after
@@ -304,7 +304,7 @@ returns-in_err-walk-clause-steps g t c =
 pub returns-in_err-walk-clause-failed : goal.returns-in_err-walk-clause-failed
 returns-in_err-walk-clause-failed g t c =
     let s = c.args.source.now.snapshot.now in
-    let is = c.version-version.ensures.stands in
+    let is = c.stands.ensures in
     let size = c.bytes-size.ensures.is ∙ c.page_size.ensures in
     let large : s.page_size < c.args.range.size = larger s.page_size c.args.range (page_pos s.page_size is.page_size) c.requires.has.aligned (λ e. c.if-range-size.false (e ∙ sym size)) in
     let front = c.split_at_mut-front.ensures.front_len in
@@ -332,7 +332,7 @@ walk-requires-3 g t c = λ κs lives. (
             search rules,
             (
               (let s = c.args.source.now.snapshot.now in
-                  let is = c.version-version.ensures.stands in
+                  let is = c.stands.ensures in
                   let size = c.bytes-size.ensures.is ∙ c.page_size.ensures in
                   let large : s.page_size < c.args.range.size = larger s.page_size c.args.range (page_pos s.page_size is.page_size) c.requires.has.aligned (λ e. c.if-range-size.false (e ∙ sym size)) in
                   (child c.links_step.ensures.step c.page_bytes_stay.ensures.extents s is c.args.at c.links-left.result.1 c.args.range c.halves.result.1 c.requires.newest c.requires.has large
@@ -340,7 +340,7 @@ walk-requires-3 g t c = λ κs lives. (
                   (c.links-left.ensures.right ∙ ap (newest_of s.page_size (log_of s) c.args.at) (sym c.halves.ensures.upper))).0),
               (
                 (let s = c.args.source.now.snapshot.now in
-                    let is = c.version-version.ensures.stands in
+                    let is = c.stands.ensures in
                     let size = c.bytes-size.ensures.is ∙ c.page_size.ensures in
                     let large : s.page_size < c.args.range.size = larger s.page_size c.args.range (page_pos s.page_size is.page_size) c.requires.has.aligned (λ e. c.if-range-size.false (e ∙ sym size)) in
                     (child c.links_step.ensures.step c.page_bytes_stay.ensures.extents s is c.args.at c.links-left.result.1 c.args.range c.halves.result.1 c.requires.newest c.requires.has large
@@ -350,7 +350,7 @@ walk-requires-3 g t c = λ κs lives. (
                   search rules,
                   (
                     (let s = c.args.source.now.snapshot.now in
-                        let is = c.version-version.ensures.stands in
+                        let is = c.stands.ensures in
                         let size = c.bytes-size.ensures.is ∙ c.page_size.ensures in
                         let large : s.page_size < c.args.range.size = larger s.page_size c.args.range (page_pos s.page_size is.page_size) c.requires.has.aligned (λ e. c.if-range-size.false (e ∙ sym size)) in
                         let two = even s.page_size c.args.range c.requires.has.aligned large in
@@ -386,7 +386,7 @@ pub returns-clause-bytes : goal.returns-clause-bytes
 returns-clause-bytes g t c =
     λ all.
     let s = c.args.source.now.snapshot.now in
-    let is = c.version-version.ensures.stands in
+    let is = c.stands.ensures in
     let size = c.bytes-size.ensures.is ∙ c.page_size.ensures in
     let large : s.page_size < c.args.range.size = larger s.page_size c.args.range (page_pos s.page_size is.page_size) c.requires.has.aligned (λ e. c.if-range-size.false (e ∙ sym size)) in
     let front = c.split_at_mut-front.ensures.front_len in
@@ -410,7 +410,7 @@ pub returns-clause-steps : goal.returns-clause-steps
 returns-clause-steps g t c =
     λ h q first last e before after.
     let s = c.args.source.now.snapshot.now in
-    let is = c.version-version.ensures.stands in
+    let is = c.stands.ensures in
     let size = c.bytes-size.ensures.is ∙ c.page_size.ensures in
     let large : s.page_size < c.args.range.size = larger s.page_size c.args.range (page_pos s.page_size is.page_size) c.requires.has.aligned (λ e. c.if-range-size.false (e ∙ sym size)) in
     let inner = inner_step c.visited_are_few.ensures.inner s.page_size h q first last c.args.from (length c.args.out.now) c.args.range (page_pos s.page_size is.page_size) e large before after
@@ -436,7 +436,7 @@ returns-clause-steps g t c =
 pub returns-clause-failed : goal.returns-clause-failed
 returns-clause-failed g t c =
     let s = c.args.source.now.snapshot.now in
-    let is = c.version-version.ensures.stands in
+    let is = c.stands.ensures in
     let size = c.bytes-size.ensures.is ∙ c.page_size.ensures in
     let large : s.page_size < c.args.range.size = larger s.page_size c.args.range (page_pos s.page_size is.page_size) c.requires.has.aligned (λ e. c.if-range-size.false (e ∙ sym size)) in
     let front = c.split_at_mut-front.ensures.front_len in

@@ -13,30 +13,30 @@ pub take_piece-requires-clause-version : goal.take_piece-requires-clause-version
 take_piece-requires-clause-version g c =
     let s = c.args.source.now.snapshot.now in
     let f = c.leaves_fill.ensures in
-    let of = leaf_of_version f.fill f.fit f.pieces c.page_bytes_stay.ensures.bytes c.page_bytes_stay.ensures.extents s c.version-version.ensures.stands c.args.j c.args.page c.requires.has in
+    let of = leaf_of_version f.fill f.fit f.pieces c.page_bytes_stay.ensures.bytes c.page_bytes_stay.ensures.extents s c.stands.ensures c.args.j c.args.page c.requires.has in
     of.bounds
 
 pub take_piece-requires-clause-fits : goal.take_piece-requires-clause-fits
 take_piece-requires-clause-fits g c =
     let s = c.args.source.now.snapshot.now in
     let f = c.leaves_fill.ensures in
-    let of = leaf_of_version f.fill f.fit f.pieces c.page_bytes_stay.ensures.bytes c.page_bytes_stay.ensures.extents s c.version-version.ensures.stands c.args.j c.args.page c.requires.has in
-    let pos : 1 ≤ s.page_size = page_pos s.page_size c.version-version.ensures.stands.page_size in
+    let of = leaf_of_version f.fill f.fit f.pieces c.page_bytes_stay.ensures.bytes c.page_bytes_stay.ensures.extents s c.stands.ensures c.args.j c.args.page c.requires.has in
+    let pos : 1 ≤ s.page_size = page_pos s.page_size c.stands.ensures.page_size in
     first_fits s c.args.j c.args.page c.args.leaf c.requires.leaf of pos
 
 pub take_piece-requires-then-first-skip-clause-version : goal.take_piece-requires-then-first-skip-clause-version
 take_piece-requires-then-first-skip-clause-version g c =
     let s = c.args.source.now.snapshot.now in
     let f = c.leaves_fill.ensures in
-    let of = leaf_of_version f.fill f.fit f.pieces c.page_bytes_stay.ensures.bytes c.page_bytes_stay.ensures.extents s c.version-version.ensures.stands c.args.j c.args.page c.requires.has in
+    let of = leaf_of_version f.fill f.fit f.pieces c.page_bytes_stay.ensures.bytes c.page_bytes_stay.ensures.extents s c.stands.ensures c.args.j c.args.page c.requires.has in
     of.bounds
 
 pub take_piece-requires-then-first-skip-clause-fits : goal.take_piece-requires-then-first-skip-clause-fits
 take_piece-requires-then-first-skip-clause-fits g c =
     let s = c.args.source.now.snapshot.now in
     let f = c.leaves_fill.ensures in
-    let of = leaf_of_version f.fill f.fit f.pieces c.page_bytes_stay.ensures.bytes c.page_bytes_stay.ensures.extents s c.version-version.ensures.stands c.args.j c.args.page c.requires.has in
-    let pos : 1 ≤ s.page_size = page_pos s.page_size c.version-version.ensures.stands.page_size in
+    let of = leaf_of_version f.fill f.fit f.pieces c.page_bytes_stay.ensures.bytes c.page_bytes_stay.ensures.extents s c.stands.ensures c.args.j c.args.page c.requires.has in
+    let pos : 1 ≤ s.page_size = page_pos s.page_size c.stands.ensures.page_size in
     let some : 1 ≤ c.args.leaf.second.len = omega (arith, c.requires.low, c.requires.high, c.if-skip-out.false) in
     second_fits s c.args.j c.args.page c.args.leaf c.requires.leaf of pos some
 
@@ -44,30 +44,30 @@ pub take_piece-requires-2-clause-version : goal.take_piece-requires-2-clause-ver
 take_piece-requires-2-clause-version g c =
     let s = c.args.source.now.snapshot.now in
     let f = c.leaves_fill.ensures in
-    let of = leaf_of_version f.fill f.fit f.pieces c.page_bytes_stay.ensures.bytes c.page_bytes_stay.ensures.extents s c.version-version.ensures.stands c.args.j c.args.page c.requires.has in
+    let of = leaf_of_version f.fill f.fit f.pieces c.page_bytes_stay.ensures.bytes c.page_bytes_stay.ensures.extents s c.stands.ensures c.args.j c.args.page c.requires.has in
     of.bounds
 
 pub take_piece-requires-2-clause-fits : goal.take_piece-requires-2-clause-fits
 take_piece-requires-2-clause-fits g c =
     let s = c.args.source.now.snapshot.now in
     let f = c.leaves_fill.ensures in
-    let of = leaf_of_version f.fill f.fit f.pieces c.page_bytes_stay.ensures.bytes c.page_bytes_stay.ensures.extents s c.version-version.ensures.stands c.args.j c.args.page c.requires.has in
-    let pos : 1 ≤ s.page_size = page_pos s.page_size c.version-version.ensures.stands.page_size in
+    let of = leaf_of_version f.fill f.fit f.pieces c.page_bytes_stay.ensures.bytes c.page_bytes_stay.ensures.extents s c.stands.ensures c.args.j c.args.page c.requires.has in
+    let pos : 1 ≤ s.page_size = page_pos s.page_size c.stands.ensures.page_size in
     first_fits s c.args.j c.args.page c.args.leaf c.requires.leaf of pos
 
 pub take_piece-requires-3-clause-version : goal.take_piece-requires-3-clause-version
 take_piece-requires-3-clause-version g c =
     let s = c.args.source.now.snapshot.now in
     let f = c.leaves_fill.ensures in
-    let of = leaf_of_version f.fill f.fit f.pieces c.page_bytes_stay.ensures.bytes c.page_bytes_stay.ensures.extents s c.version-version.ensures.stands c.args.j c.args.page c.requires.has in
+    let of = leaf_of_version f.fill f.fit f.pieces c.page_bytes_stay.ensures.bytes c.page_bytes_stay.ensures.extents s c.stands.ensures c.args.j c.args.page c.requires.has in
     of.bounds
 
 pub take_piece-requires-3-clause-fits : goal.take_piece-requires-3-clause-fits
 take_piece-requires-3-clause-fits g c =
     let s = c.args.source.now.snapshot.now in
     let f = c.leaves_fill.ensures in
-    let of = leaf_of_version f.fill f.fit f.pieces c.page_bytes_stay.ensures.bytes c.page_bytes_stay.ensures.extents s c.version-version.ensures.stands c.args.j c.args.page c.requires.has in
-    let pos : 1 ≤ s.page_size = page_pos s.page_size c.version-version.ensures.stands.page_size in
+    let of = leaf_of_version f.fill f.fit f.pieces c.page_bytes_stay.ensures.bytes c.page_bytes_stay.ensures.extents s c.stands.ensures c.args.j c.args.page c.requires.has in
+    let pos : 1 ≤ s.page_size = page_pos s.page_size c.stands.ensures.page_size in
     let some : 1 ≤ c.args.leaf.second.len = omega (arith, c.requires.low, c.requires.high, c.if-skip-out.false) in
     second_fits s c.args.j c.args.page c.args.leaf c.requires.leaf of pos some
 
@@ -75,8 +75,8 @@ pub returns-then-skip-out-clause-bytes : goal.returns-then-skip-out-clause-bytes
 returns-then-skip-out-clause-bytes g c = λ all ok.
     let s = c.args.source.now.snapshot.now in
     let f = c.leaves_fill.ensures in
-    let of = leaf_of_version f.fill f.fit f.pieces c.page_bytes_stay.ensures.bytes c.page_bytes_stay.ensures.extents s c.version-version.ensures.stands c.args.j c.args.page c.requires.has in
-    let pos : 1 ≤ s.page_size = page_pos s.page_size c.version-version.ensures.stands.page_size in
+    let of = leaf_of_version f.fill f.fit f.pieces c.page_bytes_stay.ensures.bytes c.page_bytes_stay.ensures.extents s c.stands.ensures c.args.j c.args.page c.requires.has in
+    let pos : 1 ≤ s.page_size = page_pos s.page_size c.stands.ensures.page_size in
     let n = length c.args.out.now in
     let bytes = bytes_of (row_at s.rows c.args.j) in
     let one = first_at s c.args.j c.args.page c.args.leaf c.requires.leaf of pos in
@@ -86,16 +86,16 @@ pub returns-then-skip-out-clause-failed : goal.returns-then-skip-out-clause-fail
 returns-then-skip-out-clause-failed g c = λ no.
     let s = c.args.source.now.snapshot.now in
     let f = c.leaves_fill.ensures in
-    let of = leaf_of_version f.fill f.fit f.pieces c.page_bytes_stay.ensures.bytes c.page_bytes_stay.ensures.extents s c.version-version.ensures.stands c.args.j c.args.page c.requires.has in
-    let pos : 1 ≤ s.page_size = page_pos s.page_size c.version-version.ensures.stands.page_size in
+    let of = leaf_of_version f.fill f.fit f.pieces c.page_bytes_stay.ensures.bytes c.page_bytes_stay.ensures.extents s c.stands.ensures c.args.j c.args.page c.requires.has in
+    let pos : 1 ≤ s.page_size = page_pos s.page_size c.stands.ensures.page_size in
     record { number = c.args.leaf.first.page; piece = first_in s c.args.j c.args.page c.args.leaf c.requires.leaf of pos; failed = c.take_piece.ensures.failed no }
 
 pub returns-then-first-skip-clause-bytes : goal.returns-then-first-skip-clause-bytes
 returns-then-first-skip-clause-bytes g c = λ all ok.
     let s = c.args.source.now.snapshot.now in
     let f = c.leaves_fill.ensures in
-    let of = leaf_of_version f.fill f.fit f.pieces c.page_bytes_stay.ensures.bytes c.page_bytes_stay.ensures.extents s c.version-version.ensures.stands c.args.j c.args.page c.requires.has in
-    let pos : 1 ≤ s.page_size = page_pos s.page_size c.version-version.ensures.stands.page_size in
+    let of = leaf_of_version f.fill f.fit f.pieces c.page_bytes_stay.ensures.bytes c.page_bytes_stay.ensures.extents s c.stands.ensures c.args.j c.args.page c.requires.has in
+    let pos : 1 ≤ s.page_size = page_pos s.page_size c.stands.ensures.page_size in
     let some : 1 ≤ c.args.leaf.second.len = omega (arith, c.requires.low, c.requires.high, c.if-skip-out.false) in
     let n = length c.args.out.now in
     let bytes = bytes_of (row_at s.rows c.args.j) in
@@ -107,8 +107,8 @@ pub returns-then-first-skip-clause-failed : goal.returns-then-first-skip-clause-
 returns-then-first-skip-clause-failed g c = λ no.
     let s = c.args.source.now.snapshot.now in
     let f = c.leaves_fill.ensures in
-    let of = leaf_of_version f.fill f.fit f.pieces c.page_bytes_stay.ensures.bytes c.page_bytes_stay.ensures.extents s c.version-version.ensures.stands c.args.j c.args.page c.requires.has in
-    let pos : 1 ≤ s.page_size = page_pos s.page_size c.version-version.ensures.stands.page_size in
+    let of = leaf_of_version f.fill f.fit f.pieces c.page_bytes_stay.ensures.bytes c.page_bytes_stay.ensures.extents s c.stands.ensures c.args.j c.args.page c.requires.has in
+    let pos : 1 ≤ s.page_size = page_pos s.page_size c.stands.ensures.page_size in
     let some : 1 ≤ c.args.leaf.second.len = omega (arith, c.requires.low, c.requires.high, c.if-skip-out.false) in
     record { number = c.args.leaf.second.page; piece = second_in s c.args.j c.args.page c.args.leaf c.requires.leaf of pos some; failed = c.take_piece-then-first-skip.ensures.failed no }
 
@@ -116,16 +116,16 @@ pub returns-then-not-take_piece-clause-failed : goal.returns-then-not-take_piece
 returns-then-not-take_piece-clause-failed g c = λ no.
     let s = c.args.source.now.snapshot.now in
     let f = c.leaves_fill.ensures in
-    let of = leaf_of_version f.fill f.fit f.pieces c.page_bytes_stay.ensures.bytes c.page_bytes_stay.ensures.extents s c.version-version.ensures.stands c.args.j c.args.page c.requires.has in
-    let pos : 1 ≤ s.page_size = page_pos s.page_size c.version-version.ensures.stands.page_size in
+    let of = leaf_of_version f.fill f.fit f.pieces c.page_bytes_stay.ensures.bytes c.page_bytes_stay.ensures.extents s c.stands.ensures c.args.j c.args.page c.requires.has in
+    let pos : 1 ≤ s.page_size = page_pos s.page_size c.stands.ensures.page_size in
     record { number = c.args.leaf.first.page; piece = first_in s c.args.j c.args.page c.args.leaf c.requires.leaf of pos; failed = c.take_piece-2.ensures.failed c.if-not-take_piece.true }
 
 pub returns-clause-bytes : goal.returns-clause-bytes
 returns-clause-bytes g c = λ all ok.
     let s = c.args.source.now.snapshot.now in
     let f = c.leaves_fill.ensures in
-    let of = leaf_of_version f.fill f.fit f.pieces c.page_bytes_stay.ensures.bytes c.page_bytes_stay.ensures.extents s c.version-version.ensures.stands c.args.j c.args.page c.requires.has in
-    let pos : 1 ≤ s.page_size = page_pos s.page_size c.version-version.ensures.stands.page_size in
+    let of = leaf_of_version f.fill f.fit f.pieces c.page_bytes_stay.ensures.bytes c.page_bytes_stay.ensures.extents s c.stands.ensures c.args.j c.args.page c.requires.has in
+    let pos : 1 ≤ s.page_size = page_pos s.page_size c.stands.ensures.page_size in
     let some : 1 ≤ c.args.leaf.second.len = omega (arith, c.requires.low, c.requires.high, c.if-skip-out.false) in
     let n = length c.args.out.now in
     let bytes = bytes_of (row_at s.rows c.args.j) in
@@ -147,8 +147,8 @@ pub returns-clause-failed : goal.returns-clause-failed
 returns-clause-failed g c = λ no.
     let s = c.args.source.now.snapshot.now in
     let f = c.leaves_fill.ensures in
-    let of = leaf_of_version f.fill f.fit f.pieces c.page_bytes_stay.ensures.bytes c.page_bytes_stay.ensures.extents s c.version-version.ensures.stands c.args.j c.args.page c.requires.has in
-    let pos : 1 ≤ s.page_size = page_pos s.page_size c.version-version.ensures.stands.page_size in
+    let of = leaf_of_version f.fill f.fit f.pieces c.page_bytes_stay.ensures.bytes c.page_bytes_stay.ensures.extents s c.stands.ensures c.args.j c.args.page c.requires.has in
+    let pos : 1 ≤ s.page_size = page_pos s.page_size c.stands.ensures.page_size in
     let some : 1 ≤ c.args.leaf.second.len = omega (arith, c.requires.low, c.requires.high, c.if-skip-out.false) in
     let counts = map g.D.Door.faults in
     record {

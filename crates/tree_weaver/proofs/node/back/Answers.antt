@@ -8,7 +8,7 @@ use Rattle.tree_weaver.proofs.node.back.Goals as goal
 pub of-requires : goal.of-requires
 of-requires c =
     let t = c.args.ticket.now in
-    let is = c.version-version.ensures.stands in
+    let is = c.stands.ensures in
     let size = c.bytes-size.ensures.is ∙ c.page_size.ensures ∙ ap (λ (s : Version). s.page_size) c.hints.ensures.snapshot in
     asked c.args.borders.now t _ c.requires.page_size c.requires.touch
     (edge_border t c.args.page _ (page_is t.snapshot.page_size c.args.page c.bytes-size.result size)
@@ -18,7 +18,7 @@ of-requires c =
 pub depth-requires : goal.depth-requires
 depth-requires c =
     let t = c.args.ticket.now in
-    let is = c.version-version.ensures.stands in
+    let is = c.stands.ensures in
     record {
       edge = edge_page c.args.borders.now t c.args.page c.requires.touch
           (uncovered_edge c.touches_tell_cover.ensures t.at t.len t.snapshot.page_size t.size c.args.page (page_pos t.snapshot.page_size is.published.page_size) is.some (omega (arith, is.size)) c.requires.first c.requires.last
@@ -28,7 +28,7 @@ depth-requires c =
 pub returns-then-covers_page-clause-depth : goal.returns-then-covers_page-clause-depth
 returns-then-covers_page-clause-depth c =
     let t = c.args.ticket.now in
-    let is = c.version-version.ensures.stands in
+    let is = c.stands.ensures in
     covered_depth c.meets_is_decided.ensures.met c.touches_tell_cover.ensures t c.args.page is
     (touch_told c.logs_are_grown.ensures.touches c.logs_are_grown.ensures.sizes t is is.stands.0 is.stands.1)
     c.requires.first c.requires.last (sym c.covers_page.ensures ∙ c.if-covers_page.true)
@@ -43,6 +43,6 @@ returns-clause-back c =
 pub returns-clause-depth : goal.returns-clause-depth
 returns-clause-depth c =
     let t = c.args.ticket.now in
-    let is = c.version-version.ensures.stands in
+    let is = c.stands.ensures in
     answered_depth c.args.borders.now t c.args.page c.depth.result is c.requires.page_size c.requires.touch c.requires.borders
     (touch_told c.logs_are_grown.ensures.touches c.logs_are_grown.ensures.sizes t is is.stands.0 is.stands.1) c.depth.ensures

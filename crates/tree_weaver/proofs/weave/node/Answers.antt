@@ -13,7 +13,7 @@ use Rattle.tree_weaver.proofs.weave.node.Goals as goal
 pub overflow_mul-range : goal.overflow_mul-range
 overflow_mul-range c =
     let t = c.args.ticket.now in
-    let is = c.version-version.ensures.stands in
+    let is = c.stands.ensures in
     let size = size_is c.bytes.result c.pow.result t.snapshot.page_size c.page_size.result c.args.level c.bytes.ensures.is (c.page_size.ensures ∙ ap (λ (s : Version). s.page_size) c.hints.ensures.snapshot) c.pow.ensures in
     let row = own_range c.spans_hold.ensures.heights c.spans_hold.ensures.some c.ranges_align.ensures.nest t c.args.level c.args.q is c.requires.level c.requires.first c.requires.last in
     let fits : c.args.q * (c.bytes.result * c.pow.result) + c.bytes.result * c.pow.result ≤ 2 ^ 40 = own_fits c.spans_hold.ensures.some t c.args.level c.args.q _ is c.requires.root row size in
@@ -22,7 +22,7 @@ overflow_mul-range c =
 pub inner-requires-clause-of_row : goal.inner-requires-clause-of_row
 inner-requires-clause-of_row c =
     let t = c.args.ticket.now in
-    let is = c.version-version.ensures.stands in
+    let is = c.stands.ensures in
     let size = size_is c.bytes.result c.pow.result t.snapshot.page_size c.page_size.result c.args.level c.bytes.ensures.is (c.page_size.ensures ∙ ap (λ (s : Version). s.page_size) c.hints.ensures.snapshot) c.pow.ensures in
     let P : Range → Type 0 = λ r. IsRowRange t.snapshot.page_size (own_touch t) r in
     subst P (sym (range_is t.snapshot.page_size c.args.level c.args.q _ size))
@@ -31,7 +31,7 @@ inner-requires-clause-of_row c =
 pub inner-requires-clause-inner : goal.inner-requires-clause-inner
 inner-requires-clause-inner c =
     let t = c.args.ticket.now in
-    let is = c.version-version.ensures.stands in
+    let is = c.stands.ensures in
     let size = size_is c.bytes.result c.pow.result t.snapshot.page_size c.page_size.result c.args.level c.bytes.ensures.is (c.page_size.ensures ∙ ap (λ (s : Version). s.page_size) c.hints.ensures.snapshot) c.pow.ensures in
     let P : ℕ → Type 0 = λ n. t.snapshot.page_size < n in
     subst P (sym size) (inner_wide t.snapshot.page_size c.args.level (page_pos t.snapshot.page_size is.published.page_size) (omega (arith, c.if-level-eq0.false))).0
@@ -39,7 +39,7 @@ inner-requires-clause-inner c =
 pub inner-requires-clause-even : goal.inner-requires-clause-even
 inner-requires-clause-even c =
     let t = c.args.ticket.now in
-    let is = c.version-version.ensures.stands in
+    let is = c.stands.ensures in
     let size = size_is c.bytes.result c.pow.result t.snapshot.page_size c.page_size.result c.args.level c.bytes.ensures.is (c.page_size.ensures ∙ ap (λ (s : Version). s.page_size) c.hints.ensures.snapshot) c.pow.ensures in
     let P : ℕ → Type 0 = λ n. n % 2 ≡ 0 in
     subst P (sym size) (inner_wide t.snapshot.page_size c.args.level (page_pos t.snapshot.page_size is.published.page_size) (omega (arith, c.if-level-eq0.false))).1
@@ -47,7 +47,7 @@ inner-requires-clause-even c =
 pub inner-requires-clause-fits : goal.inner-requires-clause-fits
 inner-requires-clause-fits c =
     let t = c.args.ticket.now in
-    let is = c.version-version.ensures.stands in
+    let is = c.stands.ensures in
     let size = size_is c.bytes.result c.pow.result t.snapshot.page_size c.page_size.result c.args.level c.bytes.ensures.is (c.page_size.ensures ∙ ap (λ (s : Version). s.page_size) c.hints.ensures.snapshot) c.pow.ensures in
     let row = own_range c.spans_hold.ensures.heights c.spans_hold.ensures.some c.ranges_align.ensures.nest t c.args.level c.args.q is c.requires.level c.requires.first c.requires.last in
     own_fits c.spans_hold.ensures.some t c.args.level c.args.q _ is c.requires.root row size
@@ -55,7 +55,7 @@ inner-requires-clause-fits c =
 pub returns-then-level-eq0 : goal.returns-then-level-eq0
 returns-then-level-eq0 c =
     let t = c.args.ticket.now in
-    let is = c.version-version.ensures.stands in
+    let is = c.stands.ensures in
     let size = size_is c.bytes.result c.pow.result t.snapshot.page_size c.page_size.result c.args.level c.bytes.ensures.is (c.page_size.ensures ∙ ap (λ (s : Version). s.page_size) c.hints.ensures.snapshot) c.pow.ensures in
     let made : Range → Node → Range × Node = λ r n. (r, n) in
     ap (λ r. made r c.leaf.result) (range_is t.snapshot.page_size c.args.level c.args.q _ size)
@@ -64,7 +64,7 @@ returns-then-level-eq0 c =
 pub returns-else-level-eq0 : goal.returns-else-level-eq0
 returns-else-level-eq0 c =
     let t = c.args.ticket.now in
-    let is = c.version-version.ensures.stands in
+    let is = c.stands.ensures in
     let size = size_is c.bytes.result c.pow.result t.snapshot.page_size c.page_size.result c.args.level c.bytes.ensures.is (c.page_size.ensures ∙ ap (λ (s : Version). s.page_size) c.hints.ensures.snapshot) c.pow.ensures in
     let made : Range → Node → Range × Node = λ r n. (r, n) in
     let wide = inner_wide t.snapshot.page_size c.args.level (page_pos t.snapshot.page_size is.published.page_size) (omega (arith, c.if-level-eq0.false)) in

@@ -20,7 +20,7 @@ loop-level-preserved g c =
 pub invariant_of-result : goal.invariant_of-result
 invariant_of-result g c =
     let t = c.args.ticket.now in
-    let is = c.version-version.ensures.stands in
+    let is = c.stands.ensures in
     let size = c.page_size-p.ensures ∙ ap (λ (s : Version). s.page_size) c.hints.ensures.snapshot in
     let O : List (Range × Node) → Type 0 = λ l. InRowOrder l in
     let whole : c.loop-level.row.items ≡ own_nodes t (own_ranges t) =
@@ -31,7 +31,7 @@ invariant_of-result g c =
 pub returns-clause-row : goal.returns-clause-row
 returns-clause-row g c us st =
     let t = c.args.ticket.now in
-    let is = c.version-version.ensures.stands in
+    let is = c.stands.ensures in
     let size = c.page_size-p.ensures ∙ ap (λ (s : Version). s.page_size) c.hints.ensures.snapshot in
     let whole : c.loop-level.row.items ≡ own_nodes t (own_ranges t) =
     levels_done t c.loop-level.level c.height-top.result c.loop-level.row.items (omega (arith, c.loop-level-test.false))

@@ -20,6 +20,6 @@ loop-q-preserved c =
 pub returns : goal.returns
 returns c =
     let t = c.args.ticket.now in
-    let is = c.version-version.ensures.stands in
+    let is = c.stands.ensures in
     level_finished t c.touch-touch.result c.args.level c.pow-pages.result c.loop-q.q c.args.row.now.items c.loop-q.row.items is (page_pos t.snapshot.page_size is.published.page_size)
     c.touch-touch.ensures c.pow-pages.ensures c.loop-q-test.false c.loop-q.auto.q-end c.loop-q.invariant
