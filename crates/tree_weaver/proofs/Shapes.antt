@@ -198,9 +198,6 @@ size_is bytes pow p size h e f w = ap (λ b. b * pow) (e ∙ f) ∙ ap (λ n. p 
 pub range_is : (p h q size : ℕ) → size ≡ p * 2 ^ h → record { offset = q * size; size = size } ≡ tree_range p h q
 range_is p h q size is = let made : ℕ → Range = λ n. record { offset = q * n; size = n } in ap made is
 
-pub page_is : (p page size : ℕ) → size ≡ p → record { offset = page * size; size = size } ≡ page_range p page
-page_is p page size is = let made : ℕ → Range = λ n. record { offset = page * n; size = n } in ap made is
-
 pub edge_border : (t : NumberedUpdate) (page : ℕ) (range : Range) → range ≡ page_range t.snapshot.page_size page → (page ≡ (own_touch t).first) ⊎ (page ≡ (own_touch t).last)
     → IsBorder t.snapshot.page_size (own_touch t) range
 edge_border t page range is edge =

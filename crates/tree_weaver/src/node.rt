@@ -8,7 +8,7 @@ ghost use Rattle.tree_weaver.specs.Planned.{own_extent, own_link, own_back, own_
 
 use border_hints::{Borders, Ticket};
 use tree_geom::laws::touches_tell_cover;
-use tree_geom::{Node, PageSize, Piece, Range, halves, meets};
+use tree_geom::{Node, PageSize, Piece, Range, halves, meets, range_of_page};
 
 // The version that a node links to for a half of its range: the update's own, or else that over the border.
 fn link(ticket: &Ticket, borders: &Borders, range: Range) -> u64
@@ -146,11 +146,7 @@ fn back(ticket: &Ticket, borders: &Borders, page: u64) -> (u64, u32)
     if covers_page(ticket, page) {
         return (0, 0);
     }
-    let size = ticket.hints().snapshot.page_size().bytes();
-    let range = Range {
-        offset: page * size,
-        size,
-    };
+    let range = range_of_page(ticket.hints().snapshot.page_size(), page);
     (borders.of(range), borders.depth(page))
 }
 

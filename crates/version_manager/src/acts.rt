@@ -31,9 +31,9 @@ impl Act<Desk> for Create {
 
     fn act(self, state: &mut Desk, caller: u32) -> Result<u64, DeskFault> {
         let Create = self;
-        let _before = state.limits();
+        state.stands();
         let created = state.create(caller);
-        let _after = state.limits();
+        state.stands();
         created
     }
 
@@ -66,9 +66,9 @@ impl Act<Desk> for Assign<'_> {
 
     fn act(self, state: &mut Desk, caller: u32) -> Result<Ticket, DeskFault> {
         let Assign { blob, place, pages } = self;
-        let _before = state.limits();
+        state.stands();
         let assigned = state.assign(caller, blob, place, pages);
-        let _after = state.limits();
+        state.stands();
         assigned
     }
 
@@ -99,9 +99,9 @@ impl Act<Desk> for Finish<'_> {
 
     fn act(self, state: &mut Desk, caller: u32) -> Result<u64, (DeskFault, Arc<Row>)> {
         let Finish { ticket, row } = self;
-        let _before = state.limits();
+        state.stands();
         let finished = state.finish(caller, ticket, row);
-        let _after = state.limits();
+        state.stands();
         finished
     }
 
@@ -128,9 +128,9 @@ impl Act<Desk> for Branch {
 
     fn act(self, state: &mut Desk, caller: u32) -> Result<u64, DeskFault> {
         let Branch { blob, version } = self;
-        let _before = state.limits();
+        state.stands();
         let branched = state.branch(caller, blob, version);
-        let _after = state.limits();
+        state.stands();
         branched
     }
 
@@ -154,7 +154,7 @@ impl Act<Desk> for Open {
 
     fn act(self, state: &mut Desk, _caller: u32) -> Result<Snapshot, DeskFault> {
         let Open { blob, version } = self;
-        let _limits = state.limits();
+        state.stands();
         state.snapshot_of(blob, version)
     }
 
@@ -178,7 +178,7 @@ impl Act<Desk> for Recent {
 
     fn act(self, state: &mut Desk, _caller: u32) -> Outcome {
         let Recent { blob } = self;
-        let _limits = state.limits();
+        state.stands();
         state.recent(blob)
     }
 
@@ -203,7 +203,7 @@ impl Act<Desk> for Size {
 
     fn act(self, state: &mut Desk, _caller: u32) -> Outcome {
         let Size { blob, version } = self;
-        let _limits = state.limits();
+        state.stands();
         state.size(blob, version)
     }
 
@@ -228,7 +228,7 @@ impl Act<Desk> for Sync {
 
     fn act(self, state: &mut Desk, _caller: u32) -> Outcome {
         let Sync { blob, version } = self;
-        let _limits = state.limits();
+        state.stands();
         state.sync(blob, version)
     }
 
@@ -252,7 +252,7 @@ impl Act<Desk> for Status {
 
     fn act(self, state: &mut Desk, _caller: u32) -> Outcome {
         let Status { blob } = self;
-        let _limits = state.limits();
+        state.stands();
         state.status(blob)
     }
 

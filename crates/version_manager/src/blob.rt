@@ -28,8 +28,7 @@ use tree_geom::PageSize;
 pub(crate) fn size_of_last(window: &Window) -> u64
     ensures { (limits : Bounds) (b : Blob) → Keeps limits window.now b → result ≡ size_now b }
 {
-    let _assigned = window.assigned();
-    let _version = window.snapshot().version();
+    window.stands();
     let waiting = window.waiting();
     match waiting.count() {
         0 => window.snapshot().size(),
@@ -148,7 +147,7 @@ fn next_ticket(
     let len = pages.len();
     let end = size.max(at + len);
     let hints = hints_of(alloc, window)?;
-    let _version = hints.snapshot.version();
+    hints.snapshot.stands();
     let shared = Arc::try_clone(pages)?;
     Ok(Ticket::of(
         caller,
@@ -193,8 +192,7 @@ pub(crate) fn branch_in(
     ensures new { IfOk result (λ w. w ≡ window_on (under_blob (older_version (version_of window.now) version) new_id)) }
     ensures kept { (limits : Bounds) (b : Blob) → Keeps limits window.now b → IfOk result (λ w. Keeps limits w (branch_of b version)) }
 {
-    let _assigned = window.assigned();
-    let _version = window.snapshot().version();
+    window.stands();
     let shared = window.snapshot_at(version)?;
     Window::new(alloc, shared.under(new_id)?)
 }

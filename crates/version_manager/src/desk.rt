@@ -79,7 +79,7 @@ impl Desk {
     ) -> Result<Desk, NoMemory>
         ensures { IfOk result (λ desk. desk ≡ empty_desk limits p (arc_value houses.now)) }
     {
-        let _bytes = p.bytes();
+        p.stands();
         Ok(Desk {
             alloc,
             limits,
@@ -97,6 +97,14 @@ impl Desk {
         ensures short { length self.now.history < 2 ^ 38 }
     {
         self.limits
+    }
+
+    /// The history is legal, and has fewer than 2^38 entries. For proofs: it does nothing.
+    pub fn stands(&self)
+        ensures legal { IsLegal self.now.limits self.now.history }
+        ensures short { length self.now.history < 2 ^ 38 }
+    {
+        let _limits = self.limits();
     }
 
     /// How many entries the history has.
@@ -174,7 +182,7 @@ impl Desk {
             return Err(DeskFault::Refused(Refusal::NoBlob { blob }));
         };
         let window = &self.windows[index];
-        let _assigned = window.assigned();
+        window.stands();
         let ticket = match ticket_over(self.alloc, self.limits, caller, place, pages, window) {
             Ok(ticket) => ticket,
             Err(fault) => return Err(fault),
@@ -222,7 +230,7 @@ impl Desk {
         let version = ticket.version();
         let index = (blob - 1) as usize;
         let window = &self.windows[index];
-        let _assigned = window.assigned();
+        window.stands();
         if window.is_finished(version) {
             return Err((DeskFault::Refused(Refusal::Already { version }), row));
         }

@@ -45,7 +45,7 @@ fn held_by(window: &Window) -> u64
 pub(crate) fn recent_in(window: &Window) -> Outcome
     ensures { (limits : Bounds) (b : Blob) → Keeps limits window.now b → result ≡ Outcomes.Recent (published b) (size_of b.updates (published b)) }
 {
-    let _assigned = window.assigned();
+    window.stands();
     let snapshot = window.snapshot();
     Outcome::Recent {
         version: snapshot.version(),
@@ -58,8 +58,7 @@ pub(crate) fn size_in(window: &Window, version: u64) -> Outcome
     ensures { (limits : Bounds) (s : Store) (b : Blob) → Keeps limits window.now b
         → result ≡ (unless_refused s (not_published b version ∷ []) (s, Outcomes.Size (size_of b.updates version))).1 }
 {
-    let _assigned = window.assigned();
-    let _version = window.snapshot().version();
+    window.stands();
     match unpublished(window, version) {
         Some(refusal) => Outcome::Refused(refusal),
         None => Outcome::Size(window.snapshot().size_at(version)),
@@ -105,8 +104,7 @@ pub(crate) fn snapshot_in(window: &Window, version: u64) -> Result<Snapshot, Des
     ensures version { IfOk result (λ x. length x.rows ≡ version) }
     ensures tells { (limits : Bounds) (b : Blob) → Keeps limits window.now b → IfOk result (λ x. TellUpdates window.now.page_size b.updates x.rows) }
 {
-    let _assigned = window.assigned();
-    let _version = window.snapshot().version();
+    window.stands();
     if let Some(refusal) = unpublished(window, version) {
         return Err(DeskFault::Refused(refusal));
     }

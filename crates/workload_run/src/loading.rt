@@ -139,7 +139,7 @@ where
         unreachable!()
     };
     // The desk's history is legal.
-    let _limits = desk.limits();
+    desk.stands();
     match told {
         Ok(summary) => Ok((summary, desk)),
         Err(fault) => Err(fault_of(fault)),

@@ -1,17 +1,17 @@
 use Rattle.std.proofs.Common.{arith, ap, sym, ◌∙◌}
 use Rattle.snapshot.specs.Versions.{Version}
 use Rattle.tree_geom.proofs.Spans.{page_pos}
+use Rattle.tree_geom.specs.Geometry.{page_range}
 use Rattle.tree_weaver.proofs.Plans.{touch_told}
-use Rattle.tree_weaver.proofs.Shapes.{uncovered_edge, edge_border, edge_page, page_is, asked, answered, answered_back, answered_depth, covered_depth}
+use Rattle.tree_weaver.proofs.Shapes.{uncovered_edge, edge_border, edge_page, asked, answered, answered_back, answered_depth, covered_depth}
 use Rattle.tree_weaver.proofs.node.back.Goals as goal
 
 pub of-requires : goal.of-requires
 of-requires c =
     let t = c.args.ticket.now in
     let is = c.stands.ensures in
-    let size = c.bytes-size.ensures.is ∙ c.page_size.ensures ∙ ap (λ (s : Version). s.page_size) c.hints.ensures.snapshot in
     asked c.args.borders.now t _ c.requires.page_size c.requires.touch
-    (edge_border t c.args.page _ (page_is t.snapshot.page_size c.args.page c.bytes-size.result size)
+    (edge_border t c.args.page _ (c.range_of_page-range.ensures ∙ ap (λ p. page_range p c.args.page) (c.page_size.ensures ∙ ap (λ (s : Version). s.page_size) c.hints.ensures.snapshot))
     (uncovered_edge c.touches_tell_cover.ensures t.at t.len t.snapshot.page_size t.size c.args.page (page_pos t.snapshot.page_size is.published.page_size) is.some (omega (arith, is.size)) c.requires.first c.requires.last
     (sym c.covers_page.ensures ∙ c.if-covers_page.false)))
 
@@ -36,8 +36,7 @@ returns-then-covers_page-clause-depth c =
 pub returns-clause-back : goal.returns-clause-back
 returns-clause-back c =
     let t = c.args.ticket.now in
-    let size = c.bytes-size.ensures.is ∙ c.page_size.ensures ∙ ap (λ (s : Version). s.page_size) c.hints.ensures.snapshot in
-    answered_back t c.args.page c.of.result _ (page_is t.snapshot.page_size c.args.page c.bytes-size.result size) (sym c.covers_page.ensures ∙ c.if-covers_page.false)
+    answered_back t c.args.page c.of.result _ (c.range_of_page-range.ensures ∙ ap (λ p. page_range p c.args.page) (c.page_size.ensures ∙ ap (λ (s : Version). s.page_size) c.hints.ensures.snapshot)) (sym c.covers_page.ensures ∙ c.if-covers_page.false)
     (answered c.args.borders.now t _ c.of.result c.requires.page_size c.requires.borders c.of.ensures)
 
 pub returns-clause-depth : goal.returns-clause-depth

@@ -20,19 +20,19 @@ pub of-requires-clause-waiting : goal.of-requires-clause-waiting
 of-requires-clause-waiting c =
     let may = c.requires.takes.2 in
     let h = c.in_ok-hints.ensures in
-    (hints_tell _ _ _ _ _ may.kept may.even h.snapshot h.waiting c.version-version.ensures.stands).first
+    (hints_tell _ _ _ _ _ may.kept may.even h.snapshot h.waiting c.stands.ensures).first
 
 pub of-requires-clause-version : goal.of-requires-clause-version
 of-requires-clause-version c =
     let may = c.requires.takes.2 in
     let h = c.in_ok-hints.ensures in
-    omega (arith, (hints_tell _ _ _ _ _ may.kept may.even h.snapshot h.waiting c.version-version.ensures.stands).count)
+    omega (arith, (hints_tell _ _ _ _ _ may.kept may.even h.snapshot h.waiting c.stands.ensures).count)
 
 pub of-requires-clause-of_updates : goal.of-requires-clause-of_updates
 of-requires-clause-of_updates c =
     let may = c.requires.takes.2 in
     let h = c.in_ok-hints.ensures in
-    (hints_tell _ _ _ _ _ may.kept may.even h.snapshot h.waiting c.version-version.ensures.stands).log
+    (hints_tell _ _ _ _ _ may.kept may.even h.snapshot h.waiting c.stands.ensures).log
 
 pub of-requires-clause-at : goal.of-requires-clause-at
 of-requires-clause-at c =
@@ -40,7 +40,7 @@ of-requires-clause-at c =
     let b = c.requires.takes.1 in
     let may = c.requires.takes.2 in
     let h = c.in_ok-hints.ensures in
-    let told = hints_tell limits c.args.window.now b _ _ may.kept may.even h.snapshot h.waiting c.version-version.ensures.stands in
+    let told = hints_tell limits c.args.window.now b _ _ may.kept may.even h.snapshot h.waiting c.stands.ensures in
     let s = c.size_of_last-size.ensures limits b may.kept in
     let at = c.offset_in-at.ensures ∙ ap (offset_of c.args.place) s in
     omega (arith, told.size (c.assigned.result + 1 - 1) (omega arith), may.begins, at)
@@ -51,7 +51,7 @@ of-requires-clause-size c =
     let b = c.requires.takes.1 in
     let may = c.requires.takes.2 in
     let h = c.in_ok-hints.ensures in
-    let told = hints_tell limits c.args.window.now b _ _ may.kept may.even h.snapshot h.waiting c.version-version.ensures.stands in
+    let told = hints_tell limits c.args.window.now b _ _ may.kept may.even h.snapshot h.waiting c.stands.ensures in
     omega (arith, told.size (c.assigned.result + 1 - 1) (omega arith), c.size_of_last-size.ensures limits b may.kept)
 
 pub of-requires-clause-fits : goal.of-requires-clause-fits

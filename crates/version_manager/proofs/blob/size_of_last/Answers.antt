@@ -1,14 +1,14 @@
-use Rattle.std.proofs.Common.{◌-◌, sym, subst, ap, ◌∙◌, arith, length}
+use Rattle.std.proofs.Common.{◌-◌, sym, ap, ◌∙◌, arith, length}
 use Rattle.range_log.specs.Open.{open_at}
-use Rattle.snapshot.specs.Versions.{IsVersion, size_now}
+use Rattle.snapshot.specs.Versions.{size_now}
 use Rattle.version_manager.proofs.Blobs.{size_alone, last_size}
 use Rattle.version_manager.proofs.blob.size_of_last.Goals as goal
 
 pub returns-in-0 : goal.returns-in-0
 returns-in-0 c limits b k =
-    let is = subst IsVersion c.snapshot.ensures c.version-version.ensures.stands in
+    let is = c.stands.ensures.version in
     c.size.ensures.size
-    ∙ ap size_now c.snapshot-in-0.ensures
+    ∙ ap size_now c.snapshot.ensures
     ∙ size_alone limits c.args.window.now b k (omega arith) is (sym (ap length c.waiting-waiting.ensures) ∙ sym c.count.ensures.count ∙ c.in-0.is)
 
 pub returns-in_default : goal.returns-in_default

@@ -3,7 +3,7 @@ use Rattle.std.proofs.lemmas.List.{length-take-le}
 use Rattle.blob_model.specs.Content.{size_of}
 use Rattle.blob_model.specs.Answer.{not_published}
 use Rattle.blob_model.specs.declared.call.Outcome.TheVariants as Outcomes
-use Rattle.snapshot.specs.Versions.{Version, IsVersion, size_now}
+use Rattle.snapshot.specs.Versions.{Version, size_now}
 use Rattle.snapshot.specs.Laws.{TellUpdates}
 use Rattle.publisher.specs.Windows.{leading}
 use Rattle.publisher.proofs.Leading.{published_counts}
@@ -18,7 +18,7 @@ returns-in-Some-clause-refused c limits s b k =
 pub returns-in-Ok-clause-size : goal.returns-in-Ok-clause-size
 returns-in-Ok-clause-size c limits s b k =
     let v = c.args.version in
-    let is = subst IsVersion c.snapshot.ensures c.version-version.ensures.stands in
+    let is = c.stands.ensures.version in
     sym (done_is s (not_published b v ∷ []) (s, Outcomes.Size (size_of b.updates v)) (c.in_default.ensures.refusal limits b k))
     ∙ ap Outcomes.Size (sym (older_size limits c.args.window.now b k (omega arith) is v c.in_default.ensures.published) ∙ sym (ap size_now c.in-Ok.ensures))
 
@@ -30,6 +30,6 @@ returns-in-Ok-clause-version c =
 pub returns-in-Ok-clause-tells : goal.returns-in-Ok-clause-tells
 returns-in-Ok-clause-tells c limits b k =
     let w = c.args.window.now in
-    let is = subst IsVersion c.snapshot.ensures c.version-version.ensures.stands in
+    let is = c.stands.ensures.version in
     let P : Version → Type 0 = λ s. TellUpdates w.page_size b.updates s.rows in
     subst P (sym c.in-Ok.ensures) (tells limits w b k (omega arith) is c.args.version c.in_default.ensures.published)

@@ -20,8 +20,8 @@ returns-clause-gives c =
     let pages = arc_value c.args.self.pages.now in
     let bytes = bytes_of_pages pages.pages in
     let done = c.assign-assigned.ensures in
-    let before = c.limits-before.ensures in
-    let after = c.limits-after.ensures in
+    let before = c.stands.ensures in
+    let after = c.stands-2.ensures in
     let event = Events.Assign c.args.caller blob place bytes in
     let ws = λ (t : NumberedUpdate). windows_with d blob (with_numbered (window_in d blob) (own_touch t)) in (
       changed d d' event r ws done.new done.same (Calls.Assign blob place bytes) c.args.caller (λ (t : NumberedUpdate). Outcomes.Assigned t.version t.at t.size) (λ (fault : DeskFault). fault)

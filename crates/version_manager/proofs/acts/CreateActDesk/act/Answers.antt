@@ -12,8 +12,8 @@ pub returns-clause-gives : goal.returns-clause-gives
 returns-clause-gives c =
     let d = c.args.state.now in
     let done = c.create-created.ensures in
-    let before = c.limits-before.ensures in
-    let after = c.limits-after.ensures in
+    let before = c.stands.ensures in
+    let after = c.stands-2.ensures in
     changed d c.create-created.new.self (Events.Create c.args.caller) c.create-created.result
     (λ (blob : ℕ). windows_and d (window_on record { blob = blob; page_size = d.page_size; rows = [] })) done.new done.same
     Calls.Create c.args.caller (λ (blob : ℕ). Outcomes.Blob blob) (λ (fault : DeskFault). fault) before.legal before.short after.legal after.short done.blob done.refused

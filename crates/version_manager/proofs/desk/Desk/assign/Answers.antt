@@ -167,7 +167,7 @@ returns-clause-unfinished c =
     let e : Event = Events.Assign c.args.caller blob c.args.place bytes in
     let history : map event_of c.push_reserved.new.self.items ≡ h ++ e ∷ [] = numbered_event d.history.items c.reserve.new.self.items c.push_reserved.new.self.items c.args.caller blob c.args.place c.in-Ok-try_clone.pages _ c.reserve.ensures.items c.push_reserved.ensures.items c.in-Ok-try_clone.ensures in
     let there = assign_there d.limits d.page_size h d.windows.items c.self.invariant.kept c.args.caller blob c.args.place bytes x.found (c.in-Ok.ensures.accepted b x.keeps) in
-    let even = even_of d.limits b c.index-window.result.now x.keeps (sym c.assigned-assigned.ensures.rows ∙ c.assigned-assigned.ensures.log) in
+    let even = even_of d.limits b c.index-window.result.now x.keeps (sym c.stands.ensures.log) in
     is_unfinished _ blob c.in-Ok.ticket.version b u (ap (λ (l : List Event). blob_at (store_of d.limits l) blob) history ∙ there) (c.in-Ok.ensures.version b x.keeps) even
 
 pub returns-clause-hints : goal.returns-clause-hints
@@ -183,4 +183,4 @@ returns-clause-hints c =
     let lies : L w = window_lies (arc_value d.houses) d.windows.items c.in-Some.index w _ c.self.invariant.lies within c.index-window.ensures in
     let under = origins_at (parents_of h) d.windows.items c.self.invariant.origins blob w no_window x.some (omega (arith, d.windows.ok.0, c.in-Some.ensures.2)) x.window in
     let P : DeskState → Type 0 = λ s. HasHints s blob t in
-    subst P c.self.view_is (has_hints _ blob t x.found.b w d.limits x.found.at x.page x.keeps (sym c.assigned-assigned.ensures.rows ∙ c.assigned-assigned.ensures.log) (subst (λ (v : Version). IsVersion v) c.in-Ok.ensures.snapshot c.in-Ok.ensures.published) c.in-Ok.ensures.snapshot c.in-Ok.ensures.waiting lies (version_under h blob w under))
+    subst P c.self.view_is (has_hints _ blob t x.found.b w d.limits x.found.at x.page x.keeps (sym c.stands.ensures.log) (subst (λ (v : Version). IsVersion v) c.in-Ok.ensures.snapshot c.in-Ok.ensures.published) c.in-Ok.ensures.snapshot c.in-Ok.ensures.waiting lies (version_under h blob w under))
