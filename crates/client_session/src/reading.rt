@@ -72,8 +72,8 @@ pub(crate) fn read_range<D: Door, L: Ledger>(
 {
     range_log::laws::older_versions_stay();
     range_log::laws::page_bytes_stay();
-    let _page_size = snapshot.page_size().bytes();
-    let _version = snapshot.version();
+    snapshot.page_size().stands();
+    snapshot.stands();
     let size = snapshot.size();
     let end = u128::from(offset) + u128::from(count);
     if end > u128::from(size) {

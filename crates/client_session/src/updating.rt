@@ -85,7 +85,7 @@ fn report<R: Wait>(
 {
     version_manager::laws::gaps_are_of_others();
     version_manager::laws::finished_by_gap();
-    let _version = ticket.version();
+    ticket.stands();
     let reported = shared.desk().finish(rt, pass, ticket, row);
     if reported.is_ok() {
         shared.notices().notify(rt);

@@ -24,7 +24,7 @@ pub(crate) fn weave(alloc: Global, ticket: &Ticket) -> Result<Arc<Row>, NoMemory
 {
     snapshot::laws::rows_stay();
     tree_weaver::laws::stored_rows_are_rows();
-    let _version = ticket.version();
+    ticket.stands();
     let planned = planned::<Brand>(alloc, ticket, Blank::new(1))?;
     put_row(alloc, ticket, planned)
 }

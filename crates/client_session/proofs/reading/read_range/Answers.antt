@@ -14,7 +14,7 @@ returns-clause-page g c =
     let whole : length c.as_mut_slice-buffer.result.now ≡ c.args.count = grind arith in
     let some = rw (arm.field-0-is, whole) at arm.ensures.some in
     let failed = rw (arm.field-0-is, whole) at arm.ensures.failed in
-    met_between c.args.snapshot.now.page_size c.args.offset c.args.count arm.page (let size = c.bytes-page_size.ensures.is in let bounds = c.bytes-page_size.ensures.bounds in omega arith) some failed.from failed.upto
+    met_between c.args.snapshot.now.page_size c.args.offset c.args.count arm.page (let bounds = c.stands.ensures.bounds in let size = c.page_size.ensures in omega arith) some failed.from failed.upto
 
 pub returns-clause-steps : goal.returns-clause-steps
 returns-clause-steps g c us tell =

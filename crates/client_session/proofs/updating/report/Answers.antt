@@ -31,7 +31,7 @@ returns-then-is_ok-clause-reporting g c =
     took c.gaps_are_of_others.ensures fixed c.args.pass.now c.finish-reported.new.pass (λ before f after. Changed f (Calls.Finish t.blob t.version) (Events.Finish by t.blob t.version) (λ published. Outcomes.Published published) (λ (e : DeskFault × _). e.0) before by r after × Finishes f t c.args.row before after r)
     c.requires.pass.fixed (λ before after x. x.0.log) c.finish-reported.ensures.turned
     in
-    let some : 1 ≤ t.version = let v = c.version-version.ensures.stands.version in omega arith in
+    let some : 1 ≤ t.version = let v = c.stands.ensures.version in omega arith in
     reported c.finished_by_gap.ensures fixed by c.args.pass.now.seen c.finish-reported.new.pass.seen t some c.requires.may.ticket c.args.row r took_it
 
 pub returns-else-is_ok-clause-reporting : goal.returns-else-is_ok-clause-reporting
@@ -44,5 +44,5 @@ returns-else-is_ok-clause-reporting g c =
     took c.gaps_are_of_others.ensures fixed c.args.pass.now c.finish-reported.new.pass (λ before f after. Changed f (Calls.Finish t.blob t.version) (Events.Finish by t.blob t.version) (λ published. Outcomes.Published published) (λ (e : DeskFault × _). e.0) before by r after × Finishes f t c.args.row before after r)
     c.requires.pass.fixed (λ before after x. x.0.log) c.finish-reported.ensures.turned
     in
-    let some : 1 ≤ t.version = let v = c.version-version.ensures.stands.version in omega arith in
+    let some : 1 ≤ t.version = let v = c.stands.ensures.version in omega arith in
     reported c.finished_by_gap.ensures fixed by c.args.pass.now.seen c.finish-reported.new.pass.seen t some c.requires.may.ticket c.args.row r took_it
