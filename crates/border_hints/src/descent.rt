@@ -1,6 +1,6 @@
 // The way down the published snapshot's tree to the edges of an update's row.
 ghost use Rattle.std.specs.Prelude.{◌≡◌, ℕ, ◌+◌, ◌-◌, ◌*◌, ◌/◌, ◌^◌, ◌<◌, ◌≤◌, List, length};
-ghost use Rattle.tree_geom.specs.Geometry.{tree_range, height_of};
+ghost use Rattle.tree_geom.specs.Geometry.{tree_range, height_of, meets_of};
 ghost use Rattle.range_log.specs.Log.{newest_of};
 ghost use Rattle.range_log.specs.Depths.{depth_of, depth_after};
 ghost use Rattle.snapshot.specs.Versions.{size_now};
@@ -14,6 +14,17 @@ use snapshot::Snapshot;
 use std::sync::ledger::Ledger;
 use tree_geom::{PageSize, Range, Steps, Touch, height, meets, range_of_page, span_stands};
 
+// Whether the touched pages meet the range, which lies from page `first` to page `last` where it has a byte. A range is held
+// against many updates, so its pages are divided out once.
+fn meets_pages(touch: &Touch, range: Range, first: u64, last: u64) -> bool
+    ensures { (p : ℕ) → 1 ≤ p → first ≡ range.offset / p → last ≡ (range.offset + range.size - 1) / p → result ≡ meets_of p touch.now range }
+{
+    if range.size == 0 {
+        return false;
+    }
+    touch.first <= last && first <= touch.last
+}
+
 // The newest lower version for the range: the newest waiting update that touches it, or else `known`, that of the snapshot.
 fn newest_below(ticket: &Ticket, range: Range, known: u64) -> u64
     requires fits { range.offset + range.size ≤ 2 ^ 40 }
@@ -24,10 +35,12 @@ fn newest_below(ticket: &Ticket, range: Range, known: u64) -> u64
     range_log::laws::older_versions_stay();
     ticket.stands();
     let hints = ticket.hints();
-    let p = hints.snapshot.page_size();
+    let p = hints.snapshot.page_size().bytes();
+    let first = range.offset / p;
+    let last = (range.offset + range.size).saturating_sub(1) / p;
     for i in (0..hints.waiting.count()).rev() {
         let waiting = hints.waiting.at(i);
-        if meets(p, &waiting.touch, range) {
+        if meets_pages(&waiting.touch, range, first, last) {
             return waiting.version;
         }
     }
