@@ -1,7 +1,7 @@
 -- What a session answers a read, by what its turn and its walk gave.
-use Rattle.std.proofs.Common.{◌≡◌, refl, sym, ◌∙◌, ap, ℕ, ◌+◌, ◌<◌, ◌≤◌, List, ◌++◌, length, take, drop, Result, Err, Bool, true, false, Some, None, arith}
+use Rattle.std.proofs.Common.{◌≡◌, refl, sym, ◌∙◌, ap, ℕ, ◌+◌, ◌<◌, ◌≤◌, List, [], ◌++◌, length, take, drop, Result, Err, Bool, true, false, Some, None, arith, append-nil, inl, inr}
 use Rattle.std.specs.Prelude.{nat_lt, if◌then◌else◌}
-use Rattle.std.proofs.lemmas.Bool.{ltb-true, false≢true}
+use Rattle.std.proofs.lemmas.Bool.{ltb-true, false≢true, cases_lt}
 use Rattle.ports.specs.Counts.{RoseBy}
 use Rattle.blob_model.specs.Answer.{answer}
 use Rattle.blob_model.specs.Content.{content, size_of}
@@ -27,7 +27,7 @@ use Rattle.client_session.specs.declared.reading.RangeFault.TheVariants as Range
 use Rattle.client_session.specs.Tickets.{OpenUpdate}
 use Rattle.client_session.specs.Parts.{IsMet, OnRangePast, OnPageLost}
 use Rattle.client_session.specs.Results.{desk_fault, range_fault}
-use Rattle.client_session.specs.Sessions.{session_at}
+use Rattle.client_session.specs.Sessions.{session_at, NoStepIfRefused}
 use Rattle.client_session.proofs.Turns.{outcome_of_gap, seen_gap}
 use Rattle.client_session.proofs.Ranges.{read_refused, read_past, read_within, count_within, not_below}
 
@@ -124,3 +124,19 @@ module _ (f : DeskFixed) (caller : ℕ) (log log' gap : List (ℕ × Event)) (ot
           seen = seen_gap f caller log log' gap held next same;
         }
     failed_read RangeFaults.NoMemory refused past lost page = ReadAnswer.out_of_memory record { others = events gap; is_gap = others; said = refl; seen = seen_gap f caller log log' gap held next same }
+
+    -- no node was met where the read is refused, if none was met where the range goes past the version's end
+    pub no_step_there : (before after : ℕ) → count ≤ max_read → (size_of (updates_in (desk_at f (log ++ gap)) blob) version < offset + count → after ≡ before)
+        → NoStepIfRefused (session_at f caller log' held next) blob version offset count before after
+    no_step_there before after few none =
+        let bytes : List ℕ = take count (drop offset (content (updates_in (desk_at f (log ++ gap)) blob) version)) in
+        let call = Calls.Read blob version offset count in
+        let now : outcome_in f (log' ++ []) caller call ≡ outcome_in f (log ++ gap) caller call = ap (λ (h : List (ℕ × Event)). outcome_in f h caller call) (append-nil log' ∙ same) in
+        record {
+          refused = λ r e. elim (cases_lt (size_of (updates_in (desk_at f (log ++ gap)) blob) version) (offset + count)) [
+            | inl past ↦ none past
+            | inr within ↦
+                absurd (not_both r bytes (sym e ∙ (outcome_of_gap f caller log' log' [] held next call ∙ (now ∙ read_within f (log ++ gap) caller blob version offset count n there within))))
+          ];
+          too_long = λ long. absurd (omega (arith, few));
+        }

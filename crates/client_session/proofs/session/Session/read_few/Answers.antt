@@ -18,10 +18,10 @@ use Rattle.request_form.specs.declared.form.Reply.{Reply}
 use Rattle.request_form.specs.declared.form.Reply.TheVariants as Replies
 use Rattle.client_session.specs.Parts.{IsMet, OnPageLost}
 use Rattle.client_session.specs.Results.{desk_fault, range_fault}
-use Rattle.client_session.specs.Sessions.{session_at}
+use Rattle.client_session.specs.Sessions.{session_at, NoStepIfRefused}
 use Rattle.client_session.proofs.Turns.{Took, took, went_opened}
 use Rattle.client_session.proofs.Standing.{session_after, session_doors}
-use Rattle.client_session.proofs.RangeAnswers.{few_enough, refused_read, content_read, failed_read}
+use Rattle.client_session.proofs.RangeAnswers.{few_enough, refused_read, content_read, failed_read, no_step_there}
 use Rattle.client_session.proofs.session.Session.read_few.Goals as goal
 
 pub invariant_of-self : goal.invariant_of-self
@@ -152,3 +152,27 @@ returns-clause-answers g c =
     rw (← c.self.view_is, same, c.fault_of_reading.ensures)
     (few_enough s c.args.count reply s' (ReadAnswer AllOther s c.args.blob c.args.version c.args.offset c.args.count reply s') c.requires
     (subst (λ (n : ℕ). ReadAnswer AllOther s c.args.blob n c.args.offset c.args.count reply s') snap.rows answer))
+
+pub returns-clause-no_step : goal.returns-clause-no_step
+returns-clause-no_step g c =
+    let i = c.self.inside in
+    let by = i.pass.caller in
+    let fixed = i.shared.now.fixed in
+    let new = c.snapshot_of.new.pass in
+    let r : Result Version DeskFault = Ok c.in-Ok.snapshot in
+    let t : Took by i.pass.seen new.seen (λ before after. Opened fixed c.args.blob c.args.version before by r after) =
+    took c.gaps_are_of_others.ensures fixed i.pass new (λ before f after. Opened f c.args.blob c.args.version before by r after) c.self.invariant.pass_is.fixed (λ before after x. x.log) c.in-Ok.ensures.turned
+    in
+    let same : new.caller ≡ by = ap (λ (p : Seat Event DeskFixed). p.caller) c.snapshot_of.ensures.pass in
+    let s' : Session = session_at fixed by new.seen i.held i.next in
+    let v : Version = c.in-Ok.snapshot in
+    let us : List Update = updates_in (desk_at fixed (i.pass.seen ++ t.gap)) c.args.blob in
+    let snap = t.gives.snapshot in
+    let tells : TellUpdates v.page_size us v.rows = subst (λ (p : ℕ). TellUpdates p us v.rows) (sym snap.page_size) snap.tells in
+    let there : outcome_in fixed (i.pass.seen ++ t.gap) by (Calls.Size c.args.blob (length v.rows)) ≡ Outcomes.Size (size_now v) =
+    subst (λ (n : ℕ). outcome_in fixed (i.pass.seen ++ t.gap) by (Calls.Size c.args.blob n) ≡ Outcomes.Size (size_now v)) (sym snap.rows) t.gives.done
+    in
+    let none = no_step_there fixed by i.pass.seen new.seen t.gap t.others t.gives.same i.held i.next c.args.blob (length v.rows) c.args.offset c.args.count (size_now v) there
+    c.args.steps.now c.read_range.new.steps c.requires (c.in-Err-read_range.ensures.no_steps us tells)
+    in
+    rw (same) (subst (λ (n : ℕ). NoStepIfRefused s' c.args.blob n c.args.offset c.args.count c.args.steps.now c.read_range.new.steps) snap.rows none)
