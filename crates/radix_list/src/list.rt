@@ -21,7 +21,6 @@ const TAIL: u64 = 8;
 /// A list never changes: what adds an item or takes some away makes another list, which shares with this one the items and
 /// all nodes but the tail, or but those on one path where the tail was full. A list from which items were taken away keeps
 /// them, unseen.
-#[derive(Drop)]
 pub struct RadixList<T> {
     body: PackedList<T>,
     // the items after the body's
@@ -29,6 +28,18 @@ pub struct RadixList<T> {
     // how many of both are the list's
     len: u64,
     alloc: Global,
+}
+
+// By hand, so that it is one call wherever a list is let go: a derived drop stands, with all its branches, at each such place.
+impl<T: Drop> Drop for RadixList<T> {
+    fn drop(self) {
+        let RadixList {
+            body: _,
+            tail: _,
+            len: _,
+            alloc: _,
+        } = self;
+    }
 }
 
 impl<T> Model for RadixList<T> {

@@ -22,12 +22,22 @@ type Root<T> = Branch<Limb<T>>;
 
 /// A list of up to 1,048,576 shared items. It never changes: what adds items to a front of it makes another list, which
 /// shares with this one all nodes but those on one path, and all items.
-#[derive(Drop)]
 pub(crate) struct PackedList<T> {
     // none where there are no items
     root: Option<Arc<Root<T>>>,
     len: u64,
     alloc: Global,
+}
+
+// By hand, as that of `RadixList`.
+impl<T: Drop> Drop for PackedList<T> {
+    fn drop(self) {
+        let PackedList {
+            root: _,
+            len: _,
+            alloc: _,
+        } = self;
+    }
 }
 
 impl<T> Model for PackedList<T> {
