@@ -1,11 +1,13 @@
 //! Doors that are asked beside each other.
+ghost use Rattle.std.specs.Prelude.{◌≡◌, length};
+
 use page_fan::{BesideDoor, Doors, Put, Stand, put_all_groups, store};
 use page_store::{Door, DoorMaker, GetAnswer, Houses, NoMemory, PageHouse, PageRef, PutAnswer};
 use provider_manager::LoadBook;
 use std::alloc::Global;
+use std::process::Abort;
 use std::sync::Wait;
 use std::sync::atomic::{AtomicBool, Ordering};
-use std::test::Fail;
 use std::thread;
 use std::thread::Threads;
 use tree_geom::PageSize;
@@ -97,9 +99,26 @@ impl<'a> DoorMaker for MeetingMaker<'a> {
     }
 }
 
-#[test]
-fn two_doors_see_each_other(rt: HostRuntime) -> Result<(), Fail> {
+// How many pages are stored, of two that go to a door each.
+fn stored_pages<'a, R: Abort + AllocGlobal + Threads + Wait + Sync>(
+    rt: &R,
+    doors: &mut Doors<MeetingDoor<'a>>,
+    houses: &Houses,
+) -> Option<u32>
+    requires doors { length doors.old ≡ 2 }
+    requires houses { length houses.now ≡ 2 }
+{
     let alloc: Global = rt.alloc();
+    let mut book = LoadBook::new(alloc, 2, 1).expect(rt, "memory");
+    let placements = book.place(alloc, 2).expect(rt, "memory");
+    let p = PageSize::new(65_536).expect(rt, "page size");
+    let bytes = vec![in alloc; 7u8; 131_072].expect(rt, "memory");
+    let stored = store(rt, alloc, doors, houses, p, bytes.as_slice(), &placements);
+    stored.map(|pages| pages.count()).ok()
+}
+
+#[test]
+fn two_doors_see_each_other(rt: HostRuntime) {
     let first = AtomicBool::new(false);
     let second = AtomicBool::new(false);
     let mut maker = MeetingMaker {
@@ -107,23 +126,9 @@ fn two_doors_see_each_other(rt: HostRuntime) -> Result<(), Fail> {
         second: &second,
         faults: 0,
     };
-    let houses = Houses::new(alloc, 2)?;
-    let mut doors = Doors::new(alloc, &mut maker, 2)?;
-    let mut book = LoadBook::new(alloc, 2, 1)?;
-    let placements = book.place(alloc, 2)?;
-    let p = PageSize::new(65_536).ok_or("page size")?;
-    let bytes = vec![in alloc; 7u8; 131_072]?;
-    let stored = store(
-        &rt,
-        alloc,
-        &mut doors,
-        &houses,
-        p,
-        bytes.as_slice(),
-        &placements,
-    );
-    assert_eq!(rt; stored.map(|pages| pages.count()).ok(), Some(2));
+    let houses = Houses::new(rt.alloc(), 2).expect(&rt, "memory");
+    let mut doors = Doors::new(rt.alloc(), &mut maker, 2).expect(&rt, "memory");
+    assert_eq!(rt; stored_pages(&rt, &mut doors, &houses), Some(2));
     doors.back(&mut maker);
     assert_eq!(rt; maker.faults, 0);
-    Ok(())
 }

@@ -1,5 +1,5 @@
 // Pages, ranges and touched pages: worked values.
-use std::test::Fail;
+use std::process::Abort;
 use tree_geom::{PageSize, Range, halves, height, meets, span, touched};
 
 #[test]
@@ -16,29 +16,35 @@ fn page_sizes_are_powers_of_two(rt: HostRuntime) {
     }
 }
 
+fn check_spans<R: Abort>(rt: &R, p: PageSize) {
+    assert_eq!(rt; [span(p, 0), span(p, 4), span(p, 9)], [0, 4, 16]);
+    assert_eq!(rt; [height(p, 4), height(p, 9)], [0, 2]);
+}
+
+fn check_halves<R: Abort>(rt: &R) {
+    let whole = Range {
+        offset: 0,
+        size: 16,
+    };
+    let low = Range { offset: 0, size: 8 };
+    let high = Range { offset: 8, size: 8 };
+    assert_eq!(rt; halves(whole), (low, high));
+}
+
+fn check_meetings<R: Abort>(rt: &R, p: PageSize) {
+    let touch = touched(p, 4, 4, 8);
+    assert!(rt; meets(p, &touch, Range { offset: 0, size: 8 }));
+    assert!(rt; !meets(p, &touch, Range { offset: 8, size: 8 }));
+    assert!(rt; !meets(p, &touch, Range { offset: 0, size: 4 }));
+}
+
 #[test]
-fn worked_pages_and_ranges(rt: HostRuntime) -> Result<(), Fail> {
-    let p = PageSize::new(4).ok_or("4 bytes")?;
+fn worked_pages_and_ranges(rt: HostRuntime) {
+    let p = PageSize::new(4).expect(&rt, "4 bytes");
     assert_eq!(rt; p.bytes(), 4);
     let grown = touched(p, 1, 31, 32);
     assert_eq!(rt; (grown.first, grown.last, grown.size), (0, 7, 32));
-    assert_eq!(rt; span(p, 0), 0);
-    assert_eq!(rt; span(p, 4), 4);
-    assert_eq!(rt; span(p, 9), 16);
-    assert_eq!(rt; height(p, 4), 0);
-    assert_eq!(rt; height(p, 9), 2);
-    let low = Range { offset: 0, size: 8 };
-    let high = Range { offset: 8, size: 8 };
-    assert_eq!(rt;
-        halves(Range {
-            offset: 0,
-            size: 16
-        }),
-        (low, high)
-    );
-    let touch = touched(p, 4, 4, 8);
-    assert!(rt; meets(p, &touch, low));
-    assert!(rt; !meets(p, &touch, high));
-    assert!(rt; !meets(p, &touch, Range { offset: 0, size: 4 }));
-    Ok(())
+    check_spans(&rt, p);
+    check_halves(&rt);
+    check_meetings(&rt, p);
 }

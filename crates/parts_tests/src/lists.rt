@@ -1,24 +1,32 @@
 // Lists that share their nodes.
-ghost use Rattle.std.specs.Prelude.{◌≡◌, ◌<◌, ◌≤◌, IfSome, length};
+ghost use Rattle.std.specs.Prelude.{◌≡◌, ◌+◌, ◌<◌, ◌≤◌, length};
 
 use radix_list::RadixList;
-use std::alloc::Global;
 use std::marker::Brand;
+use std::process::Abort;
 use std::sync::Arc;
 use std::sync::ledger::{Blank, Ledger};
-use std::test::Fail;
 use tree_geom::Steps;
 
-/// The list of the numbers below `count`.
-fn numbers(alloc: Global, count: u64) -> Option<RadixList<u64>>
-    requires { count ≤ 1048576 }
-    ensures { IfSome result (λ list. length list ≡ count) }
+/// The list with the number at its end.
+fn with_number<R: Abort + AllocGlobal>(rt: &R, list: &RadixList<u64>, number: u64) -> RadixList<u64>
+    requires { length list.now < 1048576 }
+    ensures { length result ≡ length list.now + 1 }
 {
-    let mut list = RadixList::empty(alloc);
+    let item = Arc::new(rt.alloc(), number).expect(rt, "memory");
+    list.push(item).expect(rt, "memory")
+}
+
+/// The list of the numbers below `count`.
+fn numbers<R: Abort + AllocGlobal>(rt: &R, count: u64) -> RadixList<u64>
+    requires { count ≤ 1048576 }
+    ensures { length result ≡ count }
+{
+    let mut list = RadixList::empty(rt.alloc());
     for number in 0..count {
-        list = list.push(Arc::new(alloc, number).ok()?).ok()?;
+        list = with_number(rt, &list, number);
     }
-    Some(list)
+    list
 }
 
 /// Item `i`, and the steps to it.
@@ -48,17 +56,21 @@ fn is_numbers(list: &RadixList<u64>, count: u64, body: u64) -> bool {
     list.len() == count && item(list, count).0.is_none()
 }
 
-#[test]
-fn a_new_level_leaves_the_older_list_as_it_was(rt: HostRuntime) -> Result<(), Fail> {
-    let before = numbers(rt.alloc(), 1_024).ok_or("1,024 numbers")?;
-    let after = before.push(Arc::new(rt.alloc(), 1_024)?)?;
-    assert!(rt; is_numbers(&after, 1_025, 1_024));
-    assert!(rt; is_numbers(&before, 1_024, 1_016));
-    Ok(())
+/// Checks that the list is of the numbers below `count`, as `is_numbers` tells.
+fn check_numbers<R: Abort>(rt: &R, list: &RadixList<u64>, count: u64, body: u64) {
+    assert!(rt; is_numbers(list, count, body), "{count} numbers");
 }
 
 #[test]
-fn a_full_tail_goes_into_a_leaf(rt: HostRuntime) -> Result<(), Fail> {
+fn a_new_level_leaves_the_older_list_as_it_was(rt: HostRuntime) {
+    let before = numbers(&rt, 1_024);
+    let after = with_number(&rt, &before, 1_024);
+    check_numbers(&rt, &after, 1_025, 1_024);
+    check_numbers(&rt, &before, 1_024, 1_016);
+}
+
+#[test]
+fn a_full_tail_goes_into_a_leaf(rt: HostRuntime) {
     for (count, body) in [
         (0u8, 0u8),
         (1, 0),
@@ -70,72 +82,78 @@ fn a_full_tail_goes_into_a_leaf(rt: HostRuntime) -> Result<(), Fail> {
         (33, 32),
         (41, 40),
     ] {
-        let list = numbers(rt.alloc(), count.into()).ok_or("some numbers")?;
-        assert!(rt;
-            is_numbers(&list, count.into(), body.into()),
-            "{count} numbers"
-        );
+        let list = numbers(&rt, count.into());
+        check_numbers(&rt, &list, count.into(), body.into());
     }
-    Ok(())
+}
+
+/// Checks a list of three numbers and of 700 after them.
+fn check_grown<R: Abort>(rt: &R, list: &RadixList<u64>) {
+    assert_eq!(rt; list.len(), 4);
+    assert_eq!(rt;
+        [item(list, 2), item(list, 3)],
+        [(Some(2), 4), (Some(700), 4)]
+    );
+    assert_eq!(rt; item(list, 4).0, None);
 }
 
 #[test]
-fn a_prefix_grows_apart_from_its_list(rt: HostRuntime) -> Result<(), Fail> {
-    let list = numbers(rt.alloc(), 1_025).ok_or("1,025 numbers")?;
-    let other = list.prefix(3)?.push(Arc::new(rt.alloc(), 700)?)?;
-    assert_eq!(rt; other.len(), 4);
-    assert_eq!(rt; item(&other, 2), (Some(2), 4));
-    assert_eq!(rt; item(&other, 3), (Some(700), 4));
-    assert_eq!(rt; item(&other, 4).0, None);
-    assert!(rt; is_numbers(&list, 1_025, 1_024));
-    assert!(rt; is_numbers(&list.share()?, 1_025, 1_024));
-    Ok(())
+fn a_prefix_grows_apart_from_its_list(rt: HostRuntime) {
+    let list = numbers(&rt, 1_025);
+    let prefix = list.prefix(3).expect(&rt, "memory");
+    check_grown(&rt, &with_number(&rt, &prefix, 700));
+    check_numbers(&rt, &list, 1_025, 1_024);
+    let shared = list.share().expect(&rt, "memory");
+    check_numbers(&rt, &shared, 1_025, 1_024);
 }
 
-/// Whether a prefix of the numbers below 21, which end in a tail of five, grows on by the numbers after it, in a leaf up to the
-/// next of 8 items, and leaves the list as it was.
-fn grows_on(alloc: Global, list: &RadixList<u64>, count: u64) -> Option<bool>
-    requires { count < 1000000 }
+/// The first `count` numbers of the list, and the twelve after them.
+fn grown<R: Abort + AllocGlobal>(rt: &R, list: &RadixList<u64>, count: u64) -> RadixList<u64>
+    requires within { count ≤ length list.now }
+    requires few { count < 1000000 }
 {
-    if count > list.len() {
-        return None;
-    }
-    let mut longer = list.prefix(count).ok()?;
+    let mut longer = list.prefix(count).expect(rt, "memory");
     for number in count..count + 12 {
-        if longer.len() != number {
-            return Some(false);
-        }
-        longer = longer.push(Arc::new(alloc, number).ok()?).ok()?;
+        assert!(rt; longer.len() == number);
+        longer = with_number(rt, &longer, number);
     }
-    for number in 0..count + 12 {
-        if item(&longer, number).0 != Some(number) {
-            return Some(false);
+    longer
+}
+
+/// Whether the list is of the numbers below `count`, wherever they lie.
+fn has_numbers(list: &RadixList<u64>, count: u64) -> bool {
+    for number in 0..count {
+        if item(list, number).0 != Some(number) {
+            return false;
         }
     }
-    Some(longer.len() == count + 12 && is_numbers(list, 21, 16))
+    list.len() == count
+}
+
+/// Checks that a prefix of the numbers below 21, which end in a tail of five, grows on by the numbers after it, in a leaf up to
+/// the next of 8 items, and leaves the list as it was.
+fn check_grows_on<R: Abort + AllocGlobal>(rt: &R, list: &RadixList<u64>, count: u64)
+    requires within { count ≤ length list.now }
+    requires few { count < 1000000 }
+{
+    let longer = grown(rt, list, count);
+    assert!(rt; has_numbers(&longer, count + 12), "at {count}");
+    check_numbers(rt, list, 21, 16);
 }
 
 #[test]
-fn each_prefix_grows_on(rt: HostRuntime) -> Result<(), Fail> {
-    let list = numbers(rt.alloc(), 21).ok_or("21 numbers")?;
+fn each_prefix_grows_on(rt: HostRuntime) {
+    let list = numbers(&rt, 21);
     for count in 0..22u64 {
-        assert_eq!(rt;
-            grows_on(rt.alloc(), &list, count),
-            Some(true),
-            "at {count}"
-        );
+        check_grows_on(&rt, &list, count);
     }
-    Ok(())
 }
 
 #[test]
-fn a_list_is_cut_beside_the_ends_of_nodes(rt: HostRuntime) -> Result<(), Fail> {
-    let list = numbers(rt.alloc(), 1_025).ok_or("1,025 numbers")?;
+fn a_list_is_cut_beside_the_ends_of_nodes(rt: HostRuntime) {
+    let list = numbers(&rt, 1_025);
     for count in [0, 31, 32, 33, 1_023, 1_024, 1_025] {
-        assert!(rt;
-            is_numbers(&list.prefix(count)?, count, 1_024),
-            "at {count}"
-        );
+        let prefix = list.prefix(count).expect(&rt, "memory");
+        check_numbers(&rt, &prefix, count, 1_024);
     }
-    Ok(())
 }

@@ -1,63 +1,82 @@
 //! Tests of the choice of providers and of the book of loads.
+ghost use Rattle.std.specs.Prelude.{◌≤◌, length};
 
-use provider_manager::{LoadBook, PlaceFault};
+use provider_manager::{LoadBook, PlaceFault, Placements};
 use replica_place::choose;
-use std::test::Fail;
+use std::process::Abort;
+
+fn check_chosen<R: Abort>(rt: &R, loads: &[u64], replicas: u32, want: &[u32])
+    requires some { 1 ≤ replicas }
+    requires room { replicas ≤ 8 }
+    requires enough { replicas ≤ length loads.now }
+    requires limit { length loads.now ≤ 64 }
+{
+    assert_eq!(rt; choose(loads, replicas).chosen(), want);
+}
 
 #[test]
 fn chooses_by_load_and_then_by_number(rt: HostRuntime) {
-    assert_eq!(rt; choose(&[2, 1, 1], 2).chosen(), [2, 3].as_slice());
-    assert_eq!(rt; choose(&[0, 0, 0], 2).chosen(), [1, 2].as_slice());
-    assert_eq!(rt; choose(&[1, 1, 0], 2).chosen(), [3, 1].as_slice());
-    assert_eq!(rt; choose(&[7], 1).chosen(), [1].as_slice());
-    assert_eq!(rt;
-        choose(&[9, 8, 7, 6, 5, 4, 3, 2, 1], 8).chosen(),
-        [9, 8, 7, 6, 5, 4, 3, 2].as_slice()
+    check_chosen(&rt, &[2, 1, 1], 2, &[2, 3]);
+    check_chosen(&rt, &[0, 0, 0], 2, &[1, 2]);
+    check_chosen(&rt, &[1, 1, 0], 2, &[3, 1]);
+    check_chosen(&rt, &[7], 1, &[1]);
+    check_chosen(
+        &rt,
+        &[9, 8, 7, 6, 5, 4, 3, 2, 1],
+        8,
+        &[9, 8, 7, 6, 5, 4, 3, 2],
     );
 }
 
 #[test]
-fn a_full_book_places_nothing_more(rt: HostRuntime) -> Result<(), Fail> {
+fn a_full_book_places_nothing_more(rt: HostRuntime) {
     let half = 1 << 61;
-    let mut book = LoadBook::with_loads(rt.alloc(), &[half, half], 1)?;
+    let mut book = LoadBook::with_loads(rt.alloc(), &[half, half], 1).expect(&rt, "memory");
     assert_eq!(rt;
         book.place(rt.alloc(), 1).err(),
         Some(PlaceFault::PlacesSpent)
     );
-    Ok(())
+}
+
+/// The placements of the next pages.
+fn placed<R: Abort + AllocGlobal>(rt: &R, book: &mut LoadBook, pages: u32) -> Placements {
+    book.place(rt.alloc(), pages).expect(rt, "places")
+}
+
+/// Checks the providers of each page.
+fn check_placed<R: Abort>(rt: &R, placed: &Placements, want: &[&[u32]]) {
+    assert_eq!(rt; placed.count() as usize, want.len());
+    for page in 0..placed.count() {
+        assert_eq!(rt;
+            placed.of(page).chosen(),
+            want[page as usize],
+            "page {page}"
+        );
+    }
 }
 
 #[test]
-fn the_last_replica_is_placed_after_a_refusal(rt: HostRuntime) -> Result<(), Fail> {
+fn the_last_replica_is_placed_after_a_refusal(rt: HostRuntime) {
     let half = 1 << 61;
-    let mut book = LoadBook::with_loads(rt.alloc(), &[half, half - 1], 1)?;
+    let mut book = LoadBook::with_loads(rt.alloc(), &[half, half - 1], 1).expect(&rt, "memory");
     assert_eq!(rt;
         book.place(rt.alloc(), 2).err(),
         Some(PlaceFault::PlacesSpent)
     );
-    let placed = book.place(rt.alloc(), 1)?;
-    assert_eq!(rt; placed.count(), 1);
-    assert_eq!(rt; placed.of(0).chosen(), [2].as_slice());
-    Ok(())
+    check_placed(&rt, &placed(&rt, &mut book, 1), &[&[2]]);
 }
 
 #[test]
-fn pages_take_turns(rt: HostRuntime) -> Result<(), Fail> {
-    let mut book = LoadBook::new(rt.alloc(), 3, 2)?;
-    let placed = book.place(rt.alloc(), 3)?;
-    assert_eq!(rt; placed.count(), 3);
-    assert_eq!(rt; placed.of(0).chosen(), [1, 2].as_slice());
-    assert_eq!(rt; placed.of(1).chosen(), [3, 1].as_slice());
-    assert_eq!(rt; placed.of(2).chosen(), [2, 3].as_slice());
-    let more = book.place(rt.alloc(), 1)?;
-    assert_eq!(rt; more.count(), 1);
-    assert_eq!(rt; more.of(0).chosen(), [1, 2].as_slice());
-    Ok(())
+fn pages_take_turns(rt: HostRuntime) {
+    let mut book = LoadBook::new(rt.alloc(), 3, 2).expect(&rt, "memory");
+    let first = placed(&rt, &mut book, 3);
+    check_placed(&rt, &first, &[&[1, 2], &[3, 1], &[2, 3]]);
+    let more = placed(&rt, &mut book, 1);
+    check_placed(&rt, &more, &[&[1, 2]]);
 }
 
 #[test]
-fn no_pages_have_no_placements(rt: HostRuntime) -> Result<(), Fail> {
-    let mut book = LoadBook::new(rt.alloc(), 64, 8)?;
-    assert_eq!(rt; book.place(rt.alloc(), 0)?.count(), 0);
-    Ok(())
+fn no_pages_have_no_placements(rt: HostRuntime) {
+    let mut book = LoadBook::new(rt.alloc(), 64, 8).expect(&rt, "memory");
+    check_placed(&rt, &placed(&rt, &mut book, 0), &[]);
 }
