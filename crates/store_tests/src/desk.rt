@@ -1,17 +1,18 @@
 //! Tests of a desk, in pages of four bytes. What it answers is spelled as a session would say it.
-ghost use Rattle.std.specs.Prelude.{◌≡◌, ◌≤◌, length, IfOk, [], ◌∷◌};
+ghost use Rattle.std.specs.Prelude.{◌≡◌, ◌≤◌, length, All};
 ghost use Rattle.std.specs.Arc.{arc_value};
+ghost use Rattle.page_store.specs.House.{IsProvider};
 ghost use Rattle.page_store.specs.Stored.{bytes_of_pages, LieAmong};
 
 use blob_model::{Limits, Outcome, Place, Refusal};
 use page_fan::{Doors, store};
 use page_store::{Houses, Pages, PlainDoor, PlainMaker};
-use provider_manager::LoadBook;
+use provider_manager::{LoadBook, Placements};
 use request_form::{Dialect, Reply};
 use script_text::ScriptDialect;
 use std::alloc::Global;
+use std::process::Abort;
 use std::sync::{Arc, Wait};
-use std::test::Fail;
 use std::thread::Threads;
 use tree_geom::PageSize;
 use version_manager::{Desk, DeskFault};
@@ -53,44 +54,79 @@ enum DeskCall {
     },
 }
 
+// One house, for the pages of one provider.
+fn one_house<R: Abort>(rt: &R, alloc: Global) -> Arc<Houses>
+    ensures { length (arc_value result) ≡ 1 }
+{
+    let houses = Houses::new(alloc, 1).expect(rt, "memory");
+    Arc::new(alloc, houses).expect(rt, "memory")
+}
+
+// A door to one provider.
+fn one_door<R: Abort>(rt: &R, alloc: Global) -> Doors<PlainDoor>
+    ensures { length result ≡ 1 }
+{
+    Doors::new(alloc, &mut PlainMaker::new(), 1).expect(rt, "memory")
+}
+
+// Pages of four bytes.
+fn four_bytes<R: Abort>(rt: &R) -> PageSize
+    ensures { result ≡ 4 }
+{
+    PageSize::new(4).expect(rt, "four bytes")
+}
+
+// A desk with no blobs.
+fn desk_of<R: Abort>(rt: &R, alloc: Global, limits: Limits, houses: &Arc<Houses>) -> Desk
+    ensures page_size { result.page_size ≡ 4 }
+    ensures housed { result.houses ≡ arc_value houses.now }
+{
+    let p = four_bytes(rt);
+    Desk::new(alloc, limits, p, houses).expect(rt, "memory")
+}
+
+// The places of two pages at one provider.
+fn two_places<R: Abort>(rt: &R, alloc: Global) -> Placements
+    ensures pages { length result ≡ 2 }
+    ensures served { All (All (IsProvider 1)) result }
+{
+    let mut book = LoadBook::new(alloc, 1, 1).expect(rt, "memory");
+    book.place(alloc, 2).expect(rt, "places")
+}
+
 // The stored pages of so many bytes, one to eight, at one provider.
-pub(crate) fn pages_of<R: Threads + Wait + Sync>(
+pub(crate) fn pages_of<R: Threads + Wait + Sync + Abort>(
     rt: &R,
     alloc: Global,
     doors: &mut Doors<PlainDoor>,
     houses: &Houses,
     count: usize,
-) -> Result<Arc<Pages>, Fail>
+) -> Arc<Pages>
     requires doors { length doors.old ≡ 1 }
     requires houses { length houses.now ≡ 1 }
-    ensures some { IfOk result (λ pages. 1 ≤ length (bytes_of_pages (arc_value pages).pages)) }
-    ensures few { IfOk result (λ pages. length (bytes_of_pages (arc_value pages).pages) ≤ 8) }
-    ensures page_size { IfOk result (λ pages. (arc_value pages).page_size ≡ 4) }
-    ensures here { IfOk result (λ pages. LieAmong houses.now (arc_value pages).pages) }
+    ensures some { 1 ≤ length (bytes_of_pages (arc_value result).pages) }
+    ensures few { length (bytes_of_pages (arc_value result).pages) ≤ 8 }
+    ensures page_size { (arc_value result).page_size ≡ 4 }
+    ensures here { LieAmong houses.now (arc_value result).pages }
     ensures doors { length doors.new ≡ 1 }
 {
-    if count == 0 || count > BYTES.len() {
-        return Err("one to eight bytes".into());
-    }
-    let mut book = LoadBook::new(alloc, 1, 1)?;
-    let placed = book.place(alloc, 2)?;
-    let p = PageSize::new(4).ok_or("four bytes")?;
-    match store(rt, alloc, doors, houses, p, &BYTES[..count], &placed) {
-        Ok(pages) => Ok(Arc::new(alloc, pages)?),
-        Err(fault) => Err(fault.into()),
-    }
+    assert!(rt; count >= 1 && count <= BYTES.len(), "one to eight bytes");
+    let placed = two_places(rt, alloc);
+    let p = four_bytes(rt);
+    let pages = store(rt, alloc, doors, houses, p, &BYTES[..count], &placed).expect(rt, "pages");
+    Arc::new(alloc, pages).expect(rt, "memory")
 }
 
 // A fault of the desk as its outcome; there is to be memory.
-fn refused(fault: DeskFault) -> Result<Outcome, Fail> {
+fn refused<R: Abort>(rt: &R, fault: DeskFault) -> Outcome {
     match fault {
-        DeskFault::Refused(refusal) => Ok(Outcome::Refused(refusal)),
-        DeskFault::NoMemory => Err("no memory".into()),
+        DeskFault::Refused(refusal) => Outcome::Refused(refusal),
+        DeskFault::NoMemory => panic!(rt; "no memory"),
     }
 }
 
 // Numbers an update.
-fn assign(desk: &mut Desk, blob: u64, place: Place, pages: &Arc<Pages>) -> Result<Outcome, Fail>
+fn assign<R: Abort>(rt: &R, desk: &mut Desk, blob: u64, place: Place, pages: &Arc<Pages>) -> Outcome
     requires some { 1 ≤ length (bytes_of_pages (arc_value pages.now).pages) }
     requires few { length (bytes_of_pages (arc_value pages.now).pages) ≤ 8 }
     requires cut { (arc_value pages.now).page_size ≡ 4 }
@@ -100,32 +136,55 @@ fn assign(desk: &mut Desk, blob: u64, place: Place, pages: &Arc<Pages>) -> Resul
     ensures houses { desk.new.houses ≡ desk.old.houses }
 {
     match desk.assign(CALLER, blob, place, pages) {
-        Ok(ticket) => Ok(Outcome::Assigned {
+        Ok(ticket) => Outcome::Assigned {
             version: ticket.version(),
             at: ticket.at(),
             size: ticket.size(),
-        }),
-        Err(fault) => refused(fault),
+        },
+        Err(fault) => refused(rt, fault),
     }
 }
 
+// Stores so many bytes, and numbers their update.
+fn update<R: Threads + Wait + Sync + Abort>(
+    rt: &R,
+    alloc: Global,
+    doors: &mut Doors<PlainDoor>,
+    houses: &Houses,
+    desk: &mut Desk,
+    blob: u64,
+    place: Place,
+    count: usize,
+) -> Outcome
+    requires doors { length doors.old ≡ 1 }
+    requires houses { length houses.now ≡ 1 }
+    requires page_size { desk.old.page_size ≡ 4 }
+    requires housed { desk.old.houses ≡ houses.now }
+    ensures doors { length doors.new ≡ 1 }
+    ensures page_size { desk.new.page_size ≡ 4 }
+    ensures housed { desk.new.houses ≡ houses.now }
+{
+    let pages = pages_of(rt, alloc, doors, houses, count);
+    assign(rt, desk, blob, place, &pages)
+}
+
 // A new blob's outcome.
-fn made(blob: Result<u64, DeskFault>) -> Result<Outcome, Fail> {
+fn made<R: Abort>(rt: &R, blob: Result<u64, DeskFault>) -> Outcome {
     match blob {
-        Ok(blob) => Ok(Outcome::Blob(blob)),
-        Err(fault) => refused(fault),
+        Ok(blob) => Outcome::Blob(blob),
+        Err(fault) => refused(rt, fault),
     }
 }
 
 // What the desk answers to one step.
-fn outcome_of<R: Threads + Wait + Sync>(
+fn outcome_of<R: Threads + Wait + Sync + Abort>(
     rt: &R,
     alloc: Global,
     doors: &mut Doors<PlainDoor>,
     houses: &Houses,
     desk: &mut Desk,
     step: DeskCall,
-) -> Result<Outcome, Fail>
+) -> Outcome
     requires doors { length doors.old ≡ 1 }
     requires houses { length houses.now ≡ 1 }
     requires page_size { desk.old.page_size ≡ 4 }
@@ -135,30 +194,30 @@ fn outcome_of<R: Threads + Wait + Sync>(
     ensures housed { desk.new.houses ≡ houses.now }
 {
     match step {
-        DeskCall::Create => made(desk.create(CALLER)),
-        DeskCall::Branch { blob, version } => made(desk.branch(CALLER, blob, version)),
+        DeskCall::Create => made(rt, desk.create(CALLER)),
+        DeskCall::Branch { blob, version } => made(rt, desk.branch(CALLER, blob, version)),
         DeskCall::Append { blob, count } => {
-            let pages = pages_of(rt, alloc, doors, houses, count)?;
-            assign(desk, blob, Place::Append, &pages)
+            update(rt, alloc, doors, houses, desk, blob, Place::Append, count)
         }
         DeskCall::Write {
             blob,
             offset,
             count,
         } => {
-            let pages = pages_of(rt, alloc, doors, houses, count)?;
-            assign(desk, blob, Place::WriteAt(offset), &pages)
+            let place = Place::WriteAt(offset);
+            update(rt, alloc, doors, houses, desk, blob, place, count)
         }
-        DeskCall::Recent { blob } => Ok(desk.recent(blob)),
-        DeskCall::Size { blob, version } => Ok(desk.size(blob, version)),
-        DeskCall::Sync { blob, version } => Ok(desk.sync(blob, version)),
-        DeskCall::Status { blob } => Ok(desk.status(blob)),
+        DeskCall::Recent { blob } => desk.recent(blob),
+        DeskCall::Size { blob, version } => desk.size(blob, version),
+        DeskCall::Sync { blob, version } => desk.sync(blob, version),
+        DeskCall::Status { blob } => desk.status(blob),
     }
 }
 
-// The line of an outcome.
-fn line_of(dialect: &ScriptDialect, outcome: Outcome) -> Result<Vec<u8>, Fail> {
-    Ok(dialect.say(&Reply::of(outcome))?.into_vec())
+// Adds the line of an outcome to what was said.
+fn add_line<R: Abort>(rt: &R, dialect: &ScriptDialect, outcome: Outcome, said: &mut Vec<u8>) {
+    let line = dialect.say(&Reply::of(outcome)).expect(rt, "memory");
+    said.extend_from_slice(line.as_slice()).expect(rt, "memory");
 }
 
 const SMALL: Limits = Limits {
@@ -275,51 +334,65 @@ const ROWS: [(Limits, &[DeskCall], &str); 3] = [
 ];
 
 // The lines of all steps, at a desk of its own.
-fn lines_of<R: Threads + Wait + Sync>(
+fn lines_of<R: Threads + Wait + Sync + Abort>(
     rt: &R,
     alloc: Global,
     limits: Limits,
     steps: &[DeskCall],
-) -> Result<Vec<u8>, Fail> {
-    let dialect = ScriptDialect::new(alloc)?;
-    let houses = Arc::new(alloc, Houses::new(alloc, 1)?)?;
-    let mut doors = Doors::new(alloc, &mut PlainMaker::new(), 1)?;
-    let p = PageSize::new(4).ok_or("four bytes")?;
-    let mut desk = Desk::new(alloc, limits, p, &houses)?;
+) -> Vec<u8> {
+    let dialect = ScriptDialect::new(alloc).expect(rt, "memory");
+    let houses = one_house(rt, alloc);
+    let mut doors = one_door(rt, alloc);
+    let mut desk = desk_of(rt, alloc, limits, &houses);
     let mut said = Vec::new(alloc);
     for step in steps {
-        let outcome = outcome_of(rt, alloc, &mut doors, &houses, &mut desk, *step)?;
-        said.extend_from_slice(&line_of(&dialect, outcome)?)?;
+        let outcome = outcome_of(rt, alloc, &mut doors, &houses, &mut desk, *step);
+        add_line(rt, &dialect, outcome, &mut said);
     }
-    Ok(said)
+    said
 }
 
 #[test]
-fn a_desk_answers_each_step_by_its_line(rt: HostRuntime) -> Result<(), Fail> {
-    for (limits, steps, lines) in ROWS {
-        let said = lines_of(&rt, rt.alloc(), limits, steps)?;
+fn a_desk_answers_each_step_by_its_line(rt: HostRuntime) {
+    for (limits, steps, lines) in &ROWS {
+        let said = lines_of(&rt, rt.alloc(), *limits, steps);
         assert_eq!(rt; said.as_slice(), lines.as_bytes());
     }
-    Ok(())
+}
+
+// Numbers one more update of a blob, and gives its version.
+fn next_version(desk: &mut Desk, blob: u64, pages: &Arc<Pages>) -> Result<u64, DeskFault>
+    requires some { 1 ≤ length (bytes_of_pages (arc_value pages.now).pages) }
+    requires few { length (bytes_of_pages (arc_value pages.now).pages) ≤ 8 }
+    requires cut { (arc_value pages.now).page_size ≡ 4 }
+    requires page_size { desk.old.page_size ≡ 4 }
+    requires here { LieAmong desk.old.houses (arc_value pages.now).pages }
+    ensures page_size { desk.new.page_size ≡ 4 }
+    ensures houses { desk.new.houses ≡ desk.old.houses }
+{
+    match desk.assign(CALLER, blob, Place::Append, pages) {
+        Ok(ticket) => Ok(ticket.version()),
+        Err(fault) => Err(fault),
+    }
+}
+
+// Where so many updates wait, the next one gets its version, or is refused behind sixty-four.
+fn check_version<R: Abort>(rt: &R, before: u64, version: Result<u64, DeskFault>) {
+    let most = Err(DeskFault::Refused(Refusal::TooManyOpen { limit: 64 }));
+    let expected = if before < 64 { Ok(before + 1) } else { most };
+    assert_eq!(rt; version, expected);
 }
 
 #[test]
-fn a_blob_has_sixty_four_waiting_updates(rt: HostRuntime) -> Result<(), Fail> {
-    let alloc = rt.alloc();
-    let houses = Arc::new(alloc, Houses::new(alloc, 1)?)?;
-    let mut doors = Doors::new(alloc, &mut PlainMaker::new(), 1)?;
-    let p = PageSize::new(4).ok_or("four bytes")?;
-    let mut desk = Desk::new(alloc, Limits::greatest(), p, &houses)?;
-    let blob = desk.create(CALLER).ok().ok_or("no memory")?;
-    let pages = pages_of(&rt, alloc, &mut doors, &houses, 1)?;
+fn a_blob_has_sixty_four_waiting_updates(rt: HostRuntime) {
+    let alloc: Global = rt.alloc();
+    let houses = one_house(&rt, alloc);
+    let mut doors = one_door(&rt, alloc);
+    let mut desk = desk_of(&rt, alloc, Limits::greatest(), &houses);
+    let blob = desk.create(CALLER).expect(&rt, "a blob");
+    let pages = pages_of(&rt, alloc, &mut doors, &houses, 1);
     for before in 0..65u64 {
-        let version = match desk.assign(CALLER, blob, Place::Append, &pages) {
-            Ok(ticket) => Ok(ticket.version()),
-            Err(fault) => Err(fault),
-        };
-        let most = Err(DeskFault::Refused(Refusal::TooManyOpen { limit: 64 }));
-        let expected = if before < 64 { Ok(before + 1) } else { most };
-        assert_eq!(rt; version, expected);
+        let version = next_version(&mut desk, blob, &pages);
+        check_version(&rt, before, version);
     }
-    Ok(())
 }
