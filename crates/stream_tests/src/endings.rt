@@ -8,8 +8,8 @@ use ports::pair::Pair;
 use script_text::ScriptDialect;
 use server_core::{End, serve_stream};
 use std::alloc::Global;
+use std::process::Abort;
 use std::sync::Wait;
-use std::test::Fail;
 use std::thread::Threads;
 
 // A script, how its bytes come, how many bytes are taken of it and of the replies, and how it ends.
@@ -26,7 +26,7 @@ struct Row<'a> {
 
 const WRONG: &str = "error malformed\n";
 
-const ROWS: [Row; 12] = [
+static ROWS: [Row; 12] = [
     Row {
         script: "",
         piece: 1,
@@ -137,62 +137,73 @@ const ROWS: [Row; 12] = [
     },
 ];
 
-// How a stream is answered, and what is written.
-fn served<R: Wait + Threads + Sync>(
+fn source_of<R: Abort>(rt: &R, alloc: Global, row: &Row) -> MemSource
+    requires { 0 < row.now.piece }
+{
+    let bytes = row.script.as_bytes().to_vec(alloc).expect(rt, "memory");
+    let failing = row.failing.to_vec(alloc).expect(rt, "memory");
+    MemSource::new(bytes, row.piece, failing)
+}
+
+// How a stream is answered whose replies go into a sink.
+fn end_of<R: Abort + Wait + Threads + Sync>(
     rt: &R,
     alloc: Global,
     row: &Row,
-) -> Result<(End, Vec<u8>), Fail>
+    sink: &mut MemSink,
+) -> End
     requires piece { 0 < row.now.piece }
     requires limit { 1 ≤ row.now.limit }
 {
-    let mut dialect = ScriptDialect::new(alloc)?;
-    let mut source = MemSource::new(
-        row.script.as_bytes().to_vec(alloc)?,
-        row.piece,
-        row.failing.to_vec(alloc)?,
+    let mut dialect = ScriptDialect::new(alloc).expect(rt, "memory");
+    let source = &mut source_of(rt, alloc, row);
+    let mut io = Pair { source, sink };
+    serve_stream(rt, alloc, &mut Unasked, &mut dialect, &mut io, row.limit)
+}
+
+// Checks how a stream is answered, and what is written.
+fn check_row<R: Abort + Wait + Threads + Sync>(rt: &R, alloc: Global, row: &Row) {
+    assert!(rt; row.piece > 0 && row.limit > 0);
+    let mut sink = MemSink::new(alloc, row.room).expect(rt, "memory");
+    let end = end_of(rt, alloc, row, &mut sink);
+    check_end(rt, row, end, sink.bytes());
+}
+
+fn check_end<R: Abort>(rt: &R, row: &Row, end: End, written: &[u8]) {
+    assert_eq!(rt;
+        (end, written),
+        (row.end, row.replies.as_bytes()),
+        "{}",
+        row.script
     );
-    let mut sink = MemSink::new(alloc, row.room)?;
-    let mut io = Pair {
-        source: &mut source,
-        sink: &mut sink,
-    };
-    let end = serve_stream(rt, alloc, &mut Unasked, &mut dialect, &mut io, row.limit);
-    Ok((end, sink.bytes().to_vec(alloc)?))
 }
 
 #[test]
-fn streams_end_as_the_table_says(rt: HostRuntime) -> Result<(), Fail> {
-    for row in &ROWS {
-        assert!(rt; row.piece > 0 && row.limit > 0);
-        let (end, written) = served(&rt, rt.alloc(), row)?;
-        assert_eq!(rt; end, row.end, "{}", row.script);
-        assert_eq!(rt;
-            written.as_slice(),
-            row.replies.as_bytes(),
-            "{}",
-            row.script
-        );
+fn streams_end_as_the_table_says(rt: HostRuntime) {
+    for row in ROWS.as_slice() {
+        check_row(&rt, rt.alloc(), row);
     }
-    Ok(())
+}
+
+// Checks that a sink with room for so many bytes has these bytes of the whole reply.
+fn check_room<R: Abort + Wait + Threads + Sync>(rt: &R, alloc: Global, room: usize, replies: &str) {
+    let row = Row {
+        script: "x\nquit\n",
+        piece: 1,
+        failing: &[],
+        limit: 99,
+        room,
+        end: End::WriteFault,
+        replies,
+    };
+    check_row(rt, alloc, &row);
 }
 
 #[test]
-fn a_sink_may_fail_before_each_byte(rt: HostRuntime) -> Result<(), Fail> {
+fn a_sink_may_fail_before_each_byte(rt: HostRuntime) {
     let whole = "error malformed\nbye\n";
     for room in 0..whole.len() {
-        let row = Row {
-            script: "x\nquit\n",
-            piece: 1,
-            failing: &[],
-            limit: 99,
-            room,
-            end: End::WriteFault,
-            replies: whole,
-        };
-        let (end, written) = served(&rt, rt.alloc(), &row)?;
-        assert_eq!(rt; end, row.end);
-        assert_eq!(rt; written.as_slice(), &whole.as_bytes()[..room]);
+        let replies = whole.get(..room).expect(&rt, "characters of one byte");
+        check_room(&rt, rt.alloc(), room, replies);
     }
-    Ok(())
 }
