@@ -1,29 +1,26 @@
 //! The adapters over readers and writers of std, which may be interrupted, fail or take less than they are given.
 ghost use Rattle.std.specs.Prelude.{◌≤◌, length, IfOk};
 
-use crate::drained::{TEXT, check_drained, check_read, check_write};
+use crate::drained::{TEXT, check_bytes, check_drained, check_read, check_write};
 use ports::reader::ReaderSource;
 use ports::stream::{Taken, Written};
 use ports::writer::WriterSink;
+use std::alloc::Global;
 use std::io::{self, ErrorKind, Read, Write};
-use std::test::Fail;
+use std::process::Abort;
 
 static ROOMS: [usize; 4] = [1, 2, 7, 10000];
 
+fn check_room<R: Abort>(rt: &R, alloc: Global, room: usize) {
+    let mut source = ReaderSource::new(TEXT.as_slice());
+    check_drained(rt, alloc, &mut source, room, TEXT.as_slice(), Taken::End);
+}
+
 #[test]
-fn a_std_reader_gives_all_its_bytes_at_any_room(rt: HostRuntime) -> Result<(), Fail> {
+fn a_std_reader_gives_all_its_bytes_at_any_room(rt: HostRuntime) {
     for room in ROOMS.as_slice() {
-        let mut source = ReaderSource::new(TEXT.as_slice());
-        check_drained(
-            &rt,
-            rt.alloc(),
-            &mut source,
-            *room,
-            TEXT.as_slice(),
-            Taken::End,
-        )?;
+        check_room(&rt, rt.alloc(), *room);
     }
-    Ok(())
 }
 
 // A reader that is interrupted, gives a byte, fails, is interrupted, gives two bytes and ends. It writes over its whole buffer.
@@ -57,9 +54,7 @@ impl Read for RoughReader {
 }
 
 #[test]
-fn an_interrupted_read_is_tried_again_and_another_error_is_a_fault(
-    rt: HostRuntime,
-) -> Result<(), Fail> {
+fn an_interrupted_read_is_tried_again_and_another_error_is_a_fault(rt: HostRuntime) {
     let mut source = ReaderSource::new(RoughReader { calls: 0 });
     let mut buf = [b'.'; 4];
     check_read(&rt, &mut source, &mut buf, Taken::Got(1), b"a...");
@@ -68,18 +63,16 @@ fn an_interrupted_read_is_tried_again_and_another_error_is_a_fault(
     check_read(&rt, &mut source, &mut buf, Taken::End, b"bc..");
     let RoughReader { calls } = source.into_inner();
     assert_eq!(rt; calls, 6);
-    Ok(())
 }
 
 #[test]
-fn a_std_writer_gets_all_bytes(rt: HostRuntime) -> Result<(), Fail> {
+fn a_std_writer_gets_all_bytes(rt: HostRuntime) {
     let mut sink = WriterSink::new(Vec::new(rt.alloc()));
     check_write(&rt, &mut sink, b"ab", Written::Whole);
     check_write(&rt, &mut sink, b"", Written::Whole);
     check_write(&rt, &mut sink, b"cde", Written::Whole);
     let bytes = sink.into_inner();
-    assert_eq!(rt; bytes.as_slice(), b"abcde".as_slice());
-    Ok(())
+    check_bytes(&rt, bytes.as_slice(), b"abcde");
 }
 
 // A writer that takes two bytes, is interrupted, takes one, fails, takes none, and from then on one at a time.
@@ -117,7 +110,7 @@ impl Write for RoughWriter {
 }
 
 #[test]
-fn a_short_write_goes_on_and_an_error_or_no_byte_is_a_fault(rt: HostRuntime) -> Result<(), Fail> {
+fn a_short_write_goes_on_and_an_error_or_no_byte_is_a_fault(rt: HostRuntime) {
     let mut sink = WriterSink::new(RoughWriter {
         calls: 0,
         kept: Vec::new(rt.alloc()),
@@ -126,7 +119,6 @@ fn a_short_write_goes_on_and_an_error_or_no_byte_is_a_fault(rt: HostRuntime) -> 
     check_write(&rt, &mut sink, b"def", Written::Failed(0));
     check_write(&rt, &mut sink, b"def", Written::Whole);
     let RoughWriter { calls, kept } = sink.into_inner();
-    assert_eq!(rt; kept.as_slice(), b"abcdef".as_slice());
+    check_bytes(&rt, kept.as_slice(), b"abcdef");
     assert_eq!(rt; calls, 8);
-    Ok(())
 }

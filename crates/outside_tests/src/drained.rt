@@ -2,33 +2,45 @@
 ghost use Rattle.std.specs.Prelude.{◌<◌, length};
 
 use ports::stream::{Sink, Source, Taken, Written};
-use std::alloc::{AllocError, Global};
+use std::alloc::Global;
 use std::process::Abort;
-use std::test::Fail;
 
 /// What most sources here give.
 pub const TEXT: [u8; 9] = *b"abcdefghi";
 
-// The bytes that a source gives up to its first end or fault, and that answer.
-fn drain<S: Source>(
-    alloc: Global,
+// Reads once, adds the bytes that came, and hands on the answer.
+fn read_more<R: Abort, S: Source>(
+    rt: &R,
     source: &mut S,
-    room: usize,
-) -> Result<(Vec<u8>, Taken), AllocError>
-    requires { 0 < room }
+    buf: &mut [u8],
+    bytes: &mut Vec<u8>,
+) -> Taken
+    requires { 0 < length buf.old }
 {
-    let mut bytes = Vec::new(alloc);
-    let mut buf = vec![in alloc; 0u8; room]?;
+    let answer = source.read(buf);
+    if let Taken::Got(n) = answer {
+        bytes.extend_from_slice(&buf[..n]).expect(rt, "memory");
+    }
+    answer
+}
+
+// Adds the bytes that a source gives up to its first end or fault, and hands on that answer.
+fn drain<R: Abort, S: Source>(
+    rt: &R,
+    source: &mut S,
+    buf: &mut [u8],
+    bytes: &mut Vec<u8>,
+) -> Taken {
     for _ in 0..100 {
-        if buf.len() == 0 {
+        if buf.is_empty() {
             break;
         }
-        match source.read(buf.as_mut_slice()) {
-            Taken::Got(n) => bytes.extend_from_slice(&buf.as_slice()[..n])?,
-            end => return Ok((bytes, end)),
+        let answer = read_more(rt, source, buf, bytes);
+        if !matches!(answer, Taken::Got(_)) {
+            return answer;
         }
     }
-    Ok((bytes, Taken::Got(0)))
+    Taken::Got(0)
 }
 
 /// Reads up to the first end or fault, with room for so many bytes a time, and checks all bytes and that answer.
@@ -39,11 +51,21 @@ pub fn check_drained<R: Abort, S: Source>(
     room: usize,
     want: &[u8],
     end: Taken,
-) -> Result<(), Fail> {
-    let (bytes, answer) = drain(alloc, source, room.max(1))?;
-    assert_eq!(rt; bytes.as_slice(), want, "at a room of {room}");
-    assert_eq!(rt; answer, end, "at a room of {room}");
-    Ok(())
+) {
+    let mut buf = vec![in alloc; 0u8; room].expect(rt, "memory");
+    let mut bytes = Vec::new(alloc);
+    let answer = drain(rt, source, buf.as_mut_slice(), &mut bytes);
+    check_all(rt, room, (bytes.as_slice(), answer), (want, end));
+}
+
+// Checks all bytes and the last answer at a room.
+fn check_all<R: Abort>(rt: &R, room: usize, given: (&[u8], Taken), want: (&[u8], Taken)) {
+    assert_eq!(rt; given, want, "at a room of {room}");
+}
+
+/// Checks bytes.
+pub fn check_bytes<R: Abort>(rt: &R, bytes: &[u8], want: &[u8]) {
+    assert_eq!(rt; bytes, want);
 }
 
 /// Reads once, and checks the answer and the whole buffer.
@@ -56,8 +78,8 @@ pub fn check_read<R: Abort, S: Source>(
 )
     requires { 0 < length buf.old }
 {
-    assert_eq!(rt; source.read(buf), answer);
-    assert_eq!(rt; &*buf, want);
+    let given = source.read(buf);
+    assert_eq!(rt; (given, &*buf), (answer, want));
 }
 
 /// Writes once, and checks the answer.

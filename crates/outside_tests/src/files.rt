@@ -6,7 +6,7 @@ use ports::mem_files::MemFiles;
 use std::alloc::{AllocError, Global};
 use std::collections::BTreeMap;
 use std::fs;
-use std::test::Fail;
+use std::process::Abort;
 
 // What a read answers, as one text: the file's, or a word.
 fn answer<F: Files>(
@@ -23,8 +23,11 @@ fn answer<F: Files>(
     }
 }
 
-// A name, a limit, and the answer, where `settings` has "page = 4" and `empty` has nothing.
-const READS: [(&str, usize, &str); 7] = [
+// The files that are there, by name.
+static FILES: [(&str, &str); 2] = [("settings", "page = 4"), ("empty", "")];
+
+// A name, a limit, and the answer.
+static READS: [(&str, usize, &str); 7] = [
     ("settings", 65536, "page = 4"),
     ("settings", 8, "page = 4"),
     ("settings", 7, "too long"),
@@ -34,49 +37,59 @@ const READS: [(&str, usize, &str); 7] = [
     ("", 0, "failed"),
 ];
 
-fn in_map(alloc: Global) -> Result<MemFiles, Fail> {
+fn check_file<R: Abort, F: Files>(
+    rt: &R,
+    alloc: Global,
+    files: &mut F,
+    name: &str,
+    limit: usize,
+    text: &str,
+) {
+    let found = answer(files, alloc, name, limit).expect(rt, "memory");
+    assert_eq!(rt;
+        found.as_slice(),
+        text.as_bytes(),
+        "of {name} within {limit}"
+    );
+}
+
+fn check_files<R: Abort, F: Files + Drop>(rt: &R, alloc: Global, files: F) {
+    let mut files = files;
+    for (name, limit, text) in READS.as_slice() {
+        check_file(rt, alloc, &mut files, name, *limit, text);
+    }
+}
+
+fn add_file<R: Abort>(
+    rt: &R,
+    alloc: Global,
+    files: &mut BTreeMap<String, Bytes>,
+    name: &str,
+    text: &str,
+) {
+    let name = String::from_str(alloc, name).expect(rt, "memory");
+    let bytes = text.as_bytes().to_vec(alloc).expect(rt, "memory");
+    assert!(rt; files.insert(name, Bytes::of(bytes)).is_ok(), "memory");
+}
+
+#[test]
+fn files_in_a_map_are_read_whole_or_refused(rt: HostRuntime) {
+    let alloc = rt.alloc();
     let mut files = BTreeMap::new(alloc);
-    files.insert(
-        String::from_str(alloc, "settings")?,
-        Bytes::of(b"page = 4".to_vec(alloc)?),
-    )?;
-    files.insert(
-        String::from_str(alloc, "empty")?,
-        Bytes::of(Vec::new(alloc)),
-    )?;
-    Ok(MemFiles::new(alloc, files))
+    for (name, text) in FILES.as_slice() {
+        add_file(&rt, alloc, &mut files, name, text);
+    }
+    check_files(&rt, alloc, MemFiles::new(alloc, files));
 }
 
 #[test]
-fn files_in_a_map_are_read_whole_or_refused(rt: HostRuntime) -> Result<(), Fail> {
-    let alloc = rt.alloc();
-    let mut files = in_map(alloc)?;
-    for (name, limit, text) in READS.as_slice() {
-        let found = answer(&mut files, alloc, name, *limit)?;
-        assert_eq!(rt;
-            found.as_slice(),
-            text.as_bytes(),
-            "of {name} within {limit}"
-        );
+fn files_of_the_system_are_read_whole_or_refused(rt: HostRuntime) {
+    for (name, text) in FILES.as_slice() {
+        fs::write(&rt, *name, *text).expect(&rt, name);
     }
-    Ok(())
-}
-
-#[test]
-fn files_of_the_system_are_read_whole_or_refused(rt: HostRuntime) -> Result<(), Fail> {
-    let alloc = rt.alloc();
-    fs::write(&rt, "settings", "page = 4")?;
-    fs::write(&rt, "empty", "")?;
-    let mut files = HostFiles::new(rt.clone()?, alloc);
-    for (name, limit, text) in READS.as_slice() {
-        let found = answer(&mut files, alloc, name, *limit)?;
-        assert_eq!(rt;
-            found.as_slice(),
-            text.as_bytes(),
-            "of {name} within {limit}"
-        );
+    let system = rt.clone().expect(&rt, "memory");
+    check_files(&rt, rt.alloc(), HostFiles::new(system, rt.alloc()));
+    for (name, _) in FILES.as_slice() {
+        fs::remove_file(&rt, *name).expect(&rt, name);
     }
-    fs::remove_file(&rt, "settings")?;
-    fs::remove_file(&rt, "empty")?;
-    Ok(())
 }

@@ -1,15 +1,16 @@
 //! Listeners: one in memory, whose peers are streams that the test lends, and one over a network that the test plays.
 ghost use Rattle.std.specs.Prelude.{◌≡◌, true};
 
+use crate::drained::check_bytes;
 use ports::listener::{Accepted, Listener};
 use ports::mem_listener::MemListener;
 use ports::memory::{MemSink, MemSource};
 use ports::pair::Pair;
 use ports::stream::{Sink, Source, Taken, Written};
-use std::alloc::{AllocError, Global};
+use std::alloc::Global;
 use std::collections::VecDeque;
+use std::process::Abort;
 use std::sync::Wait;
-use std::test::Fail;
 use std::thread::{Threads, join};
 
 // Both ends of a peer in memory.
@@ -20,22 +21,35 @@ struct Line {
 }
 
 // The ends of a peer that gives this byte twice.
-fn giving(alloc: Global, byte: u8) -> Result<Line, Fail> {
-    let source = MemSource::new(vec![in alloc; byte; 2]?, 1, Vec::new(alloc));
-    let sink = MemSink::new(alloc, 4).or(Err("no memory"))?;
-    Ok(Line { source, sink })
+fn giving<R: Abort>(rt: &R, alloc: Global, byte: u8) -> Line {
+    let bytes = vec![in alloc; byte; 2].expect(rt, "memory");
+    let source = MemSource::new(bytes, 1, Vec::new(alloc));
+    let sink = MemSink::new(alloc, 4).expect(rt, "memory");
+    Line { source, sink }
 }
 
 // Peers that borrow these ends.
-fn peers_of(
+fn peers_of<'a, R: Abort>(
+    rt: &R,
     alloc: Global,
-    lines: &mut [Line],
-) -> Result<VecDeque<Pair<'_, MemSource, MemSink>>, AllocError> {
+    lines: &'a mut [Line],
+) -> VecDeque<Pair<'a, MemSource, MemSink>> {
     let mut peers = VecDeque::new(alloc);
     for Line { source, sink } in lines.iter_mut() {
-        peers.push_back(Pair { source, sink })?;
+        peers.push_back(Pair { source, sink }).expect(rt, "memory");
     }
-    Ok(peers)
+    peers
+}
+
+// A listener at `here` with peers that borrow these ends.
+fn listener_of<'a, R: Abort>(
+    rt: &R,
+    alloc: Global,
+    lines: &'a mut [Line],
+    failing: Vec<bool>,
+) -> MemListener<Pair<'a, MemSource, MemSink>> {
+    let address = String::from_str(alloc, "here").expect(rt, "memory");
+    MemListener::new(address, peers_of(rt, alloc, lines), failing)
 }
 
 // Writes back what a peer gives, and a dot at its end. Whether all of it was written.
@@ -95,58 +109,62 @@ where
     one && two
 }
 
-fn three_lines(alloc: Global) -> Result<Vec<Line>, Fail> {
+// Checks that two peers are echoed in two threads.
+fn check_echo_both<L: Listener + Drop, R: Abort + Threads + Wait + Sync>(rt: &R, listener: L)
+where
+    L::Peer: Drop + Send,
+{
+    let mut listener = listener;
+    assert!(rt; listener.listen("here"), "its own address was refused");
+    assert!(rt; echo_both(rt, &mut listener));
+}
+
+fn three_lines<R: Abort>(rt: &R, alloc: Global) -> Vec<Line> {
     let mut lines = Vec::new(alloc);
     for byte in b"abc" {
-        lines.push(giving(alloc, *byte)?)?;
+        lines.push(giving(rt, alloc, *byte)).expect(rt, "memory");
     }
-    Ok(lines)
+    lines
 }
 
-// What each peer got.
-fn got(alloc: Global, lines: &[Line]) -> Result<Vec<u8>, AllocError> {
+// Checks what the peers got, one behind another.
+fn check_got<R: Abort>(rt: &R, alloc: Global, lines: &[Line], want: &[u8]) {
     let mut bytes = Vec::new(alloc);
     for line in lines {
-        bytes.extend_from_slice(line.sink.bytes())?;
+        bytes
+            .extend_from_slice(line.sink.bytes())
+            .expect(rt, "memory");
     }
-    Ok(bytes)
+    check_bytes(rt, bytes.as_slice(), want);
 }
 
-#[test]
-fn peers_come_in_order_and_what_each_got_is_read_back(rt: HostRuntime) -> Result<(), Fail> {
-    let alloc = rt.alloc();
-    let mut lines = three_lines(alloc)?;
-    let peers = peers_of(alloc, lines.as_mut_slice())?;
-    let failing = vec![in alloc; false, true]?;
-    let mut listener = MemListener::new(String::from_str(alloc, "here")?, peers, failing);
+// Checks how many peers are echoed, and how often no peer came, until none is left.
+fn check_echoes<L: Listener + Drop, R: Abort + Wait>(rt: &R, listener: L)
+where
+    L::Peer: Drop,
+{
+    let mut listener = listener;
     assert!(rt; !listener.listen("there"));
-    if !listener.listen("here") {
-        return Err("its own address was refused".into());
-    }
-    assert_eq!(rt; echo_all(&rt, &mut listener), (3, 1));
-    assert_eq!(rt; echo_all(&rt, &mut listener), (0, 0));
-    drop(listener);
-    assert_eq!(rt;
-        got(alloc, lines.as_slice())?.as_slice(),
-        b"aa.bb.cc.".as_slice()
-    );
-    Ok(())
+    assert!(rt; listener.listen("here"), "its own address was refused");
+    let counts = [echo_all(rt, &mut listener), echo_all(rt, &mut listener)];
+    assert_eq!(rt; counts, [(3, 1), (0, 0)]);
 }
 
 #[test]
-fn two_peers_are_served_in_two_threads(rt: HostRuntime) -> Result<(), Fail> {
+fn peers_come_in_order_and_what_each_got_is_read_back(rt: HostRuntime) {
     let alloc = rt.alloc();
-    let mut lines = three_lines(alloc)?;
-    let peers = peers_of(alloc, lines.as_mut_slice())?;
-    let mut listener = MemListener::new(String::from_str(alloc, "here")?, peers, Vec::new(alloc));
-    if !listener.listen("here") {
-        return Err("its own address was refused".into());
-    }
-    assert!(rt; echo_both(&rt, &mut listener));
-    drop(listener);
-    assert_eq!(rt;
-        got(alloc, lines.as_slice())?.as_slice(),
-        b"aa.bb.".as_slice()
-    );
-    Ok(())
+    let mut lines = three_lines(&rt, alloc);
+    let failing = vec![in alloc; false, true].expect(&rt, "memory");
+    let listener = listener_of(&rt, alloc, lines.as_mut_slice(), failing);
+    check_echoes(&rt, listener);
+    check_got(&rt, alloc, lines.as_slice(), b"aa.bb.cc.");
+}
+
+#[test]
+fn two_peers_are_served_in_two_threads(rt: HostRuntime) {
+    let alloc = rt.alloc();
+    let mut lines = three_lines(&rt, alloc);
+    let listener = listener_of(&rt, alloc, lines.as_mut_slice(), Vec::new(alloc));
+    check_echo_both(&rt, listener);
+    check_got(&rt, alloc, lines.as_slice(), b"aa.bb.");
 }

@@ -3,60 +3,67 @@ ghost use Rattle.std.specs.Prelude.{◌≡◌, ◌<◌, ℕ, List, length};
 ghost use Rattle.std.specs.Bool.{OnTrue};
 ghost use Rattle.std.specs.Io.KnownBytes.{Appends, Consumes};
 
-use crate::drained::{TEXT, check_drained, check_read, check_write};
+use crate::drained::{TEXT, check_bytes, check_drained, check_read, check_write};
 use ports::memory::{MemSink, MemSource};
 use ports::pair::Pair;
 use ports::stream::{Ends, Sink, Source, Taken, Written};
 use std::alloc::Global;
 use std::process::Abort;
-use std::test::Fail;
 
 static PIECES: [usize; 4] = [1, 2, 7, 65536];
 
-fn check_piece<R: Abort>(rt: &R, alloc: Global, piece: usize) -> Result<(), Fail> {
-    let bytes = TEXT.to_vec(alloc)?;
-    let mut source = MemSource::new(bytes, piece.max(1), Vec::new(alloc));
-    check_drained(rt, alloc, &mut source, 4, TEXT.as_slice(), Taken::End)
+// A source whose call number `i`, from 0, fails where `failing[i]` says so.
+fn source_of<R: Abort>(
+    rt: &R,
+    alloc: Global,
+    text: &[u8],
+    piece: usize,
+    failing: &[bool],
+) -> MemSource
+    requires { 0 < piece }
+{
+    let bytes = text.to_vec(alloc).expect(rt, "memory");
+    let failing = failing.to_vec(alloc).expect(rt, "memory");
+    MemSource::new(bytes, piece, failing)
+}
+
+fn check_piece<R: Abort>(rt: &R, alloc: Global, piece: usize) {
+    let mut source = source_of(rt, alloc, TEXT.as_slice(), piece.max(1), &[]);
+    check_drained(rt, alloc, &mut source, 4, TEXT.as_slice(), Taken::End);
 }
 
 #[test]
-fn memory_gives_all_its_bytes_in_pieces_of_any_length(rt: HostRuntime) -> Result<(), Fail> {
+fn memory_gives_all_its_bytes_in_pieces_of_any_length(rt: HostRuntime) {
     for piece in PIECES.as_slice() {
-        check_piece(&rt, rt.alloc(), *piece)?;
+        check_piece(&rt, rt.alloc(), *piece);
     }
-    Ok(())
 }
 
 #[test]
-fn a_failing_call_in_the_middle_takes_nothing(rt: HostRuntime) -> Result<(), Fail> {
+fn a_failing_call_in_the_middle_takes_nothing(rt: HostRuntime) {
     let alloc = rt.alloc();
-    let failing = vec![in alloc; false, true]?;
-    let mut source = MemSource::new(TEXT.to_vec(alloc)?, 2, failing);
-    check_drained(&rt, alloc, &mut source, 7, b"ab", Taken::Failed)?;
-    check_drained(&rt, alloc, &mut source, 7, b"cdefghi", Taken::End)
+    let mut source = source_of(&rt, alloc, TEXT.as_slice(), 2, &[false, true]);
+    check_drained(&rt, alloc, &mut source, 7, b"ab", Taken::Failed);
+    check_drained(&rt, alloc, &mut source, 7, b"cdefghi", Taken::End);
 }
 
 #[test]
-fn a_read_leaves_the_rest_of_the_buffer(rt: HostRuntime) -> Result<(), Fail> {
-    let mut source = MemSource::new(b"ab".to_vec(rt.alloc())?, 7, Vec::new(rt.alloc()));
+fn a_read_leaves_the_rest_of_the_buffer(rt: HostRuntime) {
+    let mut source = source_of(&rt, rt.alloc(), b"ab", 7, &[]);
     let mut buf = [b'.'; 4];
     check_read(&rt, &mut source, &mut buf, Taken::Got(2), b"ab..");
     check_read(&rt, &mut source, &mut buf, Taken::End, b"ab..");
     check_read(&rt, &mut source, &mut buf, Taken::End, b"ab..");
-    Ok(())
 }
 
 #[test]
-fn a_sink_in_memory_fails_before_the_byte_for_which_there_is_no_room(
-    rt: HostRuntime,
-) -> Result<(), Fail> {
-    let mut sink = MemSink::new(rt.alloc(), 4).or(Err("no memory"))?;
+fn a_sink_in_memory_fails_before_the_byte_for_which_there_is_no_room(rt: HostRuntime) {
+    let mut sink = MemSink::new(rt.alloc(), 4).expect(&rt, "memory");
     check_write(&rt, &mut sink, b"abc", Written::Whole);
     check_write(&rt, &mut sink, b"defg", Written::Failed(1));
     check_write(&rt, &mut sink, b"h", Written::Failed(0));
     check_write(&rt, &mut sink, b"", Written::Whole);
-    assert_eq!(rt; sink.bytes(), b"abcd".as_slice());
-    Ok(())
+    check_bytes(&rt, sink.bytes(), b"abcd");
 }
 
 // Takes one piece off a stream and writes it back, and says whether it moved.
@@ -87,12 +94,12 @@ fn move_between<S: Source, K: Sink>(source: &mut S, sink: &mut K) -> bool
 }
 
 #[test]
-fn a_pair_reads_by_the_one_and_writes_by_the_other(rt: HostRuntime) -> Result<(), Fail> {
+fn a_pair_reads_by_the_one_and_writes_by_the_other(rt: HostRuntime) {
     let alloc = rt.alloc();
-    let mut source = MemSource::new(TEXT.to_vec(alloc)?, 3, Vec::new(alloc));
-    let mut sink = MemSink::new(alloc, 5).or(Err("no memory"))?;
+    let mut source = source_of(&rt, alloc, TEXT.as_slice(), 3, &[]);
+    let mut sink = MemSink::new(alloc, 5).expect(&rt, "memory");
     assert!(rt; move_between(&mut source, &mut sink));
     assert!(rt; !move_between(&mut source, &mut sink));
-    assert_eq!(rt; sink.bytes(), b"abcde".as_slice());
-    check_drained(&rt, alloc, &mut source, 7, b"ghi", Taken::End)
+    check_bytes(&rt, sink.bytes(), b"abcde");
+    check_drained(&rt, alloc, &mut source, 7, b"ghi", Taken::End);
 }

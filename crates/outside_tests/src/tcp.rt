@@ -7,8 +7,9 @@ use ports::tcp::TcpPorts;
 use std::io::{self, ErrorKind, Read, Write};
 use std::net::{Net, OpenListener, OpenStream, SocketAddr};
 use std::os::fd::{AsRawFd, RawFd};
+use std::process::Abort;
+use std::sync::Wait;
 use std::sync::atomic::{AtomicU64, Ordering};
-use std::test::Fail;
 
 // What was asked of the network, and what was written to its streams, in bytes.
 #[derive(Drop)]
@@ -125,30 +126,36 @@ fn talks<P: Source + Sink + Drop>(peer: P) -> bool {
         && peer.write(b"abc") == Written::Whole
 }
 
+fn check_accepted<P: Source + Sink + Drop, R: Abort>(rt: &R, accepted: Accepted<P>) {
+    let Accepted::Peer(peer) = accepted else {
+        panic!(rt; "no peer");
+    };
+    assert!(rt; talks(peer));
+}
+
+// Checks that ports listen at the network's one port alone, and hand out two peers before they fail.
+fn check_ports<R: Abort + Wait>(rt: &R, seen: &Seen) {
+    let mut ports = TcpPorts::new(PlayedNet { seen });
+    assert!(rt; !ports.listen("127.0.0.1:7001"));
+    assert!(rt; !ports.listen("nowhere"));
+    assert!(rt; ports.listen("127.0.0.1:7000"), "the port was refused");
+    check_accepted(rt, ports.accept(rt));
+    check_accepted(rt, ports.accept(rt));
+    assert!(rt; matches!(&ports.accept(rt), Accepted::Failed));
+}
+
 #[test]
-fn connections_are_handed_out_past_interruptions_and_lost_ones(
-    rt: HostRuntime,
-) -> Result<(), Fail> {
+fn connections_are_handed_out_past_interruptions_and_lost_ones(rt: HostRuntime) {
     let seen = Seen {
         accepts: AtomicU64::new(0),
         prompt: AtomicU64::new(0),
         written: AtomicU64::new(0),
     };
-    let mut ports = TcpPorts::new(PlayedNet { seen: &seen });
-    assert!(rt; !ports.listen("127.0.0.1:7001"));
-    assert!(rt; !ports.listen("nowhere"));
-    if !ports.listen("127.0.0.1:7000") {
-        return Err("the port was refused".into());
-    }
-    for _ in 0..2 {
-        let Accepted::Peer(peer) = ports.accept(&rt) else {
-            return Err("no peer".into());
-        };
-        assert!(rt; talks(peer));
-    }
-    assert!(rt; matches!(&ports.accept(&rt), Accepted::Failed));
-    assert_eq!(rt; seen.accepts.load(Ordering::SeqCst), 5);
-    assert_eq!(rt; seen.prompt.load(Ordering::SeqCst), 2);
-    assert_eq!(rt; seen.written.load(Ordering::SeqCst), 6);
-    Ok(())
+    check_ports(&rt, &seen);
+    let counts = [
+        seen.accepts.load(Ordering::SeqCst),
+        seen.prompt.load(Ordering::SeqCst),
+        seen.written.load(Ordering::SeqCst),
+    ];
+    assert_eq!(rt; counts, [5, 2, 6]);
 }
