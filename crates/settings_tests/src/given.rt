@@ -1,15 +1,17 @@
 //! Words from lines, and what was given as a line.
 
 use settings::{Command, Given, Text};
-use std::alloc::{AllocError, Global};
+use std::alloc::Global;
+use std::process::Abort;
 
 /// The words of a line, which stand between single spaces: two spaces have an empty word between them.
-pub fn words_of(alloc: Global, line: &str) -> Result<Vec<String>, AllocError> {
+pub fn words_of<R: Abort>(rt: &R, alloc: Global, line: &str) -> Vec<String> {
     let mut words = Vec::new(alloc);
-    for word in line.split(' ') {
-        words.push(String::from_str(alloc, word)?)?;
+    for part in line.split(' ') {
+        let word = String::from_str(alloc, part).expect(rt, "memory");
+        words.push(word).expect(rt, "memory");
     }
-    Ok(words)
+    words
 }
 
 /// The word of a command.
@@ -21,57 +23,56 @@ pub fn word_of(command: Command) -> &'static str {
     }
 }
 
-fn add_number(
-    alloc: Global,
-    line: &mut String,
-    name: &str,
-    number: Option<u64>,
-) -> Result<(), AllocError> {
+fn add<R: Abort>(rt: &R, line: &mut String, part: &str) {
+    line.push_str(part).expect(rt, "memory");
+}
+
+fn add_number<R: Abort>(rt: &R, alloc: Global, line: &mut String, name: &str, number: Option<u64>) {
     if let Some(number) = number {
-        let added = format!(in alloc; " {name}={number}")?;
-        line.push_str(added.as_str())?;
+        let part = format!(in alloc; " {name}={number}").expect(rt, "memory");
+        add(rt, line, part.as_str());
     }
-    Ok(())
 }
 
-fn add_narrow(
-    alloc: Global,
-    line: &mut String,
-    name: &str,
-    number: Option<u32>,
-) -> Result<(), AllocError> {
-    add_number(alloc, line, name, number.map(|n| n as u64))
+fn add_narrow<R: Abort>(rt: &R, alloc: Global, line: &mut String, name: &str, number: Option<u32>) {
+    add_number(rt, alloc, line, name, number.map(|n| n as u64));
 }
 
-fn add_text(
-    alloc: Global,
-    line: &mut String,
-    name: &str,
-    text: &Option<Text>,
-) -> Result<(), AllocError> {
+fn add_text<R: Abort>(rt: &R, alloc: Global, line: &mut String, name: &str, text: &Option<Text>) {
     if let Some(text) = text {
         let value = text.as_str();
-        let added = format!(in alloc; " {name}={value}")?;
-        line.push_str(added.as_str())?;
+        let part = format!(in alloc; " {name}={value}").expect(rt, "memory");
+        add(rt, line, part.as_str());
     }
-    Ok(())
+}
+
+fn add_store<R: Abort>(rt: &R, alloc: Global, line: &mut String, given: &Given) {
+    add_number(rt, alloc, line, "page", given.page);
+    add_narrow(rt, alloc, line, "providers", given.providers);
+    add_narrow(rt, alloc, line, "replicas", given.replicas);
+}
+
+fn add_limits<R: Abort>(rt: &R, alloc: Global, line: &mut String, given: &Given) {
+    add_number(rt, alloc, line, "max-size", given.max_size);
+    add_number(rt, alloc, line, "max-versions", given.max_versions);
+    add_number(rt, alloc, line, "max-open", given.max_open);
+    add_number(rt, alloc, line, "max-blobs", given.max_blobs);
+}
+
+fn add_load<R: Abort>(rt: &R, alloc: Global, line: &mut String, given: &Given) {
+    add_narrow(rt, alloc, line, "workers", given.workers);
+    add_narrow(rt, alloc, line, "connections", given.connections);
+    add_number(rt, alloc, line, "seed", given.seed);
+    add_narrow(rt, alloc, line, "ops", given.ops);
 }
 
 /// Each setting that was given, behind that beginning.
-pub fn line_of(alloc: Global, begin: &str, given: &Given) -> Result<String, AllocError> {
-    let mut line = String::from_str(alloc, begin)?;
-    add_number(alloc, &mut line, "page", given.page)?;
-    add_narrow(alloc, &mut line, "providers", given.providers)?;
-    add_narrow(alloc, &mut line, "replicas", given.replicas)?;
-    add_number(alloc, &mut line, "max-size", given.max_size)?;
-    add_number(alloc, &mut line, "max-versions", given.max_versions)?;
-    add_number(alloc, &mut line, "max-open", given.max_open)?;
-    add_number(alloc, &mut line, "max-blobs", given.max_blobs)?;
-    add_narrow(alloc, &mut line, "workers", given.workers)?;
-    add_narrow(alloc, &mut line, "connections", given.connections)?;
-    add_number(alloc, &mut line, "seed", given.seed)?;
-    add_narrow(alloc, &mut line, "ops", given.ops)?;
-    add_text(alloc, &mut line, "listen", &given.listen)?;
-    add_text(alloc, &mut line, "settings", &given.settings)?;
-    Ok(line)
+pub fn line_of<R: Abort>(rt: &R, alloc: Global, begin: &str, given: &Given) -> String {
+    let mut line = String::from_str(alloc, begin).expect(rt, "memory");
+    add_store(rt, alloc, &mut line, given);
+    add_limits(rt, alloc, &mut line, given);
+    add_load(rt, alloc, &mut line, given);
+    add_text(rt, alloc, &mut line, "listen", &given.listen);
+    add_text(rt, alloc, &mut line, "settings", &given.settings);
+    line
 }

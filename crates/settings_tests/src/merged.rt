@@ -2,9 +2,8 @@
 
 use crate::given::words_of;
 use settings::{MergeRefused, Settings, merge, read_text, read_words};
-use std::alloc::{AllocError, Global};
+use std::alloc::Global;
 use std::process::Abort;
-use std::test::Fail;
 
 // Words, a settings file, and the settings that they come to.
 static MERGED: [(&str, &str, &str); 9] = [
@@ -66,71 +65,80 @@ static REFUSED: [(&str, &str); 7] = [
     ("run --replicas 5", ""),
 ];
 
-fn line_of(alloc: Global, settings: &Settings) -> Result<String, AllocError> {
+fn store_of<R: Abort>(rt: &R, alloc: Global, settings: &Settings) -> String {
     let page = settings.page;
     let providers = settings.providers;
     let replicas = settings.replicas;
-    let mut line = format!(in alloc; "{page} {providers} {replicas}")?;
+    format!(in alloc; "{page} {providers} {replicas}").expect(rt, "memory")
+}
+
+fn limits_of<R: Abort>(rt: &R, alloc: Global, settings: &Settings) -> String {
     let size = settings.limits.max_size;
     let versions = settings.limits.max_versions;
     let waiting = settings.limits.max_open;
     let blobs = settings.limits.max_blobs;
-    let limits = format!(in alloc; " limits {size} {versions} {waiting} {blobs}")?;
-    line.push_str(limits.as_str())?;
+    format!(in alloc; " limits {size} {versions} {waiting} {blobs}").expect(rt, "memory")
+}
+
+fn load_of<R: Abort>(rt: &R, alloc: Global, settings: &Settings) -> String {
     let workers = settings.workers;
     let connections = settings.connections;
     let seed = settings.seed;
     let ops = settings.ops;
-    let load = format!(in alloc; " workers {workers} {connections} load {seed} {ops}")?;
-    line.push_str(load.as_str())?;
+    format!(in alloc; " workers {workers} {connections} load {seed} {ops}").expect(rt, "memory")
+}
+
+fn texts_of<R: Abort>(rt: &R, alloc: Global, settings: &Settings) -> String {
     let listen = settings.listen.as_str();
     let file = settings.settings.as_str();
-    let texts = format!(in alloc; " texts [{listen}] [{file}]")?;
-    line.push_str(texts.as_str())?;
-    Ok(line)
+    format!(in alloc; " texts [{listen}] [{file}]").expect(rt, "memory")
 }
 
-fn merged(alloc: Global, line: &str, text: &str) -> Result<Result<Settings, MergeRefused>, Fail> {
-    let words = words_of(alloc, line)?;
-    let (_, given) = read_words(alloc, words.as_slice())?;
-    let file = read_text(alloc, text.as_bytes())?;
-    Ok(merge(given, file))
+fn add<R: Abort>(rt: &R, line: &mut String, part: String) {
+    line.push_str(part.as_str()).expect(rt, "memory");
 }
 
-fn check_row<R: Abort>(
+fn line_of<R: Abort>(rt: &R, alloc: Global, settings: &Settings) -> String {
+    let mut line = store_of(rt, alloc, settings);
+    add(rt, &mut line, limits_of(rt, alloc, settings));
+    add(rt, &mut line, load_of(rt, alloc, settings));
+    add(rt, &mut line, texts_of(rt, alloc, settings));
+    line
+}
+
+fn merged<R: Abort>(
     rt: &R,
     alloc: Global,
     line: &str,
     text: &str,
-    expected: &str,
-) -> Result<(), Fail> {
-    let settings = merged(alloc, line, text)?.expect(rt, line);
-    let shown = line_of(alloc, &settings)?;
+) -> Result<Settings, MergeRefused> {
+    let words = words_of(rt, alloc, line);
+    let (_, given) = read_words(alloc, words.as_slice()).expect(rt, line);
+    let file = read_text(alloc, text.as_bytes()).expect(rt, text);
+    merge(given, file)
+}
+
+fn check_row<R: Abort>(rt: &R, alloc: Global, line: &str, text: &str, expected: &str) {
+    let settings = merged(rt, alloc, line, text).expect(rt, line);
+    let shown = line_of(rt, alloc, &settings);
     assert_eq!(rt; shown.as_str(), expected, "{line} with {text}");
-    Ok(())
 }
 
-fn check_rows<R: Abort>(rt: &R, alloc: Global, rows: &[(&str, &str, &str)]) -> Result<(), Fail> {
-    for (line, text, expected) in rows {
-        check_row(rt, alloc, line, text, expected)?;
-    }
-    Ok(())
-}
-
-fn check_refused<R: Abort>(rt: &R, alloc: Global, rows: &[(&str, &str)]) -> Result<(), Fail> {
-    for (line, text) in rows {
-        let answer = merged(alloc, line, text)?;
-        assert!(rt; matches!(&answer, Err(MergeRefused)), "{line} with {text}");
-    }
-    Ok(())
+fn check_refused<R: Abort>(rt: &R, alloc: Global, line: &str, text: &str) {
+    let answer = merged(rt, alloc, line, text);
+    assert!(rt; matches!(&answer, Err(MergeRefused)), "{line} with {text}");
 }
 
 #[test]
-fn words_win_over_the_file_and_the_file_over_the_defaults(rt: HostRuntime) -> Result<(), Fail> {
-    check_rows(&rt, rt.alloc(), MERGED.as_slice())
+fn words_win_over_the_file_and_the_file_over_the_defaults(rt: HostRuntime) {
+    for (line, text, expected) in MERGED.as_slice() {
+        check_row(&rt, rt.alloc(), line, text, expected);
+    }
 }
 
 #[test]
-fn more_replicas_than_providers_are_refused(rt: HostRuntime) -> Result<(), Fail> {
-    check_refused(&rt, rt.alloc(), REFUSED.as_slice())
+fn more_replicas_than_providers_are_refused(rt: HostRuntime) {
+    for (line, text) in REFUSED.as_slice() {
+        check_refused(&rt, rt.alloc(), line, text);
+    }
 }

@@ -4,7 +4,6 @@ use crate::given::line_of;
 use settings::{TextFault, read_text};
 use std::alloc::Global;
 use std::process::Abort;
-use std::test::Fail;
 
 // Texts, and each setting that they give.
 static ACCEPTED: [(&str, &str); 27] = [
@@ -118,30 +117,33 @@ static NO_DOCUMENTS: [&str; 14] = [
     "page = \"4",
 ];
 
-fn check_row<R: Abort>(rt: &R, alloc: Global, text: &str, expected: &str) -> Result<(), Fail> {
+fn check_row<R: Abort>(rt: &R, alloc: Global, text: &str, expected: &str) {
     let given = read_text(alloc, text.as_bytes()).expect(rt, text);
-    let shown = line_of(alloc, "", &given)?;
+    let shown = line_of(rt, alloc, "", &given);
     assert_eq!(rt; shown.as_str(), expected, "{text}");
-    Ok(())
 }
 
-fn check_rows<R: Abort>(rt: &R, alloc: Global, rows: &[(&str, &str)]) -> Result<(), Fail> {
-    for (text, expected) in rows {
-        check_row(rt, alloc, text, expected)?;
-    }
-    Ok(())
+fn check_text_refused<R: Abort>(rt: &R, alloc: Global, text: &str) {
+    let answer = read_text(alloc, text.as_bytes());
+    assert!(rt; matches!(&answer, Err(TextFault::Refused)), "{text}");
 }
 
 fn check_refused<R: Abort>(rt: &R, alloc: Global, texts: &[&str]) {
     for text in texts {
-        let answer = read_text(alloc, text.as_bytes());
-        assert!(rt; matches!(&answer, Err(TextFault::Refused)), "{text}");
+        check_text_refused(rt, alloc, text);
     }
 }
 
+fn check_bytes_refused<R: Abort>(rt: &R, alloc: Global, text: &[u8]) {
+    let answer = read_text(alloc, text);
+    assert!(rt; matches!(&answer, Err(TextFault::Refused)));
+}
+
 #[test]
-fn texts_give_settings(rt: HostRuntime) -> Result<(), Fail> {
-    check_rows(&rt, rt.alloc(), ACCEPTED.as_slice())
+fn texts_give_settings(rt: HostRuntime) {
+    for (text, expected) in ACCEPTED.as_slice() {
+        check_row(&rt, rt.alloc(), text, expected);
+    }
 }
 
 #[test]
@@ -161,13 +163,7 @@ fn texts_that_are_no_documents_are_refused(rt: HostRuntime) {
 
 #[test]
 fn bytes_that_are_not_utf8_are_refused(rt: HostRuntime) {
-    let texts = [
-        b"\xff".as_slice(),
-        b"page = 4 # \xff".as_slice(),
-        b"# \xc3".as_slice(),
-    ];
-    for text in texts {
-        let answer = read_text(rt.alloc(), text);
-        assert!(rt; matches!(&answer, Err(TextFault::Refused)));
-    }
+    check_bytes_refused(&rt, rt.alloc(), b"\xff");
+    check_bytes_refused(&rt, rt.alloc(), b"page = 4 # \xff");
+    check_bytes_refused(&rt, rt.alloc(), b"# \xc3");
 }

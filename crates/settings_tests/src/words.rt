@@ -2,9 +2,8 @@
 
 use crate::given::{line_of, word_of, words_of};
 use settings::{Command, Given, WordsFault, read_words};
-use std::alloc::{AllocError, Global};
+use std::alloc::Global;
 use std::process::Abort;
-use std::test::Fail;
 
 // Command lines, and what they give: the command and each setting.
 static ACCEPTED: [(&str, &str); 47] = [
@@ -230,57 +229,54 @@ static NO_NUMBERS: [&str; 48] = [
     "load --ops ١",
 ];
 
-fn given_by(alloc: Global, line: &str) -> Result<Result<(Command, Given), WordsFault>, AllocError> {
-    let words = words_of(alloc, line)?;
-    Ok(read_words(alloc, words.as_slice()))
+fn given_by<R: Abort>(rt: &R, alloc: Global, line: &str) -> Result<(Command, Given), WordsFault> {
+    let words = words_of(rt, alloc, line);
+    read_words(alloc, words.as_slice())
 }
 
-fn check_row<R: Abort>(rt: &R, alloc: Global, line: &str, expected: &str) -> Result<(), Fail> {
-    let (command, given) = given_by(alloc, line)?.expect(rt, line);
-    let shown = line_of(alloc, word_of(command), &given)?;
+fn check_row<R: Abort>(rt: &R, alloc: Global, line: &str, expected: &str) {
+    let (command, given) = given_by(rt, alloc, line).expect(rt, line);
+    let shown = line_of(rt, alloc, word_of(command), &given);
     assert_eq!(rt; shown.as_str(), expected, "{line}");
-    Ok(())
 }
 
-fn check_rows<R: Abort>(rt: &R, alloc: Global, rows: &[(&str, &str)]) -> Result<(), Fail> {
-    for (line, expected) in rows {
-        check_row(rt, alloc, line, expected)?;
-    }
-    Ok(())
+fn check_line_refused<R: Abort>(rt: &R, alloc: Global, line: &str) {
+    let answer = given_by(rt, alloc, line);
+    assert!(rt; matches!(&answer, Err(WordsFault::Refused)), "{line}");
 }
 
-fn check_refused<R: Abort>(rt: &R, alloc: Global, lines: &[&str]) -> Result<(), Fail> {
+fn check_refused<R: Abort>(rt: &R, alloc: Global, lines: &[&str]) {
     for line in lines {
-        let answer = given_by(alloc, line)?;
-        assert!(rt; matches!(&answer, Err(WordsFault::Refused)), "{line}");
+        check_line_refused(rt, alloc, line);
     }
-    Ok(())
 }
 
 #[test]
-fn lines_give_a_command_and_settings(rt: HostRuntime) -> Result<(), Fail> {
-    check_rows(&rt, rt.alloc(), ACCEPTED.as_slice())
+fn lines_give_a_command_and_settings(rt: HostRuntime) {
+    for (line, expected) in ACCEPTED.as_slice() {
+        check_row(&rt, rt.alloc(), line, expected);
+    }
 }
 
 #[test]
-fn other_first_words_and_help_are_refused(rt: HostRuntime) -> Result<(), Fail> {
+fn other_first_words_and_help_are_refused(rt: HostRuntime) {
     let words = Vec::new(rt.alloc());
     let answer = read_words(rt.alloc(), words.as_slice());
     assert!(rt; matches!(&answer, Err(WordsFault::Refused)), "no words");
-    check_refused(&rt, rt.alloc(), NO_COMMANDS.as_slice())
+    check_refused(&rt, rt.alloc(), NO_COMMANDS.as_slice());
 }
 
 #[test]
-fn words_that_are_no_options_are_refused(rt: HostRuntime) -> Result<(), Fail> {
-    check_refused(&rt, rt.alloc(), NO_OPTIONS.as_slice())
+fn words_that_are_no_options_are_refused(rt: HostRuntime) {
+    check_refused(&rt, rt.alloc(), NO_OPTIONS.as_slice());
 }
 
 #[test]
-fn options_of_other_commands_are_refused(rt: HostRuntime) -> Result<(), Fail> {
-    check_refused(&rt, rt.alloc(), OTHER_OPTIONS.as_slice())
+fn options_of_other_commands_are_refused(rt: HostRuntime) {
+    check_refused(&rt, rt.alloc(), OTHER_OPTIONS.as_slice());
 }
 
 #[test]
-fn values_that_are_no_numbers_of_the_range_are_refused(rt: HostRuntime) -> Result<(), Fail> {
-    check_refused(&rt, rt.alloc(), NO_NUMBERS.as_slice())
+fn values_that_are_no_numbers_of_the_range_are_refused(rt: HostRuntime) {
+    check_refused(&rt, rt.alloc(), NO_NUMBERS.as_slice());
 }
