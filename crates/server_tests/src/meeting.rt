@@ -1,13 +1,12 @@
 //! The program serves two connections beside each other.
 ghost use Rattle.std.specs.Prelude.{◌≡◌};
 
-use crate::program::run_peers;
-use crate::store::Line;
+use crate::program::{check_out, run_peers};
+use crate::store::two_giving;
 use ports::gate::{Gate, HoldGate, Point};
 use std::alloc::Global;
 use std::sync::Wait;
 use std::sync::atomic::{AtomicU32, Ordering};
-use std::test::Fail;
 use turn_lock::{Journaled, Pass};
 
 // Holds callers 1 and 2 each where its update has its number, until the other one comes there.
@@ -57,19 +56,17 @@ impl Gate for MeetingGate {
 }
 
 #[test]
-fn two_connections_wait_for_each_other(rt: HostRuntime) -> Result<(), Fail> {
+fn two_connections_wait_for_each_other(rt: HostRuntime) {
     let alloc: Global = rt.alloc();
     let asks = "00000001010000000a020000000000000001aa";
-    let mut lines = vec![in alloc; Line::giving(alloc, asks)?, Line::giving(alloc, asks)?]?;
+    let mut lines = two_giving(&rt, alloc, asks, asks);
     let gate = MeetingGate::new();
     let line = "serve --listen x:1 --workers 2 --connections 2";
-    let ran = run_peers(&rt, alloc, line, lines.as_mut_slice(), 64, &gate)?;
-    assert_eq!(rt; ran.out.as_slice(), b"served 2\n".as_slice());
-    assert_eq!(rt; ran.status, 0);
+    let ran = run_peers(&rt, alloc, line, lines.as_mut_slice(), 64, &gate);
+    check_out(&rt, &ran, "served 2\n");
     assert!(rt; gate.met());
     // A reply to a create and one to an append are as long for every blob and version.
     for line in &lines {
-        assert_eq!(rt; line.got(alloc)?.len(), 2 * (13 + 29));
+        assert_eq!(rt; line.got(&rt, alloc).len(), 2 * (13 + 29));
     }
-    Ok(())
 }

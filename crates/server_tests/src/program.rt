@@ -1,17 +1,17 @@
 //! The program over peers in memory.
 ghost use Rattle.std.specs.Prelude.{◌≡◌};
 
-use crate::store::{Line, peers_of};
+use crate::store::{Line, listener_of, two_giving};
 use blobseer_run::run;
 use page_store::PlainMaker;
 use ports::gate::{FreeGate, Gate};
+use ports::listener::Listener;
 use ports::mem_files::MemFiles;
-use ports::mem_listener::MemListener;
 use ports::memory::{MemSink, MemSource};
-use std::alloc::{AllocError, Global};
+use std::alloc::Global;
 use std::collections::BTreeMap;
+use std::process::Abort;
 use std::sync::Wait;
-use std::test::Fail;
 use std::thread::Threads;
 
 // More than the program writes here.
@@ -20,55 +20,73 @@ const ROOM: usize = 4096;
 /// What the program wrote, and how it ended.
 #[derive(Drop)]
 pub(crate) struct Ran {
-    pub(crate) out: Vec<u8>,
-    pub(crate) err: Vec<u8>,
-    pub(crate) status: u8,
+    out: MemSink,
+    err: MemSink,
+    status: u8,
+}
+
+/// The program wrote this text, and ended well.
+pub(crate) fn check_out<R: Abort>(rt: &R, ran: &Ran, out: &str) {
+    assert_eq!(rt; ran.out.bytes(), out.as_bytes());
+    assert_eq!(rt; ran.status, 0);
 }
 
 // The words of a line, which stand between single spaces.
-fn words_of(alloc: Global, line: &str) -> Result<Vec<String>, AllocError> {
+fn words_of<R: Abort>(rt: &R, alloc: Global, line: &str) -> Vec<String> {
     let mut words = Vec::new(alloc);
     for word in line.split(' ') {
-        words.push(String::from_str(alloc, word)?)?;
+        let word = String::from_str(alloc, word).expect(rt, "memory");
+        words.push(word).expect(rt, "memory");
     }
-    Ok(words)
+    words
+}
+
+// How the program ends with the words of a line, over an empty script, no files, this listener and these outputs.
+fn status_of<R: Threads + Wait + Sync + Abort, L: Listener, G: Gate + Sync>(
+    rt: &R,
+    alloc: Global,
+    line: &str,
+    net: &mut L,
+    out: &mut MemSink,
+    err: &mut MemSink,
+    gate: &G,
+) -> u8
+where
+    L::Peer: Drop + Send,
+{
+    let words = words_of(rt, alloc, line);
+    let mut script = MemSource::new(Vec::new(alloc), 64, Vec::new(alloc));
+    let mut files = MemFiles::new(alloc, BTreeMap::new(alloc));
+    let mut doors = PlainMaker::new();
+    run(
+        rt,
+        alloc,
+        words.as_slice(),
+        &mut script,
+        out,
+        err,
+        net,
+        &mut files,
+        &mut doors,
+        gate,
+    )
 }
 
 /// The program with the words of a line, over a listener at the address `x:1` to which these peers come, and an output that
 /// takes so many bytes.
-pub(crate) fn run_peers<R: Threads + Wait + Sync, G: Gate + Sync>(
+pub(crate) fn run_peers<R: Threads + Wait + Sync + Abort, G: Gate + Sync>(
     rt: &R,
     alloc: Global,
     line: &str,
     lines: &mut [Line],
     room: usize,
     gate: &G,
-) -> Result<Ran, Fail> {
-    let words = words_of(alloc, line)?;
-    let address = String::from_str(alloc, "x:1")?;
-    let mut net = MemListener::new(address, peers_of(alloc, lines)?, Vec::new(alloc));
-    let mut script = MemSource::new(Vec::new(alloc), 64, Vec::new(alloc));
-    let mut out = MemSink::new(alloc, room)?;
-    let mut err = MemSink::new(alloc, ROOM)?;
-    let mut files = MemFiles::new(alloc, BTreeMap::new(alloc));
-    let mut doors = PlainMaker::new();
-    let status = run(
-        rt,
-        alloc,
-        words.as_slice(),
-        &mut script,
-        &mut out,
-        &mut err,
-        &mut net,
-        &mut files,
-        &mut doors,
-        gate,
-    );
-    Ok(Ran {
-        out: out.bytes().to_vec(alloc)?,
-        err: err.bytes().to_vec(alloc)?,
-        status,
-    })
+) -> Ran {
+    let mut net = listener_of(rt, alloc, "x:1", lines, Vec::new(alloc));
+    let mut out = MemSink::new(alloc, room).expect(rt, "memory");
+    let mut err = MemSink::new(alloc, ROOM).expect(rt, "memory");
+    let status = status_of(rt, alloc, line, &mut net, &mut out, &mut err, gate);
+    Ran { out, err, status }
 }
 
 // The words of a line, how many bytes the output takes, what both outputs get, how the program ends, and whether the second of
@@ -136,12 +154,16 @@ const ROWS: [Row; 6] = [
     },
 ];
 
-fn run_row<R: Threads + Wait + Sync>(rt: &R, alloc: Global, row: &Row) -> Result<(), Fail> {
+fn check_ran<R: Abort>(rt: &R, row: &Row, ran: &Ran) {
+    let line = row.line;
+    assert!(rt; ran.out.bytes() == row.out.as_bytes(), "{line}");
+    assert!(rt; ran.err.bytes() == row.err.as_bytes(), "{line}");
+    assert!(rt; ran.status == row.status, "{line}");
+}
+
+fn run_row<R: Threads + Wait + Sync + Abort>(rt: &R, alloc: Global, row: &Row) {
     let exchange = "00000001010000000c0200000000000000016162630000000132";
-    let mut lines = vec![in alloc;
-        Line::giving(alloc, exchange)?,
-        Line::giving(alloc, "0000000101")?,
-    ]?;
+    let mut lines = two_giving(rt, alloc, exchange, "0000000101");
     let ran = run_peers(
         rt,
         alloc,
@@ -149,35 +171,27 @@ fn run_row<R: Threads + Wait + Sync>(rt: &R, alloc: Global, row: &Row) -> Result
         lines.as_mut_slice(),
         row.room,
         &FreeGate,
-    )?;
-    let told = ran.out.as_slice() == row.out.as_bytes() && ran.err.as_slice() == row.err.as_bytes();
-    let answered = match lines.get(1) {
-        Some(second) => second.got_some(),
-        None => false,
-    };
-    if !told || ran.status != row.status || answered != row.answered {
-        return Err(row.line.into());
-    }
-    Ok(())
+    );
+    check_ran(rt, row, &ran);
+    let second = lines.get(1).expect(rt, "two peers");
+    assert!(rt; second.got_some() == row.answered, "{}", row.line);
 }
 
 #[test]
-fn the_program_serves_and_tells_how_many(rt: HostRuntime) -> Result<(), Fail> {
+fn the_program_serves_and_tells_how_many(rt: HostRuntime) {
     for row in &ROWS {
-        run_row(&rt, rt.alloc(), row)?;
+        run_row(&rt, rt.alloc(), row);
     }
-    Ok(())
 }
 
 #[test]
-fn the_second_peer_sees_the_blob_of_the_first(rt: HostRuntime) -> Result<(), Fail> {
-    let alloc = rt.alloc();
+fn the_second_peer_sees_the_blob_of_the_first(rt: HostRuntime) {
+    let alloc: Global = rt.alloc();
     let create = "0000000101";
-    let mut lines = vec![in alloc; Line::giving(alloc, create)?, Line::giving(alloc, create)?]?;
+    let mut lines = two_giving(&rt, alloc, create, create);
     let line = "serve --listen x:1 --workers 1 --connections 2";
-    let ran = run_peers(&rt, alloc, line, lines.as_mut_slice(), 64, &FreeGate)?;
-    assert_eq!(rt; ran.out.as_slice(), b"served 2\n".as_slice());
-    let second = lines.get(1).ok_or("two peers")?.got(alloc)?;
+    let ran = run_peers(&rt, alloc, line, lines.as_mut_slice(), 64, &FreeGate);
+    check_out(&rt, &ran, "served 2\n");
+    let second = lines.get(1).expect(&rt, "two peers").got(&rt, alloc);
     assert_eq!(rt; second.as_str(), "00000009810000000000000002");
-    Ok(())
 }

@@ -1,12 +1,12 @@
 //! What peers get, and how serving ends.
 ghost use Rattle.std.specs.Prelude.{◌≡◌, ◌≤◌};
 
-use crate::store::{Line, serve_anew};
+use crate::store::{Line, serve_anew, two_giving};
 use blob_server::ServeFault;
 use ports::gate::FreeGate;
-use std::alloc::{AllocError, Global};
+use std::alloc::Global;
+use std::process::Abort;
 use std::sync::Wait;
-use std::test::Fail;
 use std::thread::Threads;
 
 // What a peer gives, and what it gets.
@@ -72,11 +72,8 @@ const ROWS: [Row; 4] = [
 ];
 
 // Two peers, served by one worker.
-fn serve_row<R: Threads + Wait + Sync>(rt: &R, alloc: Global, row: &Row) -> Result<(), Fail> {
-    let mut lines = vec![in alloc;
-        Line::giving(alloc, row.first.gives)?,
-        Line::giving(alloc, row.second.gives)?,
-    ]?;
+fn serve_row<R: Threads + Wait + Sync + Abort>(rt: &R, alloc: Global, row: &Row) {
+    let mut lines = two_giving(rt, alloc, row.first.gives, row.second.gives);
     let served = serve_anew(
         rt,
         alloc,
@@ -85,30 +82,28 @@ fn serve_row<R: Threads + Wait + Sync>(rt: &R, alloc: Global, row: &Row) -> Resu
         Vec::new(alloc),
         1,
         2,
-    )?;
+    );
+    let name = row.name;
+    assert!(rt; served == Ok(2), "{name}");
     let wanted = [row.first.gets, row.second.gets];
-    if served != Ok(2) || !got_all(alloc, lines.as_slice(), &wanted)? {
-        return Err(row.name.into());
-    }
-    Ok(())
+    assert!(rt; got_all(rt, alloc, lines.as_slice(), &wanted), "{name}");
 }
 
 // Whether the peers got these.
-fn got_all(alloc: Global, lines: &[Line], wanted: &[&str]) -> Result<bool, AllocError> {
+fn got_all<R: Abort>(rt: &R, alloc: Global, lines: &[Line], wanted: &[&str]) -> bool {
     for (line, want) in lines.iter().zip(wanted.iter()) {
-        if line.got(alloc)?.as_str() != *want {
-            return Ok(false);
+        if line.got(rt, alloc).as_str() != *want {
+            return false;
         }
     }
-    Ok(lines.len() == wanted.len())
+    lines.len() == wanted.len()
 }
 
 #[test]
-fn peers_one_after_the_other(rt: HostRuntime) -> Result<(), Fail> {
+fn peers_one_after_the_other(rt: HostRuntime) {
     for row in &ROWS {
-        serve_row(&rt, rt.alloc(), row)?;
+        serve_row(&rt, rt.alloc(), row);
     }
-    Ok(())
 }
 
 // Three peers, and a listener.
@@ -176,12 +171,23 @@ const LISTENINGS: [Listening; 7] = [
 ];
 
 // Which accepts fail: the one of that number, or none.
-fn failing_at(alloc: Global, number: usize) -> Result<Vec<bool>, AllocError> {
+fn failing_at<R: Abort>(rt: &R, alloc: Global, number: usize) -> Vec<bool> {
     let mut failing = Vec::new(alloc);
     for before in 0..4usize {
-        failing.push(before + 1 == number)?;
+        failing.push(before + 1 == number).expect(rt, "memory");
     }
-    Ok(failing)
+    failing
+}
+
+// Three peers that make a blob each.
+fn three_makers<R: Abort>(rt: &R, alloc: Global) -> Vec<Line> {
+    let mut lines = Vec::new(alloc);
+    for _ in 0..3 {
+        lines
+            .push(Line::giving(rt, alloc, "0000000101"))
+            .expect(rt, "memory");
+    }
+    lines
 }
 
 // How many peers got a reply.
@@ -189,35 +195,29 @@ fn answered(lines: &[Line]) -> usize {
     lines.iter().filter(|line| line.got_some()).count()
 }
 
-fn listen_so<R: Threads + Wait + Sync>(
-    rt: &R,
-    alloc: Global,
-    listening: &Listening,
-) -> Result<(Result<u64, ServeFault>, usize), Fail> {
-    let mut lines = Vec::new(alloc);
-    for _ in 0..3 {
-        lines.push(Line::giving(alloc, "0000000101")?)?;
-    }
-    if listening.workers == 0 || listening.workers > 16 || listening.connections == 0 {
-        return Err("no such call".into());
-    }
+fn listen_so<R: Threads + Wait + Sync + Abort>(rt: &R, alloc: Global, listening: &Listening) {
+    let (workers, connections) = (listening.workers, listening.connections);
+    assert!(rt;
+        workers >= 1 && workers <= 16 && connections >= 1,
+        "no such call"
+    );
+    let mut lines = three_makers(rt, alloc);
     let served = serve_anew(
         rt,
         alloc,
         &FreeGate,
         lines.as_mut_slice(),
-        failing_at(alloc, listening.failing)?,
-        listening.workers,
-        listening.connections,
-    )?;
-    Ok((served, answered(lines.as_slice())))
+        failing_at(rt, alloc, listening.failing),
+        workers,
+        connections,
+    );
+    assert!(rt; served == listening.served);
+    assert!(rt; answered(lines.as_slice()) == listening.answered);
 }
 
 #[test]
-fn serving_ends_as_the_listener_does(rt: HostRuntime) -> Result<(), Fail> {
+fn serving_ends_as_the_listener_does(rt: HostRuntime) {
     for listening in &LISTENINGS {
-        let (served, answered) = listen_so(&rt, rt.alloc(), listening)?;
-        assert!(rt; served == listening.served && answered == listening.answered);
+        listen_so(&rt, rt.alloc(), listening);
     }
-    Ok(())
 }

@@ -1,5 +1,5 @@
 //! Peers in memory, and a store that serves them.
-ghost use Rattle.std.specs.Prelude.{◌≡◌, ◌≤◌, ◌+◌, true, IfOk};
+ghost use Rattle.std.specs.Prelude.{◌≡◌, ◌≤◌, ◌+◌, true};
 ghost use Rattle.client_session.specs.Sessions.{IsOwnerOf};
 
 use blob_model::Limits;
@@ -11,10 +11,10 @@ use ports::listener::Listener;
 use ports::mem_listener::MemListener;
 use ports::memory::{MemSink, MemSource};
 use ports::pair::Pair;
-use std::alloc::{AllocError, Global};
+use std::alloc::Global;
 use std::collections::VecDeque;
+use std::process::Abort;
 use std::sync::Wait;
-use std::test::Fail;
 use std::thread::Threads;
 use tree_geom::PageSize;
 
@@ -30,10 +30,12 @@ pub(crate) struct Line {
 
 impl Line {
     /// A peer that gives the bytes that these digits spell, in pieces of three.
-    pub(crate) fn giving(alloc: Global, digits: &str) -> Result<Line, Fail> {
-        let source = MemSource::new(hex::decode(alloc, digits)?, 3, Vec::new(alloc));
-        let sink = MemSink::new(alloc, ROOM).or(Err("no memory"))?;
-        Ok(Line { source, sink })
+    pub(crate) fn giving<R: Abort>(rt: &R, alloc: Global, digits: &str) -> Line {
+        let bytes = hex::decode(alloc, digits).expect(rt, "digits");
+        Line {
+            source: MemSource::new(bytes, 3, Vec::new(alloc)),
+            sink: MemSink::new(alloc, ROOM).expect(rt, "memory"),
+        }
     }
 
     /// Whether the peer got anything.
@@ -42,37 +44,47 @@ impl Line {
     }
 
     /// What the peer got, in digits.
-    pub(crate) fn got(&self, alloc: Global) -> Result<String, AllocError> {
-        hex::encode(alloc, self.sink.bytes())
+    pub(crate) fn got<R: Abort>(&self, rt: &R, alloc: Global) -> String {
+        hex::encode(alloc, self.sink.bytes()).expect(rt, "memory")
     }
 }
 
-/// Peers that borrow these ends.
-pub(crate) fn peers_of(
+/// Two peers that give what these digits spell.
+pub(crate) fn two_giving<R: Abort>(rt: &R, alloc: Global, first: &str, second: &str) -> Vec<Line> {
+    vec![in alloc;
+        Line::giving(rt, alloc, first),
+        Line::giving(rt, alloc, second),
+    ]
+    .expect(rt, "memory")
+}
+
+/// A listener at this address, to which peers come that borrow these ends. Accept number `i` fails if `failing[i]` says so.
+pub(crate) fn listener_of<'a, R: Abort>(
+    rt: &R,
     alloc: Global,
-    lines: &mut [Line],
-) -> Result<VecDeque<Pair<'_, MemSource, MemSink>>, AllocError> {
+    address: &str,
+    lines: &'a mut [Line],
+    failing: Vec<bool>,
+) -> MemListener<Pair<'a, MemSource, MemSink>> {
     let mut peers = VecDeque::new(alloc);
     for Line { source, sink } in lines.iter_mut() {
-        peers.push_back(Pair { source, sink })?;
+        peers.push_back(Pair { source, sink }).expect(rt, "memory");
     }
-    Ok(peers)
+    let address = String::from_str(alloc, address).expect(rt, "memory");
+    MemListener::new(address, peers, failing)
 }
 
 /// A store with no blobs, and its owner.
-pub(crate) fn store_of(alloc: Global) -> Result<(Shared, Owner), Fail>
-    ensures owner { IfOk result (λ r. IsOwnerOf r.0 r.1) }
-    ensures made { IfOk result (λ r. r.1.made ≡ 0) }
+pub(crate) fn store_of<R: Abort>(rt: &R, alloc: Global) -> (Shared, Owner)
+    ensures owner { IsOwnerOf result.0 result.1 }
+    ensures made { result.1.made ≡ 0 }
 {
-    let p = PageSize::new(4096).ok_or("a page size")?;
-    match Shared::new(alloc, Limits::greatest(), p, 4, 2) {
-        Ok(store) => Ok(store),
-        Err(_) => Err("no memory".into()),
-    }
+    let p = PageSize::new(4096).expect(rt, "a page size");
+    Shared::new(alloc, Limits::greatest(), p, 4, 2).expect(rt, "memory")
 }
 
 /// How the workers of a store served these peers, where accept number `i` fails if `failing[i]` says so.
-pub(crate) fn serve_lines<R: Threads + Wait + Sync, G: Gate + Sync>(
+pub(crate) fn serve_lines<R: Threads + Wait + Sync + Abort, G: Gate + Sync>(
     rt: &R,
     alloc: Global,
     shared: &Shared,
@@ -82,7 +94,7 @@ pub(crate) fn serve_lines<R: Threads + Wait + Sync, G: Gate + Sync>(
     failing: Vec<bool>,
     workers: u32,
     connections: u32,
-) -> Result<Result<u64, ServeFault>, Fail>
+) -> Result<u64, ServeFault>
     requires owner { IsOwnerOf shared.now owner.old }
     requires passes_left { owner.old.made ≤ 1008 }
     requires some_workers { 1 ≤ workers }
@@ -91,13 +103,10 @@ pub(crate) fn serve_lines<R: Threads + Wait + Sync, G: Gate + Sync>(
     ensures owner { IsOwnerOf shared.now owner.new }
     ensures made { owner.new.made ≤ owner.old.made + workers }
 {
-    let peers = peers_of(alloc, lines)?;
-    let mut net = MemListener::new(String::from_str(alloc, "here")?, peers, failing);
-    if !net.listen("here") {
-        return Err("its own address was refused".into());
-    }
+    let mut net = listener_of(rt, alloc, "here", lines, failing);
+    assert!(rt; net.listen("here"), "its own address was refused");
     let mut maker = PlainMaker::new();
-    Ok(serve(
+    serve(
         rt,
         alloc,
         shared,
@@ -107,11 +116,11 @@ pub(crate) fn serve_lines<R: Threads + Wait + Sync, G: Gate + Sync>(
         gate,
         workers,
         connections,
-    ))
+    )
 }
 
 /// The same by a new store, which is closed then.
-pub(crate) fn serve_anew<R: Threads + Wait + Sync, G: Gate + Sync>(
+pub(crate) fn serve_anew<R: Threads + Wait + Sync + Abort, G: Gate + Sync>(
     rt: &R,
     alloc: Global,
     gate: &G,
@@ -119,12 +128,12 @@ pub(crate) fn serve_anew<R: Threads + Wait + Sync, G: Gate + Sync>(
     failing: Vec<bool>,
     workers: u32,
     connections: u32,
-) -> Result<Result<u64, ServeFault>, Fail>
+) -> Result<u64, ServeFault>
     requires some_workers { 1 ≤ workers }
     requires few_workers { workers ≤ 16 }
     requires some_connections { 1 ≤ connections }
 {
-    let (shared, mut owner) = store_of(alloc)?;
+    let (shared, mut owner) = store_of(rt, alloc);
     let served = serve_lines(
         rt,
         alloc,
@@ -135,9 +144,7 @@ pub(crate) fn serve_anew<R: Threads + Wait + Sync, G: Gate + Sync>(
         failing,
         workers,
         connections,
-    )?;
-    match shared.close(owner) {
-        Ok(_desk) => Ok(served),
-        Err(_) => Err("a pass is out".into()),
-    }
+    );
+    assert!(rt; shared.close(owner).is_ok(), "a pass is out");
+    served
 }

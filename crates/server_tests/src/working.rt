@@ -1,12 +1,11 @@
 //! The program runs the workers of a load beside each other.
 ghost use Rattle.std.specs.Prelude.{◌≡◌};
 
-use crate::program::run_peers;
+use crate::program::{check_out, run_peers};
 use ports::gate::{Gate, HoldGate, Point};
 use std::alloc::Global;
 use std::sync::Wait;
 use std::sync::atomic::{AtomicU32, Ordering};
-use std::test::Fail;
 use turn_lock::{Journaled, Pass};
 
 // Holds the callers 2 and 3, which are the workers 1 and 2, each where its first update has its number: the second until the
@@ -60,16 +59,14 @@ impl Gate for WorkersGate {
 }
 
 #[test]
-fn two_workers_of_a_load_work_beside_each_other(rt: HostRuntime) -> Result<(), Fail> {
+fn two_workers_of_a_load_work_beside_each_other(rt: HostRuntime) {
     let alloc: Global = rt.alloc();
     let mut nobody = Vec::new(alloc);
     let gate = WorkersGate::new();
     let line = "load --workers 2 --ops 3 --seed 0";
-    let ran = run_peers(&rt, alloc, line, nobody.as_mut_slice(), 128, &gate)?;
+    let ran = run_peers(&rt, alloc, line, nobody.as_mut_slice(), 128, &gate);
     let lines =
         "load workers 2 ops 3 seed 0\nlog size 96 versions 6 in-order 2\ngrid size 96 versions 7 sum 960\n";
-    assert_eq!(rt; ran.out.as_slice(), lines.as_bytes());
-    assert_eq!(rt; ran.status, 0);
+    check_out(&rt, &ran, lines);
     assert!(rt; gate.met());
-    Ok(())
 }
