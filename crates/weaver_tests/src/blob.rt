@@ -5,21 +5,24 @@ ghost use Rattle.range_log.specs.Rows.{row_of};
 ghost use Rattle.range_log.specs.Updates.{extents};
 ghost use Rattle.page_store.specs.Stored.{bytes_of_pages};
 ghost use Rattle.publisher.specs.Windows.{opens_from};
+ghost use Rattle.std.specs.Arc.{arc_value};
+ghost use Rattle.snapshot.specs.Versions.{older_version};
+ghost use Rattle.border_hints.specs.Numbered.{own_touch};
 
 use crate::pages::store;
 use crate::plain::{Bytes, plain_bound, plain_row};
 use border_hints::{Hints, Ticket};
 use node_store::Row;
-use page_store::{PageHouse, Pages};
+use page_store::{NoMemory, PageHouse, Pages};
 use publisher::{FinishFault, Window};
 use range_log::{OpenCopy, OpenList, OpenTouch};
-use range_reader::stated;
+use range_reader::{ReadFault, stated};
 use snapshot::Snapshot;
 use std::alloc::Global;
 use std::marker::{Brand, Model};
+use std::process::Abort;
 use std::sync::ledger::{Blank, Ledger};
 use std::sync::{Arc, Wait};
-use std::test::Fail;
 use tree_geom::{Node, PageSize, Range, Steps, Touch, touched};
 use tree_weaver::{PlannedRow, plan, put_row};
 
@@ -74,25 +77,58 @@ impl Model for Blob {
 }
 
 // The touches from number `from` to the one before `upto`, as those of waiting updates.
-fn open_between(
-    alloc: Global,
+fn open_between<R: Abort + AllocGlobal>(
+    rt: &R,
     touches: &[Touch],
     from: usize,
     upto: usize,
-) -> Result<OpenCopy, Fail>
+) -> OpenCopy
     requires order { from ≤ upto }
     requires within { upto ≤ length touches.now }
     requires few { upto - from ≤ 64 }
-    ensures { IfOk result (λ list. list ≡ opens_from (from + 1) (take (upto - from) (drop from touches.now))) }
+    ensures { result ≡ opens_from (from + 1) (take (upto - from) (drop from touches.now)) }
 {
-    let mut list = OpenList::new(alloc)?;
+    let mut list = OpenList::new(rt.alloc()).expect(rt, "memory");
     for i in from..upto {
         list.add(OpenTouch {
             version: i as u64 + 1,
             touch: touches[i],
         });
     }
-    Ok(list.copied(alloc)?)
+    list.copied(rt.alloc()).expect(rt, "memory")
+}
+
+// The pages, to be shared.
+fn shared<R: Abort + AllocGlobal>(rt: &R, pages: Pages) -> Arc<Pages>
+    ensures { arc_value result ≡ pages }
+{
+    Arc::new(rt.alloc(), pages).ok().expect(rt, "memory")
+}
+
+// The same pages once more.
+fn shared_again<R: Abort>(rt: &R, pages: &Arc<Pages>) -> Arc<Pages>
+    ensures { arc_value result ≡ arc_value pages.now }
+{
+    Arc::try_clone(pages).expect(rt, "memory")
+}
+
+// The snapshot of an older version, or of the same.
+fn older<R: Abort>(rt: &R, snapshot: &Snapshot, version: u64) -> Snapshot
+    requires { version ≤ length snapshot.now.rows }
+    ensures { result ≡ older_version snapshot.now version }
+{
+    snapshot.at(version).expect(rt, "memory")
+}
+
+// The row of a ticket's update, stored.
+fn put<R: Abort + AllocGlobal>(rt: &R, ticket: &Ticket, planned: PlannedRow) -> Arc<Row>
+    ensures version { (arc_value result).version ≡ ticket.now.version }
+    ensures offset { (arc_value result).offset ≡ ticket.now.at }
+    ensures touch { (arc_value result).touch ≡ own_touch ticket.now }
+    ensures nodes { (arc_value result).nodes ≡ planned }
+    ensures pages { (arc_value result).pages ≡ ticket.now.pages }
+{
+    put_row(rt.alloc(), ticket, planned).expect(rt, "memory")
 }
 
 impl Blob {
@@ -100,13 +136,14 @@ impl Blob {
     ghost use Rattle.range_log.specs.Log.{size_at};
 
     /// A blob without updates.
-    pub fn new(alloc: Global, p: PageSize) -> Result<Blob, Fail> {
+    pub fn new<R: Abort + AllocGlobal>(rt: &R, p: PageSize) -> Blob {
         publisher::laws::windows_stand();
-        Ok(Blob {
-            window: Window::new(alloc, Snapshot::empty(alloc, 1, p)?)?,
-            touches: Vec::new(alloc),
-            begun: Vec::new(alloc),
-        })
+        let base = Snapshot::empty(rt.alloc(), 1, p).expect(rt, "memory");
+        Blob {
+            window: Window::new(rt.alloc(), base).expect(rt, "memory"),
+            touches: Vec::new(rt.alloc()),
+            begun: Vec::new(rt.alloc()),
+        }
     }
 
     /// The blob's window.
@@ -126,7 +163,7 @@ impl Blob {
     }
 
     /// Numbers the update that begins at byte `at` and has these pages.
-    fn number(&mut self, alloc: Global, at: u64, pages: Pages) -> Result<u64, Fail>
+    fn number<R: Abort + AllocGlobal>(&mut self, rt: &R, at: u64, pages: Pages) -> u64
         requires page_size { pages.page_size ≡ self.old.window.page_size }
         requires some { 1 ≤ length (bytes_of_pages pages.pages) }
     {
@@ -136,42 +173,37 @@ impl Blob {
         let size = self.size();
         let len = pages.len();
         if at > size || size > MAX_SIZE || len > MAX_SIZE - at {
-            return Err("past the end".into());
+            panic!(rt; "past the end");
         }
         let assigned = self.window.assigned();
         if assigned >= 1_048_576 || assigned.saturating_sub(self.window.published()) >= 64 {
-            return Err("too many updates".into());
+            panic!(rt; "too many updates");
         }
-        self.touches.reserve(1)?;
-        self.begun.reserve(1)?;
-        let pages = Arc::new(alloc, pages)?;
+        self.touches.reserve(1).expect(rt, "memory");
+        self.begun.reserve(1).expect(rt, "memory");
+        let pages = shared(rt, pages);
         let p = self.window.snapshot().page_size();
         let touch = touched(p, at, len, size.max(at + len));
         self.touches.push_reserved(touch);
         self.begun.push_reserved(Begun { at, pages });
-        Ok(self.window.number(touch))
+        self.window.number(touch)
     }
 
     /// Numbers the update of these bytes at byte `at`, and gives its version.
-    pub fn start(
-        &mut self,
-        rt: &impl Wait,
-        alloc: Global,
-        at: u64,
-        bytes: &[u8],
-    ) -> Result<u64, Fail> {
-        if bytes.is_empty() || bytes.len() > 1_048_576 {
-            return Err("no such update".into());
-        }
-        let house = PageHouse::new(alloc, 1)?;
+    pub fn start<R: Wait + Abort + AllocGlobal>(&mut self, rt: &R, at: u64, bytes: &[u8]) -> u64 {
+        assert!(rt;
+            !bytes.is_empty() && bytes.len() <= 1_048_576,
+            "no such update"
+        );
+        let house = PageHouse::new(rt.alloc(), 1).expect(rt, "memory");
         let p = self.window.snapshot().page_size();
-        let pages = store(rt, alloc, &house, p, bytes)?;
-        self.number(alloc, at, pages)
+        let pages = store(rt, &house, p, bytes);
+        self.number(rt, at, pages)
     }
 
     /// The ticket of a numbered update, had version `published` been published at its numbering.
-    pub fn ticket(&self, alloc: Global, version: u64, published: u64) -> Result<Ticket, Fail>
-        ensures { IfOk result (λ t. IsTicketOf self.now t) }
+    pub fn ticket<R: Abort + AllocGlobal>(&self, rt: &R, version: u64, published: u64) -> Ticket
+        ensures { IsTicketOf self.now result }
     {
         range_log::laws::logs_are_grown();
         range_log::laws::older_versions_stay();
@@ -179,28 +211,29 @@ impl Blob {
         publisher::laws::windows_stand();
         let latest = self.window.snapshot();
         if version == 0 || version > self.begun.len() as u64 {
-            return Err("no such version".into());
+            panic!(rt; "no such version");
         }
         if published >= version || version - published > 65 || published > latest.version() {
-            return Err("not published, or too long ago".into());
+            panic!(rt; "not published, or too long ago");
         }
         let index = version as usize - 1;
-        let snapshot = latest.at(published)?;
-        let waiting = open_between(alloc, &self.touches, published as usize, index)?;
+        let snapshot = older(rt, latest, published);
+        let waiting = open_between(rt, &self.touches, published as usize, index);
         let begun = &self.begun[index];
-        let pages = Arc::try_clone(&begun.pages)?;
+        let pages = shared_again(rt, &begun.pages);
         let len = pages.len();
         let size = self.touches[index].size;
         let hints = Hints { snapshot, waiting };
-        Ok(Ticket::of(1, 1, version, begun.at, len, size, hints, pages))
+        Ticket::of(1, 1, version, begun.at, len, size, hints, pages)
     }
 
     /// The plan of a ticket's update, and the node steps that it took.
-    pub fn plan(&self, alloc: Global, ticket: &Ticket) -> Result<(PlannedRow, u64), Fail>
+    pub fn plan<R: Abort + AllocGlobal>(&self, rt: &R, ticket: &Ticket) -> (PlannedRow, u64)
         requires { IsTicketOf self.now ticket.now }
-        ensures { IfOk result (λ r. r.0 ≡ row_of self.now.window.page_size (extents (take ticket.now.version (updates_in self.now))) ticket.now.version) }
+        ensures { result.0 ≡ row_of self.now.window.page_size (extents (take ticket.now.version (updates_in self.now))) ticket.now.version }
     {
-        self.plan_counted::<Brand>(alloc, ticket, Blank::new(1))
+        self.plan_counted::<Brand>(rt.alloc(), ticket, Blank::new(1))
+            .expect(rt, "memory")
     }
 
     // The same, counted in the blank.
@@ -209,7 +242,7 @@ impl Blob {
         alloc: Global,
         ticket: &Ticket,
         blank: Blank,
-    ) -> Result<(PlannedRow, u64), Fail>
+    ) -> Result<(PlannedRow, u64), NoMemory>
         requires own { IsTicketOf self.now ticket.now }
         requires name { blank.name ≡ L.name }
         requires parts { blank.parts ≡ L.parts }
@@ -223,10 +256,11 @@ impl Blob {
 
     /// The visit bound of a read of the version that was published for the ticket, as it is told before the read, and the node
     /// steps that this took.
-    pub fn stated(&self, ticket: &Ticket, offset: u64, count: u64) -> Result<(u64, u64), Fail>
+    pub fn stated<R: Abort>(&self, rt: &R, ticket: &Ticket, offset: u64, count: u64) -> (u64, u64)
         requires { IsTicketOf self.now ticket.now }
     {
         self.stated_counted::<Brand>(ticket, offset, count, Blank::new(1))
+            .expect(rt, "a read within the size")
     }
 
     // The same, counted in the blank.
@@ -236,7 +270,7 @@ impl Blob {
         offset: u64,
         count: u64,
         blank: Blank,
-    ) -> Result<(u64, u64), Fail>
+    ) -> Result<(u64, u64), ReadFault>
         requires own { IsTicketOf self.now ticket.now }
         requires name { blank.name ≡ L.name }
         requires parts { blank.parts ≡ L.parts }
@@ -244,47 +278,50 @@ impl Blob {
     {
         let mut steps = Steps::<L>::open(blank);
         let snapshot = &ticket.hints().snapshot;
-        match stated(snapshot, offset, count, &mut steps) {
-            Ok(most) => Ok((most, steps.taken())),
-            Err(_) => Err("past the size".into()),
-        }
+        let most = stated(snapshot, offset, count, &mut steps)?;
+        Ok((most, steps.taken()))
     }
 
     /// The visit bound of a read of a version, computed plainly from what all updates touch and write.
-    pub fn plain_bound(&self, version: u64, offset: u64, count: u64) -> Result<u64, Fail> {
-        if version == 0 || version > self.begun.len() as u64 {
-            return Err("no such version".into());
-        }
+    pub fn plain_bound<R: Abort>(&self, rt: &R, version: u64, offset: u64, count: u64) -> u64 {
+        assert!(rt;
+            version != 0 && version <= self.begun.len() as u64,
+            "no such version"
+        );
         let p = self.window.snapshot().page_size();
         let k = version as usize;
-        plain_bound(p, &self.touches, &self.begun, k, offset, count)
+        plain_bound(p, &self.touches, &self.begun, k, offset, count).expect(
+            rt,
+            "a read within the size",
+        )
     }
 
     /// The row of a numbered update, made plainly from what all updates touch and write.
-    pub fn plain(&self, alloc: Global, version: u64) -> Result<Vec<(Range, Node)>, Fail> {
+    pub fn plain<R: Abort + AllocGlobal>(&self, rt: &R, version: u64) -> Vec<(Range, Node)> {
         range_log::laws::page_bytes_stay();
-        if version == 0 || version > self.begun.len() as u64 {
-            return Err("no such version".into());
-        }
+        assert!(rt;
+            version != 0 && version <= self.begun.len() as u64,
+            "no such version"
+        );
         let p = self.window.snapshot().page_size();
-        plain_row(alloc, p, &self.touches, &self.begun, version as usize)
+        plain_row(rt, p, &self.touches, &self.begun, version as usize)
     }
 
     /// Plans and stores the row of a numbered update, had version `published` been published at its numbering, and finishes
     /// the update.
-    pub fn finish(
+    pub fn finish<R: Abort + AllocGlobal>(
         &mut self,
-        alloc: Global,
+        rt: &R,
         version: u64,
         published: u64,
-    ) -> Result<Finished, Fail> {
+    ) -> Finished {
         snapshot::laws::rows_stay();
         publisher::laws::windows_stand();
         tree_weaver::laws::stored_rows_are_rows();
-        let ticket = self.ticket(alloc, version, published)?;
-        let (planned, _) = self.plan(alloc, &ticket)?;
-        let row = put_row(alloc, &ticket, planned)?;
+        let ticket = self.ticket(rt, version, published);
+        let (planned, _) = self.plan(rt, &ticket);
+        let row = put(rt, &ticket, planned);
         let version = ticket.version();
-        Ok(self.window.finish(version, row))
+        self.window.finish(version, row)
     }
 }

@@ -1,27 +1,25 @@
 //! Visit bounds of reads, told before the read, in pages of four bytes.
 use crate::plans::written;
-use std::alloc::Global;
+use std::process::Abort;
 use std::sync::Wait;
-use std::test::Fail;
 
 // The bound that is told of a read of the version that these updates leave.
-fn told(
-    rt: &impl Wait,
-    alloc: Global,
+fn told<R: Wait + Abort + AllocGlobal>(
+    rt: &R,
     updates: &[(u64, usize)],
     offset: u64,
     count: u64,
-) -> Result<u64, Fail> {
-    let mut blob = written(rt, alloc, updates)?;
+) -> u64 {
+    let mut blob = written(rt, updates);
     let end = blob.size();
-    let next = blob.start(rt, alloc, end, b"z")?;
-    let ticket = blob.ticket(alloc, next, next.saturating_sub(1))?;
-    let (most, _) = blob.stated(&ticket, offset, count)?;
-    Ok(most)
+    let next = blob.start(rt, end, b"z");
+    let ticket = blob.ticket(rt, next, next.saturating_sub(1));
+    let (most, _) = blob.stated(rt, &ticket, offset, count);
+    most
 }
 
 #[test]
-fn partial_writes_raise_the_bound_of_later_reads(rt: HostRuntime) -> Result<(), Fail> {
+fn partial_writes_raise_the_bound_of_later_reads(rt: HostRuntime) {
     let rows: [(&[(u64, usize)], u64, u64, u64); 6] = [
         (&[(0, 6), (6, 2)], 4, 4, 5),
         (&[(0, 1), (1, 31)], 0, 32, 23),
@@ -32,10 +30,9 @@ fn partial_writes_raise_the_bound_of_later_reads(rt: HostRuntime) -> Result<(), 
     ];
     for (updates, offset, length, want) in rows {
         assert_eq!(rt;
-            told(&rt, rt.alloc(), updates, offset, length)?,
+            told(&rt, updates, offset, length),
             want,
             "{length} bytes at {offset}"
         );
     }
-    Ok(())
 }

@@ -4,8 +4,7 @@ ghost use Rattle.range_log.specs.Extents.{IsLog};
 
 use crate::blob::{Begun, MAX_SIZE};
 use range_log::{newest, row_keys};
-use std::alloc::Global;
-use std::test::Fail;
+use std::process::Abort;
 use tree_geom::{Node, PageSize, Piece, Range, Touch, height, meets};
 
 /// The second piece of a leaf that has one.
@@ -31,26 +30,26 @@ impl Bytes {
 }
 
 // The one or two pieces of `len` bytes from byte `from` of the update's buffer on.
-fn plain_pieces(size: u64, from: u64, len: u64) -> Result<(u32, Piece, Piece), Fail>
+fn plain_pieces(size: u64, from: u64, len: u64) -> Option<(u32, Piece, Piece)>
     requires { 1 ≤ size }
 {
-    let page = u32::try_from(from / size)?;
+    let page = u32::try_from(from / size).ok()?;
     let begin = from % size;
     let here = len.min(size - begin);
     let first = Piece {
         page,
-        from: u32::try_from(begin)?,
-        len: u32::try_from(here)?,
+        from: u32::try_from(begin).ok()?,
+        len: u32::try_from(here).ok()?,
     };
     if here == len {
-        return Ok((1, first, NO_PIECE));
+        return Some((1, first, NO_PIECE));
     }
     let second = Piece {
         page: page.saturating_add(1),
         from: 0,
-        len: u32::try_from(len - here)?,
+        len: u32::try_from(len - here).ok()?,
     };
-    Ok((2, first, second))
+    Some((2, first, second))
 }
 
 // How deep the newest leaf of the page up to update `k` lies: 0 where its update writes all bytes of the page that there are
@@ -73,13 +72,7 @@ fn plain_depth(p: PageSize, log: &[Touch], begun: &[Begun], k: usize, page: Rang
 }
 
 // The leaf of update `k` for the page.
-fn plain_leaf(
-    p: PageSize,
-    log: &[Touch],
-    begun: &[Begun],
-    k: usize,
-    page: Range,
-) -> Result<Node, Fail>
+fn plain_leaf(p: PageSize, log: &[Touch], begun: &[Begun], k: usize, page: Range) -> Option<Node>
     requires some { 1 ≤ k }
     requires within { k ≤ length log.now }
     requires begun { k ≤ length begun.now }
@@ -96,8 +89,8 @@ fn plain_leaf(
     } else {
         newest(p, log, k - 1, page)
     };
-    Ok(Node::Leaf {
-        start: u32::try_from(low.saturating_sub(page.offset))?,
+    Some(Node::Leaf {
+        start: u32::try_from(low.saturating_sub(page.offset)).ok()?,
         count,
         first,
         second,
@@ -106,20 +99,14 @@ fn plain_leaf(
     })
 }
 
-// The node of update `k` for the range.
-fn plain_node(
-    p: PageSize,
-    log: &[Touch],
-    begun: &[Begun],
-    k: usize,
-    range: Range,
-) -> Result<Node, Fail>
+// The node of update `k` for the range, or none where the range passes the greatest size.
+fn plain_node(p: PageSize, log: &[Touch], begun: &[Begun], k: usize, range: Range) -> Option<Node>
     requires some { 1 ≤ k }
     requires within { k ≤ length log.now }
     requires begun { k ≤ length begun.now }
 {
     if range.offset > MAX_SIZE || range.size > MAX_SIZE - range.offset {
-        return Err("a range past the greatest size".into());
+        return None;
     }
     if range.size == p.bytes() {
         return plain_leaf(p, log, begun, k, range);
@@ -133,14 +120,15 @@ fn plain_node(
         offset: range.offset + size,
         size,
     };
-    Ok(Node::Inner {
+    Some(Node::Inner {
         left: newest(p, log, k, low),
         right: newest(p, log, k, high),
     })
 }
 
 /// The most nodes that a read of `count` bytes from byte `offset` on visits after the first `k` updates: two for each page
-/// that it meets and for each level of the tree, and how deep the newest leaf of each of the pages lies.
+/// that it meets and for each level of the tree, and how deep the newest leaf of each of the pages lies. It is none for a read
+/// past the size.
 pub fn plain_bound(
     p: PageSize,
     log: &[Touch],
@@ -148,17 +136,17 @@ pub fn plain_bound(
     k: usize,
     offset: u64,
     count: u64,
-) -> Result<u64, Fail>
+) -> Option<u64>
     requires some { 1 ≤ k }
     requires within { k ≤ length log.now }
     requires begun { k ≤ length begun.now }
 {
     if count == 0 {
-        return Ok(0);
+        return Some(0);
     }
     let size = log[k - 1].size;
     if size > MAX_SIZE || offset >= size || count > size - offset {
-        return Err("past the size".into());
+        return None;
     }
     let mut bound = u64::from(height(p, size)).saturating_mul(2);
     for page in offset / p.bytes()..(offset + count - 1) / p.bytes() + 1 {
@@ -167,35 +155,34 @@ pub fn plain_bound(
             size: p.bytes(),
         };
         if range.offset > MAX_SIZE - range.size {
-            return Err("a page past the greatest size".into());
+            return None;
         }
         let depth = plain_depth(p, log, begun, k, range);
         bound = bound.saturating_add(2).saturating_add(u64::from(depth));
     }
-    Ok(bound)
+    Some(bound)
 }
 
 /// The row of update `k`, by what the updates touch and where they begin.
-pub fn plain_row(
-    alloc: Global,
+pub fn plain_row<R: Abort + AllocGlobal>(
+    rt: &R,
     p: PageSize,
     log: &[Touch],
     begun: &[Begun],
     k: usize,
-) -> Result<Vec<(Range, Node)>, Fail>
+) -> Vec<(Range, Node)>
     requires some { 1 ≤ k }
     requires within { k ≤ length log.now }
     requires begun { k ≤ length begun.now }
     requires of_updates { IsLog p log.now }
 {
-    if log[k - 1].size > MAX_SIZE {
-        return Err("past the greatest size".into());
-    }
-    let keys = row_keys(alloc, p, log, k)?;
-    let mut row = Vec::new(alloc);
+    assert!(rt; log[k - 1].size <= MAX_SIZE, "past the greatest size");
+    let keys = row_keys(rt.alloc(), p, log, k).expect(rt, "memory");
+    let mut row = Vec::with_capacity(rt.alloc(), keys.len()).expect(rt, "memory");
     for i in 0..keys.len() {
         let range = keys[i];
-        row.push((range, plain_node(p, log, begun, k, range)?))?;
+        let node = plain_node(p, log, begun, k, range).expect(rt, "a node");
+        row.push((range, node)).expect(rt, "memory");
     }
-    Ok(row)
+    row
 }

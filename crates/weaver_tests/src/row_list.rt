@@ -6,8 +6,8 @@ use crate::plans::written;
 use node_store::Row;
 use radix_list::RadixList;
 use std::marker::Brand;
+use std::process::Abort;
 use std::sync::ledger::{Blank, Ledger};
-use std::test::Fail;
 use tree_geom::Steps;
 
 // The version and the offset of row `i`, counted from 0, if there is one.
@@ -28,24 +28,25 @@ fn row(rows: &RadixList<Row>, i: u64) -> Option<(u64, u64)> {
 }
 
 // The rows up to a published version.
-fn rows_at(blob: &Blob, version: u64) -> Result<RadixList<Row>, Fail> {
+fn rows_at<R: Abort>(rt: &R, blob: &Blob, version: u64) -> RadixList<Row> {
     let latest = blob.window().snapshot();
-    if version > latest.version() {
-        return Err("not published".into());
-    }
-    Ok(latest.at(version)?.into_rows())
+    assert!(rt; version <= latest.version(), "not published");
+    let snapshot = latest.at(version).expect(rt, "memory");
+    snapshot.into_rows()
+}
+
+// Checks the rows of two updates, of the first four bytes and of the two after them.
+fn check_two_rows<R: Abort>(rt: &R, rows: &RadixList<Row>) {
+    assert_eq!(rt; rows.len(), 2);
+    let told = [row(rows, 0), row(rows, 1), row(rows, 2)];
+    assert_eq!(rt; told, [Some((1, 0)), Some((2, 4)), None]);
 }
 
 #[test]
-fn a_snapshot_hands_out_the_rows_up_to_its_version(rt: HostRuntime) -> Result<(), Fail> {
-    let blob = written(&rt, rt.alloc(), &[(0, 4), (4, 2), (1, 3)])?;
-    let older = rows_at(&blob, 2)?;
-    assert_eq!(rt; older.len(), 2);
-    assert_eq!(rt; row(&older, 0), Some((1, 0)));
-    assert_eq!(rt; row(&older, 1), Some((2, 4)));
-    assert_eq!(rt; row(&older, 2), None);
-    let all = rows_at(&blob, 3)?;
+fn a_snapshot_hands_out_the_rows_up_to_its_version(rt: HostRuntime) {
+    let blob = written(&rt, &[(0, 4), (4, 2), (1, 3)]);
+    check_two_rows(&rt, &rows_at(&rt, &blob, 2));
+    let all = rows_at(&rt, &blob, 3);
     assert_eq!(rt; all.len(), 3);
     assert_eq!(rt; row(&all, 2), Some((3, 1)));
-    Ok(())
 }

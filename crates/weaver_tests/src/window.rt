@@ -2,9 +2,8 @@
 use crate::blob::Blob;
 use publisher::{FinishFault, Window};
 use range_log::OpenTouch;
-use std::alloc::Global;
+use std::process::Abort;
 use std::sync::Wait;
-use std::test::Fail;
 use tree_geom::{PageSize, Touch};
 
 const FIRST: OpenTouch = OpenTouch {
@@ -43,88 +42,81 @@ fn waits(window: &Window, want: &[OpenTouch]) -> bool {
     true
 }
 
-// The size of a published version, by its snapshot, or None where that is another version's.
-fn opened(window: &Window, version: u64) -> Result<Option<u64>, Fail> {
-    if version > window.published() {
-        return Err("not published".into());
-    }
-    let snapshot = window.snapshot_at(version)?;
-    if snapshot.version() != version {
-        return Ok(None);
-    }
-    Ok(Some(snapshot.size()))
+// Checks that just these updates wait.
+fn check_waits<R: Abort>(rt: &R, blob: &Blob, want: &[OpenTouch]) {
+    assert!(rt; waits(blob.window(), want));
+}
+
+// Numbers the update of these bytes at byte `at`, and checks its version.
+fn check_start<R: Wait + Abort + AllocGlobal>(
+    rt: &R,
+    blob: &mut Blob,
+    at: u64,
+    bytes: &[u8],
+    want: u64,
+) {
+    assert_eq!(rt; blob.start(rt, at, bytes), want);
 }
 
 // One byte is appended, and then 31; the waiting updates are those that were numbered.
-fn two_appends(rt: &impl Wait, alloc: Global) -> Result<Blob, Fail> {
-    let mut blob = Blob::new(alloc, PageSize::new(4).ok_or("four bytes")?)?;
-    let none = waits(blob.window(), &[]);
-    let one = blob.start(rt, alloc, 0, &[0])?;
-    let first = waits(blob.window(), &[FIRST]);
-    let two = blob.start(rt, alloc, 1, &[0; 31])?;
-    let both = waits(blob.window(), &[FIRST, SECOND]);
-    if !none || !first || !both || one != 1 || two != 2 {
-        return Err("numbered otherwise".into());
-    }
-    Ok(blob)
+fn two_appends<R: Wait + Abort + AllocGlobal>(rt: &R) -> Blob {
+    let p = PageSize::new(4).expect(rt, "four bytes");
+    let mut blob = Blob::new(rt, p);
+    check_waits(rt, &blob, &[]);
+    check_start(rt, &mut blob, 0, &[0], 1);
+    check_waits(rt, &blob, &[FIRST]);
+    check_start(rt, &mut blob, 1, &[0; 31], 2);
+    check_waits(rt, &blob, &[FIRST, SECOND]);
+    blob
 }
 
 // What a finish answers: the published version, or none where it was finished already and its row came back.
-fn finished(alloc: Global, blob: &mut Blob, version: u64) -> Result<Option<u64>, Fail> {
-    match blob.finish(alloc, version, 0)? {
-        Ok(published) => Ok(Some(published)),
-        Err((FinishFault::Already, row)) if row.version() == version => Ok(None),
-        Err(_) => Err("another fault or row".into()),
+fn finished<R: Abort + AllocGlobal>(rt: &R, blob: &mut Blob, version: u64) -> Option<u64> {
+    match blob.finish(rt, version, 0) {
+        Ok(published) => Some(published),
+        Err((fault, row)) => {
+            assert_eq!(rt; (fault, row.version()), (FinishFault::Already, version));
+            None
+        }
     }
 }
 
-// Finishes version 2 and then version 1, and tells what both answer where the waiting updates are right after each.
-fn finished_in_turn(alloc: Global, blob: &mut Blob) -> Result<[Option<u64>; 2], Fail> {
-    let second = finished(alloc, blob, 2)?;
-    if !waits(blob.window(), &[FIRST, SECOND]) {
-        return Ok([None, None]);
-    }
-    let first = finished(alloc, blob, 1)?;
-    if !waits(blob.window(), &[]) {
-        return Ok([second, None]);
-    }
-    Ok([second, first])
+// Checks what a finish answers, and what is published then.
+fn check_finish<R: Abort + AllocGlobal>(
+    rt: &R,
+    blob: &mut Blob,
+    version: u64,
+    want: Option<u64>,
+    published: u64,
+) {
+    assert_eq!(rt; finished(rt, blob, version), want);
+    assert_eq!(rt; blob.window().published(), published);
 }
 
-// The sizes of versions 0, 1 and 2, by their snapshots.
-fn sizes(window: &Window) -> Result<[Option<u64>; 3], Fail> {
-    Ok([opened(window, 0)?, opened(window, 1)?, opened(window, 2)?])
+// Checks that the snapshot of a published version is that version's and has so many bytes.
+fn check_size<R: Abort>(rt: &R, window: &Window, version: u64, want: u64) {
+    assert!(rt; version <= window.published(), "not published");
+    let snapshot = window.snapshot_at(version).expect(rt, "memory");
+    assert_eq!(rt; (snapshot.version(), snapshot.size()), (version, want));
 }
 
 #[test]
-fn a_later_update_is_published_once_the_earlier_one_is_finished(
-    rt: HostRuntime,
-) -> Result<(), Fail> {
-    let mut blob = two_appends(&rt, rt.alloc())?;
-    assert_eq!(rt;
-        finished_in_turn(rt.alloc(), &mut blob)?,
-        [Some(0), Some(2)]
-    );
-    assert_eq!(rt; sizes(blob.window())?, [Some(0), Some(1), Some(32)]);
-    Ok(())
-}
-
-// What both versions answer when they are finished a second time, and what is published then.
-fn finished_again(alloc: Global, blob: &mut Blob) -> Result<[Option<u64>; 4], Fail> {
-    let _ = finished(alloc, blob, 2)?;
-    let second = finished(alloc, blob, 2)?;
-    let none = blob.window().published();
-    let _ = finished(alloc, blob, 1)?;
-    let first = finished(alloc, blob, 1)?;
-    Ok([second, Some(none), first, Some(blob.window().published())])
+fn a_later_update_is_published_once_the_earlier_one_is_finished(rt: HostRuntime) {
+    let mut blob = two_appends(&rt);
+    check_finish(&rt, &mut blob, 2, Some(0), 0);
+    check_waits(&rt, &blob, &[FIRST, SECOND]);
+    check_finish(&rt, &mut blob, 1, Some(2), 2);
+    check_waits(&rt, &blob, &[]);
+    check_size(&rt, blob.window(), 0, 0);
+    check_size(&rt, blob.window(), 1, 1);
+    check_size(&rt, blob.window(), 2, 32);
 }
 
 #[test]
-fn a_version_that_is_finished_already_gives_the_row_back(rt: HostRuntime) -> Result<(), Fail> {
-    let mut blob = two_appends(&rt, rt.alloc())?;
-    assert_eq!(rt;
-        finished_again(rt.alloc(), &mut blob)?,
-        [None, Some(0), None, Some(2)]
-    );
-    Ok(())
+fn a_version_that_is_finished_already_gives_the_row_back(rt: HostRuntime) {
+    let mut blob = two_appends(&rt);
+    check_finish(&rt, &mut blob, 2, Some(0), 0);
+    check_finish(&rt, &mut blob, 2, None, 0);
+    check_finish(&rt, &mut blob, 1, Some(2), 2);
+    check_finish(&rt, &mut blob, 1, None, 2);
 }

@@ -18,11 +18,11 @@ loop-i-preserved g c =
     let i = c.loop-i.invariant in
     let e = c.add.ensures.added in
     let F : Cut → Type 0 = λ x. AllFull x.page_size x.pages in
-    let bytes : length c.of.result.bytes ≡ c.loop-i.pages.page_size = ap (λ (x : Stored). length x.bytes) c.of.ensures ∙ ap length c.in_ok-page.ensures.bytes
+    let bytes : length c.page_of.result.bytes ≡ c.loop-i.pages.page_size = c.page_of.ensures
     ∙ full_page c.args.bytes.now c.loop-i.i c.bytes-size.result _ refl (omega (arith, c.bytes-size.ensures.bounds)) (omega arith) ∙ c.bytes-size.ensures.is ∙ sym i.page_size in
     record {
       page_size = ap (λ (x : Cut). x.page_size) e ∙ i.page_size;
       room = ap (λ (x : Cut). x.room) e ∙ i.room;
-      count = ap (λ (x : Cut). length x.pages) e ∙ omega (arith, length-append c.loop-i.pages.pages (c.of.result ∷ []), i.count);
-      full = subst F (sym e) (All-push (λ (s : Stored). length s.bytes ≡ c.loop-i.pages.page_size) c.loop-i.pages.pages c.of.result i.full bytes);
+      count = ap (λ (x : Cut). length x.pages) e ∙ omega (arith, length-append c.loop-i.pages.pages (c.page_of.result ∷ []), i.count);
+      full = subst F (sym e) (All-push (λ (s : Stored). length s.bytes ≡ c.loop-i.pages.page_size) c.loop-i.pages.pages c.page_of.result i.full bytes);
     }

@@ -8,11 +8,11 @@ use Rattle.weaver_tests.specs.Blobs.{OneBlob, Start}
 use Rattle.weaver_tests.proofs.Steady.{blob_of, numbered_blob}
 use Rattle.weaver_tests.proofs.blob.Blob.number.Goals as goal
 
-pub invariant_of-self-2 : goal.invariant_of-self-2
-invariant_of-self-2 c =
+pub invariant_of-self : goal.invariant_of-self
+invariant_of-self g c =
     let b : OneBlob = blob_of c.self.inside.window c.self.inside.touches.items c.self.inside.begun.items in
-    let s : Start = record { at = c.args.at; pages = arc_value c.in_ok-pages.pages } in
-    let same : s.pages ≡ c.args.pages = c.in_ok-pages.ensures.ok in
+    let s : Start = record { at = c.args.at; pages = arc_value c.shared-pages.result } in
+    let same : s.pages ≡ c.args.pages = c.shared-pages.ensures in
     let size : c.size-size.result ≡ size_at b.touches (length b.touches) = c.size-size.ensures ∙ ap (λ (x : OneBlob). size_at x.touches (length x.touches)) (sym c.self.view_is) in
     let own = ap (λ (x : OneBlob). x.window.page_size) (sym c.self.view_is) in
     numbered_blob c.logs_are_grown.ensures.count c.logs_are_grown.ensures.touches c.logs_are_grown.ensures.sizes c.page_bytes_stay.ensures.extents c.windows_stand.ensures.numbered
