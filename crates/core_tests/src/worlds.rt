@@ -1,49 +1,55 @@
 // Two appends of a byte, whose second is stored first; and steps that no world allows.
-use crate::steps::{Script, assert_reads, finish, key, node, read};
-use blob_core::{ReplayFault, Step};
+use crate::steps::{Script, assert_fault, assert_reads, finish, key, node, read};
+use blob_core::{Step, World};
 use blob_model::Place;
-use std::alloc::{AllocError, Global};
-use std::test::Fail;
+use std::process::Abort;
 use tree_geom::{Node, Piece};
 
 /// A blob, two pages of a byte, and an append of each.
-fn two_appends(alloc: Global) -> Result<Script, AllocError> {
-    let mut script = Script::of_one_blob(alloc)?;
-    script.page(1, &[0xaa])?;
-    script.page(2, &[0xbb])?;
-    script.update(1, Place::Append, &[1])?;
-    script.update(1, Place::Append, &[2])?;
-    Ok(script)
+fn two_appends(rt: &(impl Abort + AllocGlobal)) -> Script {
+    let mut script = Script::of_one_blob(rt);
+    script.page(rt, 1, &[0xaa]);
+    script.page(rt, 2, &[0xbb]);
+    script.update(rt, 1, Place::Append, &[1]);
+    script.update(rt, 1, Place::Append, &[2]);
+    script
 }
 
 #[test]
-fn a_finish_without_its_node_is_not_possible(rt: HostRuntime) -> Result<(), Fail> {
-    let mut script = two_appends(rt.alloc())?;
-    script.step(finish(1, 2))?;
-    assert_eq!(rt; script.fault()?, Some(ReplayFault::NotPossible(6)));
-    Ok(())
+fn a_finish_without_its_node_is_not_possible(rt: HostRuntime) {
+    let mut script = two_appends(&rt);
+    script.step(&rt, finish(1, 2));
+    assert_fault(&rt, &script, 6);
 }
 
-#[test]
-fn the_second_append_waits_for_the_first(rt: HostRuntime) -> Result<(), Fail> {
-    let mut script = two_appends(rt.alloc())?;
-    script.step(node(1, 2, 0, 4))?;
-    script.step(finish(1, 2))?;
-    let world = script.replay()??;
+/// Asserts that neither append is published.
+fn assert_none(rt: &(impl Abort + AllocGlobal), world: &World) {
     assert_eq!(rt; world.published(1), Some(0));
-    assert!(rt; read(rt.alloc(), &world, (1, 2), 0, 2)?.is_none());
-    script.step(node(1, 1, 0, 4))?;
-    script.step(finish(1, 1))?;
-    let world = script.replay()??;
+    assert!(rt; read(rt, world, (1, 2), 0, 2).is_none());
+}
+
+/// Asserts that both appends are published.
+fn assert_both(rt: &(impl Abort + AllocGlobal), world: &World) {
     assert_eq!(rt; world.published(1), Some(2));
-    assert_reads(&rt, &world, (1, 2), 0, &[0xaa, 0xbb])
+    assert_reads(rt, world, (1, 2), 0, &[0xaa, 0xbb]);
 }
 
 #[test]
-fn a_leaf_leads_back_to_the_version_that_waits(rt: HostRuntime) -> Result<(), Fail> {
-    let mut script = two_appends(rt.alloc())?;
-    script.step(node(1, 2, 0, 4))?;
-    let world = script.replay()??;
+fn the_second_append_waits_for_the_first(rt: HostRuntime) {
+    let mut script = two_appends(&rt);
+    script.step(&rt, node(1, 2, 0, 4));
+    script.step(&rt, finish(1, 2));
+    assert_none(&rt, &script.world(&rt));
+    script.step(&rt, node(1, 1, 0, 4));
+    script.step(&rt, finish(1, 1));
+    assert_both(&rt, &script.world(&rt));
+}
+
+#[test]
+fn a_leaf_leads_back_to_the_version_that_waits(rt: HostRuntime) {
+    let mut script = two_appends(&rt);
+    script.step(&rt, node(1, 2, 0, 4));
+    let world = script.world(&rt);
     let leaf = Node::Leaf {
         start: 1,
         count: 1,
@@ -62,20 +68,18 @@ fn a_leaf_leads_back_to_the_version_that_waits(rt: HostRuntime) -> Result<(), Fa
     };
     assert_eq!(rt; world.node(key(1, 2, 0, 4)), Some(leaf));
     assert!(rt; world.node(key(1, 1, 0, 4)).is_none());
-    Ok(())
 }
 
 /// After two appends, the step isn't allowed.
-fn assert_refused(rt: &(impl std::process::Abort + AllocGlobal), step: Step) -> Result<(), Fail> {
-    let mut script = two_appends(rt.alloc())?;
-    script.step(step)?;
-    script.step(Step::Create { caller: 1 })?;
-    assert_eq!(rt; script.fault()?, Some(ReplayFault::NotPossible(6)));
-    Ok(())
+fn assert_refused(rt: &(impl Abort + AllocGlobal), step: Step) {
+    let mut script = two_appends(rt);
+    script.step(rt, step);
+    script.step(rt, Step::Create { caller: 1 });
+    assert_fault(rt, &script, 6);
 }
 
 #[test]
-fn a_node_is_put_for_a_range_of_its_row(rt: HostRuntime) -> Result<(), Fail> {
+fn a_node_is_put_for_a_range_of_its_row(rt: HostRuntime) {
     // before its numbering, of no blob, and for ranges that no node of it has
     let keys = [
         (1, 3, 0, 4),
@@ -86,70 +90,67 @@ fn a_node_is_put_for_a_range_of_its_row(rt: HostRuntime) -> Result<(), Fail> {
         (1, 2, 0, 2),
     ];
     for (blob, version, offset, size) in keys {
-        assert_refused(&rt, node(blob, version, offset, size))?;
+        assert_refused(&rt, node(blob, version, offset, size));
     }
-    Ok(())
 }
 
 #[test]
-fn what_the_store_refuses_is_no_step(rt: HostRuntime) -> Result<(), Fail> {
+fn what_the_store_refuses_is_no_step(rt: HostRuntime) {
     for (blob, version) in [(1, 1), (2, 0)] {
-        assert_refused(
-            &rt,
-            Step::Branch {
-                caller: 1,
-                blob,
-                version,
-            },
-        )?;
+        let branch = Step::Branch {
+            caller: 1,
+            blob,
+            version,
+        };
+        assert_refused(&rt, branch);
     }
     for (version, offset, length) in [(1, 0, 1), (0, 0, 1), (0, u64::MAX, 2)] {
-        assert_refused(
-            &rt,
-            Step::Read {
-                blob: 1,
-                version,
-                offset,
-                length,
-            },
-        )?;
+        let read = Step::Read {
+            blob: 1,
+            version,
+            offset,
+            length,
+        };
+        assert_refused(&rt, read);
     }
     for version in [0, 1, 3] {
-        assert_refused(&rt, finish(1, version))?;
+        assert_refused(&rt, finish(1, version));
     }
-    Ok(())
+}
+
+/// After two appends, a page of this number and these bytes isn't stored.
+fn assert_no_page(rt: &(impl Abort + AllocGlobal), number: u64, bytes: &[u8]) {
+    let mut script = two_appends(rt);
+    script.page(rt, number, bytes);
+    assert_fault(rt, &script, 6);
+}
+
+/// After two appends, an append of these pages isn't numbered.
+fn assert_no_append(rt: &(impl Abort + AllocGlobal), pages: &[u64]) {
+    let mut script = two_appends(rt);
+    script.update(rt, 1, Place::Append, pages);
+    assert_fault(rt, &script, 6);
 }
 
 #[test]
-fn pages_come_once_and_are_full_but_the_last(rt: HostRuntime) -> Result<(), Fail> {
+fn pages_come_once_and_are_full_but_the_last(rt: HostRuntime) {
     // a number that is taken, no byte, and 5 bytes
-    let pages = [(2u64, 1usize), (3, 0), (3, 5)];
-    for (number, size) in pages {
-        let mut script = two_appends(rt.alloc())?;
-        script.page(number, vec![in rt.alloc(); 7u8; size]?.as_slice())?;
-        assert_eq!(rt; script.fault()?, Some(ReplayFault::NotPossible(6)));
-    }
+    assert_no_page(&rt, 2, &[7]);
+    assert_no_page(&rt, 3, &[]);
+    assert_no_page(&rt, 3, &[7; 5]);
     // no page, one that isn't there, and one of a byte before another
-    for count in 0..3u64 {
-        let mut script = two_appends(rt.alloc())?;
-        match count {
-            0 => script.update(1, Place::Append, &[])?,
-            1 => script.update(1, Place::Append, &[3])?,
-            _ => script.update(1, Place::Append, &[1, 2])?,
-        }
-        assert_eq!(rt; script.fault()?, Some(ReplayFault::NotPossible(6)));
-    }
-    Ok(())
+    assert_no_append(&rt, &[]);
+    assert_no_append(&rt, &[3]);
+    assert_no_append(&rt, &[1, 2]);
 }
 
 #[test]
-fn a_node_is_kept_and_a_finish_comes_once(rt: HostRuntime) -> Result<(), Fail> {
-    let mut script = two_appends(rt.alloc())?;
-    script.step(node(1, 1, 0, 4))?;
-    script.step(node(1, 1, 0, 4))?;
-    script.step(finish(1, 1))?;
-    assert_eq!(rt; script.fault()?, None);
-    script.step(finish(1, 1))?;
-    assert_eq!(rt; script.fault()?, Some(ReplayFault::NotPossible(9)));
-    Ok(())
+fn a_node_is_kept_and_a_finish_comes_once(rt: HostRuntime) {
+    let mut script = two_appends(&rt);
+    script.step(&rt, node(1, 1, 0, 4));
+    script.step(&rt, node(1, 1, 0, 4));
+    script.step(&rt, finish(1, 1));
+    assert_eq!(rt; script.fault(&rt), None);
+    script.step(&rt, finish(1, 1));
+    assert_fault(&rt, &script, 9);
 }
