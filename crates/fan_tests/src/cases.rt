@@ -1,10 +1,10 @@
 //! The cases of the table, and what an update comes to.
-ghost use Rattle.std.specs.Prelude.{◌≡◌, ◌≤◌, All, IfOk, length};
+ghost use Rattle.std.specs.Prelude.{◌≡◌, All, length};
 ghost use Rattle.page_store.specs.House.{IsProvider};
 
 use provider_manager::{LoadBook, Placements};
 use std::alloc::{AllocError, Global};
-use std::test::Fail;
+use std::process::Abort;
 
 /// An update over four providers, and the two calls at which each door fails, that of provider 1 first. 0 is no call.
 #[derive(Clone, Copy, Debug)]
@@ -47,15 +47,13 @@ impl Case {
     }
 
     /// Where its pages go.
-    pub(crate) fn placed(&self, alloc: Global) -> Result<Placements, Fail>
-        ensures pages { IfOk result (λ placed. length placed ≡ self.now.pages) }
-        ensures known { IfOk result (All (All (IsProvider 4))) }
+    pub(crate) fn placed<R: Abort>(&self, rt: &R, alloc: Global) -> Placements
+        ensures pages { length result ≡ self.now.pages }
+        ensures known { All (All (IsProvider 4)) result }
     {
-        if self.replicas < 1 || self.replicas > 4 {
-            return Err(self.replicas.into());
-        }
-        let mut book = LoadBook::new(alloc, 4, self.replicas)?;
-        let placed = book.place(alloc, self.pages)?;
-        Ok(placed)
+        let replicas = self.replicas;
+        assert!(rt; replicas >= 1 && replicas <= 4, "{replicas} replicas");
+        let mut book = LoadBook::new(alloc, 4, replicas).expect(rt, "memory");
+        book.place(alloc, self.pages).expect(rt, "memory")
     }
 }

@@ -6,102 +6,110 @@ use page_store::{Door, FlakyDoor, Houses, MAX_PAGE, PutAnswer};
 use provider_manager::Placements;
 use replica_place::Placement;
 use std::alloc::Global;
+use std::process::Abort;
 use std::sync::Wait;
-use std::test::Fail;
 
 // The doors of the case, that of provider 1 first.
-fn doors_of(alloc: Global, case: &Case) -> Result<Vec<FlakyDoor>, Fail> {
+fn doors_of<R: Abort>(rt: &R, alloc: Global, case: &Case) -> Vec<FlakyDoor> {
     let mut doors = Vec::new(alloc);
     for (first, second) in case.calls {
-        doors.push(FlakyDoor::new(vec![in alloc; first, second]?))?;
+        let calls = vec![in alloc; first, second].expect(rt, "memory");
+        doors.push(FlakyDoor::new(calls)).expect(rt, "memory");
     }
-    Ok(doors)
+    doors
 }
 
 // Puts the page at one provider, and notes the provider where its door took it.
-fn put_at<R: Wait>(
+fn put_at<R: Abort + Wait>(
     rt: &R,
     doors: &mut Vec<FlakyDoor>,
     houses: &Houses,
     provider: u32,
     page: &[u8],
     taken: &mut Vec<u32>,
-) -> Result<(), Fail>
+)
     requires { length houses.now ≡ 4 }
 {
-    if provider < 1 || provider > 4 || page.is_empty() || page.len() > MAX_PAGE {
-        return Err(provider.into());
-    }
-    let door = doors.get_mut(provider as usize - 1).ok_or("a door")?;
+    assert!(rt; provider >= 1 && provider <= 4, "provider {provider}");
+    assert!(rt;
+        !page.is_empty() && page.len() <= MAX_PAGE,
+        "the bytes of a page"
+    );
+    let door = doors.get_mut(provider as usize - 1).expect(rt, "a door");
     match door.put(rt, houses.house(provider), page) {
-        PutAnswer::Stored(_) => taken.push(provider)?,
+        PutAnswer::Stored(_) => taken.push(provider).expect(rt, "memory"),
         PutAnswer::Failed => {}
-        PutAnswer::NoMemory => return Err("no memory".into()),
+        PutAnswer::NoMemory => panic!(rt; "no memory"),
     }
-    Ok(())
 }
 
 // Puts the page at each provider of its placement, and answers whether a door took it.
-fn put_page<R: Wait>(
+fn put_page<R: Abort + Wait>(
     rt: &R,
     doors: &mut Vec<FlakyDoor>,
     houses: &Houses,
     placement: &Placement,
     page: &[u8],
     taken: &mut Vec<u32>,
-) -> Result<bool, Fail>
+) -> bool
     requires { length houses.now ≡ 4 }
 {
     let before = taken.len();
     for provider in placement.chosen() {
-        put_at(rt, doors, houses, *provider, page, taken)?;
+        put_at(rt, doors, houses, *provider, page, taken);
     }
     let is_taken = taken.len() > before;
-    taken.push(0)?;
-    Ok(is_taken)
+    taken.push(0).expect(rt, "memory");
+    is_taken
 }
 
-// Puts all pages, also those behind one that was lost.
-fn put_pages<R: Wait>(
+// Puts all pages, also those behind one that was lost: who took them, or the first that was lost.
+fn put_pages<R: Abort + Wait>(
     rt: &R,
     alloc: Global,
     doors: &mut Vec<FlakyDoor>,
     page_size: usize,
     bytes: &[u8],
     placements: &Placements,
-) -> Result<Result<Vec<u32>, u64>, Fail> {
-    let houses = Houses::new(alloc, 4)?;
+) -> Result<Vec<u32>, u64> {
+    let houses = Houses::new(alloc, 4).expect(rt, "memory");
     let mut taken = Vec::new(alloc);
     let mut lost = None;
     let mut rest = bytes;
     for i in 0..placements.count() {
         let (page, behind) = rest.split_at(page_size.min(rest.len()));
-        let is_taken = put_page(rt, doors, &houses, placements.of(i), page, &mut taken)?;
+        let is_taken = put_page(rt, doors, &houses, placements.of(i), page, &mut taken);
         if !is_taken && lost.is_none() {
             lost = Some(u64::from(i));
         }
         rest = behind;
     }
-    Ok(match lost {
+    match lost {
         None => Ok(taken),
         Some(i) => Err(i),
-    })
+    }
+}
+
+// How many calls of each door failed.
+fn faults_of<R: Abort>(rt: &R, alloc: Global, doors: &[FlakyDoor]) -> Vec<u64> {
+    let mut faults = Vec::new(alloc);
+    for door in doors {
+        faults.push(door.faults()).expect(rt, "memory");
+    }
+    faults
 }
 
 /// What the plain loop comes to.
-pub(crate) fn put_plainly<R: Wait>(
+pub(crate) fn put_plainly<R: Abort + Wait>(
     rt: &R,
     alloc: Global,
     case: &Case,
     bytes: &[u8],
-) -> Result<Outcome, Fail> {
-    let placements = case.placed(alloc)?;
-    let mut doors = doors_of(alloc, case)?;
+) -> Outcome {
+    let placements = case.placed(rt, alloc);
+    let mut doors = doors_of(rt, alloc, case);
     let page_size = case.page_size as usize;
-    let taken = put_pages(rt, alloc, &mut doors, page_size, bytes, &placements)?;
-    let mut faults = Vec::new(alloc);
-    for door in doors.iter() {
-        faults.push(door.faults())?;
-    }
-    Ok(Outcome { taken, faults })
+    let taken = put_pages(rt, alloc, &mut doors, page_size, bytes, &placements);
+    let faults = faults_of(rt, alloc, doors.as_slice());
+    Outcome { taken, faults }
 }
