@@ -3,9 +3,8 @@
 use crate::heard::{heard_cut_at, heard_in_pieces};
 use frame_wire::FrameDialect;
 use request_form::{Dialect, Heard, Request};
-use std::alloc::{AllocError, Global};
+use std::alloc::Global;
 use std::process::Abort;
-use std::test::Fail;
 
 static PIECES: [usize; 5] = [1, 2, 3, 7, 65_536];
 
@@ -70,113 +69,100 @@ static STREAMS: [(&str, &str); 18] = [
 ];
 
 // Feeds a stream in pieces of this length, and checks what it says.
-fn check_stream<R: Abort>(
-    rt: &R,
-    alloc: Global,
-    stream: &[u8],
-    want: &str,
-    piece: usize,
-) -> Result<(), Fail> {
-    let mut dialect = FrameDialect::new(alloc)?;
-    let told = heard_in_pieces(alloc, &mut dialect, stream, piece)?;
+fn check_stream<R: Abort>(rt: &R, alloc: Global, stream: &[u8], want: &str, piece: usize) {
+    let mut dialect = FrameDialect::new(alloc).expect(rt, "memory");
+    let told = heard_in_pieces(rt, alloc, &mut dialect, stream, piece);
     assert_eq!(rt; told.as_str(), want, "in pieces of {piece}");
-    Ok(())
 }
 
-fn check_streams<R: Abort>(
-    rt: &R,
-    alloc: Global,
-    rows: &[(&str, &str)],
-    piece: usize,
-) -> Result<(), Fail> {
+fn decoded<R: Abort>(rt: &R, alloc: Global, digits: &str) -> Vec<u8> {
+    hex::decode(alloc, digits).expect(rt, digits)
+}
+
+fn check_streams<R: Abort>(rt: &R, alloc: Global, rows: &[(&str, &str)], piece: usize) {
     for (digits, want) in rows {
-        let stream = hex::decode(alloc, digits)?;
-        check_stream(rt, alloc, stream.as_slice(), want, piece)?;
+        let stream = decoded(rt, alloc, digits);
+        check_stream(rt, alloc, stream.as_slice(), want, piece);
     }
-    Ok(())
 }
 
 #[test]
-fn streams_say_the_same_in_pieces_of_any_length(rt: HostRuntime) -> Result<(), Fail> {
+fn streams_say_the_same_in_pieces_of_any_length(rt: HostRuntime) {
     for piece in PIECES.as_slice() {
-        check_streams(&rt, rt.alloc(), STREAMS.as_slice(), *piece)?;
+        check_streams(&rt, rt.alloc(), STREAMS.as_slice(), *piece);
     }
-    Ok(())
 }
 
 // Feeds a stream in two pieces, the first with so many bytes, and checks what it says.
-fn check_cut<R: Abort>(
-    rt: &R,
-    alloc: Global,
-    stream: &[u8],
-    want: &str,
-    at: usize,
-) -> Result<(), Fail> {
-    let mut dialect = FrameDialect::new(alloc)?;
-    let told = heard_cut_at(alloc, &mut dialect, stream, at)?;
+fn check_cut<R: Abort>(rt: &R, alloc: Global, stream: &[u8], want: &str, at: usize) {
+    let mut dialect = FrameDialect::new(alloc).expect(rt, "memory");
+    let told = heard_cut_at(rt, alloc, &mut dialect, stream, at);
     assert_eq!(rt; told.as_str(), want, "cut at {at}");
-    Ok(())
 }
 
 // The same, cut at each byte.
-fn check_cuts<R: Abort>(rt: &R, alloc: Global, digits: &str, want: &str) -> Result<(), Fail> {
-    let stream = hex::decode(alloc, digits)?;
+fn check_cuts<R: Abort>(rt: &R, alloc: Global, digits: &str, want: &str) {
+    let stream = decoded(rt, alloc, digits);
     for at in 0..stream.len() {
-        check_cut(rt, alloc, stream.as_slice(), want, at)?;
+        check_cut(rt, alloc, stream.as_slice(), want, at);
     }
-    Ok(())
 }
 
 #[test]
-fn streams_say_the_same_cut_at_each_byte(rt: HostRuntime) -> Result<(), Fail> {
+fn streams_say_the_same_cut_at_each_byte(rt: HostRuntime) {
     for (digits, want) in STREAMS.as_slice() {
-        check_cuts(&rt, rt.alloc(), digits, want)?;
+        check_cuts(&rt, rt.alloc(), digits, want);
     }
-    Ok(())
 }
 
 // A head, and a byte so many times behind it.
-fn long_frame(alloc: Global, head: &[u8], byte: u8, count: usize) -> Result<Vec<u8>, AllocError> {
-    let mut stream = head.to_vec(alloc)?;
-    let body = vec![in alloc; byte; count]?;
-    stream.extend_from_slice(body.as_slice())?;
-    Ok(stream)
+fn long_frame<R: Abort>(rt: &R, alloc: Global, head: &[u8], byte: u8, count: usize) -> Vec<u8> {
+    let mut stream = head.to_vec(alloc).expect(rt, "memory");
+    let body = vec![in alloc; byte; count].expect(rt, "memory");
+    stream
+        .extend_from_slice(body.as_slice())
+        .expect(rt, "memory");
+    stream
 }
 
 // A frame whose length is past the greatest by one, and a frame behind it.
-fn too_long(alloc: Global) -> Result<Vec<u8>, AllocError> {
-    let mut stream = long_frame(alloc, &[0, 0x20, 0, 1], 1, 2_097_153)?;
-    stream.extend_from_slice(&[0, 0, 0, 1, 1])?;
-    Ok(stream)
+fn too_long<R: Abort>(rt: &R, alloc: Global) -> Vec<u8> {
+    let mut stream = long_frame(rt, alloc, &[0, 0x20, 0, 1], 1, 2_097_153);
+    stream
+        .extend_from_slice(&[0, 0, 0, 1, 1])
+        .expect(rt, "memory");
+    stream
 }
 
 #[test]
-fn a_frame_that_is_too_long_is_answered_behind_its_last_byte(rt: HostRuntime) -> Result<(), Fail> {
+fn a_frame_that_is_too_long_is_answered_behind_its_last_byte(rt: HostRuntime) {
     let alloc = rt.alloc();
-    let stream = too_long(alloc)?;
-    check_stream(
-        &rt,
-        alloc,
-        stream.as_slice(),
-        "frame-too-long 2097153;create;",
-        65_536,
-    )?;
-    let (front, _) = stream.as_slice().split_at(2_097_156.min(stream.len()));
-    check_stream(&rt, alloc, front, "cut;", 65_536)
+    let stream = too_long(&rt, alloc);
+    let stream = stream.as_slice();
+    check_stream(&rt, alloc, stream, "frame-too-long 2097153;create;", 65_536);
+    let (front, _) = stream.split_at(2_097_156.min(stream.len()));
+    check_stream(&rt, alloc, front, "cut;", 65_536);
+}
+
+// How many bytes the next item appends to blob 1, where a piece of a stream ends one.
+fn appended<R: Abort>(rt: &R, dialect: &mut FrameDialect, piece: &[u8]) -> Option<usize> {
+    dialect.feed(piece).expect(rt, "memory");
+    match dialect.next().expect(rt, "memory") {
+        Some(Heard::Asked(Request::Append { blob: 1, bytes })) => Some(bytes.len()),
+        _ => None,
+    }
 }
 
 #[test]
-fn an_update_of_the_longest_frame_is_heard_whole(rt: HostRuntime) -> Result<(), Fail> {
+fn an_update_of_the_longest_frame_is_heard_whole(rt: HostRuntime) {
     let head = [0, 0x20, 0, 0, 2, 0, 0, 0, 0, 0, 0, 0, 1];
-    let stream = long_frame(rt.alloc(), &head, 7, 2_097_143)?;
-    let mut dialect = FrameDialect::new(rt.alloc())?;
+    let stream = long_frame(&rt, rt.alloc(), &head, 7, 2_097_143);
+    let mut dialect = FrameDialect::new(rt.alloc()).expect(&rt, "memory");
     let mut count = 0;
     for part in stream.as_slice().chunks(1000) {
-        dialect.feed(part)?;
-        if let Some(Heard::Asked(Request::Append { blob: 1, bytes })) = dialect.next()? {
-            count = bytes.len();
+        if let Some(length) = appended(&rt, &mut dialect, part) {
+            count = length;
         }
     }
     assert_eq!(rt; count, 2_097_143);
-    Ok(())
 }

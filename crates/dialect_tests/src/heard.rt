@@ -1,134 +1,162 @@
 //! What a stream says in either dialect, told as one text.
-ghost use Rattle.std.specs.Prelude.{◌≡◌, ◌<◌, [], IfOk};
+ghost use Rattle.std.specs.Prelude.{◌≡◌, []};
 ghost use Rattle.std.specs.Bool.{OnTrue};
 
 use blob_model::Bytes;
 use request_form::{Dialect, Ending, Fault, Heard, Request};
-use std::alloc::{AllocError, Global};
-use std::test::Fail;
+use std::alloc::Global;
+use std::process::Abort;
+
+fn add<R: Abort>(rt: &R, told: &mut String, part: &str) {
+    told.push_str(part).expect(rt, "memory");
+}
+
+fn add_number<R: Abort>(rt: &R, alloc: Global, told: &mut String, number: u64) {
+    let part = format!(in alloc; " {number}").expect(rt, "memory");
+    add(rt, told, part.as_str());
+}
+
+// A name and the numbers behind it.
+fn command<R: Abort>(rt: &R, alloc: Global, name: &str, numbers: &[u64]) -> String {
+    let mut told = String::from_str(alloc, name).expect(rt, "memory");
+    for number in numbers {
+        add_number(rt, alloc, &mut told, *number);
+    }
+    told
+}
 
 // An update, as a line would spell it.
-fn update(alloc: Global, name: &str, place: &str, bytes: &Bytes) -> Result<String, AllocError> {
-    let digits = hex::encode(alloc, bytes.as_slice())?;
-    format!(in alloc; "{name} {place} {digits}")
+fn update<R: Abort>(rt: &R, alloc: Global, name: &str, place: &[u64], bytes: &Bytes) -> String {
+    let digits = hex::encode(alloc, bytes.as_slice()).expect(rt, "memory");
+    let mut told = command(rt, alloc, name, place);
+    add(rt, &mut told, " ");
+    add(rt, &mut told, digits.as_str());
+    told
 }
 
 // A request, as a line would spell it.
-fn spelled(alloc: Global, request: &Request) -> Result<String, AllocError> {
+fn spelled<R: Abort>(rt: &R, alloc: Global, request: &Request) -> String {
     match request {
-        Request::Create => String::from_str(alloc, "create"),
-        Request::Append { blob, bytes } => {
-            let place = format!(in alloc; "{blob}")?;
-            update(alloc, "append", place.as_str(), bytes)
-        }
+        Request::Create => command(rt, alloc, "create", &[]),
+        Request::Append { blob, bytes } => update(rt, alloc, "append", &[*blob], bytes),
         Request::Write {
             blob,
             offset,
             bytes,
-        } => {
-            let place = format!(in alloc; "{blob} {offset}")?;
-            update(alloc, "write", place.as_str(), bytes)
-        }
+        } => update(rt, alloc, "write", &[*blob, *offset], bytes),
         Request::StartAppend { blob, bytes } => {
-            let place = format!(in alloc; "{blob}")?;
-            update(alloc, "start-append", place.as_str(), bytes)
+            update(rt, alloc, "start-append", &[*blob], bytes)
         }
         Request::StartWrite {
             blob,
             offset,
             bytes,
-        } => {
-            let place = format!(in alloc; "{blob} {offset}")?;
-            update(alloc, "start-write", place.as_str(), bytes)
-        }
-        Request::Finish { ticket } => format!(in alloc; "finish {ticket}"),
+        } => update(rt, alloc, "start-write", &[*blob, *offset], bytes),
+        Request::Finish { ticket } => command(rt, alloc, "finish", &[*ticket]),
         Request::Read {
             blob,
             version,
             offset,
             length,
-        } => { format!(in alloc; "read {blob} {version} {offset} {length}") }
-        Request::Recent { blob } => format!(in alloc; "recent {blob}"),
-        Request::Size { blob, version } => format!(in alloc; "size {blob} {version}"),
-        Request::Sync { blob, version } => format!(in alloc; "sync {blob} {version}"),
-        Request::Status { blob } => format!(in alloc; "status {blob}"),
-        Request::Branch { blob, version } => format!(in alloc; "branch {blob} {version}"),
-        Request::Quit => String::from_str(alloc, "quit"),
+        } => command(rt, alloc, "read", &[*blob, *version, *offset, *length]),
+        Request::Recent { blob } => command(rt, alloc, "recent", &[*blob]),
+        Request::Size { blob, version } => command(rt, alloc, "size", &[*blob, *version]),
+        Request::Sync { blob, version } => command(rt, alloc, "sync", &[*blob, *version]),
+        Request::Status { blob } => command(rt, alloc, "status", &[*blob]),
+        Request::Branch { blob, version } => command(rt, alloc, "branch", &[*blob, *version]),
+        Request::Quit => command(rt, alloc, "quit", &[]),
+    }
+}
+
+fn spelled_fault<R: Abort>(rt: &R, alloc: Global, fault: &Fault) -> String {
+    match fault {
+        Fault::Malformed => command(rt, alloc, "malformed", &[]),
+        Fault::BadFrame => command(rt, alloc, "bad-frame", &[]),
+        Fault::FrameTooLong { length } => command(rt, alloc, "frame-too-long", &[*length]),
+        _ => command(rt, alloc, "another fault", &[]),
     }
 }
 
 // What was heard, as a line would spell it, and a semicolon.
-fn tell(alloc: Global, told: &mut String, heard: &Heard) -> Result<(), AllocError> {
-    match heard {
-        Heard::Asked(request) => {
-            let line = spelled(alloc, request)?;
-            told.push_str(line.as_str())?;
-            told.push_str(";")
-        }
-        Heard::Wrong(Fault::Malformed) => told.push_str("malformed;"),
-        Heard::Wrong(Fault::BadFrame) => told.push_str("bad-frame;"),
-        Heard::Wrong(Fault::FrameTooLong { length }) => {
-            let line = format!(in alloc; "frame-too-long {length};")?;
-            told.push_str(line.as_str())
-        }
-        Heard::Wrong(_) => told.push_str("another fault;"),
-    }
+fn tell<R: Abort>(rt: &R, alloc: Global, told: &mut String, heard: &Heard) {
+    let item = match heard {
+        Heard::Asked(request) => spelled(rt, alloc, request),
+        Heard::Wrong(fault) => spelled_fault(rt, alloc, fault),
+    };
+    add(rt, told, item.as_str());
+    add(rt, told, ";");
 }
 
 // Tells all whole items, of which a stream here has fewer than a hundred, and says whether none is left.
-fn tell_whole<T: Dialect>(alloc: Global, dialect: &mut T, told: &mut String) -> Result<bool, Fail>
-    ensures { IfOk result (λ done. OnTrue done ((T.reads dialect.new []).whole ≡ [])) }
+fn tell_whole<R: Abort, T: Dialect>(
+    rt: &R,
+    alloc: Global,
+    dialect: &mut T,
+    told: &mut String,
+) -> bool
+    ensures { OnTrue result ((T.reads dialect.new []).whole ≡ []) }
 {
     for _ in 0..100 {
-        match dialect.next()? {
-            Some(heard) => tell(alloc, told, &heard)?,
-            None => return Ok(true),
+        match dialect.next().expect(rt, "memory") {
+            Some(heard) => tell(rt, alloc, told, &heard),
+            None => return true,
         }
     }
-    Ok(false)
+    false
 }
 
 // Tells the end of a stream, once all its bytes were fed.
-fn tell_end<T: Dialect>(alloc: Global, dialect: &mut T, told: &mut String) -> Result<(), Fail> {
-    if !tell_whole(alloc, dialect, told)? {
-        return Ok(());
+fn tell_end<R: Abort, T: Dialect>(rt: &R, alloc: Global, dialect: &mut T, told: &mut String) {
+    if !tell_whole(rt, alloc, dialect, told) {
+        return;
     }
-    match dialect.end()? {
+    match dialect.end().expect(rt, "memory") {
         Ending::Clean => {}
-        Ending::Last(heard) => tell(alloc, told, &heard)?,
-        Ending::Cut => told.push_str("cut;")?,
+        Ending::Last(heard) => tell(rt, alloc, told, &heard),
+        Ending::Cut => add(rt, told, "cut;"),
     }
-    Ok(())
+}
+
+// Feeds a piece of a stream, and tells what is whole then.
+fn tell_piece<R: Abort, T: Dialect>(
+    rt: &R,
+    alloc: Global,
+    dialect: &mut T,
+    told: &mut String,
+    piece: &[u8],
+) {
+    dialect.feed(piece).expect(rt, "memory");
+    tell_whole(rt, alloc, dialect, told);
 }
 
 /// What a stream says that is fed in pieces of this length. The dialect was fed nothing yet.
-pub fn heard_in_pieces<T: Dialect>(
+pub fn heard_in_pieces<R: Abort, T: Dialect>(
+    rt: &R,
     alloc: Global,
     dialect: &mut T,
     stream: &[u8],
     piece: usize,
-) -> Result<String, Fail> {
+) -> String {
     let mut told = String::new(alloc);
     for part in stream.chunks(piece.max(1)) {
-        dialect.feed(part)?;
-        tell_whole(alloc, dialect, &mut told)?;
+        tell_piece(rt, alloc, dialect, &mut told, part);
     }
-    tell_end(alloc, dialect, &mut told)?;
-    Ok(told)
+    tell_end(rt, alloc, dialect, &mut told);
+    told
 }
 
 /// What a stream says that is fed in two pieces, the first with so many bytes. The dialect was fed nothing yet.
-pub fn heard_cut_at<T: Dialect>(
+pub fn heard_cut_at<R: Abort, T: Dialect>(
+    rt: &R,
     alloc: Global,
     dialect: &mut T,
     stream: &[u8],
     at: usize,
-) -> Result<String, Fail> {
+) -> String {
     let mut told = String::new(alloc);
     let (front, back) = stream.split_at(at.min(stream.len()));
-    dialect.feed(front)?;
-    tell_whole(alloc, dialect, &mut told)?;
-    dialect.feed(back)?;
-    tell_end(alloc, dialect, &mut told)?;
-    Ok(told)
+    tell_piece(rt, alloc, dialect, &mut told, front);
+    dialect.feed(back).expect(rt, "memory");
+    tell_end(rt, alloc, dialect, &mut told);
+    told
 }

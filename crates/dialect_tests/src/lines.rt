@@ -2,9 +2,8 @@
 
 use crate::heard::heard_in_pieces;
 use script_text::ScriptDialect;
-use std::alloc::{AllocError, Global};
+use std::alloc::Global;
 use std::process::Abort;
-use std::test::Fail;
 
 static PIECES: [usize; 4] = [1, 2, 7, 65_536];
 
@@ -65,53 +64,34 @@ static SCRIPTS: [(&str, &str); 16] = [
 ];
 
 // Feeds a script in pieces of this length, and checks what it says.
-fn check_script<R: Abort>(
-    rt: &R,
-    alloc: Global,
-    script: &[u8],
-    want: &str,
-    piece: usize,
-) -> Result<(), Fail> {
-    let mut dialect = ScriptDialect::new(alloc)?;
-    let told = heard_in_pieces(alloc, &mut dialect, script, piece)?;
+fn check_script<R: Abort>(rt: &R, alloc: Global, script: &[u8], want: &str, piece: usize) {
+    let mut dialect = ScriptDialect::new(alloc).expect(rt, "memory");
+    let told = heard_in_pieces(rt, alloc, &mut dialect, script, piece);
     assert_eq!(rt; told.as_str(), want, "in pieces of {piece}");
-    Ok(())
 }
 
-fn check_scripts<R: Abort>(
-    rt: &R,
-    alloc: Global,
-    rows: &[(&str, &str)],
-    piece: usize,
-) -> Result<(), Fail> {
+fn check_scripts<R: Abort>(rt: &R, alloc: Global, rows: &[(&str, &str)], piece: usize) {
     for (script, want) in rows {
-        check_script(rt, alloc, script.as_bytes(), want, piece)?;
+        check_script(rt, alloc, script.as_bytes(), want, piece);
     }
-    Ok(())
 }
 
 #[test]
-fn scripts_say_the_same_in_pieces_of_any_length(rt: HostRuntime) -> Result<(), Fail> {
+fn scripts_say_the_same_in_pieces_of_any_length(rt: HostRuntime) {
     for piece in PIECES.as_slice() {
-        check_scripts(&rt, rt.alloc(), SCRIPTS.as_slice(), *piece)?;
+        check_scripts(&rt, rt.alloc(), SCRIPTS.as_slice(), *piece);
     }
-    Ok(())
 }
 
-// A line of that many bytes, each of them this one, and then the line `create`.
-fn long_script(alloc: Global, byte: u8, count: usize) -> Result<Vec<u8>, AllocError> {
-    let mut script = vec![in alloc; byte; count]?;
-    script.extend_from_slice(b"\ncreate\n")?;
-    Ok(script)
+// Checks what is said of a line of 4,194,305 bytes, each of them this one, and then the line `create`.
+fn check_long<R: Abort>(rt: &R, alloc: Global, byte: u8, want: &str) {
+    let mut script = vec![in alloc; byte; 4_194_305].expect(rt, "memory");
+    script.extend_from_slice(b"\ncreate\n").expect(rt, "memory");
+    check_script(rt, alloc, script.as_slice(), want, 65_536);
 }
 
 #[test]
-fn a_line_that_is_too_long_is_malformed_unless_it_is_a_comment(
-    rt: HostRuntime,
-) -> Result<(), Fail> {
-    let alloc = rt.alloc();
-    let long = long_script(alloc, b'a', 4_194_305)?;
-    check_script(&rt, alloc, long.as_slice(), "malformed;create;", 65_536)?;
-    let comment = long_script(alloc, b'#', 4_194_305)?;
-    check_script(&rt, alloc, comment.as_slice(), "create;", 65_536)
+fn a_line_that_is_too_long_is_malformed_unless_it_is_a_comment(rt: HostRuntime) {
+    check_long(&rt, rt.alloc(), b'a', "malformed;create;");
+    check_long(&rt, rt.alloc(), b'#', "create;");
 }

@@ -6,38 +6,35 @@ use request_form::{Dialect, Fault, Reply, Said};
 use script_text::ScriptDialect;
 use std::alloc::Global;
 use std::process::Abort;
-use std::test::Fail;
 
 // A reply as it is written in a dialect.
-fn said<T: Dialect>(dialect: &T, reply: &Reply) -> Result<Bytes, Fail> {
-    Ok(dialect.say(reply)?)
+fn said<R: Abort, T: Dialect>(rt: &R, dialect: &T, reply: &Reply) -> Bytes {
+    dialect.say(reply).expect(rt, "memory")
+}
+
+fn check_line<R: Abort>(rt: &R, alloc: Global, reply: &Reply, line: &str) {
+    let dialect = ScriptDialect::new(alloc).expect(rt, "memory");
+    let bytes = said(rt, &dialect, reply);
+    assert_eq!(rt; bytes.as_slice(), line.as_bytes(), "{line}");
+}
+
+fn check_frame<R: Abort>(rt: &R, alloc: Global, reply: &Reply, line: &str, frame: &str) {
+    let dialect = FrameDialect::new(alloc).expect(rt, "memory");
+    let bytes = said(rt, &dialect, reply);
+    let digits = hex::encode(alloc, bytes.as_slice()).expect(rt, "memory");
+    assert_eq!(rt; digits.as_str(), frame, "{line}");
 }
 
 // Checks a reply's line, and its frame in hex digits.
-fn check_reply<R: Abort>(
-    rt: &R,
-    alloc: Global,
-    reply: &Reply,
-    line: &str,
-    frame: &str,
-) -> Result<(), Fail> {
-    let bytes = said(&ScriptDialect::new(alloc)?, reply)?;
-    assert_eq!(rt; bytes.as_slice(), line.as_bytes(), "{line}");
-    let bytes = said(&FrameDialect::new(alloc)?, reply)?;
-    let digits = hex::encode(alloc, bytes.as_slice())?;
-    assert_eq!(rt; digits.as_str(), frame, "{line}");
-    Ok(())
+fn check_reply<R: Abort>(rt: &R, alloc: Global, reply: &Reply, line: &str, frame: &str) {
+    check_line(rt, alloc, reply, line);
+    check_frame(rt, alloc, reply, line, frame);
 }
 
-fn check_replies<R: Abort>(
-    rt: &R,
-    alloc: Global,
-    rows: &[(Reply, &str, &str)],
-) -> Result<(), Fail> {
+fn check_replies<R: Abort>(rt: &R, alloc: Global, rows: &[(Reply, &str, &str)]) {
     for (reply, line, frame) in rows {
-        check_reply(rt, alloc, reply, line, frame)?;
+        check_reply(rt, alloc, reply, line, frame);
     }
-    Ok(())
 }
 
 // The greatest size, beside smaller numbers.
@@ -154,13 +151,13 @@ const LOOKS: [(Reply, &str, &str); 6] = [
 ];
 
 #[test]
-fn replies_to_changes_are_lines_and_frames(rt: HostRuntime) -> Result<(), Fail> {
-    check_replies(&rt, rt.alloc(), CHANGES.as_slice())
+fn replies_to_changes_are_lines_and_frames(rt: HostRuntime) {
+    check_replies(&rt, rt.alloc(), CHANGES.as_slice());
 }
 
 #[test]
-fn replies_to_looks_are_lines_and_frames(rt: HostRuntime) -> Result<(), Fail> {
-    check_replies(&rt, rt.alloc(), LOOKS.as_slice())
+fn replies_to_looks_are_lines_and_frames(rt: HostRuntime) {
+    check_replies(&rt, rt.alloc(), LOOKS.as_slice());
 }
 
 // What was read, its line, and its frame in hex digits.
@@ -170,15 +167,18 @@ static CONTENTS: [(&[u8], &str, &str); 3] = [
     (b"", "data -\n", "0000000187"),
 ];
 
-fn check_content<R: Abort>(
-    rt: &R,
-    alloc: Global,
-    bytes: &[u8],
-    line: &str,
-    frame: &str,
-) -> Result<(), Fail> {
-    let bytes = Bytes::of(bytes.to_vec(alloc)?);
-    check_reply(rt, alloc, &Reply::Content { bytes }, line, frame)
+fn content<R: Abort>(rt: &R, alloc: Global, bytes: &[u8]) -> Reply {
+    let bytes = Bytes::of(bytes.to_vec(alloc).expect(rt, "memory"));
+    Reply::Content { bytes }
+}
+
+// Checks that what is said in two parts is these bytes.
+fn check_joined<R: Abort>(rt: &R, alloc: Global, parts: &Said, whole: &[u8]) {
+    let mut joined = parts.head.as_slice().to_vec(alloc).expect(rt, "memory");
+    joined
+        .extend_from_slice(parts.body.as_slice())
+        .expect(rt, "memory");
+    assert_eq!(rt; joined.as_slice(), whole);
 }
 
 // What was read, said in two parts, where they are what is said of it whole.
@@ -187,51 +187,52 @@ fn parts_of_content<R: Abort, T: Dialect>(
     alloc: Global,
     dialect: &T,
     bytes: &[u8],
-) -> Result<Said, Fail> {
-    let reply = Reply::Content {
-        bytes: Bytes::of(bytes.to_vec(alloc)?),
-    };
-    let whole = said(dialect, &reply)?;
-    let parts = dialect.say_in_parts(reply)?;
-    let mut joined = parts.head.as_slice().to_vec(alloc)?;
-    joined.extend_from_slice(parts.body.as_slice())?;
-    assert_eq!(rt; joined.as_slice(), whole.as_slice());
-    Ok(parts)
+) -> Said {
+    let reply = content(rt, alloc, bytes);
+    let whole = said(rt, dialect, &reply);
+    let parts = dialect.say_in_parts(reply).expect(rt, "memory");
+    check_joined(rt, alloc, &parts, whole.as_slice());
+    parts
+}
+
+// Checks that a frame's body is what was read, so many bytes.
+fn check_body<R: Abort>(rt: &R, alloc: Global, dialect: &FrameDialect, count: usize) {
+    let bytes = vec![in alloc; b'z'; count].expect(rt, "memory");
+    let parts = parts_of_content(rt, alloc, dialect, bytes.as_slice());
+    assert_eq!(rt; parts.head.len(), 5);
+    assert_eq!(rt; parts.body.as_slice(), bytes.as_slice());
 }
 
 #[test]
-fn what_was_read_is_the_body_of_its_frame(rt: HostRuntime) -> Result<(), Fail> {
-    let alloc = rt.alloc();
-    let dialect = FrameDialect::new(alloc)?;
+fn what_was_read_is_the_body_of_its_frame(rt: HostRuntime) {
+    let dialect = FrameDialect::new(rt.alloc()).expect(&rt, "memory");
     for count in [0usize, 1, 5, 4096, 100_000] {
-        let bytes = vec![in alloc; b'z'; count]?;
-        let parts = parts_of_content(&rt, alloc, &dialect, bytes.as_slice())?;
-        assert_eq!(rt; parts.head.len(), 5);
-        assert_eq!(rt; parts.body.as_slice(), bytes.as_slice());
+        check_body(&rt, rt.alloc(), &dialect, count);
     }
-    Ok(())
+}
+
+// Checks that all is said in the head.
+fn check_head<R: Abort>(rt: &R, parts: &Said, head: &[u8]) {
+    assert_eq!(rt; parts.head.as_slice(), head);
+    assert!(rt; parts.body.is_empty());
 }
 
 #[test]
-fn each_other_reply_has_no_body(rt: HostRuntime) -> Result<(), Fail> {
-    let alloc = rt.alloc();
-    let lines = ScriptDialect::new(alloc)?;
-    let parts = parts_of_content(&rt, alloc, &lines, b"\x00abz\xff")?;
-    assert_eq!(rt; parts.head.as_slice(), b"data 0061627aff\n".as_slice());
-    assert!(rt; parts.body.is_empty());
-    let frames = FrameDialect::new(alloc)?;
-    let parts = frames.say_in_parts(Reply::Bye)?;
-    assert_eq!(rt; parts.head.as_slice(), b"\x00\x00\x00\x01\x8d".as_slice());
-    assert!(rt; parts.body.is_empty());
-    Ok(())
+fn each_other_reply_has_no_body(rt: HostRuntime) {
+    let lines = ScriptDialect::new(rt.alloc()).expect(&rt, "memory");
+    let parts = parts_of_content(&rt, rt.alloc(), &lines, b"\x00abz\xff");
+    check_head(&rt, &parts, b"data 0061627aff\n");
+    let frames = FrameDialect::new(rt.alloc()).expect(&rt, "memory");
+    let parts = frames.say_in_parts(Reply::Bye).expect(&rt, "memory");
+    check_head(&rt, &parts, b"\x00\x00\x00\x01\x8d");
 }
 
 #[test]
-fn what_was_read_is_a_line_and_a_frame(rt: HostRuntime) -> Result<(), Fail> {
+fn what_was_read_is_a_line_and_a_frame(rt: HostRuntime) {
     for (bytes, line, frame) in CONTENTS.as_slice() {
-        check_content(&rt, rt.alloc(), bytes, line, frame)?;
+        let reply = content(&rt, rt.alloc(), bytes);
+        check_reply(&rt, rt.alloc(), &reply, line, frame);
     }
-    Ok(())
 }
 
 // A fault, its line, and its frame in hex digits.
@@ -392,14 +393,9 @@ static FAULTS: [(Fault, &str, &str); 28] = [
     ),
 ];
 
-fn check_faults<R: Abort>(rt: &R, alloc: Global, rows: &[(Fault, &str, &str)]) -> Result<(), Fail> {
-    for (fault, line, frame) in rows {
-        check_reply(rt, alloc, &Reply::Refused(*fault), line, frame)?;
-    }
-    Ok(())
-}
-
 #[test]
-fn each_fault_has_its_line_and_its_frame(rt: HostRuntime) -> Result<(), Fail> {
-    check_faults(&rt, rt.alloc(), FAULTS.as_slice())
+fn each_fault_has_its_line_and_its_frame(rt: HostRuntime) {
+    for (fault, line, frame) in FAULTS.as_slice() {
+        check_reply(&rt, rt.alloc(), &Reply::Refused(*fault), line, frame);
+    }
 }
