@@ -1,6 +1,5 @@
 -- The rows of the tests, by the definitions.
 use Rattle.std.proofs.Common.{ℕ, zero, suc, List, [], ◌∷◌, ◌++◌, arith, refl, lit≤, true, false}
-use Rattle.blob_model.specs.Content.{Update}
 use Rattle.tree_geom.specs.declared.range.Range.{Range}
 use Rattle.tree_geom.specs.declared.touch.Touch.{Touch}
 use Rattle.tree_geom.specs.declared.node.Node.{Node}
@@ -11,7 +10,7 @@ use Rattle.range_log.specs.Extents.{touches}
 use Rattle.range_log.specs.Updates.{extents, Replayable}
 use Rattle.range_log.specs.Depths.{depth_of}
 use Rattle.range_log.specs.Rows.{row_keys_of, levels_of, level_of, back_of}
-use Rattle.threads_tests.specs.ByHand.{told, IsNext, at_range, one_piece, abcdef, six_touch, six_pairs, after_six}
+use Rattle.threads_tests.specs.ByHand.{told, IsNext, at_range, one_piece, abcdef, six_touch, six_pairs, after_six, abcd, after_four, after_first}
 
 six_bounds : Replayable after_six
 six_bounds zero lt = (lit≤ tt, lit≤ tt)
@@ -61,12 +60,6 @@ part_touch = record { first = 0; last = 0; size = 4; open_first = true; open_las
 abbrev pub leaf_pairs : ℕ → ℕ → ℕ → ℕ → List (Range × Node)
 leaf_pairs start len back depth = (at_range 0 4, one_piece start 0 0 len back depth) ∷ []
 
-abbrev pub abcd : List ℕ
-abcd = 97 ∷ 98 ∷ 99 ∷ 100 ∷ []
-
-abbrev pub after_four : List Update
-after_four = told 0 abcd ∷ []
-
 four_bounds : Replayable after_four
 four_bounds zero lt = (lit≤ tt, lit≤ tt)
 four_bounds (suc k) lt = absurd (omega arith)
@@ -74,9 +67,6 @@ four_bounds (suc k) lt = absurd (omega arith)
 pub four_next : IsNext [] 0 four_touch abcd (leaf_pairs 0 4 0 0)
 unfolding extents touches newest_of row_keys_of levels_of level_of back_of depth_of height_of doublings
 four_next = record { nodes = refl; begins = refl; touched = refl; in_bounds = four_bounds; fits = lit≤ tt }
-
-abbrev pub after_first : List Update
-after_first = after_four ++ told 0 (255 ∷ []) ∷ []
 
 first_bounds : Replayable after_first
 first_bounds zero lt = (lit≤ tt, lit≤ tt)

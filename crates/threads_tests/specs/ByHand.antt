@@ -60,3 +60,13 @@ six_pairs = (at_range 0 8, Inner 1 1) ∷ (at_range 0 4, one_piece 0 0 0 4 0 0) 
 
 abbrev pub after_six : List Update
 after_six = told 0 abcdef ∷ []
+
+-- four bytes, and then byte 0 written anew
+abbrev pub abcd : List ℕ
+abcd = 97 ∷ 98 ∷ 99 ∷ 100 ∷ []
+
+abbrev pub after_four : List Update
+after_four = told 0 abcd ∷ []
+
+abbrev pub after_first : List Update
+after_first = after_four ++ told 0 (255 ∷ []) ∷ []

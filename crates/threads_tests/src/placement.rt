@@ -1,12 +1,13 @@
 //! Tests of the book of loads that sessions share.
 
-ghost use Rattle.std.specs.Prelude.{◌≡◌};
+ghost use Rattle.std.specs.Prelude.{◌≡◌, ◌<◌, length};
 
-use provider_manager::{LoadBook, NoMemory, Placements, SharedLoads};
+use provider_manager::{LoadBook, Placements, SharedLoads};
 use std::alloc::Global;
+use std::process::Abort;
 use std::sync::Wait;
-use std::test::Fail;
 use std::thread;
+use std::thread::Threads;
 
 // How many replicas each of three providers got.
 type Given = [u64; 3];
@@ -22,41 +23,60 @@ fn count_replicas(given: &mut Given, placed: &Placements) {
 }
 
 // Places 1,000 pages, ten at a time.
-fn place_thousand(rt: &impl Wait, alloc: Global, loads: &SharedLoads) -> Result<Given, NoMemory> {
+fn place_thousand(rt: &(impl Wait + Abort), alloc: Global, loads: &SharedLoads) -> Given {
     let mut given = [0; 3];
     for _ in 0..100 {
-        count_replicas(&mut given, &loads.place(rt, alloc, 10)?);
+        let placed = loads.place(rt, alloc, 10).expect(rt, "memory");
+        count_replicas(&mut given, &placed);
     }
-    Ok(given)
+    given
 }
 
-#[test]
-fn two_threads_leave_an_even_book(rt: HostRuntime) -> Result<(), Fail> {
-    let alloc = rt.alloc();
-    let loads = SharedLoads::new(LoadBook::new(alloc, 3, 2)?);
-    let (one, other) = thread::join(
-        &rt,
-        || place_thousand(&rt, alloc, &loads),
-        || place_thousand(&rt, alloc, &loads),
-    );
-    let (one, other) = (one?, other?);
+fn sum_of(one: Given, other: Given) -> Given {
     let mut given = [0; 3];
     for i in 0..3 {
         given[i] = one[i].saturating_add(other[i]);
     }
-    assert_eq!(rt; given, [1334, 1333, 1333]);
-    Ok(())
+    given
+}
+
+// Two threads place 1,000 pages each.
+fn place_beside<R: Threads + Wait + Sync + Abort>(
+    rt: &R,
+    alloc: Global,
+    loads: &SharedLoads,
+) -> Given {
+    let (one, other) = thread::join(
+        rt,
+        || place_thousand(rt, alloc, loads),
+        || place_thousand(rt, alloc, loads),
+    );
+    sum_of(one, other)
 }
 
 #[test]
-fn a_full_shared_book_goes_on(rt: HostRuntime) -> Result<(), Fail> {
+fn two_threads_leave_an_even_book(rt: HostRuntime) {
+    let book = LoadBook::new(rt.alloc(), 3, 2).expect(&rt, "memory");
+    let loads = SharedLoads::new(book);
+    assert_eq!(rt; place_beside(&rt, rt.alloc(), &loads), [1334, 1333, 1333]);
+}
+
+// The page has one replica, at this provider.
+fn check_place(rt: &impl Abort, placed: &Placements, page: u32, provider: u32)
+    requires { page < length placed.now }
+{
+    assert_eq!(rt; placed.of(page).chosen(), [provider].as_slice());
+}
+
+#[test]
+fn a_full_shared_book_goes_on(rt: HostRuntime) {
     let half = 1 << 61;
-    let loads = SharedLoads::new(LoadBook::with_loads(rt.alloc(), &[half, half - 1], 1)?);
-    let placed = loads.place(&rt, rt.alloc(), 4)?;
+    let book = LoadBook::with_loads(rt.alloc(), &[half, half - 1], 1).expect(&rt, "memory");
+    let loads = SharedLoads::new(book);
+    let placed = loads.place(&rt, rt.alloc(), 4).expect(&rt, "memory");
     assert_eq!(rt; placed.count(), 4);
-    assert_eq!(rt; placed.of(0).chosen(), [2].as_slice());
-    assert_eq!(rt; placed.of(1).chosen(), [1].as_slice());
-    assert_eq!(rt; placed.of(2).chosen(), [2].as_slice());
-    assert_eq!(rt; placed.of(3).chosen(), [1].as_slice());
-    Ok(())
+    check_place(&rt, &placed, 0, 2);
+    check_place(&rt, &placed, 1, 1);
+    check_place(&rt, &placed, 2, 2);
+    check_place(&rt, &placed, 3, 1);
 }

@@ -3,11 +3,12 @@ ghost use Rattle.std.specs.Prelude.{◌≡◌};
 
 use blob_model::{Limits, Outcome};
 use page_store::Houses;
+use std::alloc::Global;
+use std::process::Abort;
 use std::sync::{Arc, Wait};
-use std::test::Fail;
 use std::thread::{Threads, join};
 use tree_geom::PageSize;
-use version_manager::{Desk, Pass, SharedDesk};
+use version_manager::{Desk, Owner, Pass, SharedDesk};
 
 // Makes two blobs, and tells whether a look at the second finds it.
 fn make_two<R: Wait>(rt: &R, desk: &SharedDesk, pass: Pass) -> (Pass, bool)
@@ -36,32 +37,49 @@ fn make_beside<R: Threads + Wait + Sync>(
     join(rt, || make_two(rt, desk, one), || make_two(rt, desk, two))
 }
 
-#[test]
-fn two_threads_make_two_blobs_each(rt: HostRuntime) -> Result<(), Fail> {
-    let alloc = rt.alloc();
-    let houses = Arc::new(alloc, Houses::new(alloc, 1)?)?;
-    let p = PageSize::new(4).ok_or("four bytes")?;
-    let desk = Desk::new(alloc, Limits::greatest(), p, &houses)?;
-    let (shared, mut owner) = SharedDesk::new(alloc, desk)?;
-    let one = shared.pass(&mut owner)?;
-    let two = shared.pass(&mut owner)?;
-    let ((one, first), (two, second)) = make_beside(&rt, &shared, one, two);
-    assert!(rt; first);
-    assert!(rt; second);
-    shared.take_back(&mut owner, one);
-    let refused = match shared.close(owner) {
-        Ok(_) => return Err("a pass is out".into()),
-        Err(refused) => refused,
-    };
+// A desk without blobs that is shared, and its owner.
+fn empty_desk<R: Abort>(rt: &R, alloc: Global) -> (SharedDesk, Owner)
+    ensures lock { result.1.lock ≡ result.0 }
+    ensures made { result.1.made ≡ 0 }
+    ensures out { result.1.out ≡ 0 }
+{
+    let houses = Houses::new(alloc, 1).expect(rt, "memory");
+    let houses = Arc::new(alloc, houses).expect(rt, "memory");
+    let p = PageSize::new(4).expect(rt, "four bytes");
+    let desk = Desk::new(alloc, Limits::greatest(), p, &houses).expect(rt, "memory");
+    SharedDesk::new(alloc, desk).expect(rt, "memory")
+}
+
+// Tries to close while one pass is out.
+fn close_early<R: Abort>(rt: &R, shared: SharedDesk, owner: Owner) -> (SharedDesk, Owner)
+    requires { owner.lock ≡ shared }
+    ensures desk { result.0 ≡ shared }
+    ensures owner { result.1 ≡ owner }
+{
+    let refused = shared.close(owner).err().expect(rt, "a pass is out");
     assert_eq!(rt; refused.out, 1);
-    let mut owner = refused.owner;
-    refused.desk.take_back(&mut owner, two);
-    let Ok(desk) = refused.desk.close(owner) else {
-        return Err("every pass came back".into());
-    };
+    (refused.desk, refused.owner)
+}
+
+// The last of the blobs is blob 4.
+fn check_last<R: Abort>(rt: &R, desk: &Desk) {
     let last = desk.status(4);
     assert!(rt; matches!(&last, Outcome::Status { .. }));
     let past = desk.status(5);
     assert!(rt; matches!(&past, Outcome::Refused(_)));
-    Ok(())
+}
+
+#[test]
+fn two_threads_make_two_blobs_each(rt: HostRuntime) {
+    let (shared, mut owner) = empty_desk(&rt, rt.alloc());
+    let one = shared.pass(&mut owner).expect(&rt, "a pass");
+    let two = shared.pass(&mut owner).expect(&rt, "a pass");
+    let ((one, first), (two, second)) = make_beside(&rt, &shared, one, two);
+    assert!(rt; first);
+    assert!(rt; second);
+    shared.take_back(&mut owner, one);
+    let (shared, mut owner) = close_early(&rt, shared, owner);
+    shared.take_back(&mut owner, two);
+    let desk = shared.close(owner).ok().expect(&rt, "every pass came back");
+    check_last(&rt, &desk);
 }

@@ -1,4 +1,0 @@
-use Rattle.threads_tests.proofs.reader.a_read_goes_back_for_each_byte_that_newer_leaves_lack.Given as goal
-
-abbrev pub ghosts-read_counted : goal.ghosts-read_counted
-ghosts-read_counted g a = record { name = a.blank.name; parts = a.blank.parts }
