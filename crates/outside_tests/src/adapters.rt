@@ -1,7 +1,7 @@
 //! The adapters over readers and writers of std, which may be interrupted, fail or take less than they are given.
 ghost use Rattle.std.specs.Prelude.{◌≤◌, length, IfOk};
 
-use crate::drained::{TEXT, check_bytes, check_drained, check_read, check_write};
+use crate::drained::{TEXT, check_bytes, check_drained, check_reads, check_writes};
 use ports::reader::ReaderSource;
 use ports::stream::{Taken, Written};
 use ports::writer::WriterSink;
@@ -53,24 +53,31 @@ impl Read for RoughReader {
     }
 }
 
+static ROUGH_READS: [(Taken, &[u8]); 4] = [
+    (Taken::Got(1), b"a..."),
+    (Taken::Failed, b"a..."),
+    (Taken::Got(2), b"bc.."),
+    (Taken::End, b"bc.."),
+];
+
 #[test]
 fn an_interrupted_read_is_tried_again_and_another_error_is_a_fault(rt: HostRuntime) {
     let mut source = ReaderSource::new(RoughReader { calls: 0 });
-    let mut buf = [b'.'; 4];
-    check_read(&rt, &mut source, &mut buf, Taken::Got(1), b"a...");
-    check_read(&rt, &mut source, &mut buf, Taken::Failed, b"a...");
-    check_read(&rt, &mut source, &mut buf, Taken::Got(2), b"bc..");
-    check_read(&rt, &mut source, &mut buf, Taken::End, b"bc..");
+    check_reads(&rt, &mut source, ROUGH_READS.as_slice());
     let RoughReader { calls } = source.into_inner();
     assert_eq!(rt; calls, 6);
 }
 
+static WRITES: [(&[u8], Written); 3] = [
+    (b"ab", Written::Whole),
+    (b"", Written::Whole),
+    (b"cde", Written::Whole),
+];
+
 #[test]
 fn a_std_writer_gets_all_bytes(rt: HostRuntime) {
     let mut sink = WriterSink::new(Vec::new(rt.alloc()));
-    check_write(&rt, &mut sink, b"ab", Written::Whole);
-    check_write(&rt, &mut sink, b"", Written::Whole);
-    check_write(&rt, &mut sink, b"cde", Written::Whole);
+    check_writes(&rt, &mut sink, WRITES.as_slice());
     let bytes = sink.into_inner();
     check_bytes(&rt, bytes.as_slice(), b"abcde");
 }
@@ -109,15 +116,19 @@ impl Write for RoughWriter {
     }
 }
 
+static ROUGH_WRITES: [(&[u8], Written); 3] = [
+    (b"abcdef", Written::Failed(3)),
+    (b"def", Written::Failed(0)),
+    (b"def", Written::Whole),
+];
+
 #[test]
 fn a_short_write_goes_on_and_an_error_or_no_byte_is_a_fault(rt: HostRuntime) {
     let mut sink = WriterSink::new(RoughWriter {
         calls: 0,
         kept: Vec::new(rt.alloc()),
     });
-    check_write(&rt, &mut sink, b"abcdef", Written::Failed(3));
-    check_write(&rt, &mut sink, b"def", Written::Failed(0));
-    check_write(&rt, &mut sink, b"def", Written::Whole);
+    check_writes(&rt, &mut sink, ROUGH_WRITES.as_slice());
     let RoughWriter { calls, kept } = sink.into_inner();
     check_bytes(&rt, kept.as_slice(), b"abcdef");
     assert_eq!(rt; calls, 8);

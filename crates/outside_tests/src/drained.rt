@@ -68,8 +68,8 @@ pub fn check_bytes<R: Abort>(rt: &R, bytes: &[u8], want: &[u8]) {
     assert_eq!(rt; bytes, want);
 }
 
-/// Reads once, and checks the answer and the whole buffer.
-pub fn check_read<R: Abort, S: Source>(
+// Reads once, and checks the answer and the whole buffer.
+fn check_read<R: Abort, S: Source>(
     rt: &R,
     source: &mut S,
     buf: &mut [u8],
@@ -82,7 +82,22 @@ pub fn check_read<R: Abort, S: Source>(
     assert_eq!(rt; (given, &*buf), (answer, want));
 }
 
-/// Writes once, and checks the answer.
-pub fn check_write<R: Abort, K: Sink>(rt: &R, sink: &mut K, bytes: &[u8], answer: Written) {
+/// Reads four bytes a time over dots, and checks each answer and what the buffer is then.
+pub fn check_reads<R: Abort, S: Source>(rt: &R, source: &mut S, reads: &[(Taken, &[u8])]) {
+    let mut buf = [b'.'; 4];
+    for (answer, want) in reads {
+        check_read(rt, source, &mut buf, *answer, want);
+    }
+}
+
+// Writes once, and checks the answer.
+fn check_write<R: Abort, K: Sink>(rt: &R, sink: &mut K, bytes: &[u8], answer: Written) {
     assert_eq!(rt; sink.write(bytes), answer);
+}
+
+/// Writes these bytes, and checks each answer.
+pub fn check_writes<R: Abort, K: Sink>(rt: &R, sink: &mut K, writes: &[(&[u8], Written)]) {
+    for (bytes, answer) in writes {
+        check_write(rt, sink, bytes, *answer);
+    }
 }

@@ -7,6 +7,7 @@ use std::alloc::{AllocError, Global};
 use std::collections::BTreeMap;
 use std::fs;
 use std::process::Abort;
+use std::rt::Files as SystemFiles;
 
 // What a read answers, as one text: the file's, or a word.
 fn answer<F: Files>(
@@ -82,14 +83,22 @@ fn files_in_a_map_are_read_whole_or_refused(rt: HostRuntime) {
     check_files(&rt, alloc, MemFiles::new(alloc, files));
 }
 
+fn write_files<R: SystemFiles + Abort>(rt: &R) {
+    for (name, text) in FILES.as_slice() {
+        fs::write(rt, *name, *text).expect(rt, name);
+    }
+}
+
+fn remove_files<R: SystemFiles + Abort>(rt: &R) {
+    for (name, _) in FILES.as_slice() {
+        fs::remove_file(rt, *name).expect(rt, name);
+    }
+}
+
 #[test]
 fn files_of_the_system_are_read_whole_or_refused(rt: HostRuntime) {
-    for (name, text) in FILES.as_slice() {
-        fs::write(&rt, *name, *text).expect(&rt, name);
-    }
+    write_files(&rt);
     let system = rt.clone().expect(&rt, "memory");
     check_files(&rt, rt.alloc(), HostFiles::new(system, rt.alloc()));
-    for (name, _) in FILES.as_slice() {
-        fs::remove_file(&rt, *name).expect(&rt, name);
-    }
+    remove_files(&rt);
 }

@@ -3,7 +3,7 @@ ghost use Rattle.std.specs.Prelude.{◌≡◌, ◌<◌, ℕ, List, length};
 ghost use Rattle.std.specs.Bool.{OnTrue};
 ghost use Rattle.std.specs.Io.KnownBytes.{Appends, Consumes};
 
-use crate::drained::{TEXT, check_bytes, check_drained, check_read, check_write};
+use crate::drained::{TEXT, check_bytes, check_drained, check_reads, check_writes};
 use ports::memory::{MemSink, MemSource};
 use ports::pair::Pair;
 use ports::stream::{Ends, Sink, Source, Taken, Written};
@@ -47,22 +47,29 @@ fn a_failing_call_in_the_middle_takes_nothing(rt: HostRuntime) {
     check_drained(&rt, alloc, &mut source, 7, b"cdefghi", Taken::End);
 }
 
+static READS: [(Taken, &[u8]); 3] = [
+    (Taken::Got(2), b"ab.."),
+    (Taken::End, b"ab.."),
+    (Taken::End, b"ab.."),
+];
+
 #[test]
 fn a_read_leaves_the_rest_of_the_buffer(rt: HostRuntime) {
     let mut source = source_of(&rt, rt.alloc(), b"ab", 7, &[]);
-    let mut buf = [b'.'; 4];
-    check_read(&rt, &mut source, &mut buf, Taken::Got(2), b"ab..");
-    check_read(&rt, &mut source, &mut buf, Taken::End, b"ab..");
-    check_read(&rt, &mut source, &mut buf, Taken::End, b"ab..");
+    check_reads(&rt, &mut source, READS.as_slice());
 }
+
+static WRITES: [(&[u8], Written); 4] = [
+    (b"abc", Written::Whole),
+    (b"defg", Written::Failed(1)),
+    (b"h", Written::Failed(0)),
+    (b"", Written::Whole),
+];
 
 #[test]
 fn a_sink_in_memory_fails_before_the_byte_for_which_there_is_no_room(rt: HostRuntime) {
     let mut sink = MemSink::new(rt.alloc(), 4).expect(&rt, "memory");
-    check_write(&rt, &mut sink, b"abc", Written::Whole);
-    check_write(&rt, &mut sink, b"defg", Written::Failed(1));
-    check_write(&rt, &mut sink, b"h", Written::Failed(0));
-    check_write(&rt, &mut sink, b"", Written::Whole);
+    check_writes(&rt, &mut sink, WRITES.as_slice());
     check_bytes(&rt, sink.bytes(), b"abcd");
 }
 
@@ -93,13 +100,18 @@ fn move_between<S: Source, K: Sink>(source: &mut S, sink: &mut K) -> bool
     move_piece(&mut both)
 }
 
+// Checks that one piece is moved, and that there is no room for the next.
+fn check_moves<R: Abort, S: Source, K: Sink>(rt: &R, source: &mut S, sink: &mut K) {
+    assert!(rt; move_between(source, sink));
+    assert!(rt; !move_between(source, sink));
+}
+
 #[test]
 fn a_pair_reads_by_the_one_and_writes_by_the_other(rt: HostRuntime) {
     let alloc = rt.alloc();
     let mut source = source_of(&rt, alloc, TEXT.as_slice(), 3, &[]);
     let mut sink = MemSink::new(alloc, 5).expect(&rt, "memory");
-    assert!(rt; move_between(&mut source, &mut sink));
-    assert!(rt; !move_between(&mut source, &mut sink));
+    check_moves(&rt, &mut source, &mut sink);
     check_bytes(&rt, sink.bytes(), b"abcde");
     check_drained(&rt, alloc, &mut source, 7, b"ghi", Taken::End);
 }

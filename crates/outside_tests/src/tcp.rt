@@ -1,5 +1,5 @@
 //! Ports over a network that the test plays.
-ghost use Rattle.std.specs.Prelude.{◌≡◌, ◌≤◌, length};
+ghost use Rattle.std.specs.Prelude.{◌≡◌, true};
 
 use ports::listener::{Accepted, Listener};
 use ports::stream::{Sink, Source, Taken, Written};
@@ -133,15 +133,26 @@ fn check_accepted<P: Source + Sink + Drop, R: Abort>(rt: &R, accepted: Accepted<
     assert!(rt; talks(peer));
 }
 
-// Checks that ports listen at the network's one port alone, and hand out two peers before they fail.
-fn check_ports<R: Abort + Wait>(rt: &R, seen: &Seen) {
-    let mut ports = TcpPorts::new(PlayedNet { seen });
+fn is_failed<P: Drop>(accepted: Accepted<P>) -> bool {
+    matches!(&accepted, Accepted::Failed)
+}
+
+// Checks that ports listen at the network's one port alone.
+fn check_addresses<N: Net, R: Abort>(rt: &R, ports: &mut TcpPorts<N>)
+    ensures { ⟦<TcpPorts<N> as Listener>⟧.listens ports.new ≡ true }
+{
     assert!(rt; !ports.listen("127.0.0.1:7001"));
     assert!(rt; !ports.listen("nowhere"));
     assert!(rt; ports.listen("127.0.0.1:7000"), "the port was refused");
+}
+
+// Checks that ports hand out two peers before they fail.
+fn check_ports<R: Abort + Wait>(rt: &R, seen: &Seen) {
+    let mut ports = TcpPorts::new(PlayedNet { seen });
+    check_addresses(rt, &mut ports);
     check_accepted(rt, ports.accept(rt));
     check_accepted(rt, ports.accept(rt));
-    assert!(rt; matches!(&ports.accept(rt), Accepted::Failed));
+    assert!(rt; is_failed(ports.accept(rt)));
 }
 
 #[test]
