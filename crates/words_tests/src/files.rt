@@ -1,11 +1,9 @@
 //! Settings files, and the status and the error line that they come to.
 
-use crate::program::{error_line, file_of, run_line, run_over};
-use page_store::PlainMaker;
+use crate::program::{ROOM, check_ran, run_line};
 use std::alloc::Global;
 use std::process::Abort;
 use std::sync::Wait;
-use std::test::Fail;
 use std::thread::Threads;
 
 // A command line, the text of the file `s`, and the status.
@@ -56,89 +54,42 @@ fn check_row<R: Wait + Threads + Sync + Abort>(
     line: &str,
     text: &str,
     status: u8,
-) -> Result<(), Fail> {
-    let ran = run_line(rt, alloc, line, text, "create\n")?;
-    assert_eq!(rt; ran.status, status, "{line} with {text}");
-    assert_eq!(rt;
-        ran.err.as_slice(),
-        error_line(status).as_bytes(),
-        "{line} with {text}"
-    );
+) {
+    let ran = run_line(rt, alloc, line, text.as_bytes(), "create\n", ROOM);
     let replies = if status == 0 { "blob 1\n" } else { "" };
-    assert_eq!(rt;
-        ran.out.as_slice(),
-        replies.as_bytes(),
-        "{line} with {text}"
-    );
-    Ok(())
-}
-
-fn check_rows<R: Wait + Threads + Sync + Abort>(
-    rt: &R,
-    alloc: Global,
-    rows: &[(&str, &str, u8)],
-) -> Result<(), Fail> {
-    for (line, text, status) in rows {
-        check_row(rt, alloc, line, text, *status)?;
-    }
-    Ok(())
+    check_ran(rt, &ran, replies, status, line, text);
 }
 
 #[test]
-fn files_come_to_their_status_and_error_line(rt: HostRuntime) -> Result<(), Fail> {
-    check_rows(&rt, rt.alloc(), TEXTS.as_slice())
+fn files_come_to_their_status_and_error_line(rt: HostRuntime) {
+    for (line, text, status) in TEXTS.as_slice() {
+        check_row(&rt, rt.alloc(), line, text, *status);
+    }
 }
 
 // The status with a file of so many bytes, all of them a comment.
-fn status_of_length<R: Wait + Threads + Sync>(
-    rt: &R,
-    alloc: Global,
-    length: usize,
-) -> Result<u8, Fail> {
-    let files = file_of(alloc, vec![in alloc; b'#'; length]?)?;
-    let mut doors = PlainMaker::new();
-    let ran = run_over(rt, alloc, "run --settings s", files, "", 64, &mut doors)?;
-    Ok(ran.status)
+fn status_of_length<R: Wait + Threads + Sync + Abort>(rt: &R, alloc: Global, length: usize) -> u8 {
+    let file = vec![in alloc; b'#'; length].expect(rt, "memory");
+    run_line(rt, alloc, "run --settings s", file.as_slice(), "", 64).status
 }
 
 #[test]
-fn a_file_has_at_most_65536_bytes(rt: HostRuntime) -> Result<(), Fail> {
-    assert_eq!(rt; status_of_length(&rt, rt.alloc(), 65_536)?, 0);
-    assert_eq!(rt; status_of_length(&rt, rt.alloc(), 65_537)?, 2);
-    Ok(())
+fn a_file_has_at_most_65536_bytes(rt: HostRuntime) {
+    assert_eq!(rt; status_of_length(&rt, rt.alloc(), 65_536), 0);
+    assert_eq!(rt; status_of_length(&rt, rt.alloc(), 65_537), 2);
 }
 
 #[test]
-fn bytes_that_are_not_utf8_are_refused(rt: HostRuntime) -> Result<(), Fail> {
-    let files = file_of(rt.alloc(), b"# \xff".to_vec(rt.alloc())?)?;
-    let mut doors = PlainMaker::new();
-    let ran = run_over(
-        &rt,
-        rt.alloc(),
-        "run --settings s",
-        files,
-        "",
-        64,
-        &mut doors,
-    )?;
+fn bytes_that_are_not_utf8_are_refused(rt: HostRuntime) {
+    let file = b"# \xff".as_slice();
+    let ran = run_line(&rt, rt.alloc(), "run --settings s", file, "", 64);
     assert_eq!(rt; ran.status, 2);
-    Ok(())
 }
 
 #[test]
-fn a_fault_of_the_error_output_changes_no_status(rt: HostRuntime) -> Result<(), Fail> {
-    let files = file_of(rt.alloc(), b"pages = 4".to_vec(rt.alloc())?)?;
-    let mut doors = PlainMaker::new();
-    let ran = run_over(
-        &rt,
-        rt.alloc(),
-        "run --settings s",
-        files,
-        "",
-        13,
-        &mut doors,
-    )?;
-    assert_eq!(rt; ran.err.as_slice(), b"blobseer: set".as_slice());
+fn a_fault_of_the_error_output_changes_no_status(rt: HostRuntime) {
+    let file = b"pages = 4".as_slice();
+    let ran = run_line(&rt, rt.alloc(), "run --settings s", file, "", 13);
+    assert_eq!(rt; ran.err.bytes(), b"blobseer: set".as_slice());
     assert_eq!(rt; ran.status, 2);
-    Ok(())
 }

@@ -1,10 +1,9 @@
 //! Command lines, and the status and the error line that they come to.
 
-use crate::program::{error_line, run_line};
+use crate::program::{ROOM, check_ran, run_line};
 use std::alloc::Global;
 use std::process::Abort;
 use std::sync::Wait;
-use std::test::Fail;
 use std::thread::Threads;
 
 // Command lines that need no file, and their status.
@@ -78,32 +77,15 @@ static LINES: [(&str, u8); 60] = [
     ("load --providers 1", 2),
 ];
 
-fn check_row<R: Wait + Threads + Sync + Abort>(
-    rt: &R,
-    alloc: Global,
-    line: &str,
-    status: u8,
-) -> Result<(), Fail> {
-    let ran = run_line(rt, alloc, line, "", "create\n")?;
-    assert_eq!(rt; ran.status, status, "{line}");
-    assert_eq!(rt; ran.err.as_slice(), error_line(status).as_bytes(), "{line}");
+fn check_row<R: Wait + Threads + Sync + Abort>(rt: &R, alloc: Global, line: &str, status: u8) {
+    let ran = run_line(rt, alloc, line, b"".as_slice(), "create\n", ROOM);
     let replies = if status == 0 { "blob 1\n" } else { "" };
-    assert_eq!(rt; ran.out.as_slice(), replies.as_bytes(), "{line}");
-    Ok(())
-}
-
-fn check_rows<R: Wait + Threads + Sync + Abort>(
-    rt: &R,
-    alloc: Global,
-    rows: &[(&str, u8)],
-) -> Result<(), Fail> {
-    for (line, status) in rows {
-        check_row(rt, alloc, line, *status)?;
-    }
-    Ok(())
+    check_ran(rt, &ran, replies, status, line, "");
 }
 
 #[test]
-fn lines_come_to_their_status_and_error_line(rt: HostRuntime) -> Result<(), Fail> {
-    check_rows(&rt, rt.alloc(), LINES.as_slice())
+fn lines_come_to_their_status_and_error_line(rt: HostRuntime) {
+    for (line, status) in LINES.as_slice() {
+        check_row(&rt, rt.alloc(), line, *status);
+    }
 }

@@ -1,11 +1,10 @@
 //! Loads: the three lines that each comes to, and how one ends whose pages are lost.
 
-use crate::program::{error_line, file_of, run_line, run_over};
+use crate::program::{ROOM, Ran, check_ran, error_line, file_of, run_line, run_over};
 use page_store::FlakyMaker;
-use std::alloc::{AllocError, Global};
+use std::alloc::Global;
 use std::process::Abort;
 use std::sync::Wait;
-use std::test::Fail;
 use std::thread::Threads;
 
 // A command line, the text of the file `s`, and the lines of the load.
@@ -45,85 +44,76 @@ fn check_load<R: Wait + Threads + Sync + Abort>(
     line: &str,
     text: &str,
     lines: &str,
-) -> Result<(), Fail> {
-    let ran = run_line(rt, alloc, line, text, "create\n")?;
-    assert_eq!(rt; ran.out.as_slice(), lines.as_bytes(), "{line}");
-    assert_eq!(rt; ran.err.len(), 0, "{line}");
-    assert_eq!(rt; ran.status, 0, "{line}");
-    Ok(())
-}
-
-fn check_loads<R: Wait + Threads + Sync + Abort>(
-    rt: &R,
-    alloc: Global,
-    rows: &[(&str, &str, &str)],
-) -> Result<(), Fail> {
-    for (line, text, lines) in rows {
-        check_load(rt, alloc, line, text, lines)?;
-    }
-    Ok(())
+) {
+    let ran = run_line(rt, alloc, line, text.as_bytes(), "create\n", ROOM);
+    check_ran(rt, &ran, lines, 0, line, text);
 }
 
 #[test]
-fn loads_come_to_their_lines(rt: HostRuntime) -> Result<(), Fail> {
-    check_loads(&rt, rt.alloc(), LOADS.as_slice())
+fn loads_come_to_their_lines(rt: HostRuntime) {
+    for (line, text, lines) in LOADS.as_slice() {
+        check_load(&rt, rt.alloc(), line, text, lines);
+    }
+}
+
+// A load over doors of that maker, with an empty settings file.
+fn run_load<R: Wait + Threads + Sync + Abort>(
+    rt: &R,
+    alloc: Global,
+    line: &str,
+    doors: &mut FlakyMaker,
+) -> Ran {
+    let mut files = file_of(rt, alloc, b"".as_slice());
+    run_over(rt, alloc, line, &mut files, "", 64, doors)
 }
 
 // A maker of doors of one provider that fail at these calls.
-fn failing_at(alloc: Global, calls: u64) -> Result<FlakyMaker, AllocError> {
+fn maker_of<R: Abort>(rt: &R, alloc: Global, failing: Vec<u64>) -> FlakyMaker {
+    let lists = vec![in alloc; failing].expect(rt, "memory");
+    FlakyMaker::new(alloc, lists)
+}
+
+// The calls from the first on, so many.
+fn first_calls<R: Abort>(rt: &R, alloc: Global, calls: u64) -> Vec<u64> {
     let mut failing = Vec::new(alloc);
     for before in 0..calls {
-        failing.push(before + 1)?;
+        failing.push(before + 1).expect(rt, "memory");
     }
-    let mut lists = Vec::new(alloc);
-    lists.push(failing)?;
-    Ok(FlakyMaker::new(alloc, lists))
+    failing
 }
 
 // A load whose doors fail at the first calls, and what it comes to.
-fn check_failing<R: Wait + Threads + Sync + Abort>(
-    rt: &R,
-    alloc: Global,
-    calls: u64,
-    status: u8,
-) -> Result<(), Fail> {
-    let mut doors = failing_at(alloc, calls)?;
+fn check_failing<R: Wait + Threads + Sync + Abort>(rt: &R, alloc: Global, calls: u64, status: u8) {
+    let mut doors = maker_of(rt, alloc, first_calls(rt, alloc, calls));
     let line = "load --providers 1 --replicas 1 --workers 3 --ops 2";
-    let files = file_of(alloc, Vec::new(alloc))?;
-    let ran = run_over(rt, alloc, line, files, "", 64, &mut doors)?;
-    assert_eq!(rt; ran.status, status, "{calls}");
-    assert_eq!(rt;
-        ran.err.as_slice(),
-        error_line(status).as_bytes(),
-        "{calls}"
-    );
-    assert_eq!(rt; ran.out.is_empty(), status != 0, "{calls}");
+    let ran = run_load(rt, alloc, line, &mut doors);
+    check_end(rt, &ran, status, calls);
     assert_eq!(rt; doors.faults() == 0, status == 0, "{calls}");
-    Ok(())
+}
+
+// Lines are written exactly where the load ends well.
+fn check_end<R: Abort>(rt: &R, ran: &Ran, status: u8, calls: u64) {
+    assert_eq!(rt; ran.status, status, "{calls}");
+    assert_eq!(rt; ran.err.bytes(), error_line(status).as_bytes(), "{calls}");
+    assert_eq!(rt; ran.out.bytes().is_empty(), status != 0, "{calls}");
 }
 
 #[test]
-fn a_load_whose_pages_are_lost_ends_early(rt: HostRuntime) -> Result<(), Fail> {
-    check_failing(&rt, rt.alloc(), 0, 0)?;
-    check_failing(&rt, rt.alloc(), 1, 8)?;
-    check_failing(&rt, rt.alloc(), 64, 8)
+fn a_load_whose_pages_are_lost_ends_early(rt: HostRuntime) {
+    check_failing(&rt, rt.alloc(), 0, 0);
+    check_failing(&rt, rt.alloc(), 1, 8);
+    check_failing(&rt, rt.alloc(), 64, 8);
 }
 
 // The fifth call of each worker's door fails: it stores two pages for each operation, so this is past its first two.
 #[test]
-fn a_load_that_loses_a_worker_s_page_ends_early(rt: HostRuntime) -> Result<(), Fail> {
-    let alloc = rt.alloc();
-    let mut doors = FlakyMaker::new(alloc, vec![in alloc; vec![in alloc; 5u64]?]?);
+fn a_load_that_loses_a_worker_s_page_ends_early(rt: HostRuntime) {
+    let alloc: Global = rt.alloc();
+    let fifth = vec![in alloc; 5u64].expect(&rt, "memory");
+    let mut doors = maker_of(&rt, alloc, fifth);
     let line = "load --providers 1 --replicas 1 --workers 2 --ops 3";
-    let files = file_of(alloc, Vec::new(alloc))?;
-    let ran = run_over(&rt, alloc, line, files, "", 64, &mut doors)?;
-    assert_eq!(rt; ran.status, 8);
-    assert_eq!(rt;
-        ran.err.as_slice(),
-        b"blobseer: load ended early\n".as_slice()
-    );
-    assert_eq!(rt; ran.out.len(), 0);
+    let ran = run_load(&rt, alloc, line, &mut doors);
+    check_ran(&rt, &ran, "", 8, line, "");
     // Both workers' doors failed once.
     assert_eq!(rt; doors.faults(), 2);
-    Ok(())
 }

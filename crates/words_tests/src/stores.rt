@@ -1,11 +1,10 @@
 //! Stores by their settings: limits, pages, providers and replicas.
 
-use crate::program::{file_of, run_line, run_over};
+use crate::program::{ROOM, Ran, check_ran, file_of, run_line, run_over};
 use page_store::FlakyMaker;
-use std::alloc::{AllocError, Global};
+use std::alloc::Global;
 use std::process::Abort;
 use std::sync::Wait;
-use std::test::Fail;
 use std::thread::Threads;
 
 // A command line, the text of the file `s`, a script and its replies, at the limits of the store.
@@ -49,45 +48,27 @@ fn check_row<R: Wait + Threads + Sync + Abort>(
     text: &str,
     script: &str,
     replies: &str,
-) -> Result<(), Fail> {
-    let ran = run_line(rt, alloc, line, text, script)?;
-    assert_eq!(rt;
-        ran.out.as_slice(),
-        replies.as_bytes(),
-        "{line} with {text}"
-    );
-    assert_eq!(rt; ran.err.len(), 0, "{line} with {text}");
-    assert_eq!(rt; ran.status, 0, "{line} with {text}");
-    Ok(())
-}
-
-fn check_rows<R: Wait + Threads + Sync + Abort>(
-    rt: &R,
-    alloc: Global,
-    rows: &[(&str, &str, &str, &str)],
-) -> Result<(), Fail> {
-    for (line, text, script, replies) in rows {
-        check_row(rt, alloc, line, text, script, replies)?;
-    }
-    Ok(())
+) {
+    let ran = run_line(rt, alloc, line, text.as_bytes(), script, ROOM);
+    check_ran(rt, &ran, replies, 0, line, text);
 }
 
 #[test]
-fn a_store_keeps_to_the_limits_of_its_settings(rt: HostRuntime) -> Result<(), Fail> {
-    check_rows(&rt, rt.alloc(), LIMITS.as_slice())
+fn a_store_keeps_to_the_limits_of_its_settings(rt: HostRuntime) {
+    for (line, text, script, replies) in LIMITS.as_slice() {
+        check_row(&rt, rt.alloc(), line, text, script, replies);
+    }
 }
 
-// A maker of doors of which the first call fails at one provider of so many.
-fn fails_at(alloc: Global, provider: u32, providers: u32) -> Result<FlakyMaker, AllocError> {
+// A maker of doors of which the first call fails at one provider of eight.
+fn fails_at<R: Abort>(rt: &R, alloc: Global, provider: u32) -> FlakyMaker {
     let mut lists = Vec::new(alloc);
-    for number in 0..providers {
-        if number + 1 == provider {
-            lists.push(vec![in alloc; 1u64]?)?;
-        } else {
-            lists.push(Vec::new(alloc))?;
-        }
+    for number in 0..8u32 {
+        let failing: &[u64] = if number + 1 == provider { &[1] } else { &[] };
+        let list = failing.to_vec(alloc).expect(rt, "memory");
+        lists.push(list).expect(rt, "memory");
     }
-    Ok(FlakyMaker::new(alloc, lists))
+    FlakyMaker::new(alloc, lists)
 }
 
 // A command line, the text of the file `s`, the provider whose first call fails, and the reply to an update of sixteen bytes:
@@ -146,33 +127,23 @@ fn check_pages<R: Wait + Threads + Sync + Abort>(
     text: &str,
     provider: u32,
     reply: &str,
-) -> Result<(), Fail> {
-    let files = file_of(alloc, text.as_bytes().to_vec(alloc)?)?;
-    let mut doors = fails_at(alloc, provider, 8)?;
+) {
+    let mut files = file_of(rt, alloc, text.as_bytes());
+    let mut doors = fails_at(rt, alloc, provider);
     let script = "create\nappend 1 000102030405060708090a0b0c0d0e0f\n";
-    let ran = run_over(rt, alloc, line, files, script, 64, &mut doors)?;
-    let replies = format!(in alloc; "blob 1\n{reply}\n")?;
-    assert_eq!(rt;
-        ran.out.as_slice(),
-        replies.as_bytes(),
-        "{line} with {text}, provider {provider}"
-    );
-    assert_eq!(rt; ran.status, 0, "{line} with {text}, provider {provider}");
-    Ok(())
+    let ran = run_over(rt, alloc, line, &mut files, script, 64, &mut doors);
+    check_reply(rt, alloc, &ran, reply, line, text);
 }
 
-fn check_all_pages<R: Wait + Threads + Sync + Abort>(
-    rt: &R,
-    alloc: Global,
-    rows: &[(&str, &str, u32, &str)],
-) -> Result<(), Fail> {
-    for (line, text, provider, reply) in rows {
-        check_pages(rt, alloc, line, text, *provider, reply)?;
-    }
-    Ok(())
+// The update got this reply.
+fn check_reply<R: Abort>(rt: &R, alloc: Global, ran: &Ran, reply: &str, line: &str, text: &str) {
+    let replies = format!(in alloc; "blob 1\n{reply}\n").expect(rt, "memory");
+    check_ran(rt, ran, replies.as_str(), 0, line, text);
 }
 
 #[test]
-fn pages_have_their_length_and_go_to_their_providers(rt: HostRuntime) -> Result<(), Fail> {
-    check_all_pages(&rt, rt.alloc(), PAGES.as_slice())
+fn pages_have_their_length_and_go_to_their_providers(rt: HostRuntime) {
+    for (line, text, provider, reply) in PAGES.as_slice() {
+        check_pages(&rt, rt.alloc(), line, text, *provider, reply);
+    }
 }
