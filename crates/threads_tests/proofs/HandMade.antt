@@ -1,12 +1,12 @@
 -- Rows that are built from a list of nodes.
-use Rattle.std.proofs.Common.{◌≡◌, ℕ, zero, suc, ◌<◌, List, [], ◌∷◌, ◌++◌, length, arith, ap, sym, ◌∙◌, subst, get_or}
+use Rattle.std.proofs.Common.{◌≡◌, ℕ, zero, suc, ◌<◌, List, [], ◌∷◌, length, arith, sym, subst, get_or}
 use Rattle.blob_model.specs.Content.{Update}
 use Rattle.tree_geom.specs.declared.range.Range.{Range}
 use Rattle.tree_geom.specs.declared.touch.Touch.{Touch}
 use Rattle.tree_geom.specs.declared.node.Node.{Node}
 use Rattle.node_store.specs.Order.{Before, InRowOrder}
 use Rattle.node_store.proofs.Sorted.{Before-trans}
-use Rattle.threads_tests.specs.ByHand.{told, IsNext, InOrder}
+use Rattle.threads_tests.specs.ByHand.{IsNext, InOrder}
 
 -- the first of such nodes stands before each later one
 first_before : (a : Range × Node) (rest : List (Range × Node)) (j : ℕ) (d : Range × Node) → InOrder (a ∷ rest) → j < length rest → Before a.0 (get_or rest j d).0
@@ -33,7 +33,3 @@ next_same us us' offset touch bytes bytes' pairs pairs' a b c is =
     let B : List ℕ → Type 0 = λ x. IsNext us' offset touch x pairs in
     let P : List (Range × Node) → Type 0 = λ x. IsNext us' offset touch bytes' x in
     subst U (sym a) (subst B (sym b) (subst P (sym c) is))
-
-pub told_same : (us us' : List Update) (offset : ℕ) (bytes bytes' : List ℕ) → us ≡ us' → bytes ≡ bytes'
-    → us ++ told offset bytes ∷ [] ≡ us' ++ told offset bytes' ∷ []
-told_same us us' offset bytes bytes' a b = ap (λ x. x ++ told offset bytes ∷ []) a ∙ ap (λ x. us' ++ told offset x ∷ []) b
