@@ -3,8 +3,8 @@
 use crate::session::said_to_script;
 use page_store::FlakyMaker;
 use std::alloc::Global;
+use std::process::Abort;
 use std::sync::Wait;
-use std::test::Fail;
 use std::thread::Threads;
 
 // The calls of the doors 1 to 3 that fail, a script, and its replies. A door's puts and gets are counted together, from 1.
@@ -159,31 +159,34 @@ const FAILING_ROWS: [Row; 8] = [
     },
 ];
 
-// What a session says to a row's script.
-fn said_to<R: Wait + Threads + Sync>(rt: &R, alloc: Global, row: &Row) -> Result<Vec<u8>, Fail> {
-    let mut lists = Vec::with_capacity(alloc, 3)?;
+// The lists of a row's doors.
+fn failing_of<R: Abort>(rt: &R, alloc: Global, row: &Row) -> Vec<Vec<u64>> {
+    let mut lists = Vec::with_capacity(alloc, 3).expect(rt, "memory");
     for calls in row.failing {
-        lists.push(calls.to_vec(alloc)?)?;
+        let list = calls.to_vec(alloc).expect(rt, "memory");
+        lists.push(list).expect(rt, "memory");
     }
-    said_to_script(rt, alloc, 4, &mut FlakyMaker::new(alloc, lists), row.script)
+    lists
+}
+
+// A session answers a row's script by its replies.
+fn check_row<R: Wait + Threads + Sync + Abort>(rt: &R, alloc: Global, row: &Row) {
+    let mut maker = FlakyMaker::new(alloc, failing_of(rt, alloc, row));
+    let said = said_to_script(rt, alloc, 4, &mut maker, row.script);
+    let script = row.script;
+    assert_eq!(rt; said.as_slice(), row.replies.as_bytes(), "{script}");
 }
 
 #[test]
-fn a_session_answers_each_script_by_its_lines(rt: HostRuntime) -> Result<(), Fail> {
+fn a_session_answers_each_script_by_its_lines(rt: HostRuntime) {
     for row in &CALM_ROWS {
-        let said = said_to(&rt, rt.alloc(), row)?;
-        let script = row.script;
-        assert_eq!(rt; said.as_slice(), row.replies.as_bytes(), "{script}");
+        check_row(&rt, rt.alloc(), row);
     }
-    Ok(())
 }
 
 #[test]
-fn a_page_is_lost_only_where_all_its_doors_fail(rt: HostRuntime) -> Result<(), Fail> {
+fn a_page_is_lost_only_where_all_its_doors_fail(rt: HostRuntime) {
     for row in &FAILING_ROWS {
-        let said = said_to(&rt, rt.alloc(), row)?;
-        let script = row.script;
-        assert_eq!(rt; said.as_slice(), row.replies.as_bytes(), "{script}");
+        check_row(&rt, rt.alloc(), row);
     }
-    Ok(())
 }

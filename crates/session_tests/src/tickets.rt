@@ -3,13 +3,19 @@
 use crate::session::said_to_script;
 use page_store::PlainMaker;
 use std::alloc::{AllocError, Global};
+use std::process::Abort;
 use std::sync::Wait;
-use std::test::Fail;
 use std::thread::Threads;
 
-// What a session with no tickets says to a script, in pages of four bytes.
-fn said_to<R: Wait + Threads + Sync>(rt: &R, alloc: Global, script: &str) -> Result<Vec<u8>, Fail> {
-    said_to_script(rt, alloc, 4, &mut PlainMaker::new(), script)
+// A session with no tickets answers a script by these replies, in pages of four bytes.
+fn check_script<R: Wait + Threads + Sync + Abort>(
+    rt: &R,
+    alloc: Global,
+    script: &str,
+    replies: &[u8],
+) {
+    let said = said_to_script(rt, alloc, 4, &mut PlainMaker::new(), script);
+    assert_eq!(rt; said.as_slice(), replies, "{script}");
 }
 
 // The lines, one after another, with 1 to 64 in place of their number.
@@ -45,31 +51,35 @@ fn add(
     replies.push_str(said)
 }
 
-#[test]
-fn a_session_holds_sixty_four_tickets(rt: HostRuntime) -> Result<(), Fail> {
-    let alloc = rt.alloc();
-    let mut script = String::from_str(alloc, "create\n")?;
-    let mut replies = String::from_str(alloc, "blob 1\n")?;
-    add_starts(&mut script, &mut replies)?;
+// The lines of a session that takes and finishes sixty-four tickets, beside their replies.
+fn add_all(script: &mut String, replies: &mut String) -> Result<(), AllocError> {
+    add(script, replies, "create\n", "blob 1\n")?;
+    add_starts(script, replies)?;
     // The session's own reasons come in their order, and before those of the store.
     add(
-        &mut script,
-        &mut replies,
+        script,
+        replies,
         "start-append 1 61\nwrite 9 0 61\nstart-write 9 0 -\nfinish 65\nstatus 1\n",
         "error too-many-tickets 64\nerror too-many-tickets 64\nerror empty-update\nerror no-ticket 65\n\
          status assigned 64 published 0 held 1\n",
     )?;
-    add_finishes(&mut script, &mut replies)?;
+    add_finishes(script, replies)?;
     // No number is used again.
     add(
-        &mut script,
-        &mut replies,
+        script,
+        replies,
         "finish 64\nstart-append 1 62\nfinish 65\nread 1 65 63 2\n",
         "error no-ticket 64\nticket 65 version 65 at 64 size 65\npublished 65\ndata 6162\n",
-    )?;
-    let said = said_to(&rt, alloc, script.as_str())?;
-    assert!(rt; said.as_slice() == replies.as_bytes());
-    Ok(())
+    )
+}
+
+#[test]
+fn a_session_holds_sixty_four_tickets(rt: HostRuntime) {
+    let alloc = rt.alloc();
+    let mut script = String::new(alloc);
+    let mut replies = String::new(alloc);
+    add_all(&mut script, &mut replies).expect(&rt, "memory");
+    check_script(&rt, alloc, script.as_str(), replies.as_bytes());
 }
 
 // Three updates that overlap, in the order in which they finish, and what is published each time.
@@ -101,13 +111,11 @@ fn replies_of(alloc: Global, published: &[u8; 3]) -> Result<String, AllocError> 
 }
 
 #[test]
-fn overlapping_updates_finish_in_every_order(rt: HostRuntime) -> Result<(), Fail> {
+fn overlapping_updates_finish_in_every_order(rt: HostRuntime) {
     let alloc = rt.alloc();
     for (order, published) in &ORDERS {
-        let script = script_of(alloc, order)?;
-        let replies = replies_of(alloc, published)?;
-        let said = said_to(&rt, alloc, script.as_str())?;
-        assert_eq!(rt; said.as_slice(), replies.as_bytes(), "{script}");
+        let script = script_of(alloc, order).expect(&rt, "memory");
+        let replies = replies_of(alloc, published).expect(&rt, "memory");
+        check_script(&rt, alloc, script.as_str(), replies.as_bytes());
     }
-    Ok(())
 }

@@ -8,9 +8,9 @@ use ports::gate::FreeGate;
 use request_form::Fault;
 use std::alloc::Global;
 use std::marker::Brand;
+use std::process::Abort;
 use std::sync::Wait;
 use std::sync::ledger::{Blank, Ledger};
-use std::test::Fail;
 use std::thread::Threads;
 use tree_geom::Steps;
 
@@ -38,15 +38,12 @@ fn counted_by<R: Threads + Wait + Sync, L: Ledger>(
     Ok((bytes.into_vec(), steps.taken()))
 }
 
-fn counted<R: Threads + Wait + Sync>(
+fn counted<R: Threads + Wait + Sync + Abort>(
     rt: &R,
     session: &mut Session<'_, PlainDoor, FreeGate>,
     part: Part,
-) -> Result<(Vec<u8>, u64), Fail> {
-    match counted_by::<R, Brand>(rt, session, part, Blank::new(1)) {
-        Ok(seen) => Ok(seen),
-        Err(_) => Err("a fault".into()),
-    }
+) -> (Vec<u8>, u64) {
+    counted_by::<R, Brand>(rt, session, part, Blank::new(1)).expect(rt, "a read")
 }
 
 // Updates of blob 1, a range of its last version, its bytes, and the node steps of reading it.
@@ -125,86 +122,97 @@ const VISITS: [Visits; 6] = [
 ];
 
 // What a reader saw of a row's range.
-fn seen_of<R: Threads + Wait + Sync>(
+fn seen_of<R: Threads + Wait + Sync + Abort>(
     rt: &R,
     alloc: Global,
     row: &Visits,
-) -> Result<(Vec<u8>, u64), Fail> {
-    let (shared, mut owner) = store_of(alloc, 4)?;
-    let mut session = session_of(
-        alloc,
-        &shared,
-        &mut owner,
-        &mut PlainMaker::new(),
-        &FreeGate,
-    )?;
-    replies_to(rt, alloc, &mut session, row.script)?;
+) -> (Vec<u8>, u64) {
+    let (shared, mut owner) = store_of(rt, alloc, 4);
+    let mut maker = PlainMaker::new();
+    let mut session = session_of(rt, alloc, &shared, &mut owner, &mut maker, &FreeGate);
+    replies_to(rt, alloc, &mut session, row.script);
     counted(rt, &mut session, row.part)
 }
 
+// A reader sees what a row says, in as many node steps.
+fn check_row<R: Threads + Wait + Sync + Abort>(rt: &R, alloc: Global, row: &Visits) {
+    let (bytes, steps) = seen_of(rt, alloc, row);
+    let script = row.script;
+    assert_eq!(rt;
+        (bytes.as_slice(), steps),
+        (row.bytes, row.steps),
+        "{script}"
+    );
+}
+
 #[test]
-fn a_read_takes_as_many_node_steps_as_it_needs(rt: HostRuntime) -> Result<(), Fail> {
+fn a_read_takes_as_many_node_steps_as_it_needs(rt: HostRuntime) {
     for row in &VISITS {
-        let (bytes, steps) = seen_of(&rt, rt.alloc(), row)?;
-        let script = row.script;
-        assert_eq!(rt; bytes.as_slice(), row.bytes, "{script}");
-        assert_eq!(rt; steps, row.steps, "{script}");
+        check_row(&rt, rt.alloc(), row);
     }
-    Ok(())
 }
 
 // So many bytes, of which no two pages have the same.
-fn long_bytes(alloc: Global, count: u32) -> Result<Vec<u8>, Fail> {
-    let mut bytes = Vec::with_capacity(alloc, count as usize)?;
+fn long_bytes<R: Abort>(rt: &R, alloc: Global, count: u32) -> Vec<u8> {
+    let mut bytes = Vec::with_capacity(alloc, count as usize).expect(rt, "memory");
     for i in 0..count {
-        bytes.push((i / 4 % 251) as u8)?;
+        bytes.push((i / 4 % 251) as u8).expect(rt, "memory");
     }
-    Ok(bytes)
+    bytes
 }
 
 // A script that appends the bytes to a new blob.
-fn append_of(alloc: Global, bytes: &[u8]) -> Result<String, Fail> {
-    let digits = hex::encode(alloc, bytes)?;
-    Ok(format!(in alloc; "create\nappend 1 {digits}\n")?)
+fn append_of<R: Abort>(rt: &R, alloc: Global, bytes: &[u8]) -> String {
+    let digits = hex::encode(alloc, bytes).expect(rt, "memory");
+    format!(in alloc; "create\nappend 1 {digits}\n").expect(rt, "memory")
 }
 
-#[test]
-fn a_mebibyte_is_read_whole_in_511_node_steps(rt: HostRuntime) -> Result<(), Fail> {
-    let alloc = rt.alloc();
-    let bytes = long_bytes(alloc, 1_048_576)?;
-    let (shared, mut owner) = store_of(alloc, 4096)?;
-    let mut session = session_of(
-        alloc,
-        &shared,
-        &mut owner,
-        &mut PlainMaker::new(),
-        &FreeGate,
-    )?;
-    let replies = replies_to(&rt, alloc, &mut session, append_of(alloc, &bytes)?.as_str())?;
-    assert_eq!(rt;
-        replies.as_slice(),
-        "blob 1\nversion 1 at 0 size 1048576\n".as_bytes()
-    );
+// Appends a mebibyte to a new blob.
+fn append_mebibyte<R: Threads + Wait + Sync + Abort>(
+    rt: &R,
+    alloc: Global,
+    session: &mut Session<'_, PlainDoor, FreeGate>,
+    bytes: &[u8],
+) {
+    let script = append_of(rt, alloc, bytes);
+    let replies = replies_to(rt, alloc, session, script.as_str());
+    let expected = "blob 1\nversion 1 at 0 size 1048576\n".as_bytes();
+    assert_eq!(rt; replies.as_slice(), expected);
+}
+
+// Reads the mebibyte whole.
+fn check_mebibyte<R: Threads + Wait + Sync + Abort>(
+    rt: &R,
+    session: &mut Session<'_, PlainDoor, FreeGate>,
+    bytes: &[u8],
+) {
     let whole = Part {
         version: 1,
         offset: 0,
         count: 1_048_576,
     };
-    let (seen, steps) = counted(&rt, &mut session, whole)?;
-    assert!(rt; seen.as_slice() == bytes.as_slice());
+    let (seen, steps) = counted(rt, session, whole);
+    assert!(rt; seen.as_slice() == bytes);
     assert_eq!(rt; steps, 511);
-    Ok(())
 }
 
 #[test]
-fn a_mebibyte_and_a_byte_is_refused(rt: HostRuntime) -> Result<(), Fail> {
+fn a_mebibyte_is_read_whole_in_511_node_steps(rt: HostRuntime) {
     let alloc = rt.alloc();
-    let bytes = long_bytes(alloc, 1_048_577)?;
-    let script = append_of(alloc, &bytes)?;
-    let replies = said_to_script(&rt, alloc, 4096, &mut PlainMaker::new(), script.as_str())?;
-    assert_eq!(rt;
-        replies.as_slice(),
-        "blob 1\nerror update-too-long 1048577\n".as_bytes()
-    );
-    Ok(())
+    let bytes = long_bytes(&rt, alloc, 1_048_576);
+    let (shared, mut owner) = store_of(&rt, alloc, 4096);
+    let mut maker = PlainMaker::new();
+    let mut session = session_of(&rt, alloc, &shared, &mut owner, &mut maker, &FreeGate);
+    append_mebibyte(&rt, alloc, &mut session, bytes.as_slice());
+    check_mebibyte(&rt, &mut session, bytes.as_slice());
+}
+
+#[test]
+fn a_mebibyte_and_a_byte_is_refused(rt: HostRuntime) {
+    let alloc = rt.alloc();
+    let bytes = long_bytes(&rt, alloc, 1_048_577);
+    let script = append_of(&rt, alloc, bytes.as_slice());
+    let replies = said_to_script(&rt, alloc, 4096, &mut PlainMaker::new(), script.as_str());
+    let expected = "blob 1\nerror update-too-long 1048577\n".as_bytes();
+    assert_eq!(rt; replies.as_slice(), expected);
 }
