@@ -7,8 +7,8 @@ use client_session::{Done, HangUp, Session, Started};
 use page_store::PlainDoor;
 use ports::gate::Gate;
 use request_form::Fault;
+use std::process::Abort;
 use std::sync::Wait;
-use std::test::Fail;
 use std::thread::Threads;
 
 /// Makes the only blob of the store.
@@ -143,11 +143,7 @@ pub(crate) fn status<G: Gate, R: Wait>(
     status_of(&outcome)
 }
 
-/// The fault of a call that is to be refused for another reason than want of memory.
-pub(crate) fn refusal_of<T: Drop>(answer: Result<T, Fault>) -> Result<Fault, Fail> {
-    match answer {
-        Ok(_) => Err("what is to be refused was done".into()),
-        Err(Fault::NoMemory) => Err("no memory".into()),
-        Err(fault) => Ok(fault),
-    }
+/// The fault of a call that is to be refused.
+pub(crate) fn refusal_of<T: Drop, R: Abort>(rt: &R, answer: Result<T, Fault>) -> Fault {
+    answer.err().expect(rt, "a refusal")
 }

@@ -11,96 +11,89 @@ use page_store::PlainDoor;
 use ports::gate::FreeGate;
 use request_form::Fault;
 use std::alloc::Global;
+use std::process::Abort;
 use std::sync::Wait;
-use std::test::Fail;
 use std::thread;
 use std::thread::Threads;
 
 // Starts so many updates of one byte, and answers how many got the next ticket in a row.
-fn start_times<R: Threads + Wait + Sync>(
+fn start_times<R: Threads + Wait + Sync + Abort>(
     rt: &R,
     session: &mut Session<'_, PlainDoor, FreeGate>,
     times: u64,
-) -> Result<u64, Fault> {
+) -> u64 {
     for before in 0..times {
-        let started = start(rt, session, b"a")?;
+        let started = start(rt, session, b"a").expect(rt, "a ticket");
         if started.ticket != before + 1 {
-            return Ok(before);
+            return before;
         }
     }
-    Ok(times)
+    times
 }
 
 // Appends a byte so many times.
-fn append_times<R: Threads + Wait + Sync>(
+fn append_times<R: Threads + Wait + Sync + Abort>(
     rt: &R,
     session: &mut Session<'_, PlainDoor, FreeGate>,
     times: u32,
-) -> Result<(), Fault> {
+) {
     for _ in 0..times {
-        append(rt, session, b"b")?;
+        append(rt, session, b"b").expect(rt, "an append");
     }
-    Ok(())
 }
 
-fn start_too_many<R: Threads + Wait + Sync>(
+// How many of 64 updates the first session starts, and why it can't start one more, nor the second start or append one.
+fn start_too_many<R: Threads + Wait + Sync + Abort>(
     rt: &R,
     one: &mut Session<'_, PlainDoor, FreeGate>,
     two: &mut Session<'_, PlainDoor, FreeGate>,
-) -> Result<(u64, [Fault; 3]), Fail> {
-    create(rt, one)?;
-    let started = start_times(rt, one, 64)?;
-    let same = refusal_of(start(rt, one, b"a"))?;
-    let other = refusal_of(start(rt, two, b"a"))?;
-    let appended = refusal_of(append(rt, two, b"a"))?;
-    Ok((started, [same, other, appended]))
+) -> (u64, [Fault; 3]) {
+    create(rt, one).expect(rt, "a blob");
+    let started = start_times(rt, one, 64);
+    let same = refusal_of(rt, start(rt, one, b"a"));
+    let other = refusal_of(rt, start(rt, two, b"a"));
+    let appended = refusal_of(rt, append(rt, two, b"a"));
+    (started, [same, other, appended])
 }
 
-// How many of 64 updates the first session of a new store starts, and why it can't start one more, nor the second start or append
-// one.
-fn refused_beside<R: Threads + Wait + Sync>(
-    rt: &R,
-    alloc: Global,
-) -> Result<(u64, [Fault; 3]), Fail> {
-    let (shared, mut owner) = new_store(alloc)?;
-    let Two { mut one, mut two } = two_sessions(alloc, &shared, &mut owner, &FreeGate)?;
+// The same of the first two sessions of a new store.
+fn refused_beside<R: Threads + Wait + Sync + Abort>(rt: &R, alloc: Global) -> (u64, [Fault; 3]) {
+    let (shared, mut owner) = new_store(rt, alloc);
+    let Two { mut one, mut two } = two_sessions(rt, alloc, &shared, &mut owner, &FreeGate);
     start_too_many(rt, &mut one, &mut two)
 }
 
 #[test]
-fn sixty_four_updates_of_a_blob_are_open_at_once(rt: HostRuntime) -> Result<(), Fail> {
-    let (started, faults) = refused_beside(&rt, rt.alloc())?;
+fn sixty_four_updates_of_a_blob_are_open_at_once(rt: HostRuntime) {
+    let (started, faults) = refused_beside(&rt, rt.alloc());
     let open = Fault::TooManyOpen { limit: 64 };
     assert_eq!(rt; started, 64);
     assert_eq!(rt; faults, [Fault::TooManyTickets, open, open]);
-    Ok(())
 }
 
 // Starts three updates and gives them up; then starts one more.
-fn start_and_hang_up<R: Threads + Wait + Sync>(
+fn start_and_hang_up<R: Threads + Wait + Sync + Abort>(
     rt: &R,
     session: &mut Session<'_, PlainDoor, FreeGate>,
-) -> Result<(u64, HangUp, u64), Fault> {
-    let started = start_times(rt, session, 3)?;
+) -> (u64, HangUp, u64) {
+    let started = start_times(rt, session, 3);
     let hung_up = hang_up(rt, session);
-    if hung_up.no_memory > 0 {
-        return Err(Fault::NoMemory);
-    }
-    let again = start_times(rt, session, 1)?;
-    Ok((started, hung_up, again))
+    let again = start_times(rt, session, 1);
+    (started, hung_up, again)
 }
 
 // The first session gives up its tickets, while the second goes on.
-fn hang_up_beside<R: Threads + Wait + Sync>(
+fn hang_up_beside<R: Threads + Wait + Sync + Abort>(
     rt: &R,
     one: &mut Session<'_, PlainDoor, FreeGate>,
     two: &mut Session<'_, PlainDoor, FreeGate>,
-) -> (Result<(u64, HangUp, u64), Fault>, Result<(), Fault>) {
-    thread::join(
+) -> (u64, HangUp, u64) {
+    let (told, ()) = thread::join(
         rt,
         || start_and_hang_up(rt, one),
         || append_times(rt, two, 20),
-    )
+    );
+    told
 }
 
 // What a session is told that gives up three tickets, starts one more update and finishes it, beside another; what is published
@@ -113,29 +106,27 @@ struct GivenUp {
     again: HangUp,
 }
 
-fn give_up_beside<R: Threads + Wait + Sync>(
+fn give_up_beside<R: Threads + Wait + Sync + Abort>(
     rt: &R,
     one: &mut Session<'_, PlainDoor, FreeGate>,
     two: &mut Session<'_, PlainDoor, FreeGate>,
-) -> Result<GivenUp, Fail> {
-    create(rt, one)?;
-    let (first, second) = hang_up_beside(rt, one, two);
-    let beside = first?;
-    second?;
-    let published = finish(rt, one, 1)?;
+) -> GivenUp {
+    create(rt, one).expect(rt, "a blob");
+    let beside = hang_up_beside(rt, one, two);
+    let published = finish(rt, one, 1).expect(rt, "a finished update");
     let status = status(rt, two);
     let again = hang_up(rt, one);
-    Ok(GivenUp {
+    GivenUp {
         beside,
         published,
         status,
         again,
-    })
+    }
 }
 
-fn given_up<R: Threads + Wait + Sync>(rt: &R, alloc: Global) -> Result<GivenUp, Fail> {
-    let (shared, mut owner) = new_store(alloc)?;
-    let Two { mut one, mut two } = two_sessions(alloc, &shared, &mut owner, &FreeGate)?;
+fn given_up<R: Threads + Wait + Sync + Abort>(rt: &R, alloc: Global) -> GivenUp {
+    let (shared, mut owner) = new_store(rt, alloc);
+    let Two { mut one, mut two } = two_sessions(rt, alloc, &shared, &mut owner, &FreeGate);
     give_up_beside(rt, &mut one, &mut two)
 }
 
@@ -150,8 +141,8 @@ fn all_finished(finished: u32) -> HangUp {
 }
 
 #[test]
-fn a_session_that_hangs_up_leaves_no_update_unfinished(rt: HostRuntime) -> Result<(), Fail> {
-    let given_up = given_up(&rt, rt.alloc())?;
+fn a_session_that_hangs_up_leaves_no_update_unfinished(rt: HostRuntime) {
+    let given_up = given_up(&rt, rt.alloc());
     let expected = GivenUp {
         beside: (3, all_finished(3), 1),
         published: 24,
@@ -159,7 +150,6 @@ fn a_session_that_hangs_up_leaves_no_update_unfinished(rt: HostRuntime) -> Resul
         again: all_finished(0),
     };
     assert_eq!(rt; given_up, expected);
-    Ok(())
 }
 
 // A session makes the blob and starts two updates, and ends without hanging up.
@@ -208,33 +198,28 @@ struct Left {
     closed: Option<(u64, u64, u64)>,
 }
 
-fn left_unfinished<R: Threads + Wait + Sync>(rt: &R, alloc: Global) -> Result<Left, Fail> {
-    let (shared, mut owner) = new_store(alloc)?;
-    let Two { one, two } = two_sessions(alloc, &shared, &mut owner, &FreeGate)?;
-    let started = start_and_end(rt, one, &shared, &mut owner);
+fn left_unfinished<R: Threads + Wait + Sync + Abort>(rt: &R, alloc: Global) -> Left {
+    let (shared, mut owner) = new_store(rt, alloc);
+    let Two { one, two } = two_sessions(rt, alloc, &shared, &mut owner, &FreeGate);
+    assert!(rt; start_and_end(rt, one, &shared, &mut owner));
     let (appended, seen, pending) = append_and_end(rt, two, &shared, &mut owner);
-    let desk = closed(shared, owner)?;
-    if !started || !appended {
-        return Err("an update was refused".into());
-    }
+    assert!(rt; appended);
+    let desk = closed(rt, shared, owner);
     let status = desk.status(1);
-    Ok(Left {
+    Left {
         seen,
         pending,
         closed: status_of(&status),
-    })
+    }
 }
 
 #[test]
-fn a_session_that_ends_without_hanging_up_holds_the_others_back(
-    rt: HostRuntime,
-) -> Result<(), Fail> {
-    let left = left_unfinished(&rt, rt.alloc())?;
+fn a_session_that_ends_without_hanging_up_holds_the_others_back(rt: HostRuntime) {
+    let left = left_unfinished(&rt, rt.alloc());
     let expected = Left {
         seen: Some((4, 0, 1)),
         pending: Some((4, 1)),
         closed: Some((4, 0, 1)),
     };
     assert_eq!(rt; left, expected);
-    Ok(())
 }

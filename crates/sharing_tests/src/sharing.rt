@@ -4,76 +4,71 @@ mod client;
 mod replay;
 mod script;
 
-ghost use Rattle.std.specs.Prelude.{◌≡◌, IfOk};
+ghost use Rattle.std.specs.Prelude.{◌≡◌};
 ghost use Rattle.client_session.specs.Sessions.{IsOwnerOf};
 
 use crate::calls::recent_of;
 use crate::sharing::client::{Client, Member, Naming, Note};
-use crate::sharing::replay::{ends_as, ends_at, has_size, replays};
+use crate::sharing::replay::{check_history, ends_as, ends_at, has_size};
 use crate::sharing::script::{BASE, CLIENTS, sum_of};
 use crate::store::{closed, new_store};
 use blob_model::Place;
 use client_session::{Owner, Shared};
-use std::alloc::{AllocError, Global};
+use std::alloc::Global;
 use std::marker::Brand;
+use std::process::Abort;
 use std::sync::Wait;
-use std::test::Fail;
 use std::thread;
 use std::thread::Threads;
 use version_manager::Desk;
 
 // Makes the three blobs, each with its first version.
-fn make_blobs<N: Naming, R: Threads + Wait + Sync>(
-    rt: &R,
-    founder: &mut Member<'_, N>,
-) -> Option<()> {
+fn make_blobs<N: Naming, R: Threads + Wait + Sync + Abort>(rt: &R, founder: &mut Member<'_, N>) {
     for _ in 0..3 {
-        let blob = founder.create(rt)?;
-        founder.update(rt, blob, Place::Append, BASE)?;
+        let blob = founder.create(rt).expect(rt, "a blob");
+        let done = founder.update(rt, blob, Place::Append, BASE);
+        assert!(rt; done.is_some());
     }
-    Some(())
 }
 
 // A session makes the blobs, and ends.
-fn found<N: Naming, R: Threads + Wait + Sync>(
+fn found<N: Naming, R: Threads + Wait + Sync + Abort>(
     rt: &R,
     alloc: Global,
     shared: &Shared,
     owner: &mut Owner,
-) -> Result<(), Fail>
+)
     requires store { shared.now ≡ N.store }
     requires owner { IsOwnerOf shared.now owner.old }
     ensures { IsOwnerOf shared.now owner.new }
 {
-    let mut founder = Member::<N>::new(alloc, shared, owner)?;
-    let made = make_blobs(rt, &mut founder);
+    let mut founder = Member::<N>::new(rt, alloc, shared, owner);
+    make_blobs(rt, &mut founder);
     founder.end(shared, owner);
-    match made {
-        Some(()) => Ok(()),
-        None => Err("no blobs".into()),
-    }
 }
 
 // The clients, each with a session of its own.
-fn clients_of<'a, N: Naming>(
+fn clients_of<'a, N: Naming, R: Abort>(
+    rt: &R,
     alloc: Global,
     shared: &'a Shared,
     owner: &mut Owner,
-) -> Result<Vec<Client<'a, N>>, Fail>
+) -> Vec<Client<'a, N>>
     requires store { shared.now ≡ N.store }
     requires owner { IsOwnerOf shared.now owner.old }
     ensures { IsOwnerOf shared.now owner.new }
 {
     let mut clients = Vec::new(alloc);
     for number in 0..CLIENTS {
-        clients.push(Client {
-            member: Member::new(alloc, shared, owner)?,
+        let client = Client {
+            member: Member::new(rt, alloc, shared, owner),
             number,
             notes: Vec::new(alloc),
             is_content: false,
-        })?;
+        };
+        clients.push(client).expect(rt, "memory");
     }
-    Ok(clients)
+    clients
 }
 
 // Each client goes through its script, beside the others. Whether all went well.
@@ -91,12 +86,13 @@ fn work_all<N: Naming + Send + Sync, R: Threads + Wait + Sync>(
 }
 
 // Ends a client, and adds what it was told.
-fn end_one<N: Naming>(
+fn end_one<N: Naming, R: Abort>(
+    rt: &R,
     client: Client<'_, N>,
     shared: &Shared,
     owner: &mut Owner,
     all: &mut Vec<Note>,
-) -> Result<(), AllocError>
+)
     requires store { shared.now ≡ N.store }
     requires owner { IsOwnerOf shared.now owner.old }
     ensures { IsOwnerOf shared.now owner.new }
@@ -107,63 +103,66 @@ fn end_one<N: Naming>(
         ..
     } = client;
     member.end(shared, owner);
-    all.append(&mut notes)
+    all.append(&mut notes).expect(rt, "memory");
 }
 
 // Ends the clients, and gives what they were told.
-fn end_all<N: Naming>(
+fn end_all<N: Naming, R: Abort>(
+    rt: &R,
     alloc: Global,
     shared: &Shared,
     owner: &mut Owner,
     clients: Vec<Client<'_, N>>,
-) -> Result<Vec<Note>, Fail>
+) -> Vec<Note>
     requires store { shared.now ≡ N.store }
     requires owner { IsOwnerOf shared.now owner.old }
     ensures { IsOwnerOf shared.now owner.new }
 {
     let mut all = Vec::new(alloc);
     for client in clients {
-        end_one(client, shared, owner, &mut all)?;
+        end_one(rt, client, shared, owner, &mut all);
     }
-    Ok(all)
+    all
 }
 
 // What the clients were told. All sessions have ended.
-fn share_in<N: Naming + Send + Sync, R: Threads + Wait + Sync>(
+fn share_in<N: Naming + Send + Sync, R: Threads + Wait + Sync + Abort>(
     rt: &R,
     alloc: Global,
     shared: &Shared,
     owner: &mut Owner,
-) -> Result<Vec<Note>, Fail>
+) -> Vec<Note>
     requires store { shared.now ≡ N.store }
     requires owner { IsOwnerOf shared.now owner.old }
     ensures { IsOwnerOf shared.now owner.new }
 {
-    found::<N, R>(rt, alloc, shared, owner)?;
-    let mut clients = clients_of::<N>(alloc, shared, owner)?;
-    if !work_all(rt, clients.as_mut_slice()) {
-        return Err("a client was told something else".into());
-    }
-    end_all(alloc, shared, owner, clients)
+    found::<N, R>(rt, alloc, shared, owner);
+    let mut clients = clients_of::<N, R>(rt, alloc, shared, owner);
+    assert!(rt;
+        work_all(rt, clients.as_mut_slice()),
+        "a client was told something else"
+    );
+    end_all(rt, alloc, shared, owner, clients)
 }
 
-fn share<R: Threads + Wait + Sync>(
+fn share<R: Threads + Wait + Sync + Abort>(
     rt: &R,
     alloc: Global,
     shared: &Shared,
     owner: &mut Owner,
-) -> Result<Vec<Note>, Fail>
+) -> Vec<Note>
     requires { IsOwnerOf shared.now owner.old }
     ensures { IsOwnerOf shared.now owner.new }
 {
     share_in::<Brand, R>(rt, alloc, shared, owner)
 }
 
-// Whether a blob's history is what the notes say and the scripts add up to, and how many branches were made of it.
-fn checked(alloc: Global, desk: &Desk, notes: &[Note], blob: u64) -> Option<u64> {
+// How many branches were made of a blob, whose history is what the notes say and the scripts add up to.
+fn check_blob<R: Abort>(rt: &R, alloc: Global, desk: &Desk, notes: &[Note], blob: u64) -> u64 {
     let sum = sum_of(blob);
-    replays(alloc, notes, blob, sum.last)?;
-    ends_as(desk, blob, &sum).then_some(sum.branches)
+    check_history(rt, alloc, notes, blob, sum.last);
+    assert!(rt; ends_as(desk, blob, &sum), "blob {blob}");
+    sum.branches
 }
 
 // Whether the desk agrees with a note, where the note is of a branch also that this is the branch's only update.
@@ -178,22 +177,21 @@ fn branch_notes(notes: &[Note]) -> usize {
 }
 
 // What the clients of a new store were told, and its desk once they have ended.
-fn told_all<R: Threads + Wait + Sync>(rt: &R, alloc: Global) -> Result<(Vec<Note>, Desk), Fail> {
-    let (shared, mut owner) = new_store(alloc)?;
-    let notes = share(rt, alloc, &shared, &mut owner)?;
-    let desk = closed(shared, owner)?;
-    Ok((notes, desk))
+fn told_all<R: Threads + Wait + Sync + Abort>(rt: &R, alloc: Global) -> (Vec<Note>, Desk) {
+    let (shared, mut owner) = new_store(rt, alloc);
+    let notes = share(rt, alloc, &shared, &mut owner);
+    (notes, closed(rt, shared, owner))
 }
 
-// How many branches the scripts make, where the three blobs and every note agree with the desk.
-fn branches_checked(alloc: Global, desk: &Desk, notes: &[Note]) -> Option<u64> {
-    let first = checked(alloc, desk, notes, 1)?;
-    let second = checked(alloc, desk, notes, 2)?;
-    let third = checked(alloc, desk, notes, 3)?;
-    if !notes.iter().all(|note| agrees(desk, note)) {
-        return None;
+// How many branches the scripts make. The three blobs and every note agree with the desk.
+fn check_branches<R: Abort>(rt: &R, alloc: Global, desk: &Desk, notes: &[Note]) -> u64 {
+    let mut branches: u64 = 0;
+    for before in 0..3 {
+        let more = check_blob(rt, alloc, desk, notes, before + 1);
+        branches = branches.saturating_add(more);
     }
-    first.checked_add(second)?.checked_add(third)
+    assert!(rt; notes.iter().all(|note| agrees(desk, note)));
+    branches
 }
 
 // Whether the desk has a blob of that number.
@@ -203,10 +201,9 @@ fn has_blob(desk: &Desk, blob: u64) -> bool {
 }
 
 #[test]
-fn sixteen_sessions_share_three_blobs(rt: HostRuntime) -> Result<(), Fail> {
-    let (notes, desk) = told_all(&rt, rt.alloc())?;
-    let branches = branches_checked(rt.alloc(), &desk, notes.as_slice()).ok_or("a reply differs")?;
+fn sixteen_sessions_share_three_blobs(rt: HostRuntime) {
+    let (notes, desk) = told_all(&rt, rt.alloc());
+    let branches = check_branches(&rt, rt.alloc(), &desk, notes.as_slice());
     assert_eq!(rt; branch_notes(notes.as_slice()) as u64, branches);
     assert!(rt; !has_blob(&desk, branches.saturating_add(4)));
-    Ok(())
 }

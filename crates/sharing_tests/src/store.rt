@@ -1,5 +1,5 @@
 //! A store for tests, and sessions of it.
-ghost use Rattle.std.specs.Prelude.{◌≡◌, IfOk};
+ghost use Rattle.std.specs.Prelude.{◌≡◌};
 ghost use Rattle.client_session.specs.Sessions.{IsOwnerOf};
 
 use blob_model::Limits;
@@ -8,38 +8,34 @@ use page_fan::Doors;
 use page_store::{PlainDoor, PlainMaker};
 use ports::gate::Gate;
 use std::alloc::Global;
-use std::test::Fail;
+use std::process::Abort;
 use tree_geom::PageSize;
 use version_manager::Desk;
 
 /// A store with no blobs, and its owner: pages of four bytes, three providers, two replicas of each page.
-pub(crate) fn new_store(alloc: Global) -> Result<(Shared, Owner), Fail>
-    ensures { IfOk result (λ r. IsOwnerOf r.0 r.1) }
+pub(crate) fn new_store<R: Abort>(rt: &R, alloc: Global) -> (Shared, Owner)
+    ensures { IsOwnerOf result.0 result.1 }
 {
-    let p = PageSize::new(4).ok_or("a page size")?;
-    match Shared::new(alloc, Limits::greatest(), p, 3, 2) {
-        Ok(store) => Ok(store),
-        Err(_) => Err("no memory".into()),
-    }
+    let p = PageSize::new(4).expect(rt, "four bytes");
+    Shared::new(alloc, Limits::greatest(), p, 3, 2).expect(rt, "memory")
 }
 
 /// A new session of a store, with the next pass of its owner.
-pub(crate) fn new_session<'a, G: Gate>(
+pub(crate) fn new_session<'a, G: Gate, R: Abort>(
+    rt: &R,
     alloc: Global,
     shared: &'a Shared,
     owner: &mut Owner,
     gate: &'a G,
-) -> Result<Session<'a, PlainDoor, G>, Fail>
+) -> Session<'a, PlainDoor, G>
     requires owner { IsOwnerOf shared.now owner.old }
-    ensures session { IfOk result (λ s. s.store ≡ shared.now) }
+    ensures session { result.store ≡ shared.now }
     ensures owner { IsOwnerOf shared.now owner.new }
 {
-    let doors = Doors::new(alloc, &mut PlainMaker::new(), shared.providers())?;
-    let pass = shared.pass(owner)?;
-    match Session::new(alloc, shared, gate, pass, doors) {
-        Ok(session) => Ok(session),
-        Err((_pass, _doors)) => Err("no memory".into()),
-    }
+    let doors = Doors::new(alloc, &mut PlainMaker::new(), shared.providers()).expect(rt, "memory");
+    let pass = shared.pass(owner).expect(rt, "a pass");
+    let made = Session::new(alloc, shared, gate, pass, doors);
+    made.ok().expect(rt, "memory")
 }
 
 /// The first two sessions of a store, callers 1 and 2.
@@ -50,20 +46,21 @@ pub(crate) struct Two<'a, G: Gate> {
 }
 
 /// The first two sessions of a store.
-pub(crate) fn two_sessions<'a, G: Gate>(
+pub(crate) fn two_sessions<'a, G: Gate, R: Abort>(
+    rt: &R,
     alloc: Global,
     shared: &'a Shared,
     owner: &mut Owner,
     gate: &'a G,
-) -> Result<Two<'a, G>, Fail>
+) -> Two<'a, G>
     requires owner { IsOwnerOf shared.now owner.old }
-    ensures one { IfOk result (λ s. s.one.store ≡ shared.now) }
-    ensures two { IfOk result (λ s. s.two.store ≡ shared.now) }
+    ensures one { result.one.store ≡ shared.now }
+    ensures two { result.two.store ≡ shared.now }
     ensures owner { IsOwnerOf shared.now owner.new }
 {
-    let one = new_session(alloc, shared, owner, gate)?;
-    let two = new_session(alloc, shared, owner, gate)?;
-    Ok(Two { one, two })
+    let one = new_session(rt, alloc, shared, owner, gate);
+    let two = new_session(rt, alloc, shared, owner, gate);
+    Two { one, two }
 }
 
 /// Ends a session of the store, and gives its pass back.
@@ -82,11 +79,8 @@ pub(crate) fn end_session<G: Gate>(
 }
 
 /// The desk of a store whose sessions have all ended.
-pub(crate) fn closed(shared: Shared, owner: Owner) -> Result<Desk, Fail>
+pub(crate) fn closed<R: Abort>(rt: &R, shared: Shared, owner: Owner) -> Desk
     requires { IsOwnerOf shared owner }
 {
-    match shared.close(owner) {
-        Ok(desk) => Ok(desk),
-        Err(_out) => Err("a pass is out".into()),
-    }
+    shared.close(owner).ok().expect(rt, "every pass came back")
 }

@@ -7,8 +7,8 @@ use page_store::PlainDoor;
 use ports::gate::{FreeGate, HoldGate, Point};
 use request_form::{Fault, Reply, Request, Service};
 use std::alloc::Global;
+use std::process::Abort;
 use std::sync::Wait;
-use std::test::Fail;
 use std::thread;
 use std::thread::Threads;
 
@@ -105,40 +105,40 @@ fn append_both<R: Threads + Wait + Sync>(
     )
 }
 
-fn told_both<R: Threads + Wait + Sync>(
+fn told_both<R: Threads + Wait + Sync + Abort>(
     rt: &R,
     gate: &HoldGate,
     one: &mut Session<'_, PlainDoor, HoldGate>,
     two: &mut Session<'_, PlainDoor, HoldGate>,
-) -> Result<Both, Fail> {
-    create(rt, one)?;
+) -> Both {
+    create(rt, one).expect(rt, "a blob");
     let (first, told) = append_both(rt, gate, one, two);
-    let first = first?;
-    let told = told.ok_or("the second session was refused")?;
+    let first = first.expect(rt, "the first update");
+    let told = told.expect(rt, "what the second session was told");
     let ran_out = gate.ran_out();
     // Both threads have ended: a first update that found no memory would be waited for without end.
     let synced = sync_wait(rt, two, 2);
     let recent = recent(rt, two);
-    Ok(Both {
+    Both {
         first,
         told,
         ran_out,
         synced,
         recent,
-    })
+    }
 }
 
 // What two sessions of a new store are told, where the first is held once its update has its number.
-fn told_at_gate<R: Threads + Wait + Sync>(rt: &R, alloc: Global) -> Result<Both, Fail> {
+fn told_at_gate<R: Threads + Wait + Sync + Abort>(rt: &R, alloc: Global) -> Both {
     let gate = HoldGate::new(Point::Numbered, 1);
-    let (shared, mut owner) = new_store(alloc)?;
-    let Two { mut one, mut two } = two_sessions(alloc, &shared, &mut owner, &gate)?;
+    let (shared, mut owner) = new_store(rt, alloc);
+    let Two { mut one, mut two } = two_sessions(rt, alloc, &shared, &mut owner, &gate);
     told_both(rt, &gate, &mut one, &mut two)
 }
 
 #[test]
-fn a_session_goes_on_while_another_is_held_at_its_number(rt: HostRuntime) -> Result<(), Fail> {
-    let both = told_at_gate(&rt, rt.alloc())?;
+fn a_session_goes_on_while_another_is_held_at_its_number(rt: HostRuntime) {
+    let both = told_at_gate(&rt, rt.alloc());
     let first = Done {
         version: 1,
         at: 0,
@@ -162,7 +162,6 @@ fn a_session_goes_on_while_another_is_held_at_its_number(rt: HostRuntime) -> Res
         recent: Some((2, 5)),
     };
     assert_eq!(rt; both, expected);
-    Ok(())
 }
 
 // Finishes the update of the ticket, after others may have begun to wait for it. Where no memory is found it tries again, since
@@ -195,30 +194,26 @@ fn finish_and_wait<R: Threads + Wait + Sync>(
     )
 }
 
-fn waited<R: Threads + Wait + Sync>(
+fn waited<R: Threads + Wait + Sync + Abort>(
     rt: &R,
     one: &mut Session<'_, PlainDoor, FreeGate>,
     two: &mut Session<'_, PlainDoor, FreeGate>,
-) -> Result<(u64, Option<u64>), Fail> {
-    create(rt, one)?;
-    let started = start(rt, one, b"abc")?;
+) -> (u64, Option<u64>) {
+    create(rt, one).expect(rt, "a blob");
+    let started = start(rt, one, b"abc").expect(rt, "a ticket");
     let (published, synced) = finish_and_wait(rt, one, started.ticket, two);
-    Ok((published?, synced))
+    (published.expect(rt, "a finished update"), synced)
 }
 
 // What the first session of a new store is told of the finish for which the second waits, and what the second is told then.
-fn told_of_wait<R: Threads + Wait + Sync>(
-    rt: &R,
-    alloc: Global,
-) -> Result<(u64, Option<u64>), Fail> {
-    let (shared, mut owner) = new_store(alloc)?;
-    let Two { mut one, mut two } = two_sessions(alloc, &shared, &mut owner, &FreeGate)?;
+fn told_of_wait<R: Threads + Wait + Sync + Abort>(rt: &R, alloc: Global) -> (u64, Option<u64>) {
+    let (shared, mut owner) = new_store(rt, alloc);
+    let Two { mut one, mut two } = two_sessions(rt, alloc, &shared, &mut owner, &FreeGate);
     waited(rt, &mut one, &mut two)
 }
 
 #[test]
-fn a_session_that_waits_goes_on_once_another_has_finished(rt: HostRuntime) -> Result<(), Fail> {
-    let told = told_of_wait(&rt, rt.alloc())?;
+fn a_session_that_waits_goes_on_once_another_has_finished(rt: HostRuntime) {
+    let told = told_of_wait(&rt, rt.alloc());
     assert_eq!(rt; told, (1, Some(1)));
-    Ok(())
 }

@@ -1,5 +1,5 @@
 //! A client of a shared store, and what it was told.
-ghost use Rattle.std.specs.Prelude.{◌≡◌, IfOk};
+ghost use Rattle.std.specs.Prelude.{◌≡◌};
 ghost use Rattle.client_session.specs.Sessions.{IsOwnerOf};
 
 use crate::sharing::script::{BASE, Dice, MOST, Next, STEPS, Step};
@@ -11,8 +11,8 @@ use ports::gate::FreeGate;
 use request_form::{Reply, Request, Service};
 use std::alloc::Global;
 use std::marker::{Brand, PhantomData};
+use std::process::Abort;
 use std::sync::Wait;
-use std::test::Fail;
 use std::thread::Threads;
 
 /// Which store it is. Each call of a program picks it.
@@ -43,20 +43,20 @@ pub(crate) struct Member<'a, N: Naming> {
 
 impl<'a, N: Naming> Member<'a, N> {
     /// A session with the next pass of the store.
-    pub(crate) fn new(
+    pub(crate) fn new<R: Abort>(
+        rt: &R,
         alloc: Global,
         shared: &'a Shared,
         owner: &mut Owner,
-    ) -> Result<Member<'a, N>, Fail>
+    ) -> Member<'a, N>
         requires store { shared.now ≡ N.store }
         requires owner { IsOwnerOf shared.now owner.old }
         ensures { IsOwnerOf shared.now owner.new }
     {
-        let session = new_session(alloc, shared, owner, &FreeGate)?;
-        Ok(Member {
-            session,
+        Member {
+            session: new_session(rt, alloc, shared, owner, &FreeGate),
             of: PhantomData,
-        })
+        }
     }
 
     /// Gives the pass back to the store.

@@ -5,6 +5,7 @@ use crate::sharing::client::Note;
 use crate::sharing::script::{BASE, Sum};
 use blob_model::{Outcome, Place};
 use std::alloc::Global;
+use std::process::Abort;
 use version_manager::Desk;
 
 // The update that made the version, where one client was told of it, and no other.
@@ -58,18 +59,23 @@ fn is_told(note: &Note, content: &[u8]) -> bool {
     note.done.size == content.len() as u64 && note.content.as_slice() == content
 }
 
-/// Whether each version of a blob up to the last was told to one client alone, and every answer and every read is what the updates
-/// up to it make.
-pub(crate) fn replays(alloc: Global, notes: &[Note], blob: u64, last: u64) -> Option<()> {
-    let mut content = BASE.to_vec(alloc).ok()?;
+// Plays the update again that made the version, and checks what it was told.
+fn check_version<R: Abort>(rt: &R, content: &mut Vec<u8>, notes: &[Note], blob: u64, version: u64) {
+    let note = only_note(notes, blob, version).expect(rt, "one note of each version");
+    replay(content, note).expect(rt, "an update that may be made where it was told");
+    assert!(rt;
+        is_told(note, content.as_slice()),
+        "version {version} of blob {blob}"
+    );
+}
+
+/// Each version of a blob up to the last was told to one client alone, and every answer and every read is what the updates up to
+/// it make.
+pub(crate) fn check_history<R: Abort>(rt: &R, alloc: Global, notes: &[Note], blob: u64, last: u64) {
+    let mut content = BASE.to_vec(alloc).expect(rt, "memory");
     for before in 1..last {
-        let note = only_note(notes, blob, before + 1)?;
-        replay(&mut content, note)?;
-        if !is_told(note, content.as_slice()) {
-            return None;
-        }
+        check_version(rt, &mut content, notes, blob, before + 1);
     }
-    Some(())
 }
 
 /// Whether the desk has the size of the update's version.
