@@ -13,7 +13,6 @@ use std::alloc::{AllocError, Global};
 use std::collections::{BTreeMap, VecDeque};
 use std::process::Abort;
 use std::sync::Wait;
-use std::test::Fail;
 use std::thread::Threads;
 
 static PIECES: [usize; 4] = [1, 2, 7, 65536];
@@ -119,9 +118,20 @@ static ROWS: [(&str, &str); 21] = [
 // What a run wrote, and how it ended.
 #[derive(Drop)]
 struct Ran {
-    out: Vec<u8>,
-    err: Vec<u8>,
+    out: MemSink,
+    err: MemSink,
     status: u8,
+}
+
+// The run of a script wrote these replies and this error, and ended with that status.
+fn check_ran<R: Abort>(rt: &R, ran: &Ran, replies: &[u8], err: &str, status: u8, script: &str) {
+    assert_eq!(rt; ran.out.bytes(), replies, "{script}");
+    check_end(rt, ran, err, status, script);
+}
+
+fn check_end<R: Abort>(rt: &R, ran: &Ran, err: &str, status: u8, script: &str) {
+    assert_eq!(rt; ran.status, status, "{script}");
+    assert_eq!(rt; ran.err.bytes(), err.as_bytes(), "{script}");
 }
 
 // A listener to which nobody comes.
@@ -129,12 +139,13 @@ fn nobody<'a>(alloc: Global) -> MemListener<Pair<'a, MemSource, MemSink>> {
     MemListener::new(String::new(alloc), VecDeque::new(alloc), Vec::new(alloc))
 }
 
-// The status of a run. Nothing is said of it here, so that what `run` ensures stands in no goal of the tests.
-fn status_of<R: Wait + Threads + Sync, M: DoorMaker>(
+// The status of a run with the words of a line. Nothing is said of it here, so that what `run` ensures stands in no goal of the
+// tests.
+fn status_of<R: Wait + Threads + Sync + Abort, M: DoorMaker>(
     rt: &R,
     alloc: Global,
-    words: &[String],
-    source: &mut MemSource,
+    line: &str,
+    source: MemSource,
     out: &mut MemSink,
     err: &mut MemSink,
     doors: &mut M,
@@ -143,72 +154,76 @@ where
     M::Door: BesideDoor + Drop + Send,
     requires { M.is_true doors.old }
 {
+    let words = words_of(rt, alloc, line);
+    let mut source = source;
     let mut files = MemFiles::new(alloc, BTreeMap::new(alloc));
     let mut net = nobody(alloc);
     run(
-        rt, alloc, words, source, out, err, &mut net, &mut files, doors, &FreeGate,
+        rt,
+        alloc,
+        words.as_slice(),
+        &mut source,
+        out,
+        err,
+        &mut net,
+        &mut files,
+        doors,
+        &FreeGate,
     )
 }
 
 // A run with the words of a line, over an input, an output that takes so many bytes, and doors of that maker.
-fn run_words<R: Wait + Threads + Sync, M: DoorMaker>(
+fn run_words<R: Wait + Threads + Sync + Abort, M: DoorMaker>(
     rt: &R,
     alloc: Global,
     line: &str,
     source: MemSource,
     room: usize,
     doors: &mut M,
-) -> Result<Ran, Fail>
+) -> Ran
 where
     M::Door: BesideDoor + Drop + Send,
     requires { M.is_true doors.old }
 {
-    let words = words_of(alloc, line)?;
-    let mut source = source;
-    let mut out = MemSink::new(alloc, room)?;
-    let mut err = MemSink::new(alloc, ROOM)?;
-    let status = status_of(
-        rt,
-        alloc,
-        words.as_slice(),
-        &mut source,
-        &mut out,
-        &mut err,
-        doors,
-    );
-    Ok(Ran {
-        out: out.bytes().to_vec(alloc)?,
-        err: err.bytes().to_vec(alloc)?,
-        status,
-    })
+    let mut out = MemSink::new(alloc, room).expect(rt, "memory");
+    let mut err = MemSink::new(alloc, ROOM).expect(rt, "memory");
+    let status = status_of(rt, alloc, line, source, &mut out, &mut err, doors);
+    Ran { out, err, status }
 }
 
 // An input in pieces of that length, whose reads fail as told.
-fn memory_of(
+fn memory_of<R: Abort>(
+    rt: &R,
     alloc: Global,
     script: &str,
     piece: usize,
-    failing: Vec<bool>,
-) -> Result<MemSource, Fail> {
-    let bytes = script.as_bytes().to_vec(alloc)?;
-    Ok(MemSource::new(bytes, piece.max(1), failing))
+    failing: &[bool],
+) -> MemSource {
+    let bytes = script.as_bytes().to_vec(alloc).expect(rt, "memory");
+    let failing = failing.to_vec(alloc).expect(rt, "memory");
+    MemSource::new(bytes, piece.max(1), failing)
 }
 
 // The words of a line, which stand between single spaces.
-fn words_of(alloc: Global, line: &str) -> Result<Vec<String>, AllocError> {
+fn words_of<R: Abort>(rt: &R, alloc: Global, line: &str) -> Vec<String> {
     let mut words = Vec::new(alloc);
     for word in line.split(' ') {
-        words.push(String::from_str(alloc, word)?)?;
+        let word = String::from_str(alloc, word).expect(rt, "memory");
+        words.push(word).expect(rt, "memory");
     }
-    Ok(words)
+    words
 }
 
-fn run_script<R: Wait + Threads + Sync>(
+// A run of a script in pieces of that length, whose reads fail as told, over an output that takes so many bytes.
+fn run_script<R: Wait + Threads + Sync + Abort>(
     rt: &R,
     alloc: Global,
-    source: MemSource,
+    script: &str,
+    piece: usize,
+    failing: &[bool],
     room: usize,
-) -> Result<Ran, Fail> {
+) -> Ran {
+    let source = memory_of(rt, alloc, script, piece, failing);
     let mut doors = PlainMaker::new();
     run_words(rt, alloc, "run", source, room, &mut doors)
 }
@@ -219,18 +234,16 @@ fn check_script<R: Wait + Threads + Sync + Abort>(
     script: &str,
     replies: &str,
     piece: usize,
-) -> Result<(), Fail> {
-    let source = memory_of(alloc, script, piece, Vec::new(alloc))?;
+) {
+    let source = memory_of(rt, alloc, script, piece, &[]);
     let mut doors = PlainMaker::new();
-    let ran = run_words(rt, alloc, SMALL_PAGES, source, ROOM, &mut doors)?;
+    let ran = run_words(rt, alloc, SMALL_PAGES, source, ROOM, &mut doors);
     assert_eq!(rt;
-        ran.out.as_slice(),
+        ran.out.bytes(),
         replies.as_bytes(),
         "{script} in pieces of {piece}"
     );
-    assert_eq!(rt; ran.status, 0);
-    assert_eq!(rt; ran.err.len(), 0);
-    Ok(())
+    check_end(rt, &ran, "", 0, script);
 }
 
 fn check_scripts<R: Wait + Threads + Sync + Abort>(
@@ -238,19 +251,17 @@ fn check_scripts<R: Wait + Threads + Sync + Abort>(
     alloc: Global,
     rows: &[(&str, &str)],
     piece: usize,
-) -> Result<(), Fail> {
+) {
     for (script, replies) in rows {
-        check_script(rt, alloc, script, replies, piece)?;
+        check_script(rt, alloc, script, replies, piece);
     }
-    Ok(())
 }
 
 #[test]
-fn scripts_are_answered_in_pieces_of_any_length(rt: HostRuntime) -> Result<(), Fail> {
+fn scripts_are_answered_in_pieces_of_any_length(rt: HostRuntime) {
     for piece in PIECES.as_slice() {
-        check_scripts(&rt, rt.alloc(), ROWS.as_slice(), *piece)?;
+        check_scripts(&rt, rt.alloc(), ROWS.as_slice(), *piece);
     }
-    Ok(())
 }
 
 // A script, the length of its pieces, which reads fail, and the replies that are written before the fault.
@@ -269,60 +280,46 @@ fn check_read_fault<R: Wait + Threads + Sync + Abort>(
     piece: usize,
     failing: &[bool],
     replies: &str,
-) -> Result<(), Fail> {
-    let source = memory_of(alloc, script, piece, failing.to_vec(alloc)?)?;
-    let ran = run_script(rt, alloc, source, ROOM)?;
-    assert_eq!(rt; ran.out.as_slice(), replies.as_bytes(), "{script}");
-    assert_eq!(rt; ran.err.as_slice(), b"blobseer: read fault\n".as_slice());
-    assert_eq!(rt; ran.status, 3);
-    Ok(())
+) {
+    let ran = run_script(rt, alloc, script, piece, failing, ROOM);
+    let err = "blobseer: read fault\n";
+    check_ran(rt, &ran, replies.as_bytes(), err, 3, script);
 }
 
 #[test]
-fn a_read_fault_leaves_the_ended_lines_answered(rt: HostRuntime) -> Result<(), Fail> {
+fn a_read_fault_leaves_the_ended_lines_answered(rt: HostRuntime) {
     for (script, piece, failing, replies) in READ_FAULTS.as_slice() {
-        check_read_fault(&rt, rt.alloc(), script, *piece, failing, replies)?;
+        check_read_fault(&rt, rt.alloc(), script, *piece, failing, replies);
     }
-    Ok(())
 }
 
 // The output takes so many bytes of the first replies, and fewer than they have.
-fn check_room<R: Wait + Threads + Sync + Abort>(
-    rt: &R,
-    alloc: Global,
-    room: usize,
-) -> Result<(), Fail>
+fn check_room<R: Wait + Threads + Sync + Abort>(rt: &R, alloc: Global, room: usize)
     requires { room ≤ length FIRST_REPLIES.now }
 {
     let replies = FIRST_REPLIES.as_bytes();
-    let source = memory_of(alloc, FIRST, 7, Vec::new(alloc))?;
-    let ran = run_script(rt, alloc, source, room)?;
-    assert_eq!(rt; ran.out.as_slice(), &replies[..room], "room for {room}");
-    assert_eq!(rt; ran.err.as_slice(), b"blobseer: write fault\n".as_slice());
-    assert_eq!(rt; ran.status, 4);
-    Ok(())
+    let ran = run_script(rt, alloc, FIRST, 7, &[], room);
+    check_write_fault(rt, &ran, &replies[..room]);
+}
+
+// The run wrote these bytes before the output failed.
+fn check_write_fault<R: Abort>(rt: &R, ran: &Ran, written: &[u8]) {
+    check_ran(rt, ran, written, "blobseer: write fault\n", 4, FIRST);
 }
 
 #[test]
-fn a_write_fault_leaves_the_beginning_of_the_replies(rt: HostRuntime) -> Result<(), Fail> {
-    let source = memory_of(rt.alloc(), "create", 7, Vec::new(rt.alloc()))?;
-    let ran = run_script(&rt, rt.alloc(), source, 3)?;
-    assert_eq!(rt; ran.out.as_slice(), b"blo".as_slice());
-    assert_eq!(rt; ran.status, 4);
+fn a_write_fault_leaves_the_beginning_of_the_replies(rt: HostRuntime) {
+    let ran = run_script(&rt, rt.alloc(), "create", 7, &[], 3);
+    check_write_fault(&rt, &ran, b"blo".as_slice());
     for room in 0..FIRST_REPLIES.len() {
-        check_room(&rt, rt.alloc(), room)?;
+        check_room(&rt, rt.alloc(), room);
     }
-    Ok(())
 }
 
 #[test]
-fn a_write_fault_while_lines_before_a_read_fault_are_answered(rt: HostRuntime) -> Result<(), Fail> {
-    let failing = vec![in rt.alloc(); false, true]?;
-    let source = memory_of(rt.alloc(), "create\n", 7, failing)?;
-    let ran = run_script(&rt, rt.alloc(), source, 3)?;
-    assert_eq!(rt; ran.out.as_slice(), b"blo".as_slice());
-    assert_eq!(rt; ran.status, 4);
-    Ok(())
+fn a_write_fault_while_lines_before_a_read_fault_are_answered(rt: HostRuntime) {
+    let ran = run_script(&rt, rt.alloc(), "create\n", 7, &[false, true], 3);
+    check_write_fault(&rt, &ran, b"blo".as_slice());
 }
 
 // A script, whether a fault follows it, its replies and the status.
@@ -341,29 +338,17 @@ fn check_quit<R: Wait + Threads + Sync + Abort>(
     fails: bool,
     replies: &str,
     status: u8,
-) -> Result<(), Fail> {
-    let failing = vec![in alloc; false, fails]?;
-    let source = memory_of(alloc, script, 64, failing)?;
-    let ran = run_script(rt, alloc, source, ROOM)?;
-    assert_eq!(rt; ran.out.as_slice(), replies.as_bytes(), "{script}");
+) {
+    let ran = run_script(rt, alloc, script, 64, &[false, fails], ROOM);
+    assert_eq!(rt; ran.out.bytes(), replies.as_bytes(), "{script}");
     assert_eq!(rt; ran.status, status, "{script}");
-    Ok(())
-}
-
-fn check_quits<R: Wait + Threads + Sync + Abort>(
-    rt: &R,
-    alloc: Global,
-    rows: &[(&str, bool, &str, u8)],
-) -> Result<(), Fail> {
-    for (script, fails, replies, status) in rows {
-        check_quit(rt, alloc, script, *fails, replies, *status)?;
-    }
-    Ok(())
 }
 
 #[test]
-fn nothing_behind_a_quit_is_answered(rt: HostRuntime) -> Result<(), Fail> {
-    check_quits(&rt, rt.alloc(), QUITS.as_slice())
+fn nothing_behind_a_quit_is_answered(rt: HostRuntime) {
+    for (script, fails, replies, status) in QUITS.as_slice() {
+        check_quit(&rt, rt.alloc(), script, *fails, replies, *status);
+    }
 }
 
 // Adds so many bytes to a text, all of them 5a.
@@ -375,16 +360,17 @@ fn add_bytes(text: &mut String, count: usize) -> Result<(), AllocError> {
 }
 
 // Two texts around so many bytes, all of them 5a.
-fn around_bytes(
+fn around_bytes<R: Abort>(
+    rt: &R,
     alloc: Global,
     before: &str,
     count: usize,
     after: &str,
-) -> Result<String, AllocError> {
-    let mut text = String::from_str(alloc, before)?;
-    add_bytes(&mut text, count)?;
-    text.push_str(after)?;
-    Ok(text)
+) -> String {
+    let mut text = String::from_str(alloc, before).expect(rt, "memory");
+    add_bytes(&mut text, count).expect(rt, "memory");
+    text.push_str(after).expect(rt, "memory");
+    text
 }
 
 // Appends so many bytes, and then has these lines.
@@ -394,47 +380,46 @@ fn check_long_append<R: Wait + Threads + Sync + Abort>(
     count: usize,
     more: &str,
     replies: &str,
-) -> Result<(), Fail> {
-    let script = around_bytes(alloc, "create\nappend 1 ", count, more)?;
-    let source = memory_of(alloc, script.as_str(), 65_536, Vec::new(alloc))?;
-    let ran = run_script(rt, alloc, source, 4_194_304)?;
-    assert!(rt; ran.out.as_slice() == replies.as_bytes());
+) {
+    let script = around_bytes(rt, alloc, "create\nappend 1 ", count, more);
+    let ran = run_script(rt, alloc, script.as_str(), 65_536, &[], 4_194_304);
+    assert!(rt; ran.out.bytes() == replies.as_bytes());
     assert_eq!(rt; ran.status, 0);
-    Ok(())
 }
 
 #[test]
-fn an_update_has_at_most_a_mebibyte(rt: HostRuntime) -> Result<(), Fail> {
+fn an_update_has_at_most_a_mebibyte(rt: HostRuntime) {
     let alloc = rt.alloc();
     let first = "blob 1\nversion 1 at 0 size 1048576\ndata ";
-    let want = around_bytes(alloc, first, 1_048_576, "\n")?;
+    let want = around_bytes(&rt, alloc, first, 1_048_576, "\n");
     check_long_append(
         &rt,
         alloc,
         1_048_576,
         "\nread 1 1 0 1048576\n",
         want.as_str(),
-    )?;
+    );
     let refused = "blob 1\nerror update-too-long 1048577\nstatus assigned 0 published 0 held 0\n";
-    check_long_append(&rt, alloc, 1_048_577, "\nstatus 1\n", refused)
+    check_long_append(&rt, alloc, 1_048_577, "\nstatus 1\n", refused);
+}
+
+// Doors to four providers whose first three calls fail.
+fn failing_doors<R: Abort>(rt: &R, alloc: Global) -> FlakyMaker {
+    let mut lists = Vec::new(alloc);
+    for _ in 0..4 {
+        let list = vec![in alloc; 1u64, 2, 3].expect(rt, "memory");
+        lists.push(list).expect(rt, "memory");
+    }
+    FlakyMaker::new(alloc, lists)
 }
 
 #[test]
-fn an_update_that_no_door_takes_is_a_reply_and_numbers_nothing(
-    rt: HostRuntime,
-) -> Result<(), Fail> {
-    let mut lists = Vec::new(rt.alloc());
-    for _ in 0..4 {
-        lists.push(vec![in rt.alloc(); 1u64, 2, 3]?)?;
-    }
-    let mut doors = FlakyMaker::new(rt.alloc(), lists);
+fn an_update_that_no_door_takes_is_a_reply_and_numbers_nothing(rt: HostRuntime) {
+    let mut doors = failing_doors(&rt, rt.alloc());
     let script = "create\nappend 1 61\nstatus 1\n";
     let replies = "blob 1\nerror page-fault 0\nstatus assigned 0 published 0 held 0\n";
-    let source = memory_of(rt.alloc(), script, 64, Vec::new(rt.alloc()))?;
-    let ran = run_words(&rt, rt.alloc(), "run", source, ROOM, &mut doors)?;
-    assert_eq!(rt; ran.out.as_slice(), replies.as_bytes());
-    assert_eq!(rt; ran.status, 0);
-    assert_eq!(rt; ran.err.len(), 0);
+    let source = memory_of(&rt, rt.alloc(), script, 64, &[]);
+    let ran = run_words(&rt, rt.alloc(), "run", source, ROOM, &mut doors);
+    check_ran(&rt, &ran, replies.as_bytes(), "", 0, script);
     assert_eq!(rt; doors.faults(), 2, "a door for each of two replicas");
-    Ok(())
 }
