@@ -1,13 +1,13 @@
 //! Accepts that fail once.
 
-use crate::program::{Ran, calm, error_line, run_over};
+use crate::program::{Ran, calm, run_over};
 use ports::mem_listener::MemListener;
 use ports::memory::{MemSink, MemSource};
 use ports::pair::Pair;
-use std::alloc::{AllocError, Global};
+use std::alloc::Global;
 use std::collections::VecDeque;
+use std::process::Abort;
 use std::sync::Wait;
-use std::test::Fail;
 use std::thread::Threads;
 
 // More bytes than a peer gets.
@@ -21,34 +21,46 @@ struct Line {
 }
 
 impl Line {
-    fn new(alloc: Global) -> Result<Line, Fail> {
-        let bytes = hex::decode(alloc, "0000000101")?;
-        Ok(Line {
+    fn new<R: Abort>(rt: &R, alloc: Global) -> Line {
+        let bytes = hex::decode(alloc, "0000000101").expect(rt, "digits");
+        Line {
             source: MemSource::new(bytes, ROOM, Vec::new(alloc)),
-            sink: MemSink::new(alloc, ROOM)?,
-        })
+            sink: MemSink::new(alloc, ROOM).expect(rt, "memory"),
+        }
     }
+}
+
+// Three peers in memory.
+fn three_lines<R: Abort>(rt: &R, alloc: Global) -> Vec<Line> {
+    let mut lines = Vec::new(alloc);
+    for _ in 0..3 {
+        lines.push(Line::new(rt, alloc)).expect(rt, "memory");
+    }
+    lines
 }
 
 // Accepts of which the one of that number fails, from 1.
-fn failing_at(alloc: Global, number: usize) -> Result<Vec<bool>, AllocError> {
+fn failing_at<R: Abort>(rt: &R, alloc: Global, number: usize) -> Vec<bool> {
     let mut failing = Vec::new(alloc);
     for before in 0..number {
-        failing.push(before + 1 == number)?;
+        failing.push(before + 1 == number).expect(rt, "memory");
     }
-    Ok(failing)
+    failing
 }
 
-// Peers that borrow these ends.
-fn peers_of(
+// A listener at the address `x:1`, to which peers come that borrow these ends. The accept of that number fails.
+fn listener_of<'a, R: Abort>(
+    rt: &R,
     alloc: Global,
-    lines: &mut [Line],
-) -> Result<VecDeque<Pair<'_, MemSource, MemSink>>, AllocError> {
+    lines: &'a mut [Line],
+    number: usize,
+) -> MemListener<Pair<'a, MemSource, MemSink>> {
     let mut peers = VecDeque::new(alloc);
     for Line { source, sink } in lines.iter_mut() {
-        peers.push_back(Pair { source, sink })?;
+        peers.push_back(Pair { source, sink }).expect(rt, "memory");
     }
-    Ok(peers)
+    let address = String::from_str(alloc, "x:1").expect(rt, "memory");
+    MemListener::new(address, peers, failing_at(rt, alloc, number))
 }
 
 // How many peers were served, whose reply is a blob.
@@ -60,51 +72,38 @@ fn served(lines: &[Line]) -> usize {
 }
 
 // The program over these peers, where the accept of that number fails.
-fn run_peers<R: Wait + Threads + Sync>(
+fn run_peers<R: Wait + Threads + Sync + Abort>(
     rt: &R,
     alloc: Global,
     line: &str,
     number: usize,
     lines: &mut [Line],
-) -> Result<Ran, Fail> {
-    let peers = peers_of(alloc, lines)?;
-    let address = String::from_str(alloc, "x:1")?;
-    let mut net = MemListener::new(address, peers, failing_at(alloc, number)?);
+) -> Ran {
+    let mut net = listener_of(rt, alloc, lines, number);
     let source = MemSource::new(Vec::new(alloc), ROOM, Vec::new(alloc));
     run_over(rt, alloc, line, source, ROOM, &mut net, &mut calm(alloc))
 }
 
 // Of three peers those before the accept that fails are served, and nothing is written.
-fn check_accept<R: Wait + Threads + Sync>(
+fn check_accept<R: Wait + Threads + Sync + Abort>(
     rt: &R,
     alloc: Global,
     number: usize,
     line: &str,
-) -> Result<(), Fail> {
-    let mut lines = vec![in alloc; Line::new(alloc)?, Line::new(alloc)?, Line::new(alloc)?]?;
-    let ran = run_peers(rt, alloc, line, number, lines.as_mut_slice())?;
-    let told = ran.out.is_empty() && ran.err.as_slice() == error_line(6).as_bytes();
-    if !told || ran.status != 6 || served(lines.as_slice()) != number.saturating_sub(1) {
-        return Err(line.into());
-    }
-    Ok(())
+) {
+    let mut lines = three_lines(rt, alloc);
+    let ran = run_peers(rt, alloc, line, number, lines.as_mut_slice());
+    let is_untold = ran.out.bytes().is_empty() && ran.ended_with(6);
+    let count = served(lines.as_slice());
+    assert!(rt; is_untold && count == number.saturating_sub(1), "{line}");
 }
 
 #[test]
-fn each_accept_fails_once(rt: HostRuntime) -> Result<(), Fail> {
+fn each_accept_fails_once(rt: HostRuntime) {
+    let alone = "serve --listen x:1 --workers 1";
+    let beside = "serve --listen x:1 --workers 3 --connections 3";
     for before in 0..3 {
-        check_accept(
-            &rt,
-            rt.alloc(),
-            before + 1,
-            "serve --listen x:1 --workers 1",
-        )?;
-        check_accept(
-            &rt,
-            rt.alloc(),
-            before + 1,
-            "serve --listen x:1 --workers 3 --connections 3",
-        )?;
+        check_accept(&rt, rt.alloc(), before + 1, alone);
+        check_accept(&rt, rt.alloc(), before + 1, beside);
     }
-    Ok(())
 }

@@ -6,10 +6,10 @@
 use crate::program::run_script;
 use crate::rows::{ROWS, Row, count_lines, split_lines};
 use page_store::FlakyMaker;
-use ports::memory::MemSource;
-use std::alloc::{AllocError, Global};
+use ports::memory::{MemSink, MemSource};
+use std::alloc::Global;
+use std::process::Abort;
 use std::sync::Wait;
-use std::test::Fail;
 use std::thread::Threads;
 
 // Past the calls of any door here.
@@ -19,86 +19,68 @@ const CALLS: u64 = 14;
 const ROOM: usize = 4096;
 
 // Doors 1 to 3 that fail at calls of these two numbers: the door of that place alone, or all three. 0 is no call.
-fn maker_of(
-    alloc: Global,
-    alone: Option<usize>,
-    calls: &[u64; 2],
-) -> Result<FlakyMaker, AllocError> {
+fn maker_of<R: Abort>(rt: &R, alloc: Global, alone: Option<usize>, calls: &[u64; 2]) -> FlakyMaker {
     let mut lists = Vec::new(alloc);
     for index in 0..3usize {
         let fails = match alone {
             Some(door) => door == index,
             None => true,
         };
-        lists.push(if fails {
-            calls.to_vec(alloc)?
-        } else {
-            Vec::new(alloc)
-        })?;
+        let failing: &[u64] = if fails { calls.as_slice() } else { &[] };
+        let list = failing.to_vec(alloc).expect(rt, "memory");
+        lists.push(list).expect(rt, "memory");
     }
-    Ok(FlakyMaker::new(alloc, lists))
+    FlakyMaker::new(alloc, lists)
 }
 
-// What the program says to a row's script over those doors, where it ends with status 0, and how many calls failed.
-fn said_to<R: Wait + Threads + Sync>(
+// What the program writes to a row's script over those doors, where it ends with status 0.
+fn said_to<R: Wait + Threads + Sync + Abort>(
     rt: &R,
     alloc: Global,
     row: &Row,
-    doors: FlakyMaker,
-) -> Result<(Vec<u8>, u64), Fail> {
-    let mut doors = doors;
-    let bytes = row.script.as_bytes().to_vec(alloc)?;
+    doors: &mut FlakyMaker,
+) -> MemSink {
+    let bytes = row.script.as_bytes().to_vec(alloc).expect(rt, "memory");
     let source = MemSource::new(bytes, ROOM, Vec::new(alloc));
-    let ran = run_script(rt, alloc, source, ROOM, &mut doors)?;
-    if ran.status != 0 || !ran.err.is_empty() {
-        return Err("another status".into());
-    }
-    Ok((ran.out, doors.faults()))
+    let ran = run_script(rt, alloc, source, ROOM, doors);
+    assert!(rt; ran.ended_with(0), "another status");
+    ran.out
 }
 
 // Where one door fails, once or at two calls in a row, the other replica of each page is there and nothing is seen of it. A failing
 // call is counted once.
-fn check_alone<R: Wait + Threads + Sync>(
+fn check_alone<R: Wait + Threads + Sync + Abort>(
     rt: &R,
     alloc: Global,
     row: &Row,
     door: usize,
     calls: [u64; 2],
-) -> Result<(), Fail> {
-    let doors = maker_of(alloc, Some(door), &calls)?;
-    let (said, faults) = said_to(rt, alloc, row, doors)?;
-    if said.as_slice() != row.replies.as_bytes() || faults > 2 {
-        return Err(row.script.into());
-    }
-    Ok(())
+) {
+    let mut doors = maker_of(rt, alloc, Some(door), &calls);
+    let said = said_to(rt, alloc, row, &mut doors);
+    let script = row.script;
+    assert!(rt; said.bytes() == row.replies.as_bytes(), "{script}");
+    assert!(rt; doors.faults() <= 2, "{script}");
 }
 
-fn check_door<R: Wait + Threads + Sync>(
-    rt: &R,
-    alloc: Global,
-    row: &Row,
-    door: usize,
-) -> Result<(), Fail> {
+fn check_door<R: Wait + Threads + Sync + Abort>(rt: &R, alloc: Global, row: &Row, door: usize) {
     for before in 0..CALLS {
-        check_alone(rt, alloc, row, door, [before + 1, 0])?;
-        check_alone(rt, alloc, row, door, [before + 1, before + 2])?;
+        check_alone(rt, alloc, row, door, [before + 1, 0]);
+        check_alone(rt, alloc, row, door, [before + 1, before + 2]);
     }
-    Ok(())
 }
 
-fn check_doors<R: Wait + Threads + Sync>(rt: &R, alloc: Global, row: &Row) -> Result<(), Fail> {
+fn check_doors<R: Wait + Threads + Sync + Abort>(rt: &R, alloc: Global, row: &Row) {
     for door in 0..3 {
-        check_door(rt, alloc, row, door)?;
+        check_door(rt, alloc, row, door);
     }
-    Ok(())
 }
 
 #[test]
-fn each_call_of_each_door_fails_once(rt: HostRuntime) -> Result<(), Fail> {
+fn each_call_of_each_door_fails_once(rt: HostRuntime) {
     for row in ROWS.as_slice() {
-        check_doors(&rt, rt.alloc(), row)?;
+        check_doors(&rt, rt.alloc(), row);
     }
-    Ok(())
 }
 
 // A row's place, the two calls at which all three doors fail, how many calls fail then at least, how many lines of the replies are as
@@ -344,7 +326,7 @@ fn is_said(said: &[u8], replies: &[u8], kept: usize, instead: &[u8]) -> bool {
     }
 }
 
-fn check_case<R: Wait + Threads + Sync>(
+fn check_case<R: Wait + Threads + Sync + Abort>(
     rt: &R,
     alloc: Global,
     row: &Row,
@@ -352,21 +334,22 @@ fn check_case<R: Wait + Threads + Sync>(
     failed: u64,
     kept: usize,
     instead: &str,
-) -> Result<(), Fail> {
-    let doors = maker_of(alloc, None, calls)?;
-    let (said, faults) = said_to(rt, alloc, row, doors)?;
+) {
+    let mut doors = maker_of(rt, alloc, None, calls);
+    let said = said_to(rt, alloc, row, &mut doors);
+    let script = row.script;
     let replies = row.replies.as_bytes();
-    if faults < failed || !is_said(said.as_slice(), replies, kept, instead.as_bytes()) {
-        return Err(row.script.into());
-    }
-    Ok(())
+    assert!(rt;
+        is_said(said.bytes(), replies, kept, instead.as_bytes()),
+        "{script}"
+    );
+    assert!(rt; doors.faults() >= failed, "{script}");
 }
 
 #[test]
-fn a_call_of_all_doors_fails_at_once(rt: HostRuntime) -> Result<(), Fail> {
+fn a_call_of_all_doors_fails_at_once(rt: HostRuntime) {
     for (index, calls, failed, kept, instead) in CASES.as_slice() {
-        let row = ROWS.get(*index).ok_or("a row")?;
-        check_case(&rt, rt.alloc(), row, calls, *failed, *kept, instead)?;
+        let row = ROWS.get(*index).expect(&rt, "a row");
+        check_case(&rt, rt.alloc(), row, calls, *failed, *kept, instead);
     }
-    Ok(())
 }

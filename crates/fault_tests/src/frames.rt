@@ -1,5 +1,4 @@
 //! Wrong frames, each in a stream of its own behind one that makes a blob.
-ghost use Rattle.std.specs.Prelude.{◌≡◌, IfOk};
 ghost use Rattle.client_session.specs.Sessions.{IsOwnerOf};
 
 use blob_model::Limits;
@@ -13,8 +12,8 @@ use ports::pair::Pair;
 use request_form::Service;
 use server_core::{End, serve_stream};
 use std::alloc::{AllocError, Global};
+use std::process::Abort;
 use std::sync::Wait;
-use std::test::Fail;
 use std::thread::Threads;
 use tree_geom::PageSize;
 
@@ -25,61 +24,59 @@ const ROOM: usize = 64;
 const LIMIT: u64 = 1 << 22;
 
 // A store with no blobs, and its owner.
-fn store_of(alloc: Global) -> Result<(Shared, Owner), Fail>
-    ensures { IfOk result (λ r. IsOwnerOf r.0 r.1) }
+fn store_of<R: Abort>(rt: &R, alloc: Global) -> (Shared, Owner)
+    ensures { IsOwnerOf result.0 result.1 }
 {
-    let p = PageSize::new(4096).ok_or("a page size")?;
-    match Shared::new(alloc, Limits::greatest(), p, 3, 2) {
-        Ok(store) => Ok(store),
-        Err(_) => Err("no memory".into()),
-    }
+    let p = PageSize::new(4096).expect(rt, "a page size");
+    Shared::new(alloc, Limits::greatest(), p, 3, 2).expect(rt, "memory")
 }
 
 // The first session of a store.
-fn session_of<'a>(
+fn session_of<'a, R: Abort>(
+    rt: &R,
     alloc: Global,
     shared: &'a Shared,
     owner: &mut Owner,
     gate: &'a FreeGate,
-) -> Result<Session<'a, PlainDoor, FreeGate>, Fail>
+) -> Session<'a, PlainDoor, FreeGate>
     requires { IsOwnerOf shared.now owner.old }
 {
-    let doors = Doors::new(alloc, &mut PlainMaker::new(), shared.providers())?;
-    let pass = shared.pass(owner)?;
-    match Session::new(alloc, shared, gate, pass, doors) {
-        Ok(session) => Ok(session),
-        Err((_pass, _doors)) => Err("no memory".into()),
-    }
+    let doors = Doors::new(alloc, &mut PlainMaker::new(), shared.providers()).expect(rt, "memory");
+    let pass = shared.pass(owner).expect(rt, "a pass");
+    Session::new(alloc, shared, gate, pass, doors)
+        .ok()
+        .expect(rt, "memory")
 }
 
 // How a stream ends, and its replies.
-fn answered<R: Wait + Threads + Sync, V: Service>(
+fn answered<R: Wait + Threads + Sync + Abort, V: Service>(
     rt: &R,
     alloc: Global,
     service: &mut V,
     stream: Vec<u8>,
-) -> Result<(End, Vec<u8>), Fail> {
-    let mut dialect = FrameDialect::new(alloc)?;
+) -> (End, MemSink) {
+    let mut dialect = FrameDialect::new(alloc).expect(rt, "memory");
     let mut source = MemSource::new(stream, 65_536, Vec::new(alloc));
-    let mut sink = MemSink::new(alloc, ROOM)?;
+    let mut sink = MemSink::new(alloc, ROOM).expect(rt, "memory");
     let mut io = Pair {
         source: &mut source,
         sink: &mut sink,
     };
     let end = serve_stream(rt, alloc, service, &mut dialect, &mut io, LIMIT);
-    Ok((end, sink.bytes().to_vec(alloc)?))
+    (end, sink)
 }
 
 // The same of a stream to a new store, with the replies in digits.
-fn served<R: Wait + Threads + Sync>(
+fn served<R: Wait + Threads + Sync + Abort>(
     rt: &R,
     alloc: Global,
     stream: Vec<u8>,
-) -> Result<(End, String), Fail> {
-    let (shared, mut owner) = store_of(alloc)?;
-    let mut session = session_of(alloc, &shared, &mut owner, &FreeGate)?;
-    let (end, replies) = answered(rt, alloc, &mut session, stream)?;
-    Ok((end, hex::encode(alloc, replies.as_slice())?))
+) -> (End, String) {
+    let (shared, mut owner) = store_of(rt, alloc);
+    let mut session = session_of(rt, alloc, &shared, &mut owner, &FreeGate);
+    let (end, replies) = answered(rt, alloc, &mut session, stream);
+    let digits = hex::encode(alloc, replies.bytes()).expect(rt, "memory");
+    (end, digits)
 }
 
 // What makes a blob, and its reply.
@@ -119,39 +116,48 @@ static FRAMES: [(&str, usize, End, &str); 8] = [
     ("00000000", 3, End::Cut, "00000009ff0000000000000013"),
 ];
 
-// A frame and zeros behind one that makes a blob.
-fn stream_of(alloc: Global, frame: &str, zeros: usize) -> Result<Vec<u8>, Fail> {
-    let mut stream = hex::decode(alloc, CREATE)?;
-    stream.extend_from_slice(hex::decode(alloc, frame)?.as_slice())?;
+// Adds so many zeros to a stream.
+fn add_zeros(stream: &mut Vec<u8>, zeros: usize) -> Result<(), AllocError> {
     for _ in 0..zeros {
         stream.push(0)?;
     }
-    Ok(stream)
+    Ok(())
 }
 
-fn said(alloc: Global, reply: &str) -> Result<String, AllocError> {
-    format!(in alloc; "{CREATED}{reply}")
+// A frame and zeros behind one that makes a blob.
+fn stream_of<R: Abort>(rt: &R, alloc: Global, frame: &str, zeros: usize) -> Vec<u8> {
+    let mut stream = hex::decode(alloc, CREATE).expect(rt, "digits");
+    let frame = hex::decode(alloc, frame).expect(rt, "digits");
+    stream
+        .extend_from_slice(frame.as_slice())
+        .expect(rt, "memory");
+    add_zeros(&mut stream, zeros).expect(rt, "memory");
+    stream
 }
 
-fn check_frame<R: Wait + Threads + Sync>(
+fn said<R: Abort>(rt: &R, alloc: Global, reply: &str) -> String {
+    format!(in alloc; "{CREATED}{reply}").expect(rt, "memory")
+}
+
+fn check_frame<R: Wait + Threads + Sync + Abort>(
     rt: &R,
     alloc: Global,
     frame: &str,
     zeros: usize,
     end: End,
     reply: &str,
-) -> Result<(), Fail> {
-    let (ended, replies) = served(rt, alloc, stream_of(alloc, frame, zeros)?)?;
-    if ended != end || replies.as_str() != said(alloc, reply)?.as_str() {
-        return Err(frame.into());
-    }
-    Ok(())
+) {
+    let (ended, replies) = served(rt, alloc, stream_of(rt, alloc, frame, zeros));
+    assert!(rt; ended == end, "{frame}");
+    assert!(rt;
+        replies.as_str() == said(rt, alloc, reply).as_str(),
+        "{frame}"
+    );
 }
 
 #[test]
-fn wrong_frames_are_answered_or_cut(rt: HostRuntime) -> Result<(), Fail> {
+fn wrong_frames_are_answered_or_cut(rt: HostRuntime) {
     for (frame, zeros, end, reply) in FRAMES.as_slice() {
-        check_frame(&rt, rt.alloc(), frame, *zeros, *end, reply)?;
+        check_frame(&rt, rt.alloc(), frame, *zeros, *end, reply);
     }
-    Ok(())
 }

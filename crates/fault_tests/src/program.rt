@@ -8,10 +8,10 @@ use ports::mem_files::MemFiles;
 use ports::mem_listener::MemListener;
 use ports::memory::{MemSink, MemSource};
 use ports::pair::Pair;
-use std::alloc::{AllocError, Global};
+use std::alloc::Global;
 use std::collections::{BTreeMap, VecDeque};
+use std::process::Abort;
 use std::sync::Wait;
-use std::test::Fail;
 use std::thread::Threads;
 
 // More than the error output gets.
@@ -20,22 +20,61 @@ const ROOM: usize = 64;
 /// What the program wrote, and how it ended.
 #[derive(Drop)]
 pub(crate) struct Ran {
-    pub(crate) out: Vec<u8>,
-    pub(crate) err: Vec<u8>,
-    pub(crate) status: u8,
+    pub(crate) out: MemSink,
+    err: MemSink,
+    status: u8,
+}
+
+impl Ran {
+    /// Whether it ended with this status, and the error output got the line of that status.
+    pub(crate) fn ended_with(&self, status: u8) -> bool {
+        self.status == status && self.err.bytes() == error_line(status).as_bytes()
+    }
 }
 
 // The words of a line, which stand between single spaces.
-fn words_of(alloc: Global, line: &str) -> Result<Vec<String>, AllocError> {
+fn words_of<R: Abort>(rt: &R, alloc: Global, line: &str) -> Vec<String> {
     let mut words = Vec::new(alloc);
     for word in line.split(' ') {
-        words.push(String::from_str(alloc, word)?)?;
+        let word = String::from_str(alloc, word).expect(rt, "memory");
+        words.push(word).expect(rt, "memory");
     }
-    Ok(words)
+    words
+}
+
+// How the program ends with the words of a line, over no files and all these.
+fn status_of<R: Wait + Threads + Sync + Abort, L: Listener>(
+    rt: &R,
+    alloc: Global,
+    line: &str,
+    source: MemSource,
+    out: &mut MemSink,
+    err: &mut MemSink,
+    net: &mut L,
+    doors: &mut FlakyMaker,
+) -> u8
+where
+    L::Peer: Drop + Send,
+{
+    let words = words_of(rt, alloc, line);
+    let mut source = source;
+    let mut files = MemFiles::new(alloc, BTreeMap::new(alloc));
+    run(
+        rt,
+        alloc,
+        words.as_slice(),
+        &mut source,
+        out,
+        err,
+        net,
+        &mut files,
+        doors,
+        &FreeGate,
+    )
 }
 
 /// The program with the words of a line, over an input, an output that takes so many bytes, a listener, and doors of that maker.
-pub(crate) fn run_over<R: Wait + Threads + Sync, L: Listener>(
+pub(crate) fn run_over<R: Wait + Threads + Sync + Abort, L: Listener>(
     rt: &R,
     alloc: Global,
     line: &str,
@@ -43,32 +82,14 @@ pub(crate) fn run_over<R: Wait + Threads + Sync, L: Listener>(
     room: usize,
     net: &mut L,
     doors: &mut FlakyMaker,
-) -> Result<Ran, Fail>
+) -> Ran
 where
     L::Peer: Drop + Send,
 {
-    let words = words_of(alloc, line)?;
-    let mut source = source;
-    let mut out = MemSink::new(alloc, room)?;
-    let mut err = MemSink::new(alloc, ROOM)?;
-    let mut files = MemFiles::new(alloc, BTreeMap::new(alloc));
-    let status = run(
-        rt,
-        alloc,
-        words.as_slice(),
-        &mut source,
-        &mut out,
-        &mut err,
-        net,
-        &mut files,
-        doors,
-        &FreeGate,
-    );
-    Ok(Ran {
-        out: out.bytes().to_vec(alloc)?,
-        err: err.bytes().to_vec(alloc)?,
-        status,
-    })
+    let mut out = MemSink::new(alloc, room).expect(rt, "memory");
+    let mut err = MemSink::new(alloc, ROOM).expect(rt, "memory");
+    let status = status_of(rt, alloc, line, source, &mut out, &mut err, net, doors);
+    Ran { out, err, status }
 }
 
 // A listener to which nobody comes.
@@ -77,13 +98,13 @@ fn nobody<'a>(alloc: Global) -> MemListener<Pair<'a, MemSource, MemSink>> {
 }
 
 /// The program over a script, in pages of four bytes over three providers, with two replicas of each.
-pub(crate) fn run_script<R: Wait + Threads + Sync>(
+pub(crate) fn run_script<R: Wait + Threads + Sync + Abort>(
     rt: &R,
     alloc: Global,
     source: MemSource,
     room: usize,
     doors: &mut FlakyMaker,
-) -> Result<Ran, Fail> {
+) -> Ran {
     let line = "run --page 4 --providers 3 --replicas 2";
     run_over(rt, alloc, line, source, room, &mut nobody(alloc), doors)
 }
@@ -93,8 +114,8 @@ pub(crate) fn calm(alloc: Global) -> FlakyMaker {
     FlakyMaker::new(alloc, Vec::new(alloc))
 }
 
-/// The line that the error output gets at a status.
-pub(crate) fn error_line(status: u8) -> &'static str {
+// The line that the error output gets at a status.
+fn error_line(status: u8) -> &'static str {
     match status {
         3 => "blobseer: read fault\n",
         4 => "blobseer: write fault\n",
