@@ -2,7 +2,7 @@
 ghost use Rattle.std.specs.Prelude.{◌≡◌, ◌≤◌};
 ghost use Rattle.client_session.specs.Sessions.{IsOwnerOf};
 
-use crate::store::{Line, serve_lines, store_of};
+use crate::store::{Line, close_store, serve_lines, store_of};
 use client_session::{Owner, Shared};
 use ports::gate::FreeGate;
 use std::alloc::Global;
@@ -133,5 +133,5 @@ fn two_hundred_peers_get_their_own_replies(rt: HostRuntime) {
     let (shared, mut owner) = store_of(&rt, alloc);
     make_blobs(&rt, alloc, &shared, &mut owner);
     assert_eq!(rt; serve_crowd(&rt, alloc, &shared, &mut owner), PEERS);
-    assert!(rt; shared.close(owner).is_ok(), "a pass is out");
+    close_store(&rt, shared, owner);
 }

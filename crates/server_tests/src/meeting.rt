@@ -2,9 +2,10 @@
 ghost use Rattle.std.specs.Prelude.{◌≡◌};
 
 use crate::program::{check_out, run_peers};
-use crate::store::two_giving;
+use crate::store::{Line, two_giving};
 use ports::gate::{Gate, HoldGate, Point};
 use std::alloc::Global;
+use std::process::Abort;
 use std::sync::Wait;
 use std::sync::atomic::{AtomicU32, Ordering};
 use turn_lock::{Journaled, Pass};
@@ -55,6 +56,11 @@ impl Gate for MeetingGate {
     }
 }
 
+// A reply to a create and one to an append are as long for every blob and version.
+fn check_length<R: Abort>(rt: &R, alloc: Global, line: &Line) {
+    assert_eq!(rt; line.got(rt, alloc).len(), 2 * (13 + 29));
+}
+
 #[test]
 fn two_connections_wait_for_each_other(rt: HostRuntime) {
     let alloc: Global = rt.alloc();
@@ -65,8 +71,7 @@ fn two_connections_wait_for_each_other(rt: HostRuntime) {
     let ran = run_peers(&rt, alloc, line, lines.as_mut_slice(), 64, &gate);
     check_out(&rt, &ran, "served 2\n");
     assert!(rt; gate.met());
-    // A reply to a create and one to an append are as long for every blob and version.
     for line in &lines {
-        assert_eq!(rt; line.got(&rt, alloc).len(), 2 * (13 + 29));
+        check_length(&rt, alloc, line);
     }
 }

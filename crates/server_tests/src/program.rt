@@ -101,7 +101,7 @@ struct Row {
     answered: bool,
 }
 
-const ROWS: [Row; 6] = [
+static ROWS: [Row; 6] = [
     Row {
         line: "serve --listen x:1 --workers 1 --connections 2",
         room: 64,
@@ -154,11 +154,13 @@ const ROWS: [Row; 6] = [
     },
 ];
 
-fn check_ran<R: Abort>(rt: &R, row: &Row, ran: &Ran) {
-    let line = row.line;
-    assert!(rt; ran.out.bytes() == row.out.as_bytes(), "{line}");
-    assert!(rt; ran.err.bytes() == row.err.as_bytes(), "{line}");
-    assert!(rt; ran.status == row.status, "{line}");
+impl Row {
+    // Whether a run wrote what it is to, and ended so.
+    fn is_met(&self, ran: &Ran) -> bool {
+        ran.out.bytes() == self.out.as_bytes()
+            && ran.err.bytes() == self.err.as_bytes()
+            && ran.status == self.status
+    }
 }
 
 fn run_row<R: Threads + Wait + Sync + Abort>(rt: &R, alloc: Global, row: &Row) {
@@ -172,14 +174,17 @@ fn run_row<R: Threads + Wait + Sync + Abort>(rt: &R, alloc: Global, row: &Row) {
         row.room,
         &FreeGate,
     );
-    check_ran(rt, row, &ran);
     let second = lines.get(1).expect(rt, "two peers");
-    assert!(rt; second.got_some() == row.answered, "{}", row.line);
+    let line = row.line;
+    assert!(rt;
+        row.is_met(&ran) && second.got_some() == row.answered,
+        "{line}"
+    );
 }
 
 #[test]
 fn the_program_serves_and_tells_how_many(rt: HostRuntime) {
-    for row in &ROWS {
+    for row in ROWS.as_slice() {
         run_row(&rt, rt.alloc(), row);
     }
 }
@@ -192,6 +197,6 @@ fn the_second_peer_sees_the_blob_of_the_first(rt: HostRuntime) {
     let line = "serve --listen x:1 --workers 1 --connections 2";
     let ran = run_peers(&rt, alloc, line, lines.as_mut_slice(), 64, &FreeGate);
     check_out(&rt, &ran, "served 2\n");
-    let second = lines.get(1).expect(&rt, "two peers").got(&rt, alloc);
-    assert_eq!(rt; second.as_str(), "00000009810000000000000002");
+    let second = lines.get(1).expect(&rt, "two peers");
+    second.check_got(&rt, alloc, "00000009810000000000000002");
 }

@@ -24,7 +24,7 @@ struct Row {
     second: Exchange,
 }
 
-const ROWS: [Row; 4] = [
+static ROWS: [Row; 4] = [
     Row {
         name: "each peer gets its own replies",
         first: Exchange {
@@ -85,23 +85,25 @@ fn serve_row<R: Threads + Wait + Sync + Abort>(rt: &R, alloc: Global, row: &Row)
     );
     let name = row.name;
     assert!(rt; served == Ok(2), "{name}");
-    let wanted = [row.first.gets, row.second.gets];
-    assert!(rt; got_all(rt, alloc, lines.as_slice(), &wanted), "{name}");
+    check_all_got(
+        rt,
+        alloc,
+        lines.as_slice(),
+        &[row.first.gets, row.second.gets],
+    );
 }
 
-// Whether the peers got these.
-fn got_all<R: Abort>(rt: &R, alloc: Global, lines: &[Line], wanted: &[&str]) -> bool {
+// The peers got these.
+fn check_all_got<R: Abort>(rt: &R, alloc: Global, lines: &[Line], wanted: &[&str]) {
     for (line, want) in lines.iter().zip(wanted.iter()) {
-        if line.got(rt, alloc).as_str() != *want {
-            return false;
-        }
+        line.check_got(rt, alloc, want);
     }
-    lines.len() == wanted.len()
+    assert!(rt; lines.len() == wanted.len());
 }
 
 #[test]
 fn peers_one_after_the_other(rt: HostRuntime) {
-    for row in &ROWS {
+    for row in ROWS.as_slice() {
         serve_row(&rt, rt.alloc(), row);
     }
 }
@@ -118,7 +120,7 @@ struct Listening {
     answered: usize,
 }
 
-const LISTENINGS: [Listening; 7] = [
+static LISTENINGS: [Listening; 7] = [
     Listening {
         failing: 1,
         connections: 3,
@@ -217,7 +219,7 @@ fn listen_so<R: Threads + Wait + Sync + Abort>(rt: &R, alloc: Global, listening:
 
 #[test]
 fn serving_ends_as_the_listener_does(rt: HostRuntime) {
-    for listening in &LISTENINGS {
+    for listening in LISTENINGS.as_slice() {
         listen_so(&rt, rt.alloc(), listening);
     }
 }

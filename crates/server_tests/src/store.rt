@@ -47,6 +47,11 @@ impl Line {
     pub(crate) fn got<R: Abort>(&self, rt: &R, alloc: Global) -> String {
         hex::encode(alloc, self.sink.bytes()).expect(rt, "memory")
     }
+
+    /// The peer got this, in digits.
+    pub(crate) fn check_got<R: Abort>(&self, rt: &R, alloc: Global, want: &str) {
+        assert_eq!(rt; self.got(rt, alloc).as_str(), want);
+    }
 }
 
 /// Two peers that give what these digits spell.
@@ -81,6 +86,13 @@ pub(crate) fn store_of<R: Abort>(rt: &R, alloc: Global) -> (Shared, Owner)
 {
     let p = PageSize::new(4096).expect(rt, "a page size");
     Shared::new(alloc, Limits::greatest(), p, 4, 2).expect(rt, "memory")
+}
+
+/// Closes a store, of which no pass is out.
+pub(crate) fn close_store<R: Abort>(rt: &R, shared: Shared, owner: Owner)
+    requires { IsOwnerOf shared owner }
+{
+    assert!(rt; shared.close(owner).is_ok(), "a pass is out");
 }
 
 /// How the workers of a store served these peers, where accept number `i` fails if `failing[i]` says so.
@@ -145,6 +157,6 @@ pub(crate) fn serve_anew<R: Threads + Wait + Sync + Abort, G: Gate + Sync>(
         workers,
         connections,
     );
-    assert!(rt; shared.close(owner).is_ok(), "a pass is out");
+    close_store(rt, shared, owner);
     served
 }
