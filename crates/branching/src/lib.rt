@@ -7,7 +7,7 @@ ghost use Rattle.branching.specs.Line.{origin_of, begun_before};
 
 pub mod laws;
 
-pub use no_memory::NoMemory;
+pub use faults::NoMemory;
 use std::alloc::Global;
 use std::marker::Model;
 

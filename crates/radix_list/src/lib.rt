@@ -9,5 +9,5 @@ mod branch;
 mod list;
 mod packed;
 
+pub use faults::NoMemory;
 pub use list::RadixList;
-pub use no_memory::NoMemory;

@@ -8,6 +8,6 @@ mod steps;
 mod turn;
 mod view;
 
+pub use faults::NoMemory;
 pub use journal::{Act, Journaled};
-pub use no_memory::NoMemory;
 pub use turn::{CloseRefused, Owner, Pass, PassFault, Turn};

@@ -6,7 +6,7 @@ ghost use Rattle.turn_lock.specs.Shown.{Turned};
 use crate::journal::{Act, Journaled};
 use crate::rule::{Room, TurnSeat};
 use crate::steps::{LOOKS, deal, end_turns, take_in, take_turn};
-use no_memory::NoMemory;
+use faults::NoMemory;
 use std::alloc::Global;
 use std::hint::spin_loop;
 use std::marker::Model;

@@ -1,10 +1,7 @@
-//! The error of calls that fail for want of memory alone. What a call then leaves stands at the call.
-#![tactic(auto)]
-
 use std::alloc::{AllocError, AllocFailed};
 use thiserror::Error;
 
-/// Memory was refused.
+/// The error of calls that fail for want of memory alone: memory was refused. What a call then leaves stands at the call.
 #[derive(Clone, Copy, Debug, PartialEq, Eq, Error)]
 #[error("no memory")]
 pub struct NoMemory;
