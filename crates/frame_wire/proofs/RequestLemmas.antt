@@ -7,10 +7,11 @@ use Rattle.byteorder.specs.Endian.{big_number}
 use Rattle.byteorder.specs.Numbers.{big_number-reads_back, length-bytes_high_first}
 use Rattle.frame_wire.specs.Requests.{number_at, request_of}
 use Rattle.frame_wire.specs.Said.{field, wide_field, fields}
-use Rattle.frame_wire.specs.Operations.{number_of, numbers_of, has_bytes, fits, request_with}
+use Rattle.request_form.specs.Operations.{numbers_of, has_bytes, request_with}
+use Rattle.frame_wire.specs.Operations.{number_of, fits}
 use Rattle.frame_wire.specs.Decoded.{IsDecoded}
-use Rattle.frame_wire.specs.declared.operation.Operation.{Operation}
-use Rattle.frame_wire.specs.declared.operation.Operation.TheVariants as Operations
+use Rattle.request_form.specs.declared.operation.Operation.{Operation}
+use Rattle.request_form.specs.declared.operation.Operation.TheVariants as Operations
 
 -- ---- numbers as fields
 

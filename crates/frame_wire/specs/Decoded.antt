@@ -1,7 +1,7 @@
 -- What is kept of a request's fields.
 use Rattle.std.specs.Prelude.{◌≡◌, ◌+◌, ◌*◌, ◌<◌, ◌≤◌, ℕ, List, [], length, false}
-use Rattle.frame_wire.specs.declared.operation.Operation.{Operation}
-use Rattle.frame_wire.specs.Operations.{numbers_of, has_bytes}
+use Rattle.request_form.specs.declared.operation.Operation.{Operation}
+use Rattle.request_form.specs.Operations.{numbers_of, has_bytes}
 
 -- of the numbers, then of the next one, then of the bytes behind all numbers; and what is still to come makes the fields whole
 pub record IsDecoded (operation : Operation) (numbers part bytes : List ℕ) (left : ℕ) : Type 0 where

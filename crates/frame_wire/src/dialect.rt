@@ -1,14 +1,12 @@
 ghost use Rattle.std.specs.Prelude.{◌≡◌, [], IfOk};
 
-use crate::frame::Frame;
+use crate::fields::Fields;
 use crate::reply::{reply_frame, reply_parts};
 use blob_model::Bytes;
-use request_form::{Dialect, Ending, Heard, NoMemory, Piece, Reply, Said};
+use framing::Frames;
+use request_form::{Dialect, Ending, Heard, NoMemory, Reply, Said};
 use std::alloc::Global;
 use std::marker::Model;
-
-// The room for fed bytes to begin with.
-const ROOM: usize = 65_536;
 
 /// The spelling of requests and replies as frames.
 ///
@@ -17,16 +15,15 @@ const ROOM: usize = 65_536;
 #[derive(Drop)]
 pub struct FrameDialect {
     alloc: Global,
-    frame: Frame,
-    rest: Piece,
+    frames: Frames<Fields>,
 }
 
 impl Model for FrameDialect {
-    ghost use Rattle.std.specs.Prelude.{ℕ, List, ◌++◌};
+    ghost use Rattle.std.specs.Prelude.{ℕ, List};
 
     ghost Value = { List ℕ };
 
-    ghost view = { λ d. d.frame ++ d.rest };
+    ghost view = { λ d. d.frames };
 }
 
 impl FrameDialect {
@@ -36,8 +33,7 @@ impl FrameDialect {
     {
         Ok(FrameDialect {
             alloc,
-            frame: Frame::new(),
-            rest: Piece::with_room(alloc, ROOM)?,
+            frames: Frames::new(alloc)?,
         })
     }
 }
@@ -52,29 +48,15 @@ impl Dialect for FrameDialect {
     ghost said = { said };
 
     fn feed(&mut self, piece: &[u8]) -> Result<(), NoMemory> {
-        // Bytes of the frame that has begun go into it straight from the piece, where no others wait before them.
-        if self.rest.as_slice().is_empty() {
-            let taken = self.frame.take(self.alloc, piece)?;
-            self.rest.add(&piece[taken..])
-        } else {
-            self.rest.add(piece)
-        }
+        self.frames.feed(piece)
     }
 
     fn next(&mut self) -> Result<Option<Heard>, NoMemory> {
-        let taken = self.frame.take(self.alloc, self.rest.as_slice())?;
-        self.rest.take(taken);
-        Ok(self.frame.give())
+        self.frames.next()
     }
 
     fn end(&mut self) -> Result<Ending, NoMemory> {
-        if !self.frame.is_empty() {
-            return Ok(Ending::Cut);
-        }
-        if !self.rest.as_slice().is_empty() {
-            return Ok(Ending::Cut);
-        }
-        Ok(Ending::Clean)
+        Ok(self.frames.end())
     }
 
     fn say(&self, reply: &Reply) -> Result<Bytes, NoMemory> {

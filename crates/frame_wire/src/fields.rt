@@ -1,15 +1,19 @@
 ghost use Rattle.std.specs.Prelude.{◌≡◌, ◌<◌, ◌≤◌, ◌∷◌, ◌++◌, [], length, take, min, true, IfOk, OnErr, Some};
 ghost use Rattle.frame_wire.specs.Requests.{request_of};
-ghost use Rattle.frame_wire.specs.Operations.{number_of, numbers_of, has_bytes, fits};
-ghost use Rattle.frame_wire.specs.Come.{Come, TakesBytes};
+ghost use Rattle.frame_wire.specs.Operations.{number_of, fits};
+ghost use Rattle.framing.specs.Come.{Come, TakesBytes};
 
 use crate::number::take_number;
-use crate::operation::Operation;
+use crate::operation::{fits, operation_of};
 use arrayvec::ArrayVec;
 use blob_model::Bytes;
-use request_form::{NoMemory, Request};
+use framing::Body;
+use request_form::{Fault, Heard, NoMemory, Operation, Request};
 use std::alloc::Global;
 use std::marker::Model;
+
+// The most bytes that a frame's length may count.
+const MAX_FRAME: u32 = 2_097_152;
 
 /// What has come of a request's fields, decoded. Contracts see the operation and the bytes that have come behind it, and how many
 /// are still to come.
@@ -25,7 +29,7 @@ pub struct Fields {
 
 impl Model for Fields {
     ghost use Rattle.std.specs.Prelude.{◌∷◌, ◌++◌};
-    ghost use Rattle.frame_wire.specs.Come.{Come, come_coded};
+    ghost use Rattle.framing.specs.Come.{Come, come_coded};
 
     ghost Value = { Come };
 
@@ -57,8 +61,8 @@ fn take_bytes(bytes: &mut Vec<u8>, left: u32, piece: &[u8]) -> Result<usize, NoM
 }
 
 impl Fields {
-    /// The fields of an operation, of which nothing has come.
-    pub fn of(alloc: Global, operation: Operation, left: u32) -> Fields
+    // The fields of an operation, of which nothing has come.
+    fn of(alloc: Global, operation: Operation, left: u32) -> Fields
         requires { fits operation left ≡ true }
         ensures { result ≡ record { bytes = number_of operation ∷ []; left = left } }
     {
@@ -71,30 +75,8 @@ impl Fields {
         }
     }
 
-    /// How many bytes are still to come.
-    pub fn left(&self) -> u32
-        ensures { result ≡ self.now.left }
-    {
-        self.left
-    }
-
-    /// Takes some bytes off the front of a piece, at least one, and says how many.
-    pub fn take(&mut self, piece: &[u8]) -> Result<usize, NoMemory>
-        requires more { 0 < self.old.left }
-        requires some { 0 < length piece.now }
-        ensures { IfOk result (TakesBytes self.old piece.now self.new) }
-    {
-        let count = if self.numbers.len() < self.operation.numbers() {
-            take_number(&mut self.numbers, &mut self.part, piece)
-        } else {
-            take_bytes(&mut self.bytes, self.left, piece)?
-        };
-        self.left -= count as u32;
-        Ok(count)
-    }
-
-    /// The request, now that all has come.
-    pub fn into_request(self) -> Request
+    // The request, now that all has come.
+    fn into_request(self) -> Request
         requires { self.left ≡ 0 }
         ensures { request_of self.bytes ≡ Some result }
     {
@@ -107,4 +89,57 @@ impl Fields {
         } = self;
         operation.request(numbers.as_slice(), Bytes::of(bytes))
     }
+}
+
+impl Body for Fields {
+    ghost use Rattle.request_form.specs.Stream.{IsWellHeard};
+    ghost use Rattle.frame_wire.specs.Frames.{request_frames, request_frames_hold};
+
+    type Item = Heard;
+
+    ghost framing = { request_frames };
+
+    ghost IsWell = { IsWellHeard };
+
+    ghost come = { λ f. f };
+
+    fn limit() -> u32 {
+        MAX_FRAME
+    }
+
+    fn begin(alloc: Global, first: u8, left: u32) -> Option<Fields> {
+        match operation_of(first) {
+            Some(operation) if fits(operation, left) => Some(Fields::of(alloc, operation, left)),
+            _ => None,
+        }
+    }
+
+    fn left(&self) -> u32 {
+        self.left
+    }
+
+    fn take(&mut self, piece: &[u8]) -> Result<usize, NoMemory> {
+        let count = if self.numbers.len() < self.operation.numbers() {
+            take_number(&mut self.numbers, &mut self.part, piece)
+        } else {
+            take_bytes(&mut self.bytes, self.left, piece)?
+        };
+        self.left -= count as u32;
+        Ok(count)
+    }
+
+    fn into_item(self) -> Heard {
+        Heard::Asked(self.into_request())
+    }
+
+    fn bad() -> Heard {
+        Heard::Wrong(Fault::BadFrame)
+    }
+
+    fn too_long(length: u32) -> Heard {
+        let length = u64::from(length);
+        Heard::Wrong(Fault::FrameTooLong { length })
+    }
+
+    ghost is_framing = { request_frames_hold };
 }

@@ -6,13 +6,11 @@
 
 ghost use Rattle.std.specs.Prelude.{◌≡◌};
 
-mod begun;
 mod dialect;
 mod fields;
-mod frame;
 mod number;
 mod operation;
 mod reply;
 
 pub use dialect::FrameDialect;
-pub use operation::Operation;
+pub use request_form::Operation;

@@ -1,21 +1,9 @@
-ghost use Rattle.std.specs.Prelude.{◌≡◌, ◌<◌, ◌≤◌, ◌+◌, ◌*◌, ◌-◌, ◌++◌, [], length, take, min};
+ghost use Rattle.std.specs.Prelude.{◌≡◌, ◌<◌, ◌≤◌, ◌+◌, ◌*◌, ◌++◌, length, take};
 ghost use Rattle.frame_wire.specs.Said.{field, fields};
-ghost use Rattle.frame_wire.specs.Begun.{frame_part};
 
 use arrayvec::ArrayVec;
 use byteorder::{BigEndian, ByteOrder};
-
-/// Adds bytes off the front of a piece to those that have come of a number, as far as they belong to it. Answers how many.
-pub fn fill<const N: usize>(part: &mut ArrayVec<u8, N>, piece: &[u8]) -> usize
-    ensures count { result ≡ min (N - length part.old.items) (length piece.now) }
-    ensures part { part.new.items ≡ part.old.items ++ take result piece.now }
-{
-    let count = part.remaining_capacity().min(piece.len());
-    match part.try_extend_from_slice(&piece[..count]) {
-        Ok(()) => count,
-        Err(_) => unreachable!(),
-    }
-}
+use framing::fill;
 
 /// The number that 8 bytes make.
 pub fn number(bytes: &[u8]) -> u64
@@ -23,14 +11,6 @@ pub fn number(bytes: &[u8]) -> u64
     ensures { field result ≡ bytes.now }
 {
     BigEndian::read_u64(bytes)
-}
-
-/// The number that 4 bytes make.
-pub fn short_number(bytes: &[u8]) -> u32
-    requires { length bytes.now ≡ 4 }
-    ensures { frame_part result [] ≡ bytes.now }
-{
-    BigEndian::read_u32(bytes)
 }
 
 /// Takes bytes of the next number off the front of a piece, at least one, and says how many. A number that is whole then is

@@ -1,27 +1,8 @@
-ghost use Rattle.std.specs.Prelude.{◌≡◌, ◌<◌, ◌≤◌, ◌^◌, ℕ, List, ◌∷◌, length, slice_index, None, MatchOption};
+ghost use Rattle.std.specs.Prelude.{◌≡◌, ℕ, List, ◌∷◌, None, MatchOption};
 ghost use Rattle.frame_wire.specs.Requests.{request_of};
-ghost use Rattle.frame_wire.specs.Operations.{number_of, numbers_of, has_bytes, fits, request_with};
+ghost use Rattle.frame_wire.specs.Operations.{number_of, fits};
 
-use blob_model::Bytes;
-use request_form::Request;
-
-/// What a client asks for, but for the fields: the operation of a frame, or the command of a line.
-#[derive(Clone, Copy, Debug, PartialEq, Eq)]
-pub enum Operation {
-    Create,
-    Append,
-    Write,
-    StartAppend,
-    StartWrite,
-    Finish,
-    Read,
-    Recent,
-    Size,
-    Sync,
-    Status,
-    Branch,
-    Quit,
-}
+use request_form::Operation;
 
 /// The operation of that number.
 pub fn operation_of(number: u8) -> Option<Operation>
@@ -47,81 +28,14 @@ pub fn operation_of(number: u8) -> Option<Operation>
     }
 }
 
-impl Operation {
-    /// How many numbers its fields are.
-    pub fn numbers(self) -> usize
-        ensures numbers { result ≡ numbers_of self }
-        ensures few { result ≤ 4 }
-    {
-        match self {
-            Operation::Create | Operation::Quit => 0,
-            Operation::Append | Operation::StartAppend => 1,
-            Operation::Finish | Operation::Recent | Operation::Status => 1,
-            Operation::Write | Operation::StartWrite => 2,
-            Operation::Size | Operation::Sync | Operation::Branch => 2,
-            Operation::Read => 4,
-        }
-    }
-
-    /// Whether bytes may follow the numbers.
-    pub fn has_bytes(self) -> bool
-        ensures { result ≡ has_bytes self }
-    {
-        match self {
-            Operation::Append | Operation::Write => true,
-            Operation::StartAppend | Operation::StartWrite => true,
-            Operation::Create | Operation::Finish | Operation::Read => false,
-            Operation::Recent | Operation::Size | Operation::Sync => false,
-            Operation::Status | Operation::Branch | Operation::Quit => false,
-        }
-    }
-
-    /// Whether so many bytes behind it are whole fields, and nothing is left over.
-    pub fn fits(self, count: u32) -> bool
-        ensures { result ≡ fits self count }
-    {
-        let least = 8 * self.numbers();
-        if self.has_bytes() {
-            count as usize >= least
-        } else {
-            count as usize == least
-        }
-    }
-
-    /// The request with these numbers, and these bytes where it has any.
-    pub fn request(self, numbers: &[u64], bytes: Bytes) -> Request
-        requires { length numbers.now ≡ numbers_of self }
-        ensures request { result ≡ request_with self numbers.now bytes }
-        ensures numbers_fit { (i : ℕ) → slice_index numbers.now i < 2 ^ 64 }
-    {
-        match (self, numbers) {
-            (Operation::Create, _) => Request::Create,
-            (Operation::Append, &[blob]) => Request::Append { blob, bytes },
-            (Operation::Write, &[blob, offset]) => Request::Write {
-                blob,
-                offset,
-                bytes,
-            },
-            (Operation::StartAppend, &[blob]) => Request::StartAppend { blob, bytes },
-            (Operation::StartWrite, &[blob, offset]) => Request::StartWrite {
-                blob,
-                offset,
-                bytes,
-            },
-            (Operation::Finish, &[ticket]) => Request::Finish { ticket },
-            (Operation::Read, &[blob, version, offset, length]) => Request::Read {
-                blob,
-                version,
-                offset,
-                length,
-            },
-            (Operation::Recent, &[blob]) => Request::Recent { blob },
-            (Operation::Size, &[blob, version]) => Request::Size { blob, version },
-            (Operation::Sync, &[blob, version]) => Request::Sync { blob, version },
-            (Operation::Status, &[blob]) => Request::Status { blob },
-            (Operation::Branch, &[blob, version]) => Request::Branch { blob, version },
-            (Operation::Quit, _) => Request::Quit,
-            _ => unreachable!(),
-        }
+/// Whether so many bytes behind an operation are whole fields, and nothing is left over.
+pub fn fits(operation: Operation, count: u32) -> bool
+    ensures { result ≡ fits operation count }
+{
+    let least = 8 * operation.numbers();
+    if operation.has_bytes() {
+        count as usize >= least
+    } else {
+        count as usize == least
     }
 }

@@ -1,5 +1,5 @@
 -- Worked rows of own events and of hanging up, computed from the definitions.
-use Rattle.std.specs.Prelude.{◌≡◌, ℕ, List, [], ◌∷◌, ◌++◌, refl}
+use Rattle.std.specs.Prelude.{◌≡◌, List, [], ◌∷◌, ◌++◌, refl}
 use Rattle.blob_model.specs.Limits.{greatest}
 use Rattle.blob_model.specs.declared.call.Event.{Event}
 use Rattle.blob_model.specs.declared.call.Event.TheVariants as Events
@@ -9,8 +9,7 @@ use Rattle.request_form.specs.declared.form.Request.TheVariants as Requests
 use Rattle.request_form.specs.declared.form.Reply.{Reply}
 use Rattle.request_form.specs.declared.form.Reply.TheVariants as Replies
 use Rattle.request_form.specs.declared.form.Fault.TheVariants as Faults
-use Rattle.request_form.specs.Session.{Session, IsNobody, sees, holds, drops}
-use Rattle.request_form.specs.Answers.{FoundFinished}
+use Rattle.request_form.specs.Session.{Session, IsNobody, sees, drops}
 use Rattle.request_form.specs.Transcript.{first_session}
 use Rattle.request_form.specs.Own.{events_made}
 use Rattle.request_form.specs.HangUp.{GivenUp, HungUp, numbers_anew, finishes_made}

@@ -28,43 +28,6 @@ use Rattle.request_form.specs.Session.{outcome_at}
 use Rattle.request_form.specs.Answers.{Gap, Answers, Unless, Refused, OutOfMemory, Created, Updated, Started, TicketKept, Reported, FoundFinished, Branched, Content, PageNotRead, CreateAnswer, UpdateAnswer, ReportAnswer, FinishAnswer, BranchAnswer, ReadAnswer, LookAnswer, update_fault, read_fault, max_update, max_read, max_tickets}
 use Rattle.request_form.specs.Transcript.{Run, ItemReply, is_last, until_quit, has_quit, faults_of}
 
--- a run and then another
-pub Run-append : (gap : Gap) (s : Session) (hs : List Heard) (rs : List Reply) (mid : Session) (hs' : List Heard) (rs' : List Reply) (s' : Session) →
-    Run gap s hs rs mid → Run gap mid hs' rs' s' → Run gap s (hs ++ hs') (rs ++ rs') s'
-Run-append gap s [] [] mid hs' rs' s' e run = subst (λ (x : Session). Run gap x hs' rs' s') e run
-Run-append gap s (h ∷ hs) (r ∷ rs) mid hs' rs' s' (m, first, rest) run =
-    (m, first, Run-append gap m hs rs mid hs' rs' s' rest run)
-Run-append gap s [] (r ∷ rs) mid hs' rs' s' none run = absurd none
-Run-append gap s (h ∷ hs) [] mid hs' rs' s' none run = absurd none
-
-or_false : (a b : Bool) → (a || b) ≡ false → (a ≡ false) × (b ≡ false)
-or_false true b e = absurd (false≢true (sym e))
-or_false false b e = (refl, e)
-
--- items without a Quit stand before it
-pub until_quit-append : (hs more : List Heard) → has_quit hs ≡ false → until_quit (hs ++ more) ≡ hs ++ until_quit more
-until_quit-append [] more e = refl
-until_quit-append (h ∷ hs) more e =
-    let f = or_false (is_last h) (has_quit hs) e in
-    rw f.0 (ap (λ (x : List Heard). h ∷ x) (until_quit-append hs more f.1))
-
-pub has_quit-append : (hs more : List Heard) → has_quit hs ≡ false → has_quit (hs ++ more) ≡ has_quit more
-has_quit-append [] more e = refl
-has_quit-append (h ∷ hs) more e =
-    let f = or_false (is_last h) (has_quit hs) e in
-    rw f.0 (has_quit-append hs more f.1)
-
--- a Quit ends the list
-pub until_quit-last : (h : Heard) (more : List Heard) → is_last h ≡ true → until_quit (h ∷ more) ≡ h ∷ []
-until_quit-last h more e = rw e refl
-
--- Without a Quit all items are answered.
-pub until_quit-all : (hs : List Heard) → has_quit hs ≡ false → until_quit hs ≡ hs
-until_quit-all [] e = refl
-until_quit-all (h ∷ hs) e =
-    let f = or_false (is_last h) (has_quit hs) e in
-    rw f.0 (ap (λ (x : List Heard). h ∷ x) (until_quit-all hs f.1))
-
 -- some answer of a request, or of an item, for which the outside didn't fail
 record SomeReply (Answer : Reply → Session → Type 0) : Type 0 where
   pub reply : Reply

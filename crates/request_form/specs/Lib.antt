@@ -1,3 +1,4 @@
+pub mod Operations
 pub mod Replies
 pub mod Session
 pub mod Answers

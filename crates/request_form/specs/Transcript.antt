@@ -1,4 +1,5 @@
-use Rattle.std.specs.Prelude.{◌≡◌, ℕ, Bool, true, false, if◌then◌else◌, ◌||◌, List, [], ◌∷◌, flat_map, sum_by}
+use Rattle.std.specs.Prelude.{◌≡◌, ℕ, Bool, true, false, List, [], flat_map, sum_by}
+use Rattle.item_stream.specs.Rounds.{until_last, has_last, Rounds}
 use Rattle.request_form.specs.declared.form.Request.{Request}
 use Rattle.request_form.specs.declared.form.Request.TheVariants as Requests
 use Rattle.request_form.specs.declared.form.Reply.{Reply}
@@ -31,12 +32,10 @@ is_last (Wrong fault) = false
 
 -- the items up to the first Quit, and with it
 abbrev pub until_quit : List Heard → List Heard
-until_quit [] = []
-until_quit (item ∷ items) = item ∷ (if is_last item then [] else until_quit items)
+until_quit items = until_last is_last items
 
 abbrev pub has_quit : List Heard → Bool
-has_quit [] = false
-has_quit (item ∷ items) = is_last item || has_quit items
+has_quit items = has_last is_last items
 
 -- one item's reply: where an item is no request, the reply is its fault, and the session stays as it is
 abbrev pub ItemReply : Gap → Session → Heard → Reply → Session → Type 0
@@ -45,10 +44,7 @@ ItemReply gap s (Wrong fault) reply s' = (reply ≡ Replies.Refused fault) × (s
 
 -- one reply for each item, one after another
 abbrev pub Run : Gap → Session → List Heard → List Reply → Session → Type 0
-Run gap s [] [] s' = s' ≡ s
-Run gap s (item ∷ items) (reply ∷ replies) s' = (mid : Session) × ItemReply gap s item reply mid × Run gap mid items replies s'
-Run gap s [] (reply ∷ replies) s' = ⊥
-Run gap s (item ∷ items) [] s' = ⊥
+Run gap s items replies s' = Rounds (ItemReply gap) s items replies s'
 
 -- the replies to a list of items, which a Quit ends
 abbrev pub Transcript : Gap → Session → List Heard → List Reply → Session → Type 0

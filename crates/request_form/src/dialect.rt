@@ -1,6 +1,6 @@
 use crate::form::{Ending, Heard, Reply};
 use blob_model::Bytes;
-use no_memory::NoMemory;
+use faults::NoMemory;
 use std::alloc::Global;
 
 /// A reply as it is written: the bytes of its head, and behind them those of its body.

@@ -247,13 +247,5 @@ pub enum Heard {
     Wrong(Fault),
 }
 
-/// What the end of a stream leaves over.
-#[derive(Drop)]
-pub enum Ending {
-    /// Nothing that has a reply.
-    Clean,
-    /// One more item, which the end makes whole.
-    Last(Heard),
-    /// A part of an item.
-    Cut,
-}
+/// What the end of a stream of requests leaves over.
+pub type Ending = item_stream::Ending<Heard>;

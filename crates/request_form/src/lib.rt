@@ -1,4 +1,4 @@
-//! Requests and replies, what a session may answer, the traits of services and dialects, and the bytes that a dialect was fed.
+//! Requests and their operations, replies, what a session may answer, and the traits of services and dialects.
 #![tactic(auto)]
 
 ghost use Rattle.std.specs.Prelude.{◌≡◌};
@@ -6,11 +6,12 @@ ghost use Rattle.std.specs.Prelude.{◌≡◌};
 mod dialect;
 mod form;
 pub mod laws;
-mod piece;
+mod operation;
 mod service;
 
 pub use dialect::{Dialect, Said};
+pub use faults::NoMemory;
 pub use form::{Ending, Fault, Heard, Reply, Request};
-pub use no_memory::NoMemory;
-pub use piece::Piece;
+pub use item_stream::Piece;
+pub use operation::Operation;
 pub use service::Service;

@@ -6,7 +6,7 @@ use std::thread::Threads;
 pub trait Service {
     ghost use Rattle.std.specs.Prelude.{◌≡◌, ℕ, false};
     ghost use denote.Param.Send.{IsSync};
-    ghost use Rattle.ports.specs.Counts.{RoseBy};
+    ghost use Rattle.faults.specs.Counts.{RoseBy};
     ghost use Rattle.blob_model.specs.History.{AllOther};
     ghost use Rattle.request_form.specs.Session.{Session};
     ghost use Rattle.request_form.specs.Answers.{Answers};

@@ -10,8 +10,8 @@ use Rattle.hex.specs.Hex.{encode_with, lower_digits, encode_lower, hex_digit_val
 use Rattle.script_text.proofs.NumberLemmas.{number_of-decimal}
 use Rattle.hex.proofs.HexLemmas.{length-encode_with, IsDigits-lower_digits}
 use Rattle.request_form.specs.declared.form.Request.{Request}
-use Rattle.frame_wire.specs.declared.operation.Operation.{Operation}
-use Rattle.frame_wire.specs.Operations.{numbers_of, has_bytes, request_with}
+use Rattle.request_form.specs.declared.operation.Operation.{Operation}
+use Rattle.request_form.specs.Operations.{numbers_of, has_bytes, request_with}
 use Rattle.script_text.specs.Fields.{number_of, bytes_of}
 use Rattle.script_text.specs.Requests.{request_of}
 use Rattle.script_text.specs.Lines.{fields_of}

@@ -8,7 +8,7 @@ use Rattle.request_form.specs.Stream.{Stream, after_item, IsWellHeard, IsNext, I
 use Rattle.request_form.specs.declared.form.Heard.{Heard}
 use Rattle.request_form.specs.declared.form.Heard.TheVariants.{Wrong}
 use Rattle.request_form.specs.declared.form.Fault.TheVariants.{Malformed}
-use Rattle.request_form.specs.declared.form.Ending.TheVariants.{Clean, Last}
+use Rattle.item_stream.specs.declared.ending.Ending.TheVariants.{Clean, Last}
 use Rattle.request_form.specs.declared.form.Request.{Request}
 use Rattle.script_text.specs.Requests.{request_of}
 use Rattle.script_text.specs.Lines.{max_line, fields_of, heard_as, spelled, item_of_text, item_of, with_item, heard}

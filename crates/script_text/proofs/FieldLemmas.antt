@@ -14,9 +14,9 @@ use Rattle.std.proofs.lemmas.List.Elements.{All-nil, All-cons, All-head, All-tai
 use Rattle.std.proofs.lemmas.List.Splits.{slice_split_at, slice_split_none}
 use Rattle.request_form.specs.declared.form.Request.{Request}
 use Rattle.request_form.specs.declared.form.Request.TheVariants as Requests
-use Rattle.frame_wire.specs.declared.operation.Operation.{Operation}
-use Rattle.frame_wire.specs.declared.operation.Operation.TheVariants as Operations
-use Rattle.frame_wire.specs.Operations.{numbers_of, has_bytes, request_with}
+use Rattle.request_form.specs.declared.operation.Operation.{Operation}
+use Rattle.request_form.specs.declared.operation.Operation.TheVariants as Operations
+use Rattle.request_form.specs.Operations.{numbers_of, has_bytes, request_with}
 use Rattle.script_text.specs.Fields.{number_of, bytes_of}
 use Rattle.script_text.specs.Requests.{both, one_number, two_numbers, four_numbers, number_and_bytes, two_numbers_and_bytes, made, forms, request_in, request_of}
 use Rattle.script_text.specs.Lines.{fields_of}

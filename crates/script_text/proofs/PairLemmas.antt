@@ -7,7 +7,7 @@ use Rattle.std.proofs.lemmas.List.Elements.{All-nil, All-head, All-tail}
 use Rattle.hex.specs.Hex.{is_hex_digit, pair_value, decode_sized, IsBytes}
 use Rattle.hex.specs.declared.error.FromHexError.{FromHexError}
 use Rattle.hex.proofs.HexLemmas.{decode_of-ok, IsOk-decode_sized, IsOk-written}
-use Rattle.frame_wire.specs.declared.operation.Operation.{Operation}
+use Rattle.request_form.specs.declared.operation.Operation.{Operation}
 use Rattle.script_text.specs.Requests.{request_of}
 use Rattle.script_text.specs.Lines.{fields_of}
 use Rattle.script_text.specs.Decoded.{AsksAs, fields_text, IsDecoded, Decodes, TakesPairs}

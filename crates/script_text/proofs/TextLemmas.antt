@@ -7,8 +7,8 @@ use Rattle.std.proofs.lemmas.List.Elements.{All-head, All-tail, All-push}
 use Rattle.request_form.specs.declared.form.Heard.{Heard}
 use Rattle.request_form.specs.declared.form.Heard.TheVariants.{Wrong}
 use Rattle.request_form.specs.declared.form.Fault.TheVariants as Faults
-use Rattle.frame_wire.specs.declared.operation.Operation.{Operation}
-use Rattle.frame_wire.specs.declared.operation.Operation.TheVariants as Operations
+use Rattle.request_form.specs.declared.operation.Operation.{Operation}
+use Rattle.request_form.specs.declared.operation.Operation.TheVariants as Operations
 use Rattle.script_text.specs.Requests.{forms, request_in, request_of}
 use Rattle.script_text.specs.Lines.{max_line, fields_of, heard_as, item_of_text, item_of}
 use Rattle.script_text.specs.Begun.{IsWithout, SaysAs, IsLetter}

@@ -1,7 +1,7 @@
 -- The commands of lines, by the operations that they ask for.
 use Rattle.std.specs.Prelude.{ℕ, List, codes}
-use Rattle.frame_wire.specs.declared.operation.Operation.{Operation}
-use Rattle.frame_wire.specs.declared.operation.Operation.TheVariants as Operations
+use Rattle.request_form.specs.declared.operation.Operation.{Operation}
+use Rattle.request_form.specs.declared.operation.Operation.TheVariants as Operations
 
 abbrev pub command_of : Operation → List ℕ
 command_of Operations.Create = codes "create"

@@ -4,8 +4,8 @@ use Rattle.std.specs.List.{All, AllPass}
 use Rattle.std.specs.Option.{option_to_list, IfSome}
 use Rattle.std.specs.Fmt.{decimal}
 use Rattle.hex.specs.Hex.{encode_lower, decode_of, is_hex_digit, IsBytes}
-use Rattle.frame_wire.specs.declared.operation.Operation.{Operation}
-use Rattle.frame_wire.specs.Operations.{numbers_of, has_bytes}
+use Rattle.request_form.specs.declared.operation.Operation.{Operation}
+use Rattle.request_form.specs.Operations.{numbers_of, has_bytes}
 use Rattle.script_text.specs.declared.fields.Part.{Part}
 use Rattle.script_text.specs.declared.fields.Part.TheVariants.{Number, Dash, Digits}
 use Rattle.script_text.specs.Fields.{number_of}

@@ -1,8 +1,8 @@
 ghost use Rattle.std.specs.Prelude.{◌≡◌, ◌≢◌, MatchOption};
-ghost use Rattle.frame_wire.specs.declared.operation.Operation.{Operation};
+ghost use Rattle.request_form.specs.declared.operation.Operation.{Operation};
 ghost use Rattle.script_text.specs.Commands.{command_of};
 
-use frame_wire::Operation;
+use request_form::Operation;
 
 /// The operation with that command.
 pub fn operation_of(word: &[u8]) -> Option<Operation>

@@ -5,7 +5,7 @@ ghost use Rattle.std.specs.List.{AllPass};
 ghost use Rattle.std.specs.Fmt.{decimal};
 ghost use Rattle.std.specs.Result.{result_ok};
 ghost use Rattle.hex.specs.Hex.{pair_value, is_hex_digit};
-ghost use Rattle.frame_wire.specs.Operations.{numbers_of};
+ghost use Rattle.request_form.specs.Operations.{numbers_of};
 ghost use Rattle.script_text.specs.Requests.{request_of};
 ghost use Rattle.script_text.specs.Lines.{fields_of};
 ghost use Rattle.script_text.specs.Begun.{IsPlain};
@@ -15,9 +15,8 @@ ghost use Rattle.script_text.specs.Decoded.{EndsNumber, Adds, AddsByte, AsksNoth
 
 use arrayvec::ArrayVec;
 use blob_model::Bytes;
-use frame_wire::Operation;
 use hex::decode_to_slice;
-use request_form::{NoMemory, Request};
+use request_form::{NoMemory, Operation, Request};
 use std::alloc::Global;
 use std::marker::Model;
 

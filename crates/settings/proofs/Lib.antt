@@ -1,7 +1,6 @@
 mod Worked
 mod Walks
 pub mod Parses
-pub mod NumberLemmas
 pub mod RangeLemmas
 pub mod ReadingLemmas
 pub mod ChoiceLemmas

@@ -11,7 +11,6 @@ use Rattle.clap.specs.Kinds.{Kinds, or_else, check_kinds}
 use Rattle.clap.specs.Takes.{is_given}
 use Rattle.clap.specs.Faults.{walk_fault, settle_fault, defaults_fault, check_fault, level_fault, turn_fault, entered_fault, fault_of, is_simple_and_free}
 use Rattle.settings.specs.Words.{Bytes, Pair, is_listed, names_of, named_options, pairs_of, is_new, value_of, has_needed, is_whole, given_said, given_by_pairs}
-use Rattle.settings.specs.Values.{GivenValues}
 use Rattle.settings.proofs.ReadingLemmas.{given_said-same}
 use Rattle.settings.specs.Spelling.{is_spelled}
 use Rattle.settings.specs.Table.{command_name}

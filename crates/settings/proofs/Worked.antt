@@ -1,6 +1,6 @@
 -- Worked rows, computed from the definitions alone.
-use Rattle.std.proofs.Common.{◌≡◌, List, [], ◌∷◌, ℕ, Option, Some, None, codes, refl}
-use Rattle.settings.specs.declared.table.Command.TheVariants.{Run, Serve, Load}
+use Rattle.std.proofs.Common.{◌≡◌, [], ◌∷◌, Some, None, codes, refl}
+use Rattle.settings.specs.declared.table.Command.TheVariants.{Run, Serve}
 use Rattle.settings.specs.Values.{nothing}
 use Rattle.settings.specs.Words.{given_by_words}
 use Rattle.settings.specs.Merged.{merged}

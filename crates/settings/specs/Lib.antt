@@ -1,5 +1,4 @@
 pub mod Table
-pub mod Numbers
 pub mod Values
 pub mod Words
 pub mod Spelling

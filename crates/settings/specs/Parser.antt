@@ -1,5 +1,5 @@
 -- The parser's command: a subcommand for each command, whose options take one text each.
-use Rattle.std.specs.Prelude.{Bool, true, List, [], ◌∷◌, Option, Some, None, codes, fold, map, unwrap_or}
+use Rattle.std.specs.Prelude.{Bool, true, List, [], Some, None, codes, fold, map, unwrap_or}
 use Rattle.clap.specs.Walk.{Rule}
 use Rattle.clap.specs.Simple.{App, new_app, new_rule, new_shape, with_rule, with_subcommand}
 use Rattle.clap.specs.declared.builder.action.ArgAction.TheVariants.{Set}

@@ -10,7 +10,6 @@ ghost use Rattle.std.specs.Prelude.{◌≡◌};
 
 mod file;
 mod merging;
-mod number;
 mod parser;
 mod said;
 mod spelling;

@@ -8,11 +8,11 @@ ghost use Rattle.settings.specs.Values.{IsOf};
 ghost use Rattle.settings.specs.Words.{is_number, numbers_said, given_said};
 ghost use Rattle.settings.specs.Reading as reading;
 
-use crate::number::number;
 use crate::table::{Choice, KEYS, Key};
 use crate::values::{Given, Text};
 use crate::words::WordsFault;
 use clap::ArgMatches;
+use numeral::number;
 use std::alloc::{AllocError, Global};
 
 // The number that is given to a key, if there is one. None where what is given isn't a number of the key's range.

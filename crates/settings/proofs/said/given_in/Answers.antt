@@ -1,4 +1,4 @@
-use Rattle.std.proofs.Common.{◌≡◌, Some, sym, ap, ◌∙◌}
+use Rattle.std.proofs.Common.{Some, sym, ap, ◌∙◌}
 use Rattle.clap.specs.Matches.{first_value, found_of}
 use Rattle.settings.specs.Values.{GivenValues}
 use Rattle.settings.proofs.ReadingLemmas.{given_said-texts, given_said-none}

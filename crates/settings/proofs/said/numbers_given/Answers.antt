@@ -1,4 +1,4 @@
-use Rattle.std.proofs.Common.{◌≡◌, ◌∙◌, ap₂, List}
+use Rattle.std.proofs.Common.{◌∙◌, ap₂, List}
 use Rattle.clap.specs.Matches.{first_value, found_of}
 use Rattle.settings.specs.declared.table.Key.{Key}
 use Rattle.settings.specs.Values.{GivenValues}

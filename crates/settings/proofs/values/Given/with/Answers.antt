@@ -1,4 +1,4 @@
-use Rattle.std.proofs.Common.{subst, lit<, sym}
+use Rattle.std.proofs.Common.{subst, lit<}
 use Rattle.settings.specs.declared.table.Key.{Key}
 use Rattle.settings.specs.declared.table.Key.TheVariants.{Providers, Replicas, Workers, Connections, Ops}
 use Rattle.settings.specs.Table.{range_of}

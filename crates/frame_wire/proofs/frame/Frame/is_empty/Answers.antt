@@ -1,6 +1,0 @@
-use Rattle.std.proofs.Common.{◌∙◌, ◌==◌, ℕ, List, length, ap}
-use Rattle.frame_wire.proofs.TakenLemmas.{something}
-use Rattle.frame_wire.proofs.frame.Frame.is_empty.Goals as goal
-
-pub returns-in_default : goal.returns-in_default
-returns-in_default c = something c.self.inside.begun c.in_default.not-Length ∙ ap (λ (l : List ℕ). length l == 0) c.self.view_is

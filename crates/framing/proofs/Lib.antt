@@ -1,0 +1,5 @@
+pub mod Numbers
+pub mod HeardLemmas
+pub mod BegunLemmas
+mod TakenLemmas
+mod ReaderLemmas

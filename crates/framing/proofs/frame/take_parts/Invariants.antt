@@ -1,0 +1,13 @@
+use Rattle.std.proofs.Common.{length, ◌-◌, ◌≤◌, ◌++◌, take}
+use Rattle.framing.specs.Begun.{begun_bytes, IsBegun, GoesOnAs}
+use Rattle.framing.proofs.frame.take_parts.Given as goal
+
+abbrev pub invariant-parts : goal.invariant-parts
+invariant-parts g l = record {
+  within : l.taken ≤ length l.piece;
+  well : IsBegun g.B.Body.framing.limit g.B.Body.come l.frame;
+  goes_on : GoesOnAs g.B.Body.framing (begun_bytes g.B.Body.come l.fn.begun ++ take l.taken l.piece) (begun_bytes g.B.Body.come l.frame);
+}
+
+abbrev pub decreases-parts : goal.decreases-parts
+decreases-parts g l = length l.piece - l.taken

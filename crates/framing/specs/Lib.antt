@@ -1,0 +1,4 @@
+pub mod Framing
+pub mod Come
+pub mod Begun
+pub mod Taken

@@ -1,0 +1,10 @@
+//! Streams of items: what the bytes of a stream say, item by item, and the bytes that are still to be read.
+#![tactic(auto)]
+
+ghost use Rattle.std.specs.Prelude.{◌≡◌};
+
+mod ending;
+mod piece;
+
+pub use ending::Ending;
+pub use piece::Piece;
