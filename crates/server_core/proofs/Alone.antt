@@ -3,22 +3,23 @@ use Rattle.std.proofs.Common.{◌≡◌, ℕ, ◌<◌, List, [], ◌∷◌, ◌+
 use Rattle.std.proofs.lemmas.List.Concat.{flat_map-append}
 use Rattle.std.proofs.lemmas.List.Sums.{sum_by-append}
 use Rattle.std.specs.Prelude.{Option, flat_map}
-use Rattle.ports.specs.Counts.{RoseBy}
+use Rattle.faults.specs.Counts.{RoseBy}
 use Rattle.blob_model.specs.History.{AllOther}
+use Rattle.item_stream.proofs.Rounds.{Rounds-append, until_last-twice, until_last-parts}
+use Rattle.request_form.proofs.Runs.{well_until}
 use Rattle.request_form.specs.Session.{Fixed, Session, AllOwn, IsNobody}
 use Rattle.request_form.specs.Replies.{fault_count}
-use Rattle.request_form.specs.Transcript.{Run, Transcript, until_quit, first_session, faults_of}
+use Rattle.request_form.specs.Transcript.{ItemReply, Run, Transcript, is_last, until_quit, first_session, faults_of}
 use Rattle.request_form.specs.Laws.{OwnIsAlone, AlwaysAnswered}
 use Rattle.request_form.specs.Stream.{Stream, AllWellHeard}
 use Rattle.request_form.specs.declared.form.Reply.{Reply}
 use Rattle.request_form.specs.declared.form.Heard.{Heard}
 use Rattle.server_core.specs.declared.flow.End.{End}
 use Rattle.server_core.specs.declared.flow.End.TheVariants as Ends
-use Rattle.server_core.specs.Progress.{Point, Progress, AnswersFront}
-use Rattle.server_core.specs.Served.{AnswersAll, Ended, Reaches}
+use Rattle.server_core.specs.Conversing.{Progress, AnswersFront}
+use Rattle.server_core.specs.Conversed.{AnswersAll, Ended, Reaches}
+use Rattle.server_core.specs.Progress.{Point, requests}
 use Rattle.server_core.specs.Laws.{SaysWithin, WroteAlone}
-use Rattle.server_core.proofs.Items.{until_quit-twice, until_quit-parts, well_until}
-use Rattle.server_core.proofs.GoingOn.{Run-append}
 
 well_back : (items more : List Heard) → AllWellHeard (items ++ more) → AllWellHeard more
 well_back [] more well = well
@@ -38,7 +39,7 @@ module _ (own_is_alone : OwnIsAlone) (always : AlwaysAnswered) (said : Reply →
       let transcript : Transcript AllOther (first_session fixed 1) heard replies new.session = subst (λ (xs : List Heard). Run AllOther (first_session fixed 1) xs replies new.session) is from_first in
       own_is_alone (first_session fixed 1) heard replies new.session own transcript
 
-  all_alone : (heard items : List Heard) (rest : List ℕ) → (p : Progress said [] old items rest new) → AnswersAll heard items rest → SaysWithin said fixed heard old.faults new.faults p.out
+  all_alone : (heard items : List Heard) (rest : List ℕ) → (p : Progress (requests said) [] old items rest new) → AnswersAll is_last heard items rest → SaysWithin said fixed heard old.faults new.faults p.out
   all_alone heard items rest p all = record {
     alone = record {
       replies = p.replies;
@@ -50,13 +51,13 @@ module _ (own_is_alone : OwnIsAlone) (always : AlwaysAnswered) (said : Reply →
   }
 
   -- A front of the items, and then what others would have been answered. What is still to be written begins with the rest.
-  front_alone : (heard items : List Heard) (rest : List ℕ) → (p : Progress said [] old items rest new) → AnswersFront heard items → (later : List ℕ) × SaysWithin said fixed heard old.faults new.faults (p.out ++ (rest ++ later))
+  front_alone : (heard items : List Heard) (rest : List ℕ) → (p : Progress (requests said) [] old items rest new) → AnswersFront is_last heard items → (later : List ℕ) × SaysWithin said fixed heard old.faults new.faults (p.out ++ (rest ++ later))
   front_alone heard items rest p front =
-      let parts = until_quit-parts items front.0 (subst (λ (xs : List Heard). until_quit xs ≡ xs) front.1 (until_quit-twice heard)) in
+      let parts = until_last-parts is_last items front.0 (subst (λ (xs : List Heard). until_quit xs ≡ xs) front.1 (until_last-twice is_last heard)) in
       let run : Run IsNobody (first_session fixed 1) items p.replies new.session = subst (λ (xs : List Heard). Run IsNobody (first_session fixed 1) xs p.replies new.session) parts.0 (run_alone items items p.replies (sym parts.0) p.run) in
       let more = always new.session front.0 in
       let run_more : Run IsNobody new.session front.0 more.0 more.1.0 = subst (λ (xs : List Heard). Run IsNobody new.session xs more.0 more.1.0) parts.1 more.1.1 in
-      let both : Run IsNobody (first_session fixed 1) (items ++ front.0) (p.replies ++ more.0) more.1.0 = Run-append IsNobody (first_session fixed 1) items p.replies new.session front.0 more.0 more.1.0 run run_more in (
+      let both : Run IsNobody (first_session fixed 1) (items ++ front.0) (p.replies ++ more.0) more.1.0 = Rounds-append (ItemReply IsNobody) (first_session fixed 1) items p.replies new.session front.0 more.0 more.1.0 run run_more in (
         flat_map said more.0,
         record {
           alone = record {
@@ -75,19 +76,19 @@ module _ (own_is_alone : OwnIsAlone) (always : AlwaysAnswered) (said : Reply →
   longer rest later some = rw (length-append rest later) (omega arith)
 
   -- more than a front is still to be written where some of the front is
-  part_alone : (heard items : List Heard) (rest : List ℕ) → (p : Progress said [] old items rest new) → 0 < length rest → AnswersFront heard items →
+  part_alone : (heard items : List Heard) (rest : List ℕ) → (p : Progress (requests said) [] old items rest new) → 0 < length rest → AnswersFront is_last heard items →
       (more : List ℕ) × (0 < length more) × SaysWithin said fixed heard old.faults new.faults (p.out ++ more)
   part_alone heard items rest p some front = let f = front_alone heard items rest p front in (rest ++ f.0, longer rest f.0 some, f.1)
 
-  begun_alone : (heard items : List Heard) (rest : List ℕ) → (p : Progress said [] old items rest new) → AnswersFront heard items →
+  begun_alone : (heard items : List Heard) (rest : List ℕ) → (p : Progress (requests said) [] old items rest new) → AnswersFront is_last heard items →
       (more : List ℕ) × SaysWithin said fixed heard old.faults new.faults (p.out ++ more)
   begun_alone heard items rest p front = let f = front_alone heard items rest p front in (rest ++ f.0, f.1)
 
-  module _ (heard : Stream) (taken limit : ℕ) (items : List Heard) (rest : List ℕ) (left : Option (List ℕ)) (ends ends' : ℕ) (p : Progress said [] old items rest new) where
+  module _ (heard : Stream) (taken limit : ℕ) (items : List Heard) (rest : List ℕ) (left : Option (List ℕ)) (ends ends' : ℕ) (p : Progress (requests said) [] old items rest new) where
     abbrev wrote : End → Type 0
     wrote end = WroteAlone said fixed heard taken limit ends ends' old.faults new.faults p.out end
 
-    pub wrote_alone : (end : End) → Ended heard taken limit items rest left end → Reaches heard taken limit items ends ends' end → wrote end
+    pub wrote_alone : (end : End) → Ended is_last heard taken limit items rest left end → Reaches is_last heard taken limit items ends ends' end → wrote end
     wrote_alone Ends.Quit e (inl r) = (heard.whole, inr refl, r.1, all_alone heard.whole items rest p (r.0, e.0.1))
     wrote_alone Ends.Quit e (inr r) = (heard.items, inl (refl, r), e.1, all_alone heard.items items rest p e.0)
     wrote_alone Ends.InputEnd e r = all_alone heard.items items rest p e.0

@@ -2,19 +2,17 @@
 use Rattle.std.proofs.Common.{◌≡◌, ℕ, ◌<◌, Bool, true, false, List, [], length, refl, sym, ◌∙◌, ap, arith}
 use Rattle.std.proofs.lemmas.Bool.{false≢true}
 use Rattle.std.specs.Prelude.{Option}
-use Rattle.request_form.specs.Transcript.{until_quit, has_quit}
-use Rattle.request_form.specs.Stream.{Stream}
-use Rattle.request_form.specs.declared.form.Heard.{Heard}
+use Rattle.item_stream.specs.Items.{ItemStream}
+use Rattle.item_stream.specs.Rounds.{until_last, has_last}
+use Rattle.item_stream.proofs.Rounds.{has_last-until_last}
 use Rattle.server_core.specs.declared.flow.End.{End}
 use Rattle.server_core.specs.declared.flow.End.TheVariants as Ends
-use Rattle.server_core.specs.Served.{Ended, Closing}
-use Rattle.server_core.specs.Laws.{EndsExactly}
-use Rattle.server_core.proofs.Items.{has_quit-until_quit}
+use Rattle.server_core.specs.Conversed.{Ended, Closing, EndsExactly}
 
--- items that were answered have a Quit, or none
-quit_or_none : (a b items : List Heard) → items ≡ until_quit a → has_quit a ≡ true → items ≡ until_quit b → has_quit b ≡ false → ⊥
-quit_or_none a b items is_a quit is_b none =
-    false≢true (sym none ∙ (sym (has_quit-until_quit b) ∙ (ap has_quit (sym is_b ∙ is_a) ∙ (has_quit-until_quit a ∙ quit))))
+-- items that were answered have a last one, or none
+quit_or_none : {Item : Type 0} (is_last : Item → Bool) (a b items : List Item) → items ≡ until_last is_last a → has_last is_last a ≡ true → items ≡ until_last is_last b → has_last is_last b ≡ false → ⊥
+quit_or_none is_last a b items is_a quit is_b none =
+    false≢true (sym none ∙ (sym (has_last-until_last is_last b) ∙ (ap (has_last is_last) (sym is_b ∙ is_a) ∙ (has_last-until_last is_last a ∙ quit))))
 
 not_both : (b : Bool) → b ≡ true → b ≡ false → ⊥
 not_both b p q = false≢true (sym q ∙ p)
@@ -28,13 +26,13 @@ rose_and_same ends ends' rose same = omega arith
 less_and_full : (taken limit : ℕ) → taken < limit → taken ≡ limit → ⊥
 less_and_full taken limit less full = omega arith
 
-module _ (heard : Stream) (taken limit : ℕ) (items : List Heard) (rest : List ℕ) (left : Option (List ℕ)) (ends ends' : ℕ) where
-  pub exactly : (end : End) → Ended heard taken limit items rest left end → Closing heard ends ends' end → EndsExactly heard taken limit items rest ends ends' end
+module _ {Item : Type 0} (is_last : Item → Bool) (heard : ItemStream Item) (taken limit : ℕ) (items : List Item) (rest : List ℕ) (left : Option (List ℕ)) (ends ends' : ℕ) where
+  pub exactly : (end : End) → Ended is_last heard taken limit items rest left end → Closing heard ends ends' end → EndsExactly is_last heard taken limit items rest ends ends' end
   exactly Ends.Quit e closing = record {
     quit = λ all q some. refl;
     input_end = λ rose cut none all some. absurd (not_both _ e.1 none);
     cut = λ rose cut some. absurd (rose_and_same ends ends' rose (closing cut));
-    too_long = λ full none all some. absurd (quit_or_none heard.items heard.whole items e.0.0 e.1 all.0 none);
+    too_long = λ full none all some. absurd (quit_or_none is_last heard.items heard.whole items e.0.0 e.1 all.0 none);
   }
   exactly Ends.InputEnd e closing = record {
     quit = λ all q some. absurd (not_both _ q e.1);
@@ -43,19 +41,19 @@ module _ (heard : Stream) (taken limit : ℕ) (items : List Heard) (rest : List 
     too_long = λ full none all some. absurd (less_and_full taken limit e.3 full);
   }
   exactly Ends.Cut e closing = record {
-    quit = λ all q some. absurd (quit_or_none heard.items heard.whole items all.0 q e.0.0 e.1);
+    quit = λ all q some. absurd (quit_or_none is_last heard.items heard.whole items all.0 q e.0.0 e.1);
     input_end = λ rose cut none all some. absurd (not_both _ e.2 cut);
     cut = λ rose cut some. refl;
     too_long = λ full none all some. absurd (less_and_full taken limit e.3 full);
   }
   exactly Ends.ReadFault e closing = record {
-    quit = λ all q some. absurd (quit_or_none heard.items heard.whole items all.0 q e.0.0 e.1);
+    quit = λ all q some. absurd (quit_or_none is_last heard.items heard.whole items all.0 q e.0.0 e.1);
     input_end = λ rose cut none all some. absurd (rose_and_same ends ends' rose closing);
     cut = λ rose cut some. absurd (rose_and_same ends ends' rose closing);
     too_long = λ full none all some. absurd (less_and_full taken limit e.2 full);
   }
   exactly Ends.InputTooLong e closing = record {
-    quit = λ all q some. absurd (quit_or_none heard.items heard.whole items all.0 q e.0.0 e.1);
+    quit = λ all q some. absurd (quit_or_none is_last heard.items heard.whole items all.0 q e.0.0 e.1);
     input_end = λ rose cut none all some. absurd (rose_and_same ends ends' rose closing);
     cut = λ rose cut some. absurd (rose_and_same ends ends' rose closing);
     too_long = λ full none all some. refl;

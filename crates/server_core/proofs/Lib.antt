@@ -1,8 +1,8 @@
 pub mod Writing
-pub mod Items
 pub mod GoingOn
 pub mod Settled
 pub mod Endings
+pub mod Conversed
 pub mod Served
 pub mod Exact
 pub mod Alone

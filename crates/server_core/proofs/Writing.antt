@@ -8,7 +8,7 @@ use Rattle.ports.specs.declared.stream.Written.{Written}
 use Rattle.ports.specs.declared.stream.Written.TheVariants.{Whole, Failed}
 use Rattle.server_core.specs.declared.flow.Flow.{Flow}
 use Rattle.server_core.specs.declared.flow.Flow.TheVariants as Flows
-use Rattle.server_core.specs.Progress.{Writes, IsPut, IsSettled}
+use Rattle.server_core.specs.Conversing.{Writes, IsPut, IsSettled}
 
 -- a write that failed left some bytes out
 pub Writes-part : (held text : List ℕ) (n : ℕ) (a b : Option (List ℕ)) → n < length held → Appends a b (take n held) → (rest : List ℕ) × (0 < length rest) × Writes held text a b rest

@@ -1,32 +1,22 @@
 -- When each end comes, and what was written where nobody else was there.
-use Rattle.std.specs.Prelude.{◌≡◌, ◌⊎◌, ℕ, ◌≢◌, ◌<◌, true, false, List, ◌++◌, length}
-use Rattle.ports.specs.Counts.{RoseBy}
+use Rattle.std.specs.Prelude.{◌≡◌, ◌⊎◌, ℕ, ◌<◌, true, List, ◌++◌, length}
+use Rattle.faults.specs.Counts.{RoseBy}
 use Rattle.request_form.specs.Session.{Fixed, AllOwn}
-use Rattle.request_form.specs.Transcript.{has_quit, first_session, SaysAlone, faults_of}
+use Rattle.request_form.specs.Transcript.{is_last, has_quit, first_session, SaysAlone, faults_of}
 use Rattle.request_form.specs.Stream.{Stream, AllWellHeard}
 use Rattle.request_form.specs.declared.form.Reply.{Reply}
 use Rattle.request_form.specs.declared.form.Heard.{Heard}
 use Rattle.server_core.specs.declared.flow.End.{End}
 use Rattle.server_core.specs.declared.flow.End.TheVariants as Ends
 use Rattle.server_core.specs.Progress.{Point}
-use Rattle.server_core.specs.Served.{AnswersAll, CameToEnd, Input, Served}
-
--- that end, unless no memory was found
-abbrev pub IsEnd : End → End → Type 0
-IsEnd end other = (other ≢ Ends.NoMemory) → other ≡ end
-
--- each end comes in each case that it stands for, unless no memory was found
-pub record EndsExactly (heard : Stream) (taken limit : ℕ) (items : List Heard) (rest : List ℕ) (ends ends' : ℕ) (end : End) : Type 0 where
-  pub quit : AnswersAll heard.items items rest → has_quit heard.items ≡ true → IsEnd Ends.Quit end
-  pub input_end : ends < ends' → heard.cut ≡ false → has_quit heard.items ≡ false → AnswersAll heard.items items rest → IsEnd Ends.InputEnd end
-  pub cut : ends < ends' → heard.cut ≡ true → IsEnd Ends.Cut end
-  pub too_long : taken ≡ limit → has_quit heard.whole ≡ false → AnswersAll heard.whole items rest → IsEnd Ends.InputTooLong end
+use Rattle.server_core.specs.Conversed.{EndsExactly}
+use Rattle.server_core.specs.Served.{CameToEnd, Input, Served}
 
 -- A stream that was served ended exactly as the bytes taken, the replies written and the count of ends say.
 abbrev pub ServedExactly : Type 0
 ServedExactly = (said : Reply → List ℕ) (old : Point) (reads : List ℕ → Stream) (before after : Input) (limit : ℕ) (new : Point) (end : End)
     → (served : Served said old reads before after limit new end)
-    → EndsExactly (reads served.taken) (length served.taken) limit served.items served.rest before.ends after.ends end
+    → EndsExactly is_last (reads served.taken) (length served.taken) limit served.items served.rest before.ends after.ends end
 
 -- The text is what is said of a transcript alone, whose replies tell of no more faults than a count rose by, where no wrong item is a fault of the outside.
 pub record SaysWithin (said : Reply → List ℕ) (fixed : Fixed) (heard : List Heard) (before after : ℕ) (text : List ℕ) : Type 0 where

@@ -1,9 +1,9 @@
 // Replies that are gathered before they are written.
 ghost use Rattle.std.specs.Prelude.{◌≡◌, ◌<◌, ◌+◌, ◌++◌, ℕ, List, [], length, true, IfOk, Option};
 ghost use Rattle.std.specs.Io.KnownBytes.{Appends};
-ghost use Rattle.ports.specs.Counts.{RoseBy};
+ghost use Rattle.faults.specs.Counts.{RoseBy};
 ghost use Rattle.ports.specs.Stream.{appended_bytes, LeavesOut, write_fault_count};
-ghost use Rattle.server_core.specs.Progress.{IsPut, IsSettled, flow_write_faults};
+ghost use Rattle.server_core.specs.Conversing.{IsPut, IsSettled, flow_write_faults};
 
 use crate::flow::Flow;
 use ports::stream::{Sink, Written};

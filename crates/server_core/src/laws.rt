@@ -1,7 +1,9 @@
 //! Laws of a stream that was served.
 
+ghost use Rattle.server_core.specs.Conversed.{ConversedExactly};
 ghost use Rattle.server_core.specs.Laws.{ServedExactly, ServedAlone};
 
+use crate::conversation::Conversation;
 use request_form::laws::transcripts_hold;
 
 /// A stream that was served ended exactly as the bytes taken, the replies written and the count of ends say. And where
@@ -13,3 +15,8 @@ pub fn endings_hold()
 {
     transcripts_hold();
 }
+
+/// A conversation ended exactly as the bytes taken, the replies written and the count of ends say.
+pub fn conversations_end_exactly<C: Conversation>()
+    ensures { ConversedExactly C.talk }
+{}

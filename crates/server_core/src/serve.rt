@@ -1,7 +1,9 @@
+use crate::conversation::Conversation;
 use crate::flow::{End, Flow};
 use crate::gather::Gathered;
+use item_stream::Ending;
 use ports::stream::{Sink, Source, Taken};
-use request_form::{Dialect, Ending, Heard, NoMemory, Reply, Request, Service};
+use request_form::{NoMemory, Said};
 use std::alloc::Global;
 use std::sync::Wait;
 use std::thread::Threads;
@@ -11,47 +13,15 @@ const PIECE: usize = 65536;
 
 ghost use Rattle.std.specs.Prelude.{◌≡◌, ℕ, ◌+◌, ◌<◌, ◌≤◌, List, [], ◌++◌, IfOk, length, take, true, false};
 ghost use Rattle.std.specs.Io.KnownBytes.{Appends, Consumes};
-ghost use Rattle.ports.specs.Counts.{RoseBy};
+ghost use Rattle.faults.specs.Counts.{RoseBy};
 ghost use Rattle.ports.specs.Stream.{taken_bytes, IsWithin, EndsAtEnd, CountsEnd, read_fault_count};
-ghost use Rattle.blob_model.specs.History.{AllOther};
-ghost use Rattle.request_form.specs.Replies.{fault_count};
-ghost use Rattle.request_form.specs.Stream.{IsWellHeard};
-ghost use Rattle.request_form.specs.Transcript.{is_quit, is_last, ItemReply};
-ghost use Rattle.server_core.specs.Progress.{IsAnswered, IsDrained, IsPut, flow_write_faults};
-ghost use Rattle.server_core.specs.Served.{Served, Finished, end_read_faults, end_write_faults, end_ends};
+ghost use Rattle.server_core.specs.Conversing.{IsAnswered, IsDrained, IsPut, flow_write_faults};
+ghost use Rattle.server_core.specs.Conversed.{Conversed, Finished, end_read_faults, end_write_faults, end_ends};
 
-fn is_quit_request(request: &Request) -> bool
-    ensures { result ≡ is_quit request.now }
-{
-    matches!(request, Request::Quit)
-}
-
-// The reply to one item, and whether it is the last.
-fn reply_to<R: Wait + Threads + Sync, V: Service>(
-    rt: &R,
-    service: &mut V,
-    heard: Heard,
-) -> (Reply, bool)
-    requires { IsWellHeard heard }
-    ensures answer { ItemReply AllOther (V.session service.old) heard result.0 (V.session service.new) }
-    ensures faults { RoseBy (fault_count result.0) (V.faults service.old) (V.faults service.new) }
-    ensures kept { V.kept service.new ≡ V.kept service.old }
-    ensures last { result.1 ≡ is_last heard }
-{
-    match heard {
-        Heard::Asked(request) => {
-            if is_quit_request(&request) {
-                return (Reply::Bye, true);
-            }
-            (service.answer(rt, request), false)
-        }
-        Heard::Wrong(fault) => (Reply::Refused(fault), false),
-    }
-}
-
-// Says one reply, and writes it or holds it back.
-fn put<T: Dialect, I: Sink>(dialect: &T, gathered: &mut Gathered, io: &mut I, reply: Reply) -> Flow
-    ensures put { IsPut gathered.old.bytes.items (T.said reply) (I.written io.old) gathered.new.bytes.items (I.written io.new) result }
+// Writes a reply that was said, or holds it back.
+fn put<I: Sink>(said: Result<Said, NoMemory>, gathered: &mut Gathered, io: &mut I) -> Flow
+    ensures put { (text : List ℕ) → IfOk said (λ parts. parts.head ++ parts.body ≡ text)
+        → IsPut gathered.old.bytes.items text (I.written io.old) gathered.new.bytes.items (I.written io.new) result }
     ensures given { I.given io.new ≡ I.given io.old }
     ensures left { I.left io.new ≡ I.left io.old }
     ensures read_faults { I.read_faults io.new ≡ I.read_faults io.old }
@@ -59,37 +29,38 @@ fn put<T: Dialect, I: Sink>(dialect: &T, gathered: &mut Gathered, io: &mut I, re
     ensures objects { I.objects io.new ≡ I.objects io.old }
     ensures write_faults { RoseBy (flow_write_faults result) (I.write_faults io.old) (I.write_faults io.new) }
 {
-    match dialect.say_in_parts(reply) {
+    match said {
         Err(NoMemory) => Flow::NoMemory,
         Ok(parts) => gathered.put_reply(io, parts.head.as_slice(), parts.body.as_slice()),
     }
 }
 
 // Answers one item. The reply is written, or held back.
-fn answer_one<R: Wait + Threads + Sync, V: Service, T: Dialect, I: Source + Sink>(
+fn answer_one<R: Wait + Threads + Sync, C: Conversation, I: Source + Sink>(
     rt: &R,
-    service: &mut V,
-    dialect: &T,
+    talk: &mut C,
     gathered: &mut Gathered,
     io: &mut I,
-    heard: Heard,
+    heard: C::Item,
 ) -> Flow
-    requires { IsWellHeard heard }
-    ensures answered { IsAnswered T.said gathered.old.bytes.items
-        (record { session = V.session service.old; faults = V.faults service.old; written = I.written io.old })
+    requires { C.talk.IsWell heard }
+    ensures answered { IsAnswered C.talk gathered.old.bytes.items
+        (record { session = C.session talk.old; faults = C.faults talk.old; written = I.written io.old })
         heard gathered.new.bytes.items
-        (record { session = V.session service.new; faults = V.faults service.new; written = I.written io.new })
+        (record { session = C.session talk.new; faults = C.faults talk.new; written = I.written io.new })
         result }
+    ensures reads { C.reads talk.new ≡ C.reads talk.old }
     ensures given { I.given io.new ≡ I.given io.old }
     ensures left { I.left io.new ≡ I.left io.old }
     ensures read_faults { I.read_faults io.new ≡ I.read_faults io.old }
     ensures ends { I.ends io.new ≡ I.ends io.old }
     ensures objects { I.objects io.new ≡ I.objects io.old }
-    ensures kept { V.kept service.new ≡ V.kept service.old }
+    ensures kept { C.kept talk.new ≡ C.kept talk.old }
     ensures write_faults { RoseBy (flow_write_faults result) (I.write_faults io.old) (I.write_faults io.new) }
 {
-    let (reply, last) = reply_to(rt, service, heard);
-    match put(dialect, gathered, io, reply) {
+    let last = C::is_last(&heard);
+    let said = talk.answer(rt, heard);
+    match put(said, gathered, io) {
         Flow::Goes => {
             if last {
                 return Flow::Quits;
@@ -103,33 +74,32 @@ fn answer_one<R: Wait + Threads + Sync, V: Service, T: Dialect, I: Source + Sink
 }
 
 // Answers each whole item that there is. Some replies may be held back in the end.
-fn drain<R: Wait + Threads + Sync, V: Service, T: Dialect, I: Source + Sink>(
+fn drain<R: Wait + Threads + Sync, C: Conversation, I: Source + Sink>(
     rt: &R,
-    service: &mut V,
-    dialect: &mut T,
+    talk: &mut C,
     gathered: &mut Gathered,
     io: &mut I,
 ) -> Flow
     requires { gathered.old.bytes.items ≡ [] }
-    ensures drained { IsDrained T.said
-        (record { session = V.session service.old; faults = V.faults service.old; written = I.written io.old })
-        (T.reads dialect.old) gathered.new.bytes.items
-        (record { session = V.session service.new; faults = V.faults service.new; written = I.written io.new })
-        (T.reads dialect.new)
+    ensures drained { IsDrained C.talk
+        (record { session = C.session talk.old; faults = C.faults talk.old; written = I.written io.old })
+        (C.reads talk.old) gathered.new.bytes.items
+        (record { session = C.session talk.new; faults = C.faults talk.new; written = I.written io.new })
+        (C.reads talk.new)
         result }
     ensures given { I.given io.new ≡ I.given io.old }
     ensures left { I.left io.new ≡ I.left io.old }
     ensures read_faults { I.read_faults io.new ≡ I.read_faults io.old }
     ensures ends { I.ends io.new ≡ I.ends io.old }
     ensures objects { I.objects io.new ≡ I.objects io.old }
-    ensures kept { V.kept service.new ≡ V.kept service.old }
+    ensures kept { C.kept talk.new ≡ C.kept talk.old }
     ensures write_faults { RoseBy (flow_write_faults result) (I.write_faults io.old) (I.write_faults io.new) }
 {
     'items: loop {
-        match dialect.next() {
+        match talk.next() {
             Err(NoMemory) => return Flow::NoMemory,
             Ok(None) => return Flow::Goes,
-            Ok(Some(heard)) => match answer_one(rt, service, dialect, gathered, io, heard) {
+            Ok(Some(heard)) => match answer_one(rt, talk, gathered, io, heard) {
                 Flow::Goes => {}
                 Flow::Quits => return Flow::Quits,
                 Flow::WriteFault => return Flow::WriteFault,
@@ -186,61 +156,59 @@ fn first_of(buf: &Vec<u8>, n: usize) -> &[u8]
 }
 
 // Answers one item, and writes the reply.
-fn answer_last<R: Wait + Threads + Sync, V: Service, T: Dialect, I: Source + Sink>(
+fn answer_last<R: Wait + Threads + Sync, C: Conversation, I: Source + Sink>(
     rt: &R,
-    service: &mut V,
-    dialect: &T,
+    talk: &mut C,
     gathered: &mut Gathered,
     io: &mut I,
-    heard: Heard,
+    heard: C::Item,
 ) -> Flow
-    requires heard { IsWellHeard heard }
+    requires heard { C.talk.IsWell heard }
     requires settled { gathered.old.bytes.items ≡ [] }
-    ensures answered { IsAnswered T.said []
-        (record { session = V.session service.old; faults = V.faults service.old; written = I.written io.old })
+    ensures answered { IsAnswered C.talk []
+        (record { session = C.session talk.old; faults = C.faults talk.old; written = I.written io.old })
         heard []
-        (record { session = V.session service.new; faults = V.faults service.new; written = I.written io.new })
+        (record { session = C.session talk.new; faults = C.faults talk.new; written = I.written io.new })
         result }
     ensures given { I.given io.new ≡ I.given io.old }
     ensures left { I.left io.new ≡ I.left io.old }
     ensures read_faults { I.read_faults io.new ≡ I.read_faults io.old }
     ensures ends { I.ends io.new ≡ I.ends io.old }
     ensures objects { I.objects io.new ≡ I.objects io.old }
-    ensures kept { V.kept service.new ≡ V.kept service.old }
+    ensures kept { C.kept talk.new ≡ C.kept talk.old }
     ensures write_faults { RoseBy (flow_write_faults result) (I.write_faults io.old) (I.write_faults io.new) }
 {
-    let flow = answer_one(rt, service, dialect, gathered, io, heard);
+    let flow = answer_one(rt, talk, gathered, io, heard);
     gathered.settle(io, flow)
 }
 
 // Answers what the end of the stream leaves.
-fn finish<R: Wait + Threads + Sync, V: Service, T: Dialect, I: Source + Sink>(
+fn finish<R: Wait + Threads + Sync, C: Conversation, I: Source + Sink>(
     rt: &R,
-    service: &mut V,
-    dialect: &mut T,
+    talk: &mut C,
     gathered: &mut Gathered,
     io: &mut I,
 ) -> End
-    requires fed { (T.reads dialect.old []).whole ≡ [] }
+    requires fed { (C.reads talk.old []).whole ≡ [] }
     requires settled { gathered.old.bytes.items ≡ [] }
-    ensures finished { Finished T.said
-        (record { session = V.session service.old; faults = V.faults service.old; written = I.written io.old })
-        (T.reads dialect.old [])
-        (record { session = V.session service.new; faults = V.faults service.new; written = I.written io.new })
+    ensures finished { Finished C.talk
+        (record { session = C.session talk.old; faults = C.faults talk.old; written = I.written io.old })
+        (C.reads talk.old [])
+        (record { session = C.session talk.new; faults = C.faults talk.new; written = I.written io.new })
         result }
     ensures given { I.given io.new ≡ I.given io.old }
     ensures left { I.left io.new ≡ I.left io.old }
     ensures read_faults { I.read_faults io.new ≡ I.read_faults io.old }
     ensures ends { I.ends io.new ≡ I.ends io.old }
     ensures objects { I.objects io.new ≡ I.objects io.old }
-    ensures kept { V.kept service.new ≡ V.kept service.old }
+    ensures kept { C.kept talk.new ≡ C.kept talk.old }
     ensures write_faults { RoseBy (end_write_faults result) (I.write_faults io.old) (I.write_faults io.new) }
 {
-    match dialect.end() {
+    match talk.end() {
         Err(NoMemory) => End::NoMemory,
         Ok(Ending::Clean) => End::InputEnd,
         Ok(Ending::Cut) => End::Cut,
-        Ok(Ending::Last(heard)) => match answer_last(rt, service, dialect, gathered, io, heard) {
+        Ok(Ending::Last(heard)) => match answer_last(rt, talk, gathered, io, heard) {
             Flow::Goes => End::InputEnd,
             Flow::Quits => End::Quit,
             Flow::WriteFault => End::WriteFault,
@@ -270,20 +238,19 @@ fn buffer(alloc: Global, n: usize) -> Result<Vec<u8>, NoMemory>
 }
 
 // Answers what one more piece makes whole, and writes the replies.
-fn answer_piece<R: Wait + Threads + Sync, V: Service, T: Dialect, I: Source + Sink>(
+fn answer_piece<R: Wait + Threads + Sync, C: Conversation, I: Source + Sink>(
     rt: &R,
-    service: &mut V,
-    dialect: &mut T,
+    talk: &mut C,
     gathered: &mut Gathered,
     io: &mut I,
     piece: &[u8],
 ) -> Flow
     requires { gathered.old.bytes.items ≡ [] }
-    ensures drained { IsDrained T.said
-        (record { session = V.session service.old; faults = V.faults service.old; written = I.written io.old })
-        (λ more. T.reads dialect.old (piece.now ++ more)) []
-        (record { session = V.session service.new; faults = V.faults service.new; written = I.written io.new })
-        (T.reads dialect.new)
+    ensures drained { IsDrained C.talk
+        (record { session = C.session talk.old; faults = C.faults talk.old; written = I.written io.old })
+        (λ more. C.reads talk.old (piece.now ++ more)) []
+        (record { session = C.session talk.new; faults = C.faults talk.new; written = I.written io.new })
+        (C.reads talk.new)
         result }
     ensures settled { flow_write_faults result ≡ 0 → gathered.new.bytes.items ≡ [] }
     ensures given { I.given io.new ≡ I.given io.old }
@@ -291,46 +258,46 @@ fn answer_piece<R: Wait + Threads + Sync, V: Service, T: Dialect, I: Source + Si
     ensures read_faults { I.read_faults io.new ≡ I.read_faults io.old }
     ensures ends { I.ends io.new ≡ I.ends io.old }
     ensures objects { I.objects io.new ≡ I.objects io.old }
-    ensures kept { V.kept service.new ≡ V.kept service.old }
+    ensures kept { C.kept talk.new ≡ C.kept talk.old }
     ensures write_faults { RoseBy (flow_write_faults result) (I.write_faults io.old) (I.write_faults io.new) }
 {
-    match dialect.feed(piece) {
+    match talk.feed(piece) {
         Err(NoMemory) => Flow::NoMemory,
         Ok(()) => {
-            let flow = drain(rt, service, dialect, gathered, io);
+            let flow = drain(rt, talk, gathered, io);
             gathered.settle(io, flow)
         }
     }
 }
 
-/// Answers the requests of one stream until it ends, takes at most `limit` bytes, and says how it ended.
+/// Answers the items of one stream until it ends, takes at most `limit` bytes, and says how it ended.
 ///
 /// A read takes up to 65,536 bytes. Replies are gathered: they are written whenever 131,072 bytes come together, and
 /// at the latest before the next read and before it answers. A longer one is written by itself, and the body of a reply from
-/// where it lies. After want of memory the dialect isn't used again.
-pub fn serve_stream<R: Wait + Threads + Sync, V: Service, T: Dialect, I: Source + Sink>(
+/// where it lies. After want of memory the conversation isn't used
+/// again.
+pub fn converse<R: Wait + Threads + Sync, C: Conversation, I: Source + Sink>(
     rt: &R,
     alloc: Global,
-    service: &mut V,
-    dialect: &mut T,
+    talk: &mut C,
     io: &mut I,
     limit: u64,
 ) -> End
     requires some { 1 ≤ limit }
-    requires fresh { (T.reads dialect.old []).whole ≡ [] }
-    ensures served { Served T.said
-        (record { session = V.session service.old; faults = V.faults service.old; written = I.written io.old })
-        (T.reads dialect.old)
+    requires fresh { (C.reads talk.old []).whole ≡ [] }
+    ensures conversed { Conversed C.talk
+        (record { session = C.session talk.old; faults = C.faults talk.old; written = I.written io.old })
+        (C.reads talk.old)
         (record { given = I.given io.old; left = I.left io.old; ends = I.ends io.old })
         (record { given = I.given io.new; left = I.left io.new; ends = I.ends io.new })
         limit
-        (record { session = V.session service.new; faults = V.faults service.new; written = I.written io.new })
+        (record { session = C.session talk.new; faults = C.faults talk.new; written = I.written io.new })
         result }
     ensures read_faults { RoseBy (end_read_faults result) (I.read_faults io.old) (I.read_faults io.new) }
     ensures write_faults { RoseBy (end_write_faults result) (I.write_faults io.old) (I.write_faults io.new) }
     ensures ends { RoseBy (end_ends result) (I.ends io.old) (I.ends io.new) }
     ensures objects { I.objects io.new ≡ I.objects io.old }
-    ensures kept { V.kept service.new ≡ V.kept service.old }
+    ensures kept { C.kept talk.new ≡ C.kept talk.old }
 {
     let mut buf = match buffer(alloc, PIECE) {
         Ok(buf) => buf,
@@ -346,11 +313,11 @@ pub fn serve_stream<R: Wait + Threads + Sync, V: Service, T: Dialect, I: Source 
         prove!(gathered.is_empty());
         match take_piece(io, &mut buf, room) {
             Taken::Failed => return End::ReadFault,
-            Taken::End => return finish(rt, service, dialect, &mut gathered, io),
+            Taken::End => return finish(rt, talk, &mut gathered, io),
             Taken::Got(n) => {
                 count += n as u64;
                 let piece = first_of(&buf, n);
-                match answer_piece(rt, service, dialect, &mut gathered, io, piece) {
+                match answer_piece(rt, talk, &mut gathered, io, piece) {
                     Flow::Goes => {}
                     Flow::Quits => return End::Quit,
                     Flow::WriteFault => return End::WriteFault,

@@ -6,6 +6,8 @@ mod endings;
 #[cfg(test)]
 mod gathering;
 #[cfg(test)]
+mod lengths;
+#[cfg(test)]
 mod noted;
 #[cfg(test)]
 mod sizes;

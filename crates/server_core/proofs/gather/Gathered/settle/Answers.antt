@@ -1,5 +1,5 @@
 use Rattle.std.proofs.Common.{[], refl, sym, subst}
-use Rattle.server_core.specs.Progress.{IsSettled}
+use Rattle.server_core.specs.Conversing.{IsSettled}
 use Rattle.server_core.specs.declared.flow.Flow.{Flow}
 use Rattle.server_core.specs.declared.flow.Flow.TheVariants as Flows
 use Rattle.server_core.proofs.Writing.{Writes-part, flushed, settled_fault}
