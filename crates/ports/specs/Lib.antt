@@ -1,5 +1,5 @@
-pub mod Counts
 pub mod Stream
 pub mod Memory
 pub mod Listener
 pub mod Files
+pub mod Accepting

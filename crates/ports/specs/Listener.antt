@@ -1,8 +1,7 @@
 -- What a listener's calls do, by their answers.
-use Rattle.std.specs.Prelude.{◌≡◌, ℕ, Bool, true, false, List, [], ◌∷◌}
+use Rattle.std.specs.Prelude.{◌≡◌, ℕ, Bool, true, false, List, [], ◌∷◌, Option, None, Some, IfSome}
 use Rattle.ports.specs.declared.listener.Accepted.{Accepted}
 use Rattle.ports.specs.declared.listener.Accepted.TheVariants as Answers
-use Rattle.ports.specs.Memory.{fails_next}
 
 -- the faults that the answer of `listen` tells of
 abbrev pub refusals : Bool → ℕ
@@ -13,6 +12,16 @@ refusals false = 1
 abbrev pub OnListening : Bool → Bool → Bool → Type 0
 OnListening true before after = after ≡ true
 OnListening false before after = after ≡ before
+
+-- the address that is listened at, where one is
+abbrev pub listened_at : Bool → List ℕ → Option (List ℕ)
+listened_at true address = Some address
+listened_at false address = None
+
+-- it listens at that address where `listen` answered true, as far as that is known, and else where it listened before
+abbrev pub OnAddress : Bool → List ℕ → Option (List ℕ) → Option (List ℕ) → Type 0
+OnAddress true address before after = IfSome after (λ here. here ≡ address)
+OnAddress false address before after = after ≡ before
 
 module _ {P : Type 0} where
   -- the faults that an accept tells of

@@ -1,7 +1,7 @@
 -- What a read and a write do to a stream, by their answers.
 use Rattle.std.specs.Prelude.{◌≡◌, ℕ, ◌<◌, ◌≤◌, List, [], length, take, drop, Option, ⊤}
 use Rattle.std.specs.Io.KnownBytes.{IsAtEnd}
-use Rattle.ports.specs.Counts.{RoseBy}
+use Rattle.faults.specs.Counts.{RoseBy}
 use Rattle.ports.specs.declared.stream.Taken.{Taken}
 use Rattle.ports.specs.declared.stream.Taken.TheVariants as Takens
 use Rattle.ports.specs.declared.stream.Written.{Written}

@@ -19,7 +19,7 @@ pub enum FileText {
 /// having risen. What the files have is known only where the object tells it.
 pub trait Files {
     ghost use Rattle.std.specs.Prelude.{◌≡◌, ℕ, List};
-    ghost use Rattle.ports.specs.Counts.{RoseBy};
+    ghost use Rattle.faults.specs.Counts.{RoseBy};
     ghost use Rattle.ports.specs.Files.{Files, file_faults, IsWithinLimit, Reads};
 
     /// The count of faults.

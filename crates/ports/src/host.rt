@@ -1,10 +1,10 @@
 ghost use Rattle.std.specs.Prelude.{◌≡◌, IfSome};
-ghost use Rattle.ports.specs.Counts.{RoseBy, count_after};
+ghost use Rattle.faults.specs.Counts.{RoseBy, count_after};
 ghost use Rattle.ports.specs.Files.{file_faults, IsWithinLimit, ReadsStart};
 
-use crate::count::count_up;
 use crate::files::{FileText, Files};
 use blob_model::Bytes;
+use faults::count_up;
 use std::alloc::Global;
 use std::fs::File;
 use std::io::{ErrorKind, Read};

@@ -4,7 +4,7 @@
 
 ghost use Rattle.std.specs.Prelude.{◌≡◌};
 
-mod count;
+mod accept;
 pub mod files;
 pub mod gate;
 pub mod host;

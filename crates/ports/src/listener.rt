@@ -17,9 +17,9 @@ pub enum Accepted<P> {
 /// Its count of faults never falls, and stands still at the greatest u64, where every clause reads it as
 /// having risen.
 pub trait Listener {
-    ghost use Rattle.std.specs.Prelude.{◌≡◌, ℕ, Bool, true};
-    ghost use Rattle.ports.specs.Counts.{RoseBy, count_after};
-    ghost use Rattle.ports.specs.Listener.{refusals, accept_faults, peers_in, done_after, OnListening};
+    ghost use Rattle.std.specs.Prelude.{◌≡◌, ℕ, Bool, List, Option, true};
+    ghost use Rattle.faults.specs.Counts.{RoseBy, count_after};
+    ghost use Rattle.ports.specs.Listener.{refusals, accept_faults, peers_in, done_after, OnListening, OnAddress};
 
     /// What it hands out.
     type Peer: Source + Sink;
@@ -29,6 +29,9 @@ pub trait Listener {
 
     /// Whether it listens.
     ghost listens: { Self → Bool };
+
+    /// The address that it listens at, where that is known.
+    ghost listens_at: { Self → Option (List ℕ) };
 
     /// How many peers it has handed out, up to the greatest u64.
     ghost handed: { Self → ℕ };
@@ -40,6 +43,7 @@ pub trait Listener {
     fn listen(&mut self, address: &str) -> bool
         ensures faults { RoseBy (refusals result) (Self.faults self.old) (Self.faults self.new) }
         ensures listens { OnListening result (Self.listens self.old) (Self.listens self.new) }
+        ensures here { OnAddress result address.now (Self.listens_at self.old) (Self.listens_at self.new) }
         ensures handed { Self.handed self.new ≡ Self.handed self.old }
         ensures done { Self.is_done self.new ≡ Self.is_done self.old };
 
@@ -48,6 +52,7 @@ pub trait Listener {
         requires { Self.listens self.old ≡ true }
         ensures faults { RoseBy (accept_faults result) (Self.faults self.old) (Self.faults self.new) }
         ensures listens { Self.listens self.new ≡ true }
+        ensures here { Self.listens_at self.new ≡ Self.listens_at self.old }
         ensures handed { Self.handed self.new ≡ count_after (peers_in result) (Self.handed self.old) }
         ensures done { Self.is_done self.new ≡ done_after result (Self.is_done self.old) };
 }

@@ -1,11 +1,11 @@
 ghost use Rattle.std.specs.Prelude.{◌≡◌, ℕ, List, Some, None};
 ghost use Rattle.std.specs.BTreeMap.{get_by_text};
-ghost use Rattle.ports.specs.Counts.{RoseBy, count_after};
+ghost use Rattle.faults.specs.Counts.{RoseBy, count_after};
 ghost use Rattle.ports.specs.Files.{file_faults, IsWithinLimit, Reads};
 
-use crate::count::count_up;
 use crate::files::{FileText, Files};
 use blob_model::Bytes;
+use faults::count_up;
 use std::alloc::Global;
 use std::collections::BTreeMap;
 

@@ -1,10 +1,10 @@
 ghost use Rattle.std.specs.Prelude.{◌≡◌, ℕ, ◌↔◌, true, false, IsTrue, [], drop, string_bytes};
-ghost use Rattle.ports.specs.Counts.{RoseBy, count_after};
+ghost use Rattle.faults.specs.Counts.{RoseBy, count_after};
 
-use crate::count::count_up;
 use crate::listener::{Accepted, Listener};
 use crate::plan::Plan;
 use crate::stream::{Sink, Source};
+use faults::count_up;
 use std::collections::VecDeque;
 use std::marker::Model;
 use std::sync::Wait;
@@ -60,13 +60,15 @@ impl<P> MemListener<P> {
 
 impl<P: Source + Sink> Listener for MemListener<P> {
     ghost use Rattle.ports.specs.Memory.{fails_next};
-    ghost use Rattle.ports.specs.Listener.{refusals, accept_faults, peers_in, done_after, OnListening, accept_answer};
+    ghost use Rattle.ports.specs.Listener.{refusals, accept_faults, peers_in, done_after, OnListening, OnAddress, listened_at, accept_answer};
 
     type Peer = P;
 
     ghost faults = { λ l. l.faults };
 
     ghost listens = { λ l. l.listens };
+
+    ghost listens_at = { λ l. listened_at l.listens l.address };
 
     ghost handed = { λ l. l.handed };
 
@@ -77,6 +79,7 @@ impl<P: Source + Sink> Listener for MemListener<P> {
         // What each listener ensures.
         ensures faults { RoseBy (refusals result) self.old.faults self.new.faults }
         ensures listens { OnListening result self.old.listens self.new.listens }
+        ensures here { OnAddress result address.now (listened_at self.old.listens self.old.address) (listened_at self.new.listens self.new.address) }
         ensures handed { self.new.handed ≡ self.old.handed }
         ensures done { self.new.done ≡ self.old.done }
 
@@ -102,6 +105,7 @@ impl<P: Source + Sink> Listener for MemListener<P> {
         // What each listener ensures.
         ensures faults { RoseBy (accept_faults result) self.old.faults self.new.faults }
         ensures listens { self.new.listens ≡ true }
+        ensures here { listened_at self.new.listens self.new.address ≡ listened_at self.old.listens self.old.address }
         ensures handed { self.new.handed ≡ count_after (peers_in result) self.old.handed }
         ensures done { self.new.done ≡ done_after result self.old.done }
 

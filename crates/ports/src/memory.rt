@@ -1,10 +1,9 @@
 ghost use Rattle.std.specs.Prelude.{◌≡◌, ℕ, ◌+◌, ◌-◌, ◌<◌, ◌≤◌, List, [], ◌++◌, length, take, drop, min, IfOk};
-ghost use Rattle.ports.specs.Counts.{count_after, RoseBy};
+ghost use Rattle.faults.specs.Counts.{count_after, RoseBy};
 
-use crate::count::count_up;
 use crate::plan::Plan;
 use crate::stream::{Ends, Sink, Source, Taken, Written};
-use no_memory::NoMemory;
+use faults::{NoMemory, count_up};
 use std::alloc::Global;
 use std::marker::Model;
 
@@ -126,11 +125,11 @@ impl Source for MemSource {
         ensures read_faults { RoseBy (read_fault_count result) self.old.faults self.new.faults }
         ensures ends { CountsEnd result self.old.ends self.new.ends }
 
-        // Which answer it is, and that only a failing call counts a fault.
+        // Which answer it is, and that a failing call alone counts a fault, and one.
         ensures answer { result ≡ read_answer (fails_next self.old.plan) self.old.left self.old.piece (length buf.old) }
         ensures plan { self.new.plan ≡ drop 1 self.old.plan }
         ensures same_pieces { self.new.piece ≡ self.old.piece }
-        ensures calm { fails_next self.old.plan ≡ false → self.new.faults ≡ self.old.faults }
+        ensures count { self.new.faults ≡ count_after (read_fault_count result) self.old.faults }
     {
         if self.plan.fails_now() {
             self.faults = count_up(self.faults);
@@ -233,10 +232,10 @@ impl Sink for MemSink {
         ensures written { Appends (Some self.old.bytes) (Some self.new.bytes) (appended_bytes bytes.now result) }
         ensures write_faults { RoseBy (write_fault_count result) self.old.faults self.new.faults }
 
-        // Which answer it is, and that only missing room counts a fault.
+        // Which answer it is, and that missing room alone counts a fault, and one.
         ensures answer { result ≡ write_answer (length bytes.now) (self.old.limit - length self.old.bytes) }
         ensures limit { self.new.limit ≡ self.old.limit }
-        ensures calm { length bytes.now ≤ self.old.limit - length self.old.bytes → self.new.faults ≡ self.old.faults }
+        ensures count { self.new.faults ≡ count_after (write_fault_count result) self.old.faults }
     {
         let n = self.keep(bytes);
         if n == bytes.len() {

@@ -1,10 +1,10 @@
 ghost use Rattle.std.specs.Prelude.{◌≡◌, ◌<◌, ◌≤◌, length};
 ghost use Rattle.std.specs.Io.KnownBytes.{Consumes};
-ghost use Rattle.ports.specs.Counts.{count_after, RoseBy};
+ghost use Rattle.faults.specs.Counts.{count_after, RoseBy};
 ghost use Rattle.ports.specs.Stream.{taken_bytes, IsPiece, EndsAtEnd, CountsEnd, IsWithin, read_fault_count};
 
-use crate::count::count_up;
 use crate::stream::{Ends, Source, Taken};
+use faults::count_up;
 use std::io::{ErrorKind, Read};
 
 /// The bytes that are asked for at once.

@@ -53,7 +53,7 @@ pub enum Written {
 pub trait Source: Ends {
     ghost use Rattle.std.specs.Prelude.{◌≡◌, ◌<◌, length};
     ghost use Rattle.std.specs.Io.KnownBytes.{Appends, Consumes};
-    ghost use Rattle.ports.specs.Counts.{RoseBy};
+    ghost use Rattle.faults.specs.Counts.{RoseBy};
     ghost use Rattle.ports.specs.Stream.{taken_bytes, IsPiece, EndsAtEnd, CountsEnd, read_fault_count};
 
     /// Takes the next bytes, as many as there are at once, into the front of `buf`, which isn't empty.
@@ -80,7 +80,7 @@ pub trait Source: Ends {
 pub trait Sink: Ends {
     ghost use Rattle.std.specs.Prelude.{◌≡◌};
     ghost use Rattle.std.specs.Io.KnownBytes.{Appends};
-    ghost use Rattle.ports.specs.Counts.{RoseBy};
+    ghost use Rattle.faults.specs.Counts.{RoseBy};
     ghost use Rattle.ports.specs.Stream.{appended_bytes, LeavesOut, write_fault_count};
 
     /// Appends `bytes`, all of them unless the outside fails. No bytes at all are always whole.

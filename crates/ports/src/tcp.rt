@@ -1,18 +1,35 @@
-ghost use Rattle.std.specs.Prelude.{◌≡◌, ◌<◌, true, false, length};
-ghost use Rattle.ports.specs.Counts.{RoseBy, count_after};
+ghost use Rattle.std.specs.Prelude.{◌≡◌, ◌*◌, ◌^◌, ◌<◌, true, false, length};
+ghost use Rattle.faults.specs.Counts.{RoseBy, count_after};
+ghost use Rattle.std.specs.Duration.{as_nanos};
+ghost use Rattle.std.specs.Io.KnownBytes.{Appends, Consumes};
 ghost use Rattle.ports.specs.Listener.{refusals, accept_faults, peers_in, done_after, OnListening};
-ghost use Rattle.ports.specs.Stream.{IsPiece, CountsEnd, LeavesOut, read_fault_count, write_fault_count};
+ghost use Rattle.ports.specs.Stream.{taken_bytes, appended_bytes, IsPiece, EndsAtEnd, CountsEnd, LeavesOut, read_fault_count, write_fault_count};
 
-use crate::count::count_up;
+use crate::accept::{Retry, is_short, retry_after};
 use crate::listener::{Accepted, Listener};
 use crate::reader::{LONG_PIECE, PIECE, read_front};
 use crate::stream::{Ends, Sink, Source, Taken, Written};
 use crate::writer::write_front;
-use std::io::{ErrorKind, Read, Write};
+use faults::count_up;
+use std::io::{Read, Write};
 use std::net::{Net, OpenListener, OpenStream, TcpListener};
 use std::sync::Wait;
+use std::thread;
+use std::time::{Clock, Duration};
 
-/// A connection as a stream. What goes through it is not known.
+/// What is known of the connection under a peer. It has no calls.
+pub trait Connection {
+    ghost use Rattle.std.specs.Prelude.{ℕ, List, Option};
+
+    /// What its reader has left.
+    ghost unread: { Self → Option (List ℕ) };
+
+    /// What its writer holds.
+    ghost held: { Self → Option (List ℕ) };
+}
+
+/// A connection as a stream. Of a socket it is not known what goes through it; of a connection that tells what it has left
+/// and what it holds, no byte is lost, doubled or changed.
 ///
 /// It reads as `ReaderSource` does and writes as `WriterSink` does: what a signal interrupted is no fault and
 /// is tried again. Where a read gave 8,192 bytes or more, the next one asks for up to 65,536 at once.
@@ -28,6 +45,8 @@ pub struct TcpPeer<S> {
 impl<S: Read + Write> TcpPeer<S> {
     /// A peer over this connection, with no fault counted.
     pub fn new(stream: S) -> TcpPeer<S>
+        ensures unread { ⟦<TcpPeer<S> as Connection>⟧.unread result ≡ S.remaining stream }
+        ensures held { ⟦<TcpPeer<S> as Connection>⟧.held result ≡ S.contents stream }
         ensures read_faults { ⟦<TcpPeer<S> as Ends>⟧.read_faults result ≡ 0 }
         ensures write_faults { ⟦<TcpPeer<S> as Ends>⟧.write_faults result ≡ 0 }
         ensures ends { ⟦<TcpPeer<S> as Ends>⟧.ends result ≡ 0 }
@@ -40,6 +59,12 @@ impl<S: Read + Write> TcpPeer<S> {
             ends: 0,
         }
     }
+}
+
+impl<S: Read + Write> Connection for TcpPeer<S> {
+    ghost unread = { λ p. S.remaining p.stream };
+
+    ghost held = { λ p. S.contents p.stream };
 }
 
 impl<S: Read + Write> Ends for TcpPeer<S> {
@@ -71,7 +96,9 @@ impl<S: Read + Write> Source for TcpPeer<S> {
         ensures ends { CountsEnd result (⟦<TcpPeer<S> as Ends>⟧.ends self.old) (⟦<TcpPeer<S> as Ends>⟧.ends self.new) }
         ensures write_faults { ⟦<TcpPeer<S> as Ends>⟧.write_faults self.new ≡ ⟦<TcpPeer<S> as Ends>⟧.write_faults self.old }
 
-        // That only a fault counts one.
+        // The bytes that it takes of the connection, and that only a fault counts one.
+        ensures unread { Consumes (⟦<TcpPeer<S> as Connection>⟧.unread self.old) (⟦<TcpPeer<S> as Connection>⟧.unread self.new) (taken_bytes buf.new result) }
+        ensures end { EndsAtEnd (⟦<TcpPeer<S> as Connection>⟧.unread self.new) result }
         ensures count { ⟦<TcpPeer<S> as Ends>⟧.read_faults self.new ≡ count_after (read_fault_count result) (⟦<TcpPeer<S> as Ends>⟧.read_faults self.old) }
     {
         let taken = if self.gives_much {
@@ -97,7 +124,8 @@ impl<S: Read + Write> Sink for TcpPeer<S> {
         ensures read_faults { ⟦<TcpPeer<S> as Ends>⟧.read_faults self.new ≡ ⟦<TcpPeer<S> as Ends>⟧.read_faults self.old }
         ensures ends { ⟦<TcpPeer<S> as Ends>⟧.ends self.new ≡ ⟦<TcpPeer<S> as Ends>⟧.ends self.old }
 
-        // That only a fault counts one.
+        // The bytes that it gives to the connection, and that only a fault counts one.
+        ensures held { Appends (⟦<TcpPeer<S> as Connection>⟧.held self.old) (⟦<TcpPeer<S> as Connection>⟧.held self.new) (appended_bytes bytes.now result) }
         ensures count { ⟦<TcpPeer<S> as Ends>⟧.write_faults self.new ≡ count_after (write_fault_count result) (⟦<TcpPeer<S> as Ends>⟧.write_faults self.old) }
     {
         let n = write_front(&mut self.stream, bytes);
@@ -109,27 +137,63 @@ impl<S: Read + Write> Sink for TcpPeer<S> {
     }
 }
 
-/// A listener over TCP. It never answers that it has no more peers.
+/// How long a connection may keep its worker waiting. A wait that is longer is a fault of that connection.
+#[derive(Clone, Copy, Debug, PartialEq, Eq)]
+pub struct Patience {
+    /// For the next bytes.
+    pub read: Duration,
+    /// For room for the next bytes.
+    pub write: Duration,
+}
+
+impl Patience {
+    /// 300 seconds for a read and 60 for a write.
+    pub fn usual() -> Patience
+        ensures read { as_nanos result.read ≡ 300 * 10 ^ 9 }
+        ensures write { as_nanos result.write ≡ 60 * 10 ^ 9 }
+    {
+        Patience {
+            read: Duration::from_secs(300),
+            write: Duration::from_secs(60),
+        }
+    }
+}
+
+/// A listener over TCP. It never answers that it has no more peers, and where it listens is not known.
 ///
-/// A wait that a signal interrupted, and a connection that was gone before it was handed out, are no
-/// faults: it waits on. What is written to a peer leaves at once.
+/// A wait that a signal interrupted, and a connection that was gone before it was handed out, are no faults: it waits on.
+/// Where the system lacks memory, files or buffers for the next connection, it tries again every 10 milliseconds. What is
+/// written to a peer leaves at once. A connection that can't be told how long it may wait is dropped as if it were gone.
 #[derive(Drop)]
-pub struct TcpPorts<N: Net> {
+pub struct TcpPorts<N: Net + Clock> {
     net: N,
+    patience: Patience,
     listener: Option<N::Listener>,
     handed: u64,
     faults: u64,
 }
 
-impl<N: Net> TcpPorts<N> {
-    /// A listener on this network, which doesn't listen yet.
+impl<N: Net + Clock> TcpPorts<N> {
+    /// A listener on this network, which doesn't listen yet, and whose connections have the usual patience.
     pub fn new(net: N) -> TcpPorts<N>
+        ensures listens { ⟦<TcpPorts<N> as Listener>⟧.listens result ≡ false }
+        ensures faults { ⟦<TcpPorts<N> as Listener>⟧.faults result ≡ 0 }
+        ensures handed { ⟦<TcpPorts<N> as Listener>⟧.handed result ≡ 0 }
+    {
+        TcpPorts::with_patience(net, Patience::usual())
+    }
+
+    /// The same with this patience, each part of which is longer than nothing.
+    pub fn with_patience(net: N, patience: Patience) -> TcpPorts<N>
+        requires read { 0 < as_nanos patience.read }
+        requires write { 0 < as_nanos patience.write }
         ensures listens { ⟦<TcpPorts<N> as Listener>⟧.listens result ≡ false }
         ensures faults { ⟦<TcpPorts<N> as Listener>⟧.faults result ≡ 0 }
         ensures handed { ⟦<TcpPorts<N> as Listener>⟧.handed result ≡ 0 }
     {
         TcpPorts {
             net,
+            patience,
             listener: None,
             handed: 0,
             faults: 0,
@@ -137,21 +201,42 @@ impl<N: Net> TcpPorts<N> {
     }
 }
 
-// The next connection, whose packets aren't kept back. None where the listener failed.
-fn next_stream<L: OpenListener>(listener: &L) -> Option<L::Stream> {
+// How long it rests where the system lacks something.
+const REST_MILLIS: u64 = 10;
+
+// Tells a connection that its packets aren't kept back, and how long it may wait. Whether it will keep to that.
+fn is_told<S: OpenStream>(stream: &S, patience: Patience) -> bool {
+    // A peer whose packets are kept back is slow, and a peer all the same.
+    let _ = stream.set_nodelay(true);
+    stream.set_read_timeout(Some(patience.read)).is_ok()
+        && stream.set_write_timeout(Some(patience.write)).is_ok()
+}
+
+// The next connection that keeps to this patience. None where the listener failed.
+fn next_stream<C: Clock, L: OpenListener>(
+    clock: &C,
+    listener: &L,
+    patience: Patience,
+) -> Option<L::Stream>
+where
+    L::Stream: OpenStream,
+{
     for _ in 0..u64::MAX {
         match listener.accept() {
-            Ok((stream, _)) => return Some(stream),
-            Err(error) => match error.kind() {
-                ErrorKind::Interrupted | ErrorKind::ConnectionAborted => {}
-                _ => return None,
+            Ok((stream, _)) if is_told(&stream, patience) => return Some(stream),
+            Ok(_) => {}
+            Err(error) => match retry_after(error.kind(), is_short(error.raw_os_error())) {
+                Retry::AtOnce => {}
+                Retry::AfterRest => thread::sleep(clock, Duration::from_millis(REST_MILLIS)),
+                Retry::Never => return None,
             },
         }
     }
     None
 }
 
-impl<N: Net> Listener for TcpPorts<N> {
+impl<N: Net + Clock> Listener for TcpPorts<N> {
+    ghost use Rattle.std.specs.Prelude.{None};
     ghost use Rattle.std.specs.Option.{is_some};
 
     type Peer = TcpPeer<N::Stream>;
@@ -159,6 +244,8 @@ impl<N: Net> Listener for TcpPorts<N> {
     ghost faults = { λ l. l.faults };
 
     ghost listens = { λ l. is_some l.listener };
+
+    ghost listens_at = { λ l. None };
 
     ghost handed = { λ l. l.handed };
 
@@ -202,10 +289,8 @@ impl<N: Net> Listener for TcpPorts<N> {
         let Some(listener) = &self.listener else {
             unreachable!()
         };
-        match next_stream(listener) {
+        match next_stream(&self.net, listener, self.patience) {
             Some(stream) => {
-                // A peer whose packets are kept back is slow, and a peer all the same.
-                let _ = stream.set_nodelay(true);
                 self.handed = count_up(self.handed);
                 Accepted::Peer(TcpPeer::new(stream))
             }

@@ -1,10 +1,10 @@
 ghost use Rattle.std.specs.Prelude.{◌≡◌, ◌<◌, ◌≤◌, length, take};
 ghost use Rattle.std.specs.Io.KnownBytes.{Appends};
-ghost use Rattle.ports.specs.Counts.{count_after, RoseBy};
+ghost use Rattle.faults.specs.Counts.{count_after, RoseBy};
 ghost use Rattle.ports.specs.Stream.{appended_bytes, LeavesOut, write_fault_count};
 
-use crate::count::count_up;
 use crate::stream::{Ends, Sink, Written};
+use faults::count_up;
 use std::io::{ErrorKind, Write};
 
 /// A std writer as a sink. What was written is known where the writer tells it.
