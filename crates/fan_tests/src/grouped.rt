@@ -101,7 +101,10 @@ fn judged<R: Abort>(
             assert!(rt; found.as_slice() == bytes, "other bytes");
             Ok(taken_of(rt, alloc, &pages))
         }
-        Err(StoreFault::PageFault(i)) => Err(i),
+        Err(StoreFault::PageFault { page, before }) => {
+            assert!(rt; u64::from(before.count()) == page, "other pages");
+            Err(page)
+        }
         Err(StoreFault::NoMemory) => panic!(rt; "no memory"),
     }
 }

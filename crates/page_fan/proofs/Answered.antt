@@ -1,4 +1,5 @@
 -- A fact on a door's answer, from another.
+use Rattle.std.specs.Prelude.{Result, Ok, Err, OnOk, OnErr}
 use Rattle.page_store.specs.Answers.{OnPutFailed, OnGot, OnGetFailed}
 use Rattle.page_store.specs.declared.door.PutAnswer.{PutAnswer}
 use Rattle.page_store.specs.declared.door.PutAnswer.TheVariants as put
@@ -17,3 +18,11 @@ OnGetFailed-weaken P Q weaken get.Failed h = weaken h
 pub OnGot-given : (P Q : Type 0) → P → (answer : GetAnswer) → OnGot answer (P → Q) → OnGot answer Q
 OnGot-given P Q p get.Got h = h p
 OnGot-given P Q p get.Failed h = tt
+
+pub OnErr-given : {X E : Type 0} (P : Type 0) → P → (result : Result X E) → OnErr result P
+OnErr-given P p (Ok x) = tt
+OnErr-given P p (Err e) = p
+
+pub OnOk-weaken : {X E : Type 0} (P Q : Type 0) → (P → Q) → (result : Result X E) → OnOk result P → OnOk result Q
+OnOk-weaken P Q weaken (Ok x) h = weaken h
+OnOk-weaken P Q weaken (Err e) h = tt

@@ -1,6 +1,7 @@
 -- The pages of an answer, of which some are gathered and the rest is left.
-use Rattle.std.proofs.Common.{◌≡◌, ℕ, zero, suc, ◌+◌, ◌<◌, List, [], ◌∷◌, ◌++◌, length, map, get_or, arith, sym, ◌∙◌, refl, append-nil}
+use Rattle.std.proofs.Common.{◌≡◌, ℕ, zero, suc, ◌+◌, ◌<◌, List, [], ◌∷◌, ◌++◌, length, map, take, get_or, arith, sym, ◌∙◌, refl, append-nil}
 use Rattle.std.specs.Prelude.{Option, Some, None}
+use Rattle.std.proofs.lemmas.List.{take_all}
 use Rattle.page_store.specs.Stored.{Stored}
 
 at_front : (xs : List Stored) (ys : List (Option Stored)) (k : ℕ) (d : Stored) → k < length xs → get_or (map Some xs ++ ys) k None ≡ Some (get_or xs k d)
@@ -26,6 +27,6 @@ pub earlier_at : (xs : List Stored) (page : Stored) (ys answer : List (Option St
 earlier_at xs page ys answer is k d l = rw (← is) (omega (arith, seam_within xs (Some page) ys, l), at_front xs (Some page ∷ ys) k d l, omega (arith, seam_within xs (Some page) ys, l))
 
 -- where nothing is left, all is gathered
-pub gathered : (xs : List Stored) (rest answer : List (Option Stored)) → map Some xs ++ rest ≡ answer → length rest ≡ 0 → map Some xs ≡ answer
-gathered xs [] answer is none = sym (append-nil (map Some xs)) ∙ is
-gathered xs (y ∷ ys) answer is none = absurd (omega (arith, none))
+pub gathered_all : (xs : List Stored) (rest answer : List (Option Stored)) → map Some xs ++ rest ≡ answer → length rest ≡ 0 → map Some xs ≡ take (length answer) answer
+gathered_all xs [] answer is none = sym (append-nil (map Some xs)) ∙ (is ∙ sym (take_all (length answer) answer (omega arith)))
+gathered_all xs (y ∷ ys) answer is none = absurd (omega (arith, none))

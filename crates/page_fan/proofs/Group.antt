@@ -1,5 +1,5 @@
 -- The puts of one provider's group, one put at a time.
-use Rattle.std.proofs.Common.{◌≡◌, ◌≢◌, ℕ, Bool, true, false, ◌+◌, ◌<◌, List, [], ◌∷◌, ◌++◌, length, map, get_or, take, drop, append-nil, ap, sym, ◌∙◌}
+use Rattle.std.proofs.Common.{◌≡◌, ◌≢◌, ℕ, Bool, true, false, ◌+◌, ◌<◌, List, [], ◌∷◌, ◌++◌, length, map, get_or, take, drop, append-nil, ap, sym, ◌∙◌, refl}
 use Rattle.std.specs.Prelude.{filter, ◌==◌}
 use Rattle.std.proofs.lemmas.Bool.{eq-eqb, ne_eqb}
 use Rattle.std.proofs.lemmas.List.{map-append, length-map, take-append-drop}
@@ -8,6 +8,20 @@ use Rattle.std.proofs.Math.Seq.{take-append_seam}
 use Rattle.page_fan.specs.declared.stand.Put.{Put}
 use Rattle.page_fan.specs.declared.stand.Reply.{Reply}
 use Rattle.page_fan.specs.Stands.{group_of}
+
+-- the first put is one of the group
+pub group_own : (provider : ℕ) (put : Put) (puts : List Put) → put.provider ≡ provider → group_of provider (put ∷ puts) ≡ put.at ∷ group_of provider puts
+group_own provider put puts own = rw (eq-eqb put.provider provider own) refl
+
+-- or of another
+pub group_other : (provider : ℕ) (put : Put) (puts : List Put) → put.provider ≢ provider → group_of provider (put ∷ puts) ≡ group_of provider puts
+group_other provider put puts other = rw (ne_eqb put.provider provider other) refl
+
+pub group_append : (provider : ℕ) (puts more : List Put) → group_of provider (puts ++ more) ≡ group_of provider puts ++ group_of provider more
+group_append provider puts more =
+    let test : Put → Bool = λ p. p.provider == provider in
+    let at : Put → ℕ = λ p. p.at in
+    ap (map at) (filter-append test puts more) ∙ map-append at (filter test puts) (filter test more)
 
 -- the next put is one of the group
 group_next : (provider : ℕ) (puts : List Put) (i : ℕ) (d : Put) → i < length puts → (get_or puts i d).provider ≡ provider
@@ -29,11 +43,9 @@ group_same provider puts i d l other =
 pub group_first : (provider : ℕ) (puts : List Put) (i : ℕ) (tray : List Reply) → map (λ (r : Reply). r.at) tray ≡ group_of provider (take i puts)
     → map (λ (r : Reply). r.at) tray ≡ take (length tray) (group_of provider puts)
 group_first provider puts i tray is =
-    let test : Put → Bool = λ p. p.provider == provider in
-    let at : Put → ℕ = λ p. p.at in
     let mine = group_of provider (take i puts) in
     let rest = group_of provider (drop i puts) in
-    let whole : group_of provider puts ≡ mine ++ rest = ap (λ ps. group_of provider ps) (sym (take-append-drop i puts)) ∙ (ap (map at) (filter-append test (take i puts) (drop i puts)) ∙ map-append at (filter test (take i puts)) (filter test (drop i puts))) in
+    let whole : group_of provider puts ≡ mine ++ rest = ap (λ ps. group_of provider ps) (sym (take-append-drop i puts)) ∙ group_append provider (take i puts) (drop i puts) in
     let long : length tray ≡ length mine = sym (length-map tray (λ (r : Reply). r.at)) ∙ ap length is in
     rw (whole, long, take-append_seam mine rest) is
 

@@ -1,10 +1,10 @@
 -- A buffer that is cut, and its pages joined.
 use Rattle.std.proofs.Common.{◌≡◌, ℕ, zero, suc, ◌+◌, ◌-◌, ◌*◌, ◌<◌, ◌≤◌, List, [], ◌∷◌, ◌++◌, length, min, arith, ap, sym, ◌∙◌, refl, get_or, map, take, drop, append-nil, take-add, length-take, length-drop}
 use Rattle.std.specs.Prelude.{Option, Some, None}
-use Rattle.std.proofs.lemmas.List.{take_all, take_more, get_or-map, length-map}
+use Rattle.std.proofs.lemmas.List.{take_all, take_more, get_or-map, get_or-take, length-map}
 use Rattle.std.proofs.lemmas.List.Concat.{flat_map-append}
 use Rattle.page_store.specs.House.{House}
-use Rattle.page_store.specs.Stored.{Stored, bytes_of_pages}
+use Rattle.page_store.specs.Stored.{Stored, bytes_of_pages, AllFull}
 use Rattle.page_fan.specs.Answer.{page_of, IsStoredAs, AreAnswered, HaveLengths}
 
 -- one more page in the joined bytes
@@ -27,21 +27,40 @@ joined_first page_size buffer pages d each (suc n) l =
     let within : n < length pages = omega (arith, l) in
     rw next (joined_next page_size buffer (take n pages) (take (n + 1) pages) (get_or pages n d) n (joined_first page_size buffer pages d each n (omega (arith, l))) (each n within) (take_more pages n d within))
 
--- pages that are those of the buffer, as many as it takes, join to the buffer
+-- pages that are those of the buffer join to what it has up to them
+pub joined_so_far : (page_size : ℕ) (buffer : List ℕ) (pages : List Stored) (d : Stored) → ((k : ℕ) → k < length pages → (get_or pages k d).bytes ≡ page_of page_size buffer k)
+    → bytes_of_pages pages ≡ take (length pages * page_size) buffer
+joined_so_far page_size buffer pages d each =
+    let n = length pages in
+    ap bytes_of_pages (sym (take_all n pages (omega arith))) ∙ joined_first page_size buffer pages d each n (omega arith)
+
+-- and as many as it takes join to the buffer
 pub joined_whole : (page_size : ℕ) (buffer : List ℕ) (pages : List Stored) (d : Stored) → ((k : ℕ) → k < length pages → (get_or pages k d).bytes ≡ page_of page_size buffer k)
     → length buffer ≤ length pages * page_size → bytes_of_pages pages ≡ buffer
-joined_whole page_size buffer pages d each whole =
-    let n = length pages in
-    ap bytes_of_pages (sym (take_all n pages (omega arith))) ∙ (joined_first page_size buffer pages d each n (omega arith) ∙ take_all (n * page_size) buffer whole)
+joined_whole page_size buffer pages d each whole = joined_so_far page_size buffer pages d each ∙ take_all (length pages * page_size) buffer whole
 
--- the answer to page k, where no page is lost
-pub stored_at : (houses : List House) (page_size : ℕ) (buffer : List ℕ) (placements : List (List ℕ)) (before now : List ℕ) (answer : List (Option Stored)) (pages : List Stored)
-    → AreAnswered houses page_size buffer placements before now answer → map Some pages ≡ answer → (k : ℕ) (d : Stored) → k < length pages
+-- pages that are the first n of an answer are as many, or as many as it has
+pub first_few : (answer : List (Option Stored)) (pages : List Stored) (n : ℕ) → map Some pages ≡ take n answer → length pages ≡ min n (length answer)
+first_few answer pages n same = sym (length-map pages (λ (p : Stored). Some p)) ∙ (ap length same ∙ length-take n answer)
+
+-- the answer to page k, where that is one of the first n, of which none is lost
+pub stored_at : (houses : List House) (page_size : ℕ) (buffer : List ℕ) (placements : List (List ℕ)) (before now : List ℕ) (answer : List (Option Stored)) (pages : List Stored) (n : ℕ)
+    → AreAnswered houses page_size buffer placements before now answer → map Some pages ≡ take n answer → (k : ℕ) (d : Stored) → k < length pages
     → IsStoredAs houses (page_of page_size buffer k) (get_or placements k []) before now (get_or pages k d)
-stored_at houses page_size buffer placements before now answer pages answered same k d l =
-    let is : get_or answer k None ≡ Some (get_or pages k d) = ap (λ xs. get_or xs k None) (sym same) ∙ get_or-map Some pages k d None l in
-    let within : k < length answer = omega (arith, l, length-map pages (λ (p : Stored). Some p), ap length same) in
+stored_at houses page_size buffer placements before now answer pages n answered same k d l =
+    let few = first_few answer pages n same in
+    let below : k < n = omega (arith, l, few) in
+    let within : k < length answer = omega (arith, l, few) in
+    let is : get_or answer k None ≡ Some (get_or pages k d) = sym (get_or-take n answer k None below) ∙ (ap (λ xs. get_or xs k None) (sym same) ∙ get_or-map Some pages k d None l) in
     rw is at (answered.each k within)
+
+-- pages behind which another begins are full
+pub full_before : (page_size : ℕ) (buffer : List ℕ) (pages : List Stored) → ((k : ℕ) (d : Stored) → k < length pages → (get_or pages k d).bytes ≡ page_of page_size buffer k)
+    → ((k : ℕ) → k < length pages → (k + 1) * page_size < length buffer) → AllFull page_size pages
+full_before page_size buffer pages each behind = λ k d l.
+    let long : length (get_or pages k d).bytes ≡ min page_size (length buffer - k * page_size) = ap length (each k d l) ∙ page_length page_size buffer k in
+    let next : (k + 1) * page_size < length buffer = behind k l in
+    omega (arith, long, next)
 
 -- the pages of an answer are as long as those of the buffer
 pub lengths_of : (houses : List House) (page_size : ℕ) (buffer : List ℕ) (placements : List (List ℕ)) (before now : List ℕ) (answer : List (Option Stored))

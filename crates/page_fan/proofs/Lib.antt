@@ -8,3 +8,8 @@ pub mod Trays
 pub mod Joined
 pub mod Gathered
 pub mod Answering
+pub mod Using
+pub mod Failing
+pub mod ListedPuts
+pub mod Owing
+pub mod Placed

@@ -102,12 +102,6 @@ pub sum_none : {D : Type 0} (f : D → ℕ) (xs : List D) → All (λ x. f x ≡
 sum_none f [] h = refl
 sum_none f (x ∷ xs) h = rw (sum_by-cons f x xs) (let first : f x ≡ 0 = h 0 x (omega arith) in let rest = sum_none f xs (λ k d l. h (suc k) d (omega arith)) in omega (arith, first, rest))
 
--- what holds of all holds of all where one is replaced
-pub all_after_set : {X : Type 0} (P : X → Type 0) (xs : List X) (i : ℕ) (y : X) → All P xs → P y → All P (set xs i y)
-all_after_set P [] i y h new = h
-all_after_set P (x ∷ xs) zero y h new = all_cons P y xs new (λ k d l. h (suc k) d (omega arith))
-all_after_set P (x ∷ xs) (suc i) y h new = all_cons P x (set xs i y) (h 0 x (omega arith)) (all_after_set P xs i y (λ k d l. h (suc k) d (omega arith)) new)
-
 rises_each : {S : Type 0} (f : S → ℕ) (xs ys : List S) → length ys ≡ length xs → ((k : ℕ) (d : S) → k < length xs → f (get_or xs k d) ≤ f (get_or ys k d)) → (k : ℕ) → get_or (map f xs) k 0 ≤ get_or (map f ys) k 0
 rises_each f [] ys same h k = omega arith
 rises_each f (x ∷ xs) [] same h k = absurd (omega arith)

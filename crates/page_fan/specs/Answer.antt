@@ -1,8 +1,8 @@
 -- What a session's doors answer to the pages of a buffer.
-use Rattle.std.specs.Prelude.{◌≡◌, ℕ, ◌+◌, ◌*◌, ◌<◌, ◌≤◌, List, [], All, Option, Some, None, IsSome, length, slice_index_or, take, drop}
+use Rattle.std.specs.Prelude.{◌≡◌, ℕ, ◌+◌, ◌*◌, ◌<◌, ◌≤◌, List, [], All, Option, Some, None, length, map, slice_index_or, take, drop}
 use Rattle.page_store.specs.House.{House}
 use Rattle.page_store.specs.Page.{IsAmong}
-use Rattle.page_store.specs.Stored.{Stored}
+use Rattle.page_store.specs.Stored.{Stored, Cut, IsCut}
 use Rattle.page_fan.specs.Counts.{RoseAt}
 use Rattle.page_fan.specs.Replicas.{StandAt, providers_of}
 
@@ -34,11 +34,16 @@ pub record AreAnswered (houses : List House) (page_size : ℕ) (buffer : List �
   pub each : (i : ℕ) → i < length answer
       → IsPageAnswer houses (page_of page_size buffer i) (slice_index_or placements i []) before now (slice_index_or answer i None)
 
--- page i is the first that has no replica in the answer
-pub record IsFirstLost (answer : List (Option Stored)) (i : ℕ) : Type 0 where
+-- page i of the answer is lost
+pub record IsLostAt (answer : List (Option Stored)) (i : ℕ) : Type 0 where
   pub within : i < length answer
   pub lost : slice_index_or answer i None ≡ None
-  pub earlier : (k : ℕ) → k < i → IsSome (slice_index_or answer k None)
+
+-- these are the first so many pages of the answer, all of which were stored
+pub record IsGathered (page_size : ℕ) (answer : List (Option Stored)) (count : ℕ) (pages : Cut) : Type 0 where
+  pub size : pages.page_size ≡ page_size
+  pub all : map Some pages.pages ≡ take count answer
+  pub cut : IsCut page_size pages.pages
 
 -- each page but the last of the answer is full, and the last has from 1 byte to the page size
 abbrev pub HaveLengths : ℕ → List (Option Stored) → Type 0

@@ -1,5 +1,5 @@
 -- The counts of faults of several doors: the door to provider 1 comes first.
-use Rattle.std.specs.Prelude.{◌≡◌, ◌≢◌, ℕ, ◌+◌, ◌-◌, ◌<◌, ◌≤◌, List, All, length, slice_index, take}
+use Rattle.std.specs.Prelude.{◌≡◌, ◌≢◌, ℕ, ◌+◌, ◌-◌, ◌≤◌, List, All, length, slice_index}
 use Rattle.page_store.specs.Count.{HasRisen}
 use Rattle.page_store.specs.Page.{Spot}
 
@@ -19,10 +19,3 @@ RoseAt before now provider = HasRisen (count_at before provider) (count_at now p
 -- the count of each door stayed but of those to the providers of these spots
 abbrev pub OthersStay : List Spot → List ℕ → List ℕ → Type 0
 OthersStay spots before now = (n : ℕ) → All (λ (spot : Spot). spot.provider ≢ n + 1) spots → slice_index before n ≡ slice_index now n
-
--- the bytes came from one of these spots: the doors to those before it failed, and those behind it weren't tried
-pub record CameFrom (spots : List Spot) (before now : List ℕ) : Type 0 where
-  pub tried : ℕ
-  pub within : tried < length spots
-  pub failed : All (λ (spot : Spot). RoseAt before now spot.provider) (take tried spots)
-  pub others : OthersStay (take (tried + 1) spots) before now

@@ -1,7 +1,9 @@
 pub mod Counts
+pub mod Used
 pub mod Replicas
 pub mod Answer
 pub mod Groups
+pub mod Listed
 pub mod Stands
 pub mod Fault
 pub mod Lending

@@ -1,6 +1,7 @@
 -- What is replied at the stands of several doors. The first is that of provider 1, and `faults` counts a door's failures.
 use Rattle.std.specs.Prelude.{◌≡◌, ℕ, ◌+◌, ◌<◌, ◌≤◌, ◌↔◌, ◌==◌, List, map, filter, length, slice_index_or, take}
 use Rattle.std.specs.VecDeque.{deque_capacity}
+use Rattle.page_store.specs.Calls.{Calls}
 use Rattle.page_store.specs.House.{House}
 use Rattle.page_fan.specs.Groups.{HasReplies, AllReplied}
 use Rattle.page_fan.specs.declared.stand.Put.{Put}
@@ -18,6 +19,12 @@ pub record HasReplyToEach {D : Type 0} (puts : List Put) (provider : ℕ) (old n
       map (λ (reply : Reply). reply.at) new.tray.items ≡ take (length new.tray.items) (group_of provider puts)
   pub missing :
       length new.tray.items < length (group_of provider puts) → deque_capacity old.tray ≤ length new.tray.items
+
+-- Where the pages begin whose puts at this stand are still to be answered, `rest`, in order. The tray has the replies to the first
+-- of them, which were put already. The door was called once for each of these, and for each of the `done` that were answered.
+pub record IsOwed {D : Type 0} (called : D → D → Type 0) (done : ℕ) (rest : List ℕ) (first : D) (stand : Stand D) : Type 0 where
+  pub in_order : map (λ (reply : Reply). reply.at) stand.tray.items ≡ take (length stand.tray.items) rest
+  pub calls : Calls called (done + length stand.tray.items) first stand.door
 
 module _ {D : Type 0} where
   -- the counts of the stands' doors
@@ -51,3 +58,21 @@ module _ {D : Type 0} where
   TruthStays is_true old new =
       (k : ℕ) (d : Stand D) → k < length old
       → is_true (slice_index_or old k d).door ↔ is_true (slice_index_or new k d).door
+
+  -- each stand's door was called once for each reply in its tray
+  abbrev pub EachCalled : (D → D → Type 0) → List (Stand D) → List (Stand D) → Type 0
+  EachCalled called old new =
+      (k : ℕ) (d : Stand D) → k < length old
+      → Calls called (length (slice_index_or new k d).tray.items) (slice_index_or old k d).door (slice_index_or new k d).door
+
+  -- the stands were `first`; of the puts at each those of `rest` are still to be answered, and those of `done` were
+  abbrev pub EachOwed : (D → D → Type 0) → List Put → List Put → List (Stand D) → List (Stand D) → Type 0
+  EachOwed called done rest first stands =
+      (k : ℕ) (d : Stand D) → k < length stands
+      → IsOwed called (length (group_of (k + 1) done)) (group_of (k + 1) rest) (slice_index_or first k d).door (slice_index_or stands k d)
+
+  -- each stand's door was called once for each of these puts that is at its provider
+  abbrev pub EachPut : (D → D → Type 0) → List Put → List (Stand D) → List (Stand D) → Type 0
+  EachPut called puts old new =
+      (k : ℕ) (d : Stand D) → k < length new
+      → Calls called (length (group_of (k + 1) puts)) (slice_index_or old k d).door (slice_index_or new k d).door

@@ -1,7 +1,7 @@
 // The groups of several doors run beside each other.
 ghost use Rattle.std.specs.Prelude.{◌≤◌, All, length};
 ghost use Rattle.page_fan.specs.Groups.{CanBePut};
-ghost use Rattle.page_fan.specs.Stands.{EachReplied, EachHasReplies, TruthStays};
+ghost use Rattle.page_fan.specs.Stands.{EachReplied, EachHasReplies, EachCalled, TruthStays};
 
 use crate::stand::{Put, Stand};
 use page_store::{Door, FlakyDoor, Houses, PlainDoor};
@@ -27,7 +27,7 @@ pub trait BesideDoor: Door {
     ghost use Rattle.std.specs.Prelude.{All, length};
     ghost use denote.Param.Send.{IsSync};
     ghost use Rattle.page_fan.specs.Groups.{CanBePut};
-    ghost use Rattle.page_fan.specs.Stands.{EachReplied, EachHasReplies, TruthStays};
+    ghost use Rattle.page_fan.specs.Stands.{EachReplied, EachHasReplies, EachCalled, TruthStays};
 
     /// Each stand puts the pages of its own provider, in order, and has one reply to each put in its tray. Where the
     /// tray is refused more memory, the stand stops, and the replies to its last puts are missing. The first stand is
@@ -44,7 +44,8 @@ pub trait BesideDoor: Door {
         requires puts { All (CanBePut (length houses.now) buffer.now) puts.now }
         ensures truth_stays { TruthStays Self.is_true stands.old stands.new }
         ensures replies { EachReplied houses.now p buffer.now Self.faults stands.old stands.new }
-        ensures each { EachHasReplies puts.now stands.old stands.new };
+        ensures each { EachHasReplies puts.now stands.old stands.new }
+        ensures called { EachCalled Self.called stands.old stands.new };
 }
 
 /// Each stand puts the pages of its own provider, as `put_groups` says, in as many threads as there are `worth` bytes in
@@ -65,6 +66,7 @@ pub fn put_all_groups<D: Door + Send, R: Threads + Wait + Sync>(
     ensures truth_stays { TruthStays D.is_true stands.old stands.new }
     ensures replies { EachReplied houses.now p buffer.now D.faults stands.old stands.new }
     ensures each { EachHasReplies puts.now stands.old stands.new }
+    ensures called { EachCalled D.called stands.old stands.new }
 {
     let threads = (buffer.len() / worth).min(stands.len()).max(1);
     thread::for_each_mut(

@@ -1,5 +1,5 @@
 // A session's doors.
-ghost use Rattle.std.specs.Prelude.{◌≡◌, ℕ, ◌+◌, ◌-◌, ◌^◌, ◌≤◌, ◌↔◌, [], ◌∷◌, length, IfOk, All};
+ghost use Rattle.std.specs.Prelude.{◌≡◌, ℕ, ◌+◌, ◌-◌, ◌^◌, ◌≤◌, ◌↔◌, [], ◌∷◌, length, IfOk, OnOk, OnErr, All};
 ghost use Rattle.std.specs.Prelude.{map, min, sum_by, Some, slice_get, slice_range};
 ghost use Rattle.std.specs.Borrow.{sem};
 ghost use Rattle.page_store.specs.House.{IsProvider};
@@ -32,6 +32,8 @@ impl<D> Model for Doors<D> {
 impl<D: Door> Doors<D> {
     ghost use Rattle.page_fan.specs.Lending.{LendsDoor};
     ghost use Rattle.page_fan.specs.Made.{AreMade};
+    ghost use Rattle.page_fan.specs.Used.{IsTrueAt, StayTrue, CalledOnce};
+    ghost use Rattle.page_store.specs.Calls.{Traffic, AllCameBack};
 
     /// A door to each of the providers. Where memory is refused, the doors that were made go back to the maker.
     pub fn new<M: DoorMaker<Door = D>>(
@@ -42,6 +44,8 @@ impl<D: Door> Doors<D> {
         ensures count { IfOk result (λ doors. length doors ≡ providers) }
         ensures fresh { IfOk result (λ doors. All (λ door. D.faults door ≡ 0) doors) }
         ensures each { IfOk result (λ doors. AreMade (M.makes maker.old) doors) }
+        ensures handed_out { OnOk result (Traffic M.hands_out M.takes_back providers 0 maker.old maker.new) }
+        ensures all_back { OnErr result (AllCameBack M.hands_out M.takes_back maker.old maker.new) }
         ensures true_doors { M.is_true maker.old → IfOk result (λ doors. All D.is_true doors) }
         ensures count_stays { M.faults maker.new ≡ M.faults maker.old }
         ensures truth_stays { M.is_true maker.old ↔ M.is_true maker.new }
@@ -64,6 +68,7 @@ impl<D: Door> Doors<D> {
     pub fn back<M: DoorMaker<Door = D>>(self, maker: &mut M)
         ensures adds { M.faults maker.old ≤ 2 ^ 64 - 1
             → M.faults maker.new ≡ min (M.faults maker.old + sum_by D.faults self) (2 ^ 64 - 1) }
+        ensures taken_back { Traffic M.hands_out M.takes_back 0 (length self) maker.old maker.new }
         ensures rises { min (M.faults maker.old + sum_by D.faults self) (2 ^ 64 - 1) ≤ M.faults maker.new }
         ensures truth_stays { M.is_true maker.old ↔ M.is_true maker.new }
         ensures plan_stays { (n : ℕ) (door : _) → M.makes maker.old n door ↔ M.makes maker.new n door }
@@ -96,14 +101,15 @@ impl<D: Door> Doors<D> {
         requires here { IsAmong houses.now page.now.spot }
         requires served { IsProvider (length self.old) page.now.spot.provider }
         requires room { from + length out.old ≤ length page.now.bytes }
-        ensures got { All D.is_true self.old
+        ensures got { IsTrueAt D.is_true self.old page.now.spot.provider
             → OnGot result (out.new ≡ slice_range page.now.bytes from (from + length out.old)) }
         ensures failed { OnGetFailed result
             (RoseAt (map D.faults self.old) (map D.faults self.new) page.now.spot.provider) }
         ensures others { OthersStay (page.now.spot ∷ []) (map D.faults self.old) (map D.faults self.new) }
         ensures none_fell { NoneFell (map D.faults self.old) (map D.faults self.new) }
+        ensures called { CalledOnce D.called page.now.spot.provider self.old self.new }
         ensures count { length self.new ≡ length self.old }
-        ensures truth_stays { All D.is_true self.old → All D.is_true self.new }
+        ensures stay_true { StayTrue D.is_true self.old self.new }
     {
         let provider = page.provider();
         let house = houses.house(provider);

@@ -1,5 +1,5 @@
 // What the doors answered is joined, in the order of the pages and of their placements.
-ghost use Rattle.std.specs.Prelude.{◌≡◌, ℕ, ◌+◌, ◌*◌, ◌^◌, ◌<◌, ◌≤◌, List, length, IfOk, IfSome, All};
+ghost use Rattle.std.specs.Prelude.{◌≡◌, ℕ, ◌+◌, ◌*◌, ◌^◌, ◌<◌, ◌≤◌, List, length, IfOk, OnOk, IfSome, All};
 ghost use Rattle.std.specs.Prelude.{[], ◌∷◌, ◌++◌, take, drop, vec_capacity};
 ghost use Rattle.std.specs.Option.{option_map_or};
 ghost use Rattle.page_store.specs.House.{IsProvider};
@@ -7,7 +7,10 @@ ghost use Rattle.replica_place.specs.Chosen.{chosen};
 ghost use Rattle.page_fan.specs.Answer.{AreAnswered, IsPageAnswer};
 ghost use Rattle.page_fan.specs.Counts.{NoneFell, count_at};
 ghost use Rattle.page_fan.specs.Groups.{CanBePut, IsAnswerTo};
-ghost use Rattle.page_fan.specs.Stands.{counts_of, AreReplied};
+ghost use Rattle.page_fan.specs.Listed.{HasPages, puts_at, puts_from};
+ghost use Rattle.page_fan.specs.Stands.{counts_of, AreReplied, EachOwed, EachPut};
+ghost use Rattle.page_fan.specs.declared.stand.Put.{Put};
+ghost use Rattle.page_fan.specs.declared.stand.Stand.{Stand};
 
 use crate::stand::{Put, Stand};
 use page_store::{Door, Houses, NoMemory, PageRef, PutAnswer, StoredPage};
@@ -38,6 +41,9 @@ pub(crate) fn join_pages<D: Door, R: Wait>(
     requires replies { AreReplied houses.now p buffer.now before D.faults stands.old }
     ensures answered { IfOk result (λ answer.
         AreAnswered houses.now p buffer.now placements.now before (counts_of D.faults stands.new) answer.items) }
+    ensures put_once { (pages : ℕ) (first : List (Stand D)) → HasPages p (length buffer.now) pages
+        → let puts = puts_from p 0 (take pages placements.now) in
+        EachOwed D.called [] puts first stands.old → OnOk result (EachPut D.called puts first stands.new) }
     ensures none_fell { NoneFell (counts_of D.faults stands.old) (counts_of D.faults stands.new) }
     ensures truth_stays { All (λ s. D.is_true s.door) stands.old → All (λ s. D.is_true s.door) stands.new }
 {
@@ -72,6 +78,9 @@ fn join_page<D: Door, R: Wait>(
     ensures answered { let page = take p (drop at buffer.now) in
         IfOk result (IsPageAnswer houses.now page (chosen placement.now) before (counts_of D.faults stands.new)) }
     ensures replies { AreReplied houses.now p buffer.now before D.faults stands.new }
+    ensures owed { (done rest : List Put) (first : List (Stand D)) → let puts = puts_at at (chosen placement.now) in
+        EachOwed D.called done (puts ++ rest) first stands.old
+        → OnOk result (EachOwed D.called (done ++ puts) rest first stands.new) }
     ensures none_fell { NoneFell (counts_of D.faults stands.old) (counts_of D.faults stands.new) }
     ensures truth_stays { All (λ s. D.is_true s.door) stands.old → All (λ s. D.is_true s.door) stands.new }
 {
@@ -109,6 +118,8 @@ fn answer_at<D: Door, R: Wait>(
         IsAnswerTo houses.now p buffer.now put (count_at before put.provider) now result }
     ensures replies { (before : List ℕ) → AreReplied houses.now p buffer.now before D.faults stands.old
         → AreReplied houses.now p buffer.now before D.faults stands.new }
+    ensures owed { (done rest : List Put) (first : List (Stand D)) → EachOwed D.called done (put ∷ rest) first stands.old
+        → EachOwed D.called (done ++ put ∷ []) rest first stands.new }
     ensures none_fell { NoneFell (counts_of D.faults stands.old) (counts_of D.faults stands.new) }
     ensures truth_stays { All (λ s. D.is_true s.door) stands.old → All (λ s. D.is_true s.door) stands.new }
 {

@@ -1,11 +1,12 @@
 // A door beside what it answered to the puts of its own group.
-ghost use Rattle.std.specs.Prelude.{◌≡◌, ℕ, ◌+◌, ◌-◌, ◌≤◌, ◌↔◌, All, length, take, drop, [], slice_get};
+ghost use Rattle.std.specs.Prelude.{◌≡◌, ℕ, ◌+◌, ◌-◌, ◌≤◌, ◌↔◌, List, All, length, take, drop, [], ◌∷◌, slice_get};
 ghost use Rattle.page_store.specs.Answers.{IfStored, OnPutFailed};
+ghost use Rattle.page_store.specs.Calls.{Calls};
 ghost use Rattle.page_store.specs.Count.{HasRisen};
 ghost use Rattle.page_store.specs.House.{IsProvider};
 ghost use Rattle.page_store.specs.Page.{IsAmong};
 ghost use Rattle.page_fan.specs.Groups.{CanBePut, IsAnswerTo};
-ghost use Rattle.page_fan.specs.Stands.{HasReplyToEach, IsReplied};
+ghost use Rattle.page_fan.specs.Stands.{HasReplyToEach, IsOwed, IsReplied};
 
 use crate::cutting::page_bytes;
 use page_store::{Door, Houses, MAX_PAGE, PutAnswer};
@@ -54,8 +55,8 @@ impl<D: Door> Stand<D> {
         door
     }
 
-    // Puts the pages of the door's own provider, in order, and leaves one reply to each put in the tray. It stops where
-    // the tray is refused more memory. The stand's index, from 0, is one below the number of its provider.
+    // Puts the pages of the door's own provider, in order, and leaves one reply to each put in the tray. It stops before a
+    // put for whose reply the tray is refused memory. The stand's index, from 0, is one below the number of its provider.
     pub(crate) fn put_group<R: Wait>(
         &mut self,
         rt: &R,
@@ -68,16 +69,18 @@ impl<D: Door> Stand<D> {
         requires { All (CanBePut (length houses.now) buffer.now) puts.now }
         ensures replies { IsReplied houses.now p buffer.now (index + 1) (D.faults self.old.door) D.faults self.new }
         ensures each { HasReplyToEach puts.now (index + 1) self.old self.new }
+        ensures called { Calls D.called (length self.new.tray.items) self.old.door self.new.door }
         ensures truth_stays { D.is_true self.old.door ↔ D.is_true self.new.door }
     {
         self.tray.clear();
         for put in puts {
             if put.provider as usize - 1 == index {
-                let bytes = page_bytes(buffer, put.at, p.bytes() as usize);
-                let answer = self.put(rt, houses, put.provider, bytes);
-                if self.tray.push_back(Reply { at: put.at, answer }).is_err() {
+                if self.tray.reserve(1).is_err() {
                     return;
                 }
+                let bytes = page_bytes(buffer, put.at, p.bytes() as usize);
+                let answer = self.put(rt, houses, put.provider, bytes);
+                self.tray.push_back_reserved(Reply { at: put.at, answer });
             }
         }
     }
@@ -97,6 +100,8 @@ impl<D: Door> Stand<D> {
             → IsAnswerTo houses.now p buffer.now put before (D.faults self.new.door) result }
         ensures replies { (before : ℕ) → IsReplied houses.now p buffer.now put.provider before D.faults self.old
             → IsReplied houses.now p buffer.now put.provider before D.faults self.new }
+        ensures owed { (done : ℕ) (rest : List ℕ) (first : D) → IsOwed D.called done (put.at ∷ rest) first self.old
+            → IsOwed D.called (done + 1) rest first self.new }
         ensures never_falls { D.faults self.old.door ≤ D.faults self.new.door }
         ensures truth_stays { D.is_true self.old.door ↔ D.is_true self.new.door }
     {
@@ -117,6 +122,7 @@ impl<D: Door> Stand<D> {
         ensures here { IfStored result (λ page. IsAmong houses.now page.spot) }
         ensures there { IfStored result (λ page. page.spot.provider ≡ provider) }
         ensures bytes { IfStored result (λ page. page.bytes ≡ bytes.now) }
+        ensures called { D.called self.old.door self.new.door }
         ensures failed { OnPutFailed result (HasRisen (D.faults self.old.door) (D.faults self.new.door)) }
         ensures never_falls { D.faults self.old.door ≤ D.faults self.new.door }
         ensures truth_stays { D.is_true self.old.door ↔ D.is_true self.new.door }

@@ -1,17 +1,19 @@
 // A buffer is cut into pages, and each page is put at its placed providers.
-ghost use Rattle.std.specs.Prelude.{◌≡◌, ℕ, ◌+◌, ◌*◌, ◌<◌, ◌≤◌, List, length, IfOk, IfErr, IfSome};
-ghost use Rattle.std.specs.Prelude.{MatchOption, IsSome, All, Some, None, map, sum_by, [], ◌∷◌, ◌++◌};
+ghost use Rattle.std.specs.Prelude.{◌≡◌, ℕ, ◌+◌, ◌*◌, ◌<◌, ◌≤◌, List, length, take, IfOk, OnOk, IfErr, IfSome};
+ghost use Rattle.std.specs.Prelude.{All, map, sum_by, [], ◌∷◌, ◌++◌};
 ghost use Rattle.std.specs.Prelude.{slice_index_or};
 ghost use Rattle.std.specs.Option.{option_map_or};
 ghost use Rattle.page_store.specs.Count.{HasRisen};
 ghost use Rattle.page_store.specs.House.{IsProvider};
 ghost use Rattle.page_store.specs.Stored.{bytes_of_pages, IsCut, LieAmong};
 ghost use Rattle.replica_place.specs.Chosen.{chosen};
-ghost use Rattle.page_fan.specs.Answer.{AreAnswered, HaveLengths, IsFirstLost, IsPageAnswer};
+ghost use Rattle.page_fan.specs.Answer.{AreAnswered, HaveLengths, IsLostAt, IsGathered, IsPageAnswer};
 ghost use Rattle.page_fan.specs.Counts.{NoneFell};
 ghost use Rattle.page_fan.specs.Replicas.{AreReplicated};
-ghost use Rattle.page_fan.specs.Fault.{OnPageFault, FirstFailed};
-ghost use Rattle.page_fan.specs.Stands.{counts_of};
+ghost use Rattle.page_fan.specs.Fault.{OnLostPage, OnPageFault, UnlessNoMemory, FirstFailed};
+ghost use Rattle.page_fan.specs.Listed.{HasPages, puts_from};
+ghost use Rattle.page_fan.specs.Stands.{counts_of, EachPut};
+ghost use Rattle.page_fan.specs.Used.{CalledAsPlaced};
 
 use crate::beside::BesideDoor;
 use crate::doors::Doors;
@@ -27,12 +29,13 @@ use std::thread::Threads;
 use thiserror::Error;
 use tree_geom::PageSize;
 
-/// Why a buffer was not stored. Pages that were put before may lie unused in their houses.
-#[derive(Clone, Copy, Debug, PartialEq, Eq, Error)]
+/// Why a buffer was not stored. Pages that were put may lie unused in their houses.
+#[derive(Debug, Drop, Error)]
 pub enum StoreFault {
-    /// No door took the page of this number, from 0. It is the first such page: a door took each page before it.
-    #[error("no door took page {0}")]
-    PageFault(u64),
+    /// No door took the page of this number, from 0. It is the first such page: `before` are the pages before it, which were
+    /// all stored.
+    #[error("no door took page {page}")]
+    PageFault { page: u64, before: Pages },
     /// Memory was refused.
     #[error("no memory")]
     NoMemory,
@@ -71,12 +74,14 @@ pub fn store<D: BesideDoor, R: Threads + Wait + Sync>(
         AreReplicated (map D.faults doors.old) (map D.faults doors.new) placements.now pages.pages) }
 
     // Why a page fault is answered.
-    ensures first_failed { IfErr result (λ fault. OnPageFault fault
+    ensures first_failed { IfErr result (λ fault. OnLostPage fault
         (FirstFailed houses.now p buffer.now placements.now (map D.faults doors.old) (map D.faults doors.new))) }
     ensures counted { IfErr result (λ fault. OnPageFault fault (λ _.
         HasRisen (sum_by D.faults doors.old) (sum_by D.faults doors.new))) }
 
     // What becomes of the doors.
+    ensures called { (pages : ℕ) → HasPages p (length buffer.now) pages
+        → UnlessNoMemory result (CalledAsPlaced D.called (take pages placements.now) doors.old doors.new) }
     ensures none_fell { NoneFell (map D.faults doors.old) (map D.faults doors.new) }
     ensures sum_never_falls { sum_by D.faults doors.old ≤ sum_by D.faults doors.new }
     ensures count { length doors.new ≡ length doors.old }
@@ -88,43 +93,33 @@ pub fn store<D: BesideDoor, R: Threads + Wait + Sync>(
     let Ok(answer) = put_pages(rt, alloc, doors, houses, p, buffer, placements) else {
         return Err(StoreFault::NoMemory);
     };
-    if let Some(i) = first_lost(answer.as_slice()) {
-        return Err(StoreFault::PageFault(i as u64));
+    match gather(pages, answer) {
+        Ok(pages) => Ok(pages),
+        Err(before) => Err(StoreFault::PageFault {
+            page: u64::from(before.count()),
+            before,
+        }),
     }
-    Ok(gather(pages, answer))
 }
 
-// The first page that has no replica.
-fn first_lost(answer: &[Option<StoredPage>]) -> Option<usize>
-    ensures { MatchOption result
-        ((k : _) → k < length answer.now → IsSome (slice_index_or answer.now k None))
-        (IsFirstLost answer.now) }
-{
-    for (i, page) in answer.iter().enumerate() {
-        if page.is_none() {
-            return Some(i);
-        }
-    }
-    None
-}
-
-// Adds the pages of the answer, of which none is lost. It takes no memory.
-fn gather(mut pages: Pages, answer: Vec<Option<StoredPage>>) -> Pages
+// Adds the pages of the answer up to the first that is lost. Where one is, the error has the pages before it. It takes no
+// memory.
+fn gather(mut pages: Pages, answer: Vec<Option<StoredPage>>) -> Result<Pages, Pages>
     requires fresh { pages.pages ≡ [] }
     requires room { length answer.items ≤ pages.room }
-    requires stored { (k : _) → k < length answer.items → IsSome (slice_index_or answer.items k None) }
     requires lengths { HaveLengths pages.page_size answer.items }
-    ensures page_size { result.page_size ≡ pages.page_size }
-    ensures all { map Some result.pages ≡ answer.items }
-    ensures cut { IsCut pages.page_size result.pages }
+    ensures all { IfOk result (λ all. IsGathered pages.page_size answer.items (length answer.items) all) }
+    ensures lost { IfErr result (λ before. IsLostAt answer.items (length before.pages)
+        × IsGathered pages.page_size answer.items (length before.pages) before) }
 {
     let mut rest = VecDeque::from_vec(answer);
     while let Some(next) = rest.pop_front() {
-        if let Some(page) = next {
-            pages.add(page);
+        match next {
+            Some(page) => pages.add(page),
+            None => return Err(pages),
         }
     }
-    pages
+    Ok(pages)
 }
 
 // Puts each page at the providers of its placement, and answers which of them were stored.
@@ -143,6 +138,8 @@ fn put_pages<D: BesideDoor, R: Threads + Wait + Sync>(
     ensures answered { IfOk result (λ answer.
         let before = map D.faults doors.old in
         AreAnswered houses.now p buffer.now placements.now before (map D.faults doors.new) answer.items) }
+    ensures called { (pages : ℕ) → HasPages p (length buffer.now) pages
+        → OnOk result (CalledAsPlaced D.called (take pages placements.now) doors.old doors.new) }
     ensures none_fell { NoneFell (map D.faults doors.old) (map D.faults doors.new) }
     ensures count { length doors.new ≡ length doors.old }
     ensures truth_stays { All D.is_true doors.old → All D.is_true doors.new }
@@ -168,6 +165,8 @@ fn put_in_groups<D: BesideDoor, R: Threads + Wait + Sync>(
     requires served { All (All (IsProvider (length stands.old))) placements.now }
     ensures answered { IfOk result (λ answer.
         AreAnswered houses.now p buffer.now placements.now before (counts_of D.faults stands.new) answer.items) }
+    ensures put_once { (pages : ℕ) → HasPages p (length buffer.now) pages
+        → OnOk result (EachPut D.called (puts_from p 0 (take pages placements.now)) stands.old stands.new) }
     ensures none_fell { NoneFell (counts_of D.faults stands.old) (counts_of D.faults stands.new) }
     ensures truth_stays { All (λ s. D.is_true s.door) stands.old → All (λ s. D.is_true s.door) stands.new }
 {

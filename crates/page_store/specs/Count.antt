@@ -1,6 +1,6 @@
 -- Counts of faults.
 use Rattle.std.specs.Prelude.{ℕ}
-use Rattle.ports.specs.Counts.{RoseBy}
+use Rattle.faults.specs.Counts.{RoseBy}
 
 -- the count rose from one number to the other
 abbrev pub HasRisen : ℕ → ℕ → Type 0

@@ -5,14 +5,16 @@ use base.Stored.{coded_via}
 use Rattle.boxcar.specs.Table.{id_at}
 use Rattle.page_store.specs.House.{House, IsProvider}
 
--- where a page lies: the provider that has it, its shelf there, and the mark of that shelf
+-- where a page lies: the provider that has it, which page there it is, from 0, its shelf, and the mark of that shelf
 pub record Spot : Type 0 where
   pub provider : ℕ
+  pub place : ℕ
   pub shelf : ℕ
   pub mark : ℕ
 
 abbrev pub spot_coded : Coded Spot
-spot_coded = coded_via (coded× coded_ℕ (coded× coded_ℕ coded_ℕ)) (λ (p : Spot). (p.provider, (p.shelf, p.mark))) (λ x y e i. record { provider = (e i).0; shelf = (e i).1.0; mark = (e i).1.1 })
+spot_coded = coded_via (coded× coded_ℕ (coded× coded_ℕ (coded× coded_ℕ coded_ℕ))) (λ (p : Spot). (p.provider, (p.place, (p.shelf, p.mark))))
+    (λ x y e i. record { provider = (e i).0; place = (e i).1.0; shelf = (e i).1.1.0; mark = (e i).1.1.1 })
 
 -- a page: where it lies, and the bytes that were put
 pub record Page : Type 0 where

@@ -71,6 +71,8 @@ impl Door for FlakyDoor {
 
     ghost faults = { λ d. d.faults };
 
+    ghost called = { λ old new. new ≡ after_call old };
+
     fn put<R: Wait>(&mut self, rt: &R, house: &PageHouse, bytes: &[u8]) -> PutAnswer
         requires some { 1 ≤ length bytes.now }
         requires small { length bytes.now ≤ MAX_PAGE }
@@ -157,6 +159,10 @@ impl DoorMaker for FlakyMaker {
     ghost faults = { λ m. m.faults };
 
     ghost makes = { λ m provider door. door ≡ planned_door m provider };
+
+    ghost hands_out = { λ old new. new ≡ old };
+
+    ghost takes_back = { λ old new. new.failing ≡ old.failing };
 
     fn make(&mut self, provider: u32) -> Result<FlakyDoor, NoMemory>
         requires { 1 ≤ provider }

@@ -44,7 +44,7 @@ impl Model for PageRef {
 
     ghost coded = { page_coded };
 
-    ghost view = { λ p. record { spot = record { provider = p.provider; shelf = p.pushed.bucket; mark = p.pushed.row }; bytes = p.pushed.value.items } };
+    ghost view = { λ p. record { spot = record { provider = p.provider; place = p.pushed.index; shelf = p.pushed.bucket; mark = p.pushed.row }; bytes = p.pushed.value.items } };
 
     ghost invariant = { λ p. length p.pushed.value.items ≡ p.len };
 }
@@ -98,9 +98,27 @@ impl PageHouse {
         let kept = self.pages.value(&page.pushed);
         out.copy_from_slice(&kept[from..from + out.len()]);
     }
+
+    /// Two references of this house with the same place stand for the same bytes. For proofs: it does nothing.
+    pub fn agrees(&self, a: &PageRef, b: &PageRef)
+        requires a_here { IsIn self.now a.now.spot }
+        requires b_here { IsIn self.now b.now.spot }
+        requires same { a.now.spot.place ≡ b.now.spot.place }
+        ensures { a.now.bytes ≡ b.now.bytes }
+    {
+        self.pages.agrees(&a.pushed, &b.pushed);
+    }
 }
 
 impl PageRef {
+    /// Which page of its house it is, from 0. Two references of one house with the same place stand for the same bytes, as
+    /// `PageHouse::agrees` says.
+    pub fn place(&self) -> u64
+        ensures { result ≡ self.now.spot.place }
+    {
+        self.pushed.index() as u64
+    }
+
     /// The number of the provider that has the page, from 1.
     pub fn provider(&self) -> u32
         ensures { result ≡ self.now.spot.provider }

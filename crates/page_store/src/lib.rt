@@ -33,9 +33,9 @@ mod plain;
 mod stored;
 
 pub use door::{Door, DoorMaker, GetAnswer, PutAnswer};
+pub use faults::NoMemory;
 pub use flaky::{FlakyDoor, FlakyMaker};
 pub use house::{Houses, PageHouse, PageRef};
-pub use no_memory::NoMemory;
 pub use plain::{PlainDoor, PlainMaker};
 pub use stored::{Pages, StoredPage};
 

@@ -22,6 +22,8 @@ impl Door for PlainDoor {
 
     ghost faults = { λ _. 0 };
 
+    ghost called = { λ _ _. ⊤ };
+
     fn put<R: Wait>(&mut self, rt: &R, house: &PageHouse, bytes: &[u8]) -> PutAnswer {
         match house.put(rt, bytes) {
             Ok(page) => PutAnswer::Stored(page),
@@ -56,6 +58,10 @@ impl DoorMaker for PlainMaker {
     ghost faults = { λ _. 0 };
 
     ghost makes = { λ _ _ _. ⊤ };
+
+    ghost hands_out = { λ _ _. ⊤ };
+
+    ghost takes_back = { λ _ _. ⊤ };
 
     fn make(&mut self, _provider: u32) -> Result<PlainDoor, NoMemory> {
         Ok(PlainDoor)

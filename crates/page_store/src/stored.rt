@@ -6,6 +6,7 @@ ghost use Rattle.page_store.specs.Stored.{bytes_of_pages, AllFull, IsCut};
 use crate::NoMemory;
 use crate::house::PageRef;
 use std::alloc::Global;
+use std::fmt;
 use std::marker::Model;
 
 /// A page with its replicas: 1 to 8 references that all stand for the same bytes. Most stores keep few replicas, so a page
@@ -109,6 +110,14 @@ impl Model for Pages {
     ghost invariant = { KeepsPages };
 }
 
+// It tells how many pages there are, and not their bytes.
+impl fmt::Debug for Pages {
+    fn fmt<W: fmt::Write>(&self, f: &mut fmt::Formatter<W>) -> fmt::Result {
+        let count = self.pages.len();
+        write!(f, "{count} pages")
+    }
+}
+
 impl Pages {
     /// No pages, of the page size `p` in bytes, with room for `room` pages.
     pub fn start(alloc: Global, p: u64, room: u32) -> Result<Pages, NoMemory>
@@ -169,5 +178,17 @@ impl Pages {
         ensures bytes { result.now.bytes ≡ slice_range (bytes_of_pages self.now.pages) (i * self.now.page_size) (min ((i + 1) * self.now.page_size) (length (bytes_of_pages self.now.pages))) }
     {
         &self.pages[i as usize]
+    }
+
+    /// The page of an update that has no other, to be handed on. It takes no memory.
+    pub fn into_page(self) -> StoredPage
+        requires one { length self.pages ≡ 1 }
+        ensures this { self.pages ≡ result ∷ [] }
+        ensures bytes { result.bytes ≡ bytes_of_pages self.pages }
+    {
+        let Pages { mut pages, .. } = self;
+        let page = pages.pop().unwrap();
+        pages.destroy_empty();
+        page
     }
 }

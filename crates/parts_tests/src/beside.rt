@@ -27,6 +27,8 @@ impl<'a> Door for MeetingDoor<'a> {
 
     ghost faults = { λ d. d.faults };
 
+    ghost called = { λ _ _. ⊤ };
+
     fn put<R: Wait>(&mut self, rt: &R, house: &PageHouse, bytes: &[u8]) -> PutAnswer {
         self.own.store(true, Ordering::SeqCst);
         for _ in 0..1_000_000 {
@@ -79,6 +81,10 @@ impl<'a> DoorMaker for MeetingMaker<'a> {
     ghost faults = { λ m. m.faults };
 
     ghost makes = { λ _ _ _. ⊤ };
+
+    ghost hands_out = { λ _ _. ⊤ };
+
+    ghost takes_back = { λ _ _. ⊤ };
 
     fn make(&mut self, provider: u32) -> Result<MeetingDoor<'a>, NoMemory> {
         let _faults = self.faults;

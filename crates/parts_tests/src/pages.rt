@@ -4,7 +4,10 @@ ghost use Rattle.page_store.specs.House.{IsProvider};
 ghost use Rattle.page_store.specs.Stored.{LieAmong};
 
 use page_fan::{BesideDoor, Doors, StoreFault, fetch, store};
-use page_store::{Door, DoorMaker, FlakyMaker, Houses, Pages, PlainMaker, StoredPage};
+use page_store::{
+    Door, DoorMaker, FlakyDoor, FlakyMaker, Houses, PageHouse, Pages, PlainDoor, PlainMaker,
+    PutAnswer, StoredPage,
+};
 use provider_manager::{LoadBook, Placements};
 use std::process::Abort;
 use std::sync::Wait;
@@ -82,30 +85,40 @@ fn store_six<D: BesideDoor, R: Abort + AllocGlobal + Threads + Wait + Sync>(
     store_at(rt, doors, houses, 4, b"abcdef", 2)
 }
 
-// Checks what is answered where such calls fail.
-fn check_fault<R: Abort + AllocGlobal + Threads + Wait + Sync>(
+// The page that was lost, behind as many as were stored before it.
+fn lost<R: Abort>(rt: &R, stored: Result<Pages, StoreFault>) -> Option<u64> {
+    match stored {
+        Ok(_) => None,
+        Err(StoreFault::PageFault { page, before }) => {
+            assert_eq!(rt; u64::from(before.count()), page);
+            Some(page)
+        }
+        Err(StoreFault::NoMemory) => panic!(rt; "no memory"),
+    }
+}
+
+// Checks which page is lost where such calls fail.
+fn check_lost<R: Abort + AllocGlobal + Threads + Wait + Sync>(
     rt: &R,
     failing: Failing,
-    fault: Option<StoreFault>,
+    page: Option<u64>,
 ) {
     let houses = three_houses(rt);
     let mut maker = failing.maker(rt);
     let mut doors = three_doors(rt, &mut maker);
     let stored = store_six(rt, &mut doors, &houses);
-    assert_eq!(rt; stored.err(), fault);
+    assert_eq!(rt; lost(rt, stored), page);
     doors.back(&mut maker);
 }
 
 #[test]
 fn a_fault_names_the_first_page_that_no_door_took(rt: HostRuntime) {
     let every: &[u64] = &[1, 2];
-    let first = Some(StoreFault::PageFault(0));
-    let second = Some(StoreFault::PageFault(1));
-    check_fault(&rt, Failing(every, every, every), first);
-    check_fault(&rt, Failing(&[1], &[1], &[]), first);
-    check_fault(&rt, Failing(&[2], &[], &[1]), second);
-    check_fault(&rt, Failing(&[1], &[], &[1]), None);
-    check_fault(&rt, Failing(&[], &[], &[]), None);
+    check_lost(&rt, Failing(every, every, every), Some(0));
+    check_lost(&rt, Failing(&[1], &[1], &[]), Some(0));
+    check_lost(&rt, Failing(&[2], &[], &[1]), Some(1));
+    check_lost(&rt, Failing(&[1], &[], &[1]), None);
+    check_lost(&rt, Failing(&[], &[], &[]), None);
 }
 
 // The providers of a page's replicas.
@@ -289,4 +302,35 @@ fn the_greatest_update_is_cut_at_the_page_size(rt: HostRuntime) {
     assert_eq!(rt; update.len(), 1_048_576);
     check_cut(&rt, update.as_slice(), 4096, 256);
     check_cut(&rt, update.as_slice(), 4, 262_144);
+}
+
+// Which page of the house a put adds, if any.
+fn place_put<D: Door, R: Abort + Wait>(rt: &R, door: &mut D, house: &PageHouse) -> Option<u64> {
+    match door.put(rt, house, b"abcd") {
+        PutAnswer::Stored(page) => Some(page.place()),
+        PutAnswer::Failed => None,
+        PutAnswer::NoMemory => panic!(rt; "no memory"),
+    }
+}
+
+#[test]
+fn a_put_adds_one_page_and_a_failed_put_none(rt: HostRuntime) {
+    let house = PageHouse::new(rt.alloc(), 1).expect(&rt, "memory");
+    let mut plain = PlainDoor::new();
+    assert_eq!(rt; place_put(&rt, &mut plain, &house), Some(0));
+    assert_eq!(rt; place_put(&rt, &mut plain, &house), Some(1));
+    let mut flaky = FlakyDoor::new(vec![in rt.alloc(); 2].expect(&rt, "memory"));
+    assert_eq!(rt; place_put(&rt, &mut flaky, &house), Some(2));
+    assert_eq!(rt; place_put(&rt, &mut flaky, &house), None);
+    assert_eq!(rt; place_put(&rt, &mut flaky, &house), Some(3));
+}
+
+#[test]
+fn a_page_is_handed_on(rt: HostRuntime) {
+    let houses = three_houses(&rt);
+    let mut doors = three_doors(&rt, &mut PlainMaker::new());
+    let pages = store_at(&rt, &mut doors, &houses, 4, b"abc", 1).expect(&rt, "stored");
+    assert_eq!(rt; pages.count(), 1);
+    check_providers(&rt, &pages.into_page(), &[1, 2]);
+    doors.back(&mut PlainMaker::new());
 }

@@ -1,9 +1,11 @@
 //! Tests of the choice of providers and of the book of loads.
 ghost use Rattle.std.specs.Prelude.{◌≤◌, length};
+ghost use Rattle.provider_manager.specs.Loads.{IsEven};
 
-use provider_manager::{LoadBook, PlaceFault, Placements};
+use provider_manager::{LoadBook, PlaceFault, Placements, SharedLoads};
 use replica_place::choose;
 use std::process::Abort;
+use std::sync::Wait;
 
 fn check_chosen<R: Abort>(rt: &R, loads: &[u64], replicas: u32, want: &[u32])
     requires some { 1 ≤ replicas }
@@ -39,7 +41,9 @@ fn a_full_book_places_nothing_more(rt: HostRuntime) {
 }
 
 /// The placements of the next pages.
-fn placed<R: Abort + AllocGlobal>(rt: &R, book: &mut LoadBook, pages: u32) -> Placements {
+fn placed<R: Abort + AllocGlobal>(rt: &R, book: &mut LoadBook, pages: u32) -> Placements
+    ensures { IsEven book.old.loads → IsEven book.new.loads }
+{
     book.place(rt.alloc(), pages).expect(rt, "places")
 }
 
@@ -79,4 +83,25 @@ fn pages_take_turns(rt: HostRuntime) {
 fn no_pages_have_no_placements(rt: HostRuntime) {
     let mut book = LoadBook::new(rt.alloc(), 64, 8).expect(&rt, "memory");
     check_placed(&rt, &placed(&rt, &mut book, 0), &[]);
+}
+
+// Checks where a shared book places the next pages.
+fn check_shared<R: Abort + AllocGlobal + Wait>(
+    rt: &R,
+    loads: &SharedLoads,
+    pages: u32,
+    want: &[&[u32]],
+) {
+    let placed = loads.place(rt, rt.alloc(), pages).expect(rt, "places");
+    check_placed(rt, &placed, want);
+}
+
+#[test]
+fn a_shared_book_goes_on_from_its_loads(rt: HostRuntime) {
+    let mut book = LoadBook::new(rt.alloc(), 3, 1).expect(&rt, "memory");
+    check_placed(&rt, &placed(&rt, &mut book, 1), &[&[1]]);
+    let loads = SharedLoads::new(book);
+    check_shared(&rt, &loads, 1, &[&[2]]);
+    check_shared(&rt, &loads, 3, &[&[3], &[1], &[2]]);
+    check_shared(&rt, &loads, 1, &[&[3]]);
 }

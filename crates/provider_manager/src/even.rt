@@ -20,6 +20,7 @@ impl EvenBook {
 
     pub(crate) fn of_book(book: LoadBook) -> EvenBook
         requires { IsEven book.loads }
+        ensures { result.book ≡ book }
     {
         EvenBook { book }
     }

@@ -10,7 +10,7 @@ mod placements;
 mod shared;
 
 pub use book::{LoadBook, MOST_PROVIDERS, MOST_REPLICAS_PLACED, PlaceFault};
-pub use no_memory::NoMemory;
+pub use faults::NoMemory;
 pub use placements::Placements;
 pub use replica_place::Placement;
 pub use shared::SharedLoads;

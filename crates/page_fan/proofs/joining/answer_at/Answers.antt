@@ -1,6 +1,7 @@
 use Rattle.std.proofs.Common.{◌-◌, ◌<◌, ℕ, List, arith, length}
 use Rattle.page_fan.specs.declared.stand.Reply.{Reply}
 use Rattle.page_fan.specs.declared.stand.Stand.{Stand}
+use Rattle.page_fan.proofs.Owing.{owed_next}
 use Rattle.page_fan.proofs.Rises.{none_falls}
 use Rattle.page_fan.proofs.Trays.{one_has, all_have, count_at}
 use Rattle.page_fan.proofs.joining.answer_at.Goals as goal
@@ -29,3 +30,9 @@ pub returns-clause-none_fell : goal.returns-clause-none_fell
 returns-clause-none_fell g c =
     let faults : Stand g.row.D.Denot → ℕ = λ s. g.D.Door.faults s.door in
     none_falls faults c.args.stands.now (c.args.put.provider - 1) c.index-stands-put.result c.answer.new.self c.index-stands-put.is (rw (← c.index-stands-put.is) at c.answer.ensures.never_falls)
+
+pub returns-clause-owed : goal.returns-clause-owed
+returns-clause-owed g c = λ done rest first owed.
+    let served = c.requires.served in
+    let within : c.args.put.provider - 1 < length c.args.stands.now = omega (arith, served.0, served.1) in
+    owed_next g.D.Door.called done rest c.args.put first c.args.stands.now c.index-stands-put.result c.answer.new.self served.0 within c.index-stands-put.is (rw (← c.index-stands-put.is) at c.answer.ensures.owed) owed

@@ -1,6 +1,10 @@
 use Rattle.std.proofs.Common.{ℕ, List, ◌≤◌, arith, length, length-take, map, take, drop, ◌∙◌}
 use Rattle.replica_place.specs.Chosen.{chosen}
 use Rattle.page_fan.specs.declared.stand.Stand.{Stand}
+use Rattle.std.proofs.lemmas.List.{length-map, take_all, drop_all}
+use Rattle.page_fan.specs.declared.stand.Put.{Put}
+use Rattle.page_fan.specs.Listed.{puts_at}
+use Rattle.page_fan.proofs.Owing.{owed_step}
 use Rattle.page_fan.proofs.Answering.{answer_at_end}
 use Rattle.page_fan.proofs.StoredSoFar.{kept_more, kept_longer, same_bytes}
 use Rattle.page_fan.proofs.Rises.{none_fell_since}
@@ -25,6 +29,7 @@ loop-i-preserved g c =
             stored = rw w.stored-is (kept_more c.args.houses.now content index c.loop-i.stored w.in-Stored.page with.field-0 i.stored page.here page.bytes with.ensures.bytes with.ensures.spots);
             replicas = rw w.stored-is (stands_at_next g.before mid now (chosen c.args.placement.now) index _ _ w.in-Stored.page.spot a.none_fell c.loop-i-test.true page.there with.ensures.spots i.replicas);
             replies = a.replies g.before i.replies;
+            owed = λ done rest first h. owed_step g.D.Door.called c.args.at (chosen c.args.placement.now) index done rest first c.loop-i.stands c.answer_at.new.stands c.loop-i-test.true (λ d r o. a.owed d r first o) (i.owed done rest first h);
             kept = none_fell_since (counts c.args.stands.now) mid now i.kept a.none_fell;
             truth = λ t. a.truth_stays (i.truth t);
             count = c.answer_at.auto.stands ∙ i.count;
@@ -35,6 +40,7 @@ loop-i-preserved g c =
             stored = rw w.stored-is (kept_longer c.args.houses.now content index c.loop-i.stored i.stored);
             replicas = rw w.stored-is (stands_without_next g.before mid now (chosen c.args.placement.now) index _ a.none_fell c.loop-i-test.true gone.failed i.replicas);
             replies = a.replies g.before i.replies;
+            owed = λ done rest first h. owed_step g.D.Door.called c.args.at (chosen c.args.placement.now) index done rest first c.loop-i.stands c.answer_at.new.stands c.loop-i-test.true (λ d r o. a.owed d r first o) (i.owed done rest first h);
             kept = none_fell_since (counts c.args.stands.now) mid now i.kept a.none_fell;
             truth = λ t. a.truth_stays (i.truth t);
             count = c.answer_at.auto.stands ∙ i.count;
@@ -60,3 +66,9 @@ returns-in-NoMemory-clause-replies g c = c.answer_at.ensures.replies g.before c.
 
 pub returns-in_err-with_replica-in-Stored-clause-replies : goal.returns-in_err-with_replica-in-Stored-clause-replies
 returns-in_err-with_replica-in-Stored-clause-replies g c = c.answer_at.ensures.replies g.before c.loop-i.invariant.replies
+
+pub returns-clause-owed : goal.returns-clause-owed
+returns-clause-owed g c = λ done rest first h.
+    let puts = puts_at c.args.at (chosen c.args.placement.now) in
+    let over : length puts ≤ c.loop-i.i = omega (arith, c.loop-i-test.false, length-map (chosen c.args.placement.now) (λ (q : ℕ). let put : Put = record { provider = q; at = c.args.at } in put)) in
+    rw (take_all c.loop-i.i puts over, drop_all c.loop-i.i puts over) at (c.loop-i.invariant.owed done rest first h)

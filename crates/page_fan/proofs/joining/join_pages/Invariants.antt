@@ -1,7 +1,10 @@
-use Rattle.std.proofs.Common.{◌≡◌, ℕ, ◌-◌, ◌*◌, ◌^◌, ◌<◌, ◌≤◌, length, map, []}
+use Rattle.std.proofs.Common.{◌≡◌, ℕ, ◌-◌, ◌*◌, ◌^◌, ◌<◌, ◌≤◌, List, length, map, take, drop, []}
 use Rattle.std.specs.Prelude.{All, None, slice_index_or, vec_capacity}
 use Rattle.page_fan.specs.Answer.{page_of, IsPageAnswer}
 use Rattle.page_fan.specs.Counts.{NoneFell}
+use Rattle.page_fan.specs.Listed.{HasPages, puts_from}
+use Rattle.page_fan.specs.Stands.{EachOwed}
+use Rattle.page_fan.specs.declared.stand.Stand.{Stand}
 use Rattle.page_fan.specs.Groups.{AllReplied}
 use Rattle.page_fan.proofs.joining.join_pages.Given as goal
 
@@ -20,6 +23,8 @@ invariant-loop-at g l =
       within : (k : ℕ) → k < l.i → k * l.page_size < length l.buffer;
       each : (k : ℕ) → k < length l.answer.items → IsPageAnswer l.houses (page_of l.page_size l.buffer k) (slice_index_or l.placements k []) g.before (counts l.stands) (slice_index_or l.answer.items k None);
       replies : AllReplied l.houses l.p l.buffer g.before (counts l.stands) (map (λ s. s.tray.items) l.stands);
+      owed : (pages : ℕ) (first : List (Stand g.row.D.Denot)) → HasPages l.p (length l.buffer) pages → EachOwed g.D.Door.called [] (puts_from l.p 0 (take pages l.placements)) first l.fn.stands
+          → EachOwed g.D.Door.called (puts_from l.p 0 (take l.i (take pages l.placements))) (puts_from l.p l.i (drop l.i (take pages l.placements))) first l.stands;
       kept : NoneFell (counts l.fn.stands) (counts l.stands);
       truth : All (λ s. g.D.Door.is_true s.door) l.fn.stands → All (λ s. g.D.Door.is_true s.door) l.stands;
       count : length l.stands ≡ length l.fn.stands;

@@ -1,6 +1,6 @@
 use Rattle.std.proofs.Common.{◌≡◌, ◌++◌, ◌∷◌, map, length, ap, sym, ◌∙◌, arith, rules}
 use Rattle.std.specs.Prelude.{Some}
-use Rattle.page_fan.proofs.Gathered.{next_at, earlier_at, gathered}
+use Rattle.page_fan.proofs.Gathered.{next_at, earlier_at, gathered_all}
 use Rattle.page_fan.proofs.storing.gather.Goals as goal
 
 pub add-requires-clause-full : goal.add-requires-clause-full
@@ -33,4 +33,8 @@ add-requires-clause-fits c =
 pub returns-clause-all : goal.returns-clause-all
 returns-clause-all c =
     let empty = rw c.in_default.is at c.pop_front.ensures.cases in
-    gathered c.loop-next.pages.pages c.loop-next.rest.items c.args.answer.items c.loop-next.invariant.all (omega (arith, c.loop-next.rest.ok.0, empty.0))
+    record {
+      size = c.loop-next.invariant.page_size;
+      all = gathered_all c.loop-next.pages.pages c.loop-next.rest.items c.args.answer.items c.loop-next.invariant.all (omega (arith, c.loop-next.rest.ok.0, empty.0));
+      cut = c.loop-next.invariant.cut;
+    }

@@ -1,10 +1,13 @@
 use Rattle.std.proofs.Common.{◌≡◌, ◌≤◌, ◌++◌, ℕ, arith, rules, ap, sym, ◌∙◌, length, map, take, drop}
-use Rattle.std.specs.Prelude.{All, IfOk}
+use Rattle.std.specs.Prelude.{All, IfOk, OnOk}
 use Rattle.std.proofs.lemmas.List.{length-map}
 use Rattle.page_store.specs.House.{IsProvider}
 use Rattle.page_fan.specs.Answer.{AreAnswered}
 use Rattle.page_fan.specs.Counts.{NoneFell}
 use Rattle.page_fan.specs.declared.stand.Stand.{Stand}
+use Rattle.page_fan.specs.Used.{CalledAsPlaced}
+use Rattle.page_fan.proofs.Answered.{OnOk-weaken}
+use Rattle.page_fan.proofs.Placed.{called_as_placed}
 use Rattle.page_fan.proofs.Rises.{all_in_map, all_of_map, map_map, written_whole}
 use Rattle.page_fan.proofs.storing.put_pages.Goals as goal
 
@@ -57,3 +60,17 @@ returns-clause-truth_stays g c = λ t.
     let new : All g.D.Door.is_true (map door (take c.doors.inside.stands.len (now ++ drop (length now) items))) =
     rw written (all_of_map g.D.Door.is_true door now (c.put_in_groups.ensures.truth_stays (all_in_map g.D.Door.is_true door was old))) in
     new
+
+pub returns-clause-called : goal.returns-clause-called
+returns-clause-called g c = λ pages cut.
+    let door : Stand g.row.D.Denot → g.row.D.Denot = λ s. s.door in
+    let items = c.doors.inside.stands.items in
+    let was = c.as_mut_slice-stands.result.now in
+    let now = c.put_in_groups.new.stands in
+    let placements = take pages c.args.placements.now in
+    let value : was ≡ items = c.as_mut_slice-stands.ensures.value in
+    let written : take c.doors.inside.stands.len (now ++ drop (length now) items) ≡ now = written_whole items now c.doors.inside.stands.len (c.put_in_groups.auto.stands ∙ ap length value) c.doors.inside.stands.ok.0 in
+    let old : c.args.doors.now ≡ map door was = sym c.doors.view_is ∙ ap (map door) (sym value) in
+    let called : OnOk c.put_in_groups.result (CalledAsPlaced g.D.Door.called placements c.args.doors.now (map door (take c.doors.inside.stands.len (now ++ drop (length now) items)))) =
+    rw (old, written) (OnOk-weaken _ _ (λ put. called_as_placed g.D.Door.called c.args.p placements was now c.put_in_groups.auto.stands put) c.put_in_groups.result (c.put_in_groups.ensures.put_once pages cut)) in
+    called

@@ -2,7 +2,8 @@ use Rattle.std.proofs.Common.{◌≡◌, ◌-◌, ◌<◌, arith, length, map, g
 use Rattle.std.proofs.lemmas.List.{get_or-map, length-map, map-set}
 use Rattle.page_fan.specs.declared.stand.Stand.{Stand}
 use Rattle.page_fan.proofs.Answered.{OnGetFailed-weaken, OnGot-given}
-use Rattle.page_fan.proofs.Rises.{all_after_set, none_falls, others_stay, rises_at}
+use Rattle.page_fan.proofs.Rises.{none_falls, others_stay, rises_at}
+use Rattle.page_fan.proofs.Using.{called_at, stays_true_at}
 use Rattle.page_fan.proofs.doors.Doors.get.Goals as goal
 
 pub returns-clause-none_fell : goal.returns-clause-none_fell
@@ -44,12 +45,12 @@ returns-clause-got g c = λ t.
     let index = c.provider-provider.result - 1 in
     let within : index < length stands = omega (arith, same, served.0, served.1, length-map stands door) in
     let here : c.index_mut-stand.result.now.door ≡ get_or (map door stands) index c.index_mut-stand.result.now.door = ap door c.index_mut-stand.ensures.value ∙ sym (get_or-map door stands index c.index_mut-stand.result.now _ within) in
-    let all = rw (← c.self.view_is) at t in
-    let true_door : g.D.Door.is_true c.index_mut-stand.result.now.door = rw here (all index c.index_mut-stand.result.now.door (omega (arith, within, length-map stands door))) in
+    let there = rw (← c.self.view_is, ← same) at t in
+    let true_door : g.D.Door.is_true c.index_mut-stand.result.now.door = rw here (there c.index_mut-stand.result.now.door (omega (arith, within, length-map stands door))) in
     OnGot-given _ _ true_door c.get.result c.get.ensures.got
 
-pub returns-clause-truth_stays : goal.returns-clause-truth_stays
-returns-clause-truth_stays g c = λ t.
+pub returns-clause-called : goal.returns-clause-called
+returns-clause-called g c =
     let door : Stand g.row.D.Denot → g.row.D.Denot = λ s. s.door in
     let stands = c.self.inside.stands.items in
     let served = rw (← c.self.view_is) at c.requires.served in
@@ -57,6 +58,15 @@ returns-clause-truth_stays g c = λ t.
     let index = c.provider-provider.result - 1 in
     let within : index < length stands = omega (arith, same, served.0, served.1, length-map stands door) in
     let here : c.index_mut-stand.result.now.door ≡ get_or (map door stands) index c.index_mut-stand.result.now.door = ap door c.index_mut-stand.ensures.value ∙ sym (get_or-map door stands index c.index_mut-stand.result.now _ within) in
-    let all = rw (← c.self.view_is) at t in
-    let true_door : g.D.Door.is_true c.index_mut-stand.result.now.door = rw here (all index c.index_mut-stand.result.now.door (omega (arith, within, length-map stands door))) in
-    rw (map-set door stands index _) (all_after_set g.D.Door.is_true (map door stands) index c.get.new.self all (c.get.ensures.truth_stays.0 true_door))
+    rw (← c.self.view_is, ← same, map-set door stands index _) (called_at g.D.Door.called (map door stands) c.provider-provider.result _ c.get.new.self (omega (arith, same, served.0)) (omega (arith, within, length-map stands door)) here c.get.ensures.called)
+
+pub returns-clause-stay_true : goal.returns-clause-stay_true
+returns-clause-stay_true g c =
+    let door : Stand g.row.D.Denot → g.row.D.Denot = λ s. s.door in
+    let stands = c.self.inside.stands.items in
+    let served = rw (← c.self.view_is) at c.requires.served in
+    let same = c.provider-provider.ensures in
+    let index = c.provider-provider.result - 1 in
+    let within : index < length stands = omega (arith, same, served.0, served.1, length-map stands door) in
+    let here : c.index_mut-stand.result.now.door ≡ get_or (map door stands) index c.index_mut-stand.result.now.door = ap door c.index_mut-stand.ensures.value ∙ sym (get_or-map door stands index c.index_mut-stand.result.now _ within) in
+    rw (← c.self.view_is, map-set door stands index _) (stays_true_at g.D.Door.is_true (map door stands) index _ c.get.new.self (omega (arith, within, length-map stands door)) here c.get.ensures.truth_stays.0)

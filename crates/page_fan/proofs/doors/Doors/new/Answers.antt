@@ -1,7 +1,10 @@
-use Rattle.std.proofs.Common.{◌≡◌, ◌+◌, ◌-◌, ◌^◌, ◌≤◌, length, min, map, List, [], ◌∷◌, ◌++◌, ap, arith, ◌∙◌}
+use Rattle.std.proofs.Common.{rules, suc, ◌≡◌, ◌+◌, ◌-◌, ◌^◌, ◌≤◌, length, min, map, List, [], ◌∷◌, ◌++◌, ap, arith, ◌∙◌}
 use Rattle.std.specs.Prelude.{sum_by}
 use Rattle.std.proofs.lemmas.List.{length-map, map-append}
 use Rattle.std.proofs.lemmas.List.Elements.{All-push}
+use Rattle.page_store.specs.Calls.{Traffic, no_door, handed_out}
+use Rattle.page_store.proofs.CallsLemmas.{traffic_join}
+use Rattle.page_fan.proofs.Answered.{OnErr-given}
 use Rattle.page_fan.proofs.Rises.{sum_none}
 use Rattle.page_fan.proofs.Standing.{each_push}
 use Rattle.page_fan.proofs.doors.Doors.new.Goals as goal
@@ -37,5 +40,35 @@ loop-before-preserved g c =
       count_stays = m.count_stays ∙ i.count_stays;
       each = rw more (each_push (λ n door. makes (n + 1) door) doors c.in-Ok.door before count i.each ((i.plan_stays (before + 1) c.in-Ok.door).1 m.made));
       plan_stays = λ n door. (λ h. (m.plan_stays n door).0 ((i.plan_stays n door).0 h), λ h. (i.plan_stays n door).1 ((m.plan_stays n door).1 h));
+      traffic = let next : before + 1 ≡ suc before = omega arith in rw next (handed_out i.traffic m.handed_out);
       truth_stays = (λ t. m.truth_stays.0 (i.truth_stays.0 t), λ t. i.truth_stays.1 (m.truth_stays.1 t));
     }
+
+pub returns-in-Err-clause-all_back : goal.returns-in-Err-clause-all_back
+returns-in-Err-clause-all_back g c =
+    let hands_out = g.M.DoorMaker.hands_out in
+    let takes_back = g.M.DoorMaker.takes_back in
+    let n = c.loop-before.before in
+    let stands = c.loop-before.stands.items in
+    let same : c.make.new.self ≡ c.loop-before.maker = c.in-Err.ensures.err in
+    let count : length (map (λ s. s.door) stands) ≡ n = omega (arith, c.loop-before.invariant.count, c.loop-before.stands.ok.0, length-map stands (λ s. s.door)) in
+    let back : Traffic hands_out takes_back 0 n c.loop-before.maker c.back.new.maker = rw (same, count) at c.back.ensures.taken_back in
+    let out : n + 0 ≡ n = omega arith in
+    let gone : 0 + n ≡ n = omega arith in
+    (n, rw (out, gone) at (traffic_join hands_out takes_back n 0 0 n c.args.maker.now c.loop-before.maker c.back.new.maker c.loop-before.invariant.traffic back))
+
+pub returns-in_err-stands-clause-all_back : goal.returns-in_err-stands-clause-all_back
+returns-in_err-stands-clause-all_back g c = OnErr-given _ (0, no_door) c.from_residual.result
+
+pub loop-before-init : goal.loop-before-init
+loop-before-init g c = record {
+  count = search rules;
+  room = search rules;
+  true_doors = search rules;
+  fresh = search rules;
+  count_stays = search rules;
+  each = search rules;
+  plan_stays = search rules;
+  traffic = no_door;
+  truth_stays = search rules;
+}

@@ -1,5 +1,6 @@
 use Rattle.std.proofs.Common.{◌≡◌, ℕ, ◌≤◌, vec_len, map}
 use Rattle.std.specs.Prelude.{All, vec_capacity, ◌↔◌}
+use Rattle.page_store.specs.Calls.{Traffic}
 use Rattle.page_fan.specs.Made.{AreMade}
 use Rattle.page_fan.proofs.doors.Doors.new.Given as goal
 
@@ -16,4 +17,5 @@ invariant-loop-before g l =
       each : AreMade (g.M.DoorMaker.makes l.fn.maker) (map (λ s. s.door) l.stands.items);
       plan_stays : (n : ℕ) (door : _) → g.M.DoorMaker.makes l.fn.maker n door ↔ g.M.DoorMaker.makes l.maker n door;
       truth_stays : is_true l.fn.maker ↔ is_true l.maker;
+      traffic : Traffic g.M.DoorMaker.hands_out g.M.DoorMaker.takes_back l.before 0 l.fn.maker l.maker;
     }
