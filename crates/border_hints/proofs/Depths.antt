@@ -1,5 +1,5 @@
 -- How deep the newest lower leaf of a page lies, from the snapshot's on.
-use Rattle.std.proofs.Common.{◌≡◌, ◌≢◌, ◌⊎◌, ℕ, suc, ◌+◌, ◌*◌, ◌<◌, ◌≤◌, List, [], ◌∷◌, ◌++◌, length, map, arith, inl, inr, refl, ap, sym, ◌∙◌, true, false}
+use Rattle.std.proofs.Common.{◌≡◌, ◌≢◌, ◌⊎◌, ℕ, suc, ◌+◌, ◌*◌, ◌%◌, ◌<◌, ◌≤◌, List, [], ◌∷◌, ◌++◌, length, map, arith, inl, inr, refl, ap, sym, ◌∙◌, true, false}
 use Rattle.std.specs.Prelude.{if◌then◌else◌}
 use Rattle.std.proofs.lemmas.Nat.{mul-le}
 use Rattle.tree_geom.specs.declared.range.Range.{Range}
@@ -9,12 +9,12 @@ use Rattle.tree_geom.specs.Geometry.{page_range, meets_of, leaves_open}
 use Rattle.tree_geom.specs.Nodes.{depth_in}
 use Rattle.tree_geom.specs.Laws.{MeetsIsTrue}
 use Rattle.range_log.specs.Log.{touch_at}
-use Rattle.range_log.specs.Depths.{depth_of, depth_after}
+use Rattle.range_log.specs.Depths.{fold_number, depth_by, depth_of, depth_after}
 use Rattle.range_log.specs.Laws.{TouchesAre, DepthsStay}
 use Rattle.range_log.specs.Open.{open_at}
 use Rattle.range_log.specs.Rows.{node_of}
 use Rattle.range_log.specs.Updates.{extents}
-use Rattle.range_log.proofs.Nodes.{node_leaf}
+use Rattle.range_log.proofs.Nodes.{node_leaf, leaf_depth}
 use Rattle.snapshot.specs.Versions.{Version, updates_of}
 use Rattle.border_hints.specs.Numbered.{NumberedUpdate, log_of, own_touch, log_upto}
 use Rattle.border_hints.specs.Borders.{BorderLinks, AreBorders}
@@ -22,44 +22,45 @@ use Rattle.border_hints.proofs.Tickets.{length-log_of, length-log_with}
 use Rattle.border_hints.proofs.Turning.{touch_in, touch_waiting}
 
 pub depth_none : (p : ℕ) (log : List Touch) (i : ℕ) → depth_of p log 0 i ≡ 0
-unfolding depth_of
+unfolding depth_by
 depth_none p log i = refl
 
 -- one update more
-pub depth_next : (p : ℕ) (log : List Touch) (k i : ℕ) → depth_of p log (suc k) i ≡ depth_after p (touch_at log (suc k)) i (depth_of p log k i)
-unfolding depth_of
+pub depth_next : (p : ℕ) (log : List Touch) (k i : ℕ) → depth_of p log (suc k) i ≡ depth_after fold_number p (touch_at log (suc k)) i (depth_of p log k i)
+unfolding depth_by
 depth_next p log k i = refl
 
 -- an update that touches the page
-after_met : MeetsIsTrue → (p : ℕ) (u : Touch) (i d : ℕ) → 1 ≤ p → u.first ≤ i → i ≤ u.last → depth_after p u i d ≡ (if leaves_open u i then suc d else 0)
+after_met : MeetsIsTrue → (p : ℕ) (u : Touch) (i d : ℕ) → 1 ≤ p → u.first ≤ i → i ≤ u.last → depth_after fold_number p u i d ≡ (if leaves_open u i then suc d % fold_number else 0)
 after_met met p u i d pos from to =
     let low : u.first * p ≤ i * p = mul-le u.first p i p from (omega arith) in
     let high : (i + 1) * p ≤ (u.last + 1) * p = mul-le (i + 1) p (u.last + 1) p (omega arith) (omega arith) in
     let hit : meets_of p u (page_range p i) ≡ true = met p u (page_range p i) (omega arith, omega arith, omega arith) in
-    ap (λ b. if b then (if leaves_open u i then suc d else 0) else d) hit
+    ap (λ b. if b then (if leaves_open u i then suc d % fold_number else 0) else d) hit
 
 depth_met : MeetsIsTrue → (p : ℕ) (log : List Touch) (u : Touch) (k i : ℕ) → 1 ≤ p → touch_at log (k + 1) ≡ u → u.first ≤ i → i ≤ u.last
-    → depth_of p log (k + 1) i ≡ (if leaves_open u i then suc (depth_of p log k i) else 0)
+    → depth_of p log (k + 1) i ≡ (if leaves_open u i then suc (depth_of p log k i) % fold_number else 0)
 depth_met met p log u k i pos own from to =
     let e : k + 1 ≡ suc k = omega arith in
     ap (λ n. depth_of p log n i) e
     ∙ depth_next p log k i
-    ∙ ap (λ v. depth_after p v i (depth_of p log k i)) (ap (touch_at log) (sym e) ∙ own)
+    ∙ ap (λ v. depth_after fold_number p v i (depth_of p log k i)) (ap (touch_at log) (sym e) ∙ own)
     ∙ after_met met p u i (depth_of p log k i) pos from to
 
 -- where it covers the page, its leaf has no backs
 pub depth_whole : MeetsIsTrue → (p : ℕ) (log : List Touch) (u : Touch) (k i : ℕ) → 1 ≤ p → touch_at log (k + 1) ≡ u → u.first ≤ i → i ≤ u.last
     → leaves_open u i ≡ false → 0 ≡ depth_of p log (k + 1) i
 depth_whole met p log u k i pos own from to whole =
-    sym (depth_met met p log u k i pos own from to ∙ ap (λ b. if b then suc (depth_of p log k i) else 0) whole)
+    sym (depth_met met p log u k i pos own from to ∙ ap (λ b. if b then suc (depth_of p log k i) % fold_number else 0) whole)
 
--- where it doesn't, its leaf lies one deeper than the newest one before
+-- where it doesn't, its leaf lies one deeper than the newest one before, or stores the page anew
 pub depth_part : MeetsIsTrue → (p : ℕ) (log : List Touch) (u : Touch) (k i d : ℕ) → 1 ≤ p → touch_at log (k + 1) ≡ u → u.first ≤ i → i ≤ u.last
-    → leaves_open u i ≡ true → d ≡ depth_of p log k i → d + 1 ≡ depth_of p log (k + 1) i
+    → leaves_open u i ≡ true → d ≡ depth_of p log k i → (d + 1) % fold_number ≡ depth_of p log (k + 1) i
 depth_part met p log u k i d pos own from to part is =
-    let e : depth_of p log (k + 1) i ≡ suc (depth_of p log k i) =
-    depth_met met p log u k i pos own from to ∙ ap (λ b. if b then suc (depth_of p log k i) else 0) part in
-    omega arith
+    let e : depth_of p log (k + 1) i ≡ suc (depth_of p log k i) % fold_number =
+    depth_met met p log u k i pos own from to ∙ ap (λ b. if b then suc (depth_of p log k i) % fold_number else 0) part in
+    let more : d + 1 ≡ suc (depth_of p log k i) = omega arith in
+    ap (λ n. n % fold_number) more ∙ sym e
 
 -- ---- what the borders tell of an edge's page
 edge_within : (u : Touch) (page : ℕ) → u.first ≤ u.last → (page ≡ u.first) ⊎ (page ≡ u.last) → (u.first ≤ page) × (page ≤ u.last)
@@ -76,13 +77,13 @@ module _ (met : MeetsIsTrue) (b : BorderLinks) (page : ℕ) (pos : 1 ≤ b.page_
       depth_whole met b.page_size log b.touch k page pos own within.0 within.1 whole
 
   pub first_edge : leaves_open b.touch page ≡ true → page ≡ b.touch.first → (log : List Touch) (k : ℕ) → AreBorders log k b → touch_at log (k + 1) ≡ b.touch
-      → b.first.depth + 1 ≡ depth_of b.page_size log (k + 1) page
+      → (b.first.depth + 1) % fold_number ≡ depth_of b.page_size log (k + 1) page
   first_edge part is log k are own =
       let within = edge_within b.touch page ordered edge in
       depth_part met b.page_size log b.touch k page b.first.depth pos own within.0 within.1 part (are.first.depth ∙ ap (depth_of b.page_size log k) (sym is))
 
   pub last_edge : leaves_open b.touch page ≡ true → page ≢ b.touch.first → (log : List Touch) (k : ℕ) → AreBorders log k b → touch_at log (k + 1) ≡ b.touch
-      → b.last.depth + 1 ≡ depth_of b.page_size log (k + 1) page
+      → (b.last.depth + 1) % fold_number ≡ depth_of b.page_size log (k + 1) page
   last_edge part other log k are own =
       let within = edge_within b.touch page ordered edge in
       let is : page ≡ b.touch.last = elim edge [
@@ -96,7 +97,7 @@ module _ (met : MeetsIsTrue) (b : BorderLinks) (page : ℕ) (pos : 1 ≤ b.page_
 pub leaf_says : (s : Version) (j page : ℕ) (range : Range) (node : Node) → 1 ≤ s.page_size → range ≡ page_range s.page_size page → node ≡ node_of s.page_size (extents (updates_of s)) j range
     → depth_in node ≡ depth_of s.page_size (log_of s) j page
 leaf_says s j page range node pos is found =
-    ap depth_in (found ∙ ap (node_of s.page_size (extents (updates_of s)) j) is ∙ node_leaf s.page_size j page (extents (updates_of s)) pos)
+    ap depth_in (found ∙ ap (node_of s.page_size (extents (updates_of s)) j) is ∙ node_leaf s.page_size j page (extents (updates_of s)) pos) ∙ leaf_depth s.page_size j page (extents (updates_of s))
 
 -- the leaves of the snapshot's versions are as deep in the ticket's touches
 pub depth_stays : TouchesAre → DepthsStay → (t : NumberedUpdate) (page : ℕ)
@@ -113,11 +114,11 @@ depth_stays are stay t page =
 -- a waiting update more
 pub depth_waiting : TouchesAre → (t : NumberedUpdate) (page i k : ℕ) → i < length t.waiting → k ≡ i + 1
     → depth_of t.snapshot.page_size (log_upto t) (length t.snapshot.rows + k) page
-    ≡ depth_after t.snapshot.page_size (open_at t.waiting i).touch page (depth_of t.snapshot.page_size (log_upto t) (length t.snapshot.rows + i) page)
+    ≡ depth_after fold_number t.snapshot.page_size (open_at t.waiting i).touch page (depth_of t.snapshot.page_size (log_upto t) (length t.snapshot.rows + i) page)
 depth_waiting are t page i k lt next =
     let p : ℕ = t.snapshot.page_size in
     let v : ℕ = length t.snapshot.rows in
     let e : v + k ≡ suc (v + i) = omega arith in
     ap (λ n. depth_of p (log_upto t) n page) e
     ∙ depth_next p (log_upto t) (v + i) page
-    ∙ ap (λ u. depth_after p u page (depth_of p (log_upto t) (v + i) page)) (touch_waiting are t i lt)
+    ∙ ap (λ u. depth_after fold_number p u page (depth_of p (log_upto t) (v + i) page)) (touch_waiting are t i lt)

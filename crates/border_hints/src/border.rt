@@ -5,6 +5,7 @@ ghost use Rattle.range_log.specs.Log.{newest_of, touch_at};
 ghost use Rattle.range_log.specs.Depths.{depth_of};
 ghost use Rattle.border_hints.specs.Borders.{AreBorders, IsBorder};
 
+use range_log::deeper;
 use std::marker::Model;
 use tree_geom::{PageSize, Range, Touch, height};
 
@@ -84,7 +85,8 @@ impl Borders {
     }
 
     /// How deep the update's own leaf of its first or its last page lies, which is how many backs lead on from it: 0 where
-    /// the update covers the page, else one more than from the newest lower leaf of the page.
+    /// the update covers the page, else one more than from the newest lower leaf of the page, and 0 again where the update
+    /// stores the page anew.
     pub fn depth(&self, page: u64) -> u32
         requires edge { (page ≡ self.now.touch.first) ⊎ (page ≡ self.now.touch.last) }
         ensures { (log : List Touch) (k : ℕ) → AreBorders log k self.now → touch_at log (k + 1) ≡ self.now.touch
@@ -96,9 +98,9 @@ impl Borders {
             return 0;
         }
         if page == self.touch.first {
-            self.first.depth + 1
+            deeper(self.first.depth)
         } else {
-            self.last.depth + 1
+            deeper(self.last.depth)
         }
     }
 }

@@ -2,14 +2,16 @@
 ghost use Rattle.std.specs.Prelude.{◌≡◌, ℕ, ◌+◌, ◌-◌, ◌*◌, ◌/◌, ◌^◌, ◌<◌, ◌≤◌, List, length};
 ghost use Rattle.tree_geom.specs.Geometry.{tree_range, height_of, meets_of};
 ghost use Rattle.range_log.specs.Log.{newest_of};
-ghost use Rattle.range_log.specs.Depths.{depth_of, depth_after};
-ghost use Rattle.snapshot.specs.Versions.{size_now};
+ghost use Rattle.range_log.specs.Depths.{fold_number, depth_of, depth_after};
+ghost use Rattle.snapshot.specs.Versions.{size_now, NodesLieIn};
 ghost use Rattle.border_hints.specs.Numbered.{log_of, log_upto, own_touch};
 ghost use Rattle.border_hints.specs.Borders.{beside, newest_known, KnowsEdge, AreBorders, edge_links};
 
 use crate::border::{Borders, Edge, HEIGHTS};
 use crate::known::{depth_known, halves_known};
 use crate::ticket::Ticket;
+use node_store::NodeHouse;
+use range_log::deeper;
 use snapshot::Snapshot;
 use std::sync::ledger::Ledger;
 use tree_geom::{PageSize, Range, Steps, Touch, height, meets, range_of_page, span_stands};
@@ -48,17 +50,18 @@ fn newest_below(ticket: &Ticket, range: Range, known: u64) -> u64
 }
 
 // How deep the newest leaf of the page lies after an update, where it lay `depth` deep before: 0 where the update covers
-// the page, one more where it leaves valid bytes of it to older leaves, and the same where it doesn't touch the page.
+// the page, one more where it leaves valid bytes of it to older leaves, or 0 again where it stores the page anew, and the same
+// where it doesn't touch the page.
 fn depth_with(p: PageSize, touch: &Touch, page: u64, depth: u32) -> u32
     requires fits { page * p + p ≤ 2 ^ 40 }
     requires few { depth ≤ 2 ^ 21 }
-    ensures { result ≡ depth_after p touch.now page depth }
+    ensures { result ≡ depth_after fold_number p touch.now page depth }
 {
     if !meets(p, touch, range_of_page(p, page)) {
         return depth;
     }
     if touch.leaves_open(page) {
-        depth + 1
+        deeper(depth)
     } else {
         0
     }
@@ -99,12 +102,14 @@ fn tree_height(snapshot: &Snapshot) -> u32
 #[tactic(auto, using(crate::proofs::Published::power_small, crate::proofs::Published::size_small))]
 fn turn<L: Ledger>(
     ticket: &Ticket,
+    nodes: &NodeHouse,
     at: u64,
     tall: u32,
     level: u32,
     page: u64,
     steps: &mut Steps<L>,
 ) -> (u64, u64)
+    requires here { NodesLieIn nodes.now ticket.now.snapshot }
     requires tall { tall ≡ height_of ticket.now.snapshot.page_size (size_now ticket.now.snapshot) }
     requires level { level < height_of ticket.now.snapshot.page_size ticket.now.size }
     requires low { height_of ticket.now.snapshot.page_size ticket.now.size ≤ 38 }
@@ -123,7 +128,7 @@ fn turn<L: Ledger>(
     let pages = 2u64.pow(level);
     let size = snapshot.page_size().bytes() * pages;
     let number = page / pages;
-    let (low, high) = halves_known(snapshot, at, tall, level, number / 2, steps);
+    let (low, high) = halves_known(snapshot, nodes, at, tall, level, number / 2, steps);
     if number % 2 == 0 {
         let range = Range {
             offset: (number + 1) * size,
@@ -141,7 +146,8 @@ fn turn<L: Ledger>(
 
 // The newest lower versions along the path to the page, which is one of the update's version, and how deep the page's newest
 // lower leaf lies.
-fn descend<L: Ledger>(ticket: &Ticket, page: u64, steps: &mut Steps<L>) -> Edge
+fn descend<L: Ledger>(ticket: &Ticket, nodes: &NodeHouse, page: u64, steps: &mut Steps<L>) -> Edge
+    requires here { NodesLieIn nodes.now ticket.now.snapshot }
     requires page { page * ticket.now.snapshot.page_size < ticket.now.size }
     ensures knows { let t = ticket.now in
         KnowsEdge t.snapshot.page_size (log_upto t) (t.version - 1) (height_of t.snapshot.page_size t.size) page
@@ -163,11 +169,11 @@ fn descend<L: Ledger>(ticket: &Ticket, page: u64, steps: &mut Steps<L>) -> Edge
     let mut at = snapshot.version();
     let mut besides = [0; HEIGHTS];
     for level in (0..height(p, ticket.size())).rev() {
-        let (on, off) = turn(ticket, at, tall, level, page, steps);
+        let (on, off) = turn(ticket, nodes, at, tall, level, page, steps);
         besides[level as usize] = off;
         at = on;
     }
-    let known = depth_known(snapshot, at, page, steps);
+    let known = depth_known(snapshot, nodes, at, page, steps);
     Edge {
         besides,
         leaf: newest_below(ticket, range_of_page(p, page), at),
@@ -181,7 +187,8 @@ fn descend<L: Ledger>(ticket: &Ticket, page: u64, steps: &mut Steps<L>) -> Edge
 /// It goes down the snapshot's tree to a leaf once for each edge, and once where both are one page. It takes at most
 /// `4 h + 4` node steps, `h` the height of the tree after the update. It takes no memory, no lock, and waits for nobody.
 #[tactic(auto, using(crate::proofs::Turning::first_inside, crate::proofs::Turning::last_inside, crate::proofs::Turning::pages_ordered))]
-pub fn borders<L: Ledger>(ticket: &Ticket, steps: &mut Steps<L>) -> Borders
+pub fn borders<L: Ledger>(ticket: &Ticket, nodes: &NodeHouse, steps: &mut Steps<L>) -> Borders
+    requires here { NodesLieIn nodes.now ticket.now.snapshot }
     ensures page_size { result.page_size ≡ ticket.now.snapshot.page_size }
     ensures touch { result.touch ≡ own_touch ticket.now }
     ensures borders { AreBorders (log_upto ticket.now) (ticket.now.version - 1) result }
@@ -191,11 +198,11 @@ pub fn borders<L: Ledger>(ticket: &Ticket, steps: &mut Steps<L>) -> Borders
     let page_size = ticket.hints().snapshot.page_size();
     span_stands(page_size, ticket.size());
     let touch = ticket.touch();
-    let first = descend(ticket, touch.first, steps);
+    let first = descend(ticket, nodes, touch.first, steps);
     let last = if touch.last == touch.first {
         first
     } else {
-        descend(ticket, touch.last, steps)
+        descend(ticket, nodes, touch.last, steps)
     };
     Borders {
         page_size,

@@ -3,17 +3,24 @@ ghost use Rattle.std.specs.Prelude.{◌≡◌, ◌+◌, ◌*◌, ◌^◌, ◌<�
 ghost use Rattle.tree_geom.specs.Geometry.{tree_range, page_range, height_of, left_half, right_half};
 ghost use Rattle.range_log.specs.Log.{newest_of};
 ghost use Rattle.range_log.specs.Depths.{depth_of};
-ghost use Rattle.snapshot.specs.Versions.{size_now, HasNodeFor};
+ghost use Rattle.snapshot.specs.Versions.{size_now, HasNodeFor, NodesLieIn};
 ghost use Rattle.border_hints.specs.Numbered.{log_of};
 ghost use Rattle.border_hints.specs.Borders.{newest_known};
 
-use node_store::{Node, Range};
+use node_store::{Node, NodeHouse, Range};
 use snapshot::Snapshot;
 use std::sync::ledger::Ledger;
 use tree_geom::{Steps, range_of_page};
 
 // How many backs lead on from the leaf of the page in the row of update `j`, one after another.
-fn leaf_depth<L: Ledger>(snapshot: &Snapshot, j: u64, page: u64, steps: &mut Steps<L>) -> u32
+fn leaf_depth<L: Ledger>(
+    snapshot: &Snapshot,
+    nodes: &NodeHouse,
+    j: u64,
+    page: u64,
+    steps: &mut Steps<L>,
+) -> u32
+    requires here { NodesLieIn nodes.now snapshot.now }
     requires has { HasNodeFor snapshot.now j (page_range snapshot.now.page_size page) }
     requires fits { page * snapshot.now.page_size ≤ 2 ^ 40 }
     ensures depth { result ≡ depth_of snapshot.now.page_size (log_of snapshot.now) j page }
@@ -25,7 +32,7 @@ fn leaf_depth<L: Ledger>(snapshot: &Snapshot, j: u64, page: u64, steps: &mut Ste
     let Some(node) = snapshot.find(j, range, steps) else {
         unreachable!()
     };
-    match *node {
+    match nodes.get(&node) {
         Node::Leaf { depth, .. } => depth,
         Node::Inner { .. } => unreachable!(),
     }
@@ -35,10 +42,12 @@ fn leaf_depth<L: Ledger>(snapshot: &Snapshot, j: u64, page: u64, steps: &mut Ste
 /// it may be a leaf of the blob that the branch was made from, and the count goes on from there.
 pub(crate) fn depth_known<L: Ledger>(
     snapshot: &Snapshot,
+    nodes: &NodeHouse,
     at: u64,
     page: u64,
     steps: &mut Steps<L>,
 ) -> u32
+    requires here { NodesLieIn nodes.now snapshot.now }
     requires at { at ≡ newest_known snapshot.now (page_range snapshot.now.page_size page) }
     requires fits { page * snapshot.now.page_size ≤ 2 ^ 40 }
     ensures depth { result ≡ depth_of snapshot.now.page_size (log_of snapshot.now) (length snapshot.now.rows) page }
@@ -53,11 +62,18 @@ pub(crate) fn depth_known<L: Ledger>(
     if at == 0 {
         return 0;
     }
-    leaf_depth(snapshot, at, page, steps)
+    leaf_depth(snapshot, nodes, at, page, steps)
 }
 
 // The versions whose rows have the nodes of the halves of the range, by its node in the row of update `j`.
-fn links<L: Ledger>(snapshot: &Snapshot, j: u64, range: Range, steps: &mut Steps<L>) -> (u64, u64)
+fn links<L: Ledger>(
+    snapshot: &Snapshot,
+    nodes: &NodeHouse,
+    j: u64,
+    range: Range,
+    steps: &mut Steps<L>,
+) -> (u64, u64)
+    requires here { NodesLieIn nodes.now snapshot.now }
     requires has { HasNodeFor snapshot.now j range }
     requires inner { snapshot.now.page_size < range.size }
     ensures left { result.0 ≡ newest_of snapshot.now.page_size (log_of snapshot.now) j (left_half range) }
@@ -68,7 +84,7 @@ fn links<L: Ledger>(snapshot: &Snapshot, j: u64, range: Range, steps: &mut Steps
     let Some(node) = snapshot.find(j, range, steps) else {
         unreachable!()
     };
-    match *node {
+    match nodes.get(&node) {
         Node::Inner { left, right } => (left, right),
         Node::Leaf { .. } => unreachable!(),
     }
@@ -81,12 +97,14 @@ fn links<L: Ledger>(snapshot: &Snapshot, j: u64, range: Range, steps: &mut Steps
 #[tactic(auto, using(crate::proofs::Published::power_small, crate::proofs::Published::size_small))]
 pub(crate) fn halves_known<L: Ledger>(
     snapshot: &Snapshot,
+    nodes: &NodeHouse,
     at: u64,
     tall: u32,
     level: u32,
     q: u64,
     steps: &mut Steps<L>,
 ) -> (u64, u64)
+    requires here { NodesLieIn nodes.now snapshot.now }
     requires tall { tall ≡ height_of snapshot.now.page_size (size_now snapshot.now) }
     requires level { level < 38 }
     requires at { at ≡ newest_known snapshot.now (tree_range snapshot.now.page_size (level + 1) q) }
@@ -113,5 +131,5 @@ pub(crate) fn halves_known<L: Ledger>(
         offset: q * size,
         size,
     };
-    links(snapshot, at, range, steps)
+    links(snapshot, nodes, at, range, steps)
 }

@@ -1,1 +1,1 @@
-pub mod Sorted
+pub mod Zipped

@@ -1,2 +1,5 @@
-pub mod Order
+pub mod Placed
+pub mod House
 pub mod UpdateRows
+pub mod RowKept
+pub mod NodesKept

@@ -1,5 +1,5 @@
 -- How many backs and ranges there are.
-use Rattle.std.proofs.Common.{◌≡◌, ℕ, ◌+◌, ◌-◌, ◌*◌, ◌/◌, ◌^◌, ◌≤◌, zero, suc, List, length, arith, inl, inr, refl, ap, sym, ◌∙◌, true, false, length-append}
+use Rattle.std.proofs.Common.{◌≡◌, ℕ, ◌+◌, ◌-◌, ◌*◌, ◌/◌, ◌^◌, ◌≤◌, zero, suc, List, length, arith, inl, inr, refl, ap, sym, subst, ◌∙◌, true, false, length-append}
 use Rattle.std.specs.Prelude.{◌==◌}
 use Rattle.std.proofs.lemmas.Bool.{cases_lt}
 use Rattle.std.proofs.lemmas.Bool.Decides.{nat_tests}
@@ -10,31 +10,32 @@ use Rattle.tree_geom.specs.declared.touch.Touch.{Touch}
 use Rattle.tree_geom.specs.Geometry.{page_range, tree_range}
 use Rattle.range_log.specs.Log.{newest_of, IsNewest}
 use Rattle.range_log.specs.Extents.{Extent, touches}
-use Rattle.range_log.specs.Rows.{back_of, covered, level_of, levels_of}
-use Rattle.range_log.specs.Visits.{backs_of, backs_from}
+use Rattle.range_log.specs.Rows.{back_of, level_of, levels_of}
+use Rattle.range_log.specs.Visits.{backs_by, backs_of, backs_from}
+use Rattle.range_log.specs.Depths.{fold_number}
 use Rattle.range_log.specs.Laws.{BacksStep, LevelsAreFew}
-use Rattle.range_log.proofs.Greatest.{bool_cases, newest_is, newest_within, newest_none}
-use Rattle.range_log.proofs.Links.{back_none, back_some}
+use Rattle.range_log.proofs.Greatest.{newest_is, newest_within, newest_none}
+use Rattle.range_log.proofs.Links.{back_cases}
 
 -- ---- backs
 pub back_falls : (p : ℕ) (us : List Extent) (j i : ℕ) → back_of p us j i ≤ j - 1
 back_falls p us j i =
-    elim (bool_cases (covered p us j i)) [
-      | inl e ↦ omega (arith, back_none p us j i e)
-      | inr e ↦ let is = newest_is p (touches p us) (j - 1) (page_range p i) in omega (arith, back_some p us j i e, is.upto)
+    elim (back_cases p us j i) [
+      | inl none ↦ omega (arith, none)
+      | inr led ↦ let is = newest_is p (touches p us) (j - 1) (page_range p i) in omega (arith, led.2, is.upto)
     ]
 
-backs_none : (most p : ℕ) (us : List Extent) (j i : ℕ) → back_of p us j i ≡ 0 → backs_from most p us j i ≡ 0
+backs_none : (most p : ℕ) (us : List Extent) (j i : ℕ) → back_of p us j i ≡ 0 → backs_from most fold_number p us j i ≡ 0
 unfolding backs_from
 backs_none zero p us j i e = refl
 backs_none (suc most) p us j i e = let f : (back_of p us j i == 0) ≡ true = grind (arith, nat_tests) in rw (f, backs_from)
 
-backs_some : (most p : ℕ) (us : List Extent) (j i : ℕ) → 1 ≤ back_of p us j i → backs_from (suc most) p us j i ≡ 1 + backs_from most p us (back_of p us j i) i
+backs_some : (most p : ℕ) (us : List Extent) (j i : ℕ) → 1 ≤ back_of p us j i → backs_from (suc most) fold_number p us j i ≡ 1 + backs_from most fold_number p us (back_of p us j i) i
 unfolding backs_from
 backs_some most p us j i h = let f : (back_of p us j i == 0) ≡ false = grind (arith, nat_tests) in rw (f, backs_from)
 
 -- any fuel from the version on is enough
-fuel : (f g p : ℕ) (us : List Extent) (j i : ℕ) → j ≤ f → j ≤ g → backs_from f p us j i ≡ backs_from g p us j i
+fuel : (f g p : ℕ) (us : List Extent) (j i : ℕ) → j ≤ f → j ≤ g → backs_from f fold_number p us j i ≡ backs_from g fold_number p us j i
 fuel zero g p us j i a b =
     let none : back_of p us j i ≡ 0 = omega (arith, back_falls p us j i) in
     backs_none zero p us j i none ∙ sym (backs_none g p us j i none)
@@ -58,13 +59,14 @@ newest_itself p log k r = newest_within p log k r r (omega arith, omega arith)
 
 back_itself : (p : ℕ) (us : List Extent) (j i : ℕ) → newest_of p (touches p us) (back_of p us j i) (page_range p i) ≡ back_of p us j i
 back_itself p us j i =
-    elim (bool_cases (covered p us j i)) [
-      | inl e ↦ rw (back_none p us j i e) (newest_none p (touches p us) (page_range p i))
-      | inr e ↦ rw (back_some p us j i e) (newest_itself p (touches p us) (j - 1) (page_range p i))
+    let N : ℕ → Type 0 = λ n. newest_of p (touches p us) n (page_range p i) ≡ n in
+    elim (back_cases p us j i) [
+      | inl none ↦ subst N (sym none) (newest_none p (touches p us) (page_range p i))
+      | inr led ↦ subst N (sym led.2) (newest_itself p (touches p us) (j - 1) (page_range p i))
     ]
 
-backs-of : (p v i : ℕ) (us : List Extent) → backs_of p us v i ≡ backs_from v p us (newest_of p (touches p us) v (page_range p i)) i
-unfolding backs_of
+backs-of : (p v i : ℕ) (us : List Extent) → backs_of p us v i ≡ backs_from v fold_number p us (newest_of p (touches p us) v (page_range p i)) i
+unfolding backs_by
 backs-of p v i us = refl
 
 pub backs_step : BacksStep
@@ -76,17 +78,17 @@ backs_step p v i us =
           let b : ℕ = back_of p us j i in
           backs-of p v i us
           ∙ fuel v (suc b + v) p us j i is.upto (omega (arith, is.upto))
-          ∙ (let e : suc b + v ≡ suc (b + v) = omega arith in ap (λ n. backs_from n p us j i) e)
+          ∙ (let e : suc b + v ≡ suc (b + v) = omega arith in ap (λ n. backs_from n fold_number p us j i) e)
           ∙ backs_some (b + v) p us j i some
           ∙ ap (λ n. 1 + n)
           (fuel (b + v) b p us b i (omega arith) (omega arith)
-          ∙ ap (λ n. backs_from b p us n i) (sym (back_itself p us j i))
+          ∙ ap (λ n. backs_from b fold_number p us n i) (sym (back_itself p us j i))
           ∙ sym (backs-of p b i us)),
     )
 
 -- version 0 has none
 pub backs_zero : (p : ℕ) (us : List Extent) (i : ℕ) → backs_of p us 0 i ≡ 0
-unfolding backs_of backs_from
+unfolding backs_by backs_from
 backs_zero p us i = refl
 
 -- any version from the newest one of the page on has as many as that one
@@ -95,7 +97,7 @@ backs_above p us v i same =
     let j : ℕ = newest_of p (touches p us) v (page_range p i) in
     let is : IsNewest p (touches p us) v (page_range p i) j = newest_is p (touches p us) v (page_range p i) in
     backs-of p (suc v) i us
-    ∙ ap (λ n. backs_from (suc v) p us n i) same
+    ∙ ap (λ n. backs_from (suc v) fold_number p us n i) same
     ∙ fuel (suc v) v p us j i (omega (arith, is.upto)) is.upto
     ∙ sym (backs-of p v i us)
 
@@ -104,7 +106,7 @@ backs_newest p us v i =
     let j : ℕ = newest_of p (touches p us) v (page_range p i) in
     let is : IsNewest p (touches p us) v (page_range p i) j = newest_is p (touches p us) v (page_range p i) in
     backs-of p j i us
-    ∙ ap (λ n. backs_from j p us n i) (newest_itself p (touches p us) v (page_range p i))
+    ∙ ap (λ n. backs_from j fold_number p us n i) (newest_itself p (touches p us) v (page_range p i))
     ∙ fuel j v p us j i (omega arith) is.upto
     ∙ sym (backs-of p v i us)
 

@@ -67,7 +67,7 @@ level-ranges : (p : ℕ) (t : Touch) (h : ℕ) → level_of p t h ≡ ranges p h
 unfolding level_of ranges
 level-ranges p t h = refl
 
-in_level : (p : ℕ) (t : Touch) (h q : ℕ) → 1 ≤ p → Meets p t (tree_range p h q) → Contains (level_of p t h) (tree_range p h q)
+pub in_level : (p : ℕ) (t : Touch) (h q : ℕ) → 1 ≤ p → Meets p t (tree_range p h q) → Contains (level_of p t h) (tree_range p h q)
 in_level p t h q pos m =
     let pages = (met_by_pages p t h q pos).1 m in
     rw (level-ranges p t h) (in_ranges p h (t.first / 2 ^ h) (t.last / 2 ^ h + 1 - t.first / 2 ^ h) q pages.0 (omega (arith, pages)))
@@ -87,7 +87,7 @@ in_levels p t (suc top) h q pos lt m =
       | inr d ↦ Contains-append_right (level_of p t top) (levels_of p t top) (tree_range p h q) (in_levels p t top h q pos (omega (arith, d)) m)
     ]
 
-from_levels : (p : ℕ) (t : Touch) (top : ℕ) (r : Range) → 1 ≤ p → Contains (levels_of p t top) r
+pub from_levels : (p : ℕ) (t : Touch) (top : ℕ) (r : Range) → 1 ≤ p → Contains (levels_of p t top) r
     → (h : ℕ) × (q : ℕ) × (h < top) × Meets p t (tree_range p h q) × (r ≡ tree_range p h q)
 unfolding levels_of
 from_levels p t zero r pos c = absurd (omega (arith, c.1))

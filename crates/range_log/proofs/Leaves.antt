@@ -98,12 +98,14 @@ leaves_fill p (suc v) i us pos ok node =
           let d = none_left p i (size_after (extents us) v) y.at x (update_at us (suc v)).bytes (page_bytes p us v i) e
           (length-window (content us v) (i * p) p ∙ ap (λ n. min p (n - i * p)) (sym before)) (omega (arith, f)) whole in
           page_put p v i us pos ok in_list node ∙ put_over (page_bytes p us v i) (own_bytes p us (suc v) i) (leaf_start p (extent_of us (suc v)) i) d.0 d.1,
-      λ part_only.
+      λ part_only kept.
           let back : back_of p (extents us) (suc v) i ≡ newest_of p log v (page_range p i) =
-          back_some p (extents us) (suc v) i part_only ∙ (let g : suc v - 1 ≡ v = omega arith in ap (λ n. newest_of p log n (page_range p i)) g) in
+          back_some p (extents us) (suc v) i part_only kept ∙ (let g : suc v - 1 ≡ v = omega arith in ap (λ n. newest_of p log n (page_range p i)) g) in
           page_put p v i us pos ok in_list node
           ∙ ap (λ w. put w (leaf_start p (extent_of us (suc v)) i) (own_bytes p us (suc v) i))
           (page_bytes_stay p v i us pos ok (omega arith) ∙ ap (λ n. page_bytes p us n i) (sym back)),
+      page_put p v i us pos ok in_list node
+          ∙ (let g : v ≡ suc v - 1 = omega arith in ap (λ n. put (page_bytes p us n i) (leaf_start p (extent_of us (suc v)) i) (own_bytes p us (suc v) i)) g),
     )
 
 fits_plain : (p i at len : ℕ) → 1 ≤ p → i * p < at + len → at < i * p + p → 1 ≤ len

@@ -10,5 +10,7 @@ pub mod Windows
 pub mod Leaves
 pub mod Counts
 pub mod Depths
+pub mod Folds
 pub mod Growth
+pub mod Positions
 pub mod Opens

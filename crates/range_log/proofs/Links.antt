@@ -1,6 +1,6 @@
 -- Links and backs lead to nodes, and leave no holes.
 use Rattle.std.proofs.Common.{◌≡◌, ◌⊎◌, ◌↔◌, ℕ, ◌+◌, ◌-◌, ◌*◌, ◌/◌, ◌^◌, ◌<◌, ◌≤◌, zero, suc, List, length, arith, inl, inr, refl, ap, sym, subst, ◌∙◌, max, min, true, false}
-use Rattle.std.specs.Prelude.{◌==◌, ◌&&◌}
+use Rattle.std.specs.Prelude.{◌==◌, ◌&&◌, ◌||◌, Bool, if◌then◌else◌}
 use Rattle.std.proofs.lemmas.Bool.{cases_lt, cases_order}
 use Rattle.std.proofs.lemmas.Bool.Decides.{nat_tests}
 use Rattle.std.proofs.lemmas.Nat.{mul-le}
@@ -9,8 +9,8 @@ use Rattle.tree_geom.specs.declared.touch.Touch.{Touch}
 use Rattle.tree_geom.specs.Geometry.{Meets, Aligned, tree_range, page_range, left_half, right_half, span_of}
 use Rattle.tree_geom.proofs.Spans.{within_span, page_within, span_holds, page_aligned, left_aligned, right_aligned, size_pos}
 use Rattle.range_log.specs.Log.{touch_at, size_at, newest_of, IsNewest, HasNode}
-use Rattle.range_log.specs.Extents.{Extent, extent_at, size_after, touch_of, touches}
-use Rattle.range_log.specs.Rows.{back_of, covered}
+use Rattle.range_log.specs.Extents.{Extent, InBounds, extent_at, size_after, touch_of, touches}
+use Rattle.range_log.specs.Rows.{back_by, back_of, covered, folded_of}
 use Rattle.range_log.specs.Laws.{Grown, NewestHasNode, NewestIsSome, NewestIsNone, Leads, LinksLead, BacksLead, LinksHaveNoHoles, BacksHaveNoHoles}
 use Rattle.range_log.proofs.Greatest.{bool_cases, newest_is}
 use Rattle.range_log.proofs.Grown.{grown_updates, length-touches, touch-touches, size-touches}
@@ -154,21 +154,63 @@ links_have_no_holes p k us r pos bounds node large =
     let P : Range → Type 0 = λ s. (newest_of p log k s ≡ 0) ↔ (size_after us k ≤ s.offset) in
     halves_are P p r node.aligned large (λ h q within. rw (e) at (no_hole p log k h q pos (grown_updates p us pos bounds) node.version.1))
 
-pub back_none : (p : ℕ) (us : List Extent) (k i : ℕ) → covered p us k i ≡ true → back_of p us k i ≡ 0
-unfolding back_of
-back_none p us k i e = rw (e, back_of)
+-- none where the leaf has all valid bytes of its page
+pub either : Bool → Bool → ℕ → ℕ
+either whole anew n = if whole || anew then 0 else n
 
-pub back_some : (p : ℕ) (us : List Extent) (k i : ℕ) → covered p us k i ≡ false → back_of p us k i ≡ newest_of p (touches p us) (k - 1) (page_range p i)
-unfolding back_of
-back_some p us k i e = rw (e, back_of)
+either_none : (whole : Bool) (n : ℕ) → either whole true n ≡ 0
+unfolding either
+either_none true n = refl
+either_none false n = refl
+
+either_some : (n : ℕ) → either false false n ≡ n
+unfolding either
+either_some n = refl
+
+either_first : (anew : Bool) (n : ℕ) → either true anew n ≡ 0
+unfolding either
+either_first anew n = refl
+
+pub back_is : (p : ℕ) (us : List Extent) (k i : ℕ) → back_of p us k i ≡ either (covered p us k i) (folded_of p us k i) (newest_of p (touches p us) (k - 1) (page_range p i))
+unfolding back_by either
+back_is p us k i = refl
+
+pub back_none : (p : ℕ) (us : List Extent) (k i : ℕ) → covered p us k i ≡ true → back_of p us k i ≡ 0
+back_none p us k i e =
+    let n : ℕ = newest_of p (touches p us) (k - 1) (page_range p i) in
+    back_is p us k i ∙ ap (λ b. either b (folded_of p us k i) n) e ∙ either_first (folded_of p us k i) n
+
+pub back_anew : (p : ℕ) (us : List Extent) (k i : ℕ) → folded_of p us k i ≡ true → back_of p us k i ≡ 0
+back_anew p us k i e =
+    let n : ℕ = newest_of p (touches p us) (k - 1) (page_range p i) in
+    back_is p us k i ∙ ap (λ b. either (covered p us k i) b n) e ∙ either_none (covered p us k i) n
+
+pub back_some : (p : ℕ) (us : List Extent) (k i : ℕ) → covered p us k i ≡ false → folded_of p us k i ≡ false
+    → back_of p us k i ≡ newest_of p (touches p us) (k - 1) (page_range p i)
+back_some p us k i e f =
+    let n : ℕ = newest_of p (touches p us) (k - 1) (page_range p i) in
+    back_is p us k i ∙ ap (λ b. either b (folded_of p us k i) n) e ∙ ap (λ b. either false b n) f ∙ either_some n
+
+-- a leaf has no back, or the newest older version of its page
+pub back_cases : (p : ℕ) (us : List Extent) (k i : ℕ)
+    → (back_of p us k i ≡ 0) ⊎ ((covered p us k i ≡ false) × (folded_of p us k i ≡ false) × (back_of p us k i ≡ newest_of p (touches p us) (k - 1) (page_range p i)))
+back_cases p us k i =
+    elim (bool_cases (covered p us k i)) [
+      | inl whole ↦ inl (back_none p us k i whole)
+      | inr part ↦
+          elim (bool_cases (folded_of p us k i)) [
+            | inl anew ↦ inl (back_anew p us k i anew)
+            | inr kept ↦ inr (part, kept, back_some p us k i part kept)
+          ]
+    ]
 
 pub backs_lead : BacksLead
 backs_lead p k i us pos bounds node some =
     let log : List Touch = touches p us in
-    elim (bool_cases (covered p us k i)) [
-      | inl whole ↦ absurd (omega (arith, back_none p us k i whole))
-      | inr part ↦
-          let e : back_of p us k i ≡ newest_of p log (k - 1) (page_range p i) = back_some p us k i part in
+    elim (back_cases p us k i) [
+      | inl none ↦ absurd (omega (arith, none))
+      | inr led ↦
+          let e : back_of p us k i ≡ newest_of p log (k - 1) (page_range p i) = led.2 in
           let P : Range → Type 0 = λ s. 1 ≤ newest_of p log (k - 1) s → HasNode p log (newest_of p log (k - 1) s) s in
           let leads : P (page_range p i) = subst P (sym (page_aligned p i)) (newest_has_node p log (k - 1) 0 i pos (grown_updates p us pos bounds) (omega (arith, node.version.1)) (inl refl)) in
           let Q : ℕ → Type 0 = λ j. HasNode p log j (page_range p i) in
@@ -194,19 +236,27 @@ older_below at len size begin end inside meets part =
 pub page_met : (p at len i : ℕ) → 1 ≤ p → 1 ≤ len → i * p < ((at + len - 1) / p + 1) * p → i * p < at + len
 page_met p at len i pos some h = omega (arith, below_page p i ((at + len - 1) / p) h)
 
-pub backs_have_no_holes : BacksHaveNoHoles
-backs_have_no_holes p zero i us pos bounds node part = absurd (omega (arith, node.version.0))
-backs_have_no_holes p (suc k) i us pos bounds node part =
-    let log : List Touch = touches p us in
+-- a page that an update doesn't cover was there before
+pub older_page : (p k i : ℕ) (us : List Extent) → 1 ≤ p → InBounds us → HasNode p (touches p us) (suc k) (page_range p i) → covered p us (suc k) i ≡ false → i * p < size_after us k
+older_page p k i us pos bounds node part =
     let in_list : k < length us = omega (arith, node.version.1, length-touches p us) in
-    let e : back_of p us (suc k) i ≡ newest_of p log (suc k - 1) (page_range p i) = back_some p us (suc k) i part in
-    let same : newest_of p log (suc k - 1) (page_range p i) ≡ newest_of p log k (page_range p i) = let f : suc k - 1 ≡ k = omega arith in ap (λ n. newest_of p log n (page_range p i)) f in
     let at : ℕ = (extent_at us (suc k)).at in
     let len : ℕ = (extent_at us (suc k)).len in
     let touched : Meets p (touch_of p us (suc k)) (page_range p i) = (let P : Touch → Type 0 = λ t. Meets p t (page_range p i) in subst P (touch-touches p us k in_list) node.met) in
-    let older : i * p < size_after us k =
-    older_below at len (size_after us k) (i * p) ((i + 1) * p) (bounds k in_list).0 (page_met p at len i pos (bounds k in_list).1 touched.1) part in
-    let size : size_at log k ≡ size_after us k = size-touches p us k (omega arith) in
-    let some : 1 ≤ newest_of p log k (page_range p i) = newest_some p log k (page_range p i) (grown_updates p us pos bounds) (omega (arith, node.version.1)) pos (omega (arith, size, older)) in
-    let is = newest_is p log k (page_range p i) in
-    (omega (arith, e, same, some), omega (arith, e, same, is.upto))
+    older_below at len (size_after us k) (i * p) ((i + 1) * p) (bounds k in_list).0 (page_met p at len i pos (bounds k in_list).1 touched.1) part
+
+pub backs_have_no_holes : BacksHaveNoHoles
+backs_have_no_holes p zero i us pos bounds node part = absurd (omega (arith, node.version.0))
+backs_have_no_holes p (suc k) i us pos bounds node part = (
+  back_anew p us (suc k) i,
+  λ kept.
+      let log : List Touch = touches p us in
+      let in_list : k < length us = omega (arith, node.version.1, length-touches p us) in
+      let e : back_of p us (suc k) i ≡ newest_of p log (suc k - 1) (page_range p i) = back_some p us (suc k) i part kept in
+      let same : newest_of p log (suc k - 1) (page_range p i) ≡ newest_of p log k (page_range p i) = let f : suc k - 1 ≡ k = omega arith in ap (λ n. newest_of p log n (page_range p i)) f in
+      let older : i * p < size_after us k = older_page p k i us pos bounds node part in
+      let size : size_at log k ≡ size_after us k = size-touches p us k (omega arith) in
+      let some : 1 ≤ newest_of p log k (page_range p i) = newest_some p log k (page_range p i) (grown_updates p us pos bounds) (omega (arith, node.version.1)) pos (omega (arith, size, older)) in
+      let is = newest_is p log k (page_range p i) in
+      (omega (arith, e, same, some), omega (arith, e, same, is.upto)),
+)

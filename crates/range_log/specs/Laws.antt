@@ -1,16 +1,16 @@
-use Rattle.std.specs.Prelude.{◌≡◌, ◌⊎◌, ℕ, ◌+◌, ◌-◌, ◌*◌, ◌^◌, ◌<◌, ◌≤◌, ◌↔◌, List, length, suc, true, false, take, drop, ◌++◌}
+use Rattle.std.specs.Prelude.{◌≡◌, ◌⊎◌, ℕ, ◌+◌, ◌-◌, ◌*◌, ◌%◌, ◌^◌, ◌<◌, ◌≤◌, ◌↔◌, List, length, suc, true, false, take, drop, ◌++◌}
 use Rattle.std.specs.List.{Contains, AllPairs}
 use Rattle.blob_model.specs.Content.{Update, put, content, size_of}
 use Rattle.tree_geom.specs.declared.range.Range.{Range}
 use Rattle.tree_geom.specs.declared.touch.Touch.{Touch}
-use Rattle.tree_geom.specs.Geometry.{tree_range, span_of, page_range, left_half, right_half, Meets}
+use Rattle.tree_geom.specs.Geometry.{tree_range, span_of, height_of, page_range, left_half, right_half, Meets}
 use Rattle.tree_geom.specs.Nodes.{left_link, right_link, back_link, no_piece}
 use Rattle.range_log.specs.Log.{size_at, HasNode, newest_of, IsNewest, touch_at}
 use Rattle.range_log.specs.Extents.{Extent, InBounds, extent_at, size_after, touch_of, touches}
 use Rattle.range_log.specs.Updates.{update_at, extents, extent_of, Replayable, page_bytes, own_bytes, piece_bytes}
-use Rattle.range_log.specs.Rows.{back_of, covered, row_keys_of, levels_of, leaf_start, leaf_from, leaf_len, first_piece, second_piece, piece_count, node_of}
-use Rattle.range_log.specs.Visits.{backs_of, visits}
-use Rattle.range_log.specs.Depths.{depth_of}
+use Rattle.range_log.specs.Rows.{back_of, covered, folded_of, folds_of, row_keys_of, levels_of, leaf_start, leaf_from, leaf_len, first_piece, second_piece, piece_count, node_of}
+use Rattle.range_log.specs.Visits.{backs_of, visits, pages_met}
+use Rattle.range_log.specs.Depths.{fold_number, depth_of}
 
 -- ---- logs
 -- the log of some updates has what each of them touches
@@ -58,15 +58,17 @@ BacksLead = (p k i : ℕ) (us : List Extent) → 1 ≤ p → InBounds us → Has
     → Leads p (touches p us) (back_of p us k i) (page_range p i)
 
 -- ---- no holes
--- of the halves of an inner node, those that begin below the size have a link to a version and the others have 0; from a leaf
--- that leaves valid bytes of its page to older leaves, a back leads to an older version
+-- Of the halves of an inner node, those that begin below the size have a link to a version and the others have 0. From a leaf
+-- whose update doesn't cover its page a back leads to an older version, but none where the update stores the page anew.
 abbrev pub NoHoles : Type 0
 NoHoles = (p k : ℕ) (us : List Update) (r : Range) → 1 ≤ p → Replayable us → HasNode p (touches p (extents us)) k r
     → (p < r.size
     → ((left_link (node_of p (extents us) k r) ≡ 0) ↔ (size_of us k ≤ (left_half r).offset))
     × ((right_link (node_of p (extents us) k r) ≡ 0) ↔ (size_of us k ≤ (right_half r).offset)))
     × ((i : ℕ) → r ≡ page_range p i → covered p (extents us) k i ≡ false
-    → (1 ≤ back_link (node_of p (extents us) k r)) × (back_link (node_of p (extents us) k r) < k))
+    → (folded_of p (extents us) k i ≡ true → back_link (node_of p (extents us) k r) ≡ 0)
+    × (folded_of p (extents us) k i ≡ false
+    → (1 ≤ back_link (node_of p (extents us) k r)) × (back_link (node_of p (extents us) k r) < k)))
 
 -- the same of the links, by where the updates fall
 abbrev pub LinksHaveNoHoles : Type 0
@@ -77,7 +79,8 @@ LinksHaveNoHoles = (p k : ℕ) (us : List Extent) (r : Range) → 1 ≤ p → In
 -- the same of the backs
 abbrev pub BacksHaveNoHoles : Type 0
 BacksHaveNoHoles = (p k i : ℕ) (us : List Extent) → 1 ≤ p → InBounds us → HasNode p (touches p us) k (page_range p i) → covered p us k i ≡ false
-    → (1 ≤ back_of p us k i) × (back_of p us k i < k)
+    → (folded_of p us k i ≡ true → back_of p us k i ≡ 0)
+    × (folded_of p us k i ≡ false → (1 ≤ back_of p us k i) × (back_of p us k i < k))
 
 -- ---- page bytes
 -- a page has the same valid bytes at a version and at the newest one up to it that touches the page
@@ -100,12 +103,14 @@ abbrev pub ExtentsStand : Type 0
 ExtentsStand = (us : List Update) → Replayable us
     → InBounds (extents us) × (length (extents us) ≡ length us) × ((v : ℕ) → v ≤ length us → size_after (extents us) v ≡ size_of us v)
 
--- a leaf's page: its own bytes where they cover it, else its own bytes over those of the page at its back
+-- A leaf's page: its own bytes where they cover it, else its own bytes over those of the page at its back. Where the update
+-- stores the page anew, they are its own bytes over those of the version before.
 abbrev pub LeavesFill : Type 0
 LeavesFill = (p k i : ℕ) (us : List Update) → 1 ≤ p → Replayable us → HasNode p (touches p (extents us)) k (page_range p i)
     → (covered p (extents us) k i ≡ true → page_bytes p us k i ≡ own_bytes p us k i)
-    × (covered p (extents us) k i ≡ false
+    × (covered p (extents us) k i ≡ false → folded_of p (extents us) k i ≡ false
     → page_bytes p us k i ≡ put (page_bytes p us (back_of p (extents us) k i) i) (leaf_start p (extent_of us k) i) (own_bytes p us k i))
+    × (page_bytes p us k i ≡ put (page_bytes p us (k - 1) i) (leaf_start p (extent_of us k) i) (own_bytes p us k i))
 
 -- a leaf has one to p own bytes; they lie within its page and within the update's buffer
 abbrev pub LeavesFit : Type 0
@@ -201,12 +206,12 @@ BacksStep = (p v i : ℕ) (us : List Extent)
 
 -- ---- depths
 -- The depth of the leaf of page i in the row of version k, which touches the page: 0 where the update covers all valid bytes
--- of the page, else one more than that of the newest older leaf of the page.
+-- of the page, else one more than that of the newest older leaf of the page, and 0 again at each fold-th such leaf in a row.
 abbrev pub DepthsStep : Type 0
 DepthsStep = (p k i : ℕ) (us : List Extent) → 1 ≤ p → InBounds us → 1 ≤ k → k ≤ length us → Meets p (touch_at (touches p us) k) (page_range p i)
     → (covered p us k i ≡ true → depth_of p (touches p us) k i ≡ 0)
     × (covered p us k i ≡ false
-    → depth_of p (touches p us) k i ≡ 1 + depth_of p (touches p us) (newest_of p (touches p us) (k - 1) (page_range p i)) i)
+    → depth_of p (touches p us) k i ≡ (depth_of p (touches p us) (newest_of p (touches p us) (k - 1) (page_range p i)) i + 1) % fold_number)
 
 -- at every version the depth is that of the newest leaf of the page
 abbrev pub DepthOfNewest : Type 0
@@ -217,20 +222,44 @@ abbrev pub DepthCountsBacks : Type 0
 DepthCountsBacks = (p v i : ℕ) (us : List Extent) → 1 ≤ p → InBounds us → v ≤ length us
     → backs_of p us v i ≡ depth_of p (touches p us) (newest_of p (touches p us) v (page_range p i)) i
 
--- no leaf is deeper than there are versions up to its own
+-- No leaf is deeper than there are versions up to its own; and where pages are stored anew, none is as deep as the fold number.
 abbrev pub DepthsAreFew : Type 0
-DepthsAreFew = (p k i : ℕ) (log : List Touch) → depth_of p log k i ≤ k
+DepthsAreFew = (p k i : ℕ) (log : List Touch) → (depth_of p log k i ≤ k) × (1 ≤ fold_number → depth_of p log k i < fold_number)
 
 -- a longer log says the same of the versions of the shorter one
 abbrev pub DepthsStay : Type 0
 DepthsStay = (p k i : ℕ) (log more : List Touch) → k ≤ length log → depth_of p (log ++ more) k i ≡ depth_of p log k i
+
+-- ---- pages that are stored anew
+-- the pages that an update stores anew are those that it touches and doesn't cover and on which its depth is 0; they rise, and
+-- are two at most
+abbrev pub FoldsAre : Type 0
+FoldsAre = (p k : ℕ) (us : List Extent) → 1 ≤ p → InBounds us → 1 ≤ k → k ≤ length us
+    → ((i : ℕ) → Contains (folds_of p us k) i ↔ (Meets p (touch_at (touches p us) k) (page_range p i) × (folded_of p us k i ≡ true)))
+    × AllPairs ◌<◌ (folds_of p us k)
+    × (length (folds_of p us k) ≤ 2)
+
+-- without a fold number no page is stored anew
+abbrev pub NoneFolds : Type 0
+NoneFolds = (p k i : ℕ) (us : List Extent) → fold_number ≡ 0 → 1 ≤ p → InBounds us → 1 ≤ k → k ≤ length us → Meets p (touch_at (touches p us) k) (page_range p i)
+    → folded_of p us k i ≡ false
+
+-- with one, a page has fewer backs than it says, so that the visit bound is known before the past of any page is
+abbrev pub VisitsAreFew : Type 0
+VisitsAreFew = (p v o n : ℕ) (us : List Extent) → 1 ≤ fold_number → 1 ≤ p → InBounds us → v ≤ length us
+    → ((i : ℕ) → backs_of p us v i < fold_number)
+    × (visits p us v o n ≤ (fold_number + 1) * length (pages_met p o n) + 2 * height_of p (size_after us v))
+
+-- the store's fold number is one of these two
+abbrev pub FoldNumberIs : Type 0
+FoldNumberIs = (fold_number ≡ 0) ⊎ (fold_number ≡ 16)
 
 -- ---- later updates
 -- a longer log says the same of the versions of the shorter one
 abbrev pub LogsGrow : Type 0
 LogsGrow = (p k : ℕ) (log more : List Touch) (r : Range) → k ≤ length log → newest_of p (log ++ more) k r ≡ newest_of p log k r
 
--- later updates leave an older version's touch, ranges, nodes and visit bounds
+-- later updates leave an older version's touch, ranges, nodes and visit bounds, and the pages that it stores anew
 abbrev pub RowsStay : Type 0
 RowsStay = (p k : ℕ) (us more : List Extent) → k ≤ length us
     → (touch_at (touches p (us ++ more)) k ≡ touch_at (touches p us) k)
@@ -238,6 +267,7 @@ RowsStay = (p k : ℕ) (us more : List Extent) → k ≤ length us
     × ((r : Range) → HasNode p (touches p us) k r ↔ HasNode p (touches p (us ++ more)) k r)
     × ((r : Range) → node_of p (us ++ more) k r ≡ node_of p us k r)
     × ((o n : ℕ) → visits p (us ++ more) k o n ≡ visits p us k o n)
+    × (folds_of p (us ++ more) k ≡ folds_of p us k)
 
 -- where the updates of a longer list fall begins with where those of the shorter one do
 abbrev pub ExtentsGrow : Type 0

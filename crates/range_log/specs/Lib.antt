@@ -5,4 +5,5 @@ pub mod Depths
 pub mod Rows
 pub mod Visits
 pub mod Laws
+pub mod Positions
 pub mod Open

@@ -4,7 +4,7 @@ ghost use Rattle.range_log.specs.Log.{size_at};
 ghost use Rattle.range_log.specs.Extents.{IsLog};
 ghost use Rattle.range_log.specs.Rows.{level_of, row_keys_of};
 
-use no_memory::NoMemory;
+use faults::NoMemory;
 use std::alloc::Global;
 use tree_geom::{PageSize, Range, Touch, height};
 

@@ -5,7 +5,7 @@ ghost use Rattle.range_log.specs.Laws.{ExtentsStand, LeavesFill, LeavesFit, Piec
 ghost use Rattle.range_log.specs.Laws.{NewestOfNone, NewestHits, NewestMisses, NewestHasNode, NewestIsSome, NewestIsNone, TouchesAre, EachTouchIs};
 ghost use Rattle.range_log.specs.Laws.{SizesAre, LogsAreGrown, RowKeysExact, RowKeysInOrder, LevelsAreFew, BacksStep, DepthsStep, DepthOfNewest};
 ghost use Rattle.range_log.specs.Laws.{DepthCountsBacks, DepthsAreFew, DepthsStay, LogsGrow, RowsStay, ExtentsGrow, SizesStay, PlacesStay, ExtentsAre};
-ghost use Rattle.range_log.specs.Laws.{EachExtentIs, ContentsGrow};
+ghost use Rattle.range_log.specs.Laws.{EachExtentIs, ContentsGrow, FoldsAre, NoneFolds, VisitsAreFew};
 
 /// Each link or back of a row that isn't 0 names a version whose row has a node for the link's range.
 pub fn links_name_nodes()
@@ -14,8 +14,8 @@ pub fn links_name_nodes()
     ensures backs { BacksLead }
 {}
 
-/// Each half of an inner node that begins below the size has a link to a version; one that doesn't has 0. A leaf that leaves
-/// valid bytes of its page to older leaves has a back to an older version.
+/// Each half of an inner node that begins below the size has a link to a version; one that doesn't has 0. A leaf whose update
+/// doesn't cover its page has a back to an older version, or none where the update stores the page anew.
 pub fn no_holes()
     ensures nodes { NoHoles }
     ensures links { LinksHaveNoHoles }
@@ -88,6 +88,13 @@ pub fn depth_counts_backs()
     ensures newest { DepthOfNewest }
     ensures few { DepthsAreFew }
     ensures stay { DepthsStay }
+{}
+
+/// Which pages an update stores anew, and what that does for the visit bound.
+pub fn folds_are()
+    ensures folds { FoldsAre }
+    ensures none { NoneFolds }
+    ensures few { VisitsAreFew }
 {}
 
 /// What later updates leave: the newest version of a range that they don't touch, and all that is said of older versions.

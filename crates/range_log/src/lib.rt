@@ -6,12 +6,16 @@
 //! two, and [`laws`] has what holds of every log.
 #![tactic(auto)]
 
+mod fold;
+mod index;
 mod keys;
 pub mod laws;
 mod log;
 mod open;
 
+pub use faults::NoMemory;
+pub use fold::{FOLD, deeper, fold_stands};
+pub use index::index_in_row;
 pub use keys::row_keys;
 pub use log::newest;
-pub use no_memory::NoMemory;
 pub use open::{OpenCopy, OpenList, OpenTouch};

@@ -2,7 +2,7 @@
 ghost use Rattle.std.specs.Prelude.{◌≡◌, ◌+◌, ◌-◌, ◌<◌, ◌≤◌, [], ◌∷◌, ◌++◌, length, drop, IfOk};
 ghost use Rattle.range_log.specs.Open.{open_at, Rises};
 
-use no_memory::NoMemory;
+use faults::NoMemory;
 use std::alloc::Global;
 use std::marker::Model;
 use tree_geom::Touch;

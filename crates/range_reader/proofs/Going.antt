@@ -6,8 +6,9 @@ use Rattle.tree_geom.specs.Geometry.{page_range}
 use Rattle.range_log.specs.Log.{HasNode}
 use Rattle.range_log.specs.Extents.{Extent, InBounds, touches}
 use Rattle.range_log.specs.Updates.{page_bytes}
-use Rattle.range_log.specs.Rows.{covered, back_of}
+use Rattle.range_log.specs.Rows.{back_of}
 use Rattle.range_log.specs.Laws.{PageBytesStay, BacksHaveNoHoles}
+use Rattle.range_log.proofs.Links.{back_cases}
 use Rattle.snapshot.specs.Versions.{Version, updates_of, size_now, IsVersion}
 use Rattle.tree_geom.proofs.Spans.{page_pos}
 use Rattle.range_reader.specs.Reading.{newest_in}
@@ -54,14 +55,10 @@ in_newest stay s is i newest begin count marks same within valid =
       valid = λ x lt yes'. omega (arith, n);
     }
 
-back_none : (p k i : ℕ) (xs : List Extent) → covered p xs k i ≡ true → back_of p xs k i ≡ 0
-unfolding back_of
-back_none p k i xs is = rw (is, back_of)
-
 -- backs lead to older versions
 pub back_less : BacksHaveNoHoles → (p k i : ℕ) (xs : List Extent) → 1 ≤ p → InBounds xs → HasNode p (touches p xs) k (page_range p i) → back_of p xs k i < k
 back_less holes p k i xs pos bounds has =
-    elim (either (covered p xs k i)) [
-      | inl is ↦ (let e : back_of p xs k i ≡ 0 = back_none p k i xs is in omega (arith, has.version.0))
-      | inr un ↦ (holes p k i xs pos bounds has un).1
+    elim (back_cases p xs k i) [
+      | inl none ↦ omega (arith, none, has.version.0)
+      | inr led ↦ ((holes p k i xs pos bounds has led.0).1 led.1).1
     ]

@@ -41,6 +41,33 @@ module _ (start a b from begin : ℕ) (bytes : List ℕ) (m0 m1 m2 : List Bool) 
     above = λ x lt out. q.above x (omega arith) (omega arith) ∙ p.above x lt (omega arith);
   }
 
+-- the same of bytes that stand in another list too
+pub overlaid_in : (st len a b begin : ℕ) (xs ys : List ℕ) (marks : List Bool) (old new : List ℕ) → ((y : ℕ) → y < len → get_or xs (a + y) 0 ≡ get_or ys (b + y) 0)
+    → Overlaid st len a begin xs marks old new → Overlaid st len b begin ys marks old new
+overlaid_in st len a b begin xs ys marks old new same o = record {
+  marked = λ x lt from to is. o.marked x lt from to is ∙ same (begin + x - st) (omega arith);
+  unmarked = o.unmarked;
+  below = o.below;
+  above = o.above;
+}
+
+-- where none of the bytes are the buffer's, it and its marks are as they were
+pub overlaid_none : (st len from begin : ℕ) (bytes : List ℕ) (marks : List Bool) (out : List ℕ) → ((begin < st + len) × (st < begin + length out) → ⊥)
+    → Overlaid st len from begin bytes marks out out
+overlaid_none st len from begin bytes marks out apart = record {
+  marked = λ x lt low high is. absurd (apart (omega arith, omega arith));
+  unmarked = λ x lt no. refl;
+  below = λ x lt no. refl;
+  above = λ x lt no. refl;
+}
+
+pub taken_none : (st len begin : ℕ) (marks : List Bool) → ((begin < st + len) × (st < begin + length marks) → ⊥) → Taken st len begin marks marks
+taken_none st len begin marks apart = record {
+  within = λ x lt low high. absurd (apart (omega arith, omega arith));
+  below = λ x lt no. refl;
+  above = λ x lt no. refl;
+}
+
 -- where the pieces of a buffer's bytes from b on lie in it
 pub first_from : (p b n : ℕ) → 1 ≤ p → (first_piece p b n).page * p + (first_piece p b n).from ≡ b
 first_from p b n pos = omega arith
@@ -49,7 +76,8 @@ abbrev piece_if : Bool → ℕ → ℕ → ℕ → Piece
 piece_if v p b n = if v then record { page = b / p + 1; from = 0; len = n - (p - b % p) } else no_piece
 
 -- the second piece goes on where the first ends
-pub second_from : (p b n : ℕ) → 1 ≤ p → 1 ≤ (second_piece p b n).len → (second_piece p b n).page * p + (second_piece p b n).from ≡ (first_piece p b n).page * p + (first_piece p b n).from + (first_piece p b n).len
+pub second_from : (p b n : ℕ) → 1 ≤ p → 1 ≤ (second_piece p b n).len
+    → (second_piece p b n).page * p + (second_piece p b n).from ≡ (first_piece p b n).page * p + (first_piece p b n).from + (first_piece p b n).len
 second_from p b n pos some =
     let P : Bool → Type 0 = λ v. nat_lt (p - b % p) n ≡ v → 1 ≤ (piece_if v p b n).len → (piece_if v p b n).page * p + (piece_if v p b n).from ≡ b / p * p + b % p + min (p - b % p) n in
     let cases : P (nat_lt (p - b % p) n) = elim (nat_lt (p - b % p) n) as P [

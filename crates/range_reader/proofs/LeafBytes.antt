@@ -7,10 +7,11 @@ use Rattle.tree_geom.specs.Geometry.{page_range, covers}
 use Rattle.range_log.specs.Log.{HasNode, newest_of}
 use Rattle.range_log.specs.Extents.{Extent, extent_at, size_after, touches}
 use Rattle.range_log.specs.Updates.{update_at, extents, extent_of, Replayable, page_bytes}
-use Rattle.range_log.specs.Rows.{leaf_lo, leaf_start, leaf_from, leaf_len, covered, back_of}
+use Rattle.range_log.specs.Rows.{leaf_lo, leaf_start, leaf_from, leaf_len, covered, folded_of, back_of}
 use Rattle.range_log.specs.Laws.{LeavesFill, LeavesFit, PageBytesStay, ExtentsStand}
 use Rattle.range_reader.proofs.Parts.{part_read, length_part}
 use Rattle.range_log.proofs.Bytes.{extent_is}
+use Rattle.range_log.proofs.Links.{back_some}
 
 -- ---- the parts of bytes that were put over others
 put_front : (c : List ℕ) (at : ℕ) (b : List ℕ) (x : ℕ) → at ≤ length c → x < at → get_or (put c at b) x 0 ≡ get_or c x 0
@@ -52,17 +53,13 @@ pub record LeafIs (p k i : ℕ) (us : List Update) (y : Extent) : Type 0 where
 starts_first : (p : ℕ) (x : Extent) (size i : ℕ) → covers p x.at x.len size i ≡ true → leaf_start p x i ≡ 0
 starts_first p x size i is = let e : leaf_lo p x i ≡ i * p = grind (arith, nat_tests) in omega (arith, e)
 
-back_is : (p k i : ℕ) (xs : List Extent) → covered p xs k i ≡ false → back_of p xs k i ≡ newest_of p (touches p xs) (k - 1) (page_range p i)
-unfolding back_of
-back_is p k i xs un = rw (un, back_of)
-
 pub length-page : (p : ℕ) (us : List Update) (v i : ℕ) → length (page_bytes p us v i) ≡ min p (size_of us v - i * p)
 length-page p us v i = simp (length-take, length-drop) (omega arith)
 
 pub leaf_is : LeavesFill → LeavesFit → PageBytesStay → ExtentsStand → (p k i : ℕ) (us : List Update) → 1 ≤ p → Replayable us
-    → HasNode p (touches p (extents us)) k (page_range p i) → k ≤ length us → LeafIs p k i us (extent_at (extents us) k)
-leaf_is fill fit stay stand p zero i us pos ok has le = absurd (omega (arith, has.version.0))
-leaf_is fill fit stay stand p (suc m) i us pos ok has le =
+    → HasNode p (touches p (extents us)) k (page_range p i) → k ≤ length us → folded_of p (extents us) k i ≡ false → LeafIs p k i us (extent_at (extents us) k)
+leaf_is fill fit stay stand p zero i us pos ok has le kept = absurd (omega (arith, has.version.0))
+leaf_is fill fit stay stand p (suc m) i us pos ok has le kept =
     let xs : List Extent = extents us in
     let x : Extent = extent_of us (suc m) in
     let e : extent_at xs (suc m) ≡ x = extent_is us m le in
@@ -78,11 +75,11 @@ leaf_is fill fit stay stand p (suc m) i us pos ok has le =
       over = λ un.
           let back : ℕ = back_of p xs (suc m) i in
           let before : suc m - 1 ≡ m = omega arith in
-          let b : back ≡ newest_of p (touches p xs) m (page_range p i) = back_is p (suc m) i xs un ∙ ap (λ n. newest_of p (touches p xs) n (page_range p i)) before in
+          let b : back ≡ newest_of p (touches p xs) m (page_range p i) = back_some p xs (suc m) i un kept ∙ ap (λ n. newest_of p (touches p xs) n (page_range p i)) before in
           let same : page_bytes p us m i ≡ page_bytes p us back i = stay p m i us pos ok (omega arith) ∙ ap (λ n. page_bytes p us n i) (sym b) in
           let count : length (page_bytes p us back i) ≡ min p (size_of us m - i * p) = ap length (sym same) ∙ length-page p us m i in
           let begins : x.at ≤ size_of us m = (ok m le).0 in
-          (omega (arith, count, begins, f.1), both.1 un);
+          (omega (arith, count, begins, f.1), both.1 un kept);
     } in
     subst L (sym e) is
 
@@ -109,6 +106,26 @@ module _ (p k i : ℕ) (us : List Update) (y : Extent) (leaf : LeafIs p k i us y
       ] in
       cases refl
 
+  -- the leaf's own bytes are valid
+  pub own_valid : leaf_start p y i + leaf_len p y i ≤ length (page_bytes p us k i)
+  own_valid =
+      let st : ℕ = leaf_start p y i in
+      let n : ℕ = leaf_len p y i in
+      let P : Bool → Type 0 = λ b. covered p (extents us) k i ≡ b → st + n ≤ length (page_bytes p us k i) in
+      let cases : P (covered p (extents us) k i) = elim (covered p (extents us) k i) as P [
+        | true ↦ λ is.
+            let w = leaf.whole is in
+            let len : length (page_bytes p us k i) ≡ n = ap length w.1 ∙ length-own in
+            omega (arith, w.0, len)
+        | false ↦ λ un.
+            let o = leaf.over un in
+            let old : List ℕ = page_bytes p us (back_of p (extents us) k i) i in
+            let len : length (page_bytes p us k i) ≡ max (length old) (st + length (own_of p y i (update_at us k).bytes)) = ap length o.1
+            ∙ length-put old st (own_of p y i (update_at us k).bytes) o.0 in
+            omega (arith, len, length-own)
+      ] in
+      cases refl
+
   -- a byte that is valid and not the leaf's own is that of the page at its back
   pub read_back : (x : ℕ) → (x < leaf_start p y i) ⊎ (leaf_start p y i + leaf_len p y i ≤ x) → x < length (page_bytes p us k i)
       → (covered p (extents us) k i ≡ false) × (get_or (page_bytes p us k i) x 0 ≡ get_or (page_bytes p us (back_of p (extents us) k i) i) x 0)
@@ -126,7 +143,8 @@ module _ (p k i : ℕ) (us : List Update) (y : Extent) (leaf : LeafIs p k i us y
             absurd (elim out [ inl below ↦ omega (arith, w.0) | inr above ↦ omega (arith, w.0, len) ])
         | false ↦ λ un.
             let o = leaf.over un in
-            let len : length (page_bytes p us k i) ≡ max (length old) (st + length (own_of p y i (update_at us k).bytes)) = ap length o.1 ∙ length-put old st (own_of p y i (update_at us k).bytes) o.0 in
+            let len : length (page_bytes p us k i) ≡ max (length old) (st + length (own_of p y i (update_at us k).bytes)) = ap length o.1
+            ∙ length-put old st (own_of p y i (update_at us k).bytes) o.0 in
             let same = ap (λ l. get_or l x 0) o.1 in
             elim out [
               | inl below ↦ (un, same ∙ put_front old st (own_of p y i (update_at us k).bytes) x o.0 below, omega (arith, o.0))

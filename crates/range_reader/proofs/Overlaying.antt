@@ -1,8 +1,7 @@
 -- A piece's bytes, filled in where they are wanted.
-use Rattle.std.proofs.Common.{◌≡◌, ℕ, ◌+◌, ◌-◌, ◌*◌, ◌<◌, ◌≤◌, List, length, take, drop, arith, ap, ◌∙◌, inl, inr, Bool, true, false, get_or, min, max}
+use Rattle.std.proofs.Common.{◌≡◌, ℕ, ◌+◌, ◌-◌, ◌<◌, ◌≤◌, List, length, take, drop, arith, ap, ◌∙◌, inl, inr, Bool, true, false, get_or, min, max}
 use Rattle.std.proofs.lemmas.Bool.{cases_lt}
 use borrow.Rule.Slice.PartMut.{put_mid}
-use Rattle.node_store.specs.UpdateRows.{bytes_of_page}
 use Rattle.range_reader.specs.Filling.{Filled, Overlaid, Taken}
 use Rattle.range_reader.proofs.Parts.{part_read, length_part, put_below, put_within, put_above}
 
@@ -12,24 +11,21 @@ module _ (start len begin low end a k : ℕ) (out : List ℕ) (marks : List Bool
   inside : a + k ≤ length out
   inside = omega (arith, is_low, is_end, some, is_a, is_k)
 
-  pub overlaid_by : (q p from skip : ℕ) (bytes stored sub : List ℕ) → stored ≡ bytes_of_page p bytes q → from + len ≤ p → q * p + from + len ≤ length bytes → skip ≡ from + (low - start)
+  pub overlaid_by : (from skip : ℕ) (bytes stored sub : List ℕ) → stored ≡ bytes → skip ≡ from + (low - start)
       → length sub ≡ length (take k (drop a out)) → Filled skip stored (take k (drop a marks)) (take k (drop a out)) sub
-      → Overlaid start len (q * p + from) begin bytes marks out (put_mid a k out sub)
-  overlaid_by q p from skip bytes stored sub cut in_page in_buffer is_skip kept f =
+      → Overlaid start len from begin bytes marks out (put_mid a k out sub)
+  overlaid_by from skip bytes stored sub same_bytes is_skip kept f =
       let held : length (take k (drop a out)) ≡ k = length_part out a k inside in
       let count : length sub ≡ k = kept ∙ held in
       let fits : a ≤ length out = omega (arith, inside) in
-      let span : (q + 1) * p ≡ q * p + p = omega arith in
-      let read : (z : ℕ) → z < from + len → get_or stored z 0 ≡ get_or bytes (q * p + z) 0 =
-      λ z lt. ap (λ (l : List ℕ). get_or l z 0) cut ∙ part_read 0 bytes (q * p) (min ((q + 1) * p) (length bytes) - q * p) z (omega (arith, span)) in
       record {
         marked = λ x lt from' to yes'.
             let y : x - a < k = omega (arith, is_low, is_end, is_a, is_k) in
             let at : a + (x - a) ≡ x = omega (arith, is_low, is_a) in
             let wanted : get_or (take k (drop a marks)) (x - a) false ≡ true = part_read false marks a k (x - a) y ∙ ap (λ z. get_or marks z false) at ∙ yes' in
-            let e : q * p + (skip + (x - a)) ≡ q * p + from + (begin + x - start) = omega (arith, is_skip, is_low, is_a) in
+            let e : skip + (x - a) ≡ from + (begin + x - start) = omega (arith, is_skip, is_low, is_a) in
             put_within 0 a k out sub fits x (omega (arith, is_low, is_a)) (omega (arith, count, is_low, is_end, is_a, is_k))
-            ∙ f.marked (x - a) (omega (arith, held)) wanted ∙ read (skip + (x - a)) (omega (arith, is_skip, is_low, is_a)) ∙ ap (λ z. get_or bytes z 0) e;
+            ∙ f.marked (x - a) (omega (arith, held)) wanted ∙ ap (λ (l : List ℕ). get_or l (skip + (x - a)) 0) same_bytes ∙ ap (λ z. get_or bytes z 0) e;
         unmarked = λ x lt no. elim (cases_lt x a) [
           | inl before ↦ put_below 0 a k out sub fits x before
           | inr from' ↦ elim (cases_lt x (a + k)) [
@@ -46,7 +42,8 @@ module _ (start len begin low end a k : ℕ) (out : List ℕ) (marks : List Bool
         above = λ x lt no. put_above 0 a k out sub fits x count (omega (arith, is_low, is_end, some, is_a, is_k));
       }
 
-  pub taken_by : (sub : List Bool) → length sub ≡ length (take k (drop a marks)) → ((x : ℕ) → x < length (take k (drop a marks)) → get_or sub x false ≡ false) → Taken start len begin marks (put_mid a k marks sub)
+  pub taken_by : (sub : List Bool) → length sub ≡ length (take k (drop a marks)) → ((x : ℕ) → x < length (take k (drop a marks)) → get_or sub x false ≡ false)
+      → Taken start len begin marks (put_mid a k marks sub)
   taken_by sub kept none =
       let held : length (take k (drop a marks)) ≡ k = length_part marks a k (omega (arith, inside)) in
       let count : length sub ≡ k = kept ∙ held in

@@ -51,4 +51,5 @@ length_put a k xs ys le same =
     let n : length (take a xs) ≡ a = length-take-le a xs (omega arith) in
     let m : length (drop k (drop a xs)) ≡ length (drop a xs) - k = length-drop k (drop a xs) in
     let o : length (drop a xs) ≡ length xs - a = length-drop a xs in
-    length-append (take a xs) (ys ++ post_of a k xs) ∙ ap (λ l. length (take a xs) + l) (length-append ys (post_of a k xs)) ∙ (let e : length (take a xs) + (length ys + length (drop k (drop a xs))) ≡ length xs = omega (arith, n, m, o) in e)
+    length-append (take a xs) (ys ++ post_of a k xs) ∙ ap (λ l. length (take a xs) + l) (length-append ys (post_of a k xs))
+    ∙ (let e : length (take a xs) + (length ys + length (drop k (drop a xs))) ≡ length xs = omega (arith, n, m, o) in e)

@@ -2,13 +2,8 @@
 use Rattle.std.proofs.Common.{◌≡◌, ◌⊎◌, ℕ, ◌+◌, ◌-◌, ◌*◌, ◌<◌, ◌≤◌, List, length, take, drop, arith, ap, sym, ◌∙◌, inl, inr, Bool, true, false, get_or}
 use Rattle.std.proofs.lemmas.Bool.{cases_lt}
 use Rattle.std.proofs.lemmas.List.{ext_get_or}
-use Rattle.blob_model.specs.Content.{Update}
-use Rattle.range_log.specs.Extents.{Extent}
-use Rattle.range_log.specs.Updates.{update_at, extents, page_bytes}
-use Rattle.range_log.specs.Rows.{leaf_start, leaf_from, leaf_len, covered, back_of}
 use Rattle.range_reader.specs.Filling.{Overlaid, Taken}
 use Rattle.range_reader.proofs.Parts.{either, part_read, length_part}
-use Rattle.range_reader.proofs.LeafBytes.{LeafIs, read_own, read_back}
 
 -- bytes that are not wanted are there, from byte `begin` of the page on
 pub record AreThere (page : List ℕ) (begin : ℕ) (out : List ℕ) (marks : List Bool) : Type 0 where
@@ -31,23 +26,24 @@ left start len begin x old new t lt is =
       ]
     ]
 
-module _ (p k i : ℕ) (us : List Update) (y : Extent) (leaf : LeafIs p k i us y) (begin : ℕ) (page : List ℕ) (marks marks' : List Bool) where
+-- A leaf has n bytes of a page from byte st on. Where a valid byte isn't among them, it is that of an older form of the page,
+-- and then U holds.
+module _ (st n : ℕ) (here older : List ℕ) (U : Type 0) (rest : (x : ℕ) → (x < st) ⊎ (st + n ≤ x) → x < length here → U × (get_or here x 0 ≡ get_or older x 0) × (x < length older))
+    (begin : ℕ) (page : List ℕ) (marks marks' : List Bool) where
   -- after a leaf's bytes are filled in where they were wanted
-  pub there_after : (out out' : List ℕ) → length out' ≡ length out → length marks ≡ length out → AreThere page begin out marks → AreIn page (page_bytes p us k i) begin (length out) marks
-      → Overlaid (leaf_start p y i) (leaf_len p y i) (leaf_from p y i) begin (update_at us k).bytes marks out out'
-      → Taken (leaf_start p y i) (leaf_len p y i) begin marks marks' → AreThere page begin out' marks'
+  pub there_after : (out out' : List ℕ) → length out' ≡ length out → length marks ≡ length out → AreThere page begin out marks → AreIn page here begin (length out) marks
+      → Overlaid st n st begin here marks out out'
+      → Taken st n begin marks marks' → AreThere page begin out' marks'
   there_after out out' same marked there from over t = record {
     there = λ x lt' no.
         let lt : x < length out = omega arith in
         let few : x < length marks = omega arith in
-        let st : ℕ = leaf_start p y i in
-        let n : ℕ = leaf_len p y i in
         elim (either (get_or marks x false)) [
           | inr already ↦ over.unmarked x lt already ∙ there.there x lt already
           | inl wanted ↦ elim (cases_lt (begin + x) st) [
             | inl below ↦ absurd (let e : get_or marks' x false ≡ get_or marks x false = t.below x few below in cc)
             | inr start ↦ elim (cases_lt (begin + x) (st + n)) [
-              | inl within ↦ over.marked x lt start within wanted ∙ sym (read_own p k i us y leaf (begin + x) within start) ∙ sym (from.same x lt wanted)
+              | inl within ↦ over.marked x lt start within wanted ∙ (let e : st + (begin + x - st) ≡ begin + x = omega arith in ap (λ z. get_or here z 0) e) ∙ sym (from.same x lt wanted)
               | inr above ↦ absurd (let e : get_or marks' x false ≡ get_or marks x false = t.above x few above in cc)
             ]
           ]
@@ -55,25 +51,25 @@ module _ (p k i : ℕ) (us : List Update) (y : Extent) (leaf : LeafIs p k i us y
   }
 
   -- what is still wanted is in the page at the leaf's back
-  pub in_after : (count : ℕ) → count ≤ length marks → AreIn page (page_bytes p us k i) begin count marks
-      → Taken (leaf_start p y i) (leaf_len p y i) begin marks marks'
-      → AreIn page (page_bytes p us (back_of p (extents us) k i) i) begin count marks'
+  pub in_after : (count : ℕ) → count ≤ length marks → AreIn page here begin count marks
+      → Taken st n begin marks marks'
+      → AreIn page older begin count marks'
   in_after count few from t = record {
     same = λ x lt is.
-        let l = left (leaf_start p y i) (leaf_len p y i) begin x marks marks' t (omega arith) is in
-        from.same x lt l.0 ∙ (read_back p k i us y leaf (begin + x) l.1 (from.valid x lt l.0)).1;
+        let l = left st n begin x marks marks' t (omega arith) is in
+        from.same x lt l.0 ∙ (rest (begin + x) l.1 (from.valid x lt l.0)).1;
     valid = λ x lt is.
-        let l = left (leaf_start p y i) (leaf_len p y i) begin x marks marks' t (omega arith) is in
-        (read_back p k i us y leaf (begin + x) l.1 (from.valid x lt l.0)).2;
+        let l = left st n begin x marks marks' t (omega arith) is in
+        (rest (begin + x) l.1 (from.valid x lt l.0)).2;
   }
 
-  -- where a byte is still wanted, the leaf doesn't cover its page
-  pub still_wanted : (count x : ℕ) → count ≤ length marks → AreIn page (page_bytes p us k i) begin count marks
-      → Taken (leaf_start p y i) (leaf_len p y i) begin marks marks' → x < count → get_or marks' x false ≡ true
-      → covered p (extents us) k i ≡ false
+  -- where a byte is still wanted, U holds
+  pub still_wanted : (count x : ℕ) → count ≤ length marks → AreIn page here begin count marks
+      → Taken st n begin marks marks' → x < count → get_or marks' x false ≡ true
+      → U
   still_wanted count x few from t lt is =
-      let l = left (leaf_start p y i) (leaf_len p y i) begin x marks marks' t (omega arith) is in
-      (read_back p k i us y leaf (begin + x) l.1 (from.valid x lt l.0)).0
+      let l = left st n begin x marks marks' t (omega arith) is in
+      (rest (begin + x) l.1 (from.valid x lt l.0)).0
 
 -- where nothing is wanted any more, the bytes are the page's
 pub all_there : (p i : ℕ) (c : List ℕ) (begin : ℕ) (out : List ℕ) (marks : List Bool) → begin + length out ≤ p → i * p + begin + length out ≤ length c

@@ -183,7 +183,8 @@ backs_join s from mid n c pos is before after =
     let same : mid + (from + n - mid) - 1 ≡ from + n - 1 = omega arith in
     let one : pages_met p from (mid - from) ≡ range_with_len a (c - a) = ap (λ x. range_with_len a (x + 1 - a)) end ∙ ap (range_with_len a) (let e : c - 1 + 1 - a ≡ c - a = omega arith in e) in
     let two : pages_met p mid (from + n - mid) ≡ range_with_len (a + (c - a)) (l + 1 - c) =
-    ap (λ x. range_with_len x ((mid + (from + n - mid) - 1) / p + 1 - x)) begin ∙ ap (λ x. range_with_len c (x / p + 1 - c)) same ∙ ap (λ x. range_with_len x (l + 1 - c)) (let e : c ≡ a + (c - a) = omega arith in e) in
+    ap (λ x. range_with_len x ((mid + (from + n - mid) - 1) / p + 1 - x)) begin ∙ ap (λ x. range_with_len c (x / p + 1 - c)) same
+    ∙ ap (λ x. range_with_len x (l + 1 - c)) (let e : c ≡ a + (c - a) = omega arith in e) in
     let whole : c - a + (l + 1 - c) ≡ l + 1 - a = omega arith in
     ap (λ x. sum_by f x + sum_by f (pages_met p mid (from + n - mid))) one ∙ ap (λ x. sum_by f (range_with_len a (c - a)) + sum_by f x) two
     ∙ sym (sum_by-append f (range_with_len a (c - a)) (range_with_len (a + (c - a)) (l + 1 - c))) ∙ ap (sum_by f) (range_more a (c - a) (l + 1 - c) ∙ ap (range_with_len a) whole)

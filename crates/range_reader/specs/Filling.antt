@@ -1,5 +1,5 @@
 -- A buffer for bytes of a page, and marks of those that are still wanted.
-use Rattle.std.specs.Prelude.{◌≡◌, ℕ, ◌+◌, ◌-◌, ◌<◌, ◌≤◌, Bool, true, false, List, length, slice_index, slice_index_or}
+use Rattle.std.specs.Prelude.{◌≡◌, ◌≢◌, ℕ, ◌+◌, ◌-◌, ◌<◌, ◌≤◌, Bool, true, false, List, length, slice_index, slice_index_or}
 
 -- where bytes were marked, they are those of a list from its byte `from` on, and all others are as they were
 pub record Filled (from : ℕ) (bytes : List ℕ) (marks : List Bool) (old new : List ℕ) : Type 0 where
@@ -20,3 +20,10 @@ pub record Taken (start len begin : ℕ) (old new : List Bool) : Type 0 where
   pub within : (x : ℕ) → x < length old → start ≤ begin + x → begin + x < start + len → slice_index_or new x false ≡ false
   pub below : (x : ℕ) → x < length old → begin + x < start → slice_index_or new x false ≡ slice_index_or old x false
   pub above : (x : ℕ) → x < length old → start + len ≤ begin + x → slice_index_or new x false ≡ slice_index_or old x false
+
+-- `next` is the first byte from `first` on that is wanted, or how many bytes there are
+pub record IsNextWanted (marks : List Bool) (first next : ℕ) : Type 0 where
+  pub from : first ≤ next
+  pub upto : next ≤ length marks
+  pub none : (x : ℕ) → first ≤ x → x < next → slice_index_or marks x false ≢ true
+  pub wanted : next < length marks → slice_index_or marks next false ≡ true

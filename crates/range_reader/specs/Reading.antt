@@ -1,17 +1,21 @@
 -- What a read of a snapshot speaks of.
-use Rattle.std.specs.Prelude.{◌≡◌, ℕ, ◌+◌, ◌*◌, ◌==◌, List, length, slice_range, if◌then◌else◌}
+use Rattle.std.specs.Prelude.{◌≡◌, ℕ, ◌+◌, ◌*◌, ◌==◌, List, [], length, slice_index_or, slice_range, if◌then◌else◌}
 use Rattle.std.specs.List.{sum_by}
 use Rattle.blob_model.specs.Content.{content}
 use Rattle.tree_geom.specs.declared.touch.Touch.{Touch}
 use Rattle.tree_geom.specs.declared.range.Range.{Range}
+use Rattle.tree_geom.specs.declared.node.Node.{Node}
 use Rattle.tree_geom.specs.Geometry.{height_of}
+use Rattle.tree_geom.specs.Nodes.{start_of, first_of, second_of}
 use Rattle.range_log.specs.Log.{newest_of}
-use Rattle.range_log.specs.Extents.{Extent, touches, extent_at}
-use Rattle.range_log.specs.Updates.{extents}
-use Rattle.range_log.specs.Rows.{leaf_start, leaf_from, leaf_len, first_piece, second_piece, back_of}
+use Rattle.range_log.specs.Extents.{Extent, touches}
+use Rattle.range_log.specs.Updates.{extents, page_bytes}
+use Rattle.range_log.specs.Rows.{back_of, leaf_of}
 use Rattle.range_log.specs.Visits.{visits, pages_met, backs_of}
 use Rattle.range_log.specs.Depths.{depth_of}
-use Rattle.snapshot.specs.Versions.{Version, updates_of, size_now}
+use Rattle.page_store.specs.Stored.{Stored}
+use Rattle.node_store.specs.UpdateRows.{stored_of}
+use Rattle.snapshot.specs.Versions.{Version, row_at, updates_of, size_now}
 use Rattle.range_reader.specs.declared.source.LeafParts.{LeafParts}
 
 -- where the updates of the version fall
@@ -46,20 +50,33 @@ bound_of_tree s o n = if n == 0 then 0 else 2 * length (pages_met s.page_size o 
 abbrev pub backs_in : Version → ℕ → ℕ → ℕ
 backs_in s o n = sum_by (λ i. backs_of s.page_size (falls s) (length s.rows) i) (pages_met s.page_size o n)
 
--- the first byte of update j's own in page i, the byte of its buffer that stands there, and how many they are
-abbrev pub own_start : Version → ℕ → ℕ → ℕ
-own_start s j i = leaf_start s.page_size (extent_at (falls s) j) i
+-- the valid bytes of page i at version j
+abbrev pub page_in : Version → ℕ → ℕ → List ℕ
+page_in s j i = page_bytes s.page_size (updates_of s) j i
 
-abbrev pub own_from : Version → ℕ → ℕ → ℕ
-own_from s j i = leaf_from s.page_size (extent_at (falls s) j) i
+-- the leaf of page i in the row of update j
+abbrev pub leaf_in : Version → ℕ → ℕ → Node
+leaf_in s j i = leaf_of s.page_size (falls s) j i
+
+-- the first byte of the page that this leaf has, and how many it has from there on
+abbrev pub own_start : Version → ℕ → ℕ → ℕ
+own_start s j i = start_of (leaf_in s j i)
 
 abbrev pub own_len : Version → ℕ → ℕ → ℕ
-own_len s j i = leaf_len s.page_size (extent_at (falls s) j) i
+own_len s j i = (first_of (leaf_in s j i)).len + (second_of (leaf_in s j i)).len
+
+-- what stands in place of a stored page past the last
+abbrev pub no_stored : Stored
+no_stored = record { bytes = []; spots = [] }
+
+-- the bytes of stored page q of update j
+abbrev pub stored_bytes : Version → ℕ → ℕ → List ℕ
+stored_bytes s j q = (slice_index_or (stored_of (row_at s.rows j)) q no_stored).bytes
 
 -- these are the parts of the leaf of page i in the row of update j
 pub record IsLeafOf (s : Version) (j i : ℕ) (parts : LeafParts) : Type 0 where
   pub start : parts.start ≡ own_start s j i
-  pub first : parts.first ≡ first_piece s.page_size (own_from s j i) (own_len s j i)
-  pub second : parts.second ≡ second_piece s.page_size (own_from s j i) (own_len s j i)
+  pub first : parts.first ≡ first_of (leaf_in s j i)
+  pub second : parts.second ≡ second_of (leaf_in s j i)
   pub back : parts.back ≡ back_of s.page_size (falls s) j i
   pub depth : parts.depth ≡ depth_of s.page_size (log_of s) j i

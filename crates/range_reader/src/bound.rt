@@ -2,12 +2,13 @@
 ghost use Rattle.std.specs.Prelude.{◌≡◌, ℕ, ◌+◌, ◌*◌, ◌^◌, ◌<◌, ◌≤◌, IfOk, IfErr, Err};
 ghost use Rattle.tree_geom.specs.Geometry.{tree_range};
 ghost use Rattle.tree_walk.specs.Walk.{nodes_visited};
-ghost use Rattle.snapshot.specs.Versions.{size_now, HasNodeFor};
+ghost use Rattle.snapshot.specs.Versions.{size_now, HasNodeFor, NodesLieIn};
 ghost use Rattle.range_reader.specs.Reading.{newest_in, backs_in, bound, bound_of_tree};
 ghost use Rattle.range_reader.specs.Answers.{OnPastSize, OnPageFault};
 
 use crate::reader::ReadFault;
 use crate::source::{leaf, links};
+use node_store::NodeHouse;
 use snapshot::Snapshot;
 use std::sync::ledger::Ledger;
 use tree_geom::{Range, Steps, halves, height};
@@ -16,17 +17,19 @@ use tree_geom::{Range, Steps, halves, height};
 ///
 /// The number is exact: it is 2 for each page that the bytes meet, 2 for each level of the version's tree, and the depths
 /// of those pages' newest leaves. So it depends in part on how often the pages were changed in part since they were last
-/// written whole. For no bytes it is 0.
+/// written whole or stored anew. For no bytes it is 0.
 ///
 /// It visits each inner node above those pages once and the newest leaf of each, follows no back, and reads no stored page.
 /// It takes no lock and no memory. Its node steps are bounded by the clause `steps`; there are none for no bytes and for a
 /// range past the size, which alone is refused.
 pub fn stated<L: Ledger>(
     snapshot: &Snapshot,
+    nodes: &NodeHouse,
     offset: u64,
     length: u64,
     steps: &mut Steps<L>,
 ) -> Result<u64, ReadFault>
+    requires here { NodesLieIn nodes.now snapshot.now }
     ensures exact { IfOk result (λ most. most ≡ bound snapshot.now offset length) }
     ensures refused { size_now snapshot.now < offset + length → result ≡ Err (ReadFault.RangePastSize (offset + length) (size_now snapshot.now)) }
     ensures past { IfErr result (λ fault. OnPastSize fault (size_now snapshot.now < offset + length)) }
@@ -54,7 +57,7 @@ pub fn stated<L: Ledger>(
     let bytes = page_size.bytes();
     let pages = (offset + length - 1) / bytes + 1 - offset / bytes;
     let levels = u64::from(height(page_size, size));
-    let backs = depths(snapshot, version, root.range, offset, length, steps);
+    let backs = depths(snapshot, nodes, version, root.range, offset, length, steps);
     Ok(2 * pages + 2 * levels + backs)
 }
 
@@ -62,12 +65,14 @@ pub fn stated<L: Ledger>(
 // the range whose newest node is that of version `at`.
 fn depths<L: Ledger>(
     snapshot: &Snapshot,
+    nodes: &NodeHouse,
     at: u64,
     range: Range,
     from: u64,
     count: u64,
     steps: &mut Steps<L>,
 ) -> u64
+    requires here { NodesLieIn nodes.now snapshot.now }
     requires newest { at ≡ newest_in snapshot.now range }
     requires has { HasNodeFor snapshot.now at range }
     requires begins { range.offset ≤ from }
@@ -87,20 +92,20 @@ fn depths<L: Ledger>(
     snapshot.stands();
     let size = snapshot.page_size().bytes();
     if range.size == size {
-        let newest = leaf(snapshot, at, range.offset / size, steps);
+        let newest = leaf(snapshot, nodes, at, range.offset / size, steps);
         return u64::from(newest.depth);
     }
-    let (left, right) = links(snapshot, at, range, steps);
+    let (left, right) = links(snapshot, nodes, at, range, steps);
     let (low, high) = halves(range);
     let end = from + count;
     if end <= high.offset {
-        return depths(snapshot, left, low, from, count, steps);
+        return depths(snapshot, nodes, left, low, from, count, steps);
     }
     if high.offset <= from {
-        return depths(snapshot, right, high, from, count, steps);
+        return depths(snapshot, nodes, right, high, from, count, steps);
     }
     let middle = high.offset;
-    let front = depths(snapshot, left, low, from, middle - from, steps);
-    let back = depths(snapshot, right, high, middle, end - middle, steps);
+    let front = depths(snapshot, nodes, left, low, from, middle - from, steps);
+    let back = depths(snapshot, nodes, right, high, middle, end - middle, steps);
     front + back
 }

@@ -1,11 +1,11 @@
 // The bytes of one page, from its newest leaf and along the backs.
-ghost use Rattle.std.specs.Prelude.{◌≡◌, ℕ, ◌+◌, ◌*◌, ◌^◌, ◌<◌, ◌≤◌, length, map, sum_by, All, IsTrue, IsFalse};
+ghost use Rattle.std.specs.Prelude.{◌≡◌, ℕ, ◌+◌, ◌*◌, ◌^◌, ◌<◌, ◌≤◌, length, map, sum_by, All, IsTrue, IsFalse, IsSome, IsNone, IfSome, true, false, slice_index_or};
 ghost use Rattle.tree_geom.specs.Geometry.{page_range};
 ghost use Rattle.range_log.specs.Visits.{backs_of};
 ghost use Rattle.page_store.specs.Count.{HasRisen};
-ghost use Rattle.snapshot.specs.Versions.{row_at, bytes_of, size_now, HasNodeFor, IsVersionIn};
-ghost use Rattle.range_reader.specs.Filling.{Overlaid, Taken};
-ghost use Rattle.range_reader.specs.Reading.{falls, newest_in, bytes_at, own_start, own_from, own_len, IsLeafOf};
+ghost use Rattle.snapshot.specs.Versions.{size_now, HasNodeFor, IsVersionIn};
+ghost use Rattle.range_reader.specs.Filling.{Overlaid, Taken, IsNextWanted};
+ghost use Rattle.range_reader.specs.Reading.{falls, newest_in, bytes_at, page_in, own_start, own_len, IsLeafOf};
 ghost use Rattle.range_reader.specs.Faults.{CountsKept, PieceFailed, PageFailed};
 
 use crate::marks::{first_marked, mark_all};
@@ -28,7 +28,7 @@ fn fill_leaf<D: Door>(
     marks: &mut [bool],
     out: &mut [u8],
 ) -> bool
-    requires here { IsVersionIn source.now.houses.now source.now.snapshot.now }
+    requires here { IsVersionIn source.now.nodes.now source.now.houses.now source.now.snapshot.now }
     requires doors { length doors.old ≡ length source.now.houses.now }
     requires has { HasNodeFor source.now.snapshot.now j (page_range source.now.snapshot.now.page_size page) }
     requires leaf { IsLeafOf source.now.snapshot.now j page leaf }
@@ -36,7 +36,7 @@ fn fill_leaf<D: Door>(
     requires marked { length marks.old ≡ length out.old }
     ensures overlaid { let s = source.now.snapshot.now in
         All D.is_true doors.old → IsTrue result
-        → Overlaid (own_start s j page) (own_len s j page) (own_from s j page) begin (bytes_of (row_at s.rows j)) marks.old out.old out.new }
+        → Overlaid (own_start s j page) (own_len s j page) (own_start s j page) begin (page_in s j page) marks.old out.old out.new }
     ensures taken { let s = source.now.snapshot.now in
         IsTrue result → Taken (own_start s j page) (own_len s j page) begin marks.old marks.new }
     ensures failed { IsFalse result → PieceFailed source.now.snapshot.now (map D.faults doors.old) (map D.faults doors.new) page j }
@@ -46,6 +46,7 @@ fn fill_leaf<D: Door>(
     ensures truth_stays { All D.is_true doors.old → All D.is_true doors.new }
 {
     range_log::laws::leaves_fill();
+    range_log::laws::folds_are();
     range_log::laws::page_bytes_stay();
     source.snapshot.stands();
     let start = leaf.start as usize;
@@ -57,6 +58,50 @@ fn fill_leaf<D: Door>(
     }
     let middle = start + leaf.first.len as usize;
     fill_piece(source, doors, j, leaf.second, middle, begin, marks, out)
+}
+
+// Fetches the wanted bytes of a leaf as `fill_leaf` does, and tells the first byte from `first` on that is still wanted, or
+// the buffer's length. Byte `first` is wanted. A leaf that has none of the buffer's bytes is passed over, and no mark is
+// looked at. None where all doors of one stored page failed.
+fn fill_wanted<D: Door>(
+    source: &Source,
+    doors: &mut Doors<D>,
+    j: u64,
+    page: u64,
+    leaf: LeafParts,
+    begin: usize,
+    first: usize,
+    marks: &mut [bool],
+    out: &mut [u8],
+) -> Option<usize>
+    requires here { IsVersionIn source.now.nodes.now source.now.houses.now source.now.snapshot.now }
+    requires doors { length doors.old ≡ length source.now.houses.now }
+    requires has { HasNodeFor source.now.snapshot.now j (page_range source.now.snapshot.now.page_size page) }
+    requires leaf { IsLeafOf source.now.snapshot.now j page leaf }
+    requires within { begin + length out.old ≤ source.now.snapshot.now.page_size }
+    requires marked { length marks.old ≡ length out.old }
+    requires first { first < length out.old }
+    requires wanted { slice_index_or marks.old first false ≡ true }
+    ensures overlaid { let s = source.now.snapshot.now in
+        All D.is_true doors.old → IsSome result
+        → Overlaid (own_start s j page) (own_len s j page) (own_start s j page) begin (page_in s j page) marks.old out.old out.new }
+    ensures taken { let s = source.now.snapshot.now in
+        IsSome result → Taken (own_start s j page) (own_len s j page) begin marks.old marks.new }
+    ensures next { IfSome result (λ next. IsNextWanted marks.new first next) }
+    ensures failed { IsNone result → PieceFailed source.now.snapshot.now (map D.faults doors.old) (map D.faults doors.new) page j }
+    ensures counted { IsNone result → HasRisen (sum_by D.faults doors.old) (sum_by D.faults doors.new) }
+    ensures kept { CountsKept (map D.faults doors.old) (map D.faults doors.new) (sum_by D.faults doors.old) (sum_by D.faults doors.new) }
+    ensures count { length doors.new ≡ length doors.old }
+    ensures truth_stays { All D.is_true doors.old → All D.is_true doors.new }
+{
+    source.snapshot.page_size().stands();
+    if !leaf.meets(begin, out.len()) {
+        return Some(first);
+    }
+    if !fill_leaf(source, doors, j, page, leaf, begin, marks, out) {
+        return None;
+    }
+    Some(first_marked(marks, first, true))
 }
 
 // Fills `out` as `fill_page` does, byte by byte as the marks say. `newest_parts` are those of the newest leaf.
@@ -71,7 +116,7 @@ fn fill_along<D: Door, L: Ledger>(
     marks: &mut [bool],
     out: &mut [u8],
 ) -> bool
-    requires here { IsVersionIn source.now.houses.now source.now.snapshot.now }
+    requires here { IsVersionIn source.now.nodes.now source.now.houses.now source.now.snapshot.now }
     requires doors { length doors.old ≡ length source.now.houses.now }
     requires newest { newest ≡ newest_in source.now.snapshot.now (page_range source.now.snapshot.now.page_size page) }
     requires has { HasNodeFor source.now.snapshot.now newest (page_range source.now.snapshot.now.page_size page) }
@@ -91,6 +136,7 @@ fn fill_along<D: Door, L: Ledger>(
     ensures truth_stays { All D.is_true doors.old → All D.is_true doors.new }
 {
     range_log::laws::leaves_fill();
+    range_log::laws::folds_are();
     range_log::laws::page_bytes_stay();
     range_log::laws::links_name_nodes();
     range_log::laws::no_holes();
@@ -102,15 +148,16 @@ fn fill_along<D: Door, L: Ledger>(
     let mut at = newest;
     let mut parts = newest_parts;
     loop {
-        if !fill_leaf(source, doors, at, page, parts, begin, marks, out) {
+        let Some(next) = fill_wanted(source, doors, at, page, parts, begin, first, marks, out)
+        else {
             return false;
-        }
-        first = first_marked(marks, first, true);
-        if first == out.len() {
+        };
+        if next == out.len() {
             return true;
         }
+        first = next;
         at = parts.back;
-        parts = leaf(source.snapshot, at, page, steps);
+        parts = leaf(source.snapshot, source.nodes, at, page, steps);
     }
 }
 
@@ -127,7 +174,7 @@ pub(crate) fn fill_page<D: Door, L: Ledger>(
     marks: &mut [bool],
     out: &mut [u8],
 ) -> bool
-    requires here { IsVersionIn source.now.houses.now source.now.snapshot.now }
+    requires here { IsVersionIn source.now.nodes.now source.now.houses.now source.now.snapshot.now }
     requires doors { length doors.old ≡ length source.now.houses.now }
     requires newest { newest ≡ newest_in source.now.snapshot.now (page_range source.now.snapshot.now.page_size page) }
     requires has { HasNodeFor source.now.snapshot.now newest (page_range source.now.snapshot.now.page_size page) }
@@ -146,9 +193,10 @@ pub(crate) fn fill_page<D: Door, L: Ledger>(
     ensures truth_stays { All D.is_true doors.old → All D.is_true doors.new }
 {
     range_log::laws::leaves_fill();
+    range_log::laws::folds_are();
     range_log::laws::page_bytes_stay();
     source.snapshot.stands();
-    let parts = leaf(source.snapshot, newest, page, steps);
+    let parts = leaf(source.snapshot, source.nodes, newest, page, steps);
     if parts.has_all(begin, out.len()) {
         return take_leaf(source, doors, newest, page, parts, begin, out);
     }

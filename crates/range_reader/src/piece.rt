@@ -3,9 +3,9 @@ ghost use Rattle.std.specs.Prelude.{◌≡◌, ℕ, ◌+◌, ◌*◌, ◌<◌, �
 ghost use Rattle.page_store.specs.Count.{HasRisen};
 ghost use Rattle.page_store.specs.House.{IsProvider};
 ghost use Rattle.page_store.specs.Page.{IsAmong};
-ghost use Rattle.range_log.specs.Rows.{first_piece, second_piece, back_of};
-ghost use Rattle.range_log.specs.Laws.{PieceFits};
-ghost use Rattle.snapshot.specs.Versions.{row_at, bytes_of, IsVersionIn};
+ghost use Rattle.node_store.specs.UpdateRows.{stored_of};
+ghost use Rattle.snapshot.specs.Versions.{row_at, IsVersionIn};
+ghost use Rattle.range_reader.specs.Reading.{stored_bytes};
 ghost use Rattle.range_reader.specs.Filling.{Filled, Overlaid, Taken};
 ghost use Rattle.range_reader.specs.Faults.{CountsKept, AllRose, StoredFailed};
 
@@ -68,17 +68,16 @@ pub(crate) fn fill_piece<D: Door>(
     marks: &mut [bool],
     out: &mut [u8],
 ) -> bool
-    requires here { IsVersionIn source.now.houses.now source.now.snapshot.now }
+    requires here { IsVersionIn source.now.nodes.now source.now.houses.now source.now.snapshot.now }
     requires doors { length doors.old ≡ length source.now.houses.now }
     requires version { (1 ≤ j) × (j ≤ length source.now.snapshot.now.rows) }
-    requires fits { let s = source.now.snapshot.now in
-        PieceFits s.page_size (length (bytes_of (row_at s.rows j))) piece.page piece.from piece.len }
+    requires number { piece.page < length (stored_of (row_at source.now.snapshot.now.rows j)) }
+    requires fits { piece.from + piece.len ≤ length (stored_bytes source.now.snapshot.now j piece.page) }
     requires placed { start + piece.len ≤ source.now.snapshot.now.page_size }
     requires within { begin + length out.old ≤ source.now.snapshot.now.page_size }
     requires marked { length marks.old ≡ length out.old }
-    ensures overlaid { let s = source.now.snapshot.now in
-        All D.is_true doors.old → IsTrue result
-        → Overlaid start piece.len (piece.page * s.page_size + piece.from) begin (bytes_of (row_at s.rows j)) marks.old out.old out.new }
+    ensures overlaid { All D.is_true doors.old → IsTrue result
+        → Overlaid start piece.len piece.from begin (stored_bytes source.now.snapshot.now j piece.page) marks.old out.old out.new }
     ensures taken { IsTrue result → Taken start piece.len begin marks.old marks.new }
     ensures failed { IsFalse result → StoredFailed source.now.snapshot.now (map D.faults doors.old) (map D.faults doors.new) j piece.page }
     ensures counted { IsFalse result → HasRisen (sum_by D.faults doors.old) (sum_by D.faults doors.new) }
@@ -95,6 +94,7 @@ pub(crate) fn fill_piece<D: Door>(
     let snapshot = source.snapshot;
     snapshot.stands();
     let stored = snapshot.page(j, piece.page);
+    let _whole = stored.len();
     let from = piece.from + (low - start) as u32;
     fill_marked(
         source.houses,

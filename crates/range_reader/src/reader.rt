@@ -10,6 +10,7 @@ ghost use Rattle.range_reader.specs.Answers.{OnPastSize, OnPageFault};
 use crate::marks::ReadRoom;
 use crate::source::Source;
 use crate::walk::walk;
+use node_store::NodeHouse;
 use page_fan::Doors;
 use page_store::{Door, Houses};
 use snapshot::Snapshot;
@@ -34,6 +35,7 @@ pub enum ReadFault {
 /// bytes and for a range past the size. `room` is one for pages of the snapshot's size.
 pub fn read<D: Door, L: Ledger>(
     snapshot: &Snapshot,
+    nodes: &NodeHouse,
     houses: &Houses,
     doors: &mut Doors<D>,
     room: &mut ReadRoom,
@@ -41,7 +43,7 @@ pub fn read<D: Door, L: Ledger>(
     out: &mut [u8],
     steps: &mut Steps<L>,
 ) -> Result<(), ReadFault>
-    requires here { IsVersionIn houses.now snapshot.now }
+    requires here { IsVersionIn nodes.now houses.now snapshot.now }
     requires doors { length doors.old ≡ length houses.now }
     requires room { length room.old ≡ snapshot.now.page_size }
     ensures bytes { All D.is_true doors.old → OnOk result (out.new ≡ bytes_at snapshot.now offset (length out.old)) }
@@ -75,7 +77,11 @@ pub fn read<D: Door, L: Ledger>(
         return Ok(());
     };
     let version = snapshot.version();
-    let source = Source { snapshot, houses };
+    let source = Source {
+        snapshot,
+        nodes,
+        houses,
+    };
     let marks = room.wanted.as_mut_slice();
     match walk(
         &source, doors, steps, marks, version, root.range, offset, out,

@@ -3,24 +3,25 @@ ghost use Rattle.std.specs.Prelude.{◌≡◌, ◌↔◌, ◌+◌, ◌*◌, ◌^
 ghost use Rattle.tree_geom.specs.Geometry.{left_half, right_half, page_range};
 ghost use Rattle.range_log.specs.Log.{newest_of};
 ghost use Rattle.range_log.specs.Rows.{node_of};
-ghost use Rattle.snapshot.specs.Versions.{HasNodeFor};
+ghost use Rattle.snapshot.specs.Versions.{HasNodeFor, NodesLieIn};
 ghost use Rattle.range_reader.specs.Reading.{falls, log_of, IsLeafOf};
 
-use node_store::{Node, Piece, Range};
+use node_store::{Node, NodeHouse, Piece, Range};
 use page_store::Houses;
 use snapshot::Snapshot;
 use std::sync::ledger::Ledger;
 use tree_geom::{Steps, range_of_page};
 
-/// The snapshot of a read, and the houses of its pages.
+/// The snapshot of a read, and the houses of its nodes and pages.
 #[derive(Drop)]
 pub(crate) struct Source<'a> {
     pub snapshot: &'a Snapshot,
+    pub nodes: &'a NodeHouse,
     pub houses: &'a Houses,
 }
 
 /// The parts of a leaf: the byte of its page at which its own bytes begin, their two pieces, its back, and how many backs lead
-/// on from it.
+/// on from it. A leaf that stores its page anew has all valid bytes of the page in its first piece.
 #[derive(Clone, Copy)]
 pub(crate) struct LeafParts {
     pub start: u32,
@@ -40,16 +41,33 @@ impl LeafParts {
         let end = start + self.first.len as usize + self.second.len as usize;
         start <= begin && begin + count <= end
     }
+
+    // Whether any of `count` bytes of the page from its byte `begin` on is the leaf's own.
+    pub(crate) fn meets(&self, begin: usize, count: usize) -> bool
+        requires { begin + count < 2 ^ 64 }
+        ensures { IsTrue result ↔ (begin < self.now.start + (self.now.first.len + self.now.second.len)) × (self.now.start < begin + count) }
+    {
+        let start = self.start as usize;
+        let end = start + self.first.len as usize + self.second.len as usize;
+        begin < end && start < begin + count
+    }
 }
 
 // The node that the row of update `j` has for the range.
-fn node<L: Ledger>(snapshot: &Snapshot, j: u64, range: Range, steps: &mut Steps<L>) -> Node
+fn node<L: Ledger>(
+    snapshot: &Snapshot,
+    nodes: &NodeHouse,
+    j: u64,
+    range: Range,
+    steps: &mut Steps<L>,
+) -> Node
+    requires here { NodesLieIn nodes.now snapshot.now }
     requires has { HasNodeFor snapshot.now j range }
     ensures node { result ≡ node_of snapshot.now.page_size (falls snapshot.now) j range }
     ensures step { steps.new ≡ steps.old + 1 }
 {
     match snapshot.find(j, range, steps) {
-        Some(node) => *node,
+        Some(node) => nodes.get(&node),
         None => unreachable!(),
     }
 }
@@ -57,17 +75,19 @@ fn node<L: Ledger>(snapshot: &Snapshot, j: u64, range: Range, steps: &mut Steps<
 // The versions whose rows have the nodes of the halves of the range, by its node in the row of update `j`.
 pub(crate) fn links<L: Ledger>(
     snapshot: &Snapshot,
+    nodes: &NodeHouse,
     j: u64,
     range: Range,
     steps: &mut Steps<L>,
 ) -> (u64, u64)
+    requires here { NodesLieIn nodes.now snapshot.now }
     requires has { HasNodeFor snapshot.now j range }
     requires inner { snapshot.now.page_size < range.size }
     ensures left { result.0 ≡ newest_of snapshot.now.page_size (log_of snapshot.now) j (left_half range) }
     ensures right { result.1 ≡ newest_of snapshot.now.page_size (log_of snapshot.now) j (right_half range) }
     ensures step { steps.new ≡ steps.old + 1 }
 {
-    match node(snapshot, j, range, steps) {
+    match node(snapshot, nodes, j, range, steps) {
         Node::Inner { left, right } => (left, right),
         Node::Leaf { .. } => unreachable!(),
     }
@@ -76,10 +96,12 @@ pub(crate) fn links<L: Ledger>(
 // The leaf of the page in the row of update `j`.
 pub(crate) fn leaf<L: Ledger>(
     snapshot: &Snapshot,
+    nodes: &NodeHouse,
     j: u64,
     page: u64,
     steps: &mut Steps<L>,
 ) -> LeafParts
+    requires here { NodesLieIn nodes.now snapshot.now }
     requires has { HasNodeFor snapshot.now j (page_range snapshot.now.page_size page) }
     requires fits { page * snapshot.now.page_size ≤ 2 ^ 40 }
     ensures leaf { IsLeafOf snapshot.now j page result }
@@ -87,7 +109,7 @@ pub(crate) fn leaf<L: Ledger>(
 {
     snapshot.stands();
     let range = range_of_page(snapshot.page_size(), page);
-    match node(snapshot, j, range, steps) {
+    match node(snapshot, nodes, j, range, steps) {
         Node::Leaf {
             start,
             count: _,

@@ -26,7 +26,7 @@ pub(crate) fn walk<D: Door, L: Ledger>(
     from: u64,
     out: &mut [u8],
 ) -> Result<(), u64>
-    requires here { IsVersionIn source.now.houses.now source.now.snapshot.now }
+    requires here { IsVersionIn source.now.nodes.now source.now.houses.now source.now.snapshot.now }
     requires doors { length doors.old ≡ length source.now.houses.now }
     requires marks { length marks.old ≡ source.now.snapshot.now.page_size }
     requires newest { at ≡ newest_in source.now.snapshot.now range }
@@ -61,7 +61,7 @@ pub(crate) fn walk<D: Door, L: Ledger>(
             false => Err(page),
         };
     }
-    let (left, right) = links(source.snapshot, at, range, steps);
+    let (left, right) = links(source.snapshot, source.nodes, at, range, steps);
     let (low, high) = halves(range);
     let end = from + out.len() as u64;
     if end <= high.offset {

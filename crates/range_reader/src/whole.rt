@@ -1,10 +1,10 @@
 // The bytes of a leaf that has all that is wanted of its page: they are fetched without marks.
-ghost use Rattle.std.specs.Prelude.{◌≡◌, ℕ, ◌+◌, ◌-◌, ◌*◌, ◌≤◌, length, map, sum_by, All, IsTrue, IsFalse, slice_range};
+ghost use Rattle.std.specs.Prelude.{◌≡◌, ℕ, ◌+◌, ◌-◌, ◌*◌, ◌<◌, ◌≤◌, length, map, sum_by, All, IsTrue, IsFalse, slice_range};
 ghost use Rattle.tree_geom.specs.Geometry.{page_range};
 ghost use Rattle.page_store.specs.Count.{HasRisen};
-ghost use Rattle.range_log.specs.Laws.{PieceFits};
-ghost use Rattle.snapshot.specs.Versions.{row_at, bytes_of, HasNodeFor, IsVersionIn};
-ghost use Rattle.range_reader.specs.Reading.{own_start, own_from, own_len, IsLeafOf};
+ghost use Rattle.node_store.specs.UpdateRows.{stored_of};
+ghost use Rattle.snapshot.specs.Versions.{row_at, HasNodeFor, IsVersionIn};
+ghost use Rattle.range_reader.specs.Reading.{page_in, stored_bytes, IsLeafOf};
 ghost use Rattle.range_reader.specs.Faults.{CountsKept, PieceFailed, StoredFailed};
 
 use crate::source::{LeafParts, Source};
@@ -22,15 +22,15 @@ fn take_piece<D: Door>(
     skip: usize,
     out: &mut [u8],
 ) -> bool
-    requires here { IsVersionIn source.now.houses.now source.now.snapshot.now }
+    requires here { IsVersionIn source.now.nodes.now source.now.houses.now source.now.snapshot.now }
     requires doors { length doors.old ≡ length source.now.houses.now }
     requires version { (1 ≤ j) × (j ≤ length source.now.snapshot.now.rows) }
-    requires fits { let s = source.now.snapshot.now in
-        PieceFits s.page_size (length (bytes_of (row_at s.rows j))) piece.page piece.from piece.len }
+    requires number { piece.page < length (stored_of (row_at source.now.snapshot.now.rows j)) }
+    requires fits { piece.from + piece.len ≤ length (stored_bytes source.now.snapshot.now j piece.page) }
     requires within { skip + length out.old ≤ piece.len }
-    ensures bytes { let s = source.now.snapshot.now in
-        let from = piece.page * s.page_size + piece.from + skip in
-        All D.is_true doors.old → IsTrue result → out.new ≡ slice_range (bytes_of (row_at s.rows j)) from (from + length out.old) }
+    ensures bytes { let from = piece.from + skip in
+        All D.is_true doors.old → IsTrue result
+        → out.new ≡ slice_range (stored_bytes source.now.snapshot.now j piece.page) from (from + length out.old) }
     ensures failed { IsFalse result → StoredFailed source.now.snapshot.now (map D.faults doors.old) (map D.faults doors.new) j piece.page }
     ensures counted { IsFalse result → HasRisen (sum_by D.faults doors.old) (sum_by D.faults doors.new) }
     ensures kept { CountsKept (map D.faults doors.old) (map D.faults doors.new) (sum_by D.faults doors.old) (sum_by D.faults doors.new) }
@@ -41,6 +41,7 @@ fn take_piece<D: Door>(
     let snapshot = source.snapshot;
     snapshot.stands();
     let stored = snapshot.page(j, piece.page);
+    let _whole = stored.len();
     fetch(doors, source.houses, stored, piece.from + skip as u32, out)
 }
 
@@ -55,15 +56,14 @@ pub(crate) fn take_leaf<D: Door>(
     begin: usize,
     out: &mut [u8],
 ) -> bool
-    requires here { IsVersionIn source.now.houses.now source.now.snapshot.now }
+    requires here { IsVersionIn source.now.nodes.now source.now.houses.now source.now.snapshot.now }
     requires doors { length doors.old ≡ length source.now.houses.now }
     requires has { HasNodeFor source.now.snapshot.now j (page_range source.now.snapshot.now.page_size page) }
     requires leaf { IsLeafOf source.now.snapshot.now j page leaf }
     requires low { leaf.start ≤ begin }
     requires high { begin + length out.old ≤ leaf.start + leaf.first.len + leaf.second.len }
-    ensures bytes { let s = source.now.snapshot.now in
-        let from = own_from s j page + (begin - own_start s j page) in
-        All D.is_true doors.old → IsTrue result → out.new ≡ slice_range (bytes_of (row_at s.rows j)) from (from + length out.old) }
+    ensures bytes { All D.is_true doors.old → IsTrue result
+        → out.new ≡ slice_range (page_in source.now.snapshot.now j page) begin (begin + length out.old) }
     ensures failed { IsFalse result → PieceFailed source.now.snapshot.now (map D.faults doors.old) (map D.faults doors.new) page j }
     ensures counted { IsFalse result → HasRisen (sum_by D.faults doors.old) (sum_by D.faults doors.new) }
     ensures kept { CountsKept (map D.faults doors.old) (map D.faults doors.new) (sum_by D.faults doors.old) (sum_by D.faults doors.new) }
@@ -71,6 +71,7 @@ pub(crate) fn take_leaf<D: Door>(
     ensures truth_stays { All D.is_true doors.old → All D.is_true doors.new }
 {
     range_log::laws::leaves_fill();
+    range_log::laws::folds_are();
     range_log::laws::page_bytes_stay();
     source.snapshot.stands();
     let skip = begin - leaf.start as usize;

@@ -13,10 +13,13 @@ use Rattle.range_log.specs.Extents.{Extent, InBounds, touches}
 use Rattle.range_log.specs.Updates.{extents, Replayable}
 use Rattle.range_log.specs.Rows.{node_of, row_of, row_keys_of}
 use Rattle.range_log.specs.Laws.{RowKeysExact, ExtentsStand}
+use Rattle.boxcar.specs.Table.{Shelves}
+use Rattle.node_store.specs.House.{IsIn}
+use Rattle.node_store.specs.Placed.{PlacedNode}
 use Rattle.node_store.specs.UpdateRows.{UpdateRow, IsNodeFor, HasNoNodeFor}
 use Rattle.range_log.proofs.Grown.{touch-touches}
 use Rattle.range_log.proofs.Bytes.{length-extents}
-use Rattle.snapshot.specs.Versions.{Version, row_at, updates_of, IsRowOf, IsVersion, IsFound, HasNodeFor}
+use Rattle.snapshot.specs.Versions.{Version, row_at, updates_of, IsRowOf, IsVersion, IsFound, HasNodeFor, NodesLieIn, no_row}
 use Rattle.snapshot.proofs.Lists.{length-updates}
 use Rattle.tree_geom.proofs.Spans.{page_pos}
 
@@ -57,10 +60,10 @@ of_row p j xs row range is among =
     (from.0, get_or row.nodes from.0 pair, slice_get-get_or row.nodes from.0 pair from.1, ap (λ (e : Range × Node). e.0) from.2)
 
 -- ---- what a search in the row finds
-pub found_node : RowKeysExact → (p j : ℕ) (xs : List Extent) (row : UpdateRow) (range : Range) (node : Node) → 1 ≤ p → InBounds xs → 1 ≤ j → j ≤ length xs
-    → row.nodes ≡ row_of p xs j → IsNodeFor row range node → HasNode p (touches p xs) j range × (node ≡ node_of p xs j range)
-found_node exact p j xs row range node pos bounds some le is found =
-    let in' = in_row p j xs row range node is found in
+pub found_node : RowKeysExact → (p j : ℕ) (xs : List Extent) (row : UpdateRow) (range : Range) (placed : PlacedNode) → 1 ≤ p → InBounds xs → 1 ≤ j → j ≤ length xs
+    → row.nodes ≡ row_of p xs j → IsNodeFor row range placed → HasNode p (touches p xs) j range × (placed.node ≡ node_of p xs j range)
+found_node exact p j xs row range placed pos bounds some le is found =
+    let in' = in_row p j xs row range placed.node is found.among in
     ((exact p j xs range pos bounds some le).0 in'.0, in'.1)
 
 pub found_none : RowKeysExact → (p j : ℕ) (xs : List Extent) (row : UpdateRow) (range : Range) → 1 ≤ p → InBounds xs → 1 ≤ j → j ≤ length xs
@@ -76,15 +79,15 @@ touch_size stand p (suc k) us row ok some le is =
     ap (λ (t : Touch). t.size) (is.touch ∙ touch-touches p (extents us) k (omega (arith, length-extents us))) ∙ (stand us ok).2 (suc k) le
 
 -- ---- what a snapshot finds
-pub version_finds : RowKeysExact → ExtentsStand → (s : Version) (j : ℕ) (range : Range) (row : UpdateRow) (node : Node) → IsVersion s → row ≡ row_at s.rows j
-    → 1 ≤ j → j ≤ length s.rows → IsNodeFor row range node → IsFound s j range node
-version_finds exact stand s j range row node is same some le found =
+pub version_finds : RowKeysExact → ExtentsStand → (s : Version) (j : ℕ) (range : Range) (row : UpdateRow) (placed : PlacedNode) → IsVersion s → row ≡ row_at s.rows j
+    → 1 ≤ j → j ≤ length s.rows → IsNodeFor row range placed → IsFound s j range placed
+version_finds exact stand s j range row placed is same some le found =
     let us : List Update = updates_of s in
     let own : IsRowOf s.page_size us j (row_at s.rows j) = is.rows j some le in
-    let P : UpdateRow → Type 0 = λ r. IsNodeFor r range node in
+    let P : UpdateRow → Type 0 = λ r. IsNodeFor r range placed in
     let in_list : j ≤ length (extents us) = omega (arith, length-extents us, length-updates s.rows) in
-    let at = found_node exact s.page_size j (extents us) (row_at s.rows j) range node (page_pos s.page_size is.page_size) (stand us is.replayable).0 some in_list own.nodes (subst P same found) in
-    record { has = at.0; is = at.1 }
+    let at = found_node exact s.page_size j (extents us) (row_at s.rows j) range placed (page_pos s.page_size is.page_size) (stand us is.replayable).0 some in_list own.nodes (subst P same found) in
+    record { has = at.0; is = at.1; there = found.there ∙ ap (λ (r : UpdateRow). r.spot) same }
 
 pub version_finds_none : RowKeysExact → ExtentsStand → (s : Version) (j : ℕ) (range : Range) (row : UpdateRow) → IsVersion s → row ≡ row_at s.rows j
     → 1 ≤ j → j ≤ length s.rows → HasNoNodeFor row range → HasNodeFor s j range → ⊥
@@ -102,3 +105,9 @@ none_then (Some x) P R Q f h = tt
 pub some_then : {A : Type 0} (o : Option A) (P : Type 0) (Q S : A → Type 0) → ((x : A) → Q x → S x) → MatchOption o P Q → IfSome o S
 some_then None P Q S f h = tt
 some_then (Some x) P Q S f h = f x h
+
+-- ---- where nodes lie
+pub placed_here : (nodes : List Shelves) (s : Version) (j : ℕ) (range : Range) (placed : PlacedNode) → NodesLieIn nodes s → 1 ≤ j → j ≤ length s.rows
+    → IsFound s j range placed → IsIn nodes placed.spot
+placed_here nodes s zero range placed here some le found = absurd (omega arith)
+placed_here nodes s (suc k) range placed here some le found = subst (IsIn nodes) (sym found.there) (here k no_row le)

@@ -1,20 +1,21 @@
 -- A version with one more row, and an older version.
-use Rattle.std.proofs.Common.{◌≡◌, ℕ, zero, suc, ◌+◌, ◌*◌, ◌^◌, ◌<◌, ◌≤◌, List, [], ◌∷◌, ◌++◌, length, map, arith, refl, ap, sym, ◌∙◌, subst, inl, inr, length-append}
+use Rattle.std.proofs.Common.{◌≡◌, ℕ, zero, suc, ◌+◌, ◌-◌, ◌*◌, ◌/◌, ◌^◌, ◌<◌, ◌≤◌, List, [], ◌∷◌, ◌++◌, length, take, drop, map, arith, refl, ap, sym, ◌∙◌, subst, inl, inr, length-append}
+use Rattle.std.proofs.Math.Nat.{div-eq_of_lt, add-div_right}
 use Rattle.std.proofs.lemmas.Bool.{cases_lt}
-use Rattle.std.proofs.lemmas.List.{map-append}
-use Rattle.blob_model.specs.Content.{Update, size_of}
+use Rattle.std.proofs.lemmas.List.{map-append, take-append-le}
+use Rattle.blob_model.specs.Content.{Update, content, content_from, size_of}
 use Rattle.tree_geom.specs.declared.range.Range.{Range}
 use Rattle.tree_geom.specs.declared.node.Node.{Node}
 use Rattle.range_log.specs.Log.{touch_at}
 use Rattle.range_log.specs.Extents.{Extent, extent_at, touches}
-use Rattle.range_log.specs.Updates.{extents, extent_of, Replayable}
-use Rattle.range_log.specs.Rows.{node_of, row_of, row_keys_of}
+use Rattle.range_log.specs.Updates.{extents, extent_of, page_bytes, Replayable}
+use Rattle.range_log.specs.Rows.{folds_of, node_of, pages_in, row_of, row_keys_of}
 use Rattle.range_log.specs.Laws.{RowsStay, ExtentsGrow}
-use Rattle.page_store.specs.Stored.{Cut, bytes_of_pages}
-use Rattle.node_store.specs.UpdateRows.{UpdateRow, stored_of}
+use Rattle.page_store.specs.Stored.{Cut, Stored, IsCut, bytes_of_pages}
+use Rattle.node_store.specs.UpdateRows.{UpdateRow}
 use Rattle.range_log.proofs.Bytes.{length-extents, extent_is}
 use Rattle.range_log.proofs.Growth.{size_front, extent_of_front}
-use Rattle.snapshot.specs.Versions.{Version, row_at, update_of_row, updates, bytes_of, IsRowOf, IsVersion}
+use Rattle.snapshot.specs.Versions.{Version, row_at, update_of_row, updates, fold_bytes, IsRowOf, IsVersion}
 use Rattle.snapshot.proofs.Lists.{row_at_front, row_at_new, length-updates, update_at_front, map_same}
 
 -- a row stays that of its update in a longer list
@@ -27,6 +28,9 @@ row_stays stay p k xs more le =
     let pair : List Extent → Range → Range × Node = λ ys r. (r, node_of p ys k r) in
     ap (map (pair (xs ++ more))) same.1
     ∙ map_same (pair (xs ++ more)) (pair xs) (row_keys_of p (touches p xs) k) (λ r. ap (λ (n : Node). (r, n)) (same.3 r))
+
+pub folds_kept : RowsStay → (p k : ℕ) (xs more : List Extent) → k ≤ length xs → folds_of p (xs ++ more) k ≡ folds_of p xs k
+folds_kept stay p k xs more le = (stay p k xs more le).5
 
 -- ---- the same of updates
 module _ (stay : RowsStay) (grow : ExtentsGrow) where
@@ -45,6 +49,18 @@ module _ (stay : RowsStay) (grow : ExtentsGrow) where
       let rest = grow us more in
       ap (λ xs. row_of p xs k) rest.1 ∙ row_stays stay p k (extents us) rest.0 (omega (arith, length-extents us))
 
+  content_front : (k : ℕ) (us more : List Update) → k ≤ length us → content (us ++ more) k ≡ content us k
+  content_front k us more le = ap (content_from []) (take-append-le k us more le)
+
+  folds_front : (p k : ℕ) (us more : List Update) → k ≤ length us → fold_bytes p (us ++ more) k ≡ fold_bytes p us k
+  folds_front p k us more le =
+      let rest = grow us more in
+      let folds : folds_of p (extents (us ++ more)) k ≡ folds_of p (extents us) k =
+      ap (λ xs. folds_of p xs k) rest.1 ∙ folds_kept stay p k (extents us) rest.0 (omega (arith, length-extents us)) in
+      ap (map (λ i. page_bytes p (us ++ more) k i)) folds
+      ∙ map_same (λ i. page_bytes p (us ++ more) k i) (λ i. page_bytes p us k i) (folds_of p (extents us) k)
+      (λ i. ap (λ (c : List ℕ). take p (drop (i * p) c)) (content_front k us more le))
+
   pub IsRowOf-longer : (p k : ℕ) (us more : List Update) (row : UpdateRow) → k ≤ length us → IsRowOf p us k row → IsRowOf p (us ++ more) k row
   IsRowOf-longer p k us more row le is = record {
     version = is.version;
@@ -53,6 +69,7 @@ module _ (stay : RowsStay) (grow : ExtentsGrow) where
     nodes = is.nodes ∙ sym (row_front p k us more le);
     bytes = is.bytes ∙ ap (λ (u : Update). u.bytes) (sym (update_at_front us more k le));
     page_size = is.page_size;
+    folds = is.folds ∙ sym (folds_front p k us more le);
   }
 
   pub IsRowOf-shorter : (p k : ℕ) (us more : List Update) (row : UpdateRow) → k ≤ length us → IsRowOf p (us ++ more) k row → IsRowOf p us k row
@@ -63,6 +80,7 @@ module _ (stay : RowsStay) (grow : ExtentsGrow) where
     nodes = is.nodes ∙ row_front p k us more le;
     bytes = is.bytes ∙ ap (λ (u : Update). u.bytes) (update_at_front us more k le);
     page_size = is.page_size;
+    folds = is.folds ∙ folds_front p k us more le;
   }
 
 Replayable-shorter : (us more : List Update) → Replayable (us ++ more) → Replayable us
@@ -100,7 +118,7 @@ IsVersion-front stay grow blob p rows more is =
           subst R (row_at_front rows more k le) (IsRowOf-shorter stay grow p k us rest (row_at (rows ++ more) k) (omega arith) (subst P join (is.rows k some long)));
       paged = λ k some le.
           let long : k ≤ length (rows ++ more) = omega arith in
-          let R : UpdateRow → Type 0 = λ row. length (bytes_of row) ≤ length (stored_of row) * p in
+          let R : UpdateRow → Type 0 = λ row. IsCut p row.pages.pages in
           subst R (row_at_front rows more k le) (is.paged k some long);
       fits = λ v le.
           let long : v ≤ length (rows ++ more) = omega arith in
@@ -111,7 +129,7 @@ IsVersion-front stay grow blob p rows more is =
 
 pub IsVersion-push : RowsStay → ExtentsGrow → (blob p : ℕ) (rows : List UpdateRow) (row : UpdateRow) → IsVersion (of_rows blob p rows) → length rows < 1048576
     → IsRowOf p (updates (rows ++ row ∷ [])) (length rows + 1) row → Replayable (updates (rows ++ row ∷ []))
-    → length (bytes_of row) ≤ length (stored_of row) * p → size_of (updates (rows ++ row ∷ [])) (length rows + 1) ≤ 2 ^ 40
+    → IsCut p row.pages.pages → size_of (updates (rows ++ row ∷ [])) (length rows + 1) ≤ 2 ^ 40
     → IsVersion (of_rows blob p (rows ++ row ∷ []))
 IsVersion-push stay grow blob p rows row is room new ok paged fits =
     let us : List Update = updates rows in
@@ -139,11 +157,11 @@ IsVersion-push stay grow blob p rows row is room new ok paged fits =
       ];
       paged = λ k some le. elim (cases_lt (length rows) k) [
         | inl past ↦
-            let P : ℕ → Type 0 = λ n. length (bytes_of (row_at all n)) ≤ length (stored_of (row_at all n)) * p in
-            let R : UpdateRow → Type 0 = λ r. length (bytes_of r) ≤ length (stored_of r) * p in
+            let P : ℕ → Type 0 = λ n. IsCut p (row_at all n).pages.pages in
+            let R : UpdateRow → Type 0 = λ r. IsCut p r.pages.pages in
             subst P (sym (last k past le)) (subst R (sym newest) paged)
         | inr old ↦
-            let R : UpdateRow → Type 0 = λ r. length (bytes_of r) ≤ length (stored_of r) * p in
+            let R : UpdateRow → Type 0 = λ r. IsCut p r.pages.pages in
             subst R (sym (row_at_front rows (row ∷ []) k old)) (is.paged k some old)
       ];
       fits = λ v le. elim (cases_lt (length rows) v) [
@@ -157,10 +175,25 @@ IsVersion-push stay grow blob p rows row is room new ok paged fits =
       ];
     }
 
--- the pages hold no more than their number times the page size
-pub paged_of : (pages told : Cut) (p : ℕ) → pages ≡ told → length (bytes_of_pages told.pages) ≤ length told.pages * told.page_size → pages.page_size ≡ p
-    → length (bytes_of_pages pages.pages) ≤ length pages.pages * p
-paged_of pages told p same enough size =
-    let P : Cut → Type 0 = λ c. c.page_size ≡ p → length (bytes_of_pages c.pages) ≤ length c.pages * p in
-    let told_pages : P told = λ e. rw (← e) enough in
+-- where pages are cut there are as many as their bytes need
+pub cut_count : (p : ℕ) (pages : List Stored) → 1 ≤ p → IsCut p pages → length pages ≡ pages_in p (length (bytes_of_pages pages))
+cut_count p [] pos cut = sym (div-eq_of_lt (omega (arith, pos)))
+cut_count p (page ∷ []) pos cut =
+    let all : length (bytes_of_pages (page ∷ [])) ≡ length page.bytes = length-append page.bytes [] ∙ (let z : length page.bytes + 0 ≡ length page.bytes = omega arith in z) in
+    let more : length (bytes_of_pages (page ∷ [])) + p - 1 ≡ length page.bytes - 1 + p = omega (arith, all, cut) in
+    let one_more : (length (bytes_of_pages (page ∷ [])) + p - 1) / p ≡ (length page.bytes - 1) / p + 1 = ap (λ n. n / p) more ∙ add-div_right (length page.bytes - 1) pos in
+    let none : (length page.bytes - 1) / p ≡ 0 = div-eq_of_lt (omega (arith, cut)) in
+    omega (arith, one_more, none)
+cut_count p (page ∷ next ∷ rest) pos cut =
+    let n : ℕ = length (bytes_of_pages (next ∷ rest)) in
+    let all : length (bytes_of_pages (page ∷ next ∷ rest)) ≡ p + n = length-append page.bytes (bytes_of_pages (next ∷ rest)) ∙ ap (λ m. m + n) cut.0 in
+    let more : length (bytes_of_pages (page ∷ next ∷ rest)) + p - 1 ≡ n + p - 1 + p = omega (arith, all, pos) in
+    let one_more : (length (bytes_of_pages (page ∷ next ∷ rest)) + p - 1) / p ≡ (n + p - 1) / p + 1 = ap (λ m. m / p) more ∙ add-div_right (n + p - 1) pos in
+    let others : length (next ∷ rest) ≡ (n + p - 1) / p = cut_count p (next ∷ rest) pos cut.1 in
+    omega (arith, one_more, others)
+
+pub paged_of : (pages told : Cut) (p : ℕ) → pages ≡ told → IsCut told.page_size told.pages → pages.page_size ≡ p → IsCut p pages.pages
+paged_of pages told p same cut size =
+    let P : Cut → Type 0 = λ c. c.page_size ≡ p → IsCut p c.pages in
+    let told_pages : P told = λ e. (let C : ℕ → Type 0 = λ n. IsCut n told.pages in subst C e cut) in
     subst P (sym same) told_pages size

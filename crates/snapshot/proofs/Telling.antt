@@ -1,5 +1,5 @@
 -- What rows tell of the updates that they are the rows of.
-use Rattle.std.proofs.Common.{◌≡◌, ℕ, zero, suc, ◌+◌, ◌<◌, ◌≤◌, List, ◌++◌, length, take, drop, map, arith, refl, ap, sym, ◌∙◌, subst}
+use Rattle.std.proofs.Common.{◌≡◌, ℕ, zero, suc, ◌+◌, ◌*◌, ◌<◌, ◌≤◌, List, ◌++◌, length, take, drop, map, arith, refl, ap, sym, ◌∙◌, subst}
 use Rattle.std.specs.List.{range_with_len}
 use Rattle.std.proofs.lemmas.List.{take-append-drop, length-take-le}
 use Rattle.std.proofs.lemmas.List.FromFn.{take-map-range_with_len}
@@ -9,15 +9,15 @@ use Rattle.tree_geom.specs.declared.touch.Touch.{Touch}
 use Rattle.tree_geom.specs.declared.node.Node.{Node}
 use Rattle.range_log.specs.Log.{touch_at}
 use Rattle.range_log.specs.Extents.{Extent, extent_at, touches}
-use Rattle.range_log.specs.Updates.{update_at, extents, extent_of, Replayable}
-use Rattle.range_log.specs.Rows.{row_of}
+use Rattle.range_log.specs.Updates.{update_at, extents, extent_of, page_bytes, Replayable}
+use Rattle.range_log.specs.Rows.{folds_of, row_of}
 use Rattle.range_log.specs.Laws.{RowsStay}
 use Rattle.node_store.specs.UpdateRows.{UpdateRow}
 use Rattle.range_log.proofs.Bytes.{content_next, length-extents, extent_is}
 use Rattle.snapshot.specs.Versions.{row_at, update_of_row, updates}
 use Rattle.snapshot.specs.Laws.{AreRowsOf, TellUpdates}
-use Rattle.snapshot.proofs.Lists.{length-updates, update_told, map_range}
-use Rattle.snapshot.proofs.Growing.{touch_stays, row_stays}
+use Rattle.snapshot.proofs.Lists.{length-updates, update_told, map_range, map_same}
+use Rattle.snapshot.proofs.Growing.{touch_stays, row_stays, folds_kept}
 
 -- ---- all that rows tell
 module _ (stay : RowsStay) (p : ℕ) (us : List Update) (rows : List UpdateRow) (pos : 1 ≤ p) (ok : Replayable us) (are : AreRowsOf p us rows) where
@@ -91,6 +91,7 @@ module _ (stay : RowsStay) (p : ℕ) (us : List Update) (rows : List UpdateRow) 
             let within : k ≤ length front = omega arith in
             let T : List Extent → Touch = λ l. touch_at (touches p l) k in
             let R : List Extent → List (Range × Node) = λ l. row_of p l k in
+            let F : List Extent → List ℕ = λ l. folds_of p l k in
             record {
               version = is.version;
               offset = is.offset ∙ ap (λ (x : Extent). x.at) (sym (place_told k some le));
@@ -98,6 +99,10 @@ module _ (stay : RowsStay) (p : ℕ) (us : List Update) (rows : List UpdateRow) 
               nodes = is.nodes ∙ ap R (sym join) ∙ row_stays stay p k front rest within ∙ ap R (sym extents_told);
               bytes = is.bytes ∙ sym (bytes_told k le);
               page_size = is.page_size;
+              folds = is.folds
+                  ∙ ap (map (λ i. page_bytes p us k i)) (ap F (sym join) ∙ folds_kept stay p k front rest within ∙ ap F (sym extents_told))
+                  ∙ map_same (λ i. page_bytes p us k i) (λ i. page_bytes p ws k i) (folds_of p (extents ws) k)
+                  (λ i. ap (λ (c : List ℕ). take p (drop (i * p) c)) (sym (content_told k le)));
             };
       }
 

@@ -1,18 +1,20 @@
 -- What a clause sees of a snapshot, and the updates that its rows tell.
-use Rattle.std.specs.Prelude.{◌≡◌, ℕ, ◌*◌, ◌^◌, ◌≤◌, zero, suc, List, [], ◌∷◌, ◌++◌, length, take, map, slice_index_or, All}
+use Rattle.std.specs.Prelude.{◌≡◌, ℕ, ◌^◌, ◌≤◌, zero, suc, List, [], ◌∷◌, ◌++◌, length, take, map, slice_index_or, All}
 use Rattle.blob_model.specs.Content.{Update, size_of}
 use Rattle.blob_model.specs.declared.call.Place.TheVariants.{WriteAt}
 use Rattle.tree_geom.specs.declared.range.Range.{Range}
-use Rattle.tree_geom.specs.declared.node.Node.{Node}
+use Rattle.boxcar.specs.Table.{Shelves}
 use Rattle.tree_geom.specs.declared.node.NodeKey.{NodeKey}
 use Rattle.tree_geom.specs.Geometry.{no_touch, span_of, IsPageSize}
 use Rattle.range_log.specs.Log.{HasNode, touch_at}
 use Rattle.range_log.specs.Extents.{extent_at, touches}
-use Rattle.range_log.specs.Updates.{update_at, extents, Replayable}
-use Rattle.range_log.specs.Rows.{node_of, row_of}
+use Rattle.range_log.specs.Updates.{update_at, extents, page_bytes, Replayable}
+use Rattle.range_log.specs.Rows.{folds_of, node_of, row_of}
 use Rattle.page_store.specs.House.{House}
-use Rattle.page_store.specs.Stored.{bytes_of_pages}
-use Rattle.node_store.specs.UpdateRows.{UpdateRow, stored_of, IsRowIn}
+use Rattle.page_store.specs.Stored.{Stored, IsCut, LieAmong, bytes_of_pages}
+use Rattle.node_store.specs.House.{IsIn}
+use Rattle.node_store.specs.Placed.{Spot, PlacedNode}
+use Rattle.node_store.specs.UpdateRows.{UpdateRow, stored_of}
 
 -- a version: the blob under whose id it is read, its page size, and the rows of its updates, update 1 first
 pub record Version : Type 0 where
@@ -20,9 +22,22 @@ pub record Version : Type 0 where
   pub page_size : ℕ
   pub rows : List UpdateRow
 
+-- where no nodes lie
+abbrev pub no_spot : Spot
+no_spot = record { shard = 0; shelf = 0; mark = 0 }
+
 -- what stands in place of row 0, which there is none of
 abbrev pub no_row : UpdateRow
-no_row = record { blob = 0; version = 0; offset = 0; touch = no_touch; nodes = []; pages = record { page_size = 0; room = 0; pages = [] } }
+no_row = record {
+  blob = 0;
+  version = 0;
+  offset = 0;
+  touch = no_touch;
+  nodes = [];
+  spot = no_spot;
+  pages = record { page_size = 0; room = 0; pages = [] };
+  folds = [];
+}
 
 -- the row of update j, from 1
 abbrev pub row_at : List UpdateRow → ℕ → UpdateRow
@@ -42,9 +57,9 @@ abbrev pub under_blob : Version → ℕ → Version
 under_blob s blob = record s { blob = blob }
 
 -- ---- what a row tells of its update
--- the bytes of the row's pages
+-- the bytes of the row's pages, without those of the blob that are stored anew
 abbrev pub bytes_of : UpdateRow → List ℕ
-bytes_of row = bytes_of_pages (stored_of row)
+bytes_of row = bytes_of_pages row.pages.pages
 
 -- the update that the row tells: its bytes, written where the row says that it begins
 abbrev pub update_of_row : UpdateRow → Update
@@ -63,7 +78,12 @@ abbrev pub size_now : Version → ℕ
 size_now s = size_of (updates_of s) (length s.rows)
 
 -- ---- rows of updates
--- the row is that of update k of these, and its pages are that update's bytes, cut at the page size
+-- the valid bytes, at version k, of the pages that update k stores anew
+abbrev pub fold_bytes : ℕ → List Update → ℕ → List (List ℕ)
+fold_bytes p us k = map (λ i. page_bytes p us k i) (folds_of p (extents us) k)
+
+-- the row is that of update k of these, its pages are that update's bytes, cut at the page size, and each page that the update
+-- stores anew has the page's valid bytes
 pub record IsRowOf (p : ℕ) (us : List Update) (k : ℕ) (row : UpdateRow) : Type 0 where
   pub version : row.version ≡ k
   pub offset : row.offset ≡ (extent_at (extents us) k).at
@@ -71,14 +91,16 @@ pub record IsRowOf (p : ℕ) (us : List Update) (k : ℕ) (row : UpdateRow) : Ty
   pub nodes : row.nodes ≡ row_of p (extents us) k
   pub bytes : bytes_of row ≡ (update_at us k).bytes
   pub page_size : row.pages.page_size ≡ p
+  pub folds : map (λ (s : Stored). s.bytes) row.folds ≡ fold_bytes p us k
 
--- each row is that of its update, and all updates begin at the size before them at the latest
+-- each row is that of its update, its pages are cut at the page size, and all updates begin at the size before them at the
+-- latest
 pub record IsVersion (s : Version) : Type 0 where
   pub page_size : IsPageSize s.page_size
   pub counted : length s.rows ≤ 1048576
   pub replayable : Replayable (updates_of s)
   pub rows : (k : ℕ) → 1 ≤ k → k ≤ length s.rows → IsRowOf s.page_size (updates_of s) k (row_at s.rows k)
-  pub paged : (k : ℕ) → 1 ≤ k → k ≤ length s.rows → length (bytes_of (row_at s.rows k)) ≤ length (stored_of (row_at s.rows k)) * s.page_size
+  pub paged : (k : ℕ) → 1 ≤ k → k ≤ length s.rows → IsCut s.page_size (row_at s.rows k).pages.pages
   pub fits : (v : ℕ) → v ≤ length s.rows → size_of (updates_of s) v ≤ 2 ^ 40
 
 -- ---- nodes
@@ -86,10 +108,11 @@ pub record IsVersion (s : Version) : Type 0 where
 abbrev pub HasNodeFor : Version → ℕ → Range → Type 0
 HasNodeFor s j range = HasNode s.page_size (touches s.page_size (extents (updates_of s))) j range
 
--- it is the node that the row of update j has for the range
-pub record IsFound (s : Version) (j : ℕ) (range : Range) (node : Node) : Type 0 where
+-- it is the node that the row of update j has for the range, and lies where the row's nodes do
+pub record IsFound (s : Version) (j : ℕ) (range : Range) (placed : PlacedNode) : Type 0 where
   pub has : HasNodeFor s j range
-  pub is : node ≡ node_of s.page_size (extents (updates_of s)) j range
+  pub is : placed.node ≡ node_of s.page_size (extents (updates_of s)) j range
+  pub there : placed.spot ≡ (row_at s.rows j).spot
 
 -- the key of the root of the version
 abbrev pub root_key : Version → NodeKey
@@ -99,7 +122,15 @@ root_key s = record {
   range = record { offset = 0; size = span_of s.page_size (size_now s) };
 }
 
--- ---- where pages lie
--- the stored pages of the version's rows lie in these houses
-abbrev pub IsVersionIn : List House → Version → Type 0
-IsVersionIn houses s = All (IsRowIn houses) s.rows
+-- ---- where nodes and pages lie
+-- the nodes of the version's rows lie in this house
+abbrev pub NodesLieIn : List Shelves → Version → Type 0
+NodesLieIn nodes s = All (λ (row : UpdateRow). IsIn nodes row.spot) s.rows
+
+-- the stored pages of its rows lie in these houses
+abbrev pub PagesLieIn : List House → Version → Type 0
+PagesLieIn houses s = All (λ (row : UpdateRow). LieAmong houses (stored_of row)) s.rows
+
+-- both
+abbrev pub IsVersionIn : List Shelves → List House → Version → Type 0
+IsVersionIn nodes houses s = NodesLieIn nodes s × PagesLieIn houses s

@@ -8,7 +8,7 @@ ghost use Rattle.snapshot.specs.Versions.{row_at, bytes_of, updates_of, next_ver
 ghost use Rattle.snapshot.specs.Versions.{under_blob, size_now, HasNodeFor, IsFound, root_key, IsRowOf};
 ghost use Rattle.snapshot.specs.Versions.{IsVersion};
 
-use node_store::{NoMemory, Node, Row};
+use node_store::{NoMemory, NodeRef, Row};
 use page_store::StoredPage;
 use radix_list::RadixList;
 use range_log::laws;
@@ -175,10 +175,10 @@ impl Snapshot {
         j: u64,
         range: Range,
         steps: &mut Steps<L>,
-    ) -> Option<&'s Node>
+    ) -> Option<NodeRef<'s>>
         requires { (1 ≤ j) × (j ≤ length self.now.rows) }
         ensures none { IfNone result (¬ HasNodeFor self.now j range) }
-        ensures found { IfSome result (λ node. IsFound self.now j range node.now) }
+        ensures found { IfSome result (λ node. IsFound self.now j range node) }
         ensures step { steps.new ≡ steps.old + 1 }
     {
         laws::row_keys_exact();
@@ -187,13 +187,14 @@ impl Snapshot {
         self.row(j).at(range)
     }
 
-    /// The stored page of update `j` that the number `q` of a piece means. Its bytes are those of the update from `q` times
-    /// the page size on.
+    /// The stored page of update `j` that the number `q` of a piece means. First come the update's pages, whose bytes are those
+    /// of the update from `q` times the page size on, and then those of the blob that it stores anew.
     pub fn page(&self, j: u64, q: u32) -> &StoredPage
         requires version { (1 ≤ j) × (j ≤ length self.now.rows) }
         requires number { q < length (stored_of (row_at self.now.rows j)) }
         ensures this { slice_get (stored_of (row_at self.now.rows j)) q ≡ Some result.now }
-        ensures bytes { result.now.bytes ≡ bytes_of_page self.now.page_size (bytes_of (row_at self.now.rows j)) q }
+        ensures bytes { q < length (row_at self.now.rows j).pages.pages
+            → result.now.bytes ≡ bytes_of_page self.now.page_size (bytes_of (row_at self.now.rows j)) q }
     {
         self.row(j).page(q)
     }

@@ -1,3 +1,4 @@
 pub mod Plans
 pub mod Shapes
+pub mod Folding
 pub mod Storing

@@ -1,10 +1,10 @@
 -- The row that a ticket tells, and its levels as they are planned.
-use Rattle.std.proofs.Common.{◌≡◌, ℕ, suc, ◌+◌, ◌-◌, ◌*◌, ◌/◌, ◌^◌, ◌<◌, ◌≤◌, List, [], ◌∷◌, ◌++◌, length, map, max, arith, inl, inr, refl, ap, sym, subst, ◌∙◌, get_or, append_assoc, append-nil}
-use Rattle.std.specs.Prelude.{◌==◌, if◌then◌else◌}
-use Rattle.std.specs.List.{range_with_len, AllPairs}
+use Rattle.std.proofs.Common.{◌≡◌, ℕ, suc, ◌+◌, ◌-◌, ◌*◌, ◌/◌, ◌^◌, ◌<◌, ◌≤◌, List, [], ◌∷◌, ◌++◌, length, map, max, arith, inl, inr, refl, ap, sym, subst, ◌∙◌, append_assoc, append-nil}
+use Rattle.std.specs.Prelude.{◌==◌, ◌&&◌, ◌||◌, not, Bool, true, false, if◌then◌else◌}
+use Rattle.std.specs.List.{range_with_len, filter, position_or_len}
 use Rattle.std.proofs.lemmas.Bool.{cases_lt}
 use Rattle.std.proofs.lemmas.Nat.{mul-le, pow_pos}
-use Rattle.std.proofs.lemmas.List.{length-map, get_or-map, get_or_past, map-append}
+use Rattle.std.proofs.lemmas.List.{get_or_past, map-append}
 use Rattle.std.proofs.lemmas.List.FromFn.{map-range_with_len_more}
 use Rattle.std.proofs.lemmas.Simd.{map-map}
 use Rattle.std.proofs.Math.Nat.{div-mul-le_self, lt-div-mul-add}
@@ -15,28 +15,60 @@ use Rattle.tree_geom.specs.declared.node.Node.TheVariants.{Inner}
 use Rattle.tree_geom.specs.Geometry.{tree_range, page_range, left_half, right_half, height_of, covers, touched_by}
 use Rattle.range_log.specs.Log.{newest_of, touch_at, size_at}
 use Rattle.range_log.specs.Extents.{Extent, no_extent, extent_at, size_after, touches}
-use Rattle.range_log.specs.Depths.{depth_of}
-use Rattle.range_log.specs.Rows.{level_of, levels_of, row_keys_of, row_of, node_of, back_of, leaf_at}
-use Rattle.range_log.specs.Laws.{Before, EachTouchIs, SizesAre, RowKeysInOrder}
+use Rattle.range_log.specs.Depths.{fold_number, depth_of}
+use Rattle.range_log.specs.Rows.{level_of, levels_of, row_keys_of, row_of, node_of, leaf_of, folded_of, folds_by, folds_of}
+use Rattle.range_log.specs.Rows.{back_by, covered, edge_pages, fold_at, pages_in, valid_in, whole_leaf, leaf_at}
+use Rattle.range_log.specs.Laws.{EachTouchIs, SizesAre}
 use Rattle.border_hints.specs.Numbered.{NumberedUpdate, own_touch, log_upto, StandsFor, IsNumbered}
-use Rattle.node_store.specs.Order.{Before as StandsBefore, InRowOrder}
-use Rattle.tree_weaver.specs.Planned.{own_extent, own_node, own_nodes}
+use Rattle.tree_weaver.specs.Planned.{own_extent, own_folds, own_node, own_nodes, own_ranges, ranges_of}
 
 -- ---- what the updates tell that a ticket stands for
 -- a node, by where the update falls, the touches, the size after it and its version
+made_folded : ℕ → Extent → List Touch → ℕ → ℕ → ℕ → Bool
+made_folded p x log n k i = not (covers p x.at x.len n i) && depth_of p log k i == 0
+
+made_folds : ℕ → Extent → List Touch → ℕ → ℕ → List ℕ
+made_folds p x log n k = filter (λ i. made_folded p x log n k i) (edge_pages (touched_by p x.at x.len n))
+
+made_leaf : ℕ → Extent → List Touch → ℕ → ℕ → ℕ → Node
+made_leaf p x log n k i =
+    if made_folded p x log n k i then whole_leaf (pages_in p x.len + position_or_len (λ j. j == i) (made_folds p x log n k)) (valid_in p n i)
+    else leaf_at p x i (if covers p x.at x.len n i then 0 else newest_of p log (k - 1) (page_range p i)) (depth_of p log k i)
+
 made_node : ℕ → Extent → List Touch → ℕ → ℕ → Range → Node
 made_node p x log n k r =
-    if r.size == p then leaf_at p x (r.offset / p) (if covers p x.at x.len n (r.offset / p) then 0 else newest_of p log (k - 1) (page_range p (r.offset / p)))
-    (depth_of p log k (r.offset / p))
+    if r.size == p then made_leaf p x log n k (r.offset / p)
     else Inner (newest_of p log k (left_half r)) (newest_of p log k (right_half r))
 
+-- a leaf's back is asked for only where it doesn't store its page anew
+same_leaf : (whole anew : Bool) (n : ℕ) (a : Node) (b : ℕ → Node) → (if anew then a else b (if whole || anew then 0 else n)) ≡ (if anew then a else b (if whole then 0 else n))
+same_leaf true true n a b = refl
+same_leaf true false n a b = refl
+same_leaf false true n a b = refl
+same_leaf false false n a b = refl
+
+leaf_made : (p : ℕ) (us : List Extent) (k i : ℕ) → leaf_of p us k i ≡ made_leaf p (extent_at us k) (touches p us) (size_after us k) k i
+unfolding made_leaf made_folded made_folds back_by folds_by
+leaf_made p us k i =
+    same_leaf (covered p us k i) (folded_of p us k i) (newest_of p (touches p us) (k - 1) (page_range p i)) (whole_leaf (fold_at fold_number p us k i) (valid_in p (size_after us k) i))
+    (λ back. leaf_at p (extent_at us k) i back (depth_of p (touches p us) k i))
+
 made_of : (p : ℕ) (us : List Extent) (k : ℕ) (r : Range) → node_of p us k r ≡ made_node p (extent_at us k) (touches p us) (size_after us k) k r
-unfolding made_node back_of
-made_of p us k r = refl
+unfolding made_node
+made_of p us k r =
+    ap (λ l. if r.size == p then l else Inner (newest_of p (touches p us) k (left_half r)) (newest_of p (touches p us) k (right_half r))) (leaf_made p us k (r.offset / p))
 
 made_own : (t : NumberedUpdate) (r : Range) → made_node t.snapshot.page_size (own_extent t) (log_upto t) t.size t.version r ≡ own_node t r
-unfolding made_node
+unfolding made_node made_leaf made_folded made_folds
 made_own t r = refl
+
+folds_made : (p : ℕ) (us : List Extent) (k : ℕ) → folds_of p us k ≡ made_folds p (extent_at us k) (touches p us) (size_after us k) k
+unfolding made_folded made_folds folds_by
+folds_made p us k = refl
+
+folds_own : (t : NumberedUpdate) → made_folds t.snapshot.page_size (own_extent t) (log_upto t) t.size t.version ≡ own_folds t
+unfolding made_folded made_folds
+folds_own t = refl
 
 keys_of_touch : (p : ℕ) (log : List Touch) (k : ℕ) → row_keys_of p log k ≡ levels_of p (touch_at log k) (suc (height_of p (size_at log k)))
 unfolding row_keys_of
@@ -46,9 +78,9 @@ map_same : {X Y : Type 0} (f g : X → Y) (xs : List X) → ((x : X) → f x ≡
 map_same f g [] same = refl
 map_same f g (x ∷ xs) same = ap (λ y. y ∷ map f xs) (same x) ∙ ap (λ l. g x ∷ l) (map_same f g xs same)
 
--- the ranges of the update's row
-abbrev pub own_ranges : NumberedUpdate → List Range
-own_ranges t = levels_of t.snapshot.page_size (own_touch t) (suc (height_of t.snapshot.page_size t.size))
+map_id : {X : Type 0} (xs : List X) → map (λ x. x) xs ≡ xs
+map_id [] = refl
+map_id (x ∷ xs) = ap (λ l. x ∷ l) (map_id xs)
 
 module _ (each : EachTouchIs) (sizes : SizesAre) (t : NumberedUpdate) (is : IsNumbered t) (us : List Extent) (st : StandsFor t us) where
   last_version : t.version ≡ suc (t.version - 1)
@@ -108,29 +140,32 @@ module _ (each : EachTouchIs) (sizes : SizesAre) (t : NumberedUpdate) (is : IsNu
       let of_own : Range → Range × Node = λ r. (r, own_node t r) in
       ap (map of_us) keys ∙ map_same of_us of_own (own_ranges t) (λ r. ap (λ (n : Node). (r, n)) (same r))
 
--- ---- the order
-stands : (a b : Range) → Before a b → StandsBefore a b
-stands a b is = elim is [
-  | inl larger ↦ (omega arith, λ le. absurd (omega arith))
-  | inr level ↦ (let e : a.size ≡ b.size = level.0 in omega arith, λ le. level.1)
-]
+  -- and so are the pages that it stores anew
+  pub folds_told : folds_of t.snapshot.page_size us t.version ≡ own_folds t
+  folds_told =
+      let p : ℕ = t.snapshot.page_size in
+      let k : ℕ = t.version in
+      folds_made p us k
+      ∙ ap (λ x. made_folds p x (touches p us) (size_after us k) k) st.own
+      ∙ ap (λ l. made_folds p (own_extent t) l (size_after us k) k) st.touches
+      ∙ ap (λ n. made_folds p (own_extent t) (log_upto t) n k) own_size
+      ∙ folds_own t
 
-pub plan_in_order : RowKeysInOrder → EachTouchIs → SizesAre → (t : NumberedUpdate) → IsNumbered t → 1 ≤ t.snapshot.page_size → InRowOrder (own_nodes t (own_ranges t))
-plan_in_order order each sizes t is pos i j d lt le =
-    let p : ℕ = t.snapshot.page_size in
-    let told : touch_at (log_upto t) t.version ≡ own_touch t = touch_told each sizes t is is.stands.0 is.stands.1 in
-    let keys : row_keys_of p (log_upto t) t.version ≡ own_ranges t =
-    keys_of_touch p (log_upto t) t.version ∙ ap (λ (u : Touch). levels_of p u (suc (height_of p u.size))) told in
-    let O : List Range → Type 0 = λ l. AllPairs Before l in
-    let sorted : AllPairs Before (own_ranges t) = subst O keys (order p t.version (log_upto t) pos) in
-    let g : Range → Range × Node = λ r. (r, own_node t r) in
-    let count : length (own_nodes t (own_ranges t)) ≡ length (own_ranges t) = length-map (own_ranges t) g in
-    let first : get_or (own_nodes t (own_ranges t)) i d ≡ g (get_or (own_ranges t) i d.0) = get_or-map g (own_ranges t) i d.0 d (omega arith) in
-    let second : get_or (own_nodes t (own_ranges t)) j d ≡ g (get_or (own_ranges t) j d.0) = get_or-map g (own_ranges t) j d.0 d (omega arith) in
-    let B : Range × Node → Range × Node → Type 0 = λ a b. StandsBefore a.0 b.0 in
-    let C : Range × Node → Type 0 = λ a. B a (get_or (own_nodes t (own_ranges t)) j d) in
-    let D : Range × Node → Type 0 = λ b. B (g (get_or (own_ranges t) i d.0)) b in
-    subst C (sym first) (subst D (sym second) (stands (get_or (own_ranges t) i d.0) (get_or (own_ranges t) j d.0) (sorted i j d.0 lt (omega arith))))
+-- ---- the ranges
+-- the planned nodes stand beside the ranges of the row
+pub ranges_own : (t : NumberedUpdate) (ranges : List Range) → ranges_of (own_nodes t ranges) ≡ ranges
+ranges_own t ranges = map-map (λ (x : Range × Node). x.0) (λ r. (r, own_node t r)) ranges ∙ map_id ranges
+
+-- the height, as the code computes it
+pub own_height : (t : NumberedUpdate) (p n height : ℕ) → p ≡ t.snapshot.page_size → n ≡ t.size → height ≡ height_of p n → height ≡ height_of t.snapshot.page_size t.size
+own_height t p n height a b is = is ∙ ap (λ x. height_of x n) a ∙ ap (height_of t.snapshot.page_size) b
+
+-- the row's ranges, as a row has them
+pub own_levels : (t : NumberedUpdate) (touch : Touch) (p height : ℕ) → touch ≡ own_touch t → p ≡ t.snapshot.page_size → height ≡ height_of t.snapshot.page_size t.size
+    → levels_of p touch (height + 1) ≡ own_ranges t
+own_levels t touch p height a b c =
+    let e : height + 1 ≡ suc (height_of t.snapshot.page_size t.size) = omega arith in
+    ap (λ n. levels_of n touch (height + 1)) b ∙ ap (λ u. levels_of t.snapshot.page_size u (height + 1)) a ∙ ap (levels_of t.snapshot.page_size (own_touch t)) e
 
 -- ---- the levels, as they are planned
 -- the node for range number q of a height, beside the range
@@ -154,7 +189,7 @@ level_more f all old now a q x le so_far more is =
     ∙ ap (λ l. all ++ l) (sym (map-range_with_len_more f a n q (omega arith)))
     ∙ ap (λ k. all ++ map f (range_with_len a k)) (sym e)
 
-quotients_rise : (a b w : ℕ) → 1 ≤ w → a ≤ b → a / w ≤ b / w
+pub quotients_rise : (a b w : ℕ) → 1 ≤ w → a ≤ b → a / w ≤ b / w
 quotients_rise a b w pos le =
     let low : a / w * w ≤ a = div-mul-le_self a w in
     elim (cases_lt (b / w) (a / w)) [
@@ -195,16 +230,15 @@ level_added t level all old now some so_far more =
     ∙ ap (λ l. old ++ l) (sym (map-append g (level_of p u h) (levels_of p u h)) ∙ ap (map g) (sym (levels_next p u h) ∙ ap (levels_of p u) e))
     ∙ so_far
 
-pub levels_done : (t : NumberedUpdate) (level top : ℕ) (now : List (Range × Node)) → level ≡ 0 → top ≡ height_of t.snapshot.page_size t.size
+-- all of them are planned, the height being as the code computes it
+pub levels_done : (t : NumberedUpdate) (level top p n : ℕ) (now : List (Range × Node)) → level ≡ 0 → p ≡ t.snapshot.page_size → n ≡ t.size → top ≡ height_of p n
     → now ++ own_nodes t (levels_of t.snapshot.page_size (own_touch t) level) ≡ own_nodes t (levels_of t.snapshot.page_size (own_touch t) (top + 1)) → now ≡ own_nodes t (own_ranges t)
-levels_done t level top now none high is =
-    let p : ℕ = t.snapshot.page_size in
+levels_done t level top p n now none size whole high is =
     let u : Touch = own_touch t in
-    let e : top + 1 ≡ suc (height_of p t.size) = omega arith in
     sym (append-nil now)
-    ∙ ap (λ l. now ++ l) (sym (ap (own_nodes t) (ap (levels_of p u) none ∙ levels_none p u)))
+    ∙ ap (λ l. now ++ l) (sym (ap (own_nodes t) (ap (levels_of t.snapshot.page_size u) none ∙ levels_none t.snapshot.page_size u)))
     ∙ is
-    ∙ ap (λ n. own_nodes t (levels_of p u n)) e
+    ∙ ap (own_nodes t) (own_levels t u t.snapshot.page_size top refl refl (own_height t p n top size whole high))
 
 pub level_begun : (f : ℕ → Range × Node) (all : List (Range × Node)) (a q : ℕ) → q ≡ a → all ≡ all ++ map f (range_with_len a (q - a))
 level_begun f all a q e =

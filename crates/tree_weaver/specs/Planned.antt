@@ -1,13 +1,14 @@
 -- The row of a numbered update, by what its ticket tells.
-use Rattle.std.specs.Prelude.{◌≡◌, ◌⊎◌, ℕ, ◌-◌, ◌/◌, ◌<◌, ◌==◌, if◌then◌else◌, List, map}
+use Rattle.std.specs.Prelude.{◌≡◌, ◌⊎◌, ℕ, ◌+◌, ◌-◌, ◌/◌, ◌<◌, ◌==◌, ◌&&◌, not, Bool, if◌then◌else◌, suc, List, map}
+use Rattle.std.specs.List.{filter, position_or_len}
 use Rattle.tree_geom.specs.declared.range.Range.{Range}
 use Rattle.tree_geom.specs.declared.node.Node.{Node}
 use Rattle.tree_geom.specs.declared.node.Node.TheVariants.{Inner}
-use Rattle.tree_geom.specs.Geometry.{page_range, left_half, right_half, covers}
+use Rattle.tree_geom.specs.Geometry.{page_range, left_half, right_half, height_of, covers}
 use Rattle.range_log.specs.Log.{newest_of}
 use Rattle.range_log.specs.Extents.{Extent}
 use Rattle.range_log.specs.Depths.{depth_of}
-use Rattle.range_log.specs.Rows.{leaf_at}
+use Rattle.range_log.specs.Rows.{edge_pages, levels_of, leaf_at, pages_in, valid_in, whole_leaf}
 use Rattle.border_hints.specs.Numbered.{NumberedUpdate, own_touch, log_upto}
 use Rattle.border_hints.specs.Borders.{IsRowRange}
 
@@ -25,13 +26,27 @@ own_back t i =
     if covers t.snapshot.page_size t.at t.len t.size i then 0
     else newest_of t.snapshot.page_size (log_upto t) (t.version - 1) (page_range t.snapshot.page_size i)
 
--- how deep its leaf of page i lies: how many backs lead on from it, one after another
+-- how deep its leaf of page i lies: how many backs lead on from it, one after another; 0 again where it stores the page anew
 abbrev pub own_depth : NumberedUpdate → ℕ → ℕ
 own_depth t i = depth_of t.snapshot.page_size (log_upto t) t.version i
 
+-- it stores page i, which it touches, anew
+abbrev pub own_folded : NumberedUpdate → ℕ → Bool
+own_folded t i = not (covers t.snapshot.page_size t.at t.len t.size i) && own_depth t i == 0
+
+-- the pages that it stores anew, rising
+abbrev pub own_folds : NumberedUpdate → List ℕ
+own_folds t = filter (λ i. own_folded t i) (edge_pages (own_touch t))
+
+-- the place of page i among them
+abbrev pub own_place : NumberedUpdate → ℕ → ℕ
+own_place t i = position_or_len (λ j. j == i) (own_folds t)
+
 -- its leaf of page i
 abbrev pub own_leaf : NumberedUpdate → ℕ → Node
-own_leaf t i = leaf_at t.snapshot.page_size (own_extent t) i (own_back t i) (own_depth t i)
+own_leaf t i =
+    if own_folded t i then whole_leaf (pages_in t.snapshot.page_size t.len + own_place t i) (valid_in t.snapshot.page_size t.size i)
+    else leaf_at t.snapshot.page_size (own_extent t) i (own_back t i) (own_depth t i)
 
 -- its inner node for the range
 abbrev pub own_inner : NumberedUpdate → Range → Node
@@ -44,6 +59,23 @@ own_node t r = if r.size == t.snapshot.page_size then own_leaf t (r.offset / t.s
 -- the nodes beside their ranges
 abbrev pub own_nodes : NumberedUpdate → List Range → List (Range × Node)
 own_nodes t ranges = map (λ r. (r, own_node t r)) ranges
+
+-- the ranges of the update's row
+abbrev pub own_ranges : NumberedUpdate → List Range
+own_ranges t = levels_of t.snapshot.page_size (own_touch t) (suc (height_of t.snapshot.page_size t.size))
+
+-- the ranges of such a list
+abbrev pub ranges_of : List (Range × Node) → List Range
+ranges_of pairs = map (λ (x : Range × Node). x.0) pairs
+
+-- its nodes
+abbrev pub nodes_of : List (Range × Node) → List Node
+nodes_of pairs = map (λ (x : Range × Node). x.1) pairs
+
+-- a planned row: its nodes beside their ranges, and the pages that the update stores anew
+pub record RowPlan : Type 0 where
+  pub nodes : List (Range × Node)
+  pub folded : List ℕ
 
 -- the range is a half of a node of the update's row
 pub record IsHalf (t : NumberedUpdate) (range : Range) : Type 0 where

@@ -1,10 +1,11 @@
 // The nodes of a numbered update.
-ghost use Rattle.std.specs.Prelude.{◌≡◌, ◌+◌, ◌-◌, ◌*◌, ◌/◌, ◌%◌, ◌^◌, ◌<◌, ◌≤◌, ◌↔◌, length, min, IsTrue};
+ghost use Rattle.std.specs.Prelude.{◌≡◌, ◌+◌, ◌-◌, ◌*◌, ◌/◌, ◌%◌, ◌^◌, ◌<◌, ◌≤◌, ◌↔◌, ◌==◌, length, min, true, IsTrue};
+ghost use Rattle.std.specs.List.{filter_map};
 ghost use Rattle.tree_geom.specs.Geometry.{left_half, right_half, covers};
-ghost use Rattle.range_log.specs.Rows.{first_piece, second_piece, piece_count, leaf_start, leaf_from, leaf_len};
+ghost use Rattle.range_log.specs.Rows.{first_piece, second_piece, piece_count, leaf_start, leaf_from, leaf_len, pages_in, valid_in, whole_leaf};
 ghost use Rattle.border_hints.specs.Numbered.{log_upto, own_touch};
 ghost use Rattle.border_hints.specs.Borders.{AreBorders, IsRowRange, IsBorder};
-ghost use Rattle.tree_weaver.specs.Planned.{own_extent, own_link, own_back, own_depth, own_leaf, own_inner, IsHalf};
+ghost use Rattle.tree_weaver.specs.Planned.{own_extent, own_link, own_back, own_depth, own_folded, own_folds, own_place, own_leaf, own_inner, IsHalf};
 
 use border_hints::{Borders, Ticket};
 use tree_geom::laws::touches_tell_cover;
@@ -150,6 +151,94 @@ fn back(ticket: &Ticket, borders: &Borders, page: u64) -> (u64, u32)
     (borders.of(range), borders.depth(page))
 }
 
+// Whether the update stores the page anew, which it touches.
+#[tactic(auto, using(crate::proofs::Folding::folded_is))]
+fn folded(ticket: &Ticket, borders: &Borders, page: u64) -> bool
+    requires page_size { borders.now.page_size ≡ ticket.now.snapshot.page_size }
+    requires touch { borders.now.touch ≡ own_touch ticket.now }
+    requires borders { AreBorders (log_upto ticket.now) (ticket.now.version - 1) borders.now }
+    requires first { (own_touch ticket.now).first ≤ page }
+    requires last { page ≤ (own_touch ticket.now).last }
+    ensures { result ≡ own_folded ticket.now page }
+{
+    let whole = covers_page(ticket, page);
+    let (_, depth) = back(ticket, borders, page);
+    !whole && depth == 0
+}
+
+/// The pages of the blob that the update stores anew, in their order.
+pub(crate) fn folds(ticket: &Ticket, borders: &Borders) -> [Option<u64>; 2]
+    requires page_size { borders.now.page_size ≡ ticket.now.snapshot.page_size }
+    requires touch { borders.now.touch ≡ own_touch ticket.now }
+    requires borders { AreBorders (log_upto ticket.now) (ticket.now.version - 1) borders.now }
+    ensures { filter_map (λ o. o) result ≡ own_folds ticket.now }
+{
+    ticket.stands();
+    let touch = ticket.touch();
+    let mut pages = [None, None];
+    if folded(ticket, borders, touch.first) {
+        pages[0] = Some(touch.first);
+    }
+    if touch.first != touch.last && folded(ticket, borders, touch.last) {
+        pages[1] = Some(touch.last);
+    }
+    pages
+}
+
+// The place of the page among those that the update stores anew, of which it is one.
+fn place(ticket: &Ticket, borders: &Borders, page: u64) -> u32
+    requires page_size { borders.now.page_size ≡ ticket.now.snapshot.page_size }
+    requires touch { borders.now.touch ≡ own_touch ticket.now }
+    requires borders { AreBorders (log_upto ticket.now) (ticket.now.version - 1) borders.now }
+    requires first { (own_touch ticket.now).first ≤ page }
+    requires last { page ≤ (own_touch ticket.now).last }
+    requires anew { own_folded ticket.now page ≡ true }
+    ensures place { result ≡ own_place ticket.now page }
+    ensures few { result ≤ 1 }
+{
+    touches_tell_cover();
+    ticket.stands();
+    let first = ticket.touch().first;
+    if page == first {
+        return 0;
+    }
+    if folded(ticket, borders, first) { 1 } else { 0 }
+}
+
+// The leaf of a page that the update stores anew, at that place among such pages: all valid bytes of the page, in the stored
+// page that comes after the update's own at that place.
+#[tactic(auto, using(crate::proofs::Shapes::page_low, crate::proofs::Shapes::page_high, crate::proofs::Folding::pages_counted))]
+fn whole(ticket: &Ticket, place: u32, page: u64) -> Node
+    requires few { length ticket.now.pages.pages ≤ 4294967293 }
+    requires place { place ≤ 1 }
+    requires first { (own_touch ticket.now).first ≤ page }
+    requires last { page ≤ (own_touch ticket.now).last }
+    ensures { result ≡ whole_leaf (pages_in ticket.now.snapshot.page_size ticket.now.len + place) (valid_in ticket.now.snapshot.page_size ticket.now.size page) }
+{
+    ticket.stands();
+    let size = ticket.hints().snapshot.page_size().bytes();
+    let begin = page * size;
+    let end = ticket.size().min(begin + size);
+    let first = Piece {
+        page: ticket.pages().count() + place,
+        from: 0,
+        len: (end - begin) as u32,
+    };
+    let second = Piece {
+        page: 0,
+        from: 0,
+        len: 0,
+    };
+    Node::Leaf {
+        start: 0,
+        count: 1,
+        first,
+        second,
+        back: 0,
+        depth: 0,
+    }
+}
+
 /// The leaf of the update for a page that it touches.
 pub(crate) fn leaf(ticket: &Ticket, borders: &Borders, page: u64) -> Node
     requires page_size { borders.now.page_size ≡ ticket.now.snapshot.page_size }
@@ -157,8 +246,12 @@ pub(crate) fn leaf(ticket: &Ticket, borders: &Borders, page: u64) -> Node
     requires borders { AreBorders (log_upto ticket.now) (ticket.now.version - 1) borders.now }
     requires first { (own_touch ticket.now).first ≤ page }
     requires last { page ≤ (own_touch ticket.now).last }
+    requires few { length ticket.now.pages.pages ≤ 4294967293 }
     ensures { result ≡ own_leaf ticket.now page }
 {
+    if folded(ticket, borders, page) {
+        return whole(ticket, place(ticket, borders, page), page);
+    }
     ticket.stands();
     let _pages = ticket.pages().count();
     let part = part(ticket, page);

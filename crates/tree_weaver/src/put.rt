@@ -1,28 +1,68 @@
 // A planned row, stored.
 ghost use Rattle.std.specs.Prelude.{◌≡◌, IfOk};
 ghost use Rattle.std.specs.Arc.{arc_value};
+ghost use Rattle.node_store.specs.House.{IsIn};
 ghost use Rattle.border_hints.specs.Numbered.{own_touch};
+ghost use Rattle.tree_weaver.specs.Planned.{own_ranges, ranges_of, nodes_of};
 
 use crate::weave::PlannedRow;
 use border_hints::Ticket;
-use node_store::{NoMemory, Row};
+use node_store::{Folds, NoMemory, NodeHouse, Row, RowNodes};
 use std::alloc::Global;
-use std::sync::Arc;
+use std::sync::{Arc, Wait};
+use tree_geom::{height, span_stands};
 
-/// Stores the planned nodes: gives the row of the ticket's update, which has them and the update's pages.
+// Puts the planned nodes into a house, one after another.
+fn put_nodes<R: Wait>(
+    rt: &R,
+    alloc: Global,
+    version: u64,
+    planned: &PlannedRow,
+    nodes: &NodeHouse,
+) -> Result<RowNodes, NoMemory>
+    ensures here { IfOk result (λ row. IsIn nodes.now row.spot) }
+    ensures version { IfOk result (λ row. row.version ≡ version) }
+    ensures nodes { IfOk result (λ row. row.nodes ≡ nodes_of planned.now.nodes) }
+{
+    let list = planned.nodes();
+    let mut row = nodes.room(rt, alloc, version, list.len())?;
+    for i in 0..list.len() {
+        nodes.put(&mut row, list[i].1)?;
+    }
+    Ok(row)
+}
+
+/// Stores the planned nodes, and gives the row of the ticket's update with them, the update's pages, and the pages of the blob that
+/// the update stores anew. The planned nodes are those of the ticket, as `plan` gives them.
 ///
-/// It takes no lock, waits for nobody and copies no node. Fails for want of memory alone; the ticket can be planned anew then.
-pub fn put_row(alloc: Global, ticket: &Ticket, planned: PlannedRow) -> Result<Arc<Row>, NoMemory>
+/// It takes no lock; it may wait for another thread's put. After want of memory some nodes may lie unused in the house, and nothing
+/// else has changed; the ticket can be planned anew then.
+pub fn put_row<R: Wait>(
+    rt: &R,
+    alloc: Global,
+    ticket: &Ticket,
+    planned: &PlannedRow,
+    folds: Folds,
+    nodes: &NodeHouse,
+) -> Result<Arc<Row>, NoMemory>
+    requires planned { ranges_of planned.now.nodes ≡ own_ranges ticket.now }
     ensures blob { IfOk result (λ row. (arc_value row).blob ≡ ticket.now.blob) }
     ensures version { IfOk result (λ row. (arc_value row).version ≡ ticket.now.version) }
     ensures offset { IfOk result (λ row. (arc_value row).offset ≡ ticket.now.at) }
     ensures touch { IfOk result (λ row. (arc_value row).touch ≡ own_touch ticket.now) }
-    ensures nodes { IfOk result (λ row. (arc_value row).nodes ≡ planned) }
+    ensures nodes { IfOk result (λ row. (arc_value row).nodes ≡ planned.now.nodes) }
+    ensures here { IfOk result (λ row. IsIn nodes.now (arc_value row).spot) }
     ensures pages { IfOk result (λ row. (arc_value row).pages ≡ ticket.now.pages) }
+    ensures folds { IfOk result (λ row. (arc_value row).folds ≡ folds) }
 {
+    ticket.stands();
+    let p = ticket.hints().snapshot.page_size();
+    span_stands(p, ticket.size());
+    let height = height(p, ticket.size());
+    let pages = Arc::try_clone(ticket.pages())?;
     let (blob, version) = (ticket.blob(), ticket.version());
     let (offset, touch) = (ticket.at(), ticket.touch());
-    let pages = Arc::try_clone(ticket.pages())?;
-    let row = Row::of(blob, version, offset, touch, pages, planned.into_nodes());
+    let placed = put_nodes(rt, alloc, version, planned, nodes)?;
+    let row = Row::of(blob, offset, touch, p, height, pages, folds, placed);
     Ok(Arc::new(alloc, row)?)
 }

@@ -1,55 +1,52 @@
 // The plan of a row.
-ghost use Rattle.std.specs.Prelude.{◌≡◌, ℕ, ◌+◌, ◌-◌, ◌*◌, ◌/◌, ◌^◌, ◌≤◌, ◌++◌, List, IfOk};
+ghost use Rattle.std.specs.Prelude.{◌≡◌, ℕ, ◌+◌, ◌-◌, ◌*◌, ◌/◌, ◌^◌, ◌≤◌, ◌++◌, List, length, IfOk};
+ghost use Rattle.std.specs.List.{filter_map};
 ghost use Rattle.tree_geom.specs.Geometry.{tree_range, height_of};
 ghost use Rattle.range_log.specs.Extents.{Extent};
-ghost use Rattle.range_log.specs.Rows.{level_of, row_of};
+ghost use Rattle.range_log.specs.Rows.{folds_of, level_of, row_of};
 ghost use Rattle.border_hints.specs.Numbered.{log_upto, own_touch, StandsFor};
 ghost use Rattle.border_hints.specs.Borders.{AreBorders};
-ghost use Rattle.tree_weaver.specs.Planned.{own_node, own_nodes};
-ghost use Rattle.node_store.specs.Order.{InRowOrder};
+ghost use Rattle.snapshot.specs.Versions.{NodesLieIn};
+ghost use Rattle.tree_weaver.specs.Planned.{own_node, own_nodes, own_ranges, ranges_of};
 
-use crate::node::{inner, leaf};
+use crate::node::{folds, inner, leaf};
 use border_hints::{Borders, Ticket, borders};
-use node_store::NoMemory;
+use node_store::{NoMemory, NodeHouse};
 use std::alloc::Global;
 use std::marker::Model;
 use std::sync::ledger::Ledger;
 use tree_geom::{Node, Range, Steps, Touch, height, span_stands};
 
 /// The nodes of a numbered update beside their ranges, in the order of its row: the largest ranges first, and then by offset.
+/// Beside them are the pages of the blob that the update stores anew.
 #[derive(Drop)]
 pub struct PlannedRow {
     nodes: Vec<(Range, Node)>,
+    folded: [Option<u64>; 2],
 }
 
 impl Model for PlannedRow {
-    ghost use Rattle.std.specs.Prelude.{List};
-    ghost use Rattle.tree_geom.specs.declared.range.Range.{Range};
-    ghost use Rattle.tree_geom.specs.declared.node.Node.{Node};
-    ghost use Rattle.node_store.specs.Order.{InRowOrder};
+    ghost use Rattle.std.specs.List.{filter_map};
+    ghost use Rattle.tree_weaver.specs.Planned.{RowPlan};
 
-    ghost Value = { List (Range × Node) };
+    ghost Value = { RowPlan };
 
-    ghost view = { λ r. r.nodes.items };
-
-    ghost invariant = { λ r. InRowOrder r.nodes.items };
+    ghost view = { λ r. record { nodes = r.nodes.items; folded = filter_map (λ o. o) r.folded } };
 }
 
 impl PlannedRow {
     /// The nodes beside their ranges.
     pub fn nodes(&self) -> &[(Range, Node)]
-        ensures nodes { result.now ≡ self.now }
-        ensures order { InRowOrder self.now }
+        ensures { result.now ≡ self.now.nodes }
     {
         &self.nodes
     }
 
-    // The same, for the row that keeps them. None is copied.
-    pub(crate) fn into_nodes(self) -> Vec<(Range, Node)>
-        ensures nodes { result.items ≡ self }
-        ensures order { InRowOrder self }
+    /// The pages of the blob that the update stores anew, in their order.
+    pub fn folded(&self) -> [Option<u64>; 2]
+        ensures { filter_map (λ o. o) result ≡ self.now.folded }
     {
-        self.nodes
+        self.folded
     }
 }
 
@@ -62,6 +59,7 @@ fn node(ticket: &Ticket, borders: &Borders, level: u32, q: u64) -> (Range, Node)
     requires level { level ≤ height_of ticket.now.snapshot.page_size ticket.now.size }
     requires low { height_of ticket.now.snapshot.page_size ticket.now.size ≤ 38 }
     requires root { ticket.now.snapshot.page_size * 2 ^ height_of ticket.now.snapshot.page_size ticket.now.size ≤ 2 ^ 40 }
+    requires few { length ticket.now.pages.pages ≤ 4294967293 }
     requires first { (own_touch ticket.now).first / 2 ^ level ≤ q }
     requires last { q ≤ (own_touch ticket.now).last / 2 ^ level }
     ensures { let range = tree_range ticket.now.snapshot.page_size level q in
@@ -96,6 +94,7 @@ fn plan_level(
     requires level { level ≤ height_of ticket.now.snapshot.page_size ticket.now.size }
     requires low { height_of ticket.now.snapshot.page_size ticket.now.size ≤ 38 }
     requires root { ticket.now.snapshot.page_size * 2 ^ height_of ticket.now.snapshot.page_size ticket.now.size ≤ 2 ^ 40 }
+    requires few { length ticket.now.pages.pages ≤ 4294967293 }
     ensures { IfOk result (λ _. row.new.items ≡ row.old.items ++ own_nodes ticket.now (level_of ticket.now.snapshot.page_size (own_touch ticket.now) level)) }
 {
     ticket.stands();
@@ -121,19 +120,26 @@ fn expected(touch: Touch, height: u32) -> usize {
 /// in the whole list of the blob's updates.
 ///
 /// It takes at most `4 h + 4` node steps, `h` the height of the tree after the update, and time linear in the nodes of the
-/// row, the waiting updates and the height. It takes no lock and waits for nobody. Fails for want of memory alone.
+/// row, the waiting updates and the height. It takes no lock and waits for nobody. Fails for want of memory alone; an update of
+/// more pages than all but two of the numbers that there are for pages is taken for one that wants memory.
 pub fn plan<L: Ledger>(
     alloc: Global,
     ticket: &Ticket,
+    nodes: &NodeHouse,
     steps: &mut Steps<L>,
 ) -> Result<PlannedRow, NoMemory>
-    ensures row { IfOk result (λ row. (us : List Extent) → StandsFor ticket.now us → row ≡ row_of ticket.now.snapshot.page_size us ticket.now.version) }
+    requires here { NodesLieIn nodes.now ticket.now.snapshot }
+    ensures row { IfOk result (λ row. (us : List Extent) → StandsFor ticket.now us → row.nodes ≡ row_of ticket.now.snapshot.page_size us ticket.now.version) }
+    ensures ranges { IfOk result (λ row. ranges_of row.nodes ≡ own_ranges ticket.now) }
+    ensures folded { IfOk result (λ row. (us : List Extent) → StandsFor ticket.now us → row.folded ≡ folds_of ticket.now.snapshot.page_size us ticket.now.version) }
     ensures steps { steps.new ≤ steps.old + 4 * height_of ticket.now.snapshot.page_size ticket.now.size + 4 }
 {
     range_log::laws::logs_are_grown();
-    range_log::laws::row_keys_exact();
     tree_geom::laws::spans_hold();
-    let borders = borders(ticket, steps);
+    if ticket.pages().count() > u32::MAX - 2 {
+        return Err(NoMemory);
+    }
+    let borders = borders(ticket, nodes, steps);
     let p = ticket.hints().snapshot.page_size();
     ticket.stands();
     span_stands(p, ticket.size());
@@ -142,5 +148,8 @@ pub fn plan<L: Ledger>(
     for level in (0..top + 1).rev() {
         plan_level(ticket, &borders, level, &mut row)?;
     }
-    Ok(PlannedRow { nodes: row })
+    Ok(PlannedRow {
+        nodes: row,
+        folded: folds(ticket, &borders),
+    })
 }

@@ -1,4 +1,5 @@
 pub mod Opens
 pub mod Updates
+pub mod Lying
 pub mod Tickets
 pub mod Steady

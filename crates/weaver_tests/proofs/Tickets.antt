@@ -13,13 +13,14 @@ use Rattle.range_log.specs.Extents.{Extent, IsLog, touches}
 use Rattle.range_log.specs.Updates.{update_at, no_update, extent_of, extents, Replayable}
 use Rattle.range_log.specs.Laws.{TouchesAre, EachTouchIs, SizesAre, RowsStay, ExtentsGrow, ExtentsStand}
 use Rattle.page_store.specs.Stored.{bytes_of_pages}
-use Rattle.snapshot.specs.Versions.{Version, older_version}
+use Rattle.snapshot.specs.Versions.{Version, older_version, NodesLieIn}
 use Rattle.border_hints.specs.Numbered.{log_of, log_with, numbered_update}
 use Rattle.publisher.specs.Windows.{version_of, opens_from}
 use Rattle.publisher.specs.Laws.{PublishedLogIs}
 use Rattle.weaver_tests.specs.Blobs.{OneBlob, IsOneBlob, Start, update_of, updates_in, IsTicketOf}
 use Rattle.weaver_tests.proofs.Opens.{opens_at, length-opens, opens_touch, length-between, between_joined}
 use Rattle.weaver_tests.proofs.Updates.{replayable_first, touches_first, extent_first, size_next, touch_next, size_told}
+use Rattle.weaver_tests.proofs.Lying.{older_lies}
 use Rattle.tree_geom.proofs.Spans.{page_pos}
 
 size_at-take : (k : ℕ) (log : List Touch) → size_at (take k log) k ≡ size_at log k
@@ -159,6 +160,7 @@ module _ (are : TouchesAre) (each : EachTouchIs) (sizes : SizesAre) (stay : Rows
 
     pub is_ticket : (caller blob version : ℕ) → version ≡ suc i → IsTicketOf b (numbered_update caller blob version s.at len size snap opens s.pages)
     is_ticket caller blob version e =
+        let L : Version → Type 0 = λ v. NodesLieIn b.nodes v in
         let T : ℕ → Type 0 = λ v. IsTicketOf b (numbered_update caller blob v s.at len size snap opens s.pages) in
         let within : suc i ≤ length us = omega (arith, count, f.within) in
         subst T (sym e) record {
@@ -177,4 +179,5 @@ module _ (are : TouchesAre) (each : EachTouchIs) (sizes : SizesAre) (stay : Rows
             own = extent_first are stay grow us i within ∙ falls;
           };
           bytes = sym (ap (λ (u : Update). u.bytes) (get_or-take (suc i) us i no_update (omega arith) ∙ update));
+          lies = subst L (sym f.taken) (older_lies b.nodes b.window from is.lies);
         }

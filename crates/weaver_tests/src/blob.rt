@@ -1,18 +1,18 @@
 //! A blob whose updates are numbered, planned and finished as in a store, at whichever version was published.
-ghost use Rattle.std.specs.Prelude.{◌≡◌, ◌+◌, ◌-◌, ◌<◌, ◌≤◌, length, take, drop, IfOk};
+ghost use Rattle.std.specs.Prelude.{◌≡◌, ◌+◌, ◌-◌, ◌<◌, ◌≤◌, [], length, take, drop, IfOk};
 ghost use Rattle.tree_geom.specs.declared.touch.Touch.{Touch};
-ghost use Rattle.range_log.specs.Rows.{row_of};
-ghost use Rattle.range_log.specs.Updates.{extents};
 ghost use Rattle.page_store.specs.Stored.{bytes_of_pages};
 ghost use Rattle.publisher.specs.Windows.{opens_from};
 ghost use Rattle.std.specs.Arc.{arc_value};
 ghost use Rattle.snapshot.specs.Versions.{older_version};
 ghost use Rattle.border_hints.specs.Numbered.{own_touch};
+ghost use Rattle.node_store.specs.House.{IsIn};
+ghost use Rattle.tree_weaver.specs.Planned.{own_ranges, ranges_of};
 
 use crate::pages::store;
 use crate::plain::{Bytes, plain_bound, plain_row};
 use border_hints::{Hints, Ticket};
-use node_store::Row;
+use node_store::{Folds, NodeHouse, Row};
 use page_store::{NoMemory, PageHouse, Pages};
 use publisher::{FinishFault, Window};
 use range_log::{OpenCopy, OpenList, OpenTouch};
@@ -58,9 +58,10 @@ impl Begun {
     }
 }
 
-/// A blob with its window, and what its updates touch, where they begin and which pages they have.
+/// A blob with the house of its nodes and its window, and what its updates touch, where they begin and which pages they have.
 #[derive(Drop)]
 pub struct Blob {
+    nodes: NodeHouse,
     window: Window,
     touches: Vec<Touch>,
     begun: Vec<Begun>,
@@ -71,9 +72,9 @@ impl Model for Blob {
 
     ghost Value = { OneBlob };
 
-    ghost view = { λ b. record { window = b.window; touches = b.touches.items; starts = b.begun.items } };
+    ghost view = { λ b. record { nodes = b.nodes; window = b.window; touches = b.touches.items; starts = b.begun.items } };
 
-    ghost invariant = { λ b. IsOneBlob (record { window = b.window; touches = b.touches.items; starts = b.begun.items }) };
+    ghost invariant = { λ b. IsOneBlob (record { nodes = b.nodes; window = b.window; touches = b.touches.items; starts = b.begun.items }) };
 }
 
 // The touches from number `from` to the one before `upto`, as those of waiting updates.
@@ -120,19 +121,37 @@ fn older<R: Abort>(rt: &R, snapshot: &Snapshot, version: u64) -> Snapshot
     snapshot.at(version).expect(rt, "memory")
 }
 
-// The row of a ticket's update, stored.
-fn put<R: Abort + AllocGlobal>(rt: &R, ticket: &Ticket, planned: PlannedRow) -> Arc<Row>
+// The plan stores no page anew.
+fn check_none_anew<R: Abort>(rt: &R, planned: &PlannedRow)
+    ensures { planned.now.folded ≡ [] }
+{
+    let [first, second] = planned.folded();
+    if first.is_some() || second.is_some() {
+        panic!(rt; "a page is stored anew");
+    }
+}
+
+// The row of a ticket's update, stored in the house.
+fn put<R: Wait + Abort + AllocGlobal>(
+    rt: &R,
+    nodes: &NodeHouse,
+    ticket: &Ticket,
+    planned: &PlannedRow,
+) -> Arc<Row>
+    requires { ranges_of planned.now.nodes ≡ own_ranges ticket.now }
     ensures version { (arc_value result).version ≡ ticket.now.version }
     ensures offset { (arc_value result).offset ≡ ticket.now.at }
     ensures touch { (arc_value result).touch ≡ own_touch ticket.now }
-    ensures nodes { (arc_value result).nodes ≡ planned }
+    ensures nodes { (arc_value result).nodes ≡ planned.now.nodes }
+    ensures here { IsIn nodes.now (arc_value result).spot }
+    ensures folds { (arc_value result).folds ≡ [] }
     ensures pages { (arc_value result).pages ≡ ticket.now.pages }
 {
-    put_row(rt.alloc(), ticket, planned).expect(rt, "memory")
+    put_row(rt, rt.alloc(), ticket, planned, Folds::none(), nodes).expect(rt, "memory")
 }
 
 impl Blob {
-    ghost use Rattle.weaver_tests.specs.Blobs.{IsTicketOf, updates_in};
+    ghost use Rattle.weaver_tests.specs.Blobs.{IsTicketOf, IsPlanOf};
     ghost use Rattle.range_log.specs.Log.{size_at};
 
     /// A blob without updates.
@@ -140,6 +159,7 @@ impl Blob {
         publisher::laws::windows_stand();
         let base = Snapshot::empty(rt.alloc(), 1, p).expect(rt, "memory");
         Blob {
+            nodes: NodeHouse::new(rt.alloc()).expect(rt, "memory"),
             window: Window::new(rt.alloc(), base).expect(rt, "memory"),
             touches: Vec::new(rt.alloc()),
             begun: Vec::new(rt.alloc()),
@@ -230,7 +250,7 @@ impl Blob {
     /// The plan of a ticket's update, and the node steps that it took.
     pub fn plan<R: Abort + AllocGlobal>(&self, rt: &R, ticket: &Ticket) -> (PlannedRow, u64)
         requires { IsTicketOf self.now ticket.now }
-        ensures { result.0 ≡ row_of self.now.window.page_size (extents (take ticket.now.version (updates_in self.now))) ticket.now.version }
+        ensures { IsPlanOf self.now ticket.now result.0 }
     {
         self.plan_counted::<Brand>(rt.alloc(), ticket, Blank::new(1))
             .expect(rt, "memory")
@@ -247,10 +267,10 @@ impl Blob {
         requires name { blank.name ≡ L.name }
         requires parts { blank.parts ≡ L.parts }
         requires some { 0 < blank.parts }
-        ensures { IfOk result (λ r. r.0 ≡ row_of self.now.window.page_size (extents (take ticket.now.version (updates_in self.now))) ticket.now.version) }
+        ensures { IfOk result (λ r. IsPlanOf self.now ticket.now r.0) }
     {
         let mut steps = Steps::<L>::open(blank);
-        let planned = plan(alloc, ticket, &mut steps)?;
+        let planned = plan(alloc, ticket, &self.nodes, &mut steps)?;
         Ok((planned, steps.taken()))
     }
 
@@ -278,7 +298,7 @@ impl Blob {
     {
         let mut steps = Steps::<L>::open(blank);
         let snapshot = &ticket.hints().snapshot;
-        let most = stated(snapshot, offset, count, &mut steps)?;
+        let most = stated(snapshot, &self.nodes, offset, count, &mut steps)?;
         Ok((most, steps.taken()))
     }
 
@@ -308,8 +328,8 @@ impl Blob {
     }
 
     /// Plans and stores the row of a numbered update, had version `published` been published at its numbering, and finishes
-    /// the update.
-    pub fn finish<R: Abort + AllocGlobal>(
+    /// the update, which stores no page anew.
+    pub fn finish<R: Wait + Abort + AllocGlobal>(
         &mut self,
         rt: &R,
         version: u64,
@@ -320,7 +340,8 @@ impl Blob {
         tree_weaver::laws::stored_rows_are_rows();
         let ticket = self.ticket(rt, version, published);
         let (planned, _) = self.plan(rt, &ticket);
-        let row = put(rt, &ticket, planned);
+        check_none_anew(rt, &planned);
+        let row = put(rt, &self.nodes, &ticket, &planned);
         let version = ticket.version();
         self.window.finish(version, row)
     }

@@ -92,7 +92,7 @@ impl Walk {
     }
 
     // Finishes one of the waiting updates.
-    fn finish<R: Abort + AllocGlobal>(&mut self, rt: &R) {
+    fn finish<R: Wait + Abort + AllocGlobal>(&mut self, rt: &R) {
         let count = self.held.len() as u64;
         if count == 0 {
             return;

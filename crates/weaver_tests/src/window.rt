@@ -71,7 +71,7 @@ fn two_appends<R: Wait + Abort + AllocGlobal>(rt: &R) -> Blob {
 }
 
 // What a finish answers: the published version, or none where it was finished already and its row came back.
-fn finished<R: Abort + AllocGlobal>(rt: &R, blob: &mut Blob, version: u64) -> Option<u64> {
+fn finished<R: Wait + Abort + AllocGlobal>(rt: &R, blob: &mut Blob, version: u64) -> Option<u64> {
     match blob.finish(rt, version, 0) {
         Ok(published) => Some(published),
         Err((fault, row)) => {
@@ -82,7 +82,7 @@ fn finished<R: Abort + AllocGlobal>(rt: &R, blob: &mut Blob, version: u64) -> Op
 }
 
 // Checks what a finish answers, and what is published then.
-fn check_finish<R: Abort + AllocGlobal>(
+fn check_finish<R: Wait + Abort + AllocGlobal>(
     rt: &R,
     blob: &mut Blob,
     version: u64,

@@ -1,6 +1,6 @@
 use Rattle.std.proofs.Common.{◌≡◌, ◌+◌, ◌<◌, length, arith, refl, ap, sym, ◌∙◌}
 use Rattle.range_log.specs.declared.open.OpenTouch.{OpenTouch}
-use Rattle.range_log.specs.Depths.{depth_of, depth_after}
+use Rattle.range_log.specs.Depths.{fold_number, depth_of, depth_after}
 use Rattle.range_log.specs.Open.{open_at}
 use Rattle.snapshot.specs.Versions.{Version}
 use Rattle.border_hints.specs.Numbered.{log_upto}
@@ -23,7 +23,7 @@ loop-i-preserved c =
     let got = c.at-waiting.ensures ∙ ap (λ w. open_at w i) c.hints-hints.ensures.waiting in
     let lt : i < length t.waiting = omega (arith, c.loop-i-test.true, c.count-i-end.ensures.count, ap length c.hints-hints.ensures.waiting) in
     c.depth_with-depth.ensures
-    ∙ ap (λ q. depth_after q c.at-waiting.result.touch c.args.page c.loop-i.depth) size
-    ∙ ap (λ (o : OpenTouch). depth_after t.snapshot.page_size o.touch c.args.page c.loop-i.depth) got
-    ∙ ap (depth_after t.snapshot.page_size (open_at t.waiting i).touch c.args.page) c.loop-i.invariant
+    ∙ ap (λ q. depth_after fold_number q c.at-waiting.result.touch c.args.page c.loop-i.depth) size
+    ∙ ap (λ (o : OpenTouch). depth_after fold_number t.snapshot.page_size o.touch c.args.page c.loop-i.depth) got
+    ∙ ap (depth_after fold_number t.snapshot.page_size (open_at t.waiting i).touch c.args.page) c.loop-i.invariant
     ∙ sym (depth_waiting c.logs_are_grown.ensures.count t c.args.page i (i + 1) lt refl)

@@ -65,7 +65,7 @@ depths-requires g t c κs within =
     let next = child c.links_step.ensures.step c.page_bytes_stay.ensures.extents s is c.args.at c.links-left.result.0 c.args.range c.halves.result.0 c.requires.newest c.requires.has large
     (inl c.halves.ensures.lower) (let o = ap (λ (x : Range). x.offset) c.halves.ensures.lower in omega (arith, o, c.requires.begins, c.requires.valid, c.requires.some))
     (c.links-left.ensures.left ∙ ap (newest_of s.page_size (log_of s) c.args.at) (sym c.halves.ensures.lower)) in
-    (search rules, (within, (next.0, (next.1, (search rules, (search rules, (search rules, (search rules, search rules))))))))
+    (search rules, (within, (c.requires.here, (next.0, (next.1, (search rules, (search rules, (search rules, (search rules, search rules)))))))))
 
 pub returns-then-end-high-clause-steps : goal.returns-then-end-high-clause-steps
 returns-then-end-high-clause-steps g t c =
@@ -91,7 +91,7 @@ depths-requires-then-high-from g t c κs within =
     let two = even s.page_size c.args.range c.requires.has.aligned large in
     let o = ap (λ (x : Range). x.offset) c.halves.ensures.upper in
     let half = ap (λ (x : Range). x.size) c.halves.ensures.upper in
-    (search rules, (within, (next.0, (next.1, (search rules, (omega (arith, o, half, two, c.requires.ends), (search rules, (search rules, search rules))))))))
+    (search rules, (within, (c.requires.here, (next.0, (next.1, (search rules, (omega (arith, o, half, two, c.requires.ends), (search rules, (search rules, search rules)))))))))
 
 pub returns-then-high-from-clause-steps : goal.returns-then-high-from-clause-steps
 returns-then-high-from-clause-steps g t c =
@@ -114,7 +114,7 @@ depths-front-requires g t c κs within =
     let next = child c.links_step.ensures.step c.page_bytes_stay.ensures.extents s is c.args.at c.links-left.result.0 c.args.range c.halves.result.0 c.requires.newest c.requires.has large
     (inl c.halves.ensures.lower) (let o = ap (λ (x : Range). x.offset) c.halves.ensures.lower in omega (arith, o, c.requires.begins, c.requires.valid, c.requires.some))
     (c.links-left.ensures.left ∙ ap (newest_of s.page_size (log_of s) c.args.at) (sym c.halves.ensures.lower)) in
-    (search rules, (within, (next.0, (next.1, (search rules, (search rules, (search rules, (search rules, search rules))))))))
+    (search rules, (within, (c.requires.here, (next.0, (next.1, (search rules, (search rules, (search rules, (search rules, search rules)))))))))
 
 pub depths-back-requires : goal.depths-back-requires
 depths-back-requires g t c κs within =
@@ -131,7 +131,7 @@ depths-back-requires g t c κs within =
     let mid = c.halves.result.1.offset in
     let lt : c.args.from < mid = c.if-high-from.false in
     let far : mid < c.args.from + c.args.count = c.if-end-high.false in
-    (search rules, (within, (next.0, (next.1, (search rules, (omega (arith, o, half, two, c.requires.ends, lt, far), (search rules, (search rules, search rules))))))))
+    (search rules, (within, (c.requires.here, (next.0, (next.1, (search rules, (omega (arith, o, half, two, c.requires.ends, lt, far), (search rules, (search rules, search rules)))))))))
 
 pub returns-clause-depths : goal.returns-clause-depths
 returns-clause-depths g t c =

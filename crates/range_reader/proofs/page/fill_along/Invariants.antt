@@ -1,4 +1,4 @@
-use Rattle.std.proofs.Common.{◌≡◌, ℕ, ◌+◌, ◌<◌, ◌≤◌, length, map, get_or, false}
+use Rattle.std.proofs.Common.{◌≡◌, ℕ, ◌+◌, ◌<◌, ◌≤◌, length, map, get_or, false, true}
 use Rattle.std.specs.Prelude.{All, sum_by}
 use Rattle.tree_geom.specs.Geometry.{page_range}
 use Rattle.range_log.specs.Updates.{page_bytes}
@@ -10,8 +10,8 @@ use Rattle.range_reader.proofs.Standing.{AreThere, AreIn}
 use Rattle.range_reader.proofs.page.fill_along.Given as goal
 
 -- the bytes before `first` are there, and those still wanted are in the page at the leaf of version `at`
-abbrev pub invariant-loop-parts : goal.invariant-loop-parts
-invariant-loop-parts g l =
+abbrev pub invariant-loop-next : goal.invariant-loop-next
+invariant-loop-next g l =
     let faults = g.D.Door.faults in
     let s = l.source.snapshot.now in
     let us = updates_of s in
@@ -19,6 +19,7 @@ invariant-loop-parts g l =
     let v = length s.rows in
     record {
       within : l.first < length l.out;
+      wanted : get_or l.marks l.first false ≡ true;
       before : (x : ℕ) → x < l.first → get_or l.marks x false ≡ false;
       has : HasNodeFor s l.at (page_range p l.page);
       led : IsLedTo s l.page l.at;
@@ -31,5 +32,5 @@ invariant-loop-parts g l =
       truth : All g.D.Door.is_true l.fn.doors → All g.D.Door.is_true l.doors;
     }
 
-abbrev pub decreases-loop-parts : goal.decreases-loop-parts
-decreases-loop-parts g l = l.at
+abbrev pub decreases-loop-next : goal.decreases-loop-next
+decreases-loop-next g l = l.at

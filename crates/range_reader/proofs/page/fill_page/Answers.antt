@@ -1,15 +1,12 @@
-use Rattle.std.proofs.Common.{◌≡◌, ℕ, ◌+◌, ◌-◌, ◌*◌, ◌≤◌, List, [], length, take, drop, arith, refl, ap, sym, ◌∙◌, subst}
-use Rattle.std.specs.Prelude.{slice_range}
-use Rattle.range_log.specs.Extents.{extent_at}
+use Rattle.std.proofs.Common.{◌≡◌, ℕ, ◌+◌, ◌-◌, ◌*◌, ◌≤◌, [], length, take, drop, arith, refl, ap, sym, ◌∙◌, subst}
 use Rattle.range_log.specs.Updates.{page_bytes}
 use Rattle.snapshot.specs.Versions.{updates_of}
 use Rattle.tree_geom.proofs.Spans.{page_pos}
 use Rattle.range_reader.specs.Faults.{IsLedTo, Newest}
-use Rattle.range_reader.specs.Reading.{falls, content_of, own_start, own_from}
+use Rattle.range_reader.specs.Reading.{content_of}
 use Rattle.range_reader.proofs.Among.{length-updates}
-use Rattle.range_reader.proofs.Leaves.{leaf_of_version}
 use Rattle.range_reader.proofs.Standing.{all_there}
-use Rattle.range_reader.proofs.Taking.{lens, whole_there}
+use Rattle.range_reader.proofs.Taking.{whole_there}
 use Rattle.range_reader.proofs.page.fill_page.Goals as goal
 
 pub returns-then-has_all-clause-bytes : goal.returns-then-has_all-clause-bytes
@@ -23,19 +20,11 @@ returns-then-has_all-clause-bytes g c = λ all ok.
     let n = length c.args.out.now in
     let is = c.stands.ensures in
     let pos : 1 ≤ p = page_pos p is.page_size in
-    let fill = c.leaves_fill.ensures in
-    let leaf = leaf_of_version fill.fill fill.fit fill.pieces c.page_bytes_stay.ensures.bytes c.page_bytes_stay.ensures.extents s is j i c.requires.has in
-    let parts = c.leaf-parts.ensures.leaf in
-    let len = lens s j i c.leaf-parts.result parts leaf pos in
-    let covers = c.has_all.ensures.0 c.if-has_all.true in
     let same : page_bytes p us (length s.rows) i ≡ page_bytes p us j i =
     c.page_bytes_stay.ensures.bytes p (length s.rows) i us pos is.replayable (omega (arith, length-updates s)) ∙ ap (λ k. page_bytes p us k i) (sym c.requires.newest) in
-    let from = own_from s j i + (begin - own_start s j i) in
     let out = c.take_leaf.new.out in
     let kept : length out ≡ n = c.take_leaf.auto.out in
-    let there = whole_there p j i us (extent_at (falls s) j) begin n (page_bytes p us (length s.rows) i) out leaf.leaf same kept
-    (c.take_leaf.ensures.bytes all ok ∙ ap (λ l. slice_range l from (from + n)) leaf.bytes)
-    (omega (arith, covers.0, parts.start)) (omega (arith, covers.1, parts.start, len)) in
+    let there = whole_there begin n (page_bytes p us (length s.rows) i) (page_bytes p us j i) out same kept (c.take_leaf.ensures.bytes all ok) in
     let o = i * p + begin in
     all_there p i (content_of s) begin out [] (omega (arith, kept, c.requires.within)) (omega (arith, kept, c.requires.valid)) there (λ x lt. refl)
     ∙ ap (λ k. take (o + k - o) (drop o (content_of s))) kept

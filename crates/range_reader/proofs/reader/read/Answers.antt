@@ -43,7 +43,8 @@ returns-clause-steps g c =
     let some : 1 ≤ size_now s = not_zero (size_now s) (λ e. let w : true ≡ false = c.in-Some.ensures.none.1 e in cc) in
     let one : 1 ≤ n = grind (arith, nat_tests) in
     let end : o + n - 1 < ((o + n - 1) / p + 1) * p = up (o + n - 1) p pos in
-    let f = c.walk.ensures.steps (height_of p (size_now s)) 0 (o / p) ((o + n - 1) / p) (root_tree c.page_bytes_stay.ensures.extents s is c.in-Some.root.range some key) (down o p) (omega (arith, end, one)) in
+    let f = c.walk.ensures.steps (height_of p (size_now s)) 0 (o / p) ((o + n - 1) / p) (root_tree c.page_bytes_stay.ensures.extents s is c.in-Some.root.range some key)
+    (down o p) (omega (arith, end, one)) in
     let fits : o + n ≤ size_now s = omega arith in
     omega (arith, f, walk_bound c.page_bytes_stay.ensures.extents s is c.visited_are_few.ensures.bounded o n one fits)
 

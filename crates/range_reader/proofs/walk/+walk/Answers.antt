@@ -111,7 +111,8 @@ walk-requires g t c = λ κs lives. (
               (let s = c.args.source.now.snapshot.now in
                   let is = c.stands.ensures in
                   let size = c.bytes-size.ensures.is ∙ c.page_size.ensures in
-                  let large : s.page_size < c.args.range.size = larger s.page_size c.args.range (page_pos s.page_size is.page_size) c.requires.has.aligned (λ e. c.if-range-size.false (e ∙ sym size)) in
+                  let large : s.page_size < c.args.range.size = larger s.page_size c.args.range (page_pos s.page_size is.page_size)
+                  c.requires.has.aligned (λ e. c.if-range-size.false (e ∙ sym size)) in
                   (child c.links_step.ensures.step c.page_bytes_stay.ensures.extents s is c.args.at c.links-left.result.0 c.args.range c.halves.result.0 c.requires.newest c.requires.has large
                   (inl c.halves.ensures.lower) (let o = ap (λ (x : Range). x.offset) c.halves.ensures.lower in omega (arith, o, c.requires.begins, c.requires.valid, c.requires.some))
                   (c.links-left.ensures.left ∙ ap (newest_of s.page_size (log_of s) c.args.at) (sym c.halves.ensures.lower))).0),
@@ -119,7 +120,8 @@ walk-requires g t c = λ κs lives. (
                 (let s = c.args.source.now.snapshot.now in
                     let is = c.stands.ensures in
                     let size = c.bytes-size.ensures.is ∙ c.page_size.ensures in
-                    let large : s.page_size < c.args.range.size = larger s.page_size c.args.range (page_pos s.page_size is.page_size) c.requires.has.aligned (λ e. c.if-range-size.false (e ∙ sym size)) in
+                    let large : s.page_size < c.args.range.size = larger s.page_size c.args.range (page_pos s.page_size is.page_size)
+                    c.requires.has.aligned (λ e. c.if-range-size.false (e ∙ sym size)) in
                     (child c.links_step.ensures.step c.page_bytes_stay.ensures.extents s is c.args.at c.links-left.result.0 c.args.range c.halves.result.0 c.requires.newest c.requires.has large
                     (inl c.halves.ensures.lower) (let o = ap (λ (x : Range). x.offset) c.halves.ensures.lower in omega (arith, o, c.requires.begins, c.requires.valid, c.requires.some))
                     (c.links-left.ensures.left ∙ ap (newest_of s.page_size (log_of s) c.args.at) (sym c.halves.ensures.lower))).1),
@@ -174,7 +176,8 @@ walk-requires-then-high-from g t c = λ κs lives. (
               (let s = c.args.source.now.snapshot.now in
                   let is = c.stands.ensures in
                   let size = c.bytes-size.ensures.is ∙ c.page_size.ensures in
-                  let large : s.page_size < c.args.range.size = larger s.page_size c.args.range (page_pos s.page_size is.page_size) c.requires.has.aligned (λ e. c.if-range-size.false (e ∙ sym size)) in
+                  let large : s.page_size < c.args.range.size = larger s.page_size c.args.range (page_pos s.page_size is.page_size)
+                  c.requires.has.aligned (λ e. c.if-range-size.false (e ∙ sym size)) in
                   (child c.links_step.ensures.step c.page_bytes_stay.ensures.extents s is c.args.at c.links-left.result.1 c.args.range c.halves.result.1 c.requires.newest c.requires.has large
                   (inr c.halves.ensures.upper) (omega (arith, c.requires.valid, c.requires.some, c.if-high-from.true))
                   (c.links-left.ensures.right ∙ ap (newest_of s.page_size (log_of s) c.args.at) (sym c.halves.ensures.upper))).0),
@@ -182,7 +185,8 @@ walk-requires-then-high-from g t c = λ κs lives. (
                 (let s = c.args.source.now.snapshot.now in
                     let is = c.stands.ensures in
                     let size = c.bytes-size.ensures.is ∙ c.page_size.ensures in
-                    let large : s.page_size < c.args.range.size = larger s.page_size c.args.range (page_pos s.page_size is.page_size) c.requires.has.aligned (λ e. c.if-range-size.false (e ∙ sym size)) in
+                    let large : s.page_size < c.args.range.size = larger s.page_size c.args.range (page_pos s.page_size is.page_size)
+                    c.requires.has.aligned (λ e. c.if-range-size.false (e ∙ sym size)) in
                     (child c.links_step.ensures.step c.page_bytes_stay.ensures.extents s is c.args.at c.links-left.result.1 c.args.range c.halves.result.1 c.requires.newest c.requires.has large
                     (inr c.halves.ensures.upper) (omega (arith, c.requires.valid, c.requires.some, c.if-high-from.true))
                     (c.links-left.ensures.right ∙ ap (newest_of s.page_size (log_of s) c.args.at) (sym c.halves.ensures.upper))).1),
@@ -192,7 +196,8 @@ walk-requires-then-high-from g t c = λ κs lives. (
                     (let s = c.args.source.now.snapshot.now in
                         let is = c.stands.ensures in
                         let size = c.bytes-size.ensures.is ∙ c.page_size.ensures in
-                        let large : s.page_size < c.args.range.size = larger s.page_size c.args.range (page_pos s.page_size is.page_size) c.requires.has.aligned (λ e. c.if-range-size.false (e ∙ sym size)) in
+                        let large : s.page_size < c.args.range.size = larger s.page_size c.args.range (page_pos s.page_size is.page_size)
+                        c.requires.has.aligned (λ e. c.if-range-size.false (e ∙ sym size)) in
                         let two = even s.page_size c.args.range c.requires.has.aligned large in
                         let o = ap (λ (x : Range). x.offset) c.halves.ensures.upper in
                         let half = ap (λ (x : Range). x.size) c.halves.ensures.upper in
@@ -244,7 +249,8 @@ walk-requires-2 g t c = λ κs lives. (
               (let s = c.args.source.now.snapshot.now in
                   let is = c.stands.ensures in
                   let size = c.bytes-size.ensures.is ∙ c.page_size.ensures in
-                  let large : s.page_size < c.args.range.size = larger s.page_size c.args.range (page_pos s.page_size is.page_size) c.requires.has.aligned (λ e. c.if-range-size.false (e ∙ sym size)) in
+                  let large : s.page_size < c.args.range.size = larger s.page_size c.args.range (page_pos s.page_size is.page_size)
+                  c.requires.has.aligned (λ e. c.if-range-size.false (e ∙ sym size)) in
                   (child c.links_step.ensures.step c.page_bytes_stay.ensures.extents s is c.args.at c.links-left.result.0 c.args.range c.halves.result.0 c.requires.newest c.requires.has large
                   (inl c.halves.ensures.lower) (let o = ap (λ (x : Range). x.offset) c.halves.ensures.lower in omega (arith, o, c.requires.begins, c.requires.valid, c.requires.some))
                   (c.links-left.ensures.left ∙ ap (newest_of s.page_size (log_of s) c.args.at) (sym c.halves.ensures.lower))).0),
@@ -252,7 +258,8 @@ walk-requires-2 g t c = λ κs lives. (
                 (let s = c.args.source.now.snapshot.now in
                     let is = c.stands.ensures in
                     let size = c.bytes-size.ensures.is ∙ c.page_size.ensures in
-                    let large : s.page_size < c.args.range.size = larger s.page_size c.args.range (page_pos s.page_size is.page_size) c.requires.has.aligned (λ e. c.if-range-size.false (e ∙ sym size)) in
+                    let large : s.page_size < c.args.range.size = larger s.page_size c.args.range (page_pos s.page_size is.page_size)
+                    c.requires.has.aligned (λ e. c.if-range-size.false (e ∙ sym size)) in
                     (child c.links_step.ensures.step c.page_bytes_stay.ensures.extents s is c.args.at c.links-left.result.0 c.args.range c.halves.result.0 c.requires.newest c.requires.has large
                     (inl c.halves.ensures.lower) (let o = ap (λ (x : Range). x.offset) c.halves.ensures.lower in omega (arith, o, c.requires.begins, c.requires.valid, c.requires.some))
                     (c.links-left.ensures.left ∙ ap (newest_of s.page_size (log_of s) c.args.at) (sym c.halves.ensures.lower))).1),
@@ -334,7 +341,8 @@ walk-requires-3 g t c = λ κs lives. (
               (let s = c.args.source.now.snapshot.now in
                   let is = c.stands.ensures in
                   let size = c.bytes-size.ensures.is ∙ c.page_size.ensures in
-                  let large : s.page_size < c.args.range.size = larger s.page_size c.args.range (page_pos s.page_size is.page_size) c.requires.has.aligned (λ e. c.if-range-size.false (e ∙ sym size)) in
+                  let large : s.page_size < c.args.range.size = larger s.page_size c.args.range (page_pos s.page_size is.page_size)
+                  c.requires.has.aligned (λ e. c.if-range-size.false (e ∙ sym size)) in
                   (child c.links_step.ensures.step c.page_bytes_stay.ensures.extents s is c.args.at c.links-left.result.1 c.args.range c.halves.result.1 c.requires.newest c.requires.has large
                   (inr c.halves.ensures.upper) (omega (arith, c.requires.valid, c.requires.some, c.if-end-high.false))
                   (c.links-left.ensures.right ∙ ap (newest_of s.page_size (log_of s) c.args.at) (sym c.halves.ensures.upper))).0),
@@ -342,7 +350,8 @@ walk-requires-3 g t c = λ κs lives. (
                 (let s = c.args.source.now.snapshot.now in
                     let is = c.stands.ensures in
                     let size = c.bytes-size.ensures.is ∙ c.page_size.ensures in
-                    let large : s.page_size < c.args.range.size = larger s.page_size c.args.range (page_pos s.page_size is.page_size) c.requires.has.aligned (λ e. c.if-range-size.false (e ∙ sym size)) in
+                    let large : s.page_size < c.args.range.size = larger s.page_size c.args.range (page_pos s.page_size is.page_size)
+                    c.requires.has.aligned (λ e. c.if-range-size.false (e ∙ sym size)) in
                     (child c.links_step.ensures.step c.page_bytes_stay.ensures.extents s is c.args.at c.links-left.result.1 c.args.range c.halves.result.1 c.requires.newest c.requires.has large
                     (inr c.halves.ensures.upper) (omega (arith, c.requires.valid, c.requires.some, c.if-end-high.false))
                     (c.links-left.ensures.right ∙ ap (newest_of s.page_size (log_of s) c.args.at) (sym c.halves.ensures.upper))).1),
@@ -352,7 +361,8 @@ walk-requires-3 g t c = λ κs lives. (
                     (let s = c.args.source.now.snapshot.now in
                         let is = c.stands.ensures in
                         let size = c.bytes-size.ensures.is ∙ c.page_size.ensures in
-                        let large : s.page_size < c.args.range.size = larger s.page_size c.args.range (page_pos s.page_size is.page_size) c.requires.has.aligned (λ e. c.if-range-size.false (e ∙ sym size)) in
+                        let large : s.page_size < c.args.range.size = larger s.page_size c.args.range (page_pos s.page_size is.page_size)
+                        c.requires.has.aligned (λ e. c.if-range-size.false (e ∙ sym size)) in
                         let two = even s.page_size c.args.range c.requires.has.aligned large in
                         let o = ap (λ (x : Range). x.offset) c.halves.ensures.upper in
                         let half = ap (λ (x : Range). x.size) c.halves.ensures.upper in

@@ -17,5 +17,5 @@ invariant_of-result c =
     subst P (sym c.in_ok-rows.ensures.ok)
     (IsVersion-push c.older_versions_stay.ensures.rows c.older_versions_stay.ensures.extents c.self.inside.blob c.self.inside.page_size c.self.inside.rows row
     c.self.invariant room own in_bounds
-    (paged_of row.pages c.pages.result.now c.self.inside.page_size (sym pages) c.stands.ensures.enough own.page_size)
+    (paged_of row.pages c.pages.result.now c.self.inside.page_size (sym pages) c.stands.ensures.cut own.page_size)
     fits)

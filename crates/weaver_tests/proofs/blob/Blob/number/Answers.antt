@@ -10,7 +10,7 @@ use Rattle.weaver_tests.proofs.blob.Blob.number.Goals as goal
 
 pub invariant_of-self : goal.invariant_of-self
 invariant_of-self g c =
-    let b : OneBlob = blob_of c.self.inside.window c.self.inside.touches.items c.self.inside.begun.items in
+    let b : OneBlob = blob_of c.self.inside.nodes c.self.inside.window c.self.inside.touches.items c.self.inside.begun.items in
     let s : Start = record { at = c.args.at; pages = arc_value c.shared-pages.result } in
     let same : s.pages ≡ c.args.pages = c.shared-pages.ensures in
     let size : c.size-size.result ≡ size_at b.touches (length b.touches) = c.size-size.ensures ∙ ap (λ (x : OneBlob). size_at x.touches (length x.touches)) (sym c.self.view_is) in

@@ -1,0 +1,39 @@
+-- What lies in a house, and where.
+use Rattle.std.specs.Prelude.{ℕ, List, map}
+use Rattle.tree_geom.specs.declared.node.Node.{Node}
+use Rattle.tree_geom.specs.declared.node.Node.TheVariants.{Inner}
+
+-- where nodes lie: their shard, their shelf there, and the mark of that shelf
+pub record Spot : Type 0 where
+  pub shard : ℕ
+  pub shelf : ℕ
+  pub mark : ℕ
+
+-- the nodes of a row of that version that were put so far, and how many slots there are for them
+pub record PlacedNodes : Type 0 where
+  pub version : ℕ
+  pub room : ℕ
+  pub nodes : List Node
+  pub spot : Spot
+
+-- one node
+pub record PlacedNode : Type 0 where
+  pub node : Node
+  pub spot : Spot
+
+-- what stands in place of a node that there is none of
+abbrev pub no_node : Node
+no_node = Inner 0 0
+
+-- a node that was put, and the name of its slot
+pub record PutNode : Type 0 where
+  pub slot : ℕ
+  pub node : Node
+
+-- what stands in place of one that there is none of
+abbrev pub no_put : PutNode
+no_put = record { slot = 0; node = no_node }
+
+-- the nodes alone
+abbrev pub nodes_put : List PutNode → List Node
+nodes_put puts = map (λ (p : PutNode). p.node) puts

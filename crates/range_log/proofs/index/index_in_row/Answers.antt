@@ -1,0 +1,44 @@
+use Rattle.std.proofs.Common.{◌+◌, ◌-◌, arith, ap, ◌∙◌}
+use Rattle.std.specs.Prelude.{slice_get}
+use Rattle.range_log.specs.Rows.{levels_of}
+use Rattle.range_log.proofs.Positions.{none_of_size, none_at, level_fits, found_at}
+use Rattle.range_log.proofs.index.index_in_row.Goals as goal
+use Rattle.range_log.proofs.index.index_in_row.Goals.{then-number-range-via-then-number-range, then-number-range-via-else-number-range+then-number-level, then-number-range-via-else-number-range+else-number-level+then-level-number}
+
+pub returns-in_default : goal.returns-in_default
+returns-in_default c = none_of_size c.args.p c.args.touch.now c.args.height c.args.range (omega (arith, c.stands.ensures.bounds)) c.in_default.ensures
+
+pub number_of-number-requires-clause-fits : goal.number_of-number-requires-clause-fits
+number_of-number-requires-clause-fits c =
+    (level_fits c.args.p c.args.touch.now c.args.height c.in-Some.ensures.0 c.args.range.size c.in-Some.level.first c.in-Some.level.last c.in-Some.level.count
+    (omega (arith, c.stands.ensures.bounds)) c.requires.ordered c.requires.fits c.in-Some.ensures.1).0
+
+pub returns-then-number-range : goal.returns-then-number-range
+returns-then-number-range c =
+    none_at c.args.p c.args.touch.now c.args.height c.in-Some.ensures.0 c.in-Some.level.first c.in-Some.level.last c.in-Some.level.count c.number_of-number.result c.args.range
+    (omega (arith, c.stands.ensures.bounds)) c.in-Some.ensures.1 c.number_of-number.ensures
+    (λ begin from to. elim c.then-number-range.branch [
+      | then-number-range-via-then-number-range w ↦ w.if-number-range.true begin
+      | then-number-range-via-else-number-range+then-number-level w ↦ omega (arith, w.if-number-level.true)
+      | then-number-range-via-else-number-range+else-number-level+then-level-number w ↦ omega (arith, w.if-level-number.true)
+    ])
+
+pub overflow_sub-result : goal.overflow_sub-result
+overflow_sub-result c =
+    let f =
+    level_fits c.args.p c.args.touch.now c.args.height c.in-Some.ensures.0 c.args.range.size c.in-Some.level.first c.in-Some.level.last c.in-Some.level.count
+    (omega (arith, c.stands.ensures.bounds)) c.requires.ordered c.requires.fits c.in-Some.ensures.1 in
+    omega (arith, f.1, c.requires.count)
+
+pub overflow_add-result : goal.overflow_add-result
+overflow_add-result c =
+    let f =
+    level_fits c.args.p c.args.touch.now c.args.height c.in-Some.ensures.0 c.args.range.size c.in-Some.level.first c.in-Some.level.last c.in-Some.level.count
+    (omega (arith, c.stands.ensures.bounds)) c.requires.ordered c.requires.fits c.in-Some.ensures.1 in
+    omega (arith, f, c.requires.count)
+
+pub returns : goal.returns
+returns c =
+    ap (λ n. slice_get (levels_of c.args.p c.args.touch.now (c.args.height + 1)) (n - c.in-Some.level.count + (c.number_of-number.result - c.in-Some.level.first))) c.requires.count
+    ∙ found_at c.args.p c.args.touch.now c.args.height c.in-Some.ensures.0 c.in-Some.level.first c.in-Some.level.last c.in-Some.level.count c.number_of-number.result c.args.range
+    c.in-Some.ensures.1 (omega arith) (omega arith) (omega arith)
