@@ -1,9 +1,9 @@
 -- What an act leaves is what its step leaves.
-use Rattle.std.proofs.Common.{◌≡◌, ◌⊎◌, ◌↔◌, ℕ, ◌+◌, ◌-◌, ◌≤◌, Bool, true, false, inl, inr, List, [], ◌∷◌, arith, refl, ap, sym, subst, ◌∙◌}
-use Rattle.std.specs.Prelude.{◌||◌, Some, None, slice_set}
+use Rattle.std.proofs.Common.{◌≡◌, ◌⊎◌, ◌↔◌, ℕ, ◌+◌, ◌-◌, ◌<◌, ◌≤◌, Bool, true, false, inl, inr, List, [], ◌∷◌, arith, refl, ap, sym, subst, ◌∙◌}
+use Rattle.std.specs.Prelude.{◌||◌, Option, Some, None, MatchOption, slice_set}
 use Rattle.std.specs.List.{Contains}
 use Rattle.blob_model.specs.Content.{Update}
-use Rattle.blob_model.specs.Store.{Store, Blob, blob_at, assigned, with_blob, and_update, finish, is_finished}
+use Rattle.blob_model.specs.Store.{Store, Blob, blob_at, assigned, published, with_blob, and_update, finish, is_finished}
 use Rattle.blob_model.specs.Answer.{answer}
 use Rattle.blob_model.specs.History.{store_from, is_refused}
 use Rattle.blob_model.specs.declared.call.Call.TheVariants as Calls
@@ -12,19 +12,25 @@ use Rattle.tree_geom.specs.declared.range.Range.{Range}
 use Rattle.tree_geom.specs.declared.touch.Touch.{Touch}
 use Rattle.tree_geom.specs.declared.node.Node.{Node}
 use Rattle.tree_geom.specs.declared.node.NodeKey.{NodeKey}
-use Rattle.range_log.specs.Log.{HasNode}
-use Rattle.range_log.specs.Updates.{extents}
-use Rattle.range_log.specs.Rows.{row_keys_of}
+use Rattle.tree_geom.specs.Geometry.{Meets, page_range}
+use Rattle.range_log.specs.Depths.{fold_number}
+use Rattle.range_log.specs.Log.{HasNode, touch_at}
+use Rattle.range_log.specs.Extents.{extent_at}
+use Rattle.range_log.specs.Updates.{extents, update_at}
+use Rattle.range_log.specs.Rows.{folded_of, node_of, row_keys_of}
 use Rattle.range_log.specs.Laws.{ExtentsStand, RowKeysExact}
 use Rattle.range_log.proofs.Bytes.{length-extents}
-use Rattle.blob_core.specs.World.{World, UpdateEntry, bytes_of_pages, AreCut, node_at, log_of, world_node}
-use Rattle.blob_core.specs.Woven.{woven}
-use Rattle.blob_core.specs.Steps.{IsAllowed, IsNumberedIn, RowIsThere, next_kept, with_update, with_node}
+use Rattle.blob_core.specs.World.{World, UpdateEntry, IsKnown, bytes_of_pages, AreCut, fold_at, kept_at, node_at, log_of}
+use Rattle.blob_core.specs.Woven.{woven, woven_folded}
+use Rattle.blob_core.specs.Steps.{IsAllowed, IsFolded, IsNumberedIn, RowIsThere, next_kept, over_page, folded_page, with_update, with_fold, with_node, with_node_by}
+use Rattle.blob_core.specs.Walk.{page_walk}
 use Rattle.blob_core.specs.Standing.{IsSound, WeavesRow}
-use Rattle.blob_core.specs.Acts.{IsDone, IsRowOf, AreThere}
+use Rattle.blob_core.specs.Acts.{IsDone, IsLogOf, IsRowOf, NotNumberedIn, LacksFold, HasFold, AreThere}
+use Rattle.blob_core.specs.declared.nodes.Row.{Row}
+use Rattle.blob_core.specs.declared.world.FoldKey.{FoldKey}
 use Rattle.blob_core.specs.declared.world.UpdateKey.{UpdateKey}
 use Rattle.blob_core.specs.declared.step.Step.TheVariants as Moves
-use Rattle.blob_core.proofs.Lists.{one_value}
+use Rattle.blob_core.proofs.Lists.{one_value, none_some}
 use Rattle.blob_core.proofs.Taken.{assign_done, finish_done}
 use Rattle.blob_core.proofs.Refusing.{finish_refused}
 use Rattle.blob_core.proofs.Keeping.{with_update_is}
@@ -69,38 +75,120 @@ has_in_row stand exact p w blob version b log keys r pos sound there row =
     let C : List Range → Type 0 = λ l. Contains l r ↔ HasNode p (log_of p b.updates) version r in
     subst C (sym of.1) e
 
+-- what is answered of a row
+abbrev pub IsFound : ℕ → World → ℕ → ℕ → Option Row → Type 0
+IsFound p w blob version found = MatchOption found (NotNumberedIn w blob version) (λ (r : Row). IsRowOf p w blob version r.log.items r.keys.items)
+
 pub numbered_is : (p : ℕ) (w : World) (blob version : ℕ) (b : Blob) (log : List Touch) (keys : List Range) → blob_at w.store blob ≡ Some b → IsRowOf p w blob version log keys
-    → IsNumberedIn w blob version b × (log ≡ log_of p b.updates) × (keys ≡ row_keys_of p (log_of p b.updates) version)
+    → IsNumberedIn w blob version b × IsLogOf p b log × (keys ≡ row_keys_of p (log_of p b.updates) version)
 numbered_is p w blob version b log keys there row =
     let same : row.b ≡ b = one_value (blob_at w.store blob) row.b b row.own.there there in
-    let At : Blob → Type 0 = λ x. IsNumberedIn w blob version x × (log ≡ log_of p x.updates) × (keys ≡ row_keys_of p (log_of p x.updates) version) in
+    let At : Blob → Type 0 = λ x. IsNumberedIn w blob version x × IsLogOf p x log × (keys ≡ row_keys_of p (log_of p x.updates) version) in
     subst At same (row.own, row.touches, row.ranges)
 
 -- a node that isn't of the row may not be put
 pub not_of_row : (p : ℕ) (w : World) (key : NodeKey) (b : Blob) → blob_at w.store key.blob ≡ Some b → ¬ HasNode p (log_of p b.updates) key.version key.range
     → ¬ IsAllowed p w (Moves.NodePut key)
-not_of_row p w key b there apart (x, own, has) =
+not_of_row p w key b there apart (x, own, has, folds) =
     let same : x ≡ b = one_value (blob_at w.store key.blob) x b own.there there in
     let H : Blob → Type 0 = λ y. HasNode p (log_of p y.updates) key.version key.range in
     apart (subst H same has)
 
+-- a page is stored anew as it is woven exactly where the row says so
+folded_here : (p : ℕ) (w : World) (blob k : ℕ) (b : Blob) (i : ℕ) → WeavesRow p w blob b k → Meets p (touch_at (log_of p b.updates) k) (page_range p i)
+    → folded_of p (extents b.updates) k i ≡ true → IsFolded p w blob k b i
+folded_here p w blob k b i weaves met anew = record { kept = weaves.kept; there = weaves.there; met = met; anew = weaves.folded i ∙ anew }
+
+folded_means : (p : ℕ) (w : World) (blob k : ℕ) (b : Blob) (i : ℕ) → WeavesRow p w blob b k → IsFolded p w blob k b i → folded_of p (extents b.updates) k i ≡ true
+folded_means p w blob k b i weaves f =
+    let same : f.kept ≡ weaves.kept = one_value (kept_at w.updates blob k) f.kept weaves.kept f.there weaves.there in
+    let F : UpdateEntry → Type 0 = λ e. woven_folded fold_number p w blob b e k i ≡ true in
+    sym (weaves.folded i) ∙ subst F same f.anew
+
+node_allowed : (p : ℕ) (w : World) (key : NodeKey) (b : Blob) → IsSound p w key.blob b → IsNumberedIn w key.blob key.version b → HasNode p (log_of p b.updates) key.version key.range
+    → HasFold p w.folded key b → IsAllowed p w (Moves.NodePut key)
+node_allowed p w key b sound own has folds =
+    (b, own, has, λ page e f. folds page e f.met (folded_means p w key.blob key.version b page (sound.weaves key.version own) f))
+
+-- a leaf whose page is stored anew may not be put before the page
+pub not_without_fold : (p : ℕ) (w : World) (key : NodeKey) (b : Blob) → IsSound p w key.blob b → blob_at w.store key.blob ≡ Some b → LacksFold p w.folded key b
+    → ¬ IsAllowed p w (Moves.NodePut key)
+not_without_fold p w key b sound there lacks (x, own, has, folds) =
+    let same : x ≡ b = one_value (blob_at w.store key.blob) x b own.there there in
+    let At : Blob → Type 0 = λ y. IsNumberedIn w key.blob key.version y
+    × ((page : ℕ) → key.range ≡ page_range p page → IsFolded p w key.blob key.version y page → IsKnown (fold_at w.folded key.blob key.version page)) in
+    let of : At b = subst At same (own, folds) in
+    let (bytes, is) = of.1 lacks.page lacks.leaf (folded_here p w key.blob key.version b lacks.page (sound.weaves key.version of.0) lacks.met lacks.anew) in
+    none_some (fold_at w.folded key.blob key.version lacks.page) bytes lacks.missing is
+
 abbrev with_nodes : World → List (NodeKey × Node) → World
 with_nodes w nodes = record w { nodes = nodes }
 
-pub node_kept : (p : ℕ) (w : World) (key : NodeKey) (b : Blob) (n : Node) → IsNumberedIn w key.blob key.version b → HasNode p (log_of p b.updates) key.version key.range
-    → node_at w.nodes key ≡ Some n → IsDone p w (Moves.NodePut key) w
-node_kept p w key b n own has is =
-    let e : with_node p w key ≡ w.nodes = rw (is, with_node) refl in
-    record { allowed = (b, own, has); is = ap (λ (l : List (NodeKey × Node)). with_nodes w l) (sym e) }
+pub node_kept : (p : ℕ) (w : World) (key : NodeKey) (b : Blob) (n : Node) → IsSound p w key.blob b → IsNumberedIn w key.blob key.version b
+    → HasNode p (log_of p b.updates) key.version key.range → HasFold p w.folded key b → node_at w.nodes key ≡ Some n → IsDone p w (Moves.NodePut key) w
+node_kept p w key b n sound own has folds is =
+    let e : with_node p w key ≡ w.nodes = rw (is, with_node_by) refl in
+    record { allowed = node_allowed p w key b sound own has folds; is = ap (λ (l : List (NodeKey × Node)). with_nodes w l) (sym e) }
 
 pub node_done : (p : ℕ) (w : World) (key : NodeKey) (b : Blob) (n : Node) (nodes : List (NodeKey × Node)) → IsSound p w key.blob b → IsNumberedIn w key.blob key.version b
-    → HasNode p (log_of p b.updates) key.version key.range → node_at w.nodes key ≡ None → n ≡ world_node p (extents b.updates) key.version key.range → nodes ≡ (key, n) ∷ w.nodes
-    → IsDone p w (Moves.NodePut key) (with_nodes w nodes)
-node_done p w key b n nodes sound own has none is more =
-    let woven_as : WeavesRow p w key.blob b key.version key.range = sound.weaves key.version key.range own.own has in
+    → HasNode p (log_of p b.updates) key.version key.range → HasFold p w.folded key b → node_at w.nodes key ≡ None → n ≡ node_of p (extents b.updates) key.version key.range
+    → nodes ≡ (key, n) ∷ w.nodes → IsDone p w (Moves.NodePut key) (with_nodes w nodes)
+node_done p w key b n nodes sound own has folds none is more =
+    let row : WeavesRow p w key.blob b key.version = sound.weaves key.version own in
     let entry : Node → List (NodeKey × Node) = λ x. (key, x) ∷ w.nodes in
-    let e : with_node p w key ≡ entry (woven p w key.blob b woven_as.kept key.version key.range) = rw (none, own.there, woven_as.there, with_node) refl in
-    record { allowed = (b, own, has); is = ap (λ (l : List (NodeKey × Node)). with_nodes w l) (more ∙ ap entry (is ∙ sym woven_as.is) ∙ sym e) }
+    let e : with_node p w key ≡ entry (woven p w key.blob b row.kept key.version key.range) = rw (none, own.there, row.there, with_node_by) refl in
+    record {
+      allowed = node_allowed p w key b sound own has folds;
+      is = ap (λ (l : List (NodeKey × Node)). with_nodes w l) (more ∙ ap entry (is ∙ sym (row.nodes key.range has)) ∙ sym e);
+    }
+
+-- ---- a page that is stored anew
+-- the update touches the page and stores it anew, and the version before is published
+pub record MayFold (p : ℕ) (w : World) (blob version page : ℕ) (b : Blob) : Type 0 where
+  pub sound : IsSound p w blob b
+  pub own : IsNumberedIn w blob version b
+  pub met : Meets p (touch_at (log_of p b.updates) version) (page_range p page)
+  pub anew : folded_of p (extents b.updates) version page ≡ true
+  pub before : version - 1 ≤ published b
+
+fold_allowed : (p : ℕ) (w : World) (blob version page : ℕ) (b : Blob) → MayFold p w blob version page b → IsAllowed p w (Moves.FoldPut blob version page)
+fold_allowed p w blob version page b may = (b, may.own, folded_here p w blob version b page (may.sound.weaves version may.own) may.met may.anew, may.before)
+
+pub not_foldable : (p : ℕ) (w : World) (blob version page : ℕ) (b : Blob) → IsSound p w blob b → blob_at w.store blob ≡ Some b
+    → (¬ (Meets p (touch_at (log_of p b.updates) version) (page_range p page) × (folded_of p (extents b.updates) version page ≡ true))) ⊎ (published b < version - 1)
+    → ¬ IsAllowed p w (Moves.FoldPut blob version page)
+not_foldable p w blob version page b sound there not (x, own, folds, before) =
+    let same : x ≡ b = one_value (blob_at w.store blob) x b own.there there in
+    let At : Blob → Type 0 = λ y. IsNumberedIn w blob version y × IsFolded p w blob version y page × (version - 1 ≤ published y) in
+    let of : At b = subst At same (own, folds, before) in
+    elim not [
+      | inl none ↦ none (of.1.met, folded_means p w blob version b page (sound.weaves version of.0) of.1)
+      | inr early ↦ omega (arith, early, of.2)
+    ]
+
+abbrev with_folds : World → List (FoldKey × List ℕ) → World
+with_folds w folds = record w { folded = folds }
+
+pub fold_kept : (p : ℕ) (w : World) (blob version page : ℕ) (b : Blob) (bytes : List ℕ) → MayFold p w blob version page b → fold_at w.folded blob version page ≡ Some bytes
+    → IsDone p w (Moves.FoldPut blob version page) w
+fold_kept p w blob version page b bytes may is =
+    let e : with_fold p w blob version page ≡ w.folded = rw (is, with_fold) refl in
+    record { allowed = fold_allowed p w blob version page b may; is = ap (λ (l : List (FoldKey × List ℕ)). with_folds w l) (sym e) }
+
+pub fold_done : (p : ℕ) (w : World) (blob version page : ℕ) (b : Blob) (bytes : List ℕ) (folds : List (FoldKey × List ℕ)) → MayFold p w blob version page b
+    → fold_at w.folded blob version page ≡ None
+    → bytes ≡ over_page p (extent_at (extents b.updates) version) page (update_at b.updates version).bytes (page_walk p w blob b (version - 1) page)
+    → folds ≡ (record { blob = blob; version = version; page = page }, bytes) ∷ w.folded
+    → IsDone p w (Moves.FoldPut blob version page) (with_folds w folds)
+fold_done p w blob version page b bytes folds may none is more =
+    let row : WeavesRow p w blob b version = may.sound.weaves version may.own in
+    let entry : List ℕ → List (FoldKey × List ℕ) = λ l. (record { blob = blob; version = version; page = page }, l) ∷ w.folded in
+    let over : List ℕ → List ℕ = λ buffer. over_page p (extent_at (extents b.updates) version) page buffer (page_walk p w blob b (version - 1) page) in
+    let e : with_fold p w blob version page ≡ entry (folded_page p w blob b row.kept version page) = rw (none, may.own.there, row.there, with_fold) refl in
+    record {
+      allowed = fold_allowed p w blob version page b may;
+      is = ap (λ (l : List (FoldKey × List ℕ)). with_folds w l) (more ∙ ap entry (is ∙ ap over (sym row.bytes)) ∙ sym e);
+    }
 
 -- ---- a finish
 or_false : (b : Bool) → (b || false) ≡ b

@@ -1,5 +1,5 @@
--- The worked script of two updates, computed from the definitions alone.
-use Rattle.std.proofs.Common.{ℕ, ◌≤◌, zero, suc, arith, ap, sym, subst, ◌∙◌, length, lit<, lit≤}
+-- The worked script of two updates, computed from the definitions alone, whichever fold number the store has.
+use Rattle.std.proofs.Common.{ℕ, ◌*◌, ◌%◌, ◌≤◌, zero, suc, inl, inr, true, false, arith, ap, sym, subst, ◌∙◌, length, lit<, lit≤}
 use Rattle.std.specs.Prelude.{◌≡◌, List, [], ◌∷◌, ◌++◌, Option, Some, None, refl}
 use Rattle.blob_model.specs.Limits.{greatest}
 use Rattle.blob_model.specs.Store.{Blob, blob_at, published}
@@ -8,7 +8,7 @@ use Rattle.tree_geom.specs.declared.range.Range.{Range}
 use Rattle.tree_geom.specs.declared.node.Node.{Node}
 use Rattle.tree_geom.specs.declared.node.Node.TheVariants.{Leaf}
 use Rattle.tree_geom.specs.declared.node.NodeKey.{NodeKey}
-use Rattle.tree_geom.specs.Geometry.{height_of, doublings, span_of}
+use Rattle.tree_geom.specs.Geometry.{height_of, doublings, page_range, span_of}
 use Rattle.tree_geom.specs.Nodes.{no_piece}
 use Rattle.range_log.specs.Log.{newest_of}
 use Rattle.range_log.specs.Extents.{touches}
@@ -16,16 +16,26 @@ use Rattle.range_log.specs.Updates.{extents}
 use Rattle.range_log.specs.Rows.{row_keys_of, levels_of, level_of}
 use Rattle.range_log.specs.Log.{HasNode}
 use Rattle.std.specs.List.{Contains}
-use Rattle.blob_core.specs.World.{World, empty_world, node_at, origin, IsKnown, log_of}
-use Rattle.blob_core.specs.Woven.{followed, found_in}
-use Rattle.blob_core.specs.Steps.{world_after, IsAllowed, AllAllowed, IsNumberedIn, RowIsThere}
+use Rattle.range_log.specs.Depths.{fold_number}
+use Rattle.range_log.specs.Laws.{FoldNumberIs}
+use Rattle.blob_core.specs.World.{World, UpdateEntry, empty_world, fold_at, kept_at, node_at, origin, IsKnown, log_of}
+use Rattle.blob_core.specs.Woven.{followed, found_in, woven_folded}
+use Rattle.blob_core.specs.Steps.{world_after_by, IsAllowed, AllAllowed, IsFolded, IsNumberedIn, RowIsThere}
 use Rattle.blob_core.specs.Walk.{leaf_walk, tree_walk_from, read_walk}
 use Rattle.blob_core.proofs.Lists.{one_value, none_some}
 use Rattle.blob_core.specs.declared.step.Step.{Step}
 use Rattle.blob_core.specs.declared.step.Step.TheVariants as Moves
 
+-- both fold numbers
+abbrev pub both : List ℕ
+both = 0 ∷ 16 ∷ []
+
+-- the world of some steps, over a fold number, and at that of the store
+abbrev pub world_by : ℕ → List Step → World
+world_by fold steps = world_after_by fold 4 (empty_world greatest) steps
+
 abbrev pub world_of : List Step → World
-world_of steps = world_after 4 (empty_world greatest) steps
+world_of steps = world_by fold_number steps
 
 abbrev pub range_at : ℕ → ℕ → Range
 range_at offset size = record { offset = offset; size = size }
@@ -33,8 +43,12 @@ range_at offset size = record { offset = offset; size = size }
 abbrev pub key : ℕ → ℕ → ℕ → ℕ → NodeKey
 key blob version offset size = record { blob = blob; version = version; range = range_at offset size }
 
-abbrev pub one_piece : ℕ → ℕ → ℕ → Node
-one_piece start len back = Leaf start 1 (record { page = 0; from = 0; len = len }) no_piece 0 back
+abbrev pub one_piece : ℕ → ℕ → ℕ → ℕ → Node
+one_piece start len depth back = Leaf start 1 (record { page = 0; from = 0; len = len }) no_piece depth back
+
+-- one leaf that doesn't cover its page isn't stored anew
+pub one_deep : FoldNumberIs → 1 % fold_number ≡ 1
+one_deep either = elim either [ inl none ↦ ap (λ n. 1 % n) none | inr sixteen ↦ ap (λ n. 1 % n) sixteen ]
 
 -- what is published of a blob, in a list
 abbrev pub published_of : Option Blob → List ℕ
@@ -48,6 +62,11 @@ blob_or (Some b) = b
 
 abbrev pub the_blob : World → Blob
 the_blob w = blob_or (blob_at w.store 1)
+
+-- what is kept beside an update of it
+abbrev kept_or : Option UpdateEntry → UpdateEntry
+kept_or None = record { pages = []; published = 0; waiting = [] }
+kept_or (Some kept) = kept
 
 -- two pages, and two appends of which neither has stored a node
 abbrev pub two_appends : List Step
@@ -68,9 +87,9 @@ row_of_second = refl
 second_is_missing : node_at (world_of two_appends).nodes (key 1 2 0 4) ≡ None
 second_is_missing = refl
 
-second_is_woven : node_at (world_of (two_appends ++ second_first)).nodes (key 1 2 0 4) ≡ Some (one_piece 1 1 1)
+second_is_woven : FoldNumberIs → node_at (world_of (two_appends ++ second_first)).nodes (key 1 2 0 4) ≡ Some (one_piece 1 1 1 1)
 unfolding touches extents newest_of found_in followed span_of height_of doublings
-second_is_woven = refl
+second_is_woven either = rw (one_deep either) refl
 
 none_published : published_of (blob_at (world_of (two_appends ++ second_first)).store 1) ≡ 0 ∷ []
 none_published = refl
@@ -78,15 +97,37 @@ none_published = refl
 both_published : published_of (blob_at (world_of (two_appends ++ second_first ++ then_first)).store 1) ≡ 2 ∷ []
 both_published = refl
 
-read_of_both : read_walk 4 (world_of (two_appends ++ second_first ++ then_first)) 1 (the_blob (world_of (two_appends ++ second_first ++ then_first))) 2 0 2
+read_of_both : FoldNumberIs → read_walk 4 (world_of (two_appends ++ second_first ++ then_first)) 1 (the_blob (world_of (two_appends ++ second_first ++ then_first))) 2 0 2
     ≡ record { bytes = 170 ∷ 187 ∷ []; nodes = 2 }
 unfolding touches extents newest_of found_in followed span_of height_of doublings leaf_walk tree_walk_from read_walk
-read_of_both = refl
+read_of_both either = rw (one_deep either) refl
 
 -- ---- each step is allowed but the finish before its node
 numbered : (w : World) (version : ℕ) → blob_at w.store 1 ≡ Some (the_blob w) → 1 ≤ version → version ≤ length (the_blob w).updates → origin w 1 version ≡ 1
     → IsNumberedIn w 1 version (the_blob w)
 numbered w version there some upto own = record { there = there; some = some; upto = upto; own = own }
+
+-- neither stores its page anew
+no_fold : (w : World) (version : ℕ) (kept : UpdateEntry) → kept_at w.updates 1 version ≡ Some kept → woven_folded fold_number 4 w 1 (the_blob w) kept version 0 ≡ false
+    → (page : ℕ) → range_at 0 4 ≡ page_range 4 page → IsFolded 4 w 1 version (the_blob w) page → IsKnown (fold_at w.folded 1 version page)
+no_fold w version kept there none page at f =
+    let begins : 0 ≡ page * 4 = ap (λ (r : Range). r.offset) at in
+    let first : page ≡ 0 = omega arith in
+    let same : f.kept ≡ kept = one_value (kept_at w.updates 1 version) f.kept kept f.there there in
+    let E : UpdateEntry → Type 0 = λ e. woven_folded fold_number 4 w 1 (the_blob w) e version page ≡ true in
+    let P : ℕ → Type 0 = λ i. woven_folded fold_number 4 w 1 (the_blob w) kept version i ≡ true in
+    let anew : P 0 = subst P first (subst E same f.anew) in
+    let no : false ≡ true = sym none ∙ anew in
+    (let never : ⊥ = cc in absurd never)
+
+second_stays : FoldNumberIs → woven_folded fold_number 4 (world_of two_appends) 1 (the_blob (world_of two_appends)) (kept_or (kept_at (world_of two_appends).updates 1 2)) 2 0 ≡ false
+unfolding touches extents found_in followed span_of height_of doublings
+second_stays either = rw (one_deep either) refl
+
+first_stays : woven_folded fold_number 4 (world_of (two_appends ++ second_first)) 1 (the_blob (world_of (two_appends ++ second_first)))
+    (kept_or (kept_at (world_of (two_appends ++ second_first)).updates 1 1)) 1 0 ≡ false
+unfolding touches extents found_in followed span_of height_of doublings
+first_stays = refl
 
 first_has : HasNode 4 (log_of 4 (the_blob (world_of two_appends)).updates) 1 (range_at 0 4)
 unfolding touches extents span_of height_of doublings
@@ -116,12 +157,12 @@ row_of_first : row_keys_of 4 (touches 4 (extents (the_blob (world_of two_appends
 unfolding touches extents row_keys_of levels_of level_of height_of doublings
 row_of_first = refl
 
-first_is_woven : node_at (world_of (two_appends ++ second_first ++ Moves.NodePut (key 1 1 0 4) ∷ [])).nodes (key 1 1 0 4) ≡ Some (one_piece 0 1 0)
+first_is_woven : node_at (world_of (two_appends ++ second_first ++ Moves.NodePut (key 1 1 0 4) ∷ [])).nodes (key 1 1 0 4) ≡ Some (one_piece 0 1 0 0)
 unfolding touches extents newest_of found_in followed span_of height_of doublings
 first_is_woven = refl
 
-script_is_allowed : AllAllowed 4 (empty_world greatest) (two_appends ++ second_first ++ then_first)
-script_is_allowed = (
+script_is_allowed : FoldNumberIs → AllAllowed 4 (empty_world greatest) (two_appends ++ second_first ++ then_first)
+script_is_allowed either = (
   refl,
   (
     (refl, lit≤ tt, lit≤ tt),
@@ -132,25 +173,35 @@ script_is_allowed = (
         (
           ((187 ∷ [], refl), refl),
           (
-            (the_blob (world_of two_appends), numbered (world_of two_appends) 2 refl (lit≤ tt) (lit≤ tt) refl, second_has),
+            (
+              the_blob (world_of two_appends),
+              numbered (world_of two_appends) 2 refl (lit≤ tt) (lit≤ tt) refl,
+              second_has,
+              no_fold (world_of two_appends) 2 (kept_or (kept_at (world_of two_appends).updates 1 2)) refl (second_stays either),
+            ),
             (
               (
                 refl,
                 (
                   the_blob (world_of two_appends),
                   numbered (world_of (two_appends ++ Moves.NodePut (key 1 2 0 4) ∷ [])) 2 refl (lit≤ tt) (lit≤ tt) refl,
-                  row_there (world_of (two_appends ++ Moves.NodePut (key 1 2 0 4) ∷ [])) 2 (one_piece 1 1 1) row_of_second second_is_woven,
+                  row_there (world_of (two_appends ++ Moves.NodePut (key 1 2 0 4) ∷ [])) 2 (one_piece 1 1 1 1) row_of_second (second_is_woven either),
                 ),
               ),
               (
-                (the_blob (world_of (two_appends ++ second_first)), numbered (world_of (two_appends ++ second_first)) 1 refl (lit≤ tt) (lit≤ tt) refl, first_has),
+                (
+                  the_blob (world_of (two_appends ++ second_first)),
+                  numbered (world_of (two_appends ++ second_first)) 1 refl (lit≤ tt) (lit≤ tt) refl,
+                  first_has,
+                  no_fold (world_of (two_appends ++ second_first)) 1 (kept_or (kept_at (world_of (two_appends ++ second_first)).updates 1 1)) refl first_stays,
+                ),
                 (
                   (
                     refl,
                     (
                       the_blob (world_of (two_appends ++ second_first)),
                       numbered (world_of (two_appends ++ second_first ++ Moves.NodePut (key 1 1 0 4) ∷ [])) 1 refl (lit≤ tt) (lit≤ tt) refl,
-                      row_there (world_of (two_appends ++ second_first ++ Moves.NodePut (key 1 1 0 4) ∷ [])) 1 (one_piece 0 1 0) row_of_first first_is_woven,
+                      row_there (world_of (two_appends ++ second_first ++ Moves.NodePut (key 1 1 0 4) ∷ [])) 1 (one_piece 0 1 0 0) row_of_first first_is_woven,
                     ),
                   ),
                   tt,

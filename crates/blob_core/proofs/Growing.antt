@@ -1,19 +1,20 @@
 -- What a longer list of updates says of the versions of the shorter one; and the laws that are cited.
-use Rattle.std.proofs.Common.{◌≡◌, ℕ, ◌+◌, ◌<◌, ◌≤◌, zero, suc, List, [], ◌∷◌, ◌++◌, length, take, drop, arith, inl, inr, refl, ap, sym, subst, ◌∙◌}
+use Rattle.std.proofs.Common.{◌≡◌, ℕ, ◌+◌, ◌*◌, ◌<◌, ◌≤◌, zero, suc, List, [], ◌∷◌, ◌++◌, length, take, drop, arith, inl, inr, refl, ap, sym, subst, ◌∙◌}
 use Rattle.std.proofs.lemmas.Bool.{cases_lt}
 use Rattle.std.proofs.lemmas.List.{get_or_append_left, take-append-le, take-append-drop, length-take-le, length-append}
 use Rattle.std.proofs.Math.Seq.{get_or-append_seam}
 use Rattle.blob_model.specs.Content.{Update, content_from, size_of, offset_of}
 use Rattle.tree_geom.specs.declared.range.Range.{Range}
 use Rattle.tree_geom.specs.declared.touch.Touch.{Touch}
-use Rattle.tree_geom.specs.Nodes.{with_depth}
 use Rattle.range_log.specs.Log.{touch_at, size_at, HasNode}
 use Rattle.range_log.specs.Extents.{Extent, size_after, touches}
-use Rattle.range_log.specs.Updates.{update_at, no_update, extent_of, extents, Replayable}
+use Rattle.range_log.specs.Updates.{update_at, no_update, extent_of, extents, page_bytes, Replayable}
+use Rattle.range_log.specs.Rows.{folded_of, node_of}
+use Rattle.range_log.proofs.Growth.{same_folded}
 use Rattle.range_log.specs.Laws.{LinksNameNodes, LinksLead, BacksLead, BacksHaveNoHoles, ExtentsStand, LeavesFill, LeavesFit, PiecesJoin, PageBytesStay, NewestIsGreatest, RowKeysExact, BacksStep, RowsStay, ExtentsGrow}
 use Rattle.tree_walk.specs.Walk.{RootsStand, LinksFind, ChildStands, WeaverFinds, VisitedNone, VisitedLeaf, VisitedInner, WalksAreBounded}
 use Rattle.range_log.specs.declared.«open».OpenTouch.{OpenTouch}
-use Rattle.blob_core.specs.World.{log_of, waiting_after, world_node}
+use Rattle.blob_core.specs.World.{log_of, waiting_after}
 use Rattle.range_log.proofs.Bytes.{length-extents}
 use Rattle.range_log.proofs.Grown.{length-touches, size-touches}
 
@@ -104,7 +105,9 @@ pub record Agrees (p : ℕ) (old new : List Update) (n : ℕ) : Type 0 where
   pub touch : (j : ℕ) → j ≤ n → touch_at (log_of p new) j ≡ touch_at (log_of p old) j
   pub there : (j : ℕ) (r : Range) → j ≤ n → HasNode p (log_of p old) j r → HasNode p (log_of p new) j r
   pub back : (j : ℕ) (r : Range) → j ≤ n → HasNode p (log_of p new) j r → HasNode p (log_of p old) j r
-  pub node : (j : ℕ) (r : Range) → j ≤ n → world_node p (extents new) j r ≡ world_node p (extents old) j r
+  pub node : (j : ℕ) (r : Range) → j ≤ n → node_of p (extents new) j r ≡ node_of p (extents old) j r
+  pub anew : (j i : ℕ) → j ≤ n → folded_of p (extents new) j i ≡ folded_of p (extents old) j i
+  pub page : (j i : ℕ) → j ≤ n → page_bytes p new j i ≡ page_bytes p old j i
 
 pub agree_same : (p : ℕ) (us : List Update) (n : ℕ) → Agrees p us us n
 agree_same p us n = record {
@@ -113,6 +116,8 @@ agree_same p us n = record {
   there = λ j r le h. h;
   back = λ j r le h. h;
   node = λ j r le. refl;
+  anew = λ j i le. refl;
+  page = λ j i le. refl;
 }
 
 pub agree_back : (p : ℕ) (old new : List Update) (n : ℕ) → Agrees p old new n → Agrees p new old n
@@ -122,6 +127,8 @@ agree_back p old new n a = record {
   there = λ j r le h. a.back j r le h;
   back = λ j r le h. a.there j r le h;
   node = λ j r le. sym (a.node j r le);
+  anew = λ j i le. sym (a.anew j i le);
+  page = λ j i le. sym (a.page j i le);
 }
 
 update_same_at : (us more : List Update) (j : ℕ) → 1 ≤ j → j ≤ length us → update_at (us ++ more) j ≡ update_at us j
@@ -142,7 +149,9 @@ agree_more c p us more =
       back = λ j r le h.
           let P : List Extent → Type 0 = λ x. HasNode p (touches p x) j r in
           ((c.rows p j xs rest (in_list j le)).2 r).1 (subst P e h);
-      node = λ j r le. ap (λ (x : List Extent). world_node p x j r) e ∙ ap (λ n. with_depth 0 n) ((c.rows p j xs rest (in_list j le)).3 r);
+      node = λ j r le. ap (λ (x : List Extent). node_of p x j r) e ∙ (c.rows p j xs rest (in_list j le)).3 r;
+      anew = λ j i le. ap (λ (x : List Extent). folded_of p x j i) e ∙ same_folded p xs rest j i (in_list j le);
+      page = λ j i le. ap (λ (l : List Update). take p (drop (i * p) (content_from [] l))) (take-append-le j us more le);
     }
 
 -- the first n updates agree with all

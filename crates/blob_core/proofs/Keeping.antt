@@ -10,20 +10,23 @@ use Rattle.blob_model.specs.Store.{Store, Blob, blob_at, with_blob, and_blob, an
 use Rattle.tree_geom.specs.declared.range.Range.{Range}
 use Rattle.tree_geom.specs.declared.node.Node.{Node}
 use Rattle.tree_geom.specs.declared.node.NodeKey.{NodeKey}
-use Rattle.range_log.specs.Log.{HasNode}
+use Rattle.tree_geom.specs.Geometry.{Meets, page_range}
+use Rattle.range_log.specs.Log.{HasNode, touch_at}
+use Rattle.range_log.specs.Rows.{folded_of, node_of}
 use Rattle.range_log.specs.Extents.{InBounds}
-use Rattle.range_log.specs.Updates.{update_at, extents, Replayable}
-use Rattle.blob_core.specs.World.{World, empty_world, UpdateEntry, same_number, same_update, same_key, page_at, node_at, kept_at, origin, key_in, node_in, bytes_of_pages, AreCut, log_of, waiting_after, world_node}
+use Rattle.range_log.specs.Updates.{update_at, extents, page_bytes, Replayable}
+use Rattle.blob_core.specs.World.{World, IsKnown, empty_world, UpdateEntry, fold_at, same_number, same_update, same_fold, same_key, page_at, node_at, kept_at, origin, key_in, node_in, bytes_of_pages, AreCut, log_of, waiting_after}
 use Rattle.branching.specs.Parents.{origin_of}
 use Rattle.branching.specs.declared.Parent.{Parent}
+use Rattle.blob_core.specs.declared.world.FoldKey.{FoldKey}
 use Rattle.blob_core.specs.declared.world.UpdateKey.{UpdateKey}
 use Rattle.blob_core.specs.Woven.{woven}
-use Rattle.blob_core.specs.Steps.{IsNumberedIn, RowIsThere, next_kept, with_update, with_node}
-use Rattle.blob_core.specs.Promises.{IsRowNode, NodesAreRows}
-use Rattle.blob_core.proofs.Lists.{one_value, none_some, number_means, update_means, update_itself, key_means, entry_kept, entry_new, entry_old, mark_next, mark_set, prefix_marked, prefix_within, prefix_set, prefix_next, prefix_all, KeepsPages, SmallPages, cut_kept, joined_kept}
+use Rattle.blob_core.specs.Steps.{IsFolded, IsNumberedIn, RowIsThere, next_kept, with_update, with_node, with_node_by}
+use Rattle.blob_core.specs.Promises.{IsFoldPage, FoldsArePages, IsRowNode, NodesAreRows}
+use Rattle.blob_core.proofs.Lists.{one_value, none_some, number_means, update_means, update_itself, fold_means, key_means, entry_kept, entry_new, entry_old, mark_next, mark_set, prefix_marked, prefix_within, prefix_set, prefix_next, prefix_all, KeepsPages, SmallPages, cut_kept, joined_kept}
 use Rattle.branching.proofs.Parents.{origin_older, origin_past, origin_own, origin_shared}
 use Rattle.blob_core.proofs.Growing.{Cited, Agrees, agree_same, agree_more, agree_front, replay_front, replay_next, update_next, waiting_same, length_log}
-use Rattle.blob_core.proofs.Finding.{RowsKnown, woven_is}
+use Rattle.blob_core.proofs.Finding.{RowsKnown, woven_is, woven_folded_is}
 use Rattle.blob_core.proofs.Taken.{blob_some, more_kept, more_was, with_was, with_new, with_on}
 
 -- ---- what holds
@@ -42,10 +45,18 @@ pub record BlobStands (p : ℕ) (w : World) (blob : ℕ) (b : Blob) : Type 0 whe
   pub marks : length b.finished ≡ length b.updates
   pub own : (j : ℕ) → assigned b < j → origin w blob j ≡ blob
   pub updates : (j : ℕ) → 1 ≤ j → j ≤ assigned b → UpdateStands p w blob b j
-  pub rows : (j : ℕ) (r : Range) → is_finished b j ≡ true → HasNode p (log_of p b.updates) j r → node_in w blob j r ≡ Some (world_node p (extents b.updates) j r)
+  pub rows : (j : ℕ) (r : Range) → is_finished b j ≡ true → HasNode p (log_of p b.updates) j r → node_in w blob j r ≡ Some (node_of p (extents b.updates) j r)
+  pub folds : (j i : ℕ) → is_finished b j ≡ true → HasNode p (log_of p b.updates) j (page_range p i) → folded_of p (extents b.updates) j i ≡ true
+      → fold_at w.folded (origin w blob j) j i ≡ Some (page_bytes p b.updates j i)
 
 abbrev pub IsOfBlob : World → ℕ → ℕ → Type 0
 IsOfBlob w blob version = (b : Blob) × (blob_at w.store blob ≡ Some b) × (version ≤ assigned b)
+
+-- where the leaf of this key stores its page anew, the page is there
+abbrev pub FoldIsThere : ℕ → World → NodeKey → Type 0
+FoldIsThere p w key =
+    (b : Blob) → blob_at w.store key.blob ≡ Some b → (i : ℕ) → key.range ≡ page_range p i → folded_of p (extents b.updates) key.version i ≡ true
+    → IsKnown (fold_at w.folded key.blob key.version i)
 
 pub record Stands (p : ℕ) (w : World) : Type 0 where
   pub lineage : length w.lineage ≡ length w.store.blobs
@@ -53,6 +64,8 @@ pub record Stands (p : ℕ) (w : World) : Type 0 where
   pub known : (blob version : ℕ) (kept : UpdateEntry) → kept_at w.updates blob version ≡ Some kept → IsOfBlob w blob version
   pub blobs : (blob : ℕ) (b : Blob) → blob_at w.store blob ≡ Some b → BlobStands p w blob b
   pub nodes : NodesAreRows p w
+  pub folds : FoldsArePages p w
+  pub anew : (key : NodeKey) (n : Node) → node_at w.nodes key ≡ Some n → FoldIsThere p w key
 
 -- ---- marks
 finished_at : (b : Blob) (j : ℕ) → is_finished b (suc j) ≡ slice_index_or b.finished j false
@@ -85,6 +98,7 @@ pub record Wider (a b : World) : Type 0 where
   pub pages : KeepsPages a.pages b.pages
   pub updates : (blob version : ℕ) (kept : UpdateEntry) → kept_at a.updates blob version ≡ Some kept → kept_at b.updates blob version ≡ Some kept
   pub nodes : (key : NodeKey) (n : Node) → node_at a.nodes key ≡ Some n → node_at b.nodes key ≡ Some n
+  pub folded : (blob version page : ℕ) (bytes : List ℕ) → fold_at a.folded blob version page ≡ Some bytes → fold_at b.folded blob version page ≡ Some bytes
 
 -- each blob is there, and what it was is a beginning of what it is
 abbrev pub Forward : ℕ → World → World → Type 0
@@ -105,6 +119,21 @@ row_moved p a b key n on row =
       is = row.is ∙ sym (agrees.node key.version key.range upto);
     }
 
+fold_moved : (p : ℕ) (a b : World) (blob version page : ℕ) (bytes : List ℕ) → Forward p a b → IsFoldPage p a blob version page bytes → IsFoldPage p b blob version page bytes
+fold_moved p a b blob version page bytes on x =
+    let (new, at, agrees, more) = on blob x.b x.there in
+    record { b = new; there = at; upto = omega (arith, x.upto); is = x.is ∙ sym (agrees.page version page x.upto) }
+
+there_moved : (p : ℕ) (a b : World) (key : NodeKey) (n : Node) → Forward p a b → Wider a b → IsRowNode p a key n → FoldIsThere p a key → FoldIsThere p b key
+there_moved p a b key n on wide row was x at i same anew =
+    let (new, here, agrees, more) = on key.blob row.b row.there in
+    let upto : key.version ≤ assigned row.b = omega (arith, row.has.version.1, length_log p row.b.updates) in
+    let eq : new ≡ x = one_value (blob_at b.store key.blob) new x here at in
+    let old : folded_of p (extents row.b.updates) key.version i ≡ true =
+    sym (agrees.anew key.version i upto) ∙ ap (λ (y : Blob). folded_of p (extents y.updates) key.version i) eq ∙ anew in
+    let (bytes, e) = was row.b row.there i same old in
+    (bytes, wide.folded key.blob key.version i bytes e)
+
 of_blob_moved : (p : ℕ) (a b : World) (blob version : ℕ) → Forward p a b → IsOfBlob a blob version → IsOfBlob b blob version
 of_blob_moved p a b blob version on (old, e, le) = let (new, at, agrees, more) = on blob old e in (new, at, omega arith)
 
@@ -123,12 +152,20 @@ update_moved p a b blob blob' old new n j wide agrees some le same s front =
     }
 
 rows_moved : (p : ℕ) (a b : World) (blob blob' : ℕ) (old new : Blob) (n j : ℕ) (r : Range) → Wider a b → Agrees p old.updates new.updates n → j ≤ n
-    → origin b blob' j ≡ origin a blob j → node_in a blob j r ≡ Some (world_node p (extents old.updates) j r)
-    → node_in b blob' j r ≡ Some (world_node p (extents new.updates) j r)
+    → origin b blob' j ≡ origin a blob j → node_in a blob j r ≡ Some (node_of p (extents old.updates) j r)
+    → node_in b blob' j r ≡ Some (node_of p (extents new.updates) j r)
 rows_moved p a b blob blob' old new n j r wide agrees le same is =
-    let At : ℕ → Type 0 = λ o. node_at b.nodes (record { blob = o; version = j; range = r }) ≡ Some (world_node p (extents old.updates) j r) in
+    let At : ℕ → Type 0 = λ o. node_at b.nodes (record { blob = o; version = j; range = r }) ≡ Some (node_of p (extents old.updates) j r) in
     let some : Node → Option Node = λ x. Some x in
-    subst At (sym same) (wide.nodes (key_in a blob j r) (world_node p (extents old.updates) j r) is) ∙ ap some (sym (agrees.node j r le))
+    subst At (sym same) (wide.nodes (key_in a blob j r) (node_of p (extents old.updates) j r) is) ∙ ap some (sym (agrees.node j r le))
+
+folds_moved : (p : ℕ) (a b : World) (blob blob' : ℕ) (old new : Blob) (n j i : ℕ) → Wider a b → Agrees p old.updates new.updates n → j ≤ n
+    → origin b blob' j ≡ origin a blob j → fold_at a.folded (origin a blob j) j i ≡ Some (page_bytes p old.updates j i)
+    → fold_at b.folded (origin b blob' j) j i ≡ Some (page_bytes p new.updates j i)
+folds_moved p a b blob blob' old new n j i wide agrees le same is =
+    let At : ℕ → Type 0 = λ o. fold_at b.folded o j i ≡ Some (page_bytes p old.updates j i) in
+    let some : List ℕ → Option (List ℕ) = λ x. Some x in
+    subst At (sym same) (wide.folded (origin a blob j) j i (page_bytes p old.updates j i) is) ∙ ap some (sym (agrees.page j i le))
 
 -- a blob that a step leaves alone
 blob_kept : (p : ℕ) (a b : World) (blob : ℕ) (x : Blob) → Wider a b → ((j : ℕ) → origin b blob j ≡ origin a blob j) → BlobStands p a blob x → BlobStands p b blob x
@@ -138,11 +175,12 @@ blob_kept p a b blob x wide same s = record {
   own = λ j lt. same j ∙ s.own j lt;
   updates = λ j some le. update_moved p a b blob blob x x (assigned x) j wide (agree_same p x.updates (assigned x)) some le (same j) (s.updates j some le) (s.updates j some le).front;
   rows = λ j r fin has. rows_moved p a b blob blob x x j j r wide (agree_same p x.updates j) (omega arith) (same j) (s.rows j r fin has);
+  folds = λ j i fin has anew. folds_moved p a b blob blob x x j j i wide (agree_same p x.updates j) (omega arith) (same j) (s.folds j i fin has anew);
 }
 
 -- ---- a page
-wider_page : (p : ℕ) (w v : World) (page : ℕ) (bytes : List ℕ) → page_at w.pages page ≡ None → v.pages ≡ (page, bytes) ∷ w.pages → v.updates ≡ w.updates → v.nodes ≡ w.nodes → Wider w v
-wider_page p w v page bytes none e f g =
+wider_page : (p : ℕ) (w v : World) (page : ℕ) (bytes : List ℕ) → page_at w.pages page ≡ None → v.pages ≡ (page, bytes) ∷ w.pages → v.updates ≡ w.updates → v.nodes ≡ w.nodes → v.folded ≡ w.folded → Wider w v
+wider_page p w v page bytes none e f g h =
     let Q : List (ℕ × List ℕ) → Type 0 = λ l. KeepsPages w.pages l in
     let U : List (UpdateKey × UpdateEntry) → Type 0 = λ l. (blob version : ℕ) (kept : UpdateEntry) → kept_at w.updates blob version ≡ Some kept → kept_at l blob version ≡ Some kept in
     let N : List (NodeKey × Node) → Type 0 = λ l. (key : NodeKey) (n : Node) → node_at w.nodes key ≡ Some n → node_at l key ≡ Some n in
@@ -150,13 +188,15 @@ wider_page p w v page bytes none e f g =
       pages = subst Q (sym e) (λ n b is. entry_kept same_number w.pages page bytes n b (number_means page n) none is);
       updates = subst U (sym f) (λ blob version kept is. is);
       nodes = subst N (sym g) (λ key n is. is);
+      folded = (let F : List (FoldKey × List ℕ) → Type 0 = λ l. (blob version page : ℕ) (bytes : List ℕ) → fold_at w.folded blob version page ≡ Some bytes → fold_at l blob version page ≡ Some bytes in
+          subst F (sym h) (λ blob version page bytes is. is));
     }
 
 pub page_put : (p : ℕ) (w : World) (page : ℕ) (bytes : List ℕ) → Stands p w → page_at w.pages page ≡ None → 1 ≤ length bytes → length bytes ≤ p
     → Stands p (record w { pages = (page, bytes) ∷ w.pages })
 page_put p w page bytes s none some small =
     let v : World = record w { pages = (page, bytes) ∷ w.pages } in
-    let wide : Wider w v = wider_page p w v page bytes none refl refl refl in
+    let wide : Wider w v = wider_page p w v page bytes none refl refl refl refl in
     let on : Forward p w v = forward_same p w v (λ blob old e. e) in
     let P : List ℕ → Type 0 = λ l. (1 ≤ length l) × (length l ≤ p) in
     record {
@@ -165,17 +205,20 @@ page_put p w page bytes s none some small =
       known = λ blob version kept is. s.known blob version kept is;
       blobs = λ blob b is. blob_kept p w v blob b wide (λ j. refl) (s.blobs blob b is);
       nodes = λ key n is. row_moved p w v key n on (s.nodes key n is);
+      folds = λ blob version fold bytes is. fold_moved p w v blob version fold bytes on (s.folds blob version fold bytes is);
+      anew = λ key n is. there_moved p w v key n on wide (s.nodes key n is) (s.anew key n is);
     }
 
 -- ---- a node
-pub put_node : (p : ℕ) (w : World) (key : NodeKey) (n : Node) → Stands p w → node_at w.nodes key ≡ None → IsRowNode p w key n
+pub put_node : (p : ℕ) (w : World) (key : NodeKey) (n : Node) → Stands p w → node_at w.nodes key ≡ None → IsRowNode p w key n → FoldIsThere p w key
     → Stands p (record w { nodes = (key, n) ∷ w.nodes })
-put_node p w key n s none row =
+put_node p w key n s none row fresh =
     let v : World = record w { nodes = (key, n) ∷ w.nodes } in
     let wide : Wider w v = record {
       pages = λ m b is. is;
       updates = λ blob version kept is. is;
       nodes = λ k m is. entry_kept same_key w.nodes key n k m (key_means key k) none is;
+      folded = λ blob version page bytes is. is;
     } in
     let on : Forward p w v = forward_same p w v (λ blob old e. e) in
     let K : NodeKey → Type 0 = λ k. IsRowNode p w k n in
@@ -189,6 +232,42 @@ put_node p w key n s none row =
             | inl new ↦ (let N : Node → Type 0 = λ x. IsRowNode p w k x in row_moved p w v k m on (subst N new.1 (subst K new.0 row)))
             | inr old ↦ row_moved p w v k m on (s.nodes k m old)
           ];
+      folds = λ blob version fold bytes is. fold_moved p w v blob version fold bytes on (s.folds blob version fold bytes is);
+      anew = λ k m is.
+          elim (entry_old same_key w.nodes key n k m (key_means key k) is) [
+            | inl new ↦ (let T : NodeKey → Type 0 = λ x. FoldIsThere p w x in there_moved p w v k n on wide (subst K new.0 row) (subst T new.0 fresh))
+            | inr old ↦ there_moved p w v k m on wide (s.nodes k m old) (s.anew k m old)
+          ];
+    }
+
+-- ---- a page that is stored anew
+pub put_fold : (p : ℕ) (w : World) (blob version page : ℕ) (bytes : List ℕ) → Stands p w → fold_at w.folded blob version page ≡ None → IsFoldPage p w blob version page bytes
+    → Stands p (record w { folded = (record { blob = blob; version = version; page = page }, bytes) ∷ w.folded })
+put_fold p w blob version page bytes s none x =
+    let key : FoldKey = record { blob = blob; version = version; page = page } in
+    let v : World = record w { folded = (key, bytes) ∷ w.folded } in
+    let wide : Wider w v = record {
+      pages = λ m b is. is;
+      updates = λ id ver kept is. is;
+      nodes = λ k m is. is;
+      folded = λ id ver i b is. entry_kept same_fold w.folded key bytes (record { blob = id; version = ver; page = i }) b (fold_means key (record { blob = id; version = ver; page = i })) none is;
+    } in
+    let on : Forward p w v = forward_same p w v (λ id old e. e) in
+    record {
+      lineage = s.lineage;
+      pages = s.pages;
+      known = λ id ver kept is. s.known id ver kept is;
+      blobs = λ id b is. blob_kept p w v id b wide (λ j. refl) (s.blobs id b is);
+      nodes = λ k m is. row_moved p w v k m on (s.nodes k m is);
+      folds = λ id ver i b is.
+          elim (entry_old same_fold w.folded key bytes (record { blob = id; version = ver; page = i }) b (fold_means key (record { blob = id; version = ver; page = i })) is) [
+            | inl new ↦
+                (let K : FoldKey → Type 0 = λ k. IsFoldPage p v k.blob k.version k.page bytes in
+                let B : List ℕ → Type 0 = λ l. IsFoldPage p v id ver i l in
+                subst B new.1 (subst K new.0 (fold_moved p w v blob version page bytes on x)))
+            | inr old ↦ fold_moved p w v id ver i b on (s.folds id ver i b old)
+          ];
+      anew = λ k m is. there_moved p w v k m on wide (s.nodes k m is) (s.anew k m is);
     }
 
 pub rows_known : (p : ℕ) (w : World) (blob : ℕ) (b : Blob) (n : ℕ) → BlobStands p w blob b → n ≤ published b → RowsKnown p w blob b.updates n
@@ -201,13 +280,14 @@ in_bounds c us ok = (c.stand us ok).0
 pub with_node_is : (p : ℕ) (w : World) (key : NodeKey) (b : Blob) (kept : UpdateEntry) → blob_at w.store key.blob ≡ Some b → kept_at w.updates key.blob key.version ≡ Some kept
     → (o : Option Node) → node_at w.nodes key ≡ o
     → (with_node p w key ≡ w.nodes) ⊎ ((node_at w.nodes key ≡ None) × (with_node p w key ≡ (key, woven p w key.blob b kept key.version key.range) ∷ w.nodes))
-with_node_is p w key b kept there has (Some n) e = inl (rw (e, with_node) refl)
-with_node_is p w key b kept there has None e = inr (e, rw (e, there, has, with_node) refl)
+with_node_is p w key b kept there has (Some n) e = inl (rw (e, with_node_by) refl)
+with_node_is p w key b kept there has None e = inr (e, rw (e, there, has, with_node_by) refl)
 
 pub node_put : (c : Cited) (p : ℕ) (w : World) (key : NodeKey) (b : Blob) → 1 ≤ p → Stands p w → IsNumberedIn w key.blob key.version b
     → HasNode p (log_of p b.updates) key.version key.range
+    → ((page : ℕ) → key.range ≡ page_range p page → IsFolded p w key.blob key.version b page → IsKnown (fold_at w.folded key.blob key.version page))
     → Stands p (record w { nodes = with_node p w key })
-node_put c p w key b pos s numbered has =
+node_put c p w key b pos s numbered has folded =
     let blob_s : BlobStands p w key.blob b = s.blobs key.blob b numbered.there in
     let u : UpdateStands p w key.blob b key.version = blob_s.updates key.version numbered.some numbered.upto in
     let At : ℕ → Type 0 = λ o. kept_at w.updates o key.version ≡ Some u.kept in
@@ -224,15 +304,27 @@ node_put c p w key b pos s numbered has =
             has = has;
             is = woven_is c p w key.blob b u.kept key.version key.range pos (in_bounds c b.updates blob_s.replay) (rows_known p w key.blob b u.kept.published blob_s u.front)
                 u.before u.waiting numbered.upto has.aligned;
-          }))
+          })
+          (λ x at i same anew.
+          (let eq : x ≡ b = one_value (blob_at w.store key.blob) x b at numbered.there in
+          let M : Range → Type 0 = λ r. Meets p (touch_at (log_of p b.updates) key.version) r in
+          folded i same (record {
+            kept = u.kept;
+            there = there;
+            met = subst M same has.met;
+            anew = woven_folded_is c p w key.blob b u.kept key.version pos (in_bounds c b.updates blob_s.replay) (rows_known p w key.blob b u.kept.published blob_s u.front)
+                u.before u.waiting numbered.upto i
+                ∙ sym (ap (λ (y : Blob). folded_of p (extents y.updates) key.version i) eq)
+                ∙ anew;
+          }))))
     ]
 
 -- ---- a change of one blob
-pub blob_set : (p : ℕ) (w v : World) (blob : ℕ) (before new : Blob) → Stands p w → Wider w v → v.lineage ≡ w.lineage → v.pages ≡ w.pages → v.nodes ≡ w.nodes
+pub blob_set : (p : ℕ) (w v : World) (blob : ℕ) (before new : Blob) → Stands p w → Wider w v → v.lineage ≡ w.lineage → v.pages ≡ w.pages → v.nodes ≡ w.nodes → v.folded ≡ w.folded
     → blob_at w.store blob ≡ Some before → v.store ≡ with_blob w.store blob new → Agrees p before.updates new.updates (assigned before) → assigned before ≤ assigned new
     → ((id version : ℕ) (kept : UpdateEntry) → kept_at v.updates id version ≡ Some kept → IsOfBlob v id version ⊎ (kept_at w.updates id version ≡ Some kept))
     → BlobStands p v blob new → Stands p v
-blob_set p w v blob before new s wide lin pages nodes is store agrees more known stands =
+blob_set p w v blob before new s wide lin pages nodes folded is store agrees more known stands =
     let B : Store → ℕ → Blob → Type 0 = λ t id b. blob_at t id ≡ Some b in
     let out : (id : ℕ) (b : Blob) → blob_at v.store id ≡ Some b → blob_at (with_blob w.store blob new) id ≡ Some b = λ id b e.
     (let P : Store → Type 0 = λ t. B t id b in subst P store e) in
@@ -266,10 +358,14 @@ blob_set p w v blob before new s wide lin pages nodes is store agrees more known
             | inr old ↦ blob_kept p w v id b wide (λ j. O id j) (s.blobs id b old)
           ];
       nodes = subst N (sym nodes) (λ key n e. row_moved p w v key n on (s.nodes key n e));
+      folds = (let F : List (FoldKey × List ℕ) → Type 0 = λ l. (id version page : ℕ) (bytes : List ℕ) → fold_at l id version page ≡ Some bytes → IsFoldPage p v id version page bytes in
+          subst F (sym folded) (λ id version page bytes e. fold_moved p w v id version page bytes on (s.folds id version page bytes e)));
+      anew = (let T : List (NodeKey × Node) → Type 0 = λ l. (key : NodeKey) (n : Node) → node_at l key ≡ Some n → FoldIsThere p v key in
+          subst T (sym nodes) (λ key n e. there_moved p w v key n on wide (s.nodes key n e) (s.anew key n e)));
     }
 
-wider_same : (w v : World) → v.pages ≡ w.pages → v.updates ≡ w.updates → v.nodes ≡ w.nodes → Wider w v
-wider_same w v e f g =
+wider_same : (w v : World) → v.pages ≡ w.pages → v.updates ≡ w.updates → v.nodes ≡ w.nodes → v.folded ≡ w.folded → Wider w v
+wider_same w v e f g h =
     let Q : List (ℕ × List ℕ) → Type 0 = λ l. KeepsPages w.pages l in
     let U : List (UpdateKey × UpdateEntry) → Type 0 = λ l. (blob version : ℕ) (kept : UpdateEntry) → kept_at w.updates blob version ≡ Some kept → kept_at l blob version ≡ Some kept in
     let N : List (NodeKey × Node) → Type 0 = λ l. (key : NodeKey) (n : Node) → node_at w.nodes key ≡ Some n → node_at l key ≡ Some n in
@@ -277,6 +373,8 @@ wider_same w v e f g =
       pages = subst Q (sym e) (λ n b is. is);
       updates = subst U (sym f) (λ blob version kept is. is);
       nodes = subst N (sym g) (λ key n is. is);
+      folded = (let F : List (FoldKey × List ℕ) → Type 0 = λ l. (blob version page : ℕ) (bytes : List ℕ) → fold_at w.folded blob version page ≡ Some bytes → fold_at l blob version page ≡ Some bytes in
+          subst F (sym h) (λ blob version page bytes is. is));
     }
 
 -- ---- a finish
@@ -286,18 +384,29 @@ pub finished : (c : Cited) (p : ℕ) (w : World) (t : Store) (blob version : ℕ
 finished c p w t blob version b pos s numbered row store =
     let v : World = record w { store = t } in
     let old : BlobStands p w blob b = s.blobs blob b numbered.there in
-    let wide : Wider w v = wider_same w v refl refl refl in
+    let wide : Wider w v = wider_same w v refl refl refl refl in
     let ok : InBounds (extents b.updates) = in_bounds c b.updates old.replay in
     let grown : published b ≤ published (finish b version) = prefix_set b.finished (version - 1) in
-    let here : (r : Range) → HasNode p (log_of p b.updates) version r → node_in v blob version r ≡ Some (world_node p (extents b.updates) version r) = λ r has.
+    let here : (r : Range) → HasNode p (log_of p b.updates) version r → node_in v blob version r ≡ Some (node_of p (extents b.updates) version r) = λ r has.
     (let in_list : version ≤ length (extents b.updates) = omega (arith, numbered.upto, (c.stand b.updates old.replay).1) in
     let (n, is) = row r ((c.exact p version (extents b.updates) r pos ok numbered.some in_list).1 has) in
     let r' : IsRowNode p w (record { blob = blob; version = version; range = r }) n = s.nodes (record { blob = blob; version = version; range = r }) n is in
     let same : r'.b ≡ b = one_value (blob_at w.store blob) r'.b b r'.there numbered.there in
     let some : Node → Option Node = λ x. Some x in
-    let At : ℕ → Type 0 = λ o. node_at w.nodes (record { blob = o; version = version; range = r }) ≡ Some (world_node p (extents b.updates) version r) in
-    subst At (sym numbered.own) (is ∙ ap some (r'.is ∙ ap (λ (x : Blob). world_node p (extents x.updates) version r) same))) in
-    blob_set p w v blob b (finish b version) s wide refl refl refl numbered.there store (agree_same p b.updates (assigned b)) (omega arith) (λ id ver kept e. inr e)
+    let At : ℕ → Type 0 = λ o. node_at w.nodes (record { blob = o; version = version; range = r }) ≡ Some (node_of p (extents b.updates) version r) in
+    subst At (sym numbered.own) (is ∙ ap some (r'.is ∙ ap (λ (x : Blob). node_of p (extents x.updates) version r) same))) in
+    let fold_here : (i : ℕ) → HasNode p (log_of p b.updates) version (page_range p i) → folded_of p (extents b.updates) version i ≡ true
+    → fold_at v.folded (origin v blob version) version i ≡ Some (page_bytes p b.updates version i) = λ i has anew.
+    (let r : Range = page_range p i in
+    let in_list : version ≤ length (extents b.updates) = omega (arith, numbered.upto, (c.stand b.updates old.replay).1) in
+    let (n, is) = row r ((c.exact p version (extents b.updates) r pos ok numbered.some in_list).1 has) in
+    let (bytes, e) = s.anew (record { blob = blob; version = version; range = r }) n is b numbered.there i refl anew in
+    let x : IsFoldPage p w blob version i bytes = s.folds blob version i bytes e in
+    let same : x.b ≡ b = one_value (blob_at w.store blob) x.b b x.there numbered.there in
+    let some : List ℕ → Option (List ℕ) = λ l. Some l in
+    let At : ℕ → Type 0 = λ o. fold_at w.folded o version i ≡ Some (page_bytes p b.updates version i) in
+    subst At (sym numbered.own) (e ∙ ap some (x.is ∙ ap (λ (y : Blob). page_bytes p y.updates version i) same))) in
+    blob_set p w v blob b (finish b version) s wide refl refl refl refl numbered.there store (agree_same p b.updates (assigned b)) (omega arith) (λ id ver kept e. inr e)
     (record {
       replay = old.replay;
       marks = length-set b.finished (version - 1) true ∙ old.marks;
@@ -307,9 +416,17 @@ finished c p w t blob version b pos s numbered row store =
       rows = λ j r fin has.
           elim (finished_set b version j numbered.some fin) [
             | inl same ↦
-                (let P : ℕ → Type 0 = λ i. HasNode p (log_of p b.updates) i r → node_in v blob i r ≡ Some (world_node p (extents b.updates) i r) in
+                (let P : ℕ → Type 0 = λ i. HasNode p (log_of p b.updates) i r → node_in v blob i r ≡ Some (node_of p (extents b.updates) i r) in
                 subst P (sym same) (here r) has)
             | inr was ↦ old.rows j r was has
+          ];
+      folds = λ j i fin has anew.
+          elim (finished_set b version j numbered.some fin) [
+            | inl same ↦
+                (let P : ℕ → Type 0 = λ k. HasNode p (log_of p b.updates) k (page_range p i) → folded_of p (extents b.updates) k i ≡ true
+                → fold_at v.folded (origin v blob k) k i ≡ Some (page_bytes p b.updates k i) in
+                (subst P (sym same) (fold_here i)) has anew)
+            | inr was ↦ old.folds j i was has anew
           ];
     })
 
@@ -354,6 +471,7 @@ numbered c p w t blob b u pages s is cut bytes some fits store =
       pages = λ m x e. e;
       updates = λ id version k e. entry_kept same_update w.updates key kept (record { blob = id; version = version }) k (update_means key (record { blob = id; version = version })) free e;
       nodes = λ k m e. e;
+      folded = λ id version page x e. e;
     } in
     let agrees : Agrees p b.updates new.updates n = agree_more c p b.updates (u ∷ []) in
     let count : assigned new ≡ n + 1 = length-append b.updates (u ∷ []) in
@@ -380,7 +498,7 @@ numbered c p w t blob b u pages s is cut bytes some fits store =
     })) in
     let W : List (UpdateKey × UpdateEntry) → Type 0 = λ l. Stands p (record w { store = t; updates = l }) in
     subst W (sym (with_update_is p w blob pages b is))
-    (blob_set p w v blob b new s wide refl refl refl is store agrees (omega arith)
+    (blob_set p w v blob b new s wide refl refl refl refl is store agrees (omega arith)
     (λ id version k e.
     elim (entry_old same_update w.updates key kept (record { blob = id; version = version }) k (update_means key (record { blob = id; version = version })) e) [
       | inl eq ↦
@@ -403,6 +521,13 @@ numbered c p w t blob b u pages s is cut bytes some fits store =
                 (let unmarked : is_finished b j ≡ true = finished_next b u j fin in absurd (not_marked b j old.marks (omega arith) unmarked))
             | inr before ↦ rows_moved p w v blob blob b new n j r wide agrees before refl (old.rows j r (finished_next b u j fin) (agrees.back j r before has))
           ];
+      folds = λ j i fin has anew.
+          elim (cases_lt n j) [
+            | inl after ↦
+                (let unmarked : is_finished b j ≡ true = finished_next b u j fin in absurd (not_marked b j old.marks (omega arith) unmarked))
+            | inr before ↦ folds_moved p w v blob blob b new n j i wide agrees before refl
+                (old.folds j i (finished_next b u j fin) (agrees.back j (page_range p i) before has) (sym (agrees.anew j i before) ∙ anew))
+          ];
     }))
 
 -- ---- a new blob
@@ -411,7 +536,7 @@ pub blob_added : (p : ℕ) (w : World) (t : Store) (parent : Option Parent) (new
     → Stands p (record w { store = t; lineage = parent ∷ w.lineage })
 blob_added p w t parent new s store stands =
     let v : World = record w { store = t; lineage = parent ∷ w.lineage } in
-    let wide : Wider w v = wider_same w v refl refl refl in
+    let wide : Wider w v = wider_same w v refl refl refl refl in
     let out : (id : ℕ) (b : Blob) → blob_at t id ≡ Some b → blob_at (and_blob w.store new) id ≡ Some b = λ id b e. (let P : Store → Type 0 = λ x. blob_at x id ≡ Some b in subst P store e) in
     let back : (id : ℕ) (b : Blob) → blob_at (and_blob w.store new) id ≡ Some b → blob_at t id ≡ Some b = λ id b e. (let P : Store → Type 0 = λ x. blob_at x id ≡ Some b in subst P (sym store) e) in
     let on : Forward p w v = forward_same p w v (λ id old e. back id old (more_kept w.store new id old e)) in
@@ -430,6 +555,8 @@ blob_added p w t parent new s store stands =
             | inr old ↦ blob_kept p w v id b wide (λ j. origin_older parent w.lineage id j (omega (arith, s.lineage, (blob_some w.store id b old).1))) (s.blobs id b old)
           ];
       nodes = λ key n e. row_moved p w v key n on (s.nodes key n e);
+      folds = λ id version page bytes e. fold_moved p w v id version page bytes on (s.folds id version page bytes e);
+      anew = λ key n e. there_moved p w v key n on wide (s.nodes key n e) (s.anew key n e);
     }
 
 pub created : (p : ℕ) (w : World) (t : Store) → Stands p w → t ≡ and_blob w.store (record { updates = []; finished = [] })
@@ -442,6 +569,7 @@ created p w t s store =
       own = λ j lt. origin_past w.lineage (suc (length w.lineage)) j (omega arith);
       updates = λ j some le. absurd (omega arith);
       rows = λ j r fin has. absurd (omega (arith, has.version.0, has.version.1, length_log p []));
+      folds = λ j i fin has anew. absurd (omega (arith, has.version.0, has.version.1, length_log p []));
     })
 
 pub branched : (c : Cited) (p : ℕ) (w : World) (t : Store) (blob version : ℕ) (b : Blob) → Stands p w → blob_at w.store blob ≡ Some b → version ≤ published b
@@ -450,7 +578,7 @@ pub branched : (c : Cited) (p : ℕ) (w : World) (t : Store) (blob version : ℕ
 branched c p w t blob version b s is le store =
     let q : Parent = record { blob = blob; version = version } in
     let v : World = record w { store = t; lineage = Some q ∷ w.lineage } in
-    let wide : Wider w v = wider_same w v refl refl refl in
+    let wide : Wider w v = wider_same w v refl refl refl refl in
     let old : BlobStands p w blob b = s.blobs blob b is in
     let within : version ≤ length b.updates = omega (arith, published_within p w blob b old) in
     let new : Blob = branch_of b version in
@@ -472,6 +600,10 @@ branched c p w t blob version b s is le store =
       rows = λ j r fin has.
           (let upto : j ≤ version = omega (arith, has.version.1, length_log p new.updates, count) in
           rows_moved p w v blob id b new version j r wide agrees upto (same j upto) (old.rows j r (published_finished b j (omega arith)) (agrees.back j r upto has)));
+      folds = λ j i fin has anew.
+          (let upto : j ≤ version = omega (arith, has.version.1, length_log p new.updates, count) in
+          folds_moved p w v blob id b new version j i wide agrees upto (same j upto)
+          (old.folds j i (published_finished b j (omega arith)) (agrees.back j (page_range p i) upto has) (sym (agrees.anew j i upto) ∙ anew)));
     })
 
 -- ---- the empty world
@@ -486,4 +618,6 @@ empty_stands p limits = record {
   known = λ blob version kept e. absurd (none_some None kept refl e);
   blobs = λ blob b e. absurd (none_only (blob == 0) b e);
   nodes = λ key n e. absurd (none_some None n refl e);
+  folds = λ blob version page bytes e. absurd (none_some None bytes refl e);
+  anew = λ key n e. absurd (none_some None n refl e);
 }

@@ -7,6 +7,7 @@ mod Keeping
 mod Running
 mod Reaching
 mod Reading
+mod Folding
 mod Promising
 mod Needed
 mod Worked

@@ -7,7 +7,8 @@ use Rattle.std.proofs.Math.Seq.{take-append_seam, drop-append-add}
 use Rattle.std.proofs.Math.ListN.{drop_of_length-le}
 use Rattle.blob_model.specs.Store.{true_prefix}
 use Rattle.tree_geom.specs.declared.node.NodeKey.{NodeKey}
-use Rattle.blob_core.specs.World.{IsKnown, entry_at, same_number, same_update, same_key, page_at, bytes_of_page, bytes_of_pages, nth_page, AreCut}
+use Rattle.blob_core.specs.World.{IsKnown, entry_at, same_number, same_update, same_key, page_at, bytes_of_page, bytes_of_pages, nth_page, AreCut, same_fold}
+use Rattle.blob_core.specs.declared.world.FoldKey.{FoldKey}
 use Rattle.blob_core.specs.declared.world.UpdateKey.{UpdateKey}
 
 -- ---- tests
@@ -53,6 +54,17 @@ key_means a b e =
     ∙ ap (λ (n : ℕ). node_key b.blob n a.range.offset a.range.size) (number_is a.version b.version f.1)
     ∙ ap (λ (n : ℕ). node_key b.blob b.version n a.range.size) (number_is a.range.offset b.range.offset c.1)
     ∙ ap (λ (n : ℕ). node_key b.blob b.version b.range.offset n) (number_is a.range.size b.range.size d.1)
+
+abbrev fold_key : ℕ → ℕ → ℕ → FoldKey
+fold_key blob version page = record { blob = blob; version = version; page = page }
+
+pub fold_means : (a b : FoldKey) → same_fold a b ≡ true → a ≡ b
+fold_means a b e =
+    let d = and_both (a.blob == b.blob && a.version == b.version) (a.page == b.page) e in
+    let c = and_both (a.blob == b.blob) (a.version == b.version) d.0 in
+    ap (λ (n : ℕ). fold_key n a.version a.page) (number_is a.blob b.blob c.0)
+    ∙ ap (λ (n : ℕ). fold_key b.blob n a.page) (number_is a.version b.version c.1)
+    ∙ ap (λ (n : ℕ). fold_key b.blob b.version n) (number_is a.page b.page d.1)
 
 -- ---- entries
 kept_case : {K V : Type 0} (same : K → K → Bool) (es : List (K × V)) (k : K) (x : V) (q : K) (v : V) → (same k q ≡ true → k ≡ q) → entry_at same es k ≡ None

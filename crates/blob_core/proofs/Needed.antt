@@ -1,21 +1,24 @@
 -- What each condition of a step is for: without it a promise is false. Computed from the definitions alone, which also say what
 -- a step leaves that isn't allowed.
-use Rattle.std.specs.Prelude.{◌≡◌, true, List, [], ◌∷◌, ◌++◌, Some, None, refl, take}
+use Rattle.std.specs.Prelude.{◌≡◌, ℕ, map, true, List, [], ◌∷◌, ◌++◌, Some, None, refl, take}
 use Rattle.blob_model.specs.Content.{content}
 use Rattle.blob_model.specs.Store.{blob_at, is_finished}
 use Rattle.blob_model.specs.declared.call.Place.TheVariants.{Append}
 use Rattle.tree_geom.specs.declared.node.Node.TheVariants.{Inner}
+use Rattle.tree_geom.specs.declared.node.Piece.{Piece}
 use Rattle.tree_geom.specs.Geometry.{height_of, doublings, span_of}
 use Rattle.range_log.specs.Log.{newest_of}
 use Rattle.range_log.specs.Extents.{touches}
-use Rattle.range_log.specs.Updates.{extents}
-use Rattle.range_log.specs.Rows.{row_keys_of, levels_of, level_of, back_of}
-use Rattle.blob_core.specs.World.{World, UpdateEntry, node_at, node_in, log_of, world_node}
+use Rattle.range_log.specs.Updates.{extents, page_bytes}
+use Rattle.range_log.specs.Rows.{row_keys_of, levels_of, level_of, back_by, folds_by, node_of}
+use Rattle.range_log.specs.Depths.{depth_by}
+use Rattle.range_log.specs.Laws.{FoldNumberIs}
+use Rattle.blob_core.specs.World.{World, UpdateEntry, fold_at, node_at, node_in, log_of}
 use Rattle.blob_core.specs.Woven.{followed, found_in, woven}
-use Rattle.blob_core.specs.Walk.{leaf_walk, tree_walk_from, read_walk}
+use Rattle.blob_core.specs.Walk.{Walked, bytes_of_piece, leaf_walk, tree_walk_from, read_walk}
 use Rattle.blob_core.specs.declared.step.Step.{Step}
 use Rattle.blob_core.specs.declared.step.Step.TheVariants as Moves
-use Rattle.blob_core.proofs.Example.{world_of, range_at, key, one_piece, blob_or, the_blob, two_appends}
+use Rattle.blob_core.proofs.Example.{both, world_by, world_of, range_at, key, one_piece, one_deep, blob_or, the_blob, two_appends}
 
 -- ---- a finish, though the row isn't there
 abbrev finished_bare : World
@@ -50,13 +53,43 @@ stray_is_in_no_row = refl
 abbrev no_hints : UpdateEntry
 no_hints = record { pages = 2 ∷ []; published = 0; waiting = [] }
 
-woven_without_hints : woven 4 (world_of two_appends) 1 (the_blob (world_of two_appends)) no_hints 2 (range_at 0 4) ≡ one_piece 1 1 0
+woven_without_hints : FoldNumberIs → woven 4 (world_of two_appends) 1 (the_blob (world_of two_appends)) no_hints 2 (range_at 0 4) ≡ one_piece 1 1 1 0
 unfolding touches extents newest_of found_in followed span_of height_of doublings
-woven_without_hints = refl
+woven_without_hints either = rw (one_deep either) refl
 
-row_node_of_it : world_node 4 (extents (the_blob (world_of two_appends)).updates) 2 (range_at 0 4) ≡ one_piece 1 1 1
-unfolding touches extents newest_of back_of
-row_node_of_it = refl
+row_node_of_it : FoldNumberIs → node_of 4 (extents (the_blob (world_of two_appends)).updates) 2 (range_at 0 4) ≡ one_piece 1 1 1 1
+unfolding touches extents newest_of back_by folds_by depth_by
+row_node_of_it either = rw (one_deep either) refl
+
+-- ---- a page stored anew before the version before is published: that version's leaf isn't there
+abbrev early_fold : World
+early_fold = world_of (two_appends ++ Moves.FoldPut 1 2 0 ∷ [])
+
+early_page : page_bytes 4 (the_blob early_fold).updates 2 0 ≡ 170 ∷ 187 ∷ []
+early_page = refl
+
+early_bytes : fold_at early_fold.folded 1 2 0 ≡ Some (187 ∷ [])
+unfolding touches extents newest_of found_in followed span_of height_of doublings leaf_walk tree_walk_from
+early_bytes = refl
+
+-- once it is published, the page's bytes are stored
+abbrev fold_in_time : World
+fold_in_time = world_of (two_appends ++ Moves.NodePut (key 1 1 0 4) ∷ Moves.Finish 1 1 1 ∷ Moves.FoldPut 1 2 0 ∷ [])
+
+bytes_in_time : fold_at fold_in_time.folded 1 2 0 ≡ Some (170 ∷ 187 ∷ [])
+unfolding touches extents newest_of found_in followed span_of height_of doublings leaf_walk tree_walk_from
+bytes_in_time = refl
+
+-- ---- a leaf that stores its page anew, without the page
+abbrev whole_piece : Piece
+whole_piece = record { page = 1; from = 0; len = 2 }
+
+without_page : bytes_of_piece (world_of two_appends) 1 2 0 (2 ∷ []) whole_piece ≡ []
+without_page = refl
+
+with_page : bytes_of_piece fold_in_time 1 2 0 (2 ∷ []) whole_piece ≡ 170 ∷ 187 ∷ []
+unfolding touches extents newest_of found_in followed span_of height_of doublings leaf_walk tree_walk_from
+with_page = refl
 
 -- ---- a page put twice
 abbrev one_append : List Step
@@ -116,8 +149,8 @@ unfolding touches extents newest_of found_in followed span_of height_of doubling
 early_read = refl
 
 -- ---- a branch taken at 1 while another update waits: each blob has its own second version
-abbrev branched : World
-branched = world_of
+abbrev branched : ℕ → World
+branched fold = world_by fold
     (Moves.Create 1 ∷ Moves.PagePut 1 (97 ∷ 98 ∷ 99 ∷ 100 ∷ []) ∷ Moves.PagePut 2 (101 ∷ 102 ∷ []) ∷ Moves.Assign 1 1 Append (1 ∷ 2 ∷ [])
     ∷ Moves.NodePut (key 1 1 0 8) ∷ Moves.NodePut (key 1 1 0 4) ∷ Moves.NodePut (key 1 1 4 4) ∷ Moves.Finish 1 1 1
     ∷ Moves.PagePut 3 (88 ∷ 89 ∷ []) ∷ Moves.Assign 1 1 Append (3 ∷ [])
@@ -125,10 +158,19 @@ branched = world_of
     ∷ Moves.NodePut (key 2 2 0 8) ∷ Moves.NodePut (key 2 2 4 4) ∷ Moves.Finish 1 2 2
     ∷ Moves.NodePut (key 1 2 4 4) ∷ Moves.NodePut (key 1 2 0 8) ∷ Moves.Finish 1 1 2 ∷ [])
 
-parent_read : read_walk 4 branched 1 (blob_or (blob_at branched.store 1)) 2 0 8 ≡ record { bytes = 97 ∷ 98 ∷ 99 ∷ 100 ∷ 101 ∷ 102 ∷ 88 ∷ 89 ∷ []; nodes = 4 }
+abbrev read_in : ℕ → ℕ → ℕ → Walked
+read_in fold blob count = read_walk 4 (branched fold) blob (blob_or (blob_at (branched fold).store blob)) 2 0 count
+
+abbrev parent_has : Walked
+parent_has = record { bytes = 97 ∷ 98 ∷ 99 ∷ 100 ∷ 101 ∷ 102 ∷ 88 ∷ 89 ∷ []; nodes = 4 }
+
+parent_read : map (λ fold. read_in fold 1 8) both ≡ parent_has ∷ parent_has ∷ []
 unfolding touches extents newest_of found_in followed span_of height_of doublings leaf_walk tree_walk_from read_walk
 parent_read = refl
 
-branch_read : read_walk 4 branched 2 (blob_or (blob_at branched.store 2)) 2 0 7 ≡ record { bytes = 97 ∷ 98 ∷ 99 ∷ 100 ∷ 101 ∷ 102 ∷ 90 ∷ []; nodes = 4 }
+abbrev branch_has : Walked
+branch_has = record { bytes = 97 ∷ 98 ∷ 99 ∷ 100 ∷ 101 ∷ 102 ∷ 90 ∷ []; nodes = 4 }
+
+branch_read : map (λ fold. read_in fold 2 7) both ≡ branch_has ∷ branch_has ∷ []
 unfolding touches extents newest_of found_in followed span_of height_of doublings leaf_walk tree_walk_from read_walk
 branch_read = refl

@@ -11,7 +11,8 @@ use Rattle.range_log.specs.Updates.{extents}
 use Rattle.range_log.specs.Visits.{visits}
 use Rattle.tree_walk.specs.Walk.{root_of}
 use Rattle.range_log.proofs.Bytes.{length-extents}
-use Rattle.blob_core.specs.World.{World, empty_world, key_in, log_of, world_node}
+use Rattle.range_log.specs.Rows.{node_of}
+use Rattle.blob_core.specs.World.{World, empty_world, key_in, log_of}
 use Rattle.blob_core.specs.Steps.{world_after}
 use Rattle.blob_core.specs.Walk.{read_walk}
 use Rattle.blob_core.specs.Promises.{FinishedRowsAreThere, FoundIsNewest, ReachedIsThere, ReadsAreContent, StepsHold, IsRowNode}
@@ -30,7 +31,7 @@ rows_there c p w pos s blob version b r there some upto fin has =
     let ok : InBounds (extents b.updates) = in_bounds c b.updates bs.replay in
     let in_list : version ≤ length (extents b.updates) = omega (arith, length-extents b.updates) in
     let node : HasNode p (log_of p b.updates) version r = (c.exact p version (extents b.updates) r pos ok some in_list).0 has in
-    (world_node p (extents b.updates) version r, bs.rows version r fin node)
+    (node_of p (extents b.updates) version r, bs.rows version r fin node)
 
 found_there : (c : Cited) (p : ℕ) (w : World) → 1 ≤ p → Stands p w → FoundIsNewest p w
 found_there c p w pos s blob version b r there upto aligned =
@@ -77,6 +78,7 @@ steps_hold c p limits steps pos ok =
       legal = legal_after c p empty steps pos (empty_stands p limits) ok;
       store = store_after p empty steps;
       nodes = s.nodes;
+      folds = s.folds;
       rows = rows_there c p w pos s;
       found = found_there c p w pos s;
       reached = reached_there c p w pos s;

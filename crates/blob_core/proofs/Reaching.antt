@@ -5,14 +5,15 @@ use Rattle.std.proofs.lemmas.Bool.{cases_lt}
 use Rattle.blob_model.specs.Content.{Update}
 use Rattle.tree_geom.specs.declared.range.Range.{Range}
 use Rattle.tree_geom.specs.declared.node.Node.{Node}
-use Rattle.tree_geom.specs.declared.node.Node.TheVariants.{Inner, Leaf}
-use Rattle.tree_geom.specs.Nodes.{left_link, right_link, back_link, with_depth}
+use Rattle.tree_geom.specs.Nodes.{left_link, right_link, back_link}
+use Rattle.range_log.proofs.Links.{back_cases}
+use Rattle.range_log.proofs.Nodes.{leaf_cases}
 use Rattle.tree_geom.specs.Geometry.{left_half, right_half, page_range}
-use Rattle.range_log.specs.Log.{newest_of, HasNode}
+use Rattle.range_log.specs.Log.{HasNode}
 use Rattle.range_log.specs.Extents.{Extent, touches}
 use Rattle.range_log.specs.Updates.{extents, Replayable}
-use Rattle.range_log.specs.Rows.{node_of, leaf_of, inner_of, back_of, covered}
-use Rattle.blob_core.specs.World.{World, IsKnown, node_in, log_of, world_node}
+use Rattle.range_log.specs.Rows.{node_of, leaf_of, inner_of, back_of}
+use Rattle.blob_core.specs.World.{World, IsKnown, node_in, log_of}
 use Rattle.blob_core.specs.Walk.{Way, to_left, to_right, to_back, version_on, range_on, VersionedRange, reached}
 use Rattle.blob_core.proofs.Growing.{Cited}
 use Rattle.blob_core.proofs.Finding.{RowsKnown}
@@ -22,16 +23,17 @@ record LinksBelow (n : Node) (j : ℕ) : Type 0 where
   right : right_link n ≤ j
   back : back_link n ≤ j
 
-back_below : (c : Cited) (p : ℕ) (us : List Extent) (j i : ℕ) (t : Bool) → (if t then 0 else newest_of p (touches p us) (j - 1) (page_range p i)) ≤ j
-back_below c p us j i true = omega arith
-back_below c p us j i false = omega (arith, (c.greatest p (j - 1) (touches p us) (page_range p i)).0.upto)
-
 back_of_below : (c : Cited) (p : ℕ) (us : List Extent) (j i : ℕ) → back_of p us j i ≤ j
-unfolding back_of
-back_of_below c p us j i = back_below c p us j i (covered p us j i)
+back_of_below c p us j i = elim (back_cases p us j i) [
+  | inl none ↦ omega (arith, none)
+  | inr led ↦ omega (arith, led.2, (c.greatest p (j - 1) (touches p us) (page_range p i)).0.upto)
+]
 
-links_below : (c : Cited) (p : ℕ) (us : List Extent) (j : ℕ) (r : Range) (t : Bool) → LinksBelow (with_depth 0 (if t then leaf_of p us j (r.offset / p) else inner_of p us j r)) j
-links_below c p us j r true = record { left = omega arith; right = omega arith; back = back_of_below c p us j (r.offset / p) }
+links_below : (c : Cited) (p : ℕ) (us : List Extent) (j : ℕ) (r : Range) (t : Bool) → LinksBelow (if t then leaf_of p us j (r.offset / p) else inner_of p us j r) j
+links_below c p us j r true =
+    leaf_cases (λ n. LinksBelow n j) p j (r.offset / p) us
+    (λ anew. record { left = omega arith; right = omega arith; back = omega arith })
+    (λ kept. record { left = omega arith; right = omega arith; back = back_of_below c p us j (r.offset / p) })
 links_below c p us j r false = record {
   left = (c.greatest p j (touches p us) (left_half r)).0.upto;
   right = (c.greatest p j (touches p us) (right_half r)).0.upto;
@@ -43,15 +45,6 @@ way_below n j to_left h = h.left
 way_below n j to_right h = h.right
 way_below n j to_back h = h.back
 
--- a node leads to the same versions with another depth
-same_way : (d : ℕ) (n : Node) (way : Way) → version_on (with_depth d n) way ≡ version_on n way
-same_way d (Inner left right) to_left = refl
-same_way d (Inner left right) to_right = refl
-same_way d (Inner left right) to_back = refl
-same_way d (Leaf start count first second depth back) to_left = refl
-same_way d (Leaf start count first second depth back) to_right = refl
-same_way d (Leaf start count first second depth back) to_back = refl
-
 row_leads : (c : Cited) (p : ℕ) (us : List Update) (j : ℕ) (r : Range) (way : Way) → 1 ≤ p → Replayable us → HasNode p (log_of p us) j r
     → 1 ≤ version_on (node_of p (extents us) j r) way → HasNode p (log_of p us) (version_on (node_of p (extents us) j r) way) (range_on r way)
 row_leads c p us j r to_left pos ok has some = (c.name p j us r pos ok has).0 some
@@ -59,10 +52,8 @@ row_leads c p us j r to_right pos ok has some = (c.name p j us r pos ok has).1 s
 row_leads c p us j r to_back pos ok has some = (c.name p j us r pos ok has).2 some
 
 way_leads : (c : Cited) (p : ℕ) (us : List Update) (j : ℕ) (r : Range) (way : Way) → 1 ≤ p → Replayable us → HasNode p (log_of p us) j r
-    → 1 ≤ version_on (world_node p (extents us) j r) way → HasNode p (log_of p us) (version_on (world_node p (extents us) j r) way) (range_on r way)
-way_leads c p us j r way pos ok has =
-    let Leads : ℕ → Type 0 = λ k. 1 ≤ k → HasNode p (log_of p us) k (range_on r way) in
-    subst Leads (sym (same_way 0 (node_of p (extents us) j r) way)) (row_leads c p us j r way pos ok has)
+    → 1 ≤ version_on (node_of p (extents us) j r) way → HasNode p (log_of p us) (version_on (node_of p (extents us) j r) way) (range_on r way)
+way_leads c p us j r way pos ok has = row_leads c p us j r way pos ok has
 
 reached_on : (w : World) (blob j : ℕ) (r : Range) (way : Way) (ways : List Way) (n : Node) → node_in w blob j r ≡ Some n
     → reached w blob j r (way ∷ ways) ≡ reached w blob (version_on n way) (range_on r way) ways
@@ -86,9 +77,9 @@ from_zero w blob r (way ∷ ways) none = reached_stop w blob 0 r way ways (at_ze
 pub reached_is : (c : Cited) (p : ℕ) (w : World) (blob : ℕ) (us : List Update) (n : ℕ) → 1 ≤ p → Replayable us → RowsKnown p w blob us n → NoneAtZero w blob
     → (ways : List Way) (j : ℕ) (r : Range) → j ≤ n → HasNode p (log_of p us) j r → 1 ≤ (reached w blob j r ways).version
     → IsKnown (node_in w blob (reached w blob j r ways).version (reached w blob j r ways).range)
-reached_is c p w blob us n pos ok known none [] j r le has some = (world_node p (extents us) j r, known j r le has)
+reached_is c p w blob us n pos ok known none [] j r le has some = (node_of p (extents us) j r, known j r le has)
 reached_is c p w blob us n pos ok known none (way ∷ ways) j r le has begins =
-    let x : Node = world_node p (extents us) j r in
+    let x : Node = node_of p (extents us) j r in
     let e : reached w blob j r (way ∷ ways) ≡ reached w blob (version_on x way) (range_on r way) ways = reached_on w blob j r way ways x (known j r le has) in
     let P : VersionedRange → Type 0 = λ s. 1 ≤ s.version → IsKnown (node_in w blob s.version s.range) in
     let below : version_on x way ≤ j = way_below x j way (links_below c p (extents us) j r (r.size == p)) in

@@ -1,34 +1,39 @@
 -- A read by links brings the content, and visits no more nodes than the bound.
-use Rattle.std.proofs.Common.{◌≡◌, ◌⊎◌, ℕ, ◌+◌, ◌-◌, ◌*◌, ◌/◌, ◌^◌, ◌<◌, ◌≤◌, zero, suc, Bool, true, false, List, [], ◌∷◌, ◌++◌, length, take, drop, arith, inl, inr, refl, ap, sym, subst, ◌∙◌, max, min, append-nil, take-add}
-use Rattle.std.specs.Prelude.{◌==◌, ◌&&◌, nat_le, nat_lt, Option, Some}
+use Rattle.std.proofs.Common.{◌≡◌, ◌⊎◌, ℕ, ◌+◌, ◌-◌, ◌*◌, ◌/◌, ◌^◌, ◌<◌, ◌≤◌, zero, suc, Bool, true, false, List, [], ◌∷◌, ◌++◌, length, take, drop, arith, inl, inr, refl, ap, sym, subst, ◌∙◌, max, min, append-nil, take-add, length-append, length-drop, length-take}
+use Rattle.std.proofs.Math.Seq.{take-length}
+use Rattle.std.specs.Prelude.{◌==◌, ◌&&◌, nat_le, nat_lt, if◌then◌else◌, Option, Some}
 use Rattle.std.specs.List.{range_with_len, sum_by}
 use Rattle.std.proofs.lemmas.Bool.{cases_lt}
 use Rattle.std.proofs.lemmas.Bool.Decides.{nat_tests}
 use Rattle.std.proofs.lemmas.List.{drop-drop, drop-take, take-take}
 use Rattle.std.proofs.lemmas.List.Sums.{sum_by-append, sum_by-cons}
 use Rattle.std.proofs.lemmas.Nat.{mul-le, div_below, le-div}
-use Rattle.std.proofs.Math.Nat.{pow-succ', mul-div_cancel}
+use Rattle.std.proofs.Math.Nat.{pow-succ', mul-div_cancel, add-div_right}
 use Rattle.blob_model.specs.Content.{Update, put, content, size_of}
 use Rattle.blob_model.specs.Store.{Blob, published}
 use Rattle.tree_geom.specs.declared.range.Range.{Range}
 use Rattle.tree_geom.specs.declared.touch.Touch.{Touch}
 use Rattle.tree_geom.specs.declared.node.Node.{Node}
 use Rattle.tree_geom.specs.declared.node.Piece.{Piece}
-use Rattle.tree_geom.specs.Nodes.{with_depth, left_link, right_link, back_link, is_leaf, start_of, first_of, second_of}
+use Rattle.tree_geom.specs.Nodes.{left_link, right_link, back_link, is_leaf, start_of, first_of, second_of}
 use Rattle.tree_geom.specs.Geometry.{tree_range, page_range, left_half, right_half, height_of, span_of, doublings}
 use Rattle.range_log.specs.Log.{newest_of, size_at, IsNewest, HasNode}
-use Rattle.range_log.specs.Extents.{Extent, extent_at, size_after, InBounds}
+use Rattle.range_log.specs.Extents.{Extent, extent_at, size_after, touches, InBounds}
 use Rattle.range_log.specs.Updates.{update_at, extent_of, extents, page_bytes, own_bytes, piece_bytes}
-use Rattle.range_log.specs.Rows.{leaf_of, inner_of, back_of, covered, leaf_start, leaf_from, leaf_len, first_piece, second_piece}
+use Rattle.range_log.specs.Rows.{leaf_of, leaf_at, whole_leaf, fold_at as fold_page, pages_in, valid_in, inner_of, back_of, covered, folded_of, leaf_start, leaf_from, leaf_len, first_piece, second_piece, node_of}
+use Rattle.range_log.specs.Depths.{fold_number, depth_of}
+use Rattle.range_log.proofs.Greatest.{bool_cases}
+use Rattle.range_log.proofs.Leaves.{pieces_fit}
+use Rattle.range_log.proofs.Links.{back_none, back_anew}
 use Rattle.range_log.specs.Visits.{backs_of, visits}
 use Rattle.tree_walk.specs.Walk.{nodes_visited, root_of}
 use Rattle.range_log.proofs.Bytes.{extent_is, length-extents}
-use Rattle.blob_core.specs.World.{World, UpdateEntry, node_in, kept_at, origin, log_of, world_node}
-use Rattle.blob_core.specs.Walk.{Walked, nothing, both, over, bytes_of_piece, leaf_walk, tree_walk_from, cut_out, read_walk}
-use Rattle.blob_core.proofs.Lists.{nth_is}
+use Rattle.blob_core.specs.World.{World, UpdateEntry, IsKnown, AreCut, page_at, fold_at, nth_page, bytes_of_page, bytes_of_pages, node_in, kept_at, origin, log_of}
+use Rattle.blob_core.specs.Walk.{Walked, nothing, both, over, stored_in, bytes_of_piece, page_walk, leaf_walk, tree_walk_from, cut_out, read_walk}
+use Rattle.blob_core.proofs.Lists.{nth_is, SmallPages, bytes_are}
 use Rattle.blob_core.proofs.Growing.{Cited, length_log, size_in_log}
 use Rattle.blob_core.proofs.Finding.{size_pos, left_is, right_is, page_is, inner_is, test_same, test_some, test_none, double}
-use Rattle.blob_core.proofs.Keeping.{Stands, BlobStands, UpdateStands, rows_known, in_bounds, published_within}
+use Rattle.blob_core.proofs.Keeping.{Stands, BlobStands, UpdateStands, rows_known, in_bounds, published_finished, published_within}
 
 -- ---- lists
 take_none : (n : ℕ) → take {A = ℕ} n [] ≡ []
@@ -54,7 +59,7 @@ older_walk most p w blob back i = let older : Walked = elim (back == 0) [ true �
 pub leaf_walk_on : (most p : ℕ) (w : World) (blob j i : ℕ) (n : Node) (kept : UpdateEntry) → is_leaf n ≡ true → node_in w blob j (page_range p i) ≡ Some n
     → kept_at w.updates (origin w blob j) j ≡ Some kept
     → leaf_walk (suc most) p w blob j i
-    ≡ over (older_walk most p w blob (back_link n) i) (start_of n) (bytes_of_piece w kept.pages (first_of n) ++ bytes_of_piece w kept.pages (second_of n))
+    ≡ over (older_walk most p w blob (back_link n) i) (start_of n) (bytes_of_piece w blob j i kept.pages (first_of n) ++ bytes_of_piece w blob j i kept.pages (second_of n))
 unfolding leaf_walk
 leaf_walk_on most p w blob j i n kept leaf e f = rw (e, f, leaf, leaf_walk) refl
 
@@ -64,22 +69,29 @@ older_none most p w blob back i e = rw (e, older_walk) refl
 pub older_on : (most p : ℕ) (w : World) (blob back i : ℕ) → (back == 0) ≡ false → older_walk most p w blob back i ≡ leaf_walk most p w blob back i
 older_on most p w blob back i e = rw (e, older_walk) refl
 
-leaf_is : (p : ℕ) (us : List Extent) (j i : ℕ) → 1 ≤ p → world_node p us j (page_range p i) ≡ with_depth 0 (leaf_of p us j i)
+leaf_is : (p : ℕ) (us : List Extent) (j i : ℕ) → 1 ≤ p → node_of p us j (page_range p i) ≡ leaf_of p us j i
 leaf_is p us j i pos =
     let t : (p == p) ≡ true = test_same p p refl in
     let f : i * p / p ≡ i = mul-div_cancel i pos in
-    rw t (ap (λ (k : ℕ). with_depth 0 (leaf_of p us j k)) f)
+    rw t (ap (λ (k : ℕ). leaf_of p us j k) f)
 
-piece_is : (p : ℕ) (w : World) (blob : ℕ) (b : Blob) (j : ℕ) → Stands p w → (u : UpdateStands p w blob b j) → (piece : Piece)
-    → bytes_of_piece w u.kept.pages piece ≡ piece_bytes p (update_at b.updates j).bytes piece
-piece_is p w blob b j s u piece =
+stored_own : (w : World) (blob j i : ℕ) (pages : List ℕ) (q : ℕ) → q < length pages → stored_in w blob j i pages q ≡ nth_page w.pages pages q
+stored_own w blob j i pages q lt = let t : nat_lt q (length pages) ≡ true = grind (arith, nat_tests) in rw (t, stored_in) refl
+
+stored_past : (w : World) (blob j i : ℕ) (pages : List ℕ) (q : ℕ) (bytes : List ℕ) → length pages ≤ q → fold_at w.folded (origin w blob j) j i ≡ Some bytes → stored_in w blob j i pages q ≡ bytes
+stored_past w blob j i pages q bytes le e = let t : nat_lt q (length pages) ≡ false = grind (arith, nat_tests) in rw (t, e, stored_in) refl
+
+piece_is : (p : ℕ) (w : World) (blob : ℕ) (b : Blob) (j i : ℕ) → Stands p w → (u : UpdateStands p w blob b j) → (piece : Piece) → piece.page < length u.kept.pages
+    → bytes_of_piece w blob j i u.kept.pages piece ≡ piece_bytes p (update_at b.updates j).bytes piece
+piece_is p w blob b j i s u piece lt =
     ap (λ (l : List ℕ). take piece.len (drop piece.from l))
-    (sym (nth_is p w.pages s.pages u.kept.pages piece.page u.cut) ∙ ap (λ (l : List ℕ). take p (drop (piece.page * p) l)) u.bytes)
+    (stored_own w blob j i u.kept.pages piece.page lt
+    ∙ sym (nth_is p w.pages s.pages u.kept.pages piece.page u.cut) ∙ ap (λ (l : List ℕ). take p (drop (piece.page * p) l)) u.bytes)
 
 abbrev own_of : ℕ → Extent → ℕ → List ℕ → List ℕ
 own_of p x i bytes = take (leaf_len p x i) (drop (leaf_from p x i) bytes)
 
-extent_at_is : (us : List Update) (j : ℕ) → 1 ≤ j → j ≤ length us → extent_at (extents us) j ≡ extent_of us j
+pub extent_at_is : (us : List Update) (j : ℕ) → 1 ≤ j → j ≤ length us → extent_at (extents us) j ≡ extent_of us j
 extent_at_is us zero some le = absurd (omega arith)
 extent_at_is us (suc k) some le = extent_is us k (omega arith)
 
@@ -87,11 +99,57 @@ extent_len : (us : List Update) (j : ℕ) → 1 ≤ j → (extent_of us j).len �
 extent_len us zero some = absurd (omega arith)
 extent_len us (suc k) some = refl
 
+-- ---- the pages that a buffer needs
+page_size_of : (p : ℕ) (stored : List (ℕ × List ℕ)) (page : ℕ) → SmallPages p stored → IsKnown (page_at stored page) → (1 ≤ length (bytes_of_page stored page)) × (length (bytes_of_page stored page) ≤ p)
+page_size_of p stored page small (v, e) =
+    let same : bytes_of_page stored page ≡ v = bytes_are stored page v e in
+    let f = small page v e in
+    (omega (arith, ap length same, f.0), omega (arith, ap length same, f.1))
+
+pages_below : (p : ℕ) (stored : List (ℕ × List ℕ)) (pages : List ℕ) → SmallPages p stored → AreCut p stored pages → (q : ℕ) → q * p < length (bytes_of_pages stored pages) → q < length pages
+pages_below p stored [] small cut q lt = absurd cut
+pages_below p stored (page ∷ []) small cut zero lt = omega arith
+pages_below p stored (page ∷ []) small cut (suc q) lt =
+    let all : length (bytes_of_pages stored (page ∷ [])) ≡ length (bytes_of_page stored page) + 0 = length-append (bytes_of_page stored page) [] in
+    absurd (omega (arith, lt, all, (page_size_of p stored page small cut).1))
+pages_below p stored (page ∷ next ∷ rest) small cut zero lt = omega arith
+pages_below p stored (page ∷ next ∷ rest) small cut (suc q) lt =
+    let all : length (bytes_of_pages stored (page ∷ next ∷ rest)) ≡ length (bytes_of_page stored page) + length (bytes_of_pages stored (next ∷ rest)) =
+    length-append (bytes_of_page stored page) (bytes_of_pages stored (next ∷ rest)) in
+    let below : q < length (next ∷ rest) = pages_below p stored (next ∷ rest) small cut.2 q (omega (arith, lt, all, cut.1)) in
+    omega (arith, below)
+
+pages_enough : (p : ℕ) (stored : List (ℕ × List ℕ)) (pages : List ℕ) → 1 ≤ p → SmallPages p stored → AreCut p stored pages → length pages ≤ pages_in p (length (bytes_of_pages stored pages))
+pages_enough p stored [] pos small cut = absurd cut
+pages_enough p stored (page ∷ []) pos small cut =
+    let all : length (bytes_of_pages stored (page ∷ [])) ≡ length (bytes_of_page stored page) + 0 = length-append (bytes_of_page stored page) [] in
+    let some = (page_size_of p stored page small cut).0 in
+    let one : 1 ≤ (length (bytes_of_pages stored (page ∷ [])) + p - 1) / p = le-div 1 (length (bytes_of_pages stored (page ∷ [])) + p - 1) p pos (omega (arith, all, some)) in
+    omega (arith, one)
+pages_enough p stored (page ∷ next ∷ rest) pos small cut =
+    let n : ℕ = length (bytes_of_pages stored (next ∷ rest)) in
+    let all : length (bytes_of_pages stored (page ∷ next ∷ rest)) ≡ length (bytes_of_page stored page) + n = length-append (bytes_of_page stored page) (bytes_of_pages stored (next ∷ rest)) in
+    let more : length (bytes_of_pages stored (page ∷ next ∷ rest)) + p - 1 ≡ n + p - 1 + p = omega (arith, all, cut.1, pos) in
+    let step : (length (bytes_of_pages stored (page ∷ next ∷ rest)) + p - 1) / p ≡ (n + p - 1) / p + 1 = ap (λ (m : ℕ). m / p) more ∙ add-div_right (n + p - 1) pos in
+    let others : length (next ∷ rest) ≤ (n + p - 1) / p = pages_enough p stored (next ∷ rest) pos small cut.2 in
+    omega (arith, step, others)
+
+-- the pieces of some bytes lie in pages that begin before the buffer's end
+pieces_below : (p b n m : ℕ) → 1 ≤ p → 1 ≤ n → n ≤ p → b + n ≤ m → ((first_piece p b n).page * p < m) × ((second_piece p b n).page * p < m)
+pieces_below p b n m pos some small fits =
+    let f = pieces_fit p b n m pos some small fits in (
+      omega (arith, f.0.some, f.0.in_buffer),
+      elim f.2 [
+        | inl none ↦ (let z : (second_piece p b n).page ≡ 0 = ap (λ (x : Piece). x.page) none.1 in let y : (second_piece p b n).page * p ≡ 0 * p = ap (λ (k : ℕ). k * p) z in omega (arith, y, some, fits))
+        | inr both ↦ omega (arith, both.1.some, both.1.in_buffer)
+      ],
+    )
+
 -- the pieces of a leaf are the update's own bytes in the page
 own_is : (c : Cited) (p : ℕ) (w : World) (blob : ℕ) (b : Blob) (j i : ℕ) → 1 ≤ p → Stands p w → InBounds (extents b.updates) → (u : UpdateStands p w blob b j)
     → HasNode p (log_of p b.updates) j (page_range p i)
-    → bytes_of_piece w u.kept.pages (first_piece p (leaf_from p (extent_at (extents b.updates) j) i) (leaf_len p (extent_at (extents b.updates) j) i))
-    ++ bytes_of_piece w u.kept.pages (second_piece p (leaf_from p (extent_at (extents b.updates) j) i) (leaf_len p (extent_at (extents b.updates) j) i))
+    → bytes_of_piece w blob j i u.kept.pages (first_piece p (leaf_from p (extent_at (extents b.updates) j) i) (leaf_len p (extent_at (extents b.updates) j) i))
+    ++ bytes_of_piece w blob j i u.kept.pages (second_piece p (leaf_from p (extent_at (extents b.updates) j) i) (leaf_len p (extent_at (extents b.updates) j) i))
     ≡ own_bytes p b.updates j i
 own_is c p w blob b j i pos s ok u has =
     let x : Extent = extent_at (extents b.updates) j in
@@ -102,11 +160,15 @@ own_is c p w blob b j i pos s ok u has =
     let e : x ≡ extent_of b.updates j = extent_at_is b.updates j has.version.0 in_list in
     let size : x.len ≡ length bytes = ap (λ (y : Extent). y.len) e ∙ extent_len b.updates j has.version.0 in
     let fits = c.fit p j i (extents b.updates) pos ok has in
-    let first : bytes_of_piece w u.kept.pages (first_piece p from len) ≡ piece_bytes p bytes (first_piece p from len) = piece_is p w blob b j s u (first_piece p from len) in
-    let second : bytes_of_piece w u.kept.pages (second_piece p from len) ≡ piece_bytes p bytes (second_piece p from len) = piece_is p w blob b j s u (second_piece p from len) in
     let short : len ≤ p = omega (arith, fits.1) in
     let inside : from + len ≤ length bytes = omega (arith, fits.2, size) in
-    ap (λ (l : List ℕ). l ++ bytes_of_piece w u.kept.pages (second_piece p from len)) first
+    let below = pieces_below p from len (length bytes) pos fits.0 short inside in
+    let stored : length (bytes_of_pages w.pages u.kept.pages) ≡ length bytes = ap length u.bytes in
+    let first : bytes_of_piece w blob j i u.kept.pages (first_piece p from len) ≡ piece_bytes p bytes (first_piece p from len) =
+    piece_is p w blob b j i s u (first_piece p from len) (pages_below p w.pages u.kept.pages s.pages u.cut (first_piece p from len).page (omega (arith, below.0, stored))) in
+    let second : bytes_of_piece w blob j i u.kept.pages (second_piece p from len) ≡ piece_bytes p bytes (second_piece p from len) =
+    piece_is p w blob b j i s u (second_piece p from len) (pages_below p w.pages u.kept.pages s.pages u.cut (second_piece p from len).page (omega (arith, below.1, stored))) in
+    ap (λ (l : List ℕ). l ++ bytes_of_piece w blob j i u.kept.pages (second_piece p from len)) first
     ∙ ap (λ (l : List ℕ). piece_bytes p bytes (first_piece p from len) ++ l) second
     ∙ c.join p from len bytes pos short inside
     ∙ ap (λ (y : Extent). own_of p y i bytes) e
@@ -116,69 +178,122 @@ record LeafIs (t : Walked) (page : List ℕ) (count : ℕ) : Type 0 where
   bytes : t.bytes ≡ page
   nodes : t.nodes ≡ count
 
-covered_back : (p : ℕ) (us : List Extent) (j i : ℕ) → covered p us j i ≡ true → back_of p us j i ≡ 0
-unfolding back_of
-covered_back p us j i e = rw e refl
+-- a leaf that doesn't store its page anew
+leaf_kept : (p : ℕ) (us : List Extent) (j i : ℕ) → folded_of p us j i ≡ false → leaf_of p us j i ≡ leaf_at p (extent_at us j) i (back_of p us j i) (depth_of p (touches p us) j i)
+leaf_kept p us j i kept =
+    ap (λ (t : Bool). if t then whole_leaf (fold_page fold_number p us j i) (valid_in p (size_after us j) i) else leaf_at p (extent_at us j) i (back_of p us j i) (depth_of p (touches p us) j i)) kept
+
+-- and one that does
+leaf_anew : (p : ℕ) (us : List Extent) (j i : ℕ) → folded_of p us j i ≡ true → leaf_of p us j i ≡ whole_leaf (fold_page fold_number p us j i) (valid_in p (size_after us j) i)
+leaf_anew p us j i anew =
+    ap (λ (t : Bool). if t then whole_leaf (fold_page fold_number p us j i) (valid_in p (size_after us j) i) else leaf_at p (extent_at us j) i (back_of p us j i) (depth_of p (touches p us) j i)) anew
 
 newest_self : (c : Cited) (p : ℕ) (log : List Touch) (k : ℕ) (r : Range) → HasNode p log k r → k ≡ newest_of p log k r
 newest_self c p log k r has =
     let is : IsNewest p log k r k = record { upto = omega arith; met = λ some. has.met; none = λ i a b. absurd (omega arith) } in
     (c.greatest p k log r).1 k is
 
+-- what a walk brings of a leaf that stores its page anew
+anew_walk_is : (c : Cited) (p : ℕ) (w : World) (blob : ℕ) (b : Blob) → 1 ≤ p → Stands p w → BlobStands p w blob b
+    → (most j i v : ℕ) → j ≤ published b → HasNode p (log_of p b.updates) j (page_range p i) → newest_of p (log_of p b.updates) v (page_range p i) ≡ j
+    → folded_of p (extents b.updates) j i ≡ true
+    → LeafIs (leaf_walk (suc most) p w blob j i) (page_bytes p b.updates j i) (1 + backs_of p (extents b.updates) v i)
+anew_walk_is c p w blob b pos s bs most j i v upto has newest anew =
+    let us : List Update = b.updates in
+    let xs : List Extent = extents us in
+    let in_list : j ≤ length us = omega (arith, has.version.1, length_log p us) in
+    let u : UpdateStands p w blob b j = bs.updates j has.version.0 in_list in
+    let some_node : Node → Option Node = λ n. Some n in
+    let q : ℕ = fold_page fold_number p xs j i in
+    let valid : ℕ = valid_in p (size_after xs j) i in
+    let leaf : Node = whole_leaf q valid in
+    let node : node_in w blob j (page_range p i) ≡ Some leaf =
+    rows_known p w blob b j bs upto j (page_range p i) (omega arith) has ∙ ap some_node (leaf_is p xs j i pos ∙ leaf_anew p xs j i anew) in
+    let page : List ℕ = page_bytes p us j i in
+    let there : fold_at w.folded (origin w blob j) j i ≡ Some page = bs.folds j i (published_finished b j upto) has anew in
+    let len : (extent_at xs j).len ≡ length (update_at us j).bytes = ap (λ (y : Extent). y.len) (extent_at_is us j has.version.0 in_list) ∙ extent_len us j has.version.0 in
+    let enough : length u.kept.pages ≤ pages_in p (extent_at xs j).len =
+    (let e : pages_in p (length (bytes_of_pages w.pages u.kept.pages)) ≡ pages_in p (extent_at xs j).len = ap (pages_in p) (ap length u.bytes ∙ sym len) in
+    omega (arith, pages_enough p w.pages u.kept.pages pos s.pages u.cut, e)) in
+    let past : length u.kept.pages ≤ q = omega (arith, enough) in
+    let next : (i + 1) * p ≡ i * p + p = omega arith in
+    let size : size_after xs j ≡ size_of us j = (c.stand us bs.replay).2 j in_list in
+    let count : length page ≡ valid = omega (arith, length-take p (drop (i * p) (content us j)), length-drop (i * p) (content us j), size, next) in
+    let first : bytes_of_piece w blob j i u.kept.pages (first_of leaf) ≡ page =
+    ap (λ (l : List ℕ). take valid (drop 0 l)) (stored_past w blob j i u.kept.pages q page past there) ∙ ap (λ (n : ℕ). take n page) (sym count) ∙ take-length page in
+    let own : bytes_of_piece w blob j i u.kept.pages (first_of leaf) ++ bytes_of_piece w blob j i u.kept.pages (second_of leaf) ≡ page =
+    ap (λ (l : List ℕ). l ++ []) first ∙ append-nil page in
+    let on : leaf_walk (suc most) p w blob j i ≡ over (older_walk most p w blob 0 i) 0 (bytes_of_piece w blob j i u.kept.pages (first_of leaf) ++ bytes_of_piece w blob j i u.kept.pages (second_of leaf)) =
+    leaf_walk_on most p w blob j i leaf u.kept refl node u.there in
+    let stop : older_walk most p w blob 0 i ≡ nothing = older_none most p w blob 0 i refl in
+    let step = c.backs p v i xs in
+    let P : ℕ → Type 0 = λ k. (back_of p xs k i ≡ 0 → backs_of p xs v i ≡ 0) × (1 ≤ back_of p xs k i → backs_of p xs v i ≡ 1 + backs_of p xs (back_of p xs k i) i) in
+    let backs = subst P newest step in
+    let none : backs_of p xs v i ≡ 0 = backs.0 (back_anew p xs j i anew) in
+    let T : Walked → Type 0 = λ t. LeafIs t page (1 + backs_of p xs v i) in
+    subst T (sym (on ∙ ap (λ (l : List ℕ). over (older_walk most p w blob 0 i) 0 l) own ∙ ap (λ (o : Walked). over o 0 page) stop))
+    (record { bytes = put_none 0 page; nodes = ap (λ (k : ℕ). 1 + k) (sym none) })
+
 leaf_walk_is : (c : Cited) (p : ℕ) (w : World) (blob : ℕ) (b : Blob) → 1 ≤ p → Stands p w → BlobStands p w blob b
     → (most j i v : ℕ) → j ≤ most → j ≤ published b → HasNode p (log_of p b.updates) j (page_range p i) → newest_of p (log_of p b.updates) v (page_range p i) ≡ j
     → LeafIs (leaf_walk most p w blob j i) (page_bytes p b.updates j i) (1 + backs_of p (extents b.updates) v i)
 leaf_walk_is c p w blob b pos s bs zero j i v fuel upto has newest = absurd (omega (arith, has.version.0))
 leaf_walk_is c p w blob b pos s bs (suc most) j i v fuel upto has newest =
-    let us : List Update = b.updates in
-    let xs : List Extent = extents us in
-    let x : Extent = extent_at xs j in
-    let log : List Touch = log_of p us in
-    let ok : InBounds xs = in_bounds c us bs.replay in
-    let in_list : j ≤ length us = omega (arith, has.version.1, length_log p us) in
-    let u : UpdateStands p w blob b j = bs.updates j has.version.0 in_list in
-    let some_node : Node → Option Node = λ n. Some n in
-    let node : node_in w blob j (page_range p i) ≡ Some (with_depth 0 (leaf_of p xs j i)) = rows_known p w blob b j bs upto j (page_range p i) (omega arith) has ∙ ap some_node (leaf_is p xs j i pos) in
-    let back : ℕ = back_of p xs j i in
-    let start : ℕ = leaf_start p x i in
-    let first : Piece = first_piece p (leaf_from p x i) (leaf_len p x i) in
-    let second : Piece = second_piece p (leaf_from p x i) (leaf_len p x i) in
-    let own : List ℕ = bytes_of_piece w u.kept.pages first ++ bytes_of_piece w u.kept.pages second in
-    let own_bytes_are : own ≡ own_bytes p us j i = own_is c p w blob b j i pos s ok u has in
-    let on : leaf_walk (suc most) p w blob j i ≡ over (older_walk most p w blob back i) start own =
-    leaf_walk_on most p w blob j i (with_depth 0 (leaf_of p xs j i)) u.kept refl node u.there in
-    let fill = c.fill p j i us pos bs.replay has in
-    let e : x ≡ extent_of us j = extent_at_is us j has.version.0 in_list in
-    let step = c.backs p v i xs in
-    let P : ℕ → Type 0 = λ k. (back_of p xs k i ≡ 0 → backs_of p xs v i ≡ 0) × (1 ≤ back_of p xs k i → backs_of p xs v i ≡ 1 + backs_of p xs (back_of p xs k i) i) in
-    let backs = subst P newest step in
-    let T : Walked → Type 0 = λ t. LeafIs t (page_bytes p us j i) (1 + backs_of p xs v i) in
-    let branch : (t : Bool) → covered p xs j i ≡ t → LeafIs (over (older_walk most p w blob back i) start own) (page_bytes p us j i) (1 + backs_of p xs v i) = λ t.
-    elim t as (λ (z : Bool). covered p xs j i ≡ z → LeafIs (over (older_walk most p w blob back i) start own) (page_bytes p us j i) (1 + backs_of p xs v i)) [
-      | true ↦ λ is.
-          (let none : back ≡ 0 = covered_back p xs j i is in
-          let stop : older_walk most p w blob back i ≡ nothing = older_none most p w blob back i (test_none back (omega arith)) in
-          let zero_backs : backs_of p xs v i ≡ 0 = backs.0 none in
-          record {
-            bytes = ap (λ (o : Walked). put o.bytes start own) stop ∙ put_none start own ∙ own_bytes_are ∙ sym (fill.0 is);
-            nodes = ap (λ (o : Walked). 1 + o.nodes) stop ∙ ap (λ (k : ℕ). 1 + k) (sym zero_backs);
-          })
-      | false ↦ λ is.
-          (let hold = c.backs_hold p j i xs pos ok has is in
-          let next : HasNode p log back (page_range p i) = c.backs_lead p j i xs pos ok has hold.0 in
-          let go : older_walk most p w blob back i ≡ leaf_walk most p w blob back i = older_on most p w blob back i (test_some back hold.0) in
-          let rest : LeafIs (leaf_walk most p w blob back i) (page_bytes p us back i) (1 + backs_of p xs back i) =
-          leaf_walk_is c p w blob b pos s bs most back i back (omega (arith, hold.1)) (omega (arith, hold.1)) next (sym (newest_self c p log back (page_range p i) next)) in
-          record {
-            bytes = ap (λ (o : Walked). put o.bytes start own) go
-                ∙ ap (λ (l : List ℕ). put l start own) rest.bytes
-                ∙ ap (λ (l : List ℕ). put (page_bytes p us back i) start l) own_bytes_are
-                ∙ ap (λ (y : Extent). put (page_bytes p us back i) (leaf_start p y i) (own_bytes p us j i)) e
-                ∙ sym (fill.1 is);
-            nodes = ap (λ (o : Walked). 1 + o.nodes) go ∙ ap (λ (k : ℕ). 1 + k) rest.nodes ∙ ap (λ (k : ℕ). 1 + k) (sym (backs.1 hold.0));
-          })
-    ] in
-    subst T (sym on) (branch (covered p xs j i) refl)
+    elim (bool_cases (folded_of p (extents b.updates) j i)) [
+      | inl anew ↦ anew_walk_is c p w blob b pos s bs most j i v upto has newest anew
+      | inr kept ↦ (
+          let us : List Update = b.updates in
+          let xs : List Extent = extents us in
+          let x : Extent = extent_at xs j in
+          let log : List Touch = log_of p us in
+          let ok : InBounds xs = in_bounds c us bs.replay in
+          let in_list : j ≤ length us = omega (arith, has.version.1, length_log p us) in
+          let u : UpdateStands p w blob b j = bs.updates j has.version.0 in_list in
+          let some_node : Node → Option Node = λ n. Some n in
+          let leaf : Node = leaf_at p x i (back_of p xs j i) (depth_of p (touches p xs) j i) in
+          let node : node_in w blob j (page_range p i) ≡ Some leaf =
+          rows_known p w blob b j bs upto j (page_range p i) (omega arith) has ∙ ap some_node (leaf_is p xs j i pos ∙ leaf_kept p xs j i kept) in
+          let back : ℕ = back_of p xs j i in
+          let start : ℕ = leaf_start p x i in
+          let first : Piece = first_piece p (leaf_from p x i) (leaf_len p x i) in
+          let second : Piece = second_piece p (leaf_from p x i) (leaf_len p x i) in
+          let own : List ℕ = bytes_of_piece w blob j i u.kept.pages first ++ bytes_of_piece w blob j i u.kept.pages second in
+          let own_bytes_are : own ≡ own_bytes p us j i = own_is c p w blob b j i pos s ok u has in
+          let on : leaf_walk (suc most) p w blob j i ≡ over (older_walk most p w blob back i) start own =
+          leaf_walk_on most p w blob j i leaf u.kept refl node u.there in
+          let fill = c.fill p j i us pos bs.replay has in
+          let e : x ≡ extent_of us j = extent_at_is us j has.version.0 in_list in
+          let step = c.backs p v i xs in
+          let P : ℕ → Type 0 = λ k. (back_of p xs k i ≡ 0 → backs_of p xs v i ≡ 0) × (1 ≤ back_of p xs k i → backs_of p xs v i ≡ 1 + backs_of p xs (back_of p xs k i) i) in
+          let backs = subst P newest step in
+          let T : Walked → Type 0 = λ t. LeafIs t (page_bytes p us j i) (1 + backs_of p xs v i) in
+          let branch : (t : Bool) → covered p xs j i ≡ t → LeafIs (over (older_walk most p w blob back i) start own) (page_bytes p us j i) (1 + backs_of p xs v i) = λ t.
+          elim t as (λ (z : Bool). covered p xs j i ≡ z → LeafIs (over (older_walk most p w blob back i) start own) (page_bytes p us j i) (1 + backs_of p xs v i)) [
+            | true ↦ λ is.
+                (let none : back ≡ 0 = back_none p xs j i is in
+                let stop : older_walk most p w blob back i ≡ nothing = older_none most p w blob back i (test_none back (omega arith)) in
+                let zero_backs : backs_of p xs v i ≡ 0 = backs.0 none in
+                record {
+                  bytes = ap (λ (o : Walked). put o.bytes start own) stop ∙ put_none start own ∙ own_bytes_are ∙ sym (fill.0 is);
+                  nodes = ap (λ (o : Walked). 1 + o.nodes) stop ∙ ap (λ (k : ℕ). 1 + k) (sym zero_backs);
+                })
+            | false ↦ λ is.
+                (let hold = (c.backs_hold p j i xs pos ok has is).1 kept in
+                let next : HasNode p log back (page_range p i) = c.backs_lead p j i xs pos ok has hold.0 in
+                let go : older_walk most p w blob back i ≡ leaf_walk most p w blob back i = older_on most p w blob back i (test_some back hold.0) in
+                let rest : LeafIs (leaf_walk most p w blob back i) (page_bytes p us back i) (1 + backs_of p xs back i) =
+                leaf_walk_is c p w blob b pos s bs most back i back (omega (arith, hold.1)) (omega (arith, hold.1)) next (sym (newest_self c p log back (page_range p i) next)) in
+                record {
+                  bytes = ap (λ (o : Walked). put o.bytes start own) go
+                      ∙ ap (λ (l : List ℕ). put l start own) rest.bytes
+                      ∙ ap (λ (l : List ℕ). put (page_bytes p us back i) start l) own_bytes_are
+                      ∙ ap (λ (y : Extent). put (page_bytes p us back i) (leaf_start p y i) (own_bytes p us j i)) e
+                      ∙ sym (fill.1 is kept);
+                  nodes = ap (λ (o : Walked). 1 + o.nodes) go ∙ ap (λ (k : ℕ). 1 + k) rest.nodes ∙ ap (λ (k : ℕ). 1 + k) (sym (backs.1 hold.0));
+                })
+          ] in
+          subst T (sym on) (branch (covered p xs j i) refl))
+    ]
 
 -- ---- the pages from lo up to hi
 -- x, moved into first to last + 1
@@ -520,3 +635,28 @@ read_is c p w blob b zero o (suc n) pos s bs upto inside = absurd (omega (arith,
 read_is c p w blob b (suc v) o (suc n) pos s bs upto inside =
     let T : Walked → Type 0 = λ t. ReadIs t (take (suc n) (drop o (content b.updates (suc v)))) (visits p (extents b.updates) (suc v) o (suc n)) in
     subst T (sym (read_some p w blob b (suc v) o (suc n) (test_some (suc n) (omega arith)))) (read_bytes c p w blob b (suc v) o (suc n) pos s bs upto (omega arith) (omega arith) inside)
+
+-- a walk to one page of a published version brings the page's valid bytes
+pub page_walk_is : (c : Cited) (p : ℕ) (w : World) (blob : ℕ) (b : Blob) (v i : ℕ) → 1 ≤ p → Stands p w → BlobStands p w blob b → v ≤ published b
+    → 1 ≤ v → i * p < size_of b.updates v → page_walk p w blob b v i ≡ page_bytes p b.updates v i
+page_walk_is c p w blob b v i pos s bs upto numbered inside =
+    let us : List Update = b.updates in
+    let xs : List Extent = extents us in
+    let log : List Touch = log_of p us in
+    let top : ℕ = height_of p (size_after xs v) in
+    let ok : InBounds xs = in_bounds c us bs.replay in
+    let within : v ≤ length us = omega (arith, published_within p w blob b bs) in
+    let size : size_after xs v ≡ size_of us v = (c.stand us bs.replay).2 v within in
+    let at : size_at log v ≡ size_after xs v = size_in_log p us v within in
+    let enough : size_after xs v ≤ p * 2 ^ top = height_enough p (size_after xs v) pos in
+    let few : i * p / p ≡ i = mul-div_cancel i pos in
+    let short : i < 2 ^ top = (let d : i * p / p < 2 ^ top = div_below (i * p) p (2 ^ top) pos (omega arith) in omega (arith, d, few)) in
+    let root : HasNode p log v (tree_range p top 0) = read_root c p us v pos ok numbered within (omega arith) in
+    let enters : Enters p us v v top 0 i i = λ a e. (root, newest_self c p log v (tree_range p top 0) root) in
+    let pages = tree_pages c p w blob b v i i pos s bs upto (omega arith) (omega arith) top 0 v enters in
+    let one : (0 + 1) * 2 ^ top ≡ 2 ^ top = omega arith in
+    let from : clamp i i (0 * 2 ^ top) ≡ i = omega arith in
+    let to : clamp i i ((0 + 1) * 2 ^ top) ≡ i + 1 = omega arith in
+    let is : PagesAre (tree_walk_from top p w blob v 0 i i) p us v i (i + 1) (nodes_visited top 0 i i) =
+    pages_at (tree_walk_from top p w blob v 0 i i) p us v (clamp i i (0 * 2 ^ top)) (clamp i i ((0 + 1) * 2 ^ top)) (nodes_visited top 0 i i) i (i + 1) (nodes_visited top 0 i i) pages from to refl in
+    is.bytes ∙ page_slice p us v i

@@ -14,6 +14,7 @@ use Rattle.blob_core.proofs.Lists.{joined_some, one_value}
 use Rattle.blob_core.proofs.Growing.{Cited}
 use Rattle.blob_core.proofs.Taken.{create_done, assign_done, finish_done, branch_done}
 use Rattle.blob_core.proofs.Keeping.{Stands, page_put, node_put, finished, numbered, created, branched}
+use Rattle.blob_core.proofs.Folding.{fold_put}
 
 pub step_stands : (c : Cited) (p : ℕ) (w : World) (step : Step) → 1 ≤ p → Stands p w → IsAllowed p w step → Stands p (after p w step)
 step_stands c p w (Moves.PagePut page bytes) pos s ok = page_put p w page bytes s ok.0 ok.1 ok.2
@@ -22,9 +23,12 @@ step_stands c p w (Moves.Assign caller blob place pages) pos s ok =
     let (b, is, fits, store) = assign_done w.store caller blob place (bytes_of_pages w.pages pages) ok.1 in
     let u : Update = record { caller = caller; place = place; bytes = bytes_of_pages w.pages pages } in
     numbered c p w (store_from w.store (Events.Assign caller blob place (bytes_of_pages w.pages pages) ∷ [])) blob b u pages s is ok.0 refl (joined_some p w.pages s.pages pages ok.0) fits store
+step_stands c p w (Moves.FoldPut blob version page) pos s ok =
+    let (b, own, folded, before) = ok in
+    fold_put c p w blob version page b pos s own folded before
 step_stands c p w (Moves.NodePut key) pos s ok =
-    let (b, own, has) = ok in
-    node_put c p w key b pos s own has
+    let (b, own, has, folded) = ok in
+    node_put c p w key b pos s own has folded
 step_stands c p w (Moves.Finish caller blob version) pos s ok =
     let (b, own, row) = ok.1 in
     let (x, is, store) = finish_done w.store caller blob version ok.0 in
@@ -46,6 +50,7 @@ store_after p w [] = refl
 store_after p w (Moves.PagePut page bytes ∷ steps) = store_after p (after p w (Moves.PagePut page bytes)) steps
 store_after p w (Moves.Create caller ∷ steps) = store_after p (after p w (Moves.Create caller)) steps
 store_after p w (Moves.Assign caller blob place pages ∷ steps) = store_after p (after p w (Moves.Assign caller blob place pages)) steps
+store_after p w (Moves.FoldPut blob version page ∷ steps) = store_after p (after p w (Moves.FoldPut blob version page)) steps
 store_after p w (Moves.NodePut key ∷ steps) = store_after p (after p w (Moves.NodePut key)) steps
 store_after p w (Moves.Finish caller blob version ∷ steps) = store_after p (after p w (Moves.Finish caller blob version)) steps
 store_after p w (Moves.Branch caller blob version ∷ steps) = store_after p (after p w (Moves.Branch caller blob version)) steps
@@ -68,6 +73,8 @@ legal_after c p w (Moves.Assign caller blob place pages ∷ steps) pos s ok = (
   record { may = joined_some p w.pages s.pages pages ok.0.0; accepted = ok.0.1 },
   legal_after c p (after p w (Moves.Assign caller blob place pages)) steps pos (step_stands c p w (Moves.Assign caller blob place pages) pos s ok.0) ok.1,
 )
+legal_after c p w (Moves.FoldPut blob version page ∷ steps) pos s ok =
+    legal_after c p (after p w (Moves.FoldPut blob version page)) steps pos (step_stands c p w (Moves.FoldPut blob version page) pos s ok.0) ok.1
 legal_after c p w (Moves.NodePut key ∷ steps) pos s ok =
     legal_after c p (after p w (Moves.NodePut key)) steps pos (step_stands c p w (Moves.NodePut key) pos s ok.0) ok.1
 legal_after c p w (Moves.Finish caller blob version ∷ steps) pos s ok = (

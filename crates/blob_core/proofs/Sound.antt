@@ -12,23 +12,22 @@ use Rattle.blob_model.specs.History.{store_from, is_refused}
 use Rattle.blob_model.specs.declared.call.Event.TheVariants as Events
 use Rattle.blob_model.specs.declared.call.Place.{Place}
 use Rattle.blob_model.specs.declared.call.Call.TheVariants as Calls
-use Rattle.tree_geom.specs.declared.range.Range.{Range}
 use Rattle.tree_geom.specs.declared.touch.Touch.{Touch}
 use Rattle.tree_geom.specs.Geometry.{touched_by}
-use Rattle.range_log.specs.Log.{HasNode, touch_at, size_at}
-use Rattle.range_log.specs.Extents.{Extent, size_after}
+use Rattle.range_log.specs.Log.{touch_at, size_at}
+use Rattle.range_log.specs.Extents.{Extent, InBounds, size_after}
 use Rattle.range_log.specs.Updates.{extents, Replayable, extent_of, update_at}
 use Rattle.range_log.specs.Laws.{ExtentsStand}
 use Rattle.range_log.proofs.Grown.{touch-touches}
 use Rattle.range_log.proofs.Bytes.{length-extents, extent_is}
-use Rattle.blob_core.specs.World.{World, empty_world, kept_at, origin, log_of, bytes_of_pages}
-use Rattle.blob_core.specs.Steps.{IsAllowed, AllAllowed, after, world_after}
+use Rattle.blob_core.specs.World.{World, empty_world, kept_at, log_of, bytes_of_pages}
+use Rattle.blob_core.specs.Steps.{IsAllowed, IsNumberedIn, AllAllowed, after, world_after}
 use Rattle.blob_core.specs.Standing.{IsSound, WeavesRow, Stays, ReachedStays}
 use Rattle.blob_core.specs.declared.step.Step.{Step}
 use Rattle.blob_core.specs.declared.step.Step.TheVariants as Moves
 use Rattle.blob_core.proofs.Lists.{joined_some}
-use Rattle.blob_core.proofs.Growing.{Cited, length_log, size_in_log, update_next, replay_next}
-use Rattle.blob_core.proofs.Finding.{woven_is}
+use Rattle.blob_core.proofs.Growing.{Cited, size_in_log, update_next, replay_next}
+use Rattle.blob_core.proofs.Finding.{RowsKnown, woven_folded_is, woven_is}
 use Rattle.blob_core.proofs.Taken.{create_done, assign_done, finish_done, branch_done, more_was, with_was}
 use Rattle.blob_core.proofs.Keeping.{Stands, BlobStands, UpdateStands, rows_known, in_bounds, published_within, empty_stands}
 use Rattle.blob_core.proofs.Running.{stands_after, step_stands}
@@ -79,16 +78,20 @@ size_next c us u ok =
     ∙ ap (λ (x : Update). last_size x (size_of (us ++ u ∷ []) (length us))) (update_next us u)
     ∙ ap (λ (n : ℕ). last_size u n) (size_same us (u ∷ []) (length us) (omega arith))
 
--- no version of a blob is larger than the limit
+-- no version of a blob is larger than the limit, and there are no more than the limit
 abbrev SizesFit : ℕ → List Update → Type 0
 SizesFit most us = (v : ℕ) → v ≤ length us → size_of us v ≤ most
 
+record UpdatesFit (limits : Bounds) (us : List Update) : Type 0 where
+  sizes : SizesFit limits.max_size us
+  few : length us ≤ limits.max_versions
+
 record Bounded (limits : Bounds) (s : Store) : Type 0 where
   same : s.limits ≡ limits
-  fits : (blob : ℕ) (b : Blob) → blob_at s blob ≡ Some b → SizesFit limits.max_size b.updates
+  fits : (blob : ℕ) (b : Blob) → blob_at s blob ≡ Some b → UpdatesFit limits b.updates
 
 -- ---- what the steps keep
-bounded_more : (limits : Bounds) (s t : Store) (new : Blob) → Bounded limits s → t ≡ and_blob s new → SizesFit limits.max_size new.updates → Bounded limits t
+bounded_more : (limits : Bounds) (s t : Store) (new : Blob) → Bounded limits s → t ≡ and_blob s new → UpdatesFit limits new.updates → Bounded limits t
 bounded_more limits s t new bound e small =
     let B : Store → Type 0 = λ x. Bounded limits x in
     subst B (sym e)
@@ -96,13 +99,13 @@ bounded_more limits s t new bound e small =
       same = bound.same;
       fits = λ blob b is.
           elim (more_was s new blob b is) [
-            | inl here ↦ (let P : Blob → Type 0 = λ x. SizesFit limits.max_size x.updates in subst P here.1 small)
+            | inl here ↦ (let P : Blob → Type 0 = λ x. UpdatesFit limits x.updates in subst P here.1 small)
             | inr old ↦ bound.fits blob b old
           ];
     })
 
 bounded_with : (limits : Bounds) (s t : Store) (at : ℕ) (before new : Blob) → Bounded limits s → blob_at s at ≡ Some before → t ≡ with_blob s at new
-    → SizesFit limits.max_size new.updates → Bounded limits t
+    → UpdatesFit limits new.updates → Bounded limits t
 bounded_with limits s t at before new bound there e small =
     let B : Store → Type 0 = λ x. Bounded limits x in
     subst B (sym e)
@@ -110,7 +113,7 @@ bounded_with limits s t at before new bound there e small =
       same = bound.same;
       fits = λ blob b is.
           elim (with_was s at before new there blob b is) [
-            | inl here ↦ (let P : Blob → Type 0 = λ x. SizesFit limits.max_size x.updates in subst P here.1 small)
+            | inl here ↦ (let P : Blob → Type 0 = λ x. UpdatesFit limits x.updates in subst P here.1 small)
             | inr old ↦ bound.fits blob b old
           ];
     })
@@ -119,6 +122,10 @@ second_false : (x y z : Bool) → (x || (y || z)) ≡ false → y ≡ false
 second_false true y z e = (let no : ⊥ = cc in absurd no)
 second_false false true z e = (let no : ⊥ = cc in absurd no)
 second_false false false z e = refl
+
+third_false : (x y z v : Bool) → (x || (y || (z || v))) ≡ false → z ≡ false
+third_false true y z v e = (let no : ⊥ = cc in absurd no)
+third_false false y z v e = second_false y z v e
 
 test_small : (a b : ℕ) → nat_lt a b ≡ false → b ≤ a
 test_small a b e = grind (arith, nat_tests)
@@ -133,6 +140,18 @@ update_small limits s caller blob place bytes b bound is taken =
     (assigned b == s.limits.max_versions || (waiting b == s.limits.max_open || false)) tests) in
     let same : s.limits.max_size ≡ limits.max_size = ap (λ (l : Bounds). l.max_size) bound.same in
     omega arith
+
+-- and it leaves no more updates than the limit
+update_few : (limits : Bounds) (s : Store) (caller blob : ℕ) (place : Place) (bytes : List ℕ) (b : Blob) → Bounded limits s → blob_at s blob ≡ Some b
+    → is_refused (answer s caller (Calls.Assign blob place bytes)).1 ≡ false → assigned b < limits.max_versions
+update_few limits s caller blob place bytes b bound is taken =
+    let tests = sym (assign_refused s caller blob place bytes b is) ∙ taken in
+    let apart : (assigned b == s.limits.max_versions) ≡ false =
+    third_false (nat_lt (size_now b) (offset_of place (size_now b))) (nat_lt s.limits.max_size (size_with b place bytes))
+    (assigned b == s.limits.max_versions) (waiting b == s.limits.max_open || false) tests in
+    let same : s.limits.max_versions ≡ limits.max_versions = ap (λ (l : Bounds). l.max_versions) bound.same in
+    let few : assigned b ≤ limits.max_versions = (bound.fits blob b is).few in
+    grind (arith, nat_tests, apart, same, few)
 
 fits_next : (c : Cited) (most : ℕ) (us : List Update) (u : Update) → Replayable (us ++ u ∷ []) → SizesFit most us → last_size u (size_of us (length us)) ≤ most → SizesFit most (us ++ u ∷ [])
 fits_next c most us u ok fits small v le =
@@ -154,7 +173,8 @@ fits_front most us n le fits v within =
 bounded_step : (c : Cited) (p : ℕ) (limits : Bounds) (w : World) (step : Step) → 1 ≤ p → Stands p w → Bounded limits w.store → IsAllowed p w step → Bounded limits (after p w step).store
 bounded_step c p limits w (Moves.PagePut page bytes) pos s bound ok = bound
 bounded_step c p limits w (Moves.Create caller) pos s bound ok =
-    bounded_more limits w.store (store_from w.store (Events.Create caller ∷ [])) (record { updates = []; finished = [] }) bound (create_done w.store caller ok) (λ v le. none_small limits.max_size v le)
+    bounded_more limits w.store (store_from w.store (Events.Create caller ∷ [])) (record { updates = []; finished = [] }) bound (create_done w.store caller ok)
+    (record { sizes = λ v le. none_small limits.max_size v le; few = omega arith })
 bounded_step c p limits w (Moves.Assign caller blob place pages) pos s bound ok =
     let bytes : List ℕ = bytes_of_pages w.pages pages in
     let (b, is, fits, store) = assign_done w.store caller blob place bytes ok.1 in
@@ -162,7 +182,11 @@ bounded_step c p limits w (Moves.Assign caller blob place pages) pos s bound ok 
     let bs : BlobStands p w blob b = s.blobs blob b is in
     let replay : Replayable (b.updates ++ u ∷ []) = replay_next b.updates u bs.replay fits (joined_some p w.pages s.pages pages ok.0) in
     bounded_with limits w.store (store_from w.store (Events.Assign caller blob place bytes ∷ [])) blob b (and_update b u) bound is store
-    (fits_next c limits.max_size b.updates u replay (bound.fits blob b is) (update_small limits w.store caller blob place bytes b bound is ok.1))
+    (record {
+      sizes = fits_next c limits.max_size b.updates u replay (bound.fits blob b is).sizes (update_small limits w.store caller blob place bytes b bound is ok.1);
+      few = omega (arith, length-append b.updates (u ∷ []), update_few limits w.store caller blob place bytes b bound is ok.1);
+    })
+bounded_step c p limits w (Moves.FoldPut blob version page) pos s bound ok = bound
 bounded_step c p limits w (Moves.NodePut key) pos s bound ok = bound
 bounded_step c p limits w (Moves.Finish caller blob version) pos s bound ok =
     let (b, is, store) = finish_done w.store caller blob version ok.0 in
@@ -171,7 +195,10 @@ bounded_step c p limits w (Moves.Branch caller blob version) pos s bound ok =
     let (b, is, le, store) = branch_done w.store caller blob version ok in
     let within : version ≤ assigned b = omega (arith, published_within p w blob b (s.blobs blob b is)) in
     bounded_more limits w.store (store_from w.store (Events.Branch caller blob version ∷ [])) (branch_of b version) bound store
-    (fits_front limits.max_size b.updates version within (bound.fits blob b is))
+    (record {
+      sizes = fits_front limits.max_size b.updates version within (bound.fits blob b is).sizes;
+      few = omega (arith, length-take-le version b.updates within, within, (bound.fits blob b is).few);
+    })
 bounded_step c p limits w (Moves.Read blob version offset count) pos s bound ok = bound
 
 bounded_after : (c : Cited) (p : ℕ) (limits : Bounds) (w : World) (steps : List Step) → 1 ≤ p → Stands p w → Bounded limits w.store → AllAllowed p w steps
@@ -185,16 +212,18 @@ none_only true b e = cc
 none_only false b e = cc
 
 -- ---- a world that is reached
-weaves_row : (c : Cited) (p : ℕ) (w : World) (blob : ℕ) (b : Blob) → 1 ≤ p → Stands p w → BlobStands p w blob b → (k : ℕ) (r : Range) → origin w blob k ≡ blob
-    → HasNode p (log_of p b.updates) k r → WeavesRow p w blob b k r
-weaves_row c p w blob b pos s bs k r own has =
-    let upto : k ≤ assigned b = omega (arith, has.version.1, length_log p b.updates) in
-    let u : UpdateStands p w blob b k = bs.updates k has.version.0 upto in
+weaves_row : (c : Cited) (p : ℕ) (w : World) (blob : ℕ) (b : Blob) → 1 ≤ p → BlobStands p w blob b → (k : ℕ) → IsNumberedIn w blob k b → WeavesRow p w blob b k
+weaves_row c p w blob b pos bs k own =
+    let u : UpdateStands p w blob b k = bs.updates k own.some own.upto in
+    let ok : InBounds (extents b.updates) = in_bounds c b.updates bs.replay in
+    let known : RowsKnown p w blob b.updates u.kept.published = rows_known p w blob b u.kept.published bs u.front in
     let At : ℕ → Type 0 = λ o. kept_at w.updates o k ≡ Some u.kept in
     record {
       kept = u.kept;
-      there = subst At own u.there;
-      is = woven_is c p w blob b u.kept k r pos (in_bounds c b.updates bs.replay) (rows_known p w blob b u.kept.published bs u.front) u.before u.waiting upto has.aligned;
+      there = subst At own.own u.there;
+      bytes = u.bytes;
+      folded = λ i. woven_folded_is c p w blob b u.kept k pos ok known u.before u.waiting own.upto i;
+      nodes = λ r has. woven_is c p w blob b u.kept k r pos ok known u.before u.waiting own.upto has.aligned;
     }
 
 sound : (c : Cited) (p : ℕ) (limits : Bounds) (w : World) → IsWithin limits → 1 ≤ p → Stands p w → Bounded limits w.store → (blob : ℕ) (b : Blob) → blob_at w.store blob ≡ Some b
@@ -205,8 +234,9 @@ sound c p limits w within pos s bound blob b is =
       replay = bs.replay;
       marks = bs.marks;
       front = published_within p w blob b bs;
-      fits = λ v le. omega (arith, bound.fits blob b is v le, within.size);
-      weaves = λ k r own has. weaves_row c p w blob b pos s bs k r own has;
+      few = omega (arith, (bound.fits blob b is).few, within.versions);
+      fits = λ v le. omega (arith, (bound.fits blob b is).sizes v le, within.size);
+      weaves = λ k own. weaves_row c p w blob b pos bs k own;
     }
 
 pub reached_stays : (c : Cited) → ReachedStays

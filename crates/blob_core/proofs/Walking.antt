@@ -58,7 +58,7 @@ older_by most p w blob back i bytes false t none on = on refl ∙ ap Bytes (sym 
 pub leaf_on : (most p : ℕ) (w : World) (blob j i : ℕ) (n : Node) (kept : UpdateEntry) (older own : List ℕ) → 1 ≤ most → is_leaf n ≡ true
     → node_in w blob j (page_range p i) ≡ Some n → kept_at w.updates (origin w blob j) j ≡ Some kept
     → (back_link n ≡ 0 → older ≡ []) → (1 ≤ back_link n → older ≡ (leaf_walk (most - 1) p w blob (back_link n) i).bytes)
-    → own ≡ bytes_of_piece w kept.pages (first_of n) ++ bytes_of_piece w kept.pages (second_of n)
+    → own ≡ bytes_of_piece w blob j i kept.pages (first_of n) ++ bytes_of_piece w blob j i kept.pages (second_of n)
     → put older (start_of n) own ≡ (leaf_walk most p w blob j i).bytes
 leaf_on zero p w blob j i n kept older own some leaf node there none on pieces = absurd (omega arith)
 leaf_on (suc most) p w blob j i n kept older own some leaf node there none on pieces =

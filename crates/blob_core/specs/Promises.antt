@@ -11,27 +11,38 @@ use Rattle.tree_geom.specs.declared.node.Node.{Node}
 use Rattle.tree_geom.specs.declared.node.NodeKey.{NodeKey}
 use Rattle.tree_geom.specs.Geometry.{Aligned}
 use Rattle.range_log.specs.Log.{HasNode, newest_of}
-use Rattle.range_log.specs.Updates.{extents}
-use Rattle.range_log.specs.Rows.{row_keys_of}
+use Rattle.range_log.specs.Updates.{extents, page_bytes}
+use Rattle.range_log.specs.Rows.{row_keys_of, node_of}
 use Rattle.range_log.specs.Visits.{visits}
 use Rattle.tree_walk.specs.Walk.{root_of}
-use Rattle.blob_core.specs.World.{World, IsKnown, empty_world, node_at, node_in, log_of, world_node}
+use Rattle.blob_core.specs.World.{World, IsKnown, empty_world, fold_at, node_at, node_in, log_of}
 use Rattle.blob_core.specs.Woven.{found_in}
 use Rattle.blob_core.specs.Steps.{world_after, AllAllowed, IsAllowed, events_from}
 use Rattle.blob_core.specs.Walk.{Way, reached, read_walk}
 use Rattle.blob_core.specs.declared.step.Step.{Step}
 use Rattle.blob_core.specs.declared.step.Step.TheVariants as Moves
 
--- the node under a key is that of the key's version in the row of its blob's updates, but for its depth
+-- the node under a key is that of the key's version in the row of its blob's updates
 pub record IsRowNode (p : ℕ) (w : World) (key : NodeKey) (n : Node) : Type 0 where
   pub b : Blob
   pub there : blob_at w.store key.blob ≡ Some b
   pub has : HasNode p (log_of p b.updates) key.version key.range
-  pub is : n ≡ world_node p (extents b.updates) key.version key.range
+  pub is : n ≡ node_of p (extents b.updates) key.version key.range
 
--- every node that is there is the row's node for its key, but for its depth
+-- every node that is there is the row's node for its key
 abbrev pub NodesAreRows : ℕ → World → Type 0
 NodesAreRows p w = (key : NodeKey) (n : Node) → node_at w.nodes key ≡ Some n → IsRowNode p w key n
+
+-- the bytes of a page that an update stored anew are the page's valid bytes at the update's version
+pub record IsFoldPage (p : ℕ) (w : World) (blob version page : ℕ) (bytes : List ℕ) : Type 0 where
+  pub b : Blob
+  pub there : blob_at w.store blob ≡ Some b
+  pub upto : version ≤ assigned b
+  pub is : bytes ≡ page_bytes p b.updates version page
+
+-- every page that an update stored anew has the valid bytes of that page of the update's version
+abbrev pub FoldsArePages : ℕ → World → Type 0
+FoldsArePages p w = (blob version page : ℕ) (bytes : List ℕ) → fold_at w.folded blob version page ≡ Some bytes → IsFoldPage p w blob version page bytes
 
 -- once an update is finished, the store has a node under each key of its row
 abbrev pub FinishedRowsAreThere : ℕ → World → Type 0
@@ -64,6 +75,7 @@ pub record Holds (p : ℕ) (limits : Bounds) (steps : List Step) (w : World) : T
   pub legal : IsLegal limits (events_from p (empty_world limits) steps)
   pub store : w.store ≡ store_of limits (events_from p (empty_world limits) steps)
   pub nodes : NodesAreRows p w
+  pub folds : FoldsArePages p w
   pub rows : FinishedRowsAreThere p w
   pub found : FoundIsNewest p w
   pub reached : ReachedIsThere p w

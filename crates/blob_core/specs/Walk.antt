@@ -1,4 +1,4 @@
-use Rattle.std.specs.Prelude.{ℕ, ◌+◌, ◌-◌, ◌*◌, ◌/◌, ◌^◌, ◌==◌, ◌&&◌, nat_lt, nat_le, zero, suc, true, false, List, [], ◌∷◌, ◌++◌, take, drop, if◌then◌else◌, option_map, Option, Some, None}
+use Rattle.std.specs.Prelude.{ℕ, ◌+◌, ◌-◌, ◌*◌, ◌/◌, ◌^◌, ◌==◌, ◌&&◌, nat_lt, nat_le, zero, suc, true, false, List, [], ◌∷◌, ◌++◌, take, drop, if◌then◌else◌, option_map, length, Option, Some, None}
 use Rattle.blob_model.specs.Content.{put}
 use Rattle.blob_model.specs.Store.{Blob, blob_at}
 use Rattle.blob_model.specs.Answer.{answer}
@@ -13,7 +13,7 @@ use Rattle.tree_geom.specs.Geometry.{tree_range, page_range, left_half, right_ha
 use Rattle.tree_geom.specs.Nodes.{left_link, right_link, back_link, is_leaf, start_of, first_of, second_of}
 use Rattle.range_log.specs.Extents.{size_after}
 use Rattle.range_log.specs.Updates.{extents}
-use Rattle.blob_core.specs.World.{World, node_in, kept_at, origin, nth_page}
+use Rattle.blob_core.specs.World.{World, fold_at, node_in, kept_at, origin, nth_page}
 
 -- ---- what links lead to
 -- a way on from a node: by one of its links, or by its back
@@ -58,9 +58,16 @@ nothing = record { bytes = []; nodes = 0 }
 abbrev pub both : Walked → Walked → Walked
 both a b = record { bytes = a.bytes ++ b.bytes; nodes = 1 + a.nodes + b.nodes }
 
--- the bytes of a piece of an update's pages
-abbrev pub bytes_of_piece : World → List ℕ → Piece → List ℕ
-bytes_of_piece w pages piece = take piece.len (drop piece.from (nth_page w.pages pages piece.page))
+-- the bytes of stored page q of version j, as its leaf of page i means it: those of the buffer's page, and past the buffer's
+-- pages those of page i, which the update stored anew
+abbrev pub stored_in : World → ℕ → ℕ → ℕ → List ℕ → ℕ → List ℕ
+stored_in w blob j i pages q =
+    if nat_lt q (length pages) then nth_page w.pages pages q
+    else elim (fold_at w.folded (origin w blob j) j i) [ None ↦ [] | Some bytes ↦ bytes ]
+
+-- the bytes of a piece of that leaf
+abbrev pub bytes_of_piece : World → ℕ → ℕ → ℕ → List ℕ → Piece → List ℕ
+bytes_of_piece w blob j i pages piece = take piece.len (drop piece.from (stored_in w blob j i pages piece.page))
 
 -- the update's own bytes from `start` on, over older ones
 abbrev pub over : Walked → ℕ → List ℕ → Walked
@@ -81,7 +88,7 @@ leaf_walk (suc most) p w blob j i =
                   | true ↦
                       over
                       (let older : Walked = elim (back_link n == 0) [ true ↦ nothing | false ↦ leaf_walk most p w blob (back_link n) i ] in older)
-                      (start_of n) (bytes_of_piece w kept.pages (first_of n) ++ bytes_of_piece w kept.pages (second_of n))
+                      (start_of n) (bytes_of_piece w blob j i kept.pages (first_of n) ++ bytes_of_piece w blob j i kept.pages (second_of n))
                 ]
           ]
     ]
@@ -101,6 +108,10 @@ tree_walk_from (suc h) p w blob j q first last =
           ]
       | false ↦ nothing
     ]
+
+-- the valid bytes of page i of version v, from its root to the page's leaf
+abbrev pub page_walk : ℕ → World → ℕ → Blob → ℕ → ℕ → List ℕ
+page_walk p w blob b v i = (tree_walk_from (height_of p (size_after (extents b.updates) v)) p w blob v 0 i i).bytes
 
 -- the count bytes from offset of what the leaves brought, which begins at page first
 abbrev pub cut_out : ℕ → ℕ → ℕ → Walked → Walked

@@ -6,15 +6,14 @@ use Rattle.tree_geom.specs.declared.range.Range.{Range}
 use Rattle.tree_geom.specs.declared.touch.Touch.{Touch}
 use Rattle.tree_geom.specs.declared.node.Node.{Node}
 use Rattle.tree_geom.specs.declared.node.NodeKey.{NodeKey}
-use Rattle.tree_geom.specs.Nodes.{with_depth}
 use Rattle.range_log.specs.declared.«open».OpenTouch.{OpenTouch}
 use Rattle.branching.specs.declared.Parent.{Parent}
 use Rattle.branching.specs.Parents.{origin_of}
+use Rattle.blob_core.specs.declared.world.FoldKey.{FoldKey}
 use Rattle.blob_core.specs.declared.world.UpdateKey.{UpdateKey}
 use Rattle.range_log.specs.Log.{touch_at}
-use Rattle.range_log.specs.Extents.{Extent, touches}
+use Rattle.range_log.specs.Extents.{touches}
 use Rattle.range_log.specs.Updates.{extents}
-use Rattle.range_log.specs.Rows.{node_of}
 
 -- ---- finite maps, as lists of keys with their values
 -- the value of a key: that of the first entry whose key is the same
@@ -35,17 +34,18 @@ pub record UpdateEntry : Type 0 where
   pub waiting : List OpenTouch
 
 -- A world: the store; for each blob, the newest first, its parent if it is a branch; the pages; what is kept beside each
--- update; the nodes.
+-- update; the pages that updates store anew; the nodes.
 pub record World : Type 0 where
   pub store : Store
   pub lineage : List (Option Parent)
   pub pages : List (ℕ × List ℕ)
   pub updates : List (UpdateKey × UpdateEntry)
+  pub folded : List (FoldKey × List ℕ)
   pub nodes : List (NodeKey × Node)
 
 -- limits, and nothing else
 abbrev pub empty_world : Bounds → World
-empty_world limits = record { store = empty_store limits; lineage = []; pages = []; updates = []; nodes = [] }
+empty_world limits = record { store = empty_store limits; lineage = []; pages = []; updates = []; folded = []; nodes = [] }
 
 -- ---- what is in it
 abbrev pub same_number : ℕ → ℕ → Bool
@@ -53,6 +53,9 @@ same_number a b = a == b
 
 abbrev pub same_update : UpdateKey → UpdateKey → Bool
 same_update a b = a.blob == b.blob && a.version == b.version
+
+abbrev pub same_fold : FoldKey → FoldKey → Bool
+same_fold a b = a.blob == b.blob && a.version == b.version && a.page == b.page
 
 abbrev pub same_key : NodeKey → NodeKey → Bool
 same_key a b = a.blob == b.blob && a.version == b.version && a.range.offset == b.range.offset && a.range.size == b.range.size
@@ -69,6 +72,10 @@ node_at nodes key = entry_at same_key nodes key
 abbrev pub kept_at : List (UpdateKey × UpdateEntry) → ℕ → ℕ → Option UpdateEntry
 kept_at updates blob version = entry_at same_update updates (record { blob = blob; version = version })
 
+-- the bytes of a page that the update of that version, which was numbered in that blob, stored anew
+abbrev pub fold_at : List (FoldKey × List ℕ) → ℕ → ℕ → ℕ → Option (List ℕ)
+fold_at folded blob version page = entry_at same_fold folded (record { blob = blob; version = version; page = page })
+
 -- the blob that a blob's version was numbered in
 abbrev pub origin : World → ℕ → ℕ → ℕ
 origin w blob version = origin_of w.lineage blob version
@@ -80,12 +87,6 @@ key_in w blob version r = record { blob = origin w blob version; version = versi
 -- the node of a blob's version for a range
 abbrev pub node_in : World → ℕ → ℕ → Range → Option Node
 node_in w blob version r = node_at w.nodes (key_in w blob version r)
-
--- ---- nodes
--- The node that a world has for the range in the row of version k. A world keeps no depths, since neither reads nor weaving
--- need them: the depth is 0 in each leaf. The links, the start, the pieces and the back are those of the row's node.
-abbrev pub world_node : ℕ → List Extent → ℕ → Range → Node
-world_node p us k r = with_depth 0 (node_of p us k r)
 
 -- ---- pages
 -- the bytes of a page, none where it isn't there

@@ -59,6 +59,11 @@ impl State {
                 place,
                 pages,
             } => self.number(alloc, p, *caller, *blob, *place, pages),
+            Step::FoldPut {
+                blob,
+                version,
+                page,
+            } => self.put_fold(alloc, p, *blob, *version, *page),
             Step::NodePut { key } => self.put_node(alloc, p, *key),
             Step::Finish {
                 caller,

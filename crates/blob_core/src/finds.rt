@@ -1,10 +1,11 @@
 // Where things are in a world.
-ghost use Rattle.std.specs.Prelude.{◌≡◌, None, Some, MatchOption};
+ghost use Rattle.std.specs.Prelude.{◌≡◌, None, Some, true, false, MatchOption};
 ghost use Rattle.blob_model.specs.Store.{blob_at, true_prefix};
-ghost use Rattle.blob_core.specs.World.{same_key, node_at, page_at};
+ghost use Rattle.blob_core.specs.World.{IsKnown, same_key, fold_at, kept_at, node_at, page_at};
 ghost use Rattle.branching.specs.Parents.{origin_of};
 
-use crate::state::{State, StoredBlob};
+use crate::state::{KeptUpdate, State, StoredBlob};
+use crate::world::{FoldKey, UpdateKey};
 use blob_model::Bytes;
 use branching::Parent;
 use tree_geom::{Node, NodeKey};
@@ -37,6 +38,43 @@ pub(crate) fn find_page(pages: &[(u64, Bytes)], page: u64) -> Option<&Bytes>
 {
     for entry in pages {
         if entry.0 == page {
+            return Some(&entry.1);
+        }
+    }
+    None
+}
+
+/// The bytes of a page that an update stored anew.
+pub(crate) fn find_fold<'a>(folded: &'a [(FoldKey, Bytes)], key: &FoldKey) -> Option<&'a Bytes>
+    ensures { MatchOption result (fold_at folded.now key.now.blob key.now.version key.now.page ≡ None)
+        (λ bytes. fold_at folded.now key.now.blob key.now.version key.now.page ≡ Some bytes.now) }
+{
+    for entry in folded {
+        if entry.0.blob == key.blob && entry.0.version == key.version && entry.0.page == key.page {
+            return Some(&entry.1);
+        }
+    }
+    None
+}
+
+/// Whether a page that an update stored anew is there.
+pub(crate) fn has_fold(folded: &[(FoldKey, Bytes)], key: &FoldKey) -> bool
+    ensures there { result ≡ true → IsKnown (fold_at folded.now key.now.blob key.now.version key.now.page) }
+    ensures missing { result ≡ false → fold_at folded.now key.now.blob key.now.version key.now.page ≡ None }
+{
+    find_fold(folded, key).is_some()
+}
+
+/// What is kept beside the update of that version that was numbered in that blob.
+pub(crate) fn find_kept(
+    updates: &[(UpdateKey, KeptUpdate)],
+    blob: u64,
+    version: u64,
+) -> Option<&KeptUpdate>
+    ensures { MatchOption result (kept_at updates.now blob version ≡ None) (λ kept. kept_at updates.now blob version ≡ Some kept.now) }
+{
+    for entry in updates {
+        if entry.0.blob == blob && entry.0.version == version {
             return Some(&entry.1);
         }
     }

@@ -8,8 +8,8 @@ use tree_walk::laws as walks;
 /// Of each world to which allowed steps lead from the empty one, in whatever order:
 ///
 /// - the store is that of the changing steps as events, and these are a legal history;
-/// - every node that is there is the row's node for its key but for the depth, which a world doesn't keep, however old the
-///   hints that its writer had;
+/// - every node that is there is the row's node for its key, however old the hints that its writer had;
+/// - every page that an update stored anew has the page's valid bytes at the update's version;
 /// - every key of a finished update's row is there;
 /// - the nodes that are there lead from a published root to the newest version of each aligned range;
 /// - every node that links and backs lead to from the root of a published version is there;

@@ -1,104 +1,29 @@
 // The nodes of a row, storing one of them, and finishing an update.
-ghost use Rattle.std.specs.Prelude.{◌≡◌, ℕ, ◌+◌, ◌*◌, ◌≤◌, ◌^◌, ◌↔◌, IsTrue, true, false, length, IfOk, OnErr, IsErrOf, MatchOption};
+ghost use Rattle.std.specs.Prelude.{◌≡◌, ◌≤◌, ◌↔◌, IsTrue, true, false, length, IfOk, OnErr, IsErrOf, MatchOption};
 ghost use Rattle.std.specs.List.{Contains};
-ghost use Rattle.blob_model.specs.Content.{size_of};
-ghost use Rattle.blob_model.specs.Store.{assigned, finish, is_finished};
-ghost use Rattle.range_log.specs.Log.{HasNode, size_at as size_in};
-ghost use Rattle.range_log.specs.Extents.{Extent, extent_at};
-ghost use Rattle.range_log.specs.Updates.{Replayable, extents};
-ghost use Rattle.range_log.specs.Rows.{leaf_at, leaf_start, leaf_len, first_piece, second_piece, piece_count};
-ghost use Rattle.blob_core.specs.World.{log_of, world_node};
+ghost use Rattle.blob_model.specs.Store.{finish, is_finished};
+ghost use Rattle.range_log.specs.Log.{HasNode};
+ghost use Rattle.range_log.specs.Updates.{extents};
+ghost use Rattle.range_log.specs.Rows.{node_of};
+ghost use Rattle.blob_core.specs.World.{log_of};
 ghost use Rattle.blob_core.specs.Steps.{IsAllowed};
 ghost use Rattle.blob_core.specs.Standing.{IsReached};
-ghost use Rattle.blob_core.specs.Acts.{IsDone, IsRowOf, NotNumberedIn, AreThere};
+ghost use Rattle.blob_core.specs.Acts.{IsDone, IsLogOf, IsRowOf, NotNumberedIn, AreThere, LacksFold, HasFold};
 ghost use Rattle.blob_core.specs.declared.step.Step.TheVariants.{NodePut, Finish};
 ghost use Rattle.blob_core.specs.declared.state.ActFault.TheVariants.{NotAllowed};
 
-use crate::finds::{find_node, origin};
+use crate::finds::{find_node, has_fold, origin};
 use crate::laws::steps_hold;
+use crate::leaves::{folds_page, row_leaf};
 use crate::state::{ActFault, State, StoredBlob};
-use crate::updates::{offset_in, size_at, touches_of};
+use crate::updates::{size_at, touches_of};
+use crate::world::FoldKey;
+use blob_model::Bytes;
 use range_log::{NoMemory, laws, newest, row_keys};
 use std::alloc::Global;
-use tree_geom::{Node, NodeKey, PageSize, Piece, Range, Touch, covers_page, halves, span_stands};
+use tree_geom::{Node, NodeKey, PageSize, Range, Touch, halves, span_stands};
 
-/// The pieces of `len` bytes of an update's buffer from byte `from` on, and how many they are.
-///
-/// A piece counts pages by 32 bits: an update of more pages wants too much memory.
-fn pieces(p: PageSize, from: u64, len: u64) -> Result<(u32, Piece, Piece), NoMemory>
-    requires some { 1 ≤ len }
-    requires small { len ≤ p }
-    ensures count { IfOk result (λ r. r.0 ≡ piece_count p from len) }
-    ensures first { IfOk result (λ r. r.1 ≡ first_piece p from len) }
-    ensures second { IfOk result (λ r. r.2 ≡ second_piece p from len) }
-{
-    let size = p.bytes();
-    let Ok(page) = u32::try_from(from / size) else {
-        return Err(NoMemory);
-    };
-    let begin = from % size;
-    let room = size - begin;
-    let first = Piece {
-        page,
-        from: begin as u32,
-        len: room.min(len) as u32,
-    };
-    if len <= room {
-        let none = Piece {
-            page: 0,
-            from: 0,
-            len: 0,
-        };
-        return Ok((1, first, none));
-    }
-    let Some(next) = page.checked_add(1) else {
-        return Err(NoMemory);
-    };
-    let second = Piece {
-        page: next,
-        from: 0,
-        len: (len - room) as u32,
-    };
-    Ok((2, first, second))
-}
-
-/// The leaf of a page of an update of `len` bytes at `at`, some of which lie in the page. A world keeps no depths.
-fn leaf(p: PageSize, at: u64, len: u64, page: u64, back: u64) -> Result<Node, NoMemory>
-    requires end { at + len ≤ 2 ^ 40 }
-    requires page { page * p ≤ 2 ^ 40 }
-    requires some { 1 ≤ leaf_len p (record { at = at; len = len }) page }
-    requires small { leaf_start p (record { at = at; len = len }) page + leaf_len p (record { at = at; len = len }) page ≤ p }
-    ensures { IfOk result (λ node. node ≡ leaf_at p (record { at = at; len = len }) page back 0) }
-{
-    let size = p.bytes();
-    let begin = page * size;
-    let low = at.max(begin);
-    let high = (at + len).min(begin + size);
-    let (count, first, second) = pieces(p, low - at, high - low)?;
-    Ok(Node::Leaf {
-        start: (low - begin) as u32,
-        count,
-        first,
-        second,
-        back,
-        depth: 0,
-    })
-}
-
-/// Where a version's update falls, and how many bytes it has.
-fn extent(blob: &StoredBlob, log: &[Touch], version: usize) -> (u64, u64)
-    requires version { (1 ≤ version) × (version ≤ assigned blob.now) }
-    requires count { length log.now ≡ assigned blob.now }
-    requires sizes { (v : ℕ) → v ≤ assigned blob.now → size_in log.now v ≡ size_of blob.now.updates v }
-    ensures at { result.0 ≡ (extent_at (extents blob.now.updates) version).at }
-    ensures len { result.1 ≡ (extent_at (extents blob.now.updates) version).len }
-{
-    let update = &blob.updates[version - 1];
-    let before = size_at(log, version - 1);
-    (offset_in(update.place, before), update.bytes.len() as u64)
-}
-
-/// The node of a version's row for a range, without its depth.
+/// The node of a version's row for a range.
 fn row_node(
     p: PageSize,
     blob: &StoredBlob,
@@ -106,31 +31,45 @@ fn row_node(
     version: usize,
     range: Range,
 ) -> Result<Node, NoMemory>
-    requires replay { Replayable blob.now.updates }
-    requires fits { (v : ℕ) → v ≤ assigned blob.now → size_of blob.now.updates v ≤ 2 ^ 40 }
-    requires log { log.now ≡ log_of p blob.now.updates }
+    requires log { IsLogOf p blob.now log.now }
     requires has { HasNode p (log_of p blob.now.updates) version range }
-    ensures { IfOk result (λ node. node ≡ world_node p (extents blob.now.updates) version range) }
+    ensures { IfOk result (λ node. node ≡ node_of p (extents blob.now.updates) version range) }
 {
     laws::page_bytes_stay();
-    laws::leaves_fill();
-    let size = size_at(log, version);
-    span_stands(p, size);
-    if range.size != p.bytes() {
-        let (left, right) = halves(range);
-        return Ok(Node::Inner {
-            left: newest(p, log, version, left),
-            right: newest(p, log, version, right),
-        });
+    if range.size == p.bytes() {
+        return row_leaf(p, blob, log, version, range.offset / p.bytes());
     }
-    let (at, len) = extent(blob, log, version);
-    let page = range.offset / p.bytes();
-    let back = if covers_page(p, at, len, size, page) {
-        0
-    } else {
-        newest(p, log, version - 1, range)
+    span_stands(p, size_at(log, version));
+    let (left, right) = halves(range);
+    Ok(Node::Inner {
+        left: newest(p, log, version, left),
+        right: newest(p, log, version, right),
+    })
+}
+
+/// Whether the range is that of a page that the version's update stores anew, and the page isn't there.
+fn lacks_fold(
+    p: PageSize,
+    folded: &[(FoldKey, Bytes)],
+    blob: &StoredBlob,
+    log: &[Touch],
+    key: &NodeKey,
+) -> bool
+    requires log { IsLogOf p blob.now log.now }
+    requires has { HasNode p (log_of p blob.now.updates) key.now.version key.now.range }
+    ensures lacks { result ≡ true → LacksFold p folded.now key.now blob.now }
+    ensures has { result ≡ false → HasFold p folded.now key.now blob.now }
+{
+    if key.range.size != p.bytes() {
+        return false;
+    }
+    let page = key.range.offset / p.bytes();
+    let fold = FoldKey {
+        blob: key.blob,
+        version: key.version,
+        page,
     };
-    leaf(p, at, len, page, back)
+    folds_page(p, blob, log, key.version as usize, page) && !has_fold(folded, &fold)
 }
 
 /// Whether the range is one of these.
@@ -176,14 +115,14 @@ fn is_marked(blob: &StoredBlob, version: usize) -> bool
 
 /// What a blob's updates touch, and the ranges of the row of one of its versions.
 #[derive(Drop)]
-struct Row {
-    log: Vec<Touch>,
-    keys: Vec<Range>,
+pub(crate) struct Row {
+    pub(crate) log: Vec<Touch>,
+    pub(crate) keys: Vec<Range>,
 }
 
 impl State {
     /// The row of a version. None exactly where the version wasn't numbered in that blob.
-    fn row(
+    pub(crate) fn row(
         &self,
         alloc: Global,
         p: PageSize,
@@ -232,11 +171,15 @@ impl State {
         if !is_among(row.keys.as_slice(), &key.range) {
             return Err(ActFault::NotAllowed);
         }
+        let log = row.log.as_slice();
+        if lacks_fold(p, self.folded.as_slice(), stored, log, &key) {
+            return Err(ActFault::NotAllowed);
+        }
         if find_node(self.nodes.as_slice(), &key).is_some() {
             return Ok(());
         }
         let version = key.version as usize;
-        let node = row_node(p, stored, row.log.as_slice(), version, key.range)?;
+        let node = row_node(p, stored, log, version, key.range)?;
         self.nodes.insert(0, (key, node))?;
         Ok(())
     }

@@ -27,7 +27,7 @@ pub enum ReplayFault {
 /// The world that the steps lead to from the empty one, in order.
 ///
 /// Ok exactly where each step is allowed in the world of the steps before it, and `NotPossible` exactly where one isn't; want of
-/// memory may come in place of either. An update of more than 2^32 pages wants too much memory. The time is about that of the
+/// memory may come in place of either. An update of 2^32 pages or more wants too much memory. The time is about that of the
 /// steps times all that the world holds: this is the model that the program is compared to, and no part of it.
 pub fn replay(
     alloc: Global,

@@ -1,5 +1,5 @@
-// What a world holds: the store, the pages, what is kept beside each update, and the nodes.
-use crate::world::UpdateKey;
+// What a world holds: the store, the pages, what is kept beside each update, the pages that updates store anew, and the nodes.
+use crate::world::{FoldKey, UpdateKey};
 use blob_model::{Bytes, Limits, Place};
 use branching::Parent;
 use range_log::{NoMemory, OpenTouch};
@@ -104,10 +104,12 @@ pub(crate) struct State {
     pub(crate) lineage: Vec<Option<Parent>>,
     pub(crate) pages: Vec<(u64, Bytes)>,
     pub(crate) updates: Vec<(UpdateKey, KeptUpdate)>,
+    pub(crate) folded: Vec<(FoldKey, Bytes)>,
     pub(crate) nodes: Vec<(NodeKey, Node)>,
 }
 
 impl Model for State {
+    ghost use Rattle.std.specs.Prelude.{[]};
     ghost use Rattle.blob_core.specs.World.{World};
 
     ghost Value = { World };
@@ -117,6 +119,7 @@ impl Model for State {
       lineage = w.lineage.items;
       pages = w.pages.items;
       updates = w.updates.items;
+      folded = w.folded.items;
       nodes = w.nodes.items;
     } };
 }

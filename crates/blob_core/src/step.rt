@@ -59,6 +59,12 @@ pub enum Step {
         place: Place,
         pages: PageList,
     },
+    /// A page of the blob that a numbered update stores anew is stored.
+    FoldPut {
+        blob: u64,
+        version: u64,
+        page: u64,
+    },
     /// The node of a numbered update for a range is woven and stored.
     NodePut {
         key: NodeKey,

@@ -1,38 +1,26 @@
 // Reading a version by the nodes and pages of a world.
-ghost use Rattle.std.specs.Prelude.{◌≡◌, ℕ, ◌+◌, ◌*◌, ◌<◌, ◌≤◌, ◌^◌, ◌++◌, None, Some, false, drop, take, IfOk, MatchOption};
+ghost use Rattle.std.specs.Prelude.{◌≡◌, ℕ, ◌+◌, ◌*◌, ◌<◌, ◌≤◌, ◌^◌, ◌++◌, None, Some, [], false, drop, take, IfOk, MatchOption};
 ghost use Rattle.blob_model.specs.Content.{put};
 ghost use Rattle.blob_model.specs.Answer.{answer};
 ghost use Rattle.blob_model.specs.History.{is_refused};
 ghost use Rattle.blob_model.specs.declared.call.Call.TheVariants as Calls;
 ghost use Rattle.tree_geom.specs.Nodes.{left_link, right_link};
-ghost use Rattle.blob_core.specs.World.{kept_at, node_in};
-ghost use Rattle.blob_core.specs.Walk.{bytes_of_piece, leaf_walk, tree_walk_from, walked_in};
+ghost use Rattle.blob_core.specs.World.{node_in};
+ghost use Rattle.blob_core.specs.Walk.{stored_in, bytes_of_piece, leaf_walk, tree_walk_from, walked_in};
 ghost use Rattle.blob_core.specs.Standing.{IsReached};
 
-use crate::finds::{find_node, find_page, origin};
+use crate::finds::{find_fold, find_kept, find_node, find_page, origin};
 use crate::laws::steps_hold;
-use crate::state::{KeptUpdate, State};
+use crate::state::State;
 use crate::updates::{size_at, touches_of};
-use crate::world::UpdateKey;
+use crate::world::FoldKey;
 use blob_model::Bytes;
 use range_log::{NoMemory, laws};
 use std::alloc::{AllocError, Global};
 use tree_geom::{Node, NodeKey, PageSize, Piece, Range, height};
 
-/// What is kept beside the update of that version that was numbered in that blob.
-fn find_kept(updates: &[(UpdateKey, KeptUpdate)], blob: u64, version: u64) -> Option<&KeptUpdate>
-    ensures { MatchOption result (kept_at updates.now blob version ≡ None) (λ kept. kept_at updates.now blob version ≡ Some kept.now) }
-{
-    for entry in updates {
-        if entry.0.blob == blob && entry.0.version == version {
-            return Some(&entry.1);
-        }
-    }
-    None
-}
-
 /// At most `len` bytes from byte `from` on.
-fn part(bytes: &[u8], from: usize, len: usize) -> &[u8]
+pub(crate) fn part(bytes: &[u8], from: usize, len: usize) -> &[u8]
     ensures { result.now ≡ take len (drop from bytes.now) }
 {
     let begin = from.min(bytes.len());
@@ -41,7 +29,12 @@ fn part(bytes: &[u8], from: usize, len: usize) -> &[u8]
 }
 
 /// The older bytes with the update's own in place of them from byte `start` on.
-fn put_over(alloc: Global, older: &[u8], start: usize, own: &[u8]) -> Result<Vec<u8>, AllocError>
+pub(crate) fn put_over(
+    alloc: Global,
+    older: &[u8],
+    start: usize,
+    own: &[u8],
+) -> Result<Vec<u8>, AllocError>
     ensures { IfOk result (λ bytes. bytes.items ≡ put older.now start own.now) }
 {
     let mut bytes = Vec::new(alloc);
@@ -76,17 +69,47 @@ impl State {
         find_node(self.nodes.as_slice(), &key)
     }
 
-    /// Adds the bytes of a piece of an update's pages.
-    fn add_piece(&self, pages: &[u64], piece: &Piece, bytes: &mut Vec<u8>) -> Result<(), AllocError>
-        ensures { IfOk result (λ _. bytes.new.items ≡ bytes.old.items ++ bytes_of_piece self.now pages.now piece.now) }
+    /// The bytes of stored page number `stored` of a version, as its leaf of a page means it: one of those of the update's buffer,
+    /// and past them the page that the update stored anew.
+    fn stored_page(
+        &self,
+        blob: u64,
+        version: u64,
+        page: u64,
+        pages: &[u64],
+        stored: usize,
+    ) -> Option<&Bytes>
+        ensures { MatchOption result (stored_in self.now blob version page pages.now stored ≡ [])
+            (λ bytes. stored_in self.now blob version page pages.now stored ≡ bytes.now) }
     {
-        let Some(number) = pages.get(piece.page as usize) else {
+        if let Some(number) = pages.get(stored) {
+            return find_page(self.pages.as_slice(), *number);
+        }
+        let numbered_in = origin(self.lineage.as_slice(), blob, version);
+        let key = FoldKey {
+            blob: numbered_in,
+            version,
+            page,
+        };
+        find_fold(self.folded.as_slice(), &key)
+    }
+
+    /// Adds the bytes of a piece of a version's leaf of a page.
+    fn add_piece(
+        &self,
+        blob: u64,
+        version: u64,
+        page: u64,
+        pages: &[u64],
+        piece: &Piece,
+        bytes: &mut Vec<u8>,
+    ) -> Result<(), AllocError>
+        ensures { IfOk result (λ _. bytes.new.items ≡ bytes.old.items ++ bytes_of_piece self.now blob version page pages.now piece.now) }
+    {
+        let Some(stored) = self.stored_page(blob, version, page, pages, piece.page as usize) else {
             return Ok(());
         };
-        let Some(page) = find_page(self.pages.as_slice(), *number) else {
-            return Ok(());
-        };
-        bytes.extend_from_slice(part(page.as_slice(), piece.from as usize, piece.len as usize))?;
+        bytes.extend_from_slice(part(stored.as_slice(), piece.from as usize, piece.len as usize))?;
         Ok(())
     }
 
@@ -129,8 +152,9 @@ impl State {
         else {
             return Ok(own);
         };
-        self.add_piece(kept.pages.as_slice(), &first, &mut own)?;
-        self.add_piece(kept.pages.as_slice(), &second, &mut own)?;
+        let pages = kept.pages.as_slice();
+        self.add_piece(blob, version, page, pages, &first, &mut own)?;
+        self.add_piece(blob, version, page, pages, &second, &mut own)?;
         let older = if back == 0 {
             Vec::new(alloc)
         } else {
@@ -140,7 +164,7 @@ impl State {
     }
 
     /// Adds the bytes of the leaves of the pages `first` to `last` under a version's node for range number `q` of a height.
-    fn add_tree(
+    pub(crate) fn add_tree(
         &self,
         alloc: Global,
         p: PageSize,

@@ -26,8 +26,16 @@ pub struct UpdateKey {
     pub version: u64,
 }
 
-/// A world that a list of allowed steps leads to from the empty one: the store, the pages, what is kept beside each update,
-/// and the nodes.
+/// A page that an update stores anew: the blob that the update was numbered in, its version, and the blob's page.
+#[derive(Clone, Copy)]
+pub struct FoldKey {
+    pub blob: u64,
+    pub version: u64,
+    pub page: u64,
+}
+
+/// A world that a list of allowed steps leads to from the empty one: the store, the pages, what is kept beside each update, the
+/// pages that updates store anew, and the nodes.
 #[derive(Drop)]
 pub struct World {
     page: PageSize,
@@ -60,6 +68,7 @@ impl World {
                 lineage: Vec::new(alloc),
                 pages: Vec::new(alloc),
                 updates: Vec::new(alloc),
+                folded: Vec::new(alloc),
                 nodes: Vec::new(alloc),
             },
         }

@@ -64,7 +64,7 @@ fn a_leaf_leads_back_to_the_version_that_waits(rt: HostRuntime) {
             len: 0,
         },
         back: 1,
-        depth: 0,
+        depth: 1,
     };
     assert_eq!(rt; world.node(key(1, 2, 0, 4)), Some(leaf));
     assert!(rt; world.node(key(1, 1, 0, 4)).is_none());
@@ -91,6 +91,27 @@ fn a_node_is_put_for_a_range_of_its_row(rt: HostRuntime) {
     ];
     for (blob, version, offset, size) in keys {
         assert_refused(&rt, node(blob, version, offset, size));
+    }
+}
+
+#[test]
+fn no_page_is_stored_anew_that_has_another_leaf(rt: HostRuntime) {
+    // one leaf that covers its page, one that leaves a byte of it to the first, and pages of no update
+    let pages = [
+        (1, 1, 0),
+        (1, 2, 0),
+        (1, 2, 1),
+        (1, 3, 0),
+        (1, 0, 0),
+        (2, 1, 0),
+    ];
+    for (blob, version, page) in pages {
+        let step = Step::FoldPut {
+            blob,
+            version,
+            page,
+        };
+        assert_refused(&rt, step);
     }
 }
 

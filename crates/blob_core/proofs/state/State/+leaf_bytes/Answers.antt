@@ -4,6 +4,7 @@ use Rattle.blob_model.specs.Content.{put}
 use Rattle.tree_geom.specs.declared.range.Range.{Range}
 use Rattle.tree_geom.specs.declared.node.Node.{Node}
 use Rattle.tree_geom.specs.declared.node.Node.TheVariants.{Inner, Leaf}
+use Rattle.tree_geom.specs.declared.node.Piece.{Piece}
 use Rattle.tree_geom.specs.Geometry.{page_range}
 use Rattle.blob_core.specs.World.{World, UpdateEntry, kept_at, node_in, origin}
 use Rattle.branching.specs.Parents.{origin_of}
@@ -72,11 +73,12 @@ returns t c =
     let kept : UpdateEntry = c.in-Some-find_kept.kept.now in
     let pages : c.kept.inside.pages.items ≡ kept.pages = ap (λ (k : UpdateEntry). k.pages) c.kept.view_is in
     let older : List ℕ = c.if-back-eq0.older.items in
-    let own_is : c.add_piece-2.new.bytes.items ≡ bytes_of_piece w kept.pages c.in-Leaf.first ++ bytes_of_piece w kept.pages c.in-Leaf.second =
+    let B : List ℕ → Piece → List ℕ = λ l q. bytes_of_piece w c.args.blob c.args.version c.args.page l q in
+    let own_is : c.add_piece-2.new.bytes.items ≡ B kept.pages c.in-Leaf.first ++ B kept.pages c.in-Leaf.second =
     c.in_ok-add_piece-2.ensures
-    ∙ ap (λ (l : List ℕ). l ++ bytes_of_piece w c.as_slice-4.result.now c.in-Leaf.second) (c.in_ok-add_piece.ensures ∙ ap (λ (l : List ℕ). l ++ bytes_of_piece w c.as_slice-3.result.now c.in-Leaf.first) c.new-own.ensures.items)
-    ∙ ap (λ (l : List ℕ). bytes_of_piece w l c.in-Leaf.first ++ bytes_of_piece w c.as_slice-4.result.now c.in-Leaf.second) (c.as_slice-3.ensures.value ∙ pages)
-    ∙ ap (λ (l : List ℕ). bytes_of_piece w kept.pages c.in-Leaf.first ++ bytes_of_piece w l c.in-Leaf.second) (c.as_slice-4.ensures.value ∙ pages) in
+    ∙ ap (λ (l : List ℕ). l ++ B c.as_slice-pages.result.now c.in-Leaf.second)
+    (c.in_ok-add_piece.ensures ∙ ap (λ (l : List ℕ). l ++ B c.as_slice-pages.result.now c.in-Leaf.first) c.new-own.ensures.items)
+    ∙ ap (λ (l : List ℕ). B l c.in-Leaf.first ++ B l c.in-Leaf.second) (c.as_slice-pages.ensures.value ∙ pages) in
     let none : c.in-Leaf.back ≡ 0 → older ≡ [] = λ z.
     elim c.if-back-eq0.branch [
       | then-back-eq0 x ↦ ap (λ (v : Vec ℕ Global). v.items) x.older-is ∙ x.new-older.ensures.items
@@ -91,5 +93,5 @@ returns t c =
     (at ∙ sym c.in-Some.ensures ∙ ap some c.in-Leaf.is) (there ∙ c.in-Some-find_kept.ensures) none on own_is in
     let Q : List ℕ → Type 0 = λ x. IfOk c.put_over.result (λ bytes. bytes.items ≡ x) in
     subst Q
-    (ap (λ (l : List ℕ). put l c.in-Leaf.start c.as_slice-6.result.now) c.as_slice-5.ensures.value ∙ ap (λ (l : List ℕ). put older c.in-Leaf.start l) c.as_slice-6.ensures.value ∙ is)
+    (ap (λ (l : List ℕ). put l c.in-Leaf.start c.as_slice-4.result.now) c.as_slice-3.ensures.value ∙ ap (λ (l : List ℕ). put older c.in-Leaf.start l) c.as_slice-4.ensures.value ∙ is)
     c.put_over.ensures

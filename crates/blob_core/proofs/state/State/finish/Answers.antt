@@ -1,17 +1,16 @@
 use Rattle.std.proofs.Common.{◌≡◌, ◌-◌, List, length, arith, inl, inr, ap, sym, subst, ◌∙◌}
-use Rattle.std.specs.Prelude.{◌==◌, Option, Some, MatchOption, slice_set}
+use Rattle.std.specs.Prelude.{◌==◌, Some, slice_set}
 use Rattle.std.proofs.lemmas.Option.{get_or_from_slice_get}
 use Rattle.blob_model.specs.Store.{Blob, blob_at, finish}
 use Rattle.range_log.specs.Rows.{row_keys_of}
 use Rattle.blob_core.specs.World.{World, log_of}
 use Rattle.blob_core.specs.Steps.{IsNumberedIn, RowIsThere}
 use Rattle.blob_core.specs.Standing.{IsSound}
-use Rattle.blob_core.specs.Acts.{IsDone, IsRowOf, NotNumberedIn}
-use Rattle.blob_core.specs.declared.nodes.Row.{Row}
+use Rattle.blob_core.specs.Acts.{IsDone}
 use Rattle.blob_core.specs.declared.step.Step.TheVariants as Moves
 use Rattle.blob_core.specs.contracts.state.State.{the_view}
 use Rattle.blob_core.proofs.Taken.{blob_some, item_of}
-use Rattle.blob_core.proofs.Acting.{numbered_is, finish_is_done, not_finishable, same_there}
+use Rattle.blob_core.proofs.Acting.{IsFound, numbered_is, finish_is_done, not_finishable, same_there}
 use Rattle.blob_core.proofs.state.State.finish.Goals as goal
 use Rattle.blob_core.proofs.state.State.finish.Goals.{then-is_marked-via-then-is_marked, then-is_marked-via-else-is_marked+then-not-are_there}
 
@@ -20,8 +19,7 @@ is_marked-requires c =
     let w : World = c.args.self.now in
     let b : Blob = c.in-Some-blob.stored.now in
     let s : IsSound c.args.p w c.args.blob b = (c.steps_hold.ensures.stays c.args.p w c.requires).blobs c.args.blob b c.in-Some-blob.ensures in
-    let Mo : Option Row → Type 0 = λ o. MatchOption o (NotNumberedIn w c.args.blob c.args.version) (λ (r : Row). IsRowOf c.args.p w c.args.blob c.args.version r.log.items r.keys.items) in
-    let row : Mo (Some c.in-Some.row) = subst Mo c.in-Some.is c.in_ok-row.ensures in
+    let row : IsFound c.args.p w c.args.blob c.args.version (Some c.in-Some.row) = subst (IsFound c.args.p w c.args.blob c.args.version) c.in-Some.is c.in_ok-row.ensures in
     let num = numbered_is c.args.p w c.args.blob c.args.version b c.in-Some.row.log.items c.in-Some.row.keys.items c.in-Some-blob.ensures row in
     (num.0.some, omega (arith, num.0.upto, s.marks))
 
@@ -30,8 +28,7 @@ returns-then-is_marked-clause-refused c answer =
     let w : World = c.args.self.now in
     let b : Blob = c.in-Some-blob.stored.now in
     let s : IsSound c.args.p w c.args.blob b = (c.steps_hold.ensures.stays c.args.p w c.requires).blobs c.args.blob b c.in-Some-blob.ensures in
-    let Mo : Option Row → Type 0 = λ o. MatchOption o (NotNumberedIn w c.args.blob c.args.version) (λ (r : Row). IsRowOf c.args.p w c.args.blob c.args.version r.log.items r.keys.items) in
-    let row : Mo (Some c.in-Some.row) = subst Mo c.in-Some.is c.in_ok-row.ensures in
+    let row : IsFound c.args.p w c.args.blob c.args.version (Some c.in-Some.row) = subst (IsFound c.args.p w c.args.blob c.args.version) c.in-Some.is c.in_ok-row.ensures in
     let num = numbered_is c.args.p w c.args.blob c.args.version b c.in-Some.row.log.items c.in-Some.row.keys.items c.in-Some-blob.ensures row in
     elim c.then-is_marked.branch [
       | then-is_marked-via-then-is_marked x ↦
@@ -54,8 +51,7 @@ mark-requires c =
     let w : World = c.args.self.now in
     let b : Blob = c.in-Some-blob.stored.now in
     let s : IsSound c.args.p w c.args.blob b = (c.steps_hold.ensures.stays c.args.p w c.requires).blobs c.args.blob b c.in-Some-blob.ensures in
-    let Mo : Option Row → Type 0 = λ o. MatchOption o (NotNumberedIn w c.args.blob c.args.version) (λ (r : Row). IsRowOf c.args.p w c.args.blob c.args.version r.log.items r.keys.items) in
-    let row : Mo (Some c.in-Some.row) = subst Mo c.in-Some.is c.in_ok-row.ensures in
+    let row : IsFound c.args.p w c.args.blob c.args.version (Some c.in-Some.row) = subst (IsFound c.args.p w c.args.blob c.args.version) c.in-Some.is c.in_ok-row.ensures in
     let num = numbered_is c.args.p w c.args.blob c.args.version b c.in-Some.row.log.items c.in-Some.row.keys.items c.in-Some-blob.ensures row in
     let At : World → Type 0 = λ x. blob_at x.store c.args.blob ≡ Some b in
     let there : At (the_view c.self.inside) = subst At (sym c.self.view_is) c.in-Some-blob.ensures in
@@ -68,8 +64,7 @@ returns-clause-done c =
     let w : World = c.args.self.now in
     let b : Blob = c.in-Some-blob.stored.now in
     let s : IsSound c.args.p w c.args.blob b = (c.steps_hold.ensures.stays c.args.p w c.requires).blobs c.args.blob b c.in-Some-blob.ensures in
-    let Mo : Option Row → Type 0 = λ o. MatchOption o (NotNumberedIn w c.args.blob c.args.version) (λ (r : Row). IsRowOf c.args.p w c.args.blob c.args.version r.log.items r.keys.items) in
-    let row : Mo (Some c.in-Some.row) = subst Mo c.in-Some.is c.in_ok-row.ensures in
+    let row : IsFound c.args.p w c.args.blob c.args.version (Some c.in-Some.row) = subst (IsFound c.args.p w c.args.blob c.args.version) c.in-Some.is c.in_ok-row.ensures in
     let num = numbered_is c.args.p w c.args.blob c.args.version b c.in-Some.row.log.items c.in-Some.row.keys.items c.in-Some-blob.ensures row in
     let v : World = the_view c.self.inside in
     let to : v ≡ w = c.self.view_is in

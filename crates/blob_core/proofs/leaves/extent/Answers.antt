@@ -4,7 +4,7 @@ use Rattle.blob_model.specs.Store.{Blob}
 use Rattle.range_log.specs.Extents.{Extent, extent_at}
 use Rattle.range_log.specs.Updates.{extents}
 use Rattle.blob_core.proofs.Rowing.{extent_here}
-use Rattle.blob_core.proofs.nodes.extent.Goals as goal
+use Rattle.blob_core.proofs.leaves.extent.Goals as goal
 
 pub returns-clause-at : goal.returns-clause-at
 returns-clause-at c =

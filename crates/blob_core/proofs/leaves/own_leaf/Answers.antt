@@ -1,0 +1,38 @@
+use Rattle.std.proofs.Common.{◌≡◌, ℕ, ◌-◌, List, arith, ap, ◌∙◌}
+use Rattle.blob_model.specs.Content.{Update}
+use Rattle.tree_geom.specs.declared.range.Range.{Range}
+use Rattle.tree_geom.specs.declared.touch.Touch.{Touch}
+use Rattle.tree_geom.specs.Geometry.{page_range}
+use Rattle.range_log.specs.Depths.{depth_of}
+use Rattle.range_log.specs.Log.{newest_of}
+use Rattle.range_log.specs.Extents.{touches}
+use Rattle.range_log.specs.Updates.{extents}
+use Rattle.range_log.specs.Rows.{back_of}
+use Rattle.blob_core.proofs.Rowing.{has_version, log_tells, back_is, own_leaf_is}
+use Rattle.blob_core.proofs.leaves.own_leaf.Goals as goal
+use Rattle.blob_core.proofs.leaves.own_leaf.Goals.{then-is_covered, else-is_covered}
+
+pub span_stands-requires : goal.span_stands-requires
+span_stands-requires c =
+    let v = has_version c.args.p c.args.blob.now.updates c.args.version (page_range c.args.p c.args.page) c.requires.has in
+    let tells = log_tells c.page_bytes_stay.ensures.extents c.args.p c.args.blob.now c.args.log.now c.requires.log in
+    omega (arith, c.size_at.ensures, tells.1 c.args.version v.1, c.requires.log.fits c.args.version v.1)
+
+pub returns : goal.returns
+returns c =
+    let us : List Update = c.args.blob.now.updates in
+    let p : ℕ = c.args.p in
+    let k : ℕ = c.args.version in
+    let i : ℕ = c.args.page in
+    let back : c.if-is_covered.back ≡ back_of p (extents us) k i =
+    elim c.if-is_covered.branch [
+      | then-is_covered w ↦ back_is p (extents us) k i c.is_covered.result c.if-is_covered.back c.is_covered.ensures c.requires.kept (λ t. w.back-is) (λ t. cc)
+      | else-is_covered w ↦ back_is p (extents us) k i c.is_covered.result c.if-is_covered.back c.is_covered.ensures c.requires.kept (λ t. cc)
+          (λ t. w.back-is ∙ w.newest-back.ensures.is
+          ∙ ap (λ (l : List Touch). newest_of p l (k - 1) w.range_of_page.result) c.requires.log.is
+          ∙ ap (λ (r : Range). newest_of p (touches p (extents us)) (k - 1) r) w.range_of_page.ensures)
+    ] in
+    own_leaf_is p (extents us) k i c.own_part-part.result.start c.own_part-part.result.from c.own_part-part.result.len c.in_ok-count.count c.in_ok-count.first c.in_ok-count.second
+    c.depth_at-depth.result c.if-is_covered.back c.requires.kept c.own_part-part.ensures.start c.own_part-part.ensures.from c.own_part-part.ensures.len
+    c.in_ok-count.ensures.count c.in_ok-count.ensures.first c.in_ok-count.ensures.second
+    (c.depth_at-depth.ensures ∙ ap (λ (l : List Touch). depth_of p l k i) c.requires.log.is) back
