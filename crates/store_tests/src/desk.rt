@@ -5,6 +5,7 @@ ghost use Rattle.page_store.specs.House.{IsProvider};
 ghost use Rattle.page_store.specs.Stored.{bytes_of_pages, LieAmong};
 
 use blob_model::{Limits, Outcome, Place, Refusal};
+use node_store::NodeHouse;
 use page_fan::{Doors, store};
 use page_store::{Houses, Pages, PlainDoor, PlainMaker};
 use provider_manager::{LoadBook, Placements};
@@ -82,7 +83,9 @@ fn desk_of<R: Abort>(rt: &R, alloc: Global, limits: Limits, houses: &Arc<Houses>
     ensures housed { result.houses ≡ arc_value houses.now }
 {
     let p = four_bytes(rt);
-    Desk::new(alloc, limits, p, houses).expect(rt, "memory")
+    let nodes = NodeHouse::new(alloc).expect(rt, "memory");
+    let nodes = Arc::new(alloc, nodes).expect(rt, "memory");
+    Desk::new(alloc, limits, p, houses, &nodes).expect(rt, "memory")
 }
 
 // The places of two pages at one provider.

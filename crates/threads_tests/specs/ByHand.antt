@@ -1,8 +1,8 @@
 -- Rows that are built by hand, in pages of four bytes.
-use Rattle.std.specs.Prelude.{◌≡◌, false, ℕ, ◌+◌, ◌^◌, ◌≤◌, List, [], ◌∷◌, ◌++◌, length}
+use Rattle.std.specs.Prelude.{◌≡◌, false, ℕ, ◌+◌, ◌*◌, ◌^◌, ◌≤◌, List, [], ◌∷◌, ◌++◌, length}
+use Rattle.std.specs.List.{zip}
 use Rattle.blob_model.specs.Content.{Update, size_of}
 use Rattle.blob_model.specs.declared.call.Place.TheVariants.{WriteAt}
-use Rattle.tree_geom.specs.declared.range.Range.{Range}
 use Rattle.tree_geom.specs.declared.touch.Touch.{Touch}
 use Rattle.tree_geom.specs.declared.node.Node.{Node}
 use Rattle.tree_geom.specs.declared.node.Node.TheVariants.{Inner, Leaf}
@@ -10,41 +10,37 @@ use Rattle.tree_geom.specs.Nodes.{no_piece}
 use Rattle.range_log.specs.Log.{touch_at}
 use Rattle.range_log.specs.Extents.{extent_at, touches}
 use Rattle.range_log.specs.Updates.{extents, Replayable}
-use Rattle.range_log.specs.Rows.{row_of}
+use Rattle.range_log.specs.Rows.{levels_of, folds_of, row_of}
 use Rattle.page_store.specs.Stored.{Cut}
-use Rattle.node_store.specs.Order.{Before}
 use Rattle.node_store.specs.UpdateRows.{UpdateRow}
-
--- each range stands before the next
-abbrev pub InOrder : List (Range × Node) → Type 0
-InOrder [] = Unit {0}
-InOrder (a ∷ []) = Unit {0}
-InOrder (a ∷ b ∷ rest) = Before a.0 b.0 × InOrder (b ∷ rest)
 
 -- the update that such a row tells: it begins at this byte
 abbrev pub told : ℕ → List ℕ → Update
 told offset bytes = record { caller = 0; place = WriteAt offset; bytes = bytes }
 
--- it is the row of the update after these
-pub record IsNext (us : List Update) (offset : ℕ) (touch : Touch) (bytes : List ℕ) (pairs : List (Range × Node)) : Type 0 where
-  pub nodes : pairs ≡ row_of 4 (extents (us ++ told offset bytes ∷ [])) (length us + 1)
+-- the nodes of a tree of that height are those of the row of the update after these, which stores no page anew
+pub record IsNext (us : List Update) (offset : ℕ) (touch : Touch) (bytes : List ℕ) (height : ℕ) (nodes : List Node) : Type 0 where
+  pub low : height ≤ 38
+  pub ordered : touch.first ≤ touch.last
+  pub ends : touch.last * 4 ≤ 2 ^ 40
+  pub whole : length nodes ≡ length (levels_of 4 touch (height + 1))
+  pub row : zip (levels_of 4 touch (height + 1)) nodes ≡ row_of 4 (extents (us ++ told offset bytes ∷ [])) (length us + 1)
   pub begins : offset ≡ (extent_at (extents (us ++ told offset bytes ∷ [])) (length us + 1)).at
   pub touched : touch ≡ touch_at (touches 4 (extents (us ++ told offset bytes ∷ []))) (length us + 1)
+  pub none_anew : folds_of 4 (extents (us ++ told offset bytes ∷ [])) (length us + 1) ≡ []
   pub in_bounds : Replayable (us ++ told offset bytes ∷ [])
   pub fits : size_of (us ++ told offset bytes ∷ []) (length us + 1) ≤ 2 ^ 40
 
 -- a row with these parts
-pub record IsByHand (version offset : ℕ) (cut : Cut) (touch : Touch) (pairs : List (Range × Node)) (row : UpdateRow) : Type 0 where
+pub record IsByHand (version offset : ℕ) (cut : Cut) (touch : Touch) (height : ℕ) (nodes : List Node) (row : UpdateRow) : Type 0 where
   pub versioned : row.version ≡ version
   pub begins : row.offset ≡ offset
   pub paged : row.pages ≡ cut
   pub touched : row.touch ≡ touch
-  pub listed : row.nodes ≡ pairs
+  pub listed : row.nodes ≡ zip (levels_of 4 touch (height + 1)) nodes
+  pub none_anew : row.folds ≡ []
 
 -- ---- the rows of the tests
-abbrev pub at_range : ℕ → ℕ → Range
-at_range o s = record { offset = o; size = s }
-
 abbrev pub one_piece : ℕ → ℕ → ℕ → ℕ → ℕ → ℕ → Node
 one_piece start page from len back depth = Leaf start 1 record { page = page; from = from; len = len } no_piece depth back
 
@@ -55,8 +51,8 @@ abcdef = 97 ∷ 98 ∷ 99 ∷ 100 ∷ 101 ∷ 102 ∷ []
 abbrev pub six_touch : Touch
 six_touch = record { first = 0; last = 1; size = 6; open_first = false; open_last = false }
 
-abbrev pub six_pairs : List (Range × Node)
-six_pairs = (at_range 0 8, Inner 1 1) ∷ (at_range 0 4, one_piece 0 0 0 4 0 0) ∷ (at_range 4 4, one_piece 0 1 0 2 0 0) ∷ []
+abbrev pub six_nodes : List Node
+six_nodes = Inner 1 1 ∷ one_piece 0 0 0 4 0 0 ∷ one_piece 0 1 0 2 0 0 ∷ []
 
 abbrev pub after_six : List Update
 after_six = told 0 abcdef ∷ []

@@ -2,6 +2,7 @@
 ghost use Rattle.std.specs.Prelude.{◌≡◌};
 
 use blob_model::{Limits, Outcome};
+use node_store::NodeHouse;
 use page_store::Houses;
 use std::alloc::Global;
 use std::process::Abort;
@@ -45,8 +46,10 @@ fn empty_desk<R: Abort>(rt: &R, alloc: Global) -> (SharedDesk, Owner)
 {
     let houses = Houses::new(alloc, 1).expect(rt, "memory");
     let houses = Arc::new(alloc, houses).expect(rt, "memory");
+    let nodes = NodeHouse::new(alloc).expect(rt, "memory");
+    let nodes = Arc::new(alloc, nodes).expect(rt, "memory");
     let p = PageSize::new(4).expect(rt, "four bytes");
-    let desk = Desk::new(alloc, Limits::greatest(), p, &houses).expect(rt, "memory");
+    let desk = Desk::new(alloc, Limits::greatest(), p, &houses, &nodes).expect(rt, "memory");
     SharedDesk::new(alloc, desk).expect(rt, "memory")
 }
 

@@ -28,7 +28,7 @@ pub pushed_event : (old new : List Entry) (entry : Entry) → new ≡ old ++ ent
 pushed_event old new entry e = ap (map event_of) e ∙ map-append event_of old (entry ∷ [])
 
 -- one entry more than a history that has room for it
-pub short_yet : (old new : List Entry) (entry : Entry) → new ≡ old ++ entry ∷ [] → length old < 274877906943 → length (map event_of new) < 2 ^ 38
+pub short_yet : (old new : List Entry) (entry : Entry) → new ≡ old ++ entry ∷ [] → length old + 1 < 2 ^ 38 → length (map event_of new) < 2 ^ 38
 short_yet old new entry e room = omega (arith, length-map new event_of, ap length e, length-append old (entry ∷ []))
 
 -- ---- the windows

@@ -1,13 +1,13 @@
 -- The finish of a numbered version.
-use Rattle.std.proofs.Common.{◌≡◌, ℕ, ◌-◌, ◌<◌, ◌≤◌, ◌==◌, true, false, List, [], ◌∷◌, ◌++◌, length, get_or, set, refl, sym, ◌∙◌, ap, subst, arith}
-use Rattle.std.specs.Prelude.{Option, Some, nat_lt}
+use Rattle.std.proofs.Common.{◌≡◌, ℕ, ◌-◌, ◌<◌, ◌≤◌, ◌==◌, Bool, true, false, List, [], ◌∷◌, ◌++◌, length, get_or, set, refl, sym, ◌∙◌, ap, subst, arith}
+use Rattle.std.specs.Prelude.{Option, Some, None, nat_lt}
 use Rattle.std.proofs.lemmas.List.{get_or-set_same}
 use Rattle.std.proofs.lemmas.Bool.Decides.{nat_tests}
 use Rattle.blob_model.specs.Limits.{Bounds}
 use Rattle.blob_model.specs.Content.{Update}
 use Rattle.blob_model.specs.Store.{Store, Blob, blob_at, assigned, published, with_blob, is_finished, finish}
 use Rattle.blob_model.specs.Answer.{Answered, answer, unless_refused, already}
-use Rattle.blob_model.specs.History.{store_of, IsNumbered}
+use Rattle.blob_model.specs.History.{store_of, is_refused, IsNumbered}
 use Rattle.blob_model.specs.declared.call.Call.TheVariants as Calls
 use Rattle.blob_model.specs.declared.call.Event.{Event}
 use Rattle.blob_model.specs.declared.call.Event.TheVariants as Events
@@ -16,10 +16,13 @@ use Rattle.blob_model.specs.declared.call.Refusal.TheVariants as Refusals
 use Rattle.node_store.specs.UpdateRows.{UpdateRow}
 use Rattle.snapshot.specs.Versions.{IsRowOf}
 use Rattle.publisher.specs.Windows.{Numbered}
+use Rattle.publisher.specs.Windows.{is_finished as is_done}
 use Rattle.border_hints.specs.Numbered.{NumberedUpdate}
+use Rattle.boxcar.specs.Table.{Shelves}
 use Rattle.page_store.specs.House.{House}
-use Rattle.version_manager.specs.Desks.{DeskState, updates_or_none, IsTicketOf, IsRowFor}
+use Rattle.version_manager.specs.Desks.{DeskState, updates_or_none, finished_or_not, is_finished_in, IsTicketOf, IsRowFor}
 use Rattle.version_manager.specs.DeskInvariant.{Keeps, KeepsDesk}
+use Rattle.version_manager.proofs.Blobs.{finished_is}
 use Rattle.version_manager.proofs.Stores.{store_after, legal_after, unless_none, unless_some, in_blob_here, blob_at-with}
 use Rattle.version_manager.proofs.Desks.{by_test, kept_of, absent, replaced, at_index, IsHere, IsAt}
 
@@ -27,6 +30,16 @@ pub finished_true : (b : Blob) (version : ℕ) → 1 ≤ version → version ≤
 finished_true b version some within =
     let t : (version == 0) ≡ false = grind (arith, nat_tests) in
     rw t (get_or-set_same b.finished (version - 1) true false (omega arith))
+
+-- a numbered version that isn't finished may be
+pub finish_goes : (s : Store) (caller blob version : ℕ) (o : Option Blob) → blob_at s blob ≡ o → 1 ≤ version → version ≤ length (updates_or_none o) → finished_or_not o version ≡ false
+    → is_refused (answer s caller (Calls.Finish blob version)).1 ≡ false
+finish_goes s caller blob version None at first within waits = absurd (omega arith)
+finish_goes s caller blob version (Some b) at first within waits =
+    let done : Blob → Answered = λ x. (with_blob s blob (finish x version), Outcomes.Published (published (finish x version))) in
+    let is : answer s caller (Calls.Finish blob version) ≡ done b =
+    in_blob_here s blob b (λ x. unless_refused s (already x version ∷ []) (done x)) at ∙ unless_none s (already b version ∷ []) (done b) (rw waits refl) in
+    ap (λ (a : Answered). is_refused a.1) is
 
 module _ (limits : Bounds) (p : ℕ) (h : List Event) (ws : List Numbered) (kept : KeepsDesk limits p h ws) (blob : ℕ) where
   -- a blob with updates is there
@@ -81,18 +94,28 @@ module _ (limits : Bounds) (p : ℕ) (h : List Event) (ws : List Numbered) (kept
     pub within : version ≤ assigned at.found.b
     pub own : IsRowOf w.page_size at.found.b.updates version row
 
-  abbrev pub this : List House → DeskState
-  this houses = record { limits = limits; page_size = p; houses = houses; history = h; windows = ws }
+  abbrev pub this : List House → List Shelves → DeskState
+  this houses nodes = record { limits = limits; page_size = p; houses = houses; nodes = nodes; history = h; windows = ws }
 
-  pub ticket_place : (houses : List House) (t : NumberedUpdate) (version : ℕ) → blob ≡ t.blob → version ≡ t.version → 1 ≤ version → IsTicketOf (this houses) t → (1 ≤ blob) × (blob ≤ length ws)
-  ticket_place houses t version on is first ticket =
+  pub ticket_place : (houses : List House) (nodes : List Shelves) (t : NumberedUpdate) (version : ℕ) → blob ≡ t.blob → version ≡ t.version → 1 ≤ version → IsTicketOf (this houses nodes) t → (1 ≤ blob) × (blob ≤ length ws)
+  ticket_place houses nodes t version on is first ticket =
       let N : ℕ → ℕ → Type 0 = λ i v. v ≤ length (updates_or_none (blob_at (store_of limits h) i)) in
       with_updates version first (subst (λ (i : ℕ). N i version) (sym on) (subst (λ (v : ℕ). N t.blob v) (sym is) ticket.numbered))
 
-  pub finishable : (houses : List House) (t : NumberedUpdate) (version index : ℕ) (w : Numbered) (row : UpdateRow) → blob ≡ t.blob → version ≡ t.version → index ≡ blob - 1 → 1 ≤ version → IsTicketOf (this houses) t → IsRowFor (this houses) t row
+  -- whether a ticket's version is finished, by the window of its blob
+  pub ticket_mark : (houses : List House) (nodes : List Shelves) (t : NumberedUpdate) (version : ℕ) (w : Numbered) (mark : Bool) → blob ≡ t.blob → version ≡ t.version → 1 ≤ version → IsTicketOf (this houses nodes) t
+      → w ≡ get_or ws (blob - 1) w → mark ≡ is_done w version → is_finished_in (this houses nodes) t.blob t.version ≡ mark
+  ticket_mark houses nodes t version w mark on is first ticket read known =
+      let r = ticket_place houses nodes t version on is first ticket in
+      let x : IsAt limits p h ws kept blob (blob - 1) w = at_index limits p h ws kept blob (blob - 1) (length ws) w refl (refl, r.0, r.1) read in
+      let O : ℕ → ℕ → Type 0 = λ i n. finished_or_not (blob_at (store_of limits h) i) n ≡ mark in
+      let here : O blob version = ap (λ o. finished_or_not o version) x.found.at ∙ sym (finished_is limits w x.found.b x.keeps version first) ∙ sym known in
+      subst (λ (n : ℕ). O t.blob n) is (subst (λ (i : ℕ). O i version) on here)
+
+  pub finishable : (houses : List House) (nodes : List Shelves) (t : NumberedUpdate) (version index : ℕ) (w : Numbered) (row : UpdateRow) → blob ≡ t.blob → version ≡ t.version → index ≡ blob - 1 → 1 ≤ version → IsTicketOf (this houses nodes) t → IsRowFor (this houses nodes) t row
       → w ≡ get_or ws index w → IsFinishable version index w row
-  finishable houses t version index w row on is at first ticket own read =
-      let r = ticket_place houses t version on is first ticket in
+  finishable houses nodes t version index w row on is at first ticket own read =
+      let r = ticket_place houses nodes t version on is first ticket in
       let x : IsAt limits p h ws kept blob index w = at_index limits p h ws kept blob index (length ws) w refl (at, r.0, r.1) read in
       let us : updates_or_none (blob_at (store_of limits h) t.blob) ≡ x.found.b.updates = ap (λ (i : ℕ). updates_or_none (blob_at (store_of limits h) i)) (sym on) ∙ ap updates_or_none x.found.at in
       let R : List Update → Type 0 = λ l. IsRowOf p l t.version row in

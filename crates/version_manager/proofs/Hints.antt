@@ -2,6 +2,7 @@
 use Rattle.std.proofs.Common.{◌≡◌, ℕ, ◌+◌, List, length, drop, sym, ◌∙◌, ap, subst}
 use Rattle.std.specs.Prelude.{Some}
 use Rattle.std.proofs.Math.Seq.{take-length}
+use Rattle.boxcar.specs.Table.{Shelves}
 use Rattle.page_store.specs.House.{House}
 use Rattle.node_store.specs.UpdateRows.{UpdateRow}
 use Rattle.tree_geom.specs.declared.touch.Touch.{Touch}
@@ -21,14 +22,14 @@ use Rattle.version_manager.specs.Origins.{LieUnderOrigins}
 use Rattle.version_manager.proofs.Blobs.{published_is, leads, tells_all}
 use Rattle.version_manager.proofs.Houses.{AreRowsIn, older_in}
 
-all_in : (houses : List House) (w : Numbered) → AreRowsIn houses w → IsVersionIn houses (version_of w)
-all_in houses w h =
-    let V : List UpdateRow → Type 0 = λ l. IsVersionIn houses record { blob = w.blob; page_size = w.page_size; rows = l } in
-    subst V (take-length (leading w.rows)) (older_in houses w (length (leading w.rows)) h)
+all_in : (nodes : List Shelves) (houses : List House) (w : Numbered) → AreRowsIn nodes houses w → IsVersionIn nodes houses (version_of w)
+all_in nodes houses w h =
+    let V : List UpdateRow → Type 0 = λ l. IsVersionIn nodes houses record { blob = w.blob; page_size = w.page_size; rows = l } in
+    subst V (take-length (leading w.rows)) (older_in nodes houses w (length (leading w.rows)) h)
 
-pub has_hints : (d : DeskState) (on : ℕ) (t : NumberedUpdate) (b : Blob) (w : Numbered) (limits : Bounds) → blob_at (store_of d.limits d.history) on ≡ Some b → w.page_size ≡ d.page_size → Keeps limits w b
-    → length w.rows ≡ length w.log → IsVersion (version_of w) → t.snapshot ≡ version_of w → t.waiting ≡ waiting_of w → AreRowsIn d.houses w → LieUnderOrigins d.history on (leading w.rows) → HasHints d on t
-has_hints d on t b w limits at page k even is snapshot waiting lies under =
+pub has_hints : (d : DeskState) (on : ℕ) (t : NumberedUpdate) (b : Blob) (w : Numbered) (limits : Bounds) → blob_at (store_of d.limits d.history) on ≡ Some b → w.blob ≡ on → w.page_size ≡ d.page_size → Keeps limits w b
+    → length w.rows ≡ length w.log → IsVersion (version_of w) → t.snapshot ≡ version_of w → t.waiting ≡ waiting_of w → AreRowsIn d.nodes d.houses w → LieUnderOrigins d.history on (leading w.rows) → HasHints d on t
+has_hints d on t b w limits at id page k even is snapshot waiting lies under =
     let count : published_of w ≡ published_in d on = published_is limits w b k ∙ sym (ap published_or_none at) in
     let us : b.updates ≡ updates_in d on = sym (ap updates_or_none at) in
     let log : w.log ≡ touches d.page_size (extents (updates_in d on)) =
@@ -37,13 +38,14 @@ has_hints d on t b w limits at page k even is snapshot waiting lies under =
     let T : List UpdateRow → Type 0 = λ l. TellUpdates d.page_size (updates_in d on) l in
     let U : List Update → Type 0 = λ l. TellUpdates d.page_size l (leading w.rows) in
     let P : ℕ → Type 0 = λ p. TellUpdates p b.updates (leading w.rows) in
-    let V : Version → Type 0 = λ v. IsVersionIn d.houses v in
+    let V : Version → Type 0 = λ v. IsVersionIn d.nodes d.houses v in
     let O : List UpdateRow → Type 0 = λ l. LieUnderOrigins d.history on l in
     record {
+      blob_is = ap (λ (v : Version). v.blob) snapshot ∙ id;
       rows = ap length rows ∙ leads limits w b k even ∙ count;
       tells = subst T (sym rows) (subst U us (subst P page (tells_all limits w b k even is)));
       waiting = waiting ∙ ap (λ (l : List Touch). opens_from (published_of w + 1) (drop (published_of w) l)) log
           ∙ ap (λ (n : ℕ). opens_from (n + 1) (drop n (touches d.page_size (extents (updates_in d on))))) count;
-      here = subst V (sym snapshot) (all_in d.houses w lies);
+      here = subst V (sym snapshot) (all_in d.nodes d.houses w lies);
       origins = subst O (sym rows) under;
     }

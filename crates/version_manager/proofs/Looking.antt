@@ -12,7 +12,7 @@ use Rattle.blob_model.specs.declared.call.Refusal.TheVariants as Refusals
 use Rattle.publisher.specs.Windows.{Numbered}
 use Rattle.version_manager.specs.declared.fault.DeskFault.{DeskFault}
 use Rattle.version_manager.specs.declared.fault.DeskFault.TheVariants.{Refused, NoMemory}
-use Rattle.version_manager.specs.Desks.{OnRefused}
+use Rattle.version_manager.specs.Desks.{OnRefused, OnNoMemory}
 use Rattle.version_manager.specs.DeskInvariant.{KeepsDesk}
 use Rattle.version_manager.proofs.Stores.{in_blob_here, in_blob_none}
 use Rattle.version_manager.proofs.Desks.{absent, IsHere}
@@ -41,3 +41,7 @@ status_of s b = (s, Outcomes.Status (assigned b) (published b) (held b))
 pub on_refused : (fault : DeskFault) (P Q : Refusal → Type 0) → ((r : Refusal) → P r → Q r) → OnRefused fault P → OnRefused fault Q
 on_refused (Refused r) P Q f h = f r h
 on_refused NoMemory P Q f h = h
+
+pub on_no_memory : (fault : DeskFault) (P Q : Type 0) → (P → Q) → OnNoMemory fault P → OnNoMemory fault Q
+on_no_memory (Refused r) P Q f h = h
+on_no_memory NoMemory P Q f h = f h

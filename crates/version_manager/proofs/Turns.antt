@@ -2,7 +2,7 @@
 use Rattle.std.proofs.Common.{◌≡◌, ℕ, ◌<◌, ◌^◌, true, false, List, [], ◌∷◌, ◌++◌, length, refl, sym, ap, ◌∙◌, subst, inl, inr, arith}
 use Rattle.std.specs.Prelude.{◌⊎◌, Result, Ok, Err, IfOk, IfErr}
 use Rattle.std.proofs.lemmas.List.{map-append, length-map}
-use Rattle.blob_model.specs.History.{caller_of, IsLegal}
+use Rattle.blob_model.specs.History.{caller_of, is_refused, IsLegal}
 use Rattle.blob_model.specs.declared.call.Call.{Call}
 use Rattle.blob_model.specs.declared.call.Call.TheVariants as Calls
 use Rattle.blob_model.specs.declared.call.Event.{Event}
@@ -16,7 +16,7 @@ use Rattle.border_hints.specs.Numbered.{NumberedUpdate}
 use Rattle.publisher.specs.Windows.{Numbered}
 use Rattle.version_manager.specs.declared.fault.DeskFault.{DeskFault}
 use Rattle.version_manager.specs.declared.journal.DeskFixed.{DeskFixed}
-use Rattle.version_manager.specs.Desks.{DeskState, OnRefused, IsTicketOf, IsRowFor, IsNumbering, IsUnfinished, HasHints, with_event, outcome_now, updates_in, is_finished_in}
+use Rattle.version_manager.specs.Desks.{DeskState, OnRefused, OnNoMemory, IsTicketOf, IsRowFor, IsNumbering, IsUnfinished, HasHints, with_event, outcome_now, updates_in, is_finished_in}
 use Rattle.version_manager.specs.Origins.{LieUnderOrigins}
 use Rattle.version_manager.specs.Log.{IsLog, Looked, Changed, IsNewTicket, IsSnapshotOf, Opened, Finishes, desk_at, events, tagged, tag, fixed_of}
 
@@ -30,7 +30,7 @@ tagged_more h e = map-append tag h (e ∷ [])
 -- ---- without windows
 -- the desk with another history and no windows
 abbrev with_history : DeskState → List Event → DeskState
-with_history d l = record { limits = d.limits; page_size = d.page_size; houses = d.houses; history = l; windows = [] }
+with_history d l = record { limits = d.limits; page_size = d.page_size; houses = d.houses; nodes = d.nodes; history = l; windows = [] }
 
 abbrev pub bare : DeskState → DeskState
 bare d = with_history d d.history
@@ -48,7 +48,7 @@ whole_ticket : (d : DeskState) (t : NumberedUpdate) → IsTicketOf (bare d) t �
 whole_ticket d t x = record { page_size = x.page_size; numbered = x.numbered; caller = x.caller; stands = x.stands; bytes = x.bytes }
 
 bare_hints : (d : DeskState) (on : ℕ) (t : NumberedUpdate) → HasHints d on t → HasHints (bare d) on t
-bare_hints d on t x = record { rows = x.rows; tells = x.tells; waiting = x.waiting; here = x.here; origins = x.origins }
+bare_hints d on t x = record { blob_is = x.blob_is; rows = x.rows; tells = x.tells; waiting = x.waiting; here = x.here; origins = x.origins }
 
 bare_unfinished : (d : DeskState) (on v : ℕ) → IsUnfinished d on v → IsUnfinished (bare d) on v
 bare_unfinished d on v x = record { some = x.some; numbered = x.numbered; unfinished = x.unfinished }
@@ -97,16 +97,19 @@ module _ {A E : Type 0} (d d' : DeskState) (event : Event) (r : Result A E) (ws 
 
   pub changed : (call : Call) (caller : ℕ) (tells : A → Outcome) (fault : E → DeskFault) → IsLegal d.limits d.history → length d.history < 2 ^ 38 → IsLegal d'.limits d'.history → length d'.history < 2 ^ 38
       → IfOk r (λ a. outcome_now d caller call ≡ tells a) → IfErr r (λ e. OnRefused (fault e) (λ x. outcome_now d caller call ≡ Outcomes.Refused x))
+      → IfErr r (λ e. OnNoMemory (fault e) (is_refused (outcome_now d caller call) ≡ false))
       → Changed (fixed_of d) call event tells fault (tagged d.history) caller r (tagged d'.history)
-  changed call caller tells fault legal short legal' short' done refused =
+  changed call caller tells fault legal short legal' short' done refused memory =
       let D : DeskState → Type 0 = λ s. IfOk r (λ a. outcome_now s caller call ≡ tells a) in
       let R : DeskState → Type 0 = λ s. IfErr r (λ e. OnRefused (fault e) (λ x. outcome_now s caller call ≡ Outcomes.Refused x)) in
+      let M : DeskState → Type 0 = λ s. IfErr r (λ e. OnNoMemory (fault e) (is_refused (outcome_now s caller call) ≡ false)) in
       record {
         log = is_log d d refl legal short;
         log_after = is_log d d' fixed_stays legal' short';
         done = subst D (sym (at_now d)) done;
         added = added_by r new;
         refused = subst R (sym (at_now d)) refused;
+        memory = subst M (sym (at_now d)) memory;
         same = same_by r same;
       }
 
@@ -127,16 +130,19 @@ new_ticket d d' caller blob pages (Ok t) e numbering same hints ticket open_ = r
 
 -- ---- a finish
 pub finishes : {R : Type 0} (d d' : DeskState) (t : NumberedUpdate) (row : R) (r : Result ℕ (DeskFault × R)) → fixed_of d' ≡ fixed_of d → IfOk r (λ _. is_finished_in d t.blob t.version ≡ false)
-    → IfOk r (λ _. is_finished_in d' t.blob t.version ≡ true) → IfErr r (λ e. OnRefused e.0 (λ _. is_finished_in d t.blob t.version ≡ true)) → IfErr r (λ e. e.1 ≡ row)
+    → IfOk r (λ _. is_finished_in d' t.blob t.version ≡ true) → IfErr r (λ e. OnRefused e.0 (λ _. is_finished_in d t.blob t.version ≡ true))
+    → IfErr r (λ e. OnNoMemory e.0 (is_finished_in d t.blob t.version ≡ false)) → IfErr r (λ e. e.1 ≡ row)
     → Finishes (fixed_of d) t row (tagged d.history) (tagged d'.history) r
-finishes d d' t row r e waits done already back =
-    let W : DeskState → Type 0 = λ s. IfOk r (λ _. is_finished_in s t.blob t.version ≡ false) in
+finishes d d' t row r e unfinished done already waits back =
+    let U : DeskState → Type 0 = λ s. IfOk r (λ _. is_finished_in s t.blob t.version ≡ false) in
     let D : DeskState → Type 0 = λ s. IfOk r (λ _. is_finished_in s t.blob t.version ≡ true) in
     let O : DeskState → Type 0 = λ s. IfErr r (λ x. OnRefused x.0 (λ _. is_finished_in s t.blob t.version ≡ true)) in
+    let W : DeskState → Type 0 = λ s. IfErr r (λ x. OnNoMemory x.0 (is_finished_in s t.blob t.version ≡ false)) in
     record {
-      unfinished = subst W (sym (at_now d)) waits;
+      unfinished = subst U (sym (at_now d)) unfinished;
       finished = subst D (sym (at_after d d' e)) done;
       already = subst O (sym (at_now d)) already;
+      waits = subst W (sym (at_now d)) waits;
       back = back;
     }
 
@@ -147,28 +153,31 @@ looked d call caller said legal short is =
     let P : DeskState → Type 0 = λ s. said ≡ outcome_now s caller call in
     record { log = is_log d d refl legal short; same = refl; said_is = subst P (sym (at_now d)) (is caller) }
 
-snapshot_by : (d : DeskState) (blob version : ℕ) (r : Result Version DeskFault) → IfOk r (λ s. length s.rows ≡ version) → IfOk r (λ s. s.page_size ≡ d.page_size)
-    → IfOk r (λ s. TellUpdates d.page_size (updates_in d blob) s.rows) → IfOk r (λ s. IsVersionIn d.houses s) → IfOk r (λ s. LieUnderOrigins d.history blob s.rows)
+snapshot_by : (d : DeskState) (blob version : ℕ) (r : Result Version DeskFault) → IfOk r (λ s. s.blob ≡ blob) → IfOk r (λ s. length s.rows ≡ version) → IfOk r (λ s. s.page_size ≡ d.page_size)
+    → IfOk r (λ s. TellUpdates d.page_size (updates_in d blob) s.rows) → IfOk r (λ s. IsVersionIn d.nodes d.houses s) → IfOk r (λ s. LieUnderOrigins d.history blob s.rows)
     → IfOk r (λ s. IsSnapshotOf (fixed_of d) (tagged d.history) blob version s)
-snapshot_by d blob version (Err x) rows page tells here origins = tt
-snapshot_by d blob version (Ok s) rows page tells here origins =
+snapshot_by d blob version (Err x) id rows page tells here origins = tt
+snapshot_by d blob version (Ok s) id rows page tells here origins =
     let T : DeskState → Type 0 = λ x. TellUpdates x.page_size (updates_in x blob) s.rows in
     let O : List Event → Type 0 = λ l. LieUnderOrigins l blob s.rows in
-    record { rows = rows; page_size = page; tells = subst T (sym (at_now d)) tells; here = here; origins = subst O (sym (events_tagged d.history)) origins }
+    record { blob_is = id; rows = rows; page_size = page; tells = subst T (sym (at_now d)) tells; here = here; origins = subst O (sym (events_tagged d.history)) origins }
 
 pub opened : (d : DeskState) (blob version caller : ℕ) (r : Result Version DeskFault) → IsLegal d.limits d.history → length d.history < 2 ^ 38
     → ((c : ℕ) → IfOk r (λ s. outcome_now d c (Calls.Size blob version) ≡ Outcomes.Size (size_now s)))
     → ((c : ℕ) → IfErr r (λ fault. OnRefused fault (λ x. outcome_now d c (Calls.Size blob version) ≡ Outcomes.Refused x)))
-    → IfOk r (λ s. length s.rows ≡ version) → IfOk r (λ s. s.page_size ≡ d.page_size)
-    → IfOk r (λ s. TellUpdates d.page_size (updates_in d blob) s.rows) → IfOk r (λ s. IsVersionIn d.houses s) → IfOk r (λ s. LieUnderOrigins d.history blob s.rows)
+    → ((c : ℕ) → IfErr r (λ fault. OnNoMemory fault (is_refused (outcome_now d c (Calls.Size blob version)) ≡ false)))
+    → IfOk r (λ s. s.blob ≡ blob) → IfOk r (λ s. length s.rows ≡ version) → IfOk r (λ s. s.page_size ≡ d.page_size)
+    → IfOk r (λ s. TellUpdates d.page_size (updates_in d blob) s.rows) → IfOk r (λ s. IsVersionIn d.nodes d.houses s) → IfOk r (λ s. LieUnderOrigins d.history blob s.rows)
     → Opened (fixed_of d) blob version (tagged d.history) caller r (tagged d.history)
-opened d blob version caller r legal short size refused rows page tells here origins =
+opened d blob version caller r legal short size refused memory id rows page tells here origins =
     let D : DeskState → Type 0 = λ x. IfOk r (λ s. outcome_now x caller (Calls.Size blob version) ≡ Outcomes.Size (size_now s)) in
     let R : DeskState → Type 0 = λ x. IfErr r (λ fault. OnRefused fault (λ y. outcome_now x caller (Calls.Size blob version) ≡ Outcomes.Refused y)) in
+    let M : DeskState → Type 0 = λ x. IfErr r (λ fault. OnNoMemory fault (is_refused (outcome_now x caller (Calls.Size blob version)) ≡ false)) in
     record {
       log = is_log d d refl legal short;
       same = refl;
       done = subst D (sym (at_now d)) (size caller);
       refused = subst R (sym (at_now d)) (refused caller);
-      snapshot = snapshot_by d blob version r rows page tells here origins;
+      memory = subst M (sym (at_now d)) (memory caller);
+      snapshot = snapshot_by d blob version r id rows page tells here origins;
     }

@@ -7,6 +7,7 @@ use Rattle.blob_model.specs.History.{store_of, IsLegal}
 use Rattle.blob_model.specs.declared.call.Place.{Place}
 use Rattle.blob_model.specs.declared.call.Event.{Event}
 use Rattle.tree_geom.specs.Geometry.{IsPageSize}
+use Rattle.boxcar.specs.Table.{Shelves}
 use Rattle.page_store.specs.House.{House}
 use Rattle.publisher.specs.Windows.{Numbered, finished_of, StandsFor}
 use Rattle.version_manager.specs.Desks.{LieIn}
@@ -41,8 +42,8 @@ pub record KeepsDesk (limits : Bounds) (p : ℕ) (history : List Event) (windows
       → IsBlobKept limits p (suc i) b w
 
 -- The desk keeps its blobs, its rows lie in its houses, each under the blob that its version was numbered in, and its history is short.
-pub record IsDesk (limits : Bounds) (p : ℕ) (houses : List House) (history : List Event) (windows : List Numbered) : Type 0 where
+pub record IsDesk (limits : Bounds) (p : ℕ) (houses : List House) (nodes : List Shelves) (history : List Event) (windows : List Numbered) : Type 0 where
   pub kept : KeepsDesk limits p history windows
-  pub lies : LieIn houses windows
+  pub lies : LieIn nodes houses windows
   pub origins : KeepsOrigins (parents_of history) windows
   pub short : length history < 2 ^ 38

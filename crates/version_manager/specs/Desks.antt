@@ -1,5 +1,6 @@
 -- What a clause sees of a desk, and what its calls do.
 use Rattle.std.specs.Prelude.{◌≡◌, ℕ, ◌+◌, ◌-◌, ◌≤◌, Bool, false, List, [], ◌∷◌, ◌++◌, length, take, drop, slice_index_or, slice_set, Option, Some, None, IfSome, All}
+use Rattle.boxcar.specs.Table.{Shelves}
 use Rattle.blob_model.specs.Content.{Update}
 use Rattle.blob_model.specs.Limits.{Bounds}
 use Rattle.blob_model.specs.Store.{Store, Blob, blob_at, published, is_finished}
@@ -22,18 +23,19 @@ use Rattle.version_manager.specs.Origins.{LieUnderOrigins}
 use Rattle.version_manager.specs.declared.fault.DeskFault.{DeskFault}
 use Rattle.version_manager.specs.declared.fault.DeskFault.TheVariants.{Refused, NoMemory}
 
--- how much it takes, its page size, the houses of its pages, the history of all that it accepted, and the numbered updates of
--- each blob, blob 1 first
+-- how much it takes, its page size, the houses of its pages and the house of its nodes, the history of all that it accepted, and
+-- the numbered updates of each blob, blob 1 first
 pub record DeskState : Type 0 where
   pub limits : Bounds
   pub page_size : ℕ
   pub houses : List House
+  pub nodes : List Shelves
   pub history : List Event
   pub windows : List Numbered
 
 -- a desk that accepted nothing
-abbrev pub empty_desk : Bounds → ℕ → List House → DeskState
-empty_desk limits page_size houses = record { limits = limits; page_size = page_size; houses = houses; history = []; windows = [] }
+abbrev pub empty_desk : Bounds → ℕ → List House → List Shelves → DeskState
+empty_desk limits page_size houses nodes = record { limits = limits; page_size = page_size; houses = houses; nodes = nodes; history = []; windows = [] }
 
 -- ---- what it keeps
 -- the store that the history leaves
@@ -101,6 +103,11 @@ abbrev pub OnRefused : DeskFault → (Refusal → Type 0) → Type 0
 OnRefused (Refused refusal) P = P refusal
 OnRefused NoMemory P = Unit {0}
 
+-- a fact on a call that found no memory
+abbrev pub OnNoMemory : DeskFault → Type 0 → Type 0
+OnNoMemory (Refused refusal) P = Unit {0}
+OnNoMemory NoMemory P = P
+
 -- ---- tickets
 -- the numbering of an update of this caller on the blob, with these hints and pages
 pub record IsNumbering (d : DeskState) (who on : ℕ) (t : NumberedUpdate) : Type 0 where
@@ -125,19 +132,20 @@ IsRowFor d t row = IsRowOf d.page_size (updates_in d t.blob) t.version row
 
 -- ---- houses
 -- the row, where there is one, lies in these houses
-abbrev pub IsRowIfAnyIn : List House → Option UpdateRow → Type 0
-IsRowIfAnyIn houses row = IfSome row (IsRowIn houses)
+abbrev pub IsRowIfAnyIn : List Shelves → List House → Option UpdateRow → Type 0
+IsRowIfAnyIn nodes houses row = IfSome row (IsRowIn nodes houses)
 
--- the pages of the windows' rows lie in these houses
-abbrev pub LieIn : List House → List Numbered → Type 0
-LieIn houses windows = All (λ (w : Numbered). All (IsRowIfAnyIn houses) w.rows) windows
+-- the nodes of the windows' rows lie in this house, and their pages in these houses
+abbrev pub LieIn : List Shelves → List House → List Numbered → Type 0
+LieIn nodes houses windows = All (λ (w : Numbered). All (IsRowIfAnyIn nodes houses) w.rows) windows
 
 -- ---- hints
--- The ticket tells, of the updates of the blob: the published ones by their rows, which lie in the desk's houses, each under the blob that its version was
--- numbered in, and what the others above them touch.
+-- The ticket tells, of the updates of this blob and under its id: the published ones by their rows, which lie in the desk's houses,
+-- each under the blob that its version was numbered in, and what the others above them touch.
 pub record HasHints (d : DeskState) (on : ℕ) (t : NumberedUpdate) : Type 0 where
+  pub blob_is : t.snapshot.blob ≡ on
   pub rows : length t.snapshot.rows ≡ published_in d on
   pub tells : TellUpdates d.page_size (updates_in d on) t.snapshot.rows
   pub waiting : t.waiting ≡ opens_from (published_in d on + 1) (drop (published_in d on) (touches d.page_size (extents (updates_in d on))))
-  pub here : IsVersionIn d.houses t.snapshot
+  pub here : IsVersionIn d.nodes d.houses t.snapshot
   pub origins : LieUnderOrigins d.history on t.snapshot.rows

@@ -4,7 +4,7 @@ use Rattle.page_store.specs.Stored.{Cut, bytes_of_pages, LieAmong}
 use Rattle.node_store.specs.UpdateRows.{UpdateRow, IsRowIn}
 use Rattle.snapshot.specs.Versions.{Version, IsVersionIn, size_now}
 use Rattle.snapshot.specs.Laws.{TellUpdates}
-use Rattle.blob_model.specs.History.{caller_of, IsLegal}
+use Rattle.blob_model.specs.History.{caller_of, is_refused, IsLegal}
 use Rattle.blob_model.specs.declared.call.Call.{Call}
 use Rattle.blob_model.specs.declared.call.Call.TheVariants as Calls
 use Rattle.blob_model.specs.declared.call.Event.{Event}
@@ -14,7 +14,7 @@ use Rattle.border_hints.specs.Numbered.{NumberedUpdate}
 use Rattle.version_manager.specs.Origins.{LieUnderOrigins}
 use Rattle.version_manager.specs.declared.fault.DeskFault.{DeskFault}
 use Rattle.version_manager.specs.declared.journal.DeskFixed.{DeskFixed}
-use Rattle.version_manager.specs.Desks.{DeskState, OnRefused, IsTicketOf, IsRowFor, IsUnfinished, HasHints, outcome_now, updates_in, is_finished_in}
+use Rattle.version_manager.specs.Desks.{DeskState, OnRefused, OnNoMemory, IsTicketOf, IsRowFor, IsUnfinished, HasHints, outcome_now, updates_in, is_finished_in}
 
 -- an event with its caller
 abbrev pub tag : Event → ℕ × Event
@@ -28,11 +28,11 @@ events log = map (λ (x : ℕ × Event). x.1) log
 
 -- what no act changes
 abbrev pub fixed_of : DeskState → DeskFixed
-fixed_of d = record { limits = d.limits; page_size = d.page_size; houses = d.houses }
+fixed_of d = record { limits = d.limits; page_size = d.page_size; houses = d.houses; nodes = d.nodes }
 
 -- a desk with these fixed data and this history, as far as conditions on the history look
 abbrev pub desk_at : DeskFixed → List (ℕ × Event) → DeskState
-desk_at f log = record { limits = f.limits; page_size = f.page_size; houses = f.houses; history = events log; windows = [] }
+desk_at f log = record { limits = f.limits; page_size = f.page_size; houses = f.houses; nodes = f.nodes; history = events log; windows = [] }
 
 -- it is the history of a desk with these fixed data: each entry has its caller, the events are legal, and they are fewer than 2^38
 pub record IsLog (f : DeskFixed) (log : List (ℕ × Event)) : Type 0 where
@@ -51,7 +51,8 @@ pub record Looked (f : DeskFixed) (call : Call) (before : List (ℕ × Event)) (
   pub same : after ≡ before
   pub said_is : said ≡ outcome_in f before caller call
 
--- A change: its outcome is that of the store of the history, and its event is entered exactly where it is done.
+-- A change: its outcome is that of the store of the history, and its event is entered exactly where it is done. It finds no memory
+-- only where the store refuses nothing.
 pub record Changed {A E : Type 0} (f : DeskFixed) (call : Call) (event : Event) (tells : A → Outcome) (fault : E → DeskFault) (before : List (ℕ × Event)) (caller : ℕ) (said : Result A E)
     (after : List (ℕ × Event)) : Type 0 where
   pub log : IsLog f before
@@ -59,6 +60,7 @@ pub record Changed {A E : Type 0} (f : DeskFixed) (call : Call) (event : Event) 
   pub done : IfOk said (λ a. outcome_in f before caller call ≡ tells a)
   pub added : IfOk said (λ _. after ≡ before ++ tag event ∷ [])
   pub refused : IfErr said (λ e. OnRefused (fault e) (λ refusal. outcome_in f before caller call ≡ Outcomes.Refused refusal))
+  pub memory : IfErr said (λ e. OnNoMemory (fault e) (is_refused (outcome_in f before caller call) ≡ false))
   pub same : IfErr said (λ _. after ≡ before)
 
 -- what a numbering needs
@@ -83,27 +85,32 @@ pub record MayFinish (t : NumberedUpdate) (row : UpdateRow) (log : List (ℕ × 
   pub ticket : IsTicketOf (desk_at f log) t
   pub row_for : IsRowFor (desk_at f log) t row
   pub under : row.blob ≡ t.blob
-  pub here : IsRowIn f.houses row
+  pub here : IsRowIn f.nodes f.houses row
 
--- a finish: the version wasn't finished where it is done, and was where it is refused; the row comes back where it isn't done
+-- a finish: the version wasn't finished where it is done or finds no memory, and was where it is refused; the row comes back where
+-- it isn't done
 pub record Finishes {R : Type 0} (f : DeskFixed) (t : NumberedUpdate) (row : R) (before after : List (ℕ × Event)) (said : Result ℕ (DeskFault × R)) : Type 0 where
   pub unfinished : IfOk said (λ _. is_finished_in (desk_at f before) t.blob t.version ≡ false)
   pub finished : IfOk said (λ _. is_finished_in (desk_at f after) t.blob t.version ≡ true)
   pub already : IfErr said (λ e. OnRefused e.0 (λ _. is_finished_in (desk_at f before) t.blob t.version ≡ true))
+  pub waits : IfErr said (λ e. OnNoMemory e.0 (is_finished_in (desk_at f before) t.blob t.version ≡ false))
   pub back : IfErr said (λ e. e.1 ≡ row)
 
--- The snapshot of a version: its rows tell the blob's updates, and lie in the desk's houses, each under the blob that its version was numbered in.
+-- The snapshot of a version of this blob, under its id: its rows tell the blob's updates, and lie in the desk's houses, each under the
+-- blob that its version was numbered in.
 pub record IsSnapshotOf (f : DeskFixed) (log : List (ℕ × Event)) (blob version : ℕ) (s : Version) : Type 0 where
+  pub blob_is : s.blob ≡ blob
   pub rows : length s.rows ≡ version
   pub page_size : s.page_size ≡ f.page_size
   pub tells : TellUpdates f.page_size (updates_in (desk_at f log) blob) s.rows
-  pub here : IsVersionIn f.houses s
+  pub here : IsVersionIn f.nodes f.houses s
   pub origins : LieUnderOrigins (events log) blob s.rows
 
--- A look at the size of a version, with its snapshot
+-- A look at the size of a version, with its snapshot. It finds no memory only where the store refuses nothing.
 pub record Opened (f : DeskFixed) (blob version : ℕ) (before : List (ℕ × Event)) (caller : ℕ) (said : Result Version DeskFault) (after : List (ℕ × Event)) : Type 0 where
   pub log : IsLog f before
   pub same : after ≡ before
   pub done : IfOk said (λ s. outcome_in f before caller (Calls.Size blob version) ≡ Outcomes.Size (size_now s))
   pub refused : IfErr said (λ fault. OnRefused fault (λ refusal. outcome_in f before caller (Calls.Size blob version) ≡ Outcomes.Refused refusal))
+  pub memory : IfErr said (λ fault. OnNoMemory fault (is_refused (outcome_in f before caller (Calls.Size blob version)) ≡ false))
   pub snapshot : IfOk said (λ s. IsSnapshotOf f before blob version s)

@@ -1,4 +1,4 @@
--- Under which blob's id the row of each version stands.
+-- Under which blob's id the nodes of each version lie.
 use Rattle.std.specs.Prelude.{◌≡◌, ℕ, suc, List, [], ◌∷◌, length, Option, None, Some, slice_get, slice_index_or}
 use Rattle.blob_model.specs.declared.call.Event.{Event}
 use Rattle.blob_model.specs.declared.call.Event.TheVariants as Events

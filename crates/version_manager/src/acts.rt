@@ -102,6 +102,7 @@ impl Act<Desk> for Finish<'_> {
         state.stands();
         let finished = state.finish(caller, ticket, row);
         state.stands();
+        ticket.stands();
         finished
     }
 

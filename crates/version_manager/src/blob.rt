@@ -10,7 +10,7 @@ ghost use Rattle.page_store.specs.Stored.{bytes_of_pages};
 ghost use Rattle.snapshot.specs.Versions.{IsVersion, under_blob, older_version};
 ghost use Rattle.border_hints.specs.Numbered.{own_touch, StandsFor};
 ghost use Rattle.publisher.specs.Windows.{window_on, version_of, waiting_of, published_of, with_numbered};
-ghost use Rattle.version_manager.specs.Desks.{OnRefused};
+ghost use Rattle.version_manager.specs.Desks.{OnRefused, OnNoMemory};
 ghost use Rattle.version_manager.specs.Blobs.{Takes};
 ghost use Rattle.version_manager.specs.DeskInvariant.{Keeps, update_tests};
 
@@ -95,6 +95,8 @@ pub(crate) fn ticket_over(
     ensures refused { (b : Blob) → Keeps limits window.now b
         → IfErr result (λ fault. OnRefused fault (λ refusal. first_refusal (update_tests limits b place (bytes_of_pages (arc_value pages.now).pages)) ≡ Some refusal)) }
     ensures accepted { (b : Blob) → Keeps limits window.now b → IfOk result (λ _. first_refusal (update_tests limits b place (bytes_of_pages (arc_value pages.now).pages)) ≡ None) }
+    ensures memory { (b : Blob) → Keeps limits window.now b
+        → IfErr result (λ fault. OnNoMemory fault (first_refusal (update_tests limits b place (bytes_of_pages (arc_value pages.now).pages)) ≡ None)) }
     ensures version { (b : Blob) → Keeps limits window.now b → IfOk result (λ t. t.version ≡ assigned b + 1) }
     ensures at { (b : Blob) → Keeps limits window.now b → IfOk result (λ t. t.at ≡ offset_of place (size_now b)) }
     ensures size { (b : Blob) → Keeps limits window.now b → IfOk result (λ t. t.size ≡ size_with b place (bytes_of_pages (arc_value pages.now).pages)) }

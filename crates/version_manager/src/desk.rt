@@ -1,6 +1,6 @@
 // The blobs of a store and its history.
-ghost use Rattle.std.specs.Prelude.{◌≡◌, ℕ, ◌-◌, ◌^◌, ◌<◌, ◌≤◌, true, false, List, [], ◌∷◌, ◌++◌};
-ghost use Rattle.std.specs.Prelude.{length, map, MatchOption, IfOk, IfErr, OnOk, OnErr, vec_len};
+ghost use Rattle.std.specs.Prelude.{◌≡◌, ℕ, ◌+◌, ◌-◌, ◌^◌, ◌<◌, ◌≤◌, true, false, List, [], ◌∷◌, ◌++◌};
+ghost use Rattle.std.specs.Prelude.{length, map, MatchOption, IfOk, IfErr, OnOk, OnErr, vec_len, vec_capacity};
 ghost use Rattle.std.specs.Arc.{arc_value};
 ghost use Rattle.page_store.specs.Stored.{bytes_of_pages, LieAmong};
 ghost use Rattle.node_store.specs.UpdateRows.{IsRowIn};
@@ -8,12 +8,12 @@ ghost use Rattle.border_hints.specs.Numbered.{own_touch};
 ghost use Rattle.publisher.specs.Windows.{version_of, window_on, with_numbered, with_finished};
 ghost use Rattle.snapshot.specs.Versions.{IsVersionIn, older_version, under_blob, size_now};
 ghost use Rattle.snapshot.specs.Laws.{AreRowsOf, TellUpdates};
-ghost use Rattle.blob_model.specs.History.{IsLegal};
+ghost use Rattle.blob_model.specs.History.{is_refused, IsLegal};
 ghost use Rattle.blob_model.specs.declared.call.Call.TheVariants as Calls;
 ghost use Rattle.blob_model.specs.declared.call.Event.TheVariants as Events;
 ghost use Rattle.blob_model.specs.declared.call.Outcome.TheVariants as Outcomes;
 ghost use Rattle.version_manager.specs.Desks.{empty_desk, outcome_now, updates_in, window_in, with_event, windows_with, windows_and};
-ghost use Rattle.version_manager.specs.Desks.{is_finished_in, OnRefused, IsUnfinished, IsNumbering, IsTicketOf, IsRowFor, HasHints};
+ghost use Rattle.version_manager.specs.Desks.{is_finished_in, OnRefused, OnNoMemory, IsUnfinished, IsNumbering, IsTicketOf, IsRowFor, HasHints};
 ghost use Rattle.version_manager.specs.Origins.{LieUnderOrigins};
 
 use crate::blob::{branch_in, first_in, ticket_over};
@@ -22,7 +22,7 @@ use crate::fault::DeskFault;
 use crate::looks::{recent_in, size_in, snapshot_in, status_in, sync_in};
 use blob_model::{Limits, Outcome, Place, Refusal};
 use border_hints::Ticket;
-use node_store::Row;
+use node_store::{NodeHouse, Row};
 use page_store::{Houses, Pages};
 use publisher::{NoMemory, Window};
 use snapshot::Snapshot;
@@ -37,7 +37,7 @@ const MAX_ENTRIES: u64 = (1 << 38) - 1;
 /// The blobs of a store, and the history of all changes that it accepted, in order, each with its caller.
 ///
 /// The history is legal, and the blobs are what it leaves. A call that is refused, and one that finds no memory, leaves the
-/// desk as before. The pages of the desk's versions lie in the houses that it was made for, and the row of each version stands
+/// desk as before. The pages and nodes of the desk's versions lie in the houses that it was made for, the nodes of each version
 /// under the blob that it was numbered in. It has fewer than 2^38 entries.
 #[derive(Drop)]
 pub struct Desk {
@@ -45,6 +45,7 @@ pub struct Desk {
     limits: Limits,
     page_size: PageSize,
     houses: Arc<Houses>,
+    nodes: Arc<NodeHouse>,
     history: Vec<Entry>,
     windows: Vec<Window>,
 }
@@ -62,22 +63,24 @@ impl Model for Desk {
       limits = d.limits;
       page_size = d.page_size;
       houses = arc_value d.houses;
+      nodes = arc_value d.nodes;
       history = map event_of d.history.items;
       windows = d.windows.items;
     } };
 
-    ghost invariant = { λ d. IsDesk d.limits d.page_size (arc_value d.houses) (map event_of d.history.items) d.windows.items };
+    ghost invariant = { λ d. IsDesk d.limits d.page_size (arc_value d.houses) (arc_value d.nodes) (map event_of d.history.items) d.windows.items };
 }
 
 impl Desk {
-    /// A desk without blobs, whose history is empty, for pages in these houses.
+    /// A desk without blobs, whose history is empty, for pages in these houses and nodes in this one.
     pub fn new(
         alloc: Global,
         limits: Limits,
         p: PageSize,
         houses: &Arc<Houses>,
+        nodes: &Arc<NodeHouse>,
     ) -> Result<Desk, NoMemory>
-        ensures { IfOk result (λ desk. desk ≡ empty_desk limits p (arc_value houses.now)) }
+        ensures { IfOk result (λ desk. desk ≡ empty_desk limits p (arc_value houses.now) (arc_value nodes.now)) }
     {
         p.stands();
         Ok(Desk {
@@ -85,6 +88,7 @@ impl Desk {
             limits,
             page_size: p,
             houses: Arc::try_clone(houses)?,
+            nodes: Arc::try_clone(nodes)?,
             history: Vec::new(alloc),
             windows: Vec::new(alloc),
         })
@@ -129,6 +133,7 @@ impl Desk {
         ensures new { IfOk result (λ blob. self.new ≡ with_event self.old (Events.Create caller)
             (windows_and self.old (window_on record { blob = blob; page_size = self.old.page_size; rows = [] }))) }
         ensures refused { IfErr result (λ fault. OnRefused fault (λ refusal. outcome_now self.old caller Calls.Create ≡ Outcomes.Refused refusal)) }
+        ensures memory { IfErr result (λ fault. OnNoMemory fault (is_refused (outcome_now self.old caller Calls.Create) ≡ false)) }
         ensures same { IfErr result (λ _. self.new ≡ self.old) }
     {
         let count = self.windows.len() as u64;
@@ -136,9 +141,6 @@ impl Desk {
         let limit = limits.max_blobs;
         if count == limit {
             return Err(DeskFault::Refused(Refusal::TooManyBlobs { limit }));
-        }
-        if self.history.len() as u64 >= MAX_ENTRIES {
-            return Err(DeskFault::NoMemory);
         }
         let blob = count + 1;
         let Ok(window) = first_in(self.alloc, blob, self.page_size) else {
@@ -176,6 +178,7 @@ impl Desk {
         ensures unfinished { IfOk result (λ t. IsUnfinished self.new blob t.version) }
         ensures refused { IfErr result (λ fault. OnRefused fault (λ refusal.
             outcome_now self.old caller (Calls.Assign blob place (bytes_of_pages (arc_value pages.now).pages)) ≡ Outcomes.Refused refusal)) }
+        ensures memory { IfErr result (λ fault. OnNoMemory fault (is_refused (outcome_now self.old caller (Calls.Assign blob place (bytes_of_pages (arc_value pages.now).pages))) ≡ false)) }
         ensures same { IfErr result (λ _. self.new ≡ self.old) }
     {
         let Some(index) = index_of(&self.windows, blob) else {
@@ -187,15 +190,12 @@ impl Desk {
             Ok(ticket) => ticket,
             Err(fault) => return Err(fault),
         };
-        if self.history.len() as u64 >= MAX_ENTRIES {
-            return Err(DeskFault::NoMemory);
-        }
         let Ok(pages) = Arc::try_clone(pages) else {
             return Err(DeskFault::NoMemory);
         };
-        if self.history.reserve(1).is_err() {
+        let Ok(()) = make_room(&mut self.history) else {
             return Err(DeskFault::NoMemory);
-        }
+        };
         self.history.push_reserved(Entry {
             caller,
             change: Change::Assign { blob, place, pages },
@@ -215,13 +215,14 @@ impl Desk {
         requires ticket { IsTicketOf self.old ticket.now }
         requires row { IsRowFor self.old ticket.now (arc_value row) }
         requires under { (arc_value row).blob ≡ ticket.now.blob }
-        requires here { IsRowIn self.old.houses (arc_value row) }
+        requires here { IsRowIn self.old.nodes self.old.houses (arc_value row) }
         ensures published { IfOk result (λ published. outcome_now self.old caller (Calls.Finish ticket.now.blob ticket.now.version) ≡ Outcomes.Published published) }
         ensures new { IfOk result (λ _. self.new ≡ with_event self.old (Events.Finish caller ticket.now.blob ticket.now.version)
             (windows_with self.old ticket.now.blob (with_finished (window_in self.old ticket.now.blob) ticket.now.version (arc_value row)))) }
         ensures unfinished { IfOk result (λ _. is_finished_in self.old ticket.now.blob ticket.now.version ≡ false) }
         ensures finished { IfOk result (λ _. is_finished_in self.new ticket.now.blob ticket.now.version ≡ true) }
         ensures already { IfErr result (λ e. OnRefused e.0 (λ _. is_finished_in self.old ticket.now.blob ticket.now.version ≡ true)) }
+        ensures waits { IfErr result (λ e. OnNoMemory e.0 (is_finished_in self.old ticket.now.blob ticket.now.version ≡ false)) }
         ensures refused { IfErr result (λ e. OnRefused e.0 (λ refusal.
             outcome_now self.old caller (Calls.Finish ticket.now.blob ticket.now.version) ≡ Outcomes.Refused refusal)) }
         ensures same { IfErr result (λ e. (e.1 ≡ row) × (self.new ≡ self.old)) }
@@ -234,12 +235,9 @@ impl Desk {
         if window.is_finished(version) {
             return Err((DeskFault::Refused(Refusal::Already { version }), row));
         }
-        if self.history.len() as u64 >= MAX_ENTRIES {
+        let Ok(()) = make_room(&mut self.history) else {
             return Err((DeskFault::NoMemory, row));
-        }
-        if self.history.reserve(1).is_err() {
-            return Err((DeskFault::NoMemory, row));
-        }
+        };
         match self.windows[index].finish(version, row) {
             Ok(published) => {
                 self.history.push_reserved(Entry {
@@ -259,6 +257,7 @@ impl Desk {
         ensures new { IfOk result (λ id. self.new ≡ with_event self.old (Events.Branch caller blob version)
             (windows_and self.old (window_on (under_blob (older_version (version_of (window_in self.old blob)) version) id)))) }
         ensures refused { IfErr result (λ fault. OnRefused fault (λ refusal. outcome_now self.old caller (Calls.Branch blob version) ≡ Outcomes.Refused refusal)) }
+        ensures memory { IfErr result (λ fault. OnNoMemory fault (is_refused (outcome_now self.old caller (Calls.Branch blob version)) ≡ false)) }
         ensures same { IfErr result (λ _. self.new ≡ self.old) }
     {
         let Some(index) = index_of(&self.windows, blob) else {
@@ -274,9 +273,6 @@ impl Desk {
         let limit = limits.max_blobs;
         if count == limit {
             return Err(DeskFault::Refused(Refusal::TooManyBlobs { limit }));
-        }
-        if self.history.len() as u64 >= MAX_ENTRIES {
-            return Err(DeskFault::NoMemory);
         }
         let id = count + 1;
         let Ok(window) = branch_in(self.alloc, parent, id, version) else {
@@ -297,11 +293,13 @@ impl Desk {
     pub fn snapshot_of(&self, blob: u64, version: u64) -> Result<Snapshot, DeskFault>
         ensures size { (caller : ℕ) → IfOk result (λ s. outcome_now self.now caller (Calls.Size blob version) ≡ Outcomes.Size (size_now s)) }
         ensures this { IfOk result (λ s. s ≡ older_version (version_of (window_in self.now blob)) version) }
+        ensures blob { IfOk result (λ s. s.blob ≡ blob) }
         ensures version { IfOk result (λ s. length s.rows ≡ version) }
         ensures page_size { IfOk result (λ s. s.page_size ≡ self.now.page_size) }
         ensures tells { IfOk result (λ s. TellUpdates self.now.page_size (updates_in self.now blob) s.rows) }
         ensures refused { (caller : ℕ) → IfErr result (λ fault. OnRefused fault (λ refusal. outcome_now self.now caller (Calls.Size blob version) ≡ Outcomes.Refused refusal)) }
-        ensures here { IfOk result (λ s. IsVersionIn self.now.houses s) }
+        ensures memory { (caller : ℕ) → IfErr result (λ fault. OnNoMemory fault (is_refused (outcome_now self.now caller (Calls.Size blob version)) ≡ false)) }
+        ensures here { IfOk result (λ s. IsVersionIn self.now.nodes self.now.houses s) }
         ensures origins { IfOk result (λ s. LieUnderOrigins self.now.history blob s.rows) }
     {
         match index_of(&self.windows, blob) {
@@ -361,6 +359,19 @@ fn index_of(windows: &Vec<Window>, blob: u64) -> Option<usize>
     Some((blob - 1) as usize)
 }
 
+// Room for one entry more, where the history may have one.
+fn make_room(history: &mut Vec<Entry>) -> Result<(), NoMemory>
+    ensures items { history.new.items ≡ history.old.items }
+    ensures short { OnOk result (length history.old.items + 1 < 2 ^ 38) }
+    ensures room { OnOk result (vec_len history.new < vec_capacity history.new) }
+{
+    if history.len() as u64 >= MAX_ENTRIES {
+        return Err(NoMemory);
+    }
+    history.reserve(1)?;
+    Ok(())
+}
+
 // Adds the window of a new blob, and the entry of its making.
 fn add(
     history: &mut Vec<Entry>,
@@ -372,8 +383,9 @@ fn add(
     ensures windows { OnOk result (windows.new.items ≡ windows.old.items ++ window ∷ []) }
     ensures same_history { OnErr result (history.new.items ≡ history.old.items) }
     ensures same_windows { OnErr result (windows.new.items ≡ windows.old.items) }
+    ensures short { OnOk result (length history.old.items + 1 < 2 ^ 38) }
 {
-    history.reserve(1)?;
+    make_room(history)?;
     windows.push(window)?;
     history.push_reserved(entry);
     Ok(())

@@ -3,6 +3,7 @@ ghost use Rattle.std.specs.Prelude.{◌≡◌, ◌<◌, ◌^◌, length};
 
 use crate::desk::Desk;
 use blob_model::{Event, Limits};
+use node_store::NodeHouse;
 use page_store::Houses;
 use tree_geom::PageSize;
 use turn_lock::Journaled;
@@ -15,6 +16,8 @@ pub struct DeskFixed {
     pub page_size: PageSize,
     /// The houses that the pages are of.
     pub houses: Houses,
+    /// The house that the nodes are of.
+    pub nodes: NodeHouse,
 }
 
 impl Journaled for Desk {

@@ -1,10 +1,10 @@
 use Rattle.std.proofs.Common.{[], refl}
 use Rattle.threads_tests.specs.ByHand.{abcd}
-use Rattle.threads_tests.proofs.ByHandRows.{four_touch, leaf_pairs, four_next}
+use Rattle.threads_tests.proofs.ByHandRows.{four_touch, leaf_nodes, four_next}
 use Rattle.threads_tests.proofs.HandMade.{next_same}
 use Rattle.threads_tests.proofs.reader.four.Goals as goal
 
 pub written-requires-clause-next : goal.written-requires-clause-next
 written-requires-clause-next g c =
-    λ _ _. next_same _ [] 0 four_touch _ abcd _ (leaf_pairs 0 4 0 0) c.empty-none.ensures.told refl
-    (rw (c.range_of.ensures, c.leaf_of.ensures, c.piece_of.ensures)) four_next
+    λ _ _. next_same _ [] 0 four_touch _ abcd 0 _ (leaf_nodes 0 4 0 0) c.empty-none.ensures.told refl
+    (rw (c.leaf_of.ensures, c.piece_of.ensures)) four_next

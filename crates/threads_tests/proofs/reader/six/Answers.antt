@@ -1,10 +1,10 @@
 use Rattle.std.proofs.Common.{[], refl}
-use Rattle.threads_tests.specs.ByHand.{six_touch, abcdef, six_pairs}
+use Rattle.threads_tests.specs.ByHand.{six_touch, abcdef, six_nodes}
 use Rattle.threads_tests.proofs.ByHandRows.{six_next}
 use Rattle.threads_tests.proofs.HandMade.{next_same}
 use Rattle.threads_tests.proofs.reader.six.Goals as goal
 
 pub written-requires-clause-next : goal.written-requires-clause-next
 written-requires-clause-next g c =
-    λ _ _. next_same _ [] 0 six_touch _ abcdef _ six_pairs c.empty-none.ensures.told refl
-    (rw (c.range_of.ensures, c.range_of-2.ensures, c.leaf_of.ensures, c.piece_of.ensures, c.range_of-3.ensures, c.leaf_of-2.ensures, c.piece_of-2.ensures)) six_next
+    λ _ _. next_same _ [] 0 six_touch _ abcdef 1 _ six_nodes c.empty-none.ensures.told refl
+    (rw (c.leaf_of.ensures, c.piece_of.ensures, c.leaf_of-2.ensures, c.piece_of-2.ensures)) six_next

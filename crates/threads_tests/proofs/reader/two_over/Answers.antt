@@ -1,10 +1,10 @@
 use Rattle.std.proofs.Common.{[], ◌∷◌, refl}
 use Rattle.threads_tests.specs.ByHand.{after_six}
-use Rattle.threads_tests.proofs.ByHandRows.{over_touch, over_pairs, over_next}
+use Rattle.threads_tests.proofs.ByHandRows.{over_touch, over_nodes, over_next}
 use Rattle.threads_tests.proofs.HandMade.{next_same}
 use Rattle.threads_tests.proofs.reader.two_over.Goals as goal
 
 pub written-requires-clause-next : goal.written-requires-clause-next
 written-requires-clause-next g c =
-    λ _ _. next_same _ after_six 3 over_touch _ (255 ∷ 255 ∷ []) _ over_pairs c.six-one.ensures.told refl
-    (rw (c.range_of.ensures, c.range_of-2.ensures, c.leaf_of.ensures, c.piece_of.ensures, c.range_of-3.ensures, c.leaf_of-2.ensures, c.piece_of-2.ensures)) over_next
+    λ _ _. next_same _ after_six 3 over_touch _ (255 ∷ 255 ∷ []) 1 _ over_nodes c.six-one.ensures.told refl
+    (rw (c.leaf_of.ensures, c.piece_of.ensures, c.leaf_of-2.ensures, c.piece_of-2.ensures)) over_next

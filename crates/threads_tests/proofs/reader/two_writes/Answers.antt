@@ -1,10 +1,10 @@
 use Rattle.std.proofs.Common.{[], ◌∷◌, refl}
 use Rattle.threads_tests.specs.ByHand.{after_four}
-use Rattle.threads_tests.proofs.ByHandRows.{part_touch, leaf_pairs, first_next}
+use Rattle.threads_tests.proofs.ByHandRows.{part_touch, leaf_nodes, first_next}
 use Rattle.threads_tests.proofs.HandMade.{next_same}
 use Rattle.threads_tests.proofs.reader.two_writes.Goals as goal
 
 pub written-requires-clause-next : goal.written-requires-clause-next
 written-requires-clause-next g c =
-    λ _ _. next_same _ after_four 0 part_touch _ (255 ∷ []) _ (leaf_pairs 0 1 1 1) c.four-one.ensures.told refl
-    (rw (c.range_of.ensures, c.leaf_of.ensures, c.piece_of.ensures)) first_next
+    λ _ _. next_same _ after_four 0 part_touch _ (255 ∷ []) 0 _ (leaf_nodes 0 1 1 1) c.four-one.ensures.told refl
+    (rw (c.leaf_of.ensures, c.piece_of.ensures)) first_next

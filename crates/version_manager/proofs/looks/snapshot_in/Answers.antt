@@ -2,6 +2,7 @@ use Rattle.std.proofs.Common.{length, [], ◌∷◌, ap, sym, ◌∙◌, subst, 
 use Rattle.std.proofs.lemmas.List.{length-take-le}
 use Rattle.blob_model.specs.Content.{size_of}
 use Rattle.blob_model.specs.Answer.{not_published}
+use Rattle.blob_model.specs.History.{is_refused}
 use Rattle.blob_model.specs.declared.call.Outcome.TheVariants as Outcomes
 use Rattle.snapshot.specs.Versions.{Version, size_now}
 use Rattle.snapshot.specs.Laws.{TellUpdates}
@@ -33,3 +34,7 @@ returns-in-Ok-clause-tells c limits b k =
     let is = c.stands.ensures.version in
     let P : Version → Type 0 = λ s. TellUpdates w.page_size b.updates s.rows in
     subst P (sym c.in-Ok.ensures) (tells limits w b k (omega arith) is c.args.version c.in_default.ensures.published)
+
+pub returns-in-Err-clause-memory : goal.returns-in-Err-clause-memory
+returns-in-Err-clause-memory c limits s b k =
+    sym (ap is_refused (done_is s (not_published b c.args.version ∷ []) (s, Outcomes.Size (size_of b.updates c.args.version)) (c.in_default.ensures.refusal limits b k)))

@@ -1,4 +1,4 @@
-use Rattle.std.proofs.Common.{◌≡◌, ℕ, ◌+◌, ◌-◌, ◌<◌, List, [], ◌∷◌, ◌++◌, length, map, set, refl, sym, ◌∙◌, ap, subst, arith}
+use Rattle.std.proofs.Common.{◌≡◌, ℕ, ◌+◌, ◌-◌, ◌<◌, false, List, [], ◌∷◌, ◌++◌, length, map, set, refl, sym, ◌∙◌, ap, subst, arith}
 use Rattle.std.specs.Arc.{arc_value}
 use Rattle.std.proofs.lemmas.List.Elements.{All-set}
 use Rattle.tree_geom.specs.declared.touch.Touch.{Touch}
@@ -7,14 +7,14 @@ use Rattle.snapshot.specs.Versions.{Version, IsVersion}
 use Rattle.blob_model.specs.Content.{Update, offset_of}
 use Rattle.blob_model.specs.Store.{Blob, blob_at, size_now, size_with}
 use Rattle.blob_model.specs.Answer.{answer}
-use Rattle.blob_model.specs.History.{store_of}
+use Rattle.blob_model.specs.History.{store_of, is_refused}
 use Rattle.blob_model.specs.declared.call.Call.TheVariants as Calls
 use Rattle.blob_model.specs.declared.call.Event.{Event}
 use Rattle.blob_model.specs.declared.call.Event.TheVariants as Events
 use Rattle.blob_model.specs.declared.call.Outcome.TheVariants as Outcomes
 use Rattle.border_hints.specs.Numbered.{own_touch}
 use Rattle.publisher.specs.Windows.{Numbered, published_of, version_of, waiting_of, with_numbered}
-use Rattle.version_manager.specs.Desks.{DeskState, no_window, OnRefused, updates_or_none, IsNumbering, HasHints}
+use Rattle.version_manager.specs.Desks.{DeskState, no_window, OnRefused, OnNoMemory, updates_or_none, IsNumbering, HasHints}
 use Rattle.version_manager.specs.Entries.{event_of}
 use Rattle.version_manager.specs.DeskInvariant.{KeepsDesk}
 use Rattle.version_manager.specs.Origins.{parents_of, AreUnder}
@@ -22,6 +22,7 @@ use Rattle.version_manager.proofs.Desks.{at_index, short_yet}
 use Rattle.version_manager.proofs.Numbering.{numbered_event, is_ticket, is_unfinished, assign_fault, assign_outcome, assign_keeps, assign_there, even_of}
 use Rattle.version_manager.specs.declared.entry.Change.TheVariants as Changes
 use Rattle.version_manager.specs.declared.entry.Entry.{Entry}
+use Rattle.version_manager.proofs.Looking.{on_no_memory}
 use Rattle.version_manager.proofs.Hints.{has_hints}
 use Rattle.version_manager.proofs.Houses.{AreRowsIn, numbered_in, window_lies}
 use Rattle.version_manager.proofs.Origins.{numbered_under, origins_at, origins_set, origins_after, version_under}
@@ -46,6 +47,40 @@ returns-in-Err-clause-refused c =
     let x = at_index d.limits d.page_size (map event_of d.history.items) d.windows.items c.self.invariant.kept c.args.blob c.in-Some.index _ c.index-window.result.now d.windows.ok.0 c.in-Some.ensures c.index-window.ensures in
     let P : DeskState → Type 0 = λ s. OnRefused c.in-Err.fault (λ refusal. (answer (store_of s.limits s.history) c.args.caller (Calls.Assign c.args.blob c.args.place bytes)).1 ≡ Outcomes.Refused refusal) in
     subst P c.self.view_is (assign_fault d.limits d.page_size (map event_of d.history.items) d.windows.items c.self.invariant.kept c.args.caller c.args.blob c.args.place bytes x.found c.in-Err.fault (c.in-Err.ensures.refused x.found.b x.keeps))
+
+pub returns-in-Err-clause-memory : goal.returns-in-Err-clause-memory
+returns-in-Err-clause-memory c =
+    let d = c.self.inside in
+    let h = map event_of d.history.items in
+    let bytes = bytes_of_pages (arc_value c.args.pages.now).pages in
+    let x = at_index d.limits d.page_size h d.windows.items c.self.invariant.kept c.args.blob c.in-Some.index _ c.index-window.result.now d.windows.ok.0 c.in-Some.ensures c.index-window.ensures in
+    let P : DeskState → Type 0 = λ s. OnNoMemory c.in-Err.fault (is_refused (answer (store_of s.limits s.history) c.args.caller (Calls.Assign c.args.blob c.args.place bytes)).1 ≡ false) in
+    subst P c.self.view_is (
+    on_no_memory c.in-Err.fault _ _ (λ free. ap is_refused (assign_outcome d.limits d.page_size h d.windows.items c.self.invariant.kept c.args.caller c.args.blob c.args.place bytes x.found free))
+    (c.in-Err.ensures.memory x.found.b x.keeps)
+    )
+
+pub returns-in_default-try_clone-clause-memory : goal.returns-in_default-try_clone-clause-memory
+returns-in_default-try_clone-clause-memory c =
+    let d = c.self.inside in
+    let h = map event_of d.history.items in
+    let bytes = bytes_of_pages (arc_value c.args.pages.now).pages in
+    let x = at_index d.limits d.page_size h d.windows.items c.self.invariant.kept c.args.blob c.in-Some.index _ c.index-window.result.now d.windows.ok.0 c.in-Some.ensures c.index-window.ensures in
+    let P : DeskState → Type 0 = λ s. is_refused (answer (store_of s.limits s.history) c.args.caller (Calls.Assign c.args.blob c.args.place bytes)).1 ≡ false in
+    subst P c.self.view_is (
+    ap is_refused (assign_outcome d.limits d.page_size h d.windows.items c.self.invariant.kept c.args.caller c.args.blob c.args.place bytes x.found (c.in-Ok.ensures.accepted x.found.b x.keeps))
+    )
+
+pub returns-in_default-make_room-clause-memory : goal.returns-in_default-make_room-clause-memory
+returns-in_default-make_room-clause-memory c =
+    let d = c.self.inside in
+    let h = map event_of d.history.items in
+    let bytes = bytes_of_pages (arc_value c.args.pages.now).pages in
+    let x = at_index d.limits d.page_size h d.windows.items c.self.invariant.kept c.args.blob c.in-Some.index _ c.index-window.result.now d.windows.ok.0 c.in-Some.ensures c.index-window.ensures in
+    let P : DeskState → Type 0 = λ s. is_refused (answer (store_of s.limits s.history) c.args.caller (Calls.Assign c.args.blob c.args.place bytes)).1 ≡ false in
+    subst P c.self.view_is (
+    ap is_refused (assign_outcome d.limits d.page_size h d.windows.items c.self.invariant.kept c.args.caller c.args.blob c.args.place bytes x.found (c.in-Ok.ensures.accepted x.found.b x.keeps))
+    )
 
 pub number-requires-clause-few : goal.number-requires-clause-few
 number-requires-clause-few c =
@@ -78,16 +113,17 @@ invariant_of-self-2 c =
     let is : c.number.new.self ≡ W = c.number.ensures.new ∙ ap (λ (t : Touch). with_numbered c.index_mut.result.now t) c.touch.ensures ∙ ap (λ (w : Numbered). with_numbered w (own_touch c.in-Ok.ticket)) (y.window ∙ sym x.window) in
     let keeps = assign_keeps d.limits d.page_size h d.windows.items c.self.invariant.kept c.args.caller blob c.args.place bytes x.found (c.in-Ok.ensures.accepted x.found.b x.keeps) c.requires.some x.some W (c.in-Ok.ensures.kept x.found.b u x.keeps refl refl) x.id x.page in
     let e : Event = Events.Assign c.args.caller blob c.args.place bytes in
-    let history : map event_of c.push_reserved.new.self.items ≡ h ++ e ∷ [] = numbered_event d.history.items c.reserve.new.self.items c.push_reserved.new.self.items c.args.caller blob c.args.place c.in-Ok-try_clone.pages _ c.reserve.ensures.items c.push_reserved.ensures.items c.in-Ok-try_clone.ensures in
+    let history : map event_of c.push_reserved.new.self.items ≡ h ++ e ∷ [] = numbered_event d.history.items c.make_room.new.history.items c.push_reserved.new.self.items c.args.caller blob c.args.place c.in-Ok-try_clone.pages _ c.make_room.ensures.items c.push_reserved.ensures.items c.in-Ok-try_clone.ensures in
     let P : List Event → Type 0 = λ l. KeepsDesk d.limits d.page_size l (set d.windows.items (blob - 1) W) in
     let Q : ℕ → Type 0 = λ i. KeepsDesk d.limits d.page_size (map event_of c.push_reserved.new.self.items) (set d.windows.items i W) in
     let R : Numbered → Type 0 = λ w. KeepsDesk d.limits d.page_size (map event_of c.push_reserved.new.self.items) (set d.windows.items c.in-Some.index w) in
     let entry : Entry = record { caller = c.args.caller; change = Changes.Assign blob c.args.place c.in-Ok-try_clone.pages } in
+    let nodes = arc_value d.nodes in
     let houses = arc_value d.houses in
-    let L : Numbered → Type 0 = λ w. AreRowsIn houses w in
+    let L : Numbered → Type 0 = λ w. AreRowsIn nodes houses w in
     let within : c.in-Some.index < length d.windows.items = omega (arith, d.windows.ok.0, c.in-Some.ensures.0, c.in-Some.ensures.1, c.in-Some.ensures.2) in
-    let was : L c.index_mut.result.now = window_lies houses d.windows.items c.in-Some.index c.index_mut.result.now _ c.self.invariant.lies within c.index_mut.ensures.value in
-    let now : L c.number.new.self = subst L (sym c.number.ensures.new) (numbered_in houses c.index_mut.result.now c.touch.result was) in
+    let was : L c.index_mut.result.now = window_lies nodes houses d.windows.items c.in-Some.index c.index_mut.result.now _ c.self.invariant.lies within c.index_mut.ensures.value in
+    let now : L c.number.new.self = subst L (sym c.number.ensures.new) (numbered_in nodes houses c.index_mut.result.now c.touch.result was) in
     let old = c.index_mut.result.now in
     let there = origins_at (parents_of h) d.windows.items c.self.invariant.origins blob old no_window x.some (omega (arith, d.windows.ok.0, c.in-Some.ensures.2)) y.window in
     let U : Numbered → Type 0 = λ v. AreUnder (parents_of h) blob v.rows in
@@ -95,9 +131,9 @@ invariant_of-self-2 c =
     let placed = ap (λ (i : ℕ). set d.windows.items i c.number.new.self) x.at in
     record {
       kept = subst R (sym is) (subst Q (sym x.at) (subst P (sym history) keeps));
-      lies = All-set (AreRowsIn houses) d.windows.items c.in-Some.index c.number.new.self now c.self.invariant.lies;
+      lies = All-set (AreRowsIn nodes houses) d.windows.items c.in-Some.index c.number.new.self now c.self.invariant.lies;
       origins = origins_after h _ e _ _ history placed (origins_set (parents_of h) d.windows.items c.self.invariant.origins blob c.number.new.self x.some own);
-      short = short_yet d.history.items c.push_reserved.new.self.items entry (c.push_reserved.ensures.items ∙ ap (λ (l : List Entry). l ++ entry ∷ []) c.reserve.ensures.items) (omega (arith, c.len.ensures, d.history.ok.0, c.if-len-ge-MAX_ENTRIES.false));
+      short = short_yet d.history.items c.push_reserved.new.self.items entry (c.push_reserved.ensures.items ∙ ap (λ (l : List Entry). l ++ entry ∷ []) c.make_room.ensures.items) c.in-Ok-make_room.ensures.short;
     }
 
 pub returns-clause-assigned : goal.returns-clause-assigned
@@ -146,7 +182,7 @@ returns-clause-ticket c =
     let x = at_index d.limits d.page_size h d.windows.items c.self.invariant.kept blob c.in-Some.index _ c.index-window.result.now d.windows.ok.0 c.in-Some.ensures c.index-window.ensures in
     let b : Blob = x.found.b in
     let e : Event = Events.Assign c.args.caller blob c.args.place bytes in
-    let history : map event_of c.push_reserved.new.self.items ≡ h ++ e ∷ [] = numbered_event d.history.items c.reserve.new.self.items c.push_reserved.new.self.items c.args.caller blob c.args.place c.in-Ok-try_clone.pages _ c.reserve.ensures.items c.push_reserved.ensures.items c.in-Ok-try_clone.ensures in
+    let history : map event_of c.push_reserved.new.self.items ≡ h ++ e ∷ [] = numbered_event d.history.items c.make_room.new.history.items c.push_reserved.new.self.items c.args.caller blob c.args.place c.in-Ok-try_clone.pages _ c.make_room.ensures.items c.push_reserved.ensures.items c.in-Ok-try_clone.ensures in
     let there = assign_there d.limits d.page_size h d.windows.items c.self.invariant.kept c.args.caller blob c.args.place bytes x.found (c.in-Ok.ensures.accepted b x.keeps) in
     let on : t.blob ≡ blob = c.in-Ok.ensures.blob ∙ x.id in
     let O : List Event → ℕ → List Update = λ l i. updates_or_none (blob_at (store_of d.limits l) i) in
@@ -165,7 +201,7 @@ returns-clause-unfinished c =
     let x = at_index d.limits d.page_size h d.windows.items c.self.invariant.kept blob c.in-Some.index _ c.index-window.result.now d.windows.ok.0 c.in-Some.ensures c.index-window.ensures in
     let b : Blob = x.found.b in
     let e : Event = Events.Assign c.args.caller blob c.args.place bytes in
-    let history : map event_of c.push_reserved.new.self.items ≡ h ++ e ∷ [] = numbered_event d.history.items c.reserve.new.self.items c.push_reserved.new.self.items c.args.caller blob c.args.place c.in-Ok-try_clone.pages _ c.reserve.ensures.items c.push_reserved.ensures.items c.in-Ok-try_clone.ensures in
+    let history : map event_of c.push_reserved.new.self.items ≡ h ++ e ∷ [] = numbered_event d.history.items c.make_room.new.history.items c.push_reserved.new.self.items c.args.caller blob c.args.place c.in-Ok-try_clone.pages _ c.make_room.ensures.items c.push_reserved.ensures.items c.in-Ok-try_clone.ensures in
     let there = assign_there d.limits d.page_size h d.windows.items c.self.invariant.kept c.args.caller blob c.args.place bytes x.found (c.in-Ok.ensures.accepted b x.keeps) in
     let even = even_of d.limits b c.index-window.result.now x.keeps (sym c.stands.ensures.log) in
     is_unfinished _ blob c.in-Ok.ticket.version b u (ap (λ (l : List Event). blob_at (store_of d.limits l) blob) history ∙ there) (c.in-Ok.ensures.version b x.keeps) even
@@ -178,9 +214,9 @@ returns-clause-hints c =
     let t = c.in-Ok.ticket in
     let x = at_index d.limits d.page_size h d.windows.items c.self.invariant.kept blob c.in-Some.index _ c.index-window.result.now d.windows.ok.0 c.in-Some.ensures c.index-window.ensures in
     let w = c.index-window.result.now in
-    let L : Numbered → Type 0 = λ v. AreRowsIn (arc_value d.houses) v in
+    let L : Numbered → Type 0 = λ v. AreRowsIn (arc_value d.nodes) (arc_value d.houses) v in
     let within : c.in-Some.index < length d.windows.items = omega (arith, d.windows.ok.0, c.in-Some.ensures.0, c.in-Some.ensures.1, c.in-Some.ensures.2) in
-    let lies : L w = window_lies (arc_value d.houses) d.windows.items c.in-Some.index w _ c.self.invariant.lies within c.index-window.ensures in
+    let lies : L w = window_lies (arc_value d.nodes) (arc_value d.houses) d.windows.items c.in-Some.index w _ c.self.invariant.lies within c.index-window.ensures in
     let under = origins_at (parents_of h) d.windows.items c.self.invariant.origins blob w no_window x.some (omega (arith, d.windows.ok.0, c.in-Some.ensures.2)) x.window in
     let P : DeskState → Type 0 = λ s. HasHints s blob t in
-    subst P c.self.view_is (has_hints _ blob t x.found.b w d.limits x.found.at x.page x.keeps (sym c.stands.ensures.log) (subst (λ (v : Version). IsVersion v) c.in-Ok.ensures.snapshot c.in-Ok.ensures.published) c.in-Ok.ensures.snapshot c.in-Ok.ensures.waiting lies (version_under h blob w under))
+    subst P c.self.view_is (has_hints _ blob t x.found.b w d.limits x.found.at x.id x.page x.keeps (sym c.stands.ensures.log) (subst (λ (v : Version). IsVersion v) c.in-Ok.ensures.snapshot c.in-Ok.ensures.published) c.in-Ok.ensures.snapshot c.in-Ok.ensures.waiting lies (version_under h blob w under))

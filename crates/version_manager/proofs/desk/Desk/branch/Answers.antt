@@ -1,10 +1,10 @@
-use Rattle.std.proofs.Common.{◌≡◌, ℕ, ◌+◌, ◌-◌, ◌<◌, ◌≤◌, List, [], ◌∷◌, ◌++◌, length, map, get_or, suc, sym, ◌∙◌, ap, subst, arith}
+use Rattle.std.proofs.Common.{◌≡◌, ℕ, ◌+◌, ◌-◌, ◌<◌, ◌≤◌, false, List, [], ◌∷◌, ◌++◌, length, map, get_or, suc, sym, ◌∙◌, ap, subst, arith}
 use Rattle.std.specs.Prelude.{All, Some}
 use Rattle.std.specs.Arc.{arc_value}
 use Rattle.std.proofs.lemmas.List.Elements.{All-push}
 use Rattle.blob_model.specs.Limits.{Bounds}
 use Rattle.blob_model.specs.Answer.{answer}
-use Rattle.blob_model.specs.History.{store_of}
+use Rattle.blob_model.specs.History.{store_of, is_refused}
 use Rattle.blob_model.specs.declared.call.Call.TheVariants as Calls
 use Rattle.blob_model.specs.declared.call.Event.{Event}
 use Rattle.blob_model.specs.declared.call.Event.TheVariants as Events
@@ -74,12 +74,13 @@ invariant_of-self-2 c =
     let history = pushed_event d.history.items c.add.new.history.items entry c.in-Ok-add.ensures.history in
     let P : List Event → Type 0 = λ l. KeepsDesk d.limits d.page_size l (ws ++ w ∷ []) in
     let Q : List Numbered → Type 0 = λ l. KeepsDesk d.limits d.page_size (map event_of c.add.new.history.items) l in
+    let nodes = arc_value d.nodes in
     let houses = arc_value d.houses in
-    let W : Numbered → Type 0 = λ v. AreRowsIn houses v in
-    let A : List Numbered → Type 0 = λ l. All (AreRowsIn houses) l in
+    let W : Numbered → Type 0 = λ v. AreRowsIn nodes houses v in
+    let A : List Numbered → Type 0 = λ l. All (AreRowsIn nodes houses) l in
     let within : c.in-Some.index < length d.windows.items = omega (arith, d.windows.ok.0, c.in-Some.ensures.0, c.in-Some.ensures.1, c.in-Some.ensures.2) in
-    let was : W c.index-parent.result.now = window_lies houses d.windows.items c.in-Some.index c.index-parent.result.now _ c.self.invariant.lies within c.index-parent.ensures in
-    let new : W w = subst W (sym c.in-Ok.ensures.new) (branch_in_houses houses c.index-parent.result.now version (c.len-count.result + 1) was) in
+    let was : W c.index-parent.result.now = window_lies nodes houses d.windows.items c.in-Some.index c.index-parent.result.now _ c.self.invariant.lies within c.index-parent.ensures in
+    let new : W w = subst W (sym c.in-Ok.ensures.new) (branch_in_houses nodes houses c.index-parent.result.now version (c.len-count.result + 1) was) in
     let parent : Parent = record { blob = blob; version = version } in
     let k = c.self.invariant.origins in
     let before = c.index-parent.result.now in
@@ -89,9 +90,9 @@ invariant_of-self-2 c =
     let own : U w = subst U (sym c.in-Ok.ensures.new) (branch_under (parents_of h) parent before (suc (length ws)) (omega (arith, k.count)) far there) in
     record {
       kept = subst Q (sym c.in-Ok-add.ensures.windows) (subst P (sym history) keeps);
-      lies = subst A (sym c.in-Ok-add.ensures.windows) (All-push (AreRowsIn houses) d.windows.items w c.self.invariant.lies new);
+      lies = subst A (sym c.in-Ok-add.ensures.windows) (All-push (AreRowsIn nodes houses) d.windows.items w c.self.invariant.lies new);
       origins = origins_after h _ (Events.Branch c.args.caller blob version) _ _ history c.in-Ok-add.ensures.windows (origins_pushed (parents_of h) ws k (Some parent) w own);
-      short = short_yet d.history.items _ _ c.in-Ok-add.ensures.history (omega (arith, c.len.ensures, d.history.ok.0, c.if-len-ge-MAX_ENTRIES.false));
+      short = short_yet d.history.items _ _ c.in-Ok-add.ensures.history c.in-Ok-add.ensures.short;
     }
 
 pub returns-clause-blob : goal.returns-clause-blob
@@ -109,3 +110,35 @@ returns-clause-blob c =
     let apart : length ws ≡ d.limits.max_blobs → ⊥ = λ e. c.if-count-limit.false (long ∙ e ∙ sym most) in
     let P : DeskState → Type 0 = λ s. (answer (store_of s.limits s.history) c.args.caller (Calls.Branch blob version)).1 ≡ Outcomes.Blob (c.len-count.result + 1) in
     subst P c.self.view_is (branch_outcome d.limits d.page_size h ws c.self.invariant.kept c.args.caller blob version x.found le apart ∙ ap (λ (n : ℕ). Outcomes.Blob (n + 1)) (sym long))
+
+pub returns-in_default-branch_in-clause-memory : goal.returns-in_default-branch_in-clause-memory
+returns-in_default-branch_in-clause-memory c =
+    let d = c.self.inside in
+    let h = map event_of d.history.items in
+    let ws = d.windows.items in
+    let blob = c.args.blob in
+    let version = c.args.version in
+    let x = at_index d.limits d.page_size h ws c.self.invariant.kept blob c.in-Some.index _ c.index-parent.result.now d.windows.ok.0 c.in-Some.ensures c.index-parent.ensures in
+    let is : c.published-published.result ≡ published_of (get_or ws (blob - 1) no_window) = c.published-published.ensures ∙ ap published_of x.window in
+    let le : version ≤ published_of (get_or ws (blob - 1) no_window) = omega (arith, is, c.if-version-published.false) in
+    let most : c.limits.inside.max_blobs ≡ d.limits.max_blobs = ap (λ (l : Bounds). l.max_blobs) c.limits.view_is in
+    let long : c.len-count.result ≡ length ws = omega (arith, c.len-count.ensures, d.windows.ok.0) in
+    let apart : length ws ≡ d.limits.max_blobs → ⊥ = λ e. c.if-count-limit.false (long ∙ e ∙ sym most) in
+    let P : DeskState → Type 0 = λ s. is_refused (answer (store_of s.limits s.history) c.args.caller (Calls.Branch blob version)).1 ≡ false in
+    subst P c.self.view_is (ap is_refused (branch_outcome d.limits d.page_size h ws c.self.invariant.kept c.args.caller blob version x.found le apart))
+
+pub returns-in_default-add-clause-memory : goal.returns-in_default-add-clause-memory
+returns-in_default-add-clause-memory c =
+    let d = c.self.inside in
+    let h = map event_of d.history.items in
+    let ws = d.windows.items in
+    let blob = c.args.blob in
+    let version = c.args.version in
+    let x = at_index d.limits d.page_size h ws c.self.invariant.kept blob c.in-Some.index _ c.index-parent.result.now d.windows.ok.0 c.in-Some.ensures c.index-parent.ensures in
+    let is : c.published-published.result ≡ published_of (get_or ws (blob - 1) no_window) = c.published-published.ensures ∙ ap published_of x.window in
+    let le : version ≤ published_of (get_or ws (blob - 1) no_window) = omega (arith, is, c.if-version-published.false) in
+    let most : c.limits.inside.max_blobs ≡ d.limits.max_blobs = ap (λ (l : Bounds). l.max_blobs) c.limits.view_is in
+    let long : c.len-count.result ≡ length ws = omega (arith, c.len-count.ensures, d.windows.ok.0) in
+    let apart : length ws ≡ d.limits.max_blobs → ⊥ = λ e. c.if-count-limit.false (long ∙ e ∙ sym most) in
+    let P : DeskState → Type 0 = λ s. is_refused (answer (store_of s.limits s.history) c.args.caller (Calls.Branch blob version)).1 ≡ false in
+    subst P c.self.view_is (ap is_refused (branch_outcome d.limits d.page_size h ws c.self.invariant.kept c.args.caller blob version x.found le apart))

@@ -1,11 +1,11 @@
-use Rattle.std.proofs.Common.{◌≡◌, ℕ, ◌+◌, List, [], ◌∷◌, ◌++◌, length, map, suc, sym, ◌∙◌, ap, subst, arith}
+use Rattle.std.proofs.Common.{◌≡◌, ℕ, ◌+◌, false, List, [], ◌∷◌, ◌++◌, length, map, suc, sym, ◌∙◌, ap, subst, arith}
 use Rattle.std.specs.Prelude.{All, None}
 use Rattle.std.specs.Arc.{arc_value}
 use Rattle.std.proofs.lemmas.List.{map-append}
 use Rattle.std.proofs.lemmas.List.Elements.{All-push}
 use Rattle.blob_model.specs.Limits.{Bounds}
 use Rattle.blob_model.specs.Answer.{answer}
-use Rattle.blob_model.specs.History.{store_of}
+use Rattle.blob_model.specs.History.{store_of, is_refused}
 use Rattle.blob_model.specs.declared.call.Call.TheVariants as Calls
 use Rattle.blob_model.specs.declared.call.Event.{Event}
 use Rattle.blob_model.specs.declared.call.Event.TheVariants as Events
@@ -43,16 +43,16 @@ invariant_of-self-2 c =
     let history = ap (map event_of) c.in-Ok-add.ensures.history ∙ map-append event_of d.history.items _ in
     let P : List Event → Type 0 = λ l. KeepsDesk d.limits d.page_size l (d.windows.items ++ w ∷ []) in
     let Q : List Numbered → Type 0 = λ l. KeepsDesk d.limits d.page_size (map event_of c.add.new.history.items) l in
-    let A : List Numbered → Type 0 = λ l. All (AreRowsIn (arc_value d.houses)) l in
-    let new : AreRowsIn (arc_value d.houses) w = none_in (arc_value d.houses) w (ap (λ (x : Numbered). x.rows) c.in-Ok.ensures.new) in
+    let A : List Numbered → Type 0 = λ l. All (AreRowsIn (arc_value d.nodes) (arc_value d.houses)) l in
+    let new : AreRowsIn (arc_value d.nodes) (arc_value d.houses) w = none_in (arc_value d.nodes) (arc_value d.houses) w (ap (λ (x : Numbered). x.rows) c.in-Ok.ensures.new) in
     let h = map event_of d.history.items in
     let k = c.self.invariant.origins in
     let own = none_under (parents_of h) w (suc (length d.windows.items)) (omega (arith, k.count)) (ap (λ (x : Numbered). x.rows) c.in-Ok.ensures.new) in
     record {
       kept = subst Q (sym c.in-Ok-add.ensures.windows) (subst P (sym history) keeps);
-      lies = subst A (sym c.in-Ok-add.ensures.windows) (All-push (AreRowsIn (arc_value d.houses)) d.windows.items w c.self.invariant.lies new);
+      lies = subst A (sym c.in-Ok-add.ensures.windows) (All-push (AreRowsIn (arc_value d.nodes) (arc_value d.houses)) d.windows.items w c.self.invariant.lies new);
       origins = origins_after h _ (Events.Create c.args.caller) _ _ history c.in-Ok-add.ensures.windows (origins_pushed (parents_of h) d.windows.items k None w own);
-      short = short_yet d.history.items _ _ c.in-Ok-add.ensures.history (omega (arith, c.len.ensures, d.history.ok.0, c.if-len-ge-MAX_ENTRIES.false));
+      short = short_yet d.history.items _ _ c.in-Ok-add.ensures.history c.in-Ok-add.ensures.short;
     }
 
 pub returns-clause-blob : goal.returns-clause-blob
@@ -63,3 +63,21 @@ returns-clause-blob c =
     let apart : length d.windows.items ≡ d.limits.max_blobs → ⊥ = λ e. c.if-count-limit.false (long ∙ e ∙ sym most) in
     let P : DeskState → Type 0 = λ x. (answer (store_of x.limits x.history) c.args.caller Calls.Create).1 ≡ Outcomes.Blob (c.len-count.result + 1) in
     subst P c.self.view_is (create_outcome d.limits d.page_size (map event_of d.history.items) d.windows.items c.self.invariant.kept c.args.caller apart ∙ ap (λ (n : ℕ). Outcomes.Blob (n + 1)) (sym long))
+
+pub returns-in_default-clause-memory : goal.returns-in_default-clause-memory
+returns-in_default-clause-memory c =
+    let d = c.self.inside in
+    let most : c.limits.inside.max_blobs ≡ d.limits.max_blobs = ap (λ (l : Bounds). l.max_blobs) c.limits.view_is in
+    let long : c.len-count.result ≡ length d.windows.items = omega (arith, c.len-count.ensures, d.windows.ok.0) in
+    let apart : length d.windows.items ≡ d.limits.max_blobs → ⊥ = λ e. c.if-count-limit.false (long ∙ e ∙ sym most) in
+    let P : DeskState → Type 0 = λ x. is_refused (answer (store_of x.limits x.history) c.args.caller Calls.Create).1 ≡ false in
+    subst P c.self.view_is (ap is_refused (create_outcome d.limits d.page_size (map event_of d.history.items) d.windows.items c.self.invariant.kept c.args.caller apart))
+
+pub returns-in_default-add-clause-memory : goal.returns-in_default-add-clause-memory
+returns-in_default-add-clause-memory c =
+    let d = c.self.inside in
+    let most : c.limits.inside.max_blobs ≡ d.limits.max_blobs = ap (λ (l : Bounds). l.max_blobs) c.limits.view_is in
+    let long : c.len-count.result ≡ length d.windows.items = omega (arith, c.len-count.ensures, d.windows.ok.0) in
+    let apart : length d.windows.items ≡ d.limits.max_blobs → ⊥ = λ e. c.if-count-limit.false (long ∙ e ∙ sym most) in
+    let P : DeskState → Type 0 = λ x. is_refused (answer (store_of x.limits x.history) c.args.caller Calls.Create).1 ≡ false in
+    subst P c.self.view_is (ap is_refused (create_outcome d.limits d.page_size (map event_of d.history.items) d.windows.items c.self.invariant.kept c.args.caller apart))

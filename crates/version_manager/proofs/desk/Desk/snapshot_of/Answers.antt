@@ -1,21 +1,21 @@
-use Rattle.std.proofs.Common.{◌≡◌, ℕ, ◌<◌, List, map, length, sym, ◌∙◌, ap, subst, arith}
+use Rattle.std.proofs.Common.{◌≡◌, ℕ, ◌<◌, false, List, map, length, sym, ◌∙◌, ap, subst, arith}
 use Rattle.std.specs.Prelude.{IfOk, IfErr}
 use Rattle.std.specs.Arc.{arc_value}
 use Rattle.blob_model.specs.Answer.{answer}
 use Rattle.blob_model.specs.Content.{Update}
-use Rattle.blob_model.specs.History.{store_of}
+use Rattle.blob_model.specs.History.{store_of, is_refused}
 use Rattle.blob_model.specs.declared.call.Call.TheVariants as Calls
 use Rattle.blob_model.specs.declared.call.Outcome.TheVariants as Outcomes
 use Rattle.blob_model.specs.declared.call.Refusal.TheVariants as Refusals
 use Rattle.snapshot.specs.Laws.{TellUpdates}
 use Rattle.snapshot.specs.Versions.{Version, IsVersionIn, size_now}
 use Rattle.version_manager.specs.declared.fault.DeskFault.{DeskFault}
-use Rattle.version_manager.specs.Desks.{DeskState, no_window, OnRefused, updates_in, updates_or_none}
+use Rattle.version_manager.specs.Desks.{DeskState, no_window, OnRefused, OnNoMemory, updates_in, updates_or_none}
 use Rattle.version_manager.specs.Entries.{event_of}
 use Rattle.version_manager.specs.Origins.{LieUnderOrigins, parents_of}
 use Rattle.version_manager.proofs.Desks.{at_index}
 use Rattle.version_manager.proofs.Houses.{AreRowsIn, older_in, window_lies}
-use Rattle.version_manager.proofs.Looking.{look_none, look_at, on_refused, size_in}
+use Rattle.version_manager.proofs.Looking.{look_none, look_at, on_refused, on_no_memory, size_in}
 use Rattle.version_manager.proofs.Origins.{origins_at, older_under}
 use Rattle.version_manager.proofs.Results.{if_ok, if_err}
 use Rattle.version_manager.proofs.desk.Desk.snapshot_of.Goals as goal
@@ -28,6 +28,13 @@ returns-in-Some-clause-size c = λ caller.
     let s = store_of d.limits h in
     let P : DeskState → Type 0 = λ v. IfOk c.snapshot_in.result (λ (a : Version). (answer (store_of v.limits v.history) caller (Calls.Size c.args.blob c.args.version)).1 ≡ Outcomes.Size (size_now a)) in
     subst P c.self.view_is (if_ok c.snapshot_in.result _ _ (λ a e. look_at d.limits d.page_size h d.windows.items c.self.invariant.kept c.args.blob (size_in s c.args.version) x.found ∙ e) (c.snapshot_in.ensures.size d.limits s x.found.b x.keeps))
+
+pub returns-in-Some-clause-blob : goal.returns-in-Some-clause-blob
+returns-in-Some-clause-blob c =
+    let d = c.self.inside in
+    let h = map event_of d.history.items in
+    let x = at_index d.limits d.page_size h d.windows.items c.self.invariant.kept c.args.blob c.in-Some.index _ c.index.result.now d.windows.ok.0 c.in-Some.ensures c.index.ensures in
+    if_ok c.snapshot_in.result _ _ (λ (a : Version) e. ap (λ (v : Version). v.blob) e ∙ x.id) c.snapshot_in.ensures.this
 
 pub returns-in-Some-clause-page_size : goal.returns-in-Some-clause-page_size
 returns-in-Some-clause-page_size c =
@@ -60,15 +67,26 @@ returns-in-Some-clause-refused c = λ caller.
     (c.snapshot_in.ensures.refused d.limits s x.found.b x.keeps)
     )
 
+pub returns-in-Some-clause-memory : goal.returns-in-Some-clause-memory
+returns-in-Some-clause-memory c = λ caller.
+    let d = c.self.inside in
+    let h = map event_of d.history.items in
+    let x = at_index d.limits d.page_size h d.windows.items c.self.invariant.kept c.args.blob c.in-Some.index _ c.index.result.now d.windows.ok.0 c.in-Some.ensures c.index.ensures in
+    let s = store_of d.limits h in
+    let look = look_at d.limits d.page_size h d.windows.items c.self.invariant.kept c.args.blob (size_in s c.args.version) x.found in
+    let P : DeskState → Type 0 = λ v. IfErr c.snapshot_in.result (λ (fault : DeskFault). OnNoMemory fault (is_refused (answer (store_of v.limits v.history) caller (Calls.Size c.args.blob c.args.version)).1 ≡ false)) in
+    subst P c.self.view_is (if_err c.snapshot_in.result _ _ (λ fault e. on_no_memory fault _ _ (λ f. ap is_refused look ∙ f) e) (c.snapshot_in.ensures.memory d.limits s x.found.b x.keeps))
+
 pub returns-in-Some-clause-here : goal.returns-in-Some-clause-here
 returns-in-Some-clause-here c =
     let d = c.self.inside in
+    let nodes = arc_value d.nodes in
     let houses = arc_value d.houses in
     let within : c.in-Some.index < length d.windows.items = omega (arith, d.windows.ok.0, c.in-Some.ensures.0, c.in-Some.ensures.1, c.in-Some.ensures.2) in
-    let was : AreRowsIn houses c.index.result.now = window_lies houses d.windows.items c.in-Some.index c.index.result.now _ c.self.invariant.lies within c.index.ensures in
-    let V : Version → Type 0 = λ s. IsVersionIn houses s in
-    let P : DeskState → Type 0 = λ s. IfOk c.snapshot_in.result (λ (a : Version). IsVersionIn s.houses a) in
-    subst P c.self.view_is (if_ok c.snapshot_in.result _ _ (λ (a : Version) e. subst V (sym e) (older_in houses c.index.result.now c.args.version was)) c.snapshot_in.ensures.this)
+    let was : AreRowsIn nodes houses c.index.result.now = window_lies nodes houses d.windows.items c.in-Some.index c.index.result.now _ c.self.invariant.lies within c.index.ensures in
+    let V : Version → Type 0 = λ s. IsVersionIn nodes houses s in
+    let P : DeskState → Type 0 = λ s. IfOk c.snapshot_in.result (λ (a : Version). IsVersionIn s.nodes s.houses a) in
+    subst P c.self.view_is (if_ok c.snapshot_in.result _ _ (λ (a : Version) e. subst V (sym e) (older_in nodes houses c.index.result.now c.args.version was)) c.snapshot_in.ensures.this)
 
 pub returns-in-Some-clause-origins : goal.returns-in-Some-clause-origins
 returns-in-Some-clause-origins c =
