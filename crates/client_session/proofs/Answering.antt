@@ -15,7 +15,7 @@ use Rattle.request_form.specs.Answers.{OutOfMemory, CreateAnswer, BranchAnswer, 
 use Rattle.request_form.specs.declared.form.Reply.{Reply}
 use Rattle.request_form.specs.declared.form.Reply.TheVariants as Replies
 use Rattle.request_form.specs.declared.form.Fault.TheVariants as Faults
-use Rattle.client_session.specs.Tickets.{OpenUpdate}
+use Rattle.session_parts.specs.Tickets.{OpenUpdate}
 use Rattle.client_session.specs.Results.{desk_fault, told_of, create_reply, branch_reply}
 use Rattle.client_session.specs.Sessions.{session_at}
 use Rattle.client_session.proofs.Turns.{Took, NotDone, not_done, outcome_of_gap, seen_event}

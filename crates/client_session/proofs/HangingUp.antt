@@ -1,12 +1,22 @@
 -- A session that hangs up, ticket by ticket.
-use Rattle.std.proofs.Common.{◌≡◌, refl, sym, ◌∙◌, ap, subst, ℕ, ◌+◌, ◌<◌, ◌≤◌, List, [], ◌∷◌, ◌++◌, append_assoc, append-nil, Bool, true, false, not, length, Option, Some, Result, Ok, Err, eq-eqb, arith}
-use Rattle.std.specs.Prelude.{cond, slice_get}
-use Rattle.std.proofs.lemmas.List.{length-map}
-use Rattle.blob_model.specs.History.{AllOther}
+use Rattle.std.proofs.Common.{◌≡◌, refl, sym, ◌∙◌, ap, subst, ℕ, suc, ◌+◌, ◌<◌, ◌≤◌, List, [], ◌∷◌, ◌++◌, append_assoc, append-nil, Bool, true, false, not, length, length-append, take, Option, Some, None, Result, Ok, Err, eq-eqb, arith}
+use Rattle.std.specs.Prelude.{All, cond, count_by, slice_get}
+use Rattle.std.proofs.lemmas.List.{length-map, length-take-le}
+use Rattle.std.proofs.lemmas.List.Sums.{sum_by-cons}
+use Rattle.blob_model.specs.History.{AllOther, IsNumbered, store_of}
+use Rattle.blob_model.specs.declared.call.Event.{Event}
+use Rattle.blob_model.specs.Content.{Update}
+use Rattle.blob_model.specs.Store.{Store, Blob, blob_at}
+use Rattle.range_log.specs.Updates.{extents}
+use Rattle.range_log.specs.Laws.{TouchesAre, ExtentsAre}
+use Rattle.border_hints.specs.Numbered.{NumberedUpdate, StandsFor, own_touch, log_with}
+use Rattle.version_manager.specs.Desks.{finished_or_not, updates_or_none, updates_in}
+use Rattle.version_manager.specs.Log.{desk_at, events}
+use Rattle.version_manager.specs.declared.journal.DeskFixed.{DeskFixed}
 use Rattle.request_form.specs.Session.{Session, HeldTicket, drops, ticket_at, without_ticket}
 use Rattle.request_form.specs.Answers.{FinishAnswer, ReportAnswer}
-use Rattle.request_form.specs.HangUp.{GivenUp, GivesUp, HungUp, tells_finished, tells_no_memory, finished_count, dropped_count, numbers_anew}
-use Rattle.request_form.specs.Laws.{GivingUpGoesOn}
+use Rattle.request_form.specs.HangUp.{GivenUp, GivesUp, HungUp, IsFinishedIn, AllNumbered, AllFinished, tells_finished, tells_no_memory, finished_count, dropped_count, numbers_anew}
+use Rattle.request_form.specs.Laws.{GivingUpGoesOn, HungUpAreFinished}
 use Rattle.request_form.proofs.HangUps.{finished_more, dropped_more}
 use Rattle.request_form.specs.declared.form.Reply.{Reply}
 use Rattle.request_form.specs.declared.form.Reply.TheVariants as Replies
@@ -14,8 +24,9 @@ use Rattle.request_form.specs.declared.form.Fault.{Fault}
 use Rattle.request_form.specs.declared.form.Fault.TheVariants as Faults
 use Rattle.client_session.specs.Results.{finish_reply}
 use Rattle.client_session.specs.Sessions.{SessionState, Continues, session_of}
-use Rattle.client_session.specs.Tickets.{OpenUpdate, ticket_of, tickets_of}
-use Rattle.client_session.specs.HangUp.{GivesUpOne, GivingUp}
+use Rattle.session_parts.specs.Tickets.{OpenUpdate, ticket_of, tickets_of}
+use Rattle.client_session.specs.SessionInvariant.{IsOpen}
+use Rattle.client_session.specs.HangUp.{GivesUpOne, GivingUp, finished_seen}
 use Rattle.client_session.proofs.Waiting.{goes_both}
 
 -- the first ticket is found under its number, and left out by it
@@ -112,6 +123,58 @@ same_tickets s t ts mid is a =
 
     not_already : (n : ℕ) → Replies.Refused Faults.NoMemory ≡ Replies.Refused (Faults.Already n) → ⊥
     not_already n e = cc
+
+-- ---- what is finished then
+none_below : (x y : Bool) → (x ≡ true → y ≡ true) → cond x 1 0 ≤ cond y 1 0
+none_below true y h = rw (h refl) (omega arith)
+none_below false y h = omega arith
+
+found_there : (store : Store) (t : HeldTicket) → IsFinishedIn store t → finished_or_not (blob_at store t.blob) t.version ≡ true
+found_there store t (b, is, done) = ap (λ (o : Option Blob). finished_or_not o t.version) is ∙ done
+
+-- no more replies tell of a finish than versions are finished
+few_finished : (s : Session) (ts : List HeldTicket) (replies : List Reply) (s' : Session) (store : Store) → GivesUp AllOther s ts replies s' → AllFinished store ts replies
+    → finished_count replies ≤ count_by (λ (t : HeldTicket). finished_or_not (blob_at store t.blob) t.version) ts
+few_finished s [] [] s' store g all = omega arith
+few_finished s (t ∷ ts) (r ∷ rs) s' store (mid, first, rest) all =
+    let f : HeldTicket → Bool = λ t. finished_or_not (blob_at store t.blob) t.version in
+    let one = none_below (tells_finished r) (f t) (λ e. found_there store t (all.0 e)) in
+    let more = few_finished mid ts rs s' store rest all.1 in
+    let a = sum_by-cons (λ (x : Reply). cond (tells_finished x) 1 0) r rs in
+    let b = sum_by-cons (λ (x : HeldTicket). cond (f x) 1 0) t ts in
+    omega (arith, one, more, a, b)
+few_finished s [] (r ∷ rs) s' store none all = absurd none
+few_finished s (t ∷ ts) [] s' store none all = absurd none
+
+-- a ticket's version isn't 0, since the ticket stands for the updates up to it
+some_version : TouchesAre → ExtentsAre → (t : NumberedUpdate) (us : List Update) → t.version ≤ length us → StandsFor t (extents (take t.version us)) → 1 ≤ t.version
+some_version touched counted t us numbered stands =
+    omega (
+      arith,
+      length-take-le t.version us numbered,
+      counted (take t.version us),
+      touched t.snapshot.page_size (extents (take t.version us)),
+      ap length stands.touches,
+      length-append (log_with t.snapshot t.waiting) (own_touch t ∷ []),
+    )
+
+there_numbered : (o : Option Blob) (version : ℕ) → 1 ≤ version → version ≤ length (updates_or_none o) → IsNumbered o version
+there_numbered None version some upto = omega (arith, some, upto)
+there_numbered (Some b) version some upto = (some, upto)
+
+-- each held update was numbered in what the session has seen
+pub all_numbered : TouchesAre → ExtentsAre → (f : DeskFixed) (log : List (ℕ × Event)) (held : List OpenUpdate) → All (IsOpen f log) held → AllNumbered (store_of f.limits (events log)) (tickets_of held)
+all_numbered touched counted f log [] all = tt
+all_numbered touched counted f log (o ∷ os) all =
+    let first : IsOpen f log o = all 0 o (omega arith) in
+    let some = some_version touched counted o.ticket (updates_in (desk_at f log) o.ticket.blob) first.ticket.numbered first.ticket.stands in
+    (there_numbered (blob_at (store_of f.limits (events log)) o.ticket.blob) o.ticket.version some first.ticket.numbered, all_numbered touched counted f log os (λ k x lt. all (suc k) x (omega arith)))
+
+pub finished_then : HungUpAreFinished → (s : Session) (finished no_memory : ℕ) (s' : Session) → HungUp AllOther s finished no_memory s' → AllNumbered (store_of s.fixed.limits s.seen) s.tickets
+    → finished ≤ finished_seen s' s.tickets
+finished_then law s finished no_memory s' h numbered =
+    let few = few_finished s s.tickets h.replies h.mid (store_of s'.fixed.limits s'.seen) h.gives_up (law s finished no_memory s' h numbered) in
+    omega (arith, few, h.finished_is)
 
 -- ---- the loop
 module _ {D : Type 0} (faults : D → ℕ) where

@@ -10,9 +10,10 @@ use Rattle.blob_model.specs.declared.call.Event.{Event}
 use Rattle.node_store.specs.UpdateRows.{UpdateRow}
 use Rattle.version_manager.specs.declared.journal.DeskFixed.{DeskFixed}
 use Rattle.request_form.specs.Session.{HeldTicket}
-use Rattle.client_session.specs.Tickets.{OpenUpdate, Rise, ticket_of, tickets_of, with_row}
-use Rattle.client_session.specs.SessionInvariant.{IsOpen, IsWoven, IsHolding}
-use Rattle.client_session.proofs.HeldRows.{at_index, tickets_of-remove, tickets_of-with_row}
+use Rattle.session_parts.specs.Tickets.{OpenUpdate, Rise, ticket_of, tickets_of, with_row}
+use Rattle.session_parts.specs.Woven.{IsWoven}
+use Rattle.client_session.specs.SessionInvariant.{IsOpen, IsHolding}
+use Rattle.session_parts.proofs.HeldRows.{at_index, tickets_of-remove, tickets_of-with_row}
 
 -- ---- the numbers
 all_remove : {X : Type 0} (P : X → Type 0) (xs : List X) (i : ℕ) → i < length xs → All P xs → All P (remove xs i)
@@ -53,7 +54,7 @@ module _ (f : DeskFixed) (log : List (ℕ × Event)) (held : List OpenUpdate) (n
   }
 
   -- the row of one is kept
-  pub holding_row : (i : ℕ) (o : OpenUpdate) (row : UpdateRow) → slice_get held i ≡ Some o → IsWoven f.houses o.ticket row → IsHolding f log held next → IsHolding f log (slice_set held i (with_row o row)) next
+  pub holding_row : (i : ℕ) (o : OpenUpdate) (row : UpdateRow) → slice_get held i ≡ Some o → IsWoven f.nodes f.houses o.ticket row → IsHolding f log held next → IsHolding f log (slice_set held i (with_row o row)) next
   holding_row i o row at woven h =
       let old : IsOpen f log o = at_index (IsOpen f log) held i o at h.open_ in
       let new : IsOpen f log (with_row o row) = record { ticket = old.ticket; here = old.here; row = woven } in

@@ -6,11 +6,6 @@ pub mod Reports
 pub mod Finishing
 pub mod Holding
 pub mod Standing
-pub mod HeldRows
-pub mod Finding
-pub mod PartsReading
-pub mod PartsStoring
-pub mod PartsWeaving
 pub mod Opened
 pub mod Waiting
 pub mod HangingUp

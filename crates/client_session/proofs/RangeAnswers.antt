@@ -1,10 +1,12 @@
 -- What a session answers a read, by what its turn and its walk gave.
-use Rattle.std.proofs.Common.{◌≡◌, refl, sym, ◌∙◌, ap, ℕ, ◌+◌, ◌<◌, ◌≤◌, List, [], ◌++◌, length, take, drop, Result, Err, Bool, true, false, Some, None, arith, append-nil, inl, inr}
-use Rattle.std.specs.Prelude.{nat_lt, if◌then◌else◌}
+use Rattle.std.proofs.Common.{◌≡◌, refl, sym, ◌∙◌, ap, ℕ, ◌+◌, ◌<◌, ◌≤◌, subst, List, [], ◌++◌, length, take, drop, Result, Ok, Err, Bool, true, false, Some, None, arith, append-nil, inl, inr}
+use Rattle.std.specs.Prelude.{nat_lt, if◌then◌else◌, IfOk, OnOk, IfErr}
 use Rattle.std.proofs.lemmas.Bool.{ltb-true, false≢true, cases_lt}
-use Rattle.ports.specs.Counts.{RoseBy}
+use Rattle.faults.specs.Counts.{RoseBy}
 use Rattle.blob_model.specs.Answer.{answer}
-use Rattle.blob_model.specs.Content.{content, size_of}
+use Rattle.blob_model.specs.Content.{Update, content, size_of}
+use Rattle.snapshot.specs.Versions.{Version, size_now}
+use Rattle.snapshot.specs.Laws.{TellUpdates}
 use Rattle.blob_model.specs.History.{AllOther}
 use Rattle.blob_model.specs.declared.call.Call.TheVariants as Calls
 use Rattle.blob_model.specs.declared.call.Event.{Event}
@@ -12,23 +14,25 @@ use Rattle.blob_model.specs.declared.call.Outcome.TheVariants as Outcomes
 use Rattle.blob_model.specs.declared.call.Refusal.{Refusal}
 use Rattle.blob_model.specs.declared.call.Refusal.TheVariants as Refusals
 use Rattle.version_manager.specs.Desks.{OnRefused, updates_in}
-use Rattle.version_manager.specs.Log.{desk_at, events, outcome_in}
+use Rattle.version_manager.specs.Log.{Opened, IsSnapshotOf, desk_at, events, outcome_in}
 use Rattle.version_manager.specs.declared.journal.DeskFixed.{DeskFixed}
 use Rattle.version_manager.specs.declared.fault.DeskFault.{DeskFault}
 use Rattle.version_manager.specs.declared.fault.DeskFault.TheVariants as DeskFaults
 use Rattle.request_form.specs.Session.{Session}
-use Rattle.request_form.specs.Answers.{ReadAnswer, Unless, read_fault, max_read}
+use Rattle.request_form.specs.Answers.{Answers, ReadAnswer, Unless, read_fault, max_read}
+use Rattle.request_form.specs.declared.form.Request.TheVariants as Requests
 use Rattle.request_form.specs.declared.form.Reply.{Reply}
 use Rattle.request_form.specs.declared.form.Reply.TheVariants as Replies
 use Rattle.request_form.specs.declared.form.Fault.{Fault}
 use Rattle.request_form.specs.declared.form.Fault.TheVariants as Faults
-use Rattle.client_session.specs.declared.reading.RangeFault.{RangeFault}
-use Rattle.client_session.specs.declared.reading.RangeFault.TheVariants as RangeFaults
-use Rattle.client_session.specs.Tickets.{OpenUpdate}
-use Rattle.client_session.specs.Parts.{IsMet, OnRangePast, OnPageLost}
-use Rattle.client_session.specs.Results.{desk_fault, range_fault}
-use Rattle.client_session.specs.Sessions.{session_at, NoStepIfRefused}
-use Rattle.client_session.proofs.Turns.{outcome_of_gap, seen_gap}
+use Rattle.session_parts.specs.declared.reading.RangeFault.{RangeFault}
+use Rattle.session_parts.specs.declared.reading.RangeFault.TheVariants as RangeFaults
+use Rattle.session_parts.specs.Tickets.{OpenUpdate}
+use Rattle.session_parts.specs.Ranges.{IsMet, OnRangePast, OnPageLost}
+use Rattle.client_session.specs.Results.{desk_fault, opened_of, range_of, read_reply}
+use Rattle.client_session.specs.Opening.{Opening, RangeCause, ReadsRange}
+use Rattle.client_session.specs.Sessions.{SessionState, session_at, session_of, NoStepIfRefused}
+use Rattle.client_session.proofs.Turns.{Took, outcome_of_gap, seen_gap}
 use Rattle.client_session.proofs.Ranges.{read_refused, read_past, read_within, count_within, not_below}
 
 -- ---- the count of faults
@@ -49,11 +53,55 @@ abbrev pub IsThat : Result (List ℕ) RangeFault → Result (List ℕ) RangeFaul
 IsThat a b = a ≡ b
 
 same_range : (end size end' size' : ℕ) → IsThat (Err (RangeFaults.RangePastSize end size)) (Err (RangeFaults.RangePastSize end' size'))
-    → Outcomes.Refused (Refusals.RangePastSize end' size') ≡ Outcomes.Refused (Refusals.RangePastSize end size)
+    → Faults.RangePastSize end size ≡ Faults.RangePastSize end' size'
 same_range end size end' size' e =
     let first : end ≡ end' = cc in
     let second : size ≡ size' = cc in
     cc
+
+-- the walk gave the range, or told why not
+pub reads_range : (p version offset count : ℕ) (us : List Update) (r : Result (List ℕ) RangeFault) → count ≤ max_read
+    → IfOk r (λ bytes. bytes ≡ take count (drop offset (content us version))) → OnOk r (offset + count ≤ size_of us version)
+    → (size_of us version < offset + count → IsThat r (Err (RangeFaults.RangePastSize (offset + count) (size_of us version))))
+    → IfErr r (λ fault. OnRangePast fault (size_of us version < offset + count)) → IfErr r (λ fault. OnPageLost fault (λ _. offset + count ≤ size_of us version))
+    → IfErr r (λ fault. OnPageLost fault (IsMet p offset count)) → ReadsRange p us version offset count (range_of r)
+reads_range p version offset count us (Ok bytes) few is within refused past lost met = record { bytes = is; few = few; within = within; cause = tt }
+reads_range p version offset count us (Err (RangeFaults.RangePastSize end size)) few is within refused past lost met =
+    record { bytes = tt; few = tt; within = tt; cause = RangeCause.past (same_range end size (offset + count) (size_of us version) (refused past)) few past }
+reads_range p version offset count us (Err (RangeFaults.PageFault page)) few is within refused past lost met =
+    record { bytes = tt; few = tt; within = tt; cause = RangeCause.lost page refl few lost met }
+reads_range p version offset count us (Err RangeFaults.NoMemory) few is within refused past lost met =
+    record { bytes = tt; few = tt; within = tt; cause = RangeCause.no_memory refl }
+
+-- the version was opened, or wasn't
+pub opening_told : {D : Type 0} (s : SessionState D) (log' : List (ℕ × Event)) (blob version : ℕ) (r : Result Version DeskFault)
+    → Took s.caller s.log log' (λ before after. Opened s.store.fixed blob version before s.caller r after) → Opening s blob version (opened_of r) (record s { log = log' })
+opening_told s log' blob version (Ok v) t =
+    let here = subst (λ (l : List (ℕ × Event)). IsSnapshotOf s.store.fixed l blob version v) (sym t.gives.same) t.gives.snapshot in
+    record {
+      gap = t.gap;
+      others = t.others;
+      log = t.gives.same;
+      same = refl;
+      done = subst (λ (l : List (ℕ × Event)). outcome_in s.store.fixed l s.caller (Calls.Size blob version) ≡ Outcomes.Size (size_now v)) (sym t.gives.same) t.gives.done;
+      snapshot = here;
+      of_store = record { here = here.here; page_size = here.page_size };
+      refused = tt;
+    }
+opening_told s log' blob version (Err fault) t = record {
+  gap = t.gap;
+  others = t.others;
+  log = t.gives.same;
+  same = refl;
+  done = tt;
+  snapshot = tt;
+  of_store = tt;
+  refused = record {
+    why = fault;
+    said = refl;
+    refused = subst (λ (l : List (ℕ × Event)). OnRefused fault (λ refusal. outcome_in s.store.fixed l s.caller (Calls.Size blob version) ≡ Outcomes.Refused refusal)) (sym t.gives.same) t.gives.refused;
+  };
+}
 
 not_both : (r : Refusal) (bytes : List ℕ) → Outcomes.Refused r ≡ Outcomes.Content bytes → ⊥
 not_both r bytes e = cc
@@ -92,38 +140,41 @@ module _ (f : DeskFixed) (caller : ℕ) (log log' gap : List (ℕ × Event)) (ot
         }
 
     -- a range that was not read
-    pub failed_read : (fault : RangeFault)
-        → (size_of (updates_in (desk_at f (log ++ gap)) blob) version < offset + count → IsThat (Err fault) (Err (RangeFaults.RangePastSize (offset + count) (size_of (updates_in (desk_at f (log ++ gap)) blob) version))))
-        → OnRangePast fault (size_of (updates_in (desk_at f (log ++ gap)) blob) version < offset + count)
-        → OnPageLost fault (λ _. offset + count ≤ size_of (updates_in (desk_at f (log ++ gap)) blob) version)
-        → OnPageLost fault (IsMet f.page_size offset count)
-        → ReadAnswer AllOther (session_at f caller log held next) blob version offset count (Replies.Refused (range_fault fault)) (session_at f caller log' held next)
-    failed_read (RangeFaults.RangePastSize end size) refused past lost page =
+    failed_read : (fault : Fault) → count ≤ max_read → RangeCause f.page_size (updates_in (desk_at f (log ++ gap)) blob) version offset count fault
+        → ReadAnswer AllOther (session_at f caller log held next) blob version offset count (Replies.Refused fault) (session_at f caller log' held next)
+    failed_read fault few (RangeCause.too_long is long) = absurd (omega (arith, few, long))
+    failed_read fault few (RangeCause.past is few' past) =
         ReadAnswer.refused record {
           others = events gap;
           is_gap = others;
-          refusal = Refusals.RangePastSize end size;
-          refused = outcome_of_gap f caller log log' gap held next (Calls.Read blob version offset count)
-              ∙ (read_past f (log ++ gap) caller blob version offset count n there past ∙ same_range end size (offset + count) (size_of (updates_in (desk_at f (log ++ gap)) blob) version) (refused past));
-          said = refl;
+          refusal = Refusals.RangePastSize (offset + count) (size_of (updates_in (desk_at f (log ++ gap)) blob) version);
+          refused = outcome_of_gap f caller log log' gap held next (Calls.Read blob version offset count) ∙ read_past f (log ++ gap) caller blob version offset count n there past;
+          said = ap Replies.Refused is;
           seen = seen_gap f caller log log' gap held next same;
         }
-    failed_read (RangeFaults.PageFault page) refused past lost met =
+    failed_read fault few (RangeCause.lost page is few' within met) =
         let bytes : List ℕ = take count (drop offset (content (updates_in (desk_at f (log ++ gap)) blob) version)) in
-        let some : 0 < length bytes = omega (arith, count_within (content (updates_in (desk_at f (log ++ gap)) blob) version) offset count lost, met.some) in
+        let some : 0 < length bytes = omega (arith, count_within (content (updates_in (desk_at f (log ++ gap)) blob) version) offset count within, met.some) in
         ReadAnswer.not_read record {
           others = events gap;
           is_gap = others;
           bytes = bytes;
-          would = outcome_of_gap f caller log log' gap held next (Calls.Read blob version offset count) ∙ read_within f (log ++ gap) caller blob version offset count n there lost;
+          would = outcome_of_gap f caller log log' gap held next (Calls.Read blob version offset count) ∙ read_within f (log ++ gap) caller blob version offset count n there within;
           some = some;
           page = page;
           begins = met.begins;
           ends = met.ends;
-          said = refl;
+          said = ap Replies.Refused is;
           seen = seen_gap f caller log log' gap held next same;
         }
-    failed_read RangeFaults.NoMemory refused past lost page = ReadAnswer.out_of_memory record { others = events gap; is_gap = others; said = refl; seen = seen_gap f caller log log' gap held next same }
+    failed_read fault few (RangeCause.no_memory is) =
+        ReadAnswer.out_of_memory record { others = events gap; is_gap = others; said = ap Replies.Refused is; seen = seen_gap f caller log log' gap held next same }
+
+    -- what a range of the opened version gives
+    pub range_answer : (said : Result (List ℕ) Fault) → count ≤ max_read → ReadsRange f.page_size (updates_in (desk_at f (log ++ gap)) blob) version offset count said
+        → ReadAnswer AllOther (session_at f caller log held next) blob version offset count (read_reply said) (session_at f caller log' held next)
+    range_answer (Ok bytes) few r = content_read bytes r.within r.bytes
+    range_answer (Err fault) few r = failed_read fault few r.cause
 
     -- no node was met where the read is refused, if none was met where the range goes past the version's end
     pub no_step_there : (before after : ℕ) → count ≤ max_read → (size_of (updates_in (desk_at f (log ++ gap)) blob) version < offset + count → after ≡ before)
@@ -140,3 +191,63 @@ module _ (f : DeskFixed) (caller : ℕ) (log log' gap : List (ℕ × Event)) (ot
           ];
           too_long = λ long. absurd (omega (arith, few));
         }
+
+-- ---- a read is an opening and a range of what was opened
+-- a session that has seen more
+abbrev pub seen_to : {D : Type 0} → SessionState D → List (ℕ × Event) → Session
+seen_to s log' = session_at s.store.fixed s.caller log' s.held s.next
+
+module _ {D : Type 0} (s s1 : SessionState D) (blob version offset count : ℕ) (few : count ≤ max_read) where
+  pub opened_read : (s' : SessionState D) (v : Version) (said : Result (List ℕ) Fault) → Opening s blob version (Ok v) s1 → s' ≡ record s1 { doors = s'.doors }
+      → ((us : List Update) → TellUpdates v.page_size us v.rows → ReadsRange v.page_size us (length v.rows) offset count said)
+      → Answers AllOther (session_of s) (Requests.Read blob version offset count) (read_reply said) (session_of s')
+  opened_read s' v said o stays reads =
+      let f = s.store.fixed in
+      let us : List Update = updates_in (desk_at f (s.log ++ o.gap)) blob in
+      let snap : IsSnapshotOf f (s.log ++ o.gap) blob version v = subst (λ (l : List (ℕ × Event)). IsSnapshotOf f l blob version v) o.log o.snapshot in
+      let tells : TellUpdates v.page_size us v.rows = subst (λ (p : ℕ). TellUpdates p us v.rows) (sym snap.page_size) snap.tells in
+      let r : ReadsRange v.page_size us version offset count said = subst (λ (n : ℕ). ReadsRange v.page_size us n offset count said) snap.rows (reads us tells) in
+      let r' : ReadsRange f.page_size us version offset count said = subst (λ (p : ℕ). ReadsRange p us version offset count said) snap.page_size r in
+      let there : outcome_in f (s.log ++ o.gap) s.caller (Calls.Size blob version) ≡ Outcomes.Size (size_now v) =
+      subst (λ (l : List (ℕ × Event)). outcome_in f l s.caller (Calls.Size blob version) ≡ Outcomes.Size (size_now v)) o.log o.done
+      in
+      let answer : ReadAnswer AllOther (session_of s) blob version offset count (read_reply said) (seen_to s s1.log) =
+      range_answer f s.caller s.log s1.log o.gap o.others o.log s.held s.next blob version offset count (size_now v) there said few r'
+      in
+      let now : session_of s' ≡ seen_to s s1.log = ap (λ (x : SessionState D). session_of x) stays ∙ ap (λ (x : SessionState D). session_of x) o.same in
+      subst (λ (x : Session). Answers AllOther (session_of s) (Requests.Read blob version offset count) (read_reply said) x) (sym now)
+      (few_enough (session_of s) count (read_reply said) (seen_to s s1.log) (ReadAnswer AllOther (session_of s) blob version offset count (read_reply said) (seen_to s s1.log)) few answer)
+
+  pub unopened_read : (fault : Fault) → Opening s blob version (Err fault) s1
+      → Answers AllOther (session_of s) (Requests.Read blob version offset count) (read_reply (Err fault)) (session_of s1)
+  unopened_read fault o =
+      let f = s.store.fixed in
+      let why = o.refused.why in
+      let refused : OnRefused why (λ r. outcome_in f (s.log ++ o.gap) s.caller (Calls.Size blob version) ≡ Outcomes.Refused r) =
+      subst (λ (l : List (ℕ × Event)). OnRefused why (λ r. outcome_in f l s.caller (Calls.Size blob version) ≡ Outcomes.Refused r)) o.log o.refused.refused
+      in
+      let answer : ReadAnswer AllOther (session_of s) blob version offset count (Replies.Refused (desk_fault why)) (seen_to s s1.log) =
+      refused_read f s.caller s.log s1.log o.gap o.others o.log s.held s.next blob version offset count why refused
+      in
+      let reply : Reply = Replies.Refused (desk_fault why) in
+      let now : session_of s1 ≡ seen_to s s1.log = ap (λ (x : SessionState D). session_of x) o.same in
+      let same : reply ≡ Replies.Refused fault = ap Replies.Refused (sym o.refused.said) in
+      subst (λ (x : Session). Answers AllOther (session_of s) (Requests.Read blob version offset count) (read_reply (Err fault)) x) (sym now)
+      (subst (λ (x : Reply). Answers AllOther (session_of s) (Requests.Read blob version offset count) x (seen_to s s1.log)) same
+      (few_enough (session_of s) count reply (seen_to s s1.log) (ReadAnswer AllOther (session_of s) blob version offset count reply (seen_to s s1.log)) few answer))
+
+  -- no node was met where the read is refused
+  pub no_step_opened : (s' : SessionState D) (v : Version) → Opening s blob version (Ok v) s1 → s' ≡ record s1 { doors = s'.doors } → (before after : ℕ)
+      → ((us : List Update) → TellUpdates v.page_size us v.rows → size_of us (length v.rows) < offset + count → after ≡ before) → NoStepIfRefused (session_of s') blob version offset count before after
+  no_step_opened s' v o stays before after none =
+      let f = s.store.fixed in
+      let us : List Update = updates_in (desk_at f (s.log ++ o.gap)) blob in
+      let snap : IsSnapshotOf f (s.log ++ o.gap) blob version v = subst (λ (l : List (ℕ × Event)). IsSnapshotOf f l blob version v) o.log o.snapshot in
+      let tells : TellUpdates v.page_size us v.rows = subst (λ (p : ℕ). TellUpdates p us v.rows) (sym snap.page_size) snap.tells in
+      let there : outcome_in f (s.log ++ o.gap) s.caller (Calls.Size blob version) ≡ Outcomes.Size (size_now v) =
+      subst (λ (l : List (ℕ × Event)). outcome_in f l s.caller (Calls.Size blob version) ≡ Outcomes.Size (size_now v)) o.log o.done
+      in
+      let none' : size_of us version < offset + count → after ≡ before = subst (λ (n : ℕ). size_of us n < offset + count → after ≡ before) snap.rows (none us tells) in
+      let now : session_of s' ≡ seen_to s s1.log = ap (λ (x : SessionState D). session_of x) stays ∙ ap (λ (x : SessionState D). session_of x) o.same in
+      subst (λ (x : Session). NoStepIfRefused x blob version offset count before after) (sym now)
+      (no_step_there f s.caller s.log s1.log o.gap o.others o.log s.held s.next blob version offset count (size_now v) there before after few none')

@@ -21,7 +21,7 @@ use Rattle.request_form.specs.declared.form.Reply.{Reply}
 use Rattle.request_form.specs.declared.form.Reply.TheVariants as Replies
 use Rattle.request_form.specs.declared.form.Fault.{Fault}
 use Rattle.request_form.specs.declared.form.Fault.TheVariants as Faults
-use Rattle.client_session.specs.Tickets.{OpenUpdate, ticket_of, tickets_of}
+use Rattle.session_parts.specs.Tickets.{OpenUpdate, ticket_of, tickets_of}
 use Rattle.client_session.specs.Sessions.{SessionState, session_at, session_of}
 use Rattle.client_session.specs.Updates.{Reporting, IsNumbered, UpdateDone, StartDone, update_request, start_request, update_reply, start_reply}
 use Rattle.client_session.proofs.Turns.{outcome_of_gap, seen_gap, seen_event}

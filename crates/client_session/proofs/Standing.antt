@@ -8,7 +8,7 @@ use Rattle.version_manager.specs.Desks.{IsTicketOf}
 use Rattle.version_manager.specs.Log.{desk_at}
 use Rattle.version_manager.specs.Stays.{ticket_stays}
 use Rattle.version_manager.specs.declared.journal.DeskFixed.{DeskFixed}
-use Rattle.client_session.specs.Tickets.{OpenUpdate}
+use Rattle.session_parts.specs.Tickets.{OpenUpdate}
 use Rattle.client_session.specs.SessionInvariant.{IsOpen, IsHolding, IsSession}
 use Rattle.client_session.specs.Sessions.{StoreState, IsPassOf, Went}
 

@@ -20,7 +20,7 @@ use Rattle.request_form.specs.Replies.{reply_of}
 use Rattle.request_form.specs.Answers.{Refused, OutOfMemory, LookAnswer}
 use Rattle.request_form.specs.declared.form.Reply.{Reply}
 use Rattle.request_form.specs.declared.form.Reply.TheVariants as Replies
-use Rattle.client_session.specs.Tickets.{OpenUpdate}
+use Rattle.session_parts.specs.Tickets.{OpenUpdate}
 use Rattle.client_session.specs.Results.{desk_fault}
 use Rattle.client_session.specs.Sessions.{Went, session_at}
 

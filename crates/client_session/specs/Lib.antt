@@ -1,4 +1,3 @@
-pub mod Parts
 pub mod Tickets
 pub mod Sessions
 pub mod SessionInvariant
@@ -6,3 +5,4 @@ pub mod Updates
 pub mod Results
 pub mod HangUp
 pub mod Waiting
+pub mod Opening

@@ -1,10 +1,11 @@
 -- The reply that each result of a session's call is.
 use Rattle.std.specs.Prelude.{ℕ, List, Result, Ok, Err}
 use Rattle.blob_model.specs.declared.call.Place.{Place}
+use Rattle.snapshot.specs.Versions.{Version}
 use Rattle.page_fan.specs.declared.storing.StoreFault.{StoreFault}
 use Rattle.page_fan.specs.declared.storing.StoreFault.TheVariants as StoreFaults
-use Rattle.client_session.specs.declared.reading.RangeFault.{RangeFault}
-use Rattle.client_session.specs.declared.reading.RangeFault.TheVariants as RangeFaults
+use Rattle.session_parts.specs.declared.reading.RangeFault.{RangeFault}
+use Rattle.session_parts.specs.declared.reading.RangeFault.TheVariants as RangeFaults
 use Rattle.version_manager.specs.declared.fault.DeskFault.{DeskFault}
 use Rattle.version_manager.specs.declared.fault.DeskFault.TheVariants as DeskFaults
 use Rattle.request_form.specs.Replies.{fault_of}
@@ -26,9 +27,14 @@ abbrev pub told_of : Result ℕ DeskFault → Result ℕ Fault
 told_of (Ok number) = Ok number
 told_of (Err fault) = Err (desk_fault fault)
 
+-- what it says of the desk's snapshot
+abbrev pub opened_of : Result Version DeskFault → Result Version Fault
+opened_of (Ok version) = Ok version
+opened_of (Err fault) = Err (desk_fault fault)
+
 -- what it says where an update's pages were not stored
 abbrev pub store_fault : StoreFault → Fault
-store_fault (StoreFaults.PageFault page) = Faults.PageFault page
+store_fault (StoreFaults.PageFault page before) = Faults.PageFault page
 store_fault StoreFaults.NoMemory = Faults.NoMemory
 
 -- what it says where a range was not read
@@ -36,6 +42,11 @@ abbrev pub range_fault : RangeFault → Fault
 range_fault (RangeFaults.RangePastSize end size) = Faults.RangePastSize end size
 range_fault (RangeFaults.PageFault page) = Faults.PageFault page
 range_fault RangeFaults.NoMemory = Faults.NoMemory
+
+-- what it says of a range
+abbrev pub range_of : Result (List ℕ) RangeFault → Result (List ℕ) Fault
+range_of (Ok bytes) = Ok bytes
+range_of (Err fault) = Err (range_fault fault)
 
 abbrev pub create_reply : Result ℕ Fault → Reply
 create_reply (Ok blob) = Replies.Created blob

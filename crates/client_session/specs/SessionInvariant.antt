@@ -1,29 +1,30 @@
 -- What a session keeps between two calls.
 use Rattle.std.specs.Prelude.{◌≡◌, ℕ, ◌+◌, ◌≤◌, List, Bool, length, IfSome, All}
+use Rattle.boxcar.specs.Table.{Shelves}
 use Rattle.page_store.specs.House.{House}
 use Rattle.page_store.specs.Stored.{LieAmong}
 use Rattle.blob_model.specs.declared.call.Event.{Event}
-use Rattle.node_store.specs.UpdateRows.{UpdateRow, IsRowIn}
+use Rattle.snapshot.specs.Versions.{NodesLieIn}
 use Rattle.border_hints.specs.Numbered.{NumberedUpdate}
+use Rattle.session_parts.specs.Woven.{IsWoven}
 use Rattle.turn_lock.specs.Shown.{PassView}
-use Rattle.version_manager.specs.Desks.{DeskState, IsTicketOf, IsRowFor}
+use Rattle.version_manager.specs.Desks.{IsTicketOf}
 use Rattle.version_manager.specs.Log.{desk_at}
 use Rattle.version_manager.specs.declared.journal.DeskFixed.{DeskFixed}
-use Rattle.client_session.specs.Tickets.{OpenUpdate, Rise, tickets_of}
+use Rattle.session_parts.specs.Tickets.{OpenUpdate, Rise, tickets_of}
 use Rattle.client_session.specs.Sessions.{StoreState, IsPassOf}
 
 -- ---- what a held update keeps
--- the row is that of the ticket at each desk which the ticket is of, stands under the ticket's blob, and its pages lie in these houses
-pub record IsWoven (houses : List House) (t : NumberedUpdate) (row : UpdateRow) : Type 0 where
-  pub for : (d : DeskState) → IsTicketOf d t → IsRowFor d t row
-  pub under : row.blob ≡ t.blob
-  pub here : IsRowIn houses row
+-- the nodes of the ticket's snapshot lie in this house, and its pages in these
+pub record IsHere (nodes : List Shelves) (houses : List House) (t : NumberedUpdate) : Type 0 where
+  pub snapshot : NodesLieIn nodes t.snapshot
+  pub pages : LieAmong houses t.pages.pages
 
--- the update was numbered in that history, and its pages lie in the store's houses
+-- the update was numbered in that history, and it and its row lie in the store's houses
 pub record IsOpen (f : DeskFixed) (log : List (ℕ × Event)) (o : OpenUpdate) : Type 0 where
   pub ticket : IsTicketOf (desk_at f log) o.ticket
-  pub here : LieAmong f.houses o.ticket.pages.pages
-  pub row : IfSome o.row (IsWoven f.houses o.ticket)
+  pub here : IsHere f.nodes f.houses o.ticket
+  pub row : IfSome o.row (IsWoven f.nodes f.houses o.ticket)
 
 -- Each held update is a numbered one. Their numbers rise to the next one, of which no more were drawn than there are events.
 pub record IsHolding (f : DeskFixed) (log : List (ℕ × Event)) (held : List OpenUpdate) (next : ℕ) : Type 0 where

@@ -21,7 +21,7 @@ use Rattle.request_form.specs.Answers.{max_read}
 use Rattle.request_form.specs.PublishedReads.{IsPublishedIn, Range, Tells, read_outcome}
 use Rattle.request_form.specs.Session.{Session, outcome_at}
 use Rattle.request_form.specs.declared.form.Reply.{Reply}
-use Rattle.client_session.specs.Tickets.{OpenUpdate, tickets_of}
+use Rattle.session_parts.specs.Tickets.{OpenUpdate, tickets_of}
 
 -- a store that sessions share: the lock of its desk, what no act changes, and how many providers it has
 pub record StoreState : Type 0 where

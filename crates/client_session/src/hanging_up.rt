@@ -1,13 +1,13 @@
 // A session gives up the tickets that it holds.
-ghost use Rattle.std.specs.Prelude.{◌≡◌, ◌+◌, ◌<◌, [], ◌∷◌, ℕ, length, List, Bool, Err};
+ghost use Rattle.std.specs.Prelude.{◌≡◌, ◌+◌, ◌<◌, ◌≤◌, [], ◌∷◌, ℕ, length, List, Bool, Err};
 ghost use Rattle.std.specs.Bool.{Decides};
 ghost use Rattle.request_form.specs.declared.form.Fault.TheVariants as Faults;
 ghost use Rattle.blob_model.specs.History.{AllOther};
 ghost use Rattle.request_form.specs.Session.{HeldTicket};
 ghost use Rattle.request_form.specs.HangUp.{HungUp};
 ghost use Rattle.client_session.specs.Sessions.{session_of, Continues};
-ghost use Rattle.client_session.specs.Tickets.{Rise, tickets_of};
-ghost use Rattle.client_session.specs.HangUp.{GivesUpOne};
+ghost use Rattle.session_parts.specs.Tickets.{Rise, tickets_of};
+ghost use Rattle.client_session.specs.HangUp.{GivesUpOne, finished_seen};
 
 use crate::done::HangUp;
 use crate::session::Session;
@@ -29,17 +29,22 @@ fn is_no_memory(finished: &Result<u64, Fault>) -> bool
 impl<'a, D: Door, G: Gate> Session<'a, D, G> {
     /// Gives up all tickets that the session holds, in the rising order of their numbers: each one's update is finished, or is
     /// found finished, or stays unfinished where no memory is found. Then the next ticket is number 1, so that the session may
-    /// serve somebody else. The four numbers of the answer add up to the tickets that were held.
+    /// serve somebody else. The four numbers of the answer add up to the tickets that were held, and at least `finished` of their
+    /// versions are finished in what the session has seen then.
     pub fn hang_up<R: Wait>(&mut self, rt: &R) -> HangUp
         ensures hung_up { HungUp AllOther (session_of self.old) result.finished result.no_memory (session_of self.new) }
         ensures no_other_end { (result.pending ≡ 0) × (result.page_fault ≡ 0) }
         ensures counts { result.finished + result.no_memory + result.pending + result.page_fault ≡ length self.old.held }
+        ensures finished { result.finished ≤ finished_seen (session_of self.new) (tickets_of self.old.held) }
         ensures rising { Rise (tickets_of self.old.held) self.old.next }
         ensures none_held { self.new.held ≡ [] }
         ensures doors { self.new.doors ≡ self.old.doors }
         ensures goes_on { Continues self.old self.new }
     {
         request_form::laws::giving_up_goes_on();
+        request_form::laws::hung_up_are_finished();
+        range_log::laws::logs_are_grown();
+        range_log::laws::extents_hold();
         let _most = self.held.count();
         let mut finished = 0;
         let mut no_memory = 0;

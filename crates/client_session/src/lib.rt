@@ -3,7 +3,7 @@
 //! A client wants to append, write, read and branch as if it were alone, and many do so at once. The session puts an act
 //! together from steps of the layers below, and keeps what must not be lost in between.
 //!
-//! - A [`Shared`] store is what all sessions have in common: the houses of the pages, the loads of the providers,
+//! - A [`Shared`] store is what all sessions have in common: the houses of pages and of nodes, the loads of the providers,
 //!   and the version manager's desk. Its [`Owner`] gives a [`Pass`] for each session, and closes the store in the end.
 //! - A [`Session`] works with one pass and with doors of its own. An update is made in four steps: its pages are stored; it
 //!   is numbered, in one turn of the desk; its tree nodes are stored; it is finished, in a second turn. A read takes one
@@ -27,15 +27,10 @@
 
 mod done;
 mod hanging_up;
-mod notices;
-mod reading;
 mod serve;
 mod session;
 mod shared;
-mod storing;
-mod tickets;
 mod updating;
-mod weaving;
 
 pub use done::{Done, HangUp, Started};
 pub use session::Session;

@@ -1,22 +1,28 @@
 // A session of a store.
-ghost use Rattle.std.specs.Prelude.{◌≡◌, ◌≢◌, ℕ, ◌+◌, ◌<◌, ◌≤◌, List, [], length, sum_by, IfOk, IfErr, All};
-ghost use Rattle.ports.specs.Counts.{RoseBy};
+ghost use Rattle.std.specs.Prelude.{◌≡◌, ◌≢◌, ℕ, ◌+◌, ◌<◌, ◌≤◌, List, [], false, length, sum_by, Err, IfOk, IfErr, All};
+ghost use Rattle.faults.specs.Counts.{RoseBy};
 ghost use Rattle.blob_model.specs.History.{AllOther};
 ghost use Rattle.request_form.specs.Replies.{reply_of, page_faults, fault_count};
 ghost use Rattle.request_form.specs.Answers.{Answers, max_read};
 ghost use Rattle.request_form.specs.declared.form.Request.TheVariants as Requests;
-ghost use Rattle.client_session.specs.Results.{desk_fault, told_of, range_fault, create_reply, branch_reply, read_reply};
+ghost use Rattle.request_form.specs.declared.form.Fault.TheVariants as Faults;
+ghost use Rattle.blob_model.specs.Content.{size_of};
+ghost use Rattle.range_log.specs.Updates.{extents};
+ghost use Rattle.range_log.specs.Visits.{visits};
+ghost use Rattle.session_parts.specs.Ranges.{OverUpdates};
+ghost use Rattle.client_session.specs.Results.{desk_fault, told_of, opened_of, range_of, create_reply, branch_reply, read_reply};
+ghost use Rattle.client_session.specs.Opening.{Opening, IsOfStore, ReadsRange};
 ghost use Rattle.client_session.specs.Sessions.{IsPassOf, session_of, pass_of, Continues, visits_seen, NoStepIfRefused, IsSettled, AnswersAsPublished};
 
-use crate::reading::{RangeFault, read_range};
 use crate::shared::Shared;
-use crate::tickets::Tickets;
 use blob_model::{Bytes, Outcome, Refusal};
 use page_fan::Doors;
 use page_store::Door;
 use ports::gate::Gate;
 use range_reader::ReadRoom;
 use request_form::{Fault, NoMemory};
+use session_parts::{RangeFault, Tickets, read_range};
+use snapshot::Snapshot;
 use std::alloc::Global;
 use std::marker::Model;
 use std::sync::Wait;
@@ -49,15 +55,33 @@ fn told(answer: Result<u64, DeskFault>) -> Result<u64, Fault>
     }
 }
 
-// What the session says where a range was not read.
-fn fault_of_reading(fault: RangeFault) -> Fault
-    ensures { result ≡ range_fault fault }
+// The desk's snapshot as the session's.
+fn opened(answer: Result<Snapshot, DeskFault>) -> Result<Snapshot, Fault>
+    ensures is { result ≡ opened_of answer }
 {
-    match fault {
-        RangeFault::RangePastSize { end, size } => Fault::RangePastSize { end, size },
-        RangeFault::PageFault(page) => Fault::PageFault { page },
-        RangeFault::NoMemory => Fault::NoMemory,
+    match answer {
+        Ok(snapshot) => Ok(snapshot),
+        Err(fault) => Err(fault_of(fault)),
     }
+}
+
+// What the session says of a range.
+fn range_told(answer: Result<Bytes, RangeFault>) -> Result<Bytes, Fault>
+    ensures is { result ≡ range_of answer }
+{
+    match answer {
+        Ok(bytes) => Ok(bytes),
+        Err(RangeFault::RangePastSize { end, size }) => Err(Fault::RangePastSize { end, size }),
+        Err(RangeFault::PageFault(page)) => Err(Fault::PageFault { page }),
+        Err(RangeFault::NoMemory) => Err(Fault::NoMemory),
+    }
+}
+
+// Whether it is said that the version is pending.
+fn is_pending(outcome: &Outcome) -> bool
+    ensures { result ≡ false → IsSettled outcome.now }
+{
+    matches!(outcome, Outcome::Refused(Refusal::Pending { .. }))
 }
 
 /// A session of a shared store: what one client's calls do, and what they are answered, while other sessions go on.
@@ -66,7 +90,8 @@ fn fault_of_reading(fault: RangeFault) -> Fault
 /// it; the gate is called between the acts of its updates. A contract sees the history that the session has seen, which is a
 /// beginning of the store's one history and never gets shorter: each call sees what others have done meanwhile, the gap, and
 /// then its own event. A call that is refused, and one that finds no memory before an update is numbered, enters nothing. It
-/// holds no turn when a call returns, nor when the gate is called.
+/// holds no turn when a call returns, nor when the gate is called. A call that makes no update leaves the held tickets with their
+/// rows as they are, and one that reads no bytes the doors too.
 #[derive(Drop)]
 pub struct Session<'a, D: Door, G: Gate> {
     pub(crate) alloc: Global,
@@ -144,6 +169,7 @@ impl<'a, D: Door, G: Gate> Session<'a, D, G> {
         ensures answers { Answers AllOther (session_of self.old) Requests.Create (create_reply result) (session_of self.new) }
         ensures faults { RoseBy (fault_count (create_reply result)) (sum_by D.faults self.old.doors) (sum_by D.faults self.new.doors) }
         ensures goes_on { Continues self.old self.new }
+        ensures rest { self.new ≡ record self.old { log = self.new.log } }
     {
         version_manager::laws::gaps_are_of_others();
         let shared = self.shared;
@@ -155,6 +181,7 @@ impl<'a, D: Door, G: Gate> Session<'a, D, G> {
         ensures answers { Answers AllOther (session_of self.old) (Requests.Branch blob version) (branch_reply result) (session_of self.new) }
         ensures faults { RoseBy (fault_count (branch_reply result)) (sum_by D.faults self.old.doors) (sum_by D.faults self.new.doors) }
         ensures goes_on { Continues self.old self.new }
+        ensures rest { self.new ≡ record self.old { log = self.new.log } }
     {
         version_manager::laws::gaps_are_of_others();
         let shared = self.shared;
@@ -166,6 +193,7 @@ impl<'a, D: Door, G: Gate> Session<'a, D, G> {
         ensures answers { Answers AllOther (session_of self.old) (Requests.Recent blob) (reply_of result) (session_of self.new) }
         ensures faults { RoseBy (fault_count (reply_of result)) (sum_by D.faults self.old.doors) (sum_by D.faults self.new.doors) }
         ensures goes_on { Continues self.old self.new }
+        ensures rest { self.new ≡ record self.old { log = self.new.log } }
     {
         version_manager::laws::gaps_are_of_others();
         let shared = self.shared;
@@ -177,6 +205,7 @@ impl<'a, D: Door, G: Gate> Session<'a, D, G> {
         ensures answers { Answers AllOther (session_of self.old) (Requests.Size blob version) (reply_of result) (session_of self.new) }
         ensures faults { RoseBy (fault_count (reply_of result)) (sum_by D.faults self.old.doors) (sum_by D.faults self.new.doors) }
         ensures goes_on { Continues self.old self.new }
+        ensures rest { self.new ≡ record self.old { log = self.new.log } }
     {
         version_manager::laws::gaps_are_of_others();
         let shared = self.shared;
@@ -188,6 +217,7 @@ impl<'a, D: Door, G: Gate> Session<'a, D, G> {
         ensures answers { Answers AllOther (session_of self.old) (Requests.Sync blob version) (reply_of result) (session_of self.new) }
         ensures faults { RoseBy (fault_count (reply_of result)) (sum_by D.faults self.old.doors) (sum_by D.faults self.new.doors) }
         ensures goes_on { Continues self.old self.new }
+        ensures rest { self.new ≡ record self.old { log = self.new.log } }
     {
         version_manager::laws::gaps_are_of_others();
         let shared = self.shared;
@@ -199,6 +229,7 @@ impl<'a, D: Door, G: Gate> Session<'a, D, G> {
         ensures answers { Answers AllOther (session_of self.old) (Requests.Status blob) (reply_of result) (session_of self.new) }
         ensures faults { RoseBy (fault_count (reply_of result)) (sum_by D.faults self.old.doors) (sum_by D.faults self.new.doors) }
         ensures goes_on { Continues self.old self.new }
+        ensures rest { self.new ≡ record self.old { log = self.new.log } }
     {
         version_manager::laws::gaps_are_of_others();
         let shared = self.shared;
@@ -212,11 +243,12 @@ impl<'a, D: Door, G: Gate> Session<'a, D, G> {
         ensures settled { IsSettled result }
         ensures faults { RoseBy (fault_count (reply_of result)) (sum_by D.faults self.old.doors) (sum_by D.faults self.new.doors) }
         ensures goes_on { Continues self.old self.new }
+        ensures rest { self.new ≡ record self.old { log = self.new.log } }
     {
         for _ in rt.forever() {
             let finishes = self.shared.notices().count();
             let outcome = self.sync(rt, blob, version);
-            if !matches!(outcome, Outcome::Refused(Refusal::Pending { .. })) {
+            if !is_pending(&outcome) {
                 return outcome;
             }
             self.shared.notices().wait_past(rt, finishes);
@@ -242,52 +274,74 @@ impl<'a, D: Door, G: Gate> Session<'a, D, G> {
         ensures answers { Answers AllOther (session_of self.old) (Requests.Read blob version offset count) (read_reply result) (session_of self.new) }
         ensures faults { RoseBy (fault_count (read_reply result)) (sum_by D.faults self.old.doors) (sum_by D.faults self.new.doors) }
         ensures goes_on { Continues self.old self.new }
+        ensures rest { self.new ≡ record self.old { log = self.new.log; doors = self.new.doors } }
         ensures steps { steps.new ≤ steps.old + visits_seen (session_of self.new) blob version offset count }
         ensures stays { AnswersAsPublished (session_of self.new) (record { blob = blob; version = version; offset = offset; count = count }) (read_reply result) }
         ensures no_step { NoStepIfRefused (session_of self.new) blob version offset count steps.old steps.new }
     {
-        if count > MAX_READ {
+        if MAX_READ < count {
             return Err(Fault::ReadTooLong { length: count });
         }
         request_form::laws::published_reads_stay();
-        self.read_few(rt, blob, version, offset, count, steps)
+        let snapshot = match self.open(rt, blob, version) {
+            Ok(snapshot) => snapshot,
+            Err(fault) => return Err(fault),
+        };
+        self.read_at(&snapshot, offset, count, steps)
     }
 
-    // Reads at most as many bytes as a read may be asked for.
-    fn read_few<R: Wait, L: Ledger>(
+    /// A snapshot of a published version, by which the version is read as often as wanted, with no further turn. One turn.
+    ///
+    /// `NoBlob` comes exactly where there is no such blob, and then `NotPublished` exactly where the version isn't published, both by
+    /// what the session has seen then; the snapshot has the size that the store of that history answers. Nothing is entered, and the
+    /// doors and the held tickets stay. A snapshot is good as long as it is kept, whatever comes later.
+    pub fn open<R: Wait>(&mut self, rt: &R, blob: u64, version: u64) -> Result<Snapshot, Fault>
+        ensures opening { Opening self.old blob version result self.new }
+        ensures goes_on { Continues self.old self.new }
+    {
+        version_manager::laws::gaps_are_of_others();
+        let shared = self.shared;
+        opened(shared.desk().snapshot_of(rt, &mut self.pass, blob, version))
+    }
+
+    /// `count` bytes of a snapshot of this store from byte `offset` on: those of its version, whatever has come since.
+    ///
+    /// `ReadTooLong` comes first, exactly where more than 16,777,216 bytes are asked for, then `RangePastSize`, exactly where the
+    /// range ends past the snapshot's size, then `PageFault`, which names a page of the blob that the range meets, and only where
+    /// a door has counted a failure. It takes no turn and waits for nobody, and but for the doors the session stays as it is. The
+    /// clause `steps` bounds how many nodes it meets: none where the range is too long or past the size.
+    pub fn read_at<L: Ledger>(
         &mut self,
-        rt: &R,
-        blob: u64,
-        version: u64,
+        snapshot: &Snapshot,
         offset: u64,
         count: u64,
         steps: &mut Steps<L>,
     ) -> Result<Bytes, Fault>
-        requires { count ≤ max_read }
-        ensures answers { Answers AllOther (session_of self.old) (Requests.Read blob version offset count) (read_reply result) (session_of self.new) }
+        requires of_store { IsOfStore self.old.store snapshot.now }
+        ensures reads { OverUpdates snapshot.now (λ us. ReadsRange snapshot.now.page_size us (length snapshot.now.rows) offset count result) }
+        ensures too_long { max_read < count → result ≡ Err (Faults.ReadTooLong count) }
+        ensures past { OverUpdates snapshot.now (λ us. count ≤ max_read → size_of us (length snapshot.now.rows) < offset + count
+            → result ≡ Err (Faults.RangePastSize (offset + count) (size_of us (length snapshot.now.rows)))) }
         ensures faults { RoseBy (fault_count (read_reply result)) (sum_by D.faults self.old.doors) (sum_by D.faults self.new.doors) }
-        ensures goes_on { Continues self.old self.new }
-        ensures steps { steps.new ≤ steps.old + visits_seen (session_of self.new) blob version offset count }
-        ensures no_step { NoStepIfRefused (session_of self.new) blob version offset count steps.old steps.new }
+        ensures steps { OverUpdates snapshot.now (λ us. steps.new ≤ steps.old + visits snapshot.now.page_size (extents us) (length snapshot.now.rows) offset count) }
+        ensures no_step { OverUpdates snapshot.now (λ us. size_of us (length snapshot.now.rows) < offset + count → steps.new ≡ steps.old) }
+        ensures no_step_too_long { max_read < count → steps.new ≡ steps.old }
+        ensures seen_stays { self.new ≡ record self.old { doors = self.new.doors } }
     {
-        version_manager::laws::gaps_are_of_others();
+        if count > MAX_READ {
+            return Err(Fault::ReadTooLong { length: count });
+        }
         let shared = self.shared;
-        let snapshot = match shared.desk().snapshot_of(rt, &mut self.pass, blob, version) {
-            Ok(snapshot) => snapshot,
-            Err(fault) => return Err(fault_of(fault)),
-        };
-        match read_range(
+        range_told(read_range(
             self.alloc,
-            &snapshot,
+            snapshot,
+            shared.nodes(),
             shared.houses(),
             &mut self.doors,
             &mut self.room,
             offset,
             count,
             steps,
-        ) {
-            Ok(bytes) => Ok(bytes),
-            Err(fault) => Err(fault_of_reading(fault)),
-        }
+        ))
     }
 }

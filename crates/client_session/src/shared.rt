@@ -7,11 +7,12 @@ ghost use Rattle.version_manager.specs.Desks.{empty_desk};
 ghost use Rattle.version_manager.specs.Log.{tagged, fixed_of};
 ghost use Rattle.client_session.specs.Sessions.{IsPassOf, IsOwnerOf};
 
-use crate::notices::Notices;
 use blob_model::Limits;
+use node_store::NodeHouse;
 use page_store::Houses;
 use provider_manager::{LoadBook, SharedLoads};
 use request_form::NoMemory;
+use session_parts::Notices;
 use std::alloc::Global;
 use std::marker::Model;
 use std::sync::Arc;
@@ -19,12 +20,13 @@ use tree_geom::PageSize;
 use turn_lock::PassFault;
 use version_manager::{Desk, DeskOut, Owner, Pass, SharedDesk};
 
-/// What the sessions of a store share: the desk under its lock, the houses of the pages, and the book of the providers'
-/// loads. It is lent to every session, and may be lent to many threads.
+/// What the sessions of a store share: the desk under its lock, the houses of the pages and of the nodes, and the book of the
+/// providers' loads. It is lent to every session, and may be lent to many threads.
 #[derive(Drop)]
 pub struct Shared {
     desk: SharedDesk,
     houses: Arc<Houses>,
+    nodes: Arc<NodeHouse>,
     loads: SharedLoads,
     notices: Notices,
     limits: Limits,
@@ -39,7 +41,7 @@ impl Model for Shared {
 
     ghost Value = { StoreState };
 
-    ghost view = { λ s. record { lock = s.desk; fixed = record { limits = s.limits; page_size = s.page_size; houses = arc_value s.houses }; providers = s.providers } };
+    ghost view = { λ s. record { lock = s.desk; fixed = record { limits = s.limits; page_size = s.page_size; houses = arc_value s.houses; nodes = arc_value s.nodes }; providers = s.providers } };
 
     ghost invariant = { λ s. (length (arc_value s.houses) ≡ s.providers) × (s.loads.providers ≡ s.providers) };
 }
@@ -55,20 +57,22 @@ pub struct SharedOut {
     pub out: u32,
 }
 
-// The houses of the pages, and a desk over them that accepted nothing.
+// The houses of the pages and of the nodes, and a desk over them that accepted nothing.
 fn housed_desk(
     alloc: Global,
     limits: Limits,
     p: PageSize,
     providers: u32,
-) -> Result<(Arc<Houses>, Desk), NoMemory>
-    ensures empty { IfOk result (λ r. r.1 ≡ empty_desk limits p (arc_value r.0)) }
+) -> Result<(Arc<Houses>, Arc<NodeHouse>, Desk), NoMemory>
+    ensures empty { IfOk result (λ r. r.2 ≡ empty_desk limits p (arc_value r.0) (arc_value r.1)) }
     ensures houses { IfOk result (λ r. length (arc_value r.0) ≡ providers) }
 {
     let houses = Houses::new(alloc, providers)?;
+    let nodes = NodeHouse::new(alloc)?;
     let houses = Arc::new(alloc, houses)?;
-    let desk = Desk::new(alloc, limits, p, &houses)?;
-    Ok((houses, desk))
+    let nodes = Arc::new(alloc, nodes)?;
+    let desk = Desk::new(alloc, limits, p, &houses, &nodes)?;
+    Ok((houses, nodes, desk))
 }
 
 impl Shared {
@@ -87,12 +91,13 @@ impl Shared {
         ensures page_size { IfOk result (λ r. r.0.fixed.page_size ≡ p) }
         ensures providers { IfOk result (λ r. r.0.providers ≡ providers) }
     {
-        let (houses, desk) = housed_desk(alloc, limits, p, providers)?;
+        let (houses, nodes, desk) = housed_desk(alloc, limits, p, providers)?;
         let book = LoadBook::new(alloc, providers, replicas)?;
         let (desk, owner) = SharedDesk::new(alloc, desk)?;
         let shared = Shared {
             desk,
             houses,
+            nodes,
             loads: SharedLoads::new(book),
             notices: Notices::new(),
             limits,
@@ -122,6 +127,13 @@ impl Shared {
         ensures count { length result.now ≡ self.now.providers }
     {
         &self.houses
+    }
+
+    /// The house of the nodes.
+    pub(crate) fn nodes(&self) -> &NodeHouse
+        ensures { result.now ≡ self.now.fixed.nodes }
+    {
+        &self.nodes
     }
 
     /// The loads of the providers.
@@ -187,6 +199,7 @@ impl Shared {
         let Shared {
             desk,
             houses,
+            nodes,
             loads,
             notices,
             limits,
@@ -199,6 +212,7 @@ impl Shared {
                 shared: Shared {
                     desk,
                     houses,
+                    nodes,
                     loads,
                     notices,
                     limits,

@@ -3,7 +3,7 @@ ghost use Rattle.std.specs.Prelude.{◌≡◌, ◌≢◌, ℕ, ◌+◌, ◌<◌,
 ghost use Rattle.std.specs.Prelude.{IfOk, IfErr, IfNone, IfSome, OnErr, Some, option_map};
 ghost use Rattle.std.specs.Arc.{arc_value};
 ghost use denote.Param.Send.{IsSync};
-ghost use Rattle.ports.specs.Counts.{RoseBy};
+ghost use Rattle.faults.specs.Counts.{RoseBy};
 ghost use Rattle.blob_model.specs.History.{AllOther};
 ghost use Rattle.blob_model.specs.declared.call.Place.TheVariants.{WriteAt, Append};
 ghost use Rattle.request_form.specs.Session.{Session as Seen};
@@ -11,18 +11,16 @@ ghost use Rattle.request_form.specs.Replies.{page_faults, fault_count};
 ghost use Rattle.request_form.specs.Answers.{Answers, update_fault};
 ghost use Rattle.request_form.specs.declared.form.Request.TheVariants as Requests;
 ghost use Rattle.version_manager.specs.Log.{MayFinish};
-ghost use Rattle.client_session.specs.SessionInvariant.{IsOpen, IsWoven};
+ghost use Rattle.session_parts.specs.Woven.{IsWoven};
+ghost use Rattle.client_session.specs.SessionInvariant.{IsOpen};
 ghost use Rattle.client_session.specs.Results.{store_fault, finish_reply, started_reply, done_reply};
 ghost use Rattle.client_session.specs.Sessions.{IsPassOf, Went, session_of, Continues};
-ghost use Rattle.client_session.specs.Tickets.{OpenUpdate, HasRow, with_row};
+ghost use Rattle.session_parts.specs.Tickets.{OpenUpdate, HasRow, with_row};
 ghost use Rattle.client_session.specs.Updates.{update_request, start_request, IsNumbered, NotNumbered, Reporting};
 
 use crate::done::{Done, Started};
 use crate::session::{Session, fault_of};
 use crate::shared::Shared;
-use crate::storing::store_bytes;
-use crate::tickets::{MAX_TICKETS, OpenTicket};
-use crate::weaving::weave;
 use blob_model::Place;
 use border_hints::Ticket;
 use node_store::Row;
@@ -30,6 +28,7 @@ use page_fan::{BesideDoor, StoreFault};
 use page_store::Door;
 use ports::gate::{Gate, Point};
 use request_form::{Fault, NoMemory};
+use session_parts::{MAX_TICKETS, OpenTicket, store_bytes, weave};
 use std::sync::{Arc, Wait};
 use std::thread::Threads;
 use version_manager::{DeskFault, Pass};
@@ -63,7 +62,7 @@ fn fault_of_storing(fault: StoreFault) -> Fault
     ensures { result ≡ store_fault fault }
 {
     match fault {
-        StoreFault::PageFault(page) => Fault::PageFault { page },
+        StoreFault::PageFault { page, .. } => Fault::PageFault { page },
         StoreFault::NoMemory => Fault::NoMemory,
     }
 }
@@ -135,7 +134,7 @@ impl<'a, D: BesideDoor, G: Gate> Session<'a, D, G> {
             Err(fault) => return Err(fault_of(fault)),
         };
         self.gate.at(rt, Point::Numbered, &self.pass);
-        let row = match weave(self.alloc, &ticket) {
+        let row = match weave(rt, self.alloc, &ticket, shared.nodes()) {
             Ok(row) => {
                 self.gate.at(rt, Point::Woven, &self.pass);
                 Some(row)
@@ -305,7 +304,7 @@ impl<'a, D: Door, G: Gate> Session<'a, D, G> {
     fn row_at<R: Wait>(&mut self, rt: &R, index: usize) -> Result<Arc<Row>, NoMemory>
         requires within { index < length self.old.held }
         ensures woven { IfOk result (λ row. (o : OpenUpdate) → slice_get self.old.held index ≡ Some o
-            → IsWoven self.old.store.fixed.houses o.ticket (arc_value row)) }
+            → IsWoven self.old.store.fixed.nodes self.old.store.fixed.houses o.ticket (arc_value row)) }
         ensures kept { IfOk result (λ row. (o : OpenUpdate) → slice_get self.old.held index ≡ Some o
             → self.new ≡ record self.old { held = slice_set self.old.held index (with_row o (arc_value row)) }) }
         ensures same { OnErr result (self.new ≡ self.old) }
@@ -313,7 +312,12 @@ impl<'a, D: Door, G: Gate> Session<'a, D, G> {
         if let Some(row) = self.held.at(index).row()? {
             return Ok(row);
         }
-        let row = weave(self.alloc, self.held.at(index).ticket())?;
+        let row = weave(
+            rt,
+            self.alloc,
+            self.held.at(index).ticket(),
+            self.shared.nodes(),
+        )?;
         self.gate.at(rt, Point::Woven, &self.pass);
         let kept = Arc::try_clone(&row)?;
         self.held.set_row(index, kept);

@@ -47,3 +47,8 @@ returns-clause-goes_on g c =
       caller = ap (λ (p : PassView Event DeskFixed). p.caller) c.branch-desk.ensures.pass;
       begins = (went_changed fixed by i.pass.seen c.branch-desk.new.pass.seen (Calls.Branch c.args.blob c.args.version) (Events.Branch by c.args.blob c.args.version) (λ id. Outcomes.Blob id) (λ (x : DeskFault). x) c.branch-desk.result t).begins;
     })
+
+pub returns-clause-rest : goal.returns-clause-rest
+returns-clause-rest g c =
+    let same : c.branch-desk.new.pass.caller ≡ c.self.inside.pass.caller = ap (λ (p : PassView Event DeskFixed). p.caller) c.branch-desk.ensures.pass in
+    rw (← c.self.view_is, same) refl

@@ -47,3 +47,8 @@ returns-clause-goes_on g c =
       caller = ap (λ (p : PassView Event DeskFixed). p.caller) c.create.ensures.pass;
       begins = (went_changed fixed by i.pass.seen c.create.new.pass.seen (Calls.Create) (Events.Create by) (λ id. Outcomes.Blob id) (λ (x : DeskFault). x) c.create.result t).begins;
     })
+
+pub returns-clause-rest : goal.returns-clause-rest
+returns-clause-rest g c =
+    let same : c.create.new.pass.caller ≡ c.self.inside.pass.caller = ap (λ (p : PassView Event DeskFixed). p.caller) c.create.ensures.pass in
+    rw (← c.self.view_is, same) refl

@@ -17,9 +17,9 @@ use Rattle.request_form.specs.declared.form.Reply.TheVariants as Replies
 use Rattle.request_form.specs.declared.form.Fault.TheVariants as Faults
 use Rattle.client_session.specs.SessionInvariant.{IsOpen, IsSession}
 use Rattle.client_session.specs.Sessions.{SessionState, session_at, session_of}
-use Rattle.client_session.specs.Tickets.{OpenUpdate, tickets_of, with_row, IsHeldAt}
+use Rattle.session_parts.specs.Tickets.{OpenUpdate, tickets_of, with_row, IsHeldAt}
 use Rattle.client_session.specs.Updates.{Reporting}
-use Rattle.client_session.proofs.HeldRows.{at_index, at-with_row, same_at}
+use Rattle.session_parts.proofs.HeldRows.{at_index, at-with_row, same_at}
 use Rattle.client_session.proofs.Holding.{holding_remove}
 use Rattle.client_session.proofs.Standing.{session_after, session_with, holding_stays}
 use Rattle.client_session.proofs.Opened.{may_finish, taken_of}

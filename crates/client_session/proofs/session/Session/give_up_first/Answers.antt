@@ -10,8 +10,8 @@ use Rattle.request_form.specs.declared.form.Reply.TheVariants as Replies
 use Rattle.client_session.specs.SessionInvariant.{IsSession}
 use Rattle.client_session.specs.Results.{finish_reply}
 use Rattle.client_session.specs.Sessions.{SessionState, session_at, session_of}
-use Rattle.client_session.specs.Tickets.{OpenUpdate, tickets_of}
-use Rattle.client_session.proofs.HeldRows.{tickets_of-remove}
+use Rattle.session_parts.specs.Tickets.{OpenUpdate, tickets_of}
+use Rattle.session_parts.proofs.HeldRows.{tickets_of-remove}
 use Rattle.client_session.proofs.Holding.{holding_remove}
 use Rattle.client_session.proofs.HangingUp.{some_held, first_number, fewer_held, some_left, one_finished, one_dropped, same_tickets, dropped_left}
 use Rattle.client_session.proofs.session.Session.give_up_first.Goals as goal

@@ -7,9 +7,11 @@ use Rattle.blob_model.specs.declared.call.Call.TheVariants as Calls
 use Rattle.blob_model.specs.declared.call.Event.{Event}
 use Rattle.blob_model.specs.declared.call.Event.TheVariants as Events
 use Rattle.blob_model.specs.declared.call.Outcome.TheVariants as Outcomes
+use Rattle.boxcar.specs.Table.{Shelves}
 use Rattle.page_store.specs.House.{House}
 use Rattle.page_store.specs.Stored.{Cut, bytes_of_pages, LieAmong}
 use Rattle.node_store.specs.UpdateRows.{UpdateRow}
+use Rattle.snapshot.specs.Versions.{NodesLieIn}
 use Rattle.border_hints.specs.Numbered.{NumberedUpdate}
 use Rattle.turn_lock.specs.Shown.{PassView}
 use Rattle.version_manager.specs.Desks.{IsUnfinished}
@@ -21,10 +23,10 @@ use Rattle.request_form.specs.Answers.{UpdateAnswer, Unless, update_fault}
 use Rattle.request_form.specs.declared.form.Fault.{Fault}
 use Rattle.request_form.specs.declared.form.Reply.{Reply}
 use Rattle.request_form.specs.declared.form.Reply.TheVariants as Replies
-use Rattle.client_session.specs.SessionInvariant.{IsWoven}
+use Rattle.session_parts.specs.Woven.{IsWoven}
 use Rattle.client_session.specs.Results.{desk_fault}
 use Rattle.client_session.specs.Sessions.{session_at}
-use Rattle.client_session.specs.Tickets.{ticket_of}
+use Rattle.session_parts.specs.Tickets.{ticket_of}
 use Rattle.client_session.specs.Updates.{IsNumbered}
 use Rattle.client_session.proofs.Turns.{Took, took, went_changed, outcome_of_gap, seen_event}
 use Rattle.client_session.proofs.Standing.{session_after, session_doors}
@@ -99,6 +101,21 @@ returns-in-Err-assign-clause-refused g c =
     let same : new.caller ≡ by = ap (λ (p : PassView Event DeskFixed). p.caller) c.assign.ensures.pass in
     rw (← c.self.view_is, c.fault_of.ensures.is, same) (not_said (update_fault s c.args.bytes.now) s reply s' _ none answer)
 
+pub weave-requires : goal.weave-requires
+weave-requires g c =
+    let i = c.self.inside in
+    let by = i.pass.caller in
+    let fixed = i.shared.now.fixed in
+    let new = c.assign.new.pass in
+    let cut : Cut = arc_value c.in-Ok.pages in
+    let bytes : List ℕ = bytes_of_pages cut.pages in
+    let r : Result NumberedUpdate DeskFault = Ok c.in-Ok-assign.ticket in
+    let t : Took by i.pass.seen new.seen (λ before after. Changed fixed (Calls.Assign c.args.blob c.args.place bytes) (Events.Assign by c.args.blob c.args.place bytes) (λ (t : NumberedUpdate). Outcomes.Assigned t.version t.at t.size) (λ (x : DeskFault). x) before by r after × IfOk r (λ t. IsNewTicket fixed c.args.blob by cut before after t)) =
+    took c.gaps_are_of_others.ensures fixed i.pass new (λ before f after. Changed f (Calls.Assign c.args.blob c.args.place bytes) (Events.Assign by c.args.blob c.args.place bytes) (λ (t : NumberedUpdate). Outcomes.Assigned t.version t.at t.size) (λ (x : DeskFault). x) before by r after × IfOk r (λ t. IsNewTicket f c.args.blob by cut before after t)) c.self.invariant.pass_is.fixed (λ before after x. x.0.log) c.in-Ok-assign.ensures.turned
+    in
+    let here : NodesLieIn fixed.nodes c.in-Ok-assign.ticket.snapshot = t.gives.1.hints.here.0 in
+    subst (λ (n : List Shelves). NodesLieIn n c.in-Ok-assign.ticket.snapshot) (sym c.nodes.ensures) here
+
 pub invariant_of-self-2 : goal.invariant_of-self-2
 invariant_of-self-2 g c =
     let i = c.self.inside in
@@ -142,9 +159,9 @@ returns-clause-numbered g c =
     let pages : LieAmong fixed.houses ticket.pages.pages =
     subst (λ (x : Cut). LieAmong fixed.houses x.pages) (sym n.pages_are) (subst (λ (hs : List House). LieAmong hs cut.pages) c.houses.ensures.houses c.in-Ok.ensures.here)
     in
-    let woven : IfSome row (IsWoven fixed.houses ticket) =
+    let woven : IfSome row (IsWoven fixed.nodes fixed.houses ticket) =
     elim c.match-weave.branch [
-      | in-Ok-weave w ↦ rw w.row-is (record { for = w.in-Ok-weave.ensures.row; under = w.in-Ok-weave.ensures.under; here = subst (λ (x : Cut). LieAmong fixed.houses x.pages) (sym w.in-Ok-weave.ensures.pages) pages })
+      | in-Ok-weave w ↦ rw w.row-is (subst (λ (n : List Shelves). IsWoven n fixed.houses ticket (arc_value w.in-Ok-weave.row)) c.nodes.ensures (w.in-Ok-weave.ensures fixed.houses pages))
       | in-Err-weave w ↦ rw w.row-is tt
     ]
     in
@@ -161,7 +178,7 @@ returns-clause-numbered g c =
       blob_is = n.blob_is;
       open_ = record {
         ticket = n.ticket;
-        here = pages;
+        here = record { snapshot = n.hints.here.0; pages = pages };
         row = woven;
       };
       unfinished = subst (λ (b : ℕ). IsUnfinished (desk_at fixed new.seen) b ticket.version) (sym n.blob_is) n.unfinished;

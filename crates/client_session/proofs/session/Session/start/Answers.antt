@@ -6,7 +6,7 @@ use Rattle.request_form.specs.Session.{Session}
 use Rattle.request_form.specs.declared.form.Reply.TheVariants as Replies
 use Rattle.request_form.specs.declared.form.Fault.TheVariants as Faults
 use Rattle.client_session.specs.Sessions.{SessionState, session_of}
-use Rattle.client_session.specs.Tickets.{OpenUpdate}
+use Rattle.session_parts.specs.Tickets.{OpenUpdate}
 use Rattle.client_session.specs.Updates.{start_reply}
 use Rattle.client_session.proofs.Reports.{held_more, start_done, start_not_numbered, start_held, kept_held}
 use Rattle.client_session.proofs.session.Session.start.Goals as goal

@@ -1,4 +1,4 @@
-use Rattle.std.proofs.Common.{◌≡◌, ap}
+use Rattle.std.proofs.Common.{◌≡◌, refl, ap}
 use Rattle.blob_model.specs.declared.call.Call.TheVariants as Calls
 use Rattle.blob_model.specs.declared.call.Event.{Event}
 use Rattle.turn_lock.specs.Shown.{PassView}
@@ -29,3 +29,8 @@ returns-clause-answers g c =
     in
     let same : c.sync.new.pass.caller ≡ by = ap (λ (p : PassView Event DeskFixed). p.caller) c.sync.ensures.pass in
     rw (← c.self.view_is, same) (looked fixed by i.pass.seen c.sync.new.pass.seen (Calls.Sync c.args.blob c.args.version) c.sync.result i.held i.next t)
+
+pub returns-clause-rest : goal.returns-clause-rest
+returns-clause-rest g c =
+    let same : c.sync.new.pass.caller ≡ c.self.inside.pass.caller = ap (λ (p : PassView Event DeskFixed). p.caller) c.sync.ensures.pass in
+    rw (← c.self.view_is, same) refl

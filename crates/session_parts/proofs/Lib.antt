@@ -1,0 +1,5 @@
+pub mod Finding
+pub mod HeldRows
+pub mod ToldRanges
+pub mod Placements
+pub mod WovenRows

@@ -1,0 +1,4 @@
+pub mod Lost
+pub mod Ranges
+pub mod Tickets
+pub mod Woven

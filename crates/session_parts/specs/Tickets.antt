@@ -1,0 +1,45 @@
+-- The updates that a session has numbered and not yet finished.
+use Rattle.std.specs.Prelude.{◌≡◌, ℕ, ◌<◌, List, length, map, remove, slice_get, Option, Some, All, AllPairs}
+use Rattle.node_store.specs.UpdateRows.{UpdateRow}
+use Rattle.border_hints.specs.Numbered.{NumberedUpdate}
+use Rattle.request_form.specs.Session.{HeldTicket, ticket_at, without_ticket}
+
+-- the number that it is held under, the numbered update, and its row, where it is woven
+pub record OpenUpdate : Type 0 where
+  pub number : ℕ
+  pub ticket : NumberedUpdate
+  pub row : Option UpdateRow
+
+-- what the session shows of it
+abbrev pub ticket_of : OpenUpdate → HeldTicket
+ticket_of o = record { number = o.number; blob = o.ticket.blob; version = o.ticket.version }
+
+abbrev pub tickets_of : List OpenUpdate → List HeldTicket
+tickets_of os = map ticket_of os
+
+-- the update with its row
+abbrev pub with_row : OpenUpdate → UpdateRow → OpenUpdate
+with_row o row = record { number = o.number; ticket = o.ticket; row = Some row }
+
+-- the update of that number stands at index i
+pub record IsHeldAt (os : List OpenUpdate) (number i : ℕ) : Type 0 where
+  pub within : i < length os
+  pub update : OpenUpdate
+  pub is : slice_get os i ≡ Some update
+  pub number_is : update.number ≡ number
+  pub held : ticket_at (tickets_of os) number ≡ Some (ticket_of update)
+  pub left : without_ticket (tickets_of os) number ≡ tickets_of (remove os i)
+
+-- the numbers of the tickets rise, and the next one is above them all
+pub record Rise (tickets : List HeldTicket) (next : ℕ) : Type 0 where
+  pub below : All (λ (t : HeldTicket). t.number < next) tickets
+  pub pairs : AllPairs (λ (a b : HeldTicket). a.number < b.number) tickets
+
+-- the update of that number is held with its row
+pub record HasRow (os : List OpenUpdate) (number : ℕ) : Type 0 where
+  pub index : ℕ
+  pub update : OpenUpdate
+  pub is : slice_get os index ≡ Some update
+  pub number_is : update.number ≡ number
+  pub row : UpdateRow
+  pub row_is : update.row ≡ Some row

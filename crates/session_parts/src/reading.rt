@@ -1,0 +1,102 @@
+// A range of a version, read into a buffer of its own.
+ghost use Rattle.std.specs.Prelude.{◌≡◌, ℕ, ◌+◌, ◌<◌, ◌≤◌, length, take, drop, map, sum_by, All, IfOk, OnOk, IfErr, Err};
+ghost use Rattle.blob_model.specs.Content.{content, size_of};
+ghost use Rattle.range_log.specs.Updates.{extents};
+ghost use Rattle.range_log.specs.Visits.{visits};
+ghost use Rattle.page_store.specs.Count.{HasRisen};
+ghost use Rattle.page_fan.specs.Counts.{NoneFell};
+ghost use Rattle.snapshot.specs.Versions.{IsVersionIn};
+ghost use Rattle.range_reader.specs.Faults.{PageFailedIn};
+ghost use Rattle.session_parts.specs.Ranges.{OverUpdates, IsMet, OnRangePast, OnPageLost};
+
+use blob_model::Bytes;
+use node_store::NodeHouse;
+use page_fan::Doors;
+use page_store::{Door, Houses};
+use range_reader::{ReadFault, ReadRoom, read};
+use snapshot::Snapshot;
+use std::alloc::Global;
+use std::sync::ledger::Ledger;
+use thiserror::Error;
+use tree_geom::Steps;
+
+/// Why a range was not read.
+#[derive(Clone, Copy, Debug, PartialEq, Eq, Error)]
+pub enum RangeFault {
+    /// The range would end at byte `end`, past the version's size.
+    #[error("the range ends at byte {end}, past the size of {size} bytes")]
+    RangePastSize { end: u128, size: u64 },
+    /// No provider gave this page of the blob, which the range meets; pages count from 0.
+    #[error("no provider gave page {0}")]
+    PageFault(u64),
+    /// Memory was refused.
+    #[error("no memory")]
+    NoMemory,
+}
+
+/// The `count` bytes of the version from byte `offset` on.
+///
+/// `RangePastSize` comes exactly where the range ends past the version's size. `PageFault` comes only where all doors of a stored
+/// page failed that a page of the range needs. Memory is taken for the bytes once the range is known to be within the size.
+///
+/// It takes no lock and waits for nobody. The clause `steps` bounds its node steps; a range past the size takes none. `room` is one
+/// for pages of the snapshot's size, and stays one.
+pub fn read_range<D: Door, L: Ledger>(
+    alloc: Global,
+    snapshot: &Snapshot,
+    nodes: &NodeHouse,
+    houses: &Houses,
+    doors: &mut Doors<D>,
+    room: &mut ReadRoom,
+    offset: u64,
+    count: u64,
+    steps: &mut Steps<L>,
+) -> Result<Bytes, RangeFault>
+    requires here { IsVersionIn nodes.now houses.now snapshot.now }
+    requires doors { length doors.old ≡ length houses.now }
+    requires room { length room.old ≡ snapshot.now.page_size }
+    requires true_doors { All D.is_true doors.old }
+
+    // Where all is well.
+    ensures bytes { OverUpdates snapshot.now (λ us. IfOk result (λ bytes. bytes ≡ take count (drop offset (content us (length snapshot.now.rows))))) }
+    ensures within { OverUpdates snapshot.now (λ us. OnOk result (offset + count ≤ size_of us (length snapshot.now.rows))) }
+
+    // Why a fault is answered.
+    ensures refused { OverUpdates snapshot.now (λ us. size_of us (length snapshot.now.rows) < offset + count
+        → result ≡ Err (RangeFault.RangePastSize (offset + count) (size_of us (length snapshot.now.rows)))) }
+    ensures past { OverUpdates snapshot.now (λ us. IfErr result (λ fault. OnRangePast fault (size_of us (length snapshot.now.rows) < offset + count))) }
+    ensures lost_within { OverUpdates snapshot.now (λ us. IfErr result (λ fault. OnPageLost fault (λ _. offset + count ≤ size_of us (length snapshot.now.rows)))) }
+    ensures page { IfErr result (λ fault. OnPageLost fault (IsMet snapshot.now.page_size offset count)) }
+    ensures failed { IfErr result (λ fault. OnPageLost fault (PageFailedIn snapshot.now offset count (map D.faults doors.old) (map D.faults doors.new))) }
+    ensures counted { IfErr result (λ fault. OnPageLost fault (λ _. HasRisen (sum_by D.faults doors.old) (sum_by D.faults doors.new))) }
+
+    // What it costs.
+    ensures steps { OverUpdates snapshot.now (λ us. steps.new ≤ steps.old + visits snapshot.now.page_size (extents us) (length snapshot.now.rows) offset count) }
+    ensures no_steps { OverUpdates snapshot.now (λ us. size_of us (length snapshot.now.rows) < offset + count → steps.new ≡ steps.old) }
+
+    // What becomes of the doors and the room.
+    ensures none_fell { NoneFell (map D.faults doors.old) (map D.faults doors.new) }
+    ensures sum_never_falls { sum_by D.faults doors.old ≤ sum_by D.faults doors.new }
+    ensures doors_stay { length doors.new ≡ length doors.old }
+    ensures room_stays { length room.new ≡ length room.old }
+    ensures truth_stays { All D.is_true doors.new }
+{
+    range_log::laws::older_versions_stay();
+    range_log::laws::page_bytes_stay();
+    snapshot.page_size().stands();
+    snapshot.stands();
+    let size = snapshot.size();
+    let end = u128::from(offset) + u128::from(count);
+    if end > u128::from(size) {
+        return Err(RangeFault::RangePastSize { end, size });
+    }
+    let Ok(mut out) = vec![in alloc; 0; count as usize] else {
+        return Err(RangeFault::NoMemory);
+    };
+    let buffer = out.as_mut_slice();
+    match read(snapshot, nodes, houses, doors, room, offset, buffer, steps) {
+        Ok(()) => Ok(Bytes::of(out)),
+        Err(ReadFault::RangePastSize { end, size }) => Err(RangeFault::RangePastSize { end, size }),
+        Err(ReadFault::PageFault(page)) => Err(RangeFault::PageFault(page)),
+    }
+}
