@@ -1,6 +1,6 @@
 -- What a listener handed out, peer by peer.
 use Rattle.std.proofs.Common.{◌≡◌, ◌∙◌, ℕ, ◌<◌, arith}
-use Rattle.ports.specs.Counts.{RoseBy, count_after}
+use Rattle.faults.specs.Counts.{RoseBy, count_after}
 use Rattle.blob_server.specs.Serving.{Handing, FailedAfter}
 
 pub rose_on : (n a b c : ℕ) → RoseBy 0 a b → RoseBy n b c → RoseBy n a c

@@ -1,6 +1,6 @@
 -- How serving ends, by what the listener did in the call.
 use Rattle.std.specs.Prelude.{◌≡◌, ℕ, ◌+◌, ◌<◌, ◌≤◌, Bool, true, Option, Some, None, Result, Ok, Err}
-use Rattle.ports.specs.Counts.{RoseBy, count_after}
+use Rattle.faults.specs.Counts.{RoseBy, count_after}
 use Rattle.blob_server.specs.declared.server.ServeFault.{ServeFault}
 use Rattle.blob_server.specs.declared.server.ServeFault.TheVariants as Faults
 

@@ -2,7 +2,8 @@
 ghost use Rattle.std.specs.Prelude.{◌≡◌, [], sum_by};
 ghost use Rattle.frame_wire.specs.Frames.{heard};
 ghost use Rattle.frame_wire.specs.Said.{said};
-ghost use Rattle.server_core.specs.Served.{Served};
+ghost use Rattle.faults.specs.Counts.{RoseBy};
+ghost use Rattle.server_core.specs.Served.{Served, end_read_faults, end_write_faults, end_ends};
 ghost use Rattle.client_session.specs.Sessions.{session_of};
 ghost use Rattle.blob_server.specs.Peers.{connection_limit, ServedFrames, IsIdle};
 
@@ -34,6 +35,9 @@ fn serve_frames<R: Threads + Wait + Sync, P: Source + Sink, D: BesideDoor, G: Ga
         connection_limit
         (record { session = session_of session.new; faults = sum_by D.faults session.new.doors; written = P.written peer.new })
         result }
+    ensures read_faults { RoseBy (end_read_faults result) (P.read_faults peer.old) (P.read_faults peer.new) }
+    ensures write_faults { RoseBy (end_write_faults result) (P.write_faults peer.old) (P.write_faults peer.new) }
+    ensures ends { RoseBy (end_ends result) (P.ends peer.old) (P.ends peer.new) }
     ensures store { session.new.store ≡ session.old.store }
 {
     let Ok(mut dialect) = FrameDialect::new(alloc) else {
@@ -44,7 +48,7 @@ fn serve_frames<R: Threads + Wait + Sync, P: Source + Sink, D: BesideDoor, G: Ga
 
 /// Serves one connection with frames by a session that holds no ticket, and then hangs the session up: tickets that the peer
 /// left are given up, and the next peer's are numbered from 1 again. A connection whose dialect finds no memory is ended at
-/// once. At most 4,294,967,296 bytes are taken of it. It tells how the connection ended.
+/// once. At most 4,294,967,296 bytes are taken of it. It tells how the connection ended, as the connection's counts do.
 pub fn serve_peer<R: Threads + Wait + Sync, P: Source + Sink, D: BesideDoor, G: Gate>(
     rt: &R,
     alloc: Global,
@@ -58,6 +62,9 @@ pub fn serve_peer<R: Threads + Wait + Sync, P: Source + Sink, D: BesideDoor, G: 
         (record { given = P.given peer.new; left = P.left peer.new; ends = P.ends peer.new })
         (record { session = session_of session.new; faults = sum_by D.faults session.new.doors; written = P.written peer.new })
         result }
+    ensures read_faults { RoseBy (end_read_faults result) (P.read_faults peer.old) (P.read_faults peer.new) }
+    ensures write_faults { RoseBy (end_write_faults result) (P.write_faults peer.old) (P.write_faults peer.new) }
+    ensures ends { RoseBy (end_ends result) (P.ends peer.old) (P.ends peer.new) }
     ensures idle { IsIdle session.old.store session.new }
 {
     let end = serve_frames(rt, alloc, session, peer);

@@ -56,6 +56,7 @@ where
         (record { handed = Li.handed net.new; is_done = Li.is_done net.new; faults = Li.faults net.new })
         result }
     ensures listens { Li.listens net.new ≡ true }
+    ensures here { Li.listens_at net.new ≡ Li.listens_at net.old }
     ensures idle { IsIdle session.old.store session.new }
 {
     for taken in 0..connections {
@@ -87,6 +88,7 @@ where
         (record { handed = Li.handed net.new; is_done = Li.is_done net.new; faults = Li.faults net.new })
         result }
     ensures listens { Li.listens net.new ≡ true }
+    ensures here { Li.listens_at net.new ≡ Li.listens_at net.old }
     ensures idle { IsIdle session.old.store session.new }
 {
     let taken = take_peers(rt, alloc, desk, session, net, connections, alone);
@@ -161,7 +163,7 @@ where
 
     ghost can_run = { λ t. (Li.listens t.net.now ≡ true) × IsIdle t.session.store t.session };
 
-    ghost gives = { λ t r. (r.2.ghost_name ≡ t.net.ghost_name) × (Li.listens r.2.now ≡ true) × IsIdle t.session.store r.1
+    ghost gives = { λ t r. (r.2.ghost_name ≡ t.net.ghost_name) × (Li.listens r.2.now ≡ true) × (Li.listens_at r.2.now ≡ Li.listens_at t.net.now) × IsIdle t.session.store r.1
         × TakesAs t.connections (record { handed = Li.handed t.net.now; is_done = Li.is_done t.net.now; faults = Li.faults t.net.now })
         (record { handed = Li.handed r.2.now; is_done = Li.is_done r.2.now; faults = Li.faults r.2.now }) r.0 };
 
@@ -206,6 +208,7 @@ where
         (record { handed = Li.handed net.new; is_done = Li.is_done net.new; faults = Li.faults net.new })
         result.0 }
     ensures listens { Li.listens net.new ≡ true }
+    ensures here { Li.listens_at net.new ≡ Li.listens_at net.old }
     ensures first { IsIdle first.entry.store result.1 }
     ensures others { (k : ℕ) (d : _) → k < vec_len others.entry → IsIdle (slice_index_or others.entry.items k d).store (slice_index_or result.2.items k d) }
     ensures count { vec_len result.2 ≡ vec_len others.entry }

@@ -34,8 +34,8 @@ pub enum ServeFault {
 /// Each worker has one session of the store, with a pass of its own and with doors of the maker `doors`, which gives back what
 /// was put. No peer is taken before all sessions are made. The calling thread is the first worker: it takes the peers and
 /// leaves them to the others, which run in threads of their own and take them from a queue of 64 places. Where the queue is full
-/// or there is no other worker it serves a peer itself, and when it has taken the last one it serves what still waits, so that
-/// all are served where no thread can be made. A worker with nothing to do sleeps. Each peer is served once, as `serve_peer`
+/// while all others serve, or there is no other worker, it serves a peer itself, and when it has taken the last one it serves
+/// what still waits, so that all are served where no thread can be made. A worker with nothing to do sleeps. Each peer is served once, as `serve_peer`
 /// tells: its session is hung up before the next one, and what goes wrong with a peer ends its connection alone. When it answers
 /// every pass and every door have gone back. The gate is called between the acts of updates.
 pub fn serve<R: Threads + Wait + Sync, Li: Listener, M: DoorMaker, G: Gate + Sync>(
@@ -66,6 +66,7 @@ where
         (record { handed = Li.handed net.new; is_done = Li.is_done net.new; faults = Li.faults net.new })
         result }
     ensures listens { Li.listens net.new ≡ true }
+    ensures here { Li.listens_at net.new ≡ Li.listens_at net.old }
     ensures untouched { IfErr result (λ fault. fault ≡ Faults.NoMemory → net.new ≡ net.old) }
 
     // Each pass that it made came back.
@@ -79,7 +80,7 @@ where
     ensures truth_stays { M.is_true doors.old ↔ M.is_true doors.new }
     ensures plan_stays { (n : ℕ) (door : _) → M.makes doors.old n door ↔ M.makes doors.new n door }
 {
-    let Ok(desk) = Desk::new(alloc) else {
+    let Ok(desk) = Desk::new(alloc, workers - 1) else {
         return Err(ServeFault::NoMemory);
     };
     let Ok(mut sessions) = sessions_of(alloc, shared, owner, doors, gate, workers) else {

@@ -2,7 +2,7 @@
 use Rattle.std.proofs.Common.{◌≡◌, ℕ, List, take, drop, sym, ◌∙◌, inl, inr, take-append-drop}
 use Rattle.std.specs.Prelude.{Option}
 use Rattle.std.specs.Io.KnownBytes.{Appends}
-use Rattle.ports.specs.Counts.{RoseBy}
+use Rattle.faults.specs.Counts.{RoseBy}
 use Rattle.ports.specs.Stream.{appended_bytes, write_fault_count}
 use Rattle.ports.specs.declared.stream.Written.{Written}
 use Rattle.ports.specs.declared.stream.Written.TheVariants.{Whole, Failed}

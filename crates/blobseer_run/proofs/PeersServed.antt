@@ -1,16 +1,16 @@
 -- How a server ended, from what its parts did.
-use Rattle.std.proofs.Common.{◌≡◌, ℕ, ◌<◌, true, List, [], length, take, drop, refl, sym, ◌∙◌, ap, subst, arith, take-append-drop}
+use Rattle.std.proofs.Common.{◌≡◌, ◌⊎◌, inr, ℕ, ◌<◌, true, List, [], length, take, drop, refl, sym, ◌∙◌, ap, subst, arith, take-append-drop}
 use Rattle.std.specs.Prelude.{Option, Err}
 use Rattle.std.specs.Io.KnownBytes.{Appends}
 use Rattle.std.proofs.KnownBytes.{Appends-nil}
 use Rattle.std.proofs.lemmas.List.{length-drop}
-use Rattle.ports.specs.Counts.{RoseBy, count_after}
-use Rattle.ports.proofs.Counts.{RoseBy-trans}
+use Rattle.faults.specs.Counts.{RoseBy, count_after}
+use Rattle.faults.proofs.Counts.{RoseBy-trans}
 use Rattle.blob_server.specs.Serving.{Handing, TookPeers, FailedAfter, EndsAs}
 use Rattle.blob_server.specs.declared.server.ServeFault.{ServeFault}
 use Rattle.blob_server.specs.declared.server.ServeFault.TheVariants as Faults
 use Rattle.blobseer_run.specs.Status.{code_of, write_fault, out_of_memory, listener_fault}
-use Rattle.blobseer_run.specs.Hosting.{Net, Hosted, ServedPeers, served_line, status_of}
+use Rattle.blobseer_run.specs.Hosting.{Net, HandsOutNone, Hosted, ServedPeers, served_line, status_of}
 use Rattle.blobseer_run.specs.Writing.{WritesLine, ToldLine}
 
 -- a write that failed after so many bytes of a line
@@ -33,8 +33,17 @@ module _ (connections : ℕ) (old mid new : Handing) (handed : mid.handed ≡ ol
     faults = RoseBy-trans 0 0 old.faults mid.faults new.faults rose t.faults;
   }
 
-  pub failed_since : FailedAfter connections mid new → RoseBy 1 old.faults new.faults
-  failed_since f = RoseBy-trans 0 1 old.faults mid.faults new.faults rose f.failed
+  pub failed_since : FailedAfter connections mid new → FailedAfter connections old new
+  failed_since f = record {
+    peers = f.peers;
+    fewer = f.fewer;
+    handed = f.handed ∙ ap (count_after f.peers) handed;
+    done = f.done ∙ done;
+    failed = RoseBy-trans 0 1 old.faults mid.faults new.faults rose f.failed;
+  }
+
+  pub none_since : new ≡ mid → HandsOutNone 0 old new
+  none_since is = subst (HandsOutNone 0 old) (sym is) (record { handed = handed; done = done; rose = rose })
 
 -- ---- how it ended
 module _ (connections : ℕ) (net net' : Net) where
@@ -42,15 +51,18 @@ module _ (connections : ℕ) (net net' : Net) where
       → ToldLine (served_line peers) written written' writes writes' status → ServedPeers connections net net' written written' writes writes' status
   served_there peers written written' writes writes' status listens took told = record { text = told.text; adds = told.adds; ended = Hosted.served peers listens took told.is_line }
 
-  pub unserved_there : (written : Option (List ℕ)) (writes : ℕ) → RoseBy 1 net.handing.faults net'.handing.faults → ServedPeers connections net net' written written writes writes listener_fault
-  unserved_there written writes rose = record { text = []; adds = Appends-nil written; ended = Hosted.unserved refl rose refl }
+  module _ (written : Option (List ℕ)) (writes : ℕ) where
+    pub deaf_there : net'.listens ≡ net.listens → HandsOutNone 1 net.handing net'.handing → ServedPeers connections net net' written written writes writes listener_fault
+    deaf_there listens none = record { text = []; adds = Appends-nil written; ended = Hosted.deaf refl listens none refl }
 
-  pub starved_there : (written : Option (List ℕ)) (writes : ℕ) → ServedPeers connections net net' written written writes writes out_of_memory
-  starved_there written writes = record { text = []; adds = Appends-nil written; ended = Hosted.starved refl refl }
+    pub unserved_there : net'.listens ≡ true → FailedAfter connections net.handing net'.handing → ServedPeers connections net net' written written writes writes listener_fault
+    unserved_there listens failed = record { text = []; adds = Appends-nil written; ended = Hosted.unserved refl listens failed refl }
 
-  -- it was ended early, by what the listener did from before it listened
-  pub faulted_there : (asked : ℕ) (mid new : Handing) (fault : ServeFault) (written : Option (List ℕ)) (writes : ℕ) → net'.handing ≡ new → mid.handed ≡ net.handing.handed → mid.is_done ≡ net.handing.is_done
-      → RoseBy 0 net.handing.faults mid.faults → EndsAs asked mid new (Err fault) → ServedPeers connections net net' written written writes writes (code_of (status_of fault))
-  faulted_there asked mid new Faults.Listener written writes is handed done rose ended =
-      unserved_there written writes (subst (λ (h : Handing). RoseBy 1 net.handing.faults h.faults) (sym is) (failed_since asked net.handing mid new handed done rose ended))
-  faulted_there asked mid new Faults.NoMemory written writes is handed done rose ended = starved_there written writes
+    pub starved_there : (net'.listens ≡ net.listens) ⊎ (net'.listens ≡ true) → HandsOutNone 0 net.handing net'.handing → ServedPeers connections net net' written written writes writes out_of_memory
+    starved_there listens none = record { text = []; adds = Appends-nil written; ended = Hosted.starved refl listens none refl }
+
+    -- it was ended early, by what the listener did from before it listened
+    pub faulted_there : (mid : Handing) (fault : ServeFault) → net'.listens ≡ true → mid.handed ≡ net.handing.handed → mid.is_done ≡ net.handing.is_done
+        → RoseBy 0 net.handing.faults mid.faults → EndsAs connections mid net'.handing (Err fault) → ServedPeers connections net net' written written writes writes (code_of (status_of fault))
+    faulted_there mid Faults.Listener listens handed done rose ended = unserved_there listens (failed_since connections net.handing mid net'.handing handed done rose ended)
+    faulted_there mid Faults.NoMemory listens handed done rose ended = starved_there (inr listens) (none_since connections net.handing mid net'.handing handed done rose ended)

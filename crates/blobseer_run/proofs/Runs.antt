@@ -5,7 +5,7 @@ use Rattle.std.proofs.lemmas.List.Sums.{sum_by-cons}
 use Rattle.std.proofs.KnownBytes.{Appends-nil, Consumes-nil}
 use Rattle.std.specs.Io.KnownBytes.{Appends, Consumes}
 use Rattle.std.specs.Prelude.{Option, ◌∷◌, ◌⊎◌}
-use Rattle.ports.specs.Counts.{RoseBy}
+use Rattle.faults.specs.Counts.{RoseBy}
 use Rattle.request_form.specs.Session.{Fixed, AllOwn}
 use Rattle.request_form.specs.Stream.{AllWellHeard}
 use Rattle.request_form.specs.Transcript.{has_quit, first_session, faults_of}

@@ -1,8 +1,8 @@
 -- What follows of a run for its status.
-use Rattle.std.proofs.Common.{◌≡◌, ◌≢◌, ℕ, List, refl, sym, ◌∙◌, subst, arith}
+use Rattle.std.proofs.Common.{◌≡◌, ◌≢◌, ℕ, List, sym, ◌∙◌, subst}
 use Rattle.std.proofs.lemmas.Option.{none-some}
-use Rattle.std.specs.Prelude.{Option, Some, None, ◌↔◌, ◌⊎◌}
-use Rattle.ports.specs.Counts.{RoseBy}
+use Rattle.std.specs.Prelude.{Option, Some, None}
+use Rattle.faults.specs.Counts.{RoseBy}
 use Rattle.ports.specs.Files.{Files}
 use Rattle.request_form.specs.Session.{Fixed}
 use Rattle.workload_law.specs.declared.plan.LoadPlan.{LoadPlan}
@@ -11,11 +11,11 @@ use Rattle.settings.specs.declared.table.Command.TheVariants as Commands
 use Rattle.settings.specs.Values.{SettingsValues}
 use Rattle.settings.specs.Words.{Bytes}
 use Rattle.blobseer_run.specs.Status.{done, words_refused, settings_refused, read_fault, write_fault, out_of_memory, listener_fault, input_too_long, load_ended_early}
-use Rattle.blobseer_run.specs.Told.{Order, order_of_words, AsksFor, Settled, SettingsRefused, IsFileKnown, Stopped}
+use Rattle.blobseer_run.specs.Told.{Order, order_of_words, AsksFor, Settled, SettingsRefused, Stopped}
 use Rattle.blobseer_run.specs.Hosting.{Net, Hosted, served_line}
 use Rattle.blobseer_run.specs.Writing.{WritesLine}
 use Rattle.blobseer_run.specs.Loading.{Loaded, load_lines, plan_of}
-use Rattle.blobseer_run.specs.Run.{Outside, Ended, ServedScript, Did, Ran, RefusesWords, RefusesSettings, IsTaken, IsComplete}
+use Rattle.blobseer_run.specs.Run.{Outside, Ended, Did, Ran, RefusesWords, RefusesSettings, IsTaken, IsComplete}
 use Rattle.blobseer_run.proofs.Settling.{settled_not_refused}
 
 -- a status of the command's own work
@@ -41,8 +41,9 @@ module _ (old new : Outside) (status : ℕ) where
 
   hosted_own : (connections : ℕ) (net net' : Net) (text : List ℕ) → Hosted connections net net' text old.writes new.writes status → IsOwn status
   hosted_own connections net net' text (Hosted.served peers listens took line) = line_own (served_line peers) text line
-  hosted_own connections net net' text (Hosted.unserved e rose is) = own status listener_fault e (λ f. cc, λ f. cc)
-  hosted_own connections net net' text (Hosted.starved e is) = own status out_of_memory e (λ f. cc, λ f. cc)
+  hosted_own connections net net' text (Hosted.deaf e listens none is) = own status listener_fault e (λ f. cc, λ f. cc)
+  hosted_own connections net net' text (Hosted.unserved e listens failed is) = own status listener_fault e (λ f. cc, λ f. cc)
+  hosted_own connections net net' text (Hosted.starved e listens none is) = own status out_of_memory e (λ f. cc, λ f. cc)
 
   loaded_own : (plan : LoadPlan) (text : List ℕ) → Loaded plan text old.doors new.doors old.writes new.writes status → IsOwn status
   loaded_own plan text (Loaded.whole line) = line_own (load_lines plan) text line
@@ -76,8 +77,9 @@ module _ (old new : Outside) (status : ℕ) where
     hosted_complete : (connections : ℕ) (net net' : Net) (text : List ℕ) → ¬ RoseBy 1 old.writes new.writes → ¬ RoseBy 1 net.handing.faults net'.handing.faults
         → Hosted connections net net' text old.writes new.writes status → Complete
     hosted_complete connections net net' text writes peers (Hosted.served n listens took line) = line_complete (served_line n) text writes line
-    hosted_complete connections net net' text writes peers (Hosted.unserved e rose is) = absurd (peers rose)
-    hosted_complete connections net net' text writes peers (Hosted.starved e is) = IsComplete.starved e
+    hosted_complete connections net net' text writes peers (Hosted.deaf e listens none is) = absurd (peers none.rose)
+    hosted_complete connections net net' text writes peers (Hosted.unserved e listens failed is) = absurd (peers failed.failed)
+    hosted_complete connections net net' text writes peers (Hosted.starved e listens none is) = IsComplete.starved e
 
     loaded_complete : (plan : LoadPlan) (text : List ℕ) → AsksFor words Commands.Load → ¬ RoseBy 1 old.writes new.writes
         → Loaded plan text old.doors new.doors old.writes new.writes status → Complete

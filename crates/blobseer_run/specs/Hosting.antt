@@ -1,9 +1,9 @@
 -- What a server promises: what its listener did, and the line that tells how many connections were served.
-use Rattle.std.specs.Prelude.{◌≡◌, ℕ, Bool, true, List, [], ◌∷◌, ◌++◌, Option, codes}
+use Rattle.std.specs.Prelude.{◌≡◌, ◌⊎◌, ℕ, Bool, true, List, [], ◌∷◌, ◌++◌, Option, codes}
 use Rattle.std.specs.Fmt.{decimal}
 use Rattle.std.specs.Io.KnownBytes.{Appends}
-use Rattle.ports.specs.Counts.{RoseBy}
-use Rattle.blob_server.specs.Serving.{Handing, TookPeers}
+use Rattle.faults.specs.Counts.{RoseBy}
+use Rattle.blob_server.specs.Serving.{Handing, TookPeers, FailedAfter}
 use Rattle.blob_server.specs.declared.server.ServeFault.{ServeFault}
 use Rattle.blob_server.specs.declared.server.ServeFault.TheVariants as Faults
 use Rattle.blobseer_run.specs.declared.status.Status.{Status}
@@ -25,15 +25,24 @@ abbrev pub status_of : ServeFault → Status
 status_of Faults.Listener = Statuses.ListenerFault
 status_of Faults.NoMemory = Statuses.OutOfMemory
 
+-- no peer was handed out, and so many faults were counted
+pub record HandsOutNone (faults : ℕ) (old new : Handing) : Type 0 where
+  pub handed : new.handed ≡ old.handed
+  pub done : new.is_done ≡ old.is_done
+  pub rose : RoseBy faults old.faults new.faults
+
 -- How a server ended, by the status and by the text that was written.
 pub data Hosted (connections : ℕ) (net net' : Net) (text : List ℕ) (writes writes' status : ℕ) : Type 0 where
   -- as many connections as were asked for were served, or fewer where the listener gave no more, and their number was told
   served : (peers : ℕ) → (net'.listens ≡ true) → TookPeers connections peers net.handing net'.handing → WritesLine (served_line peers) text writes writes' status →
       Hosted connections net net' text writes writes' status
-  -- the listener failed
-  unserved : (status ≡ listener_fault) → RoseBy 1 net.handing.faults net'.handing.faults → (text ≡ []) → Hosted connections net net' text writes writes' status
-  -- no memory was found
-  starved : (status ≡ out_of_memory) → (text ≡ []) → Hosted connections net net' text writes writes' status
+  -- it couldn't listen, and listens as it did before
+  deaf : (status ≡ listener_fault) → (net'.listens ≡ net.listens) → HandsOutNone 1 net.handing net'.handing → (text ≡ []) → Hosted connections net net' text writes writes' status
+  -- the listener failed after fewer peers than were asked for, and none was taken after that
+  unserved : (status ≡ listener_fault) → (net'.listens ≡ true) → FailedAfter connections net.handing net'.handing → (text ≡ []) → Hosted connections net net' text writes writes' status
+  -- no memory was found, before it listened or then for the sessions, and no peer was taken
+  starved : (status ≡ out_of_memory) → (net'.listens ≡ net.listens) ⊎ (net'.listens ≡ true) → HandsOutNone 0 net.handing net'.handing → (text ≡ []) →
+      Hosted connections net net' text writes writes' status
 
 -- The output got the text, and the server ended so.
 pub record ServedPeers (connections : ℕ) (net net' : Net) (written written' : Option (List ℕ)) (writes writes' status : ℕ) : Type 0 where

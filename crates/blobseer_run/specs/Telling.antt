@@ -1,6 +1,6 @@
 -- Why words or a settings file come to nothing, by the status.
 use Rattle.std.specs.Prelude.{◌≡◌, ℕ, List, Option, Some, None}
-use Rattle.ports.specs.Counts.{RoseBy}
+use Rattle.faults.specs.Counts.{RoseBy}
 use Rattle.ports.specs.Files.{Files}
 use Rattle.settings.specs.Words.{Bytes}
 use Rattle.blobseer_run.specs.declared.status.Status.{Status}

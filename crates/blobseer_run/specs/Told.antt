@@ -1,6 +1,6 @@
 -- What the program is told: the command of its words, and the settings that the words, the settings file and the defaults come to.
 use Rattle.std.specs.Prelude.{◌≡◌, ◌≢◌, ℕ, ◌<◌, ◌≤◌, List, length, Option, Some, None}
-use Rattle.ports.specs.Counts.{RoseBy}
+use Rattle.faults.specs.Counts.{RoseBy}
 use Rattle.ports.specs.Files.{Files, Reads}
 use Rattle.ports.specs.declared.files.FileText.TheVariants as Texts
 use Rattle.settings.specs.declared.table.Command.{Command}

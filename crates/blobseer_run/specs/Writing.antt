@@ -1,7 +1,7 @@
 -- What is written of a text on the output, by the status.
 use Rattle.std.specs.Prelude.{◌≡◌, ℕ, ◌<◌, List, [], ◌++◌, length, Option}
 use Rattle.std.specs.Io.KnownBytes.{Appends}
-use Rattle.ports.specs.Counts.{RoseBy}
+use Rattle.faults.specs.Counts.{RoseBy}
 use Rattle.blobseer_run.specs.Status.{done, write_fault, out_of_memory}
 
 -- All of it was written, or only its beginning as a write failed, or nothing as no memory was found.

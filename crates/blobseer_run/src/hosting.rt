@@ -1,6 +1,6 @@
 // Connections are served over a new store.
 ghost use Rattle.std.specs.Prelude.{◌≡◌, ◌↔◌, ℕ, ◌-◌, ◌^◌, ◌<◌, ◌≤◌};
-ghost use Rattle.ports.specs.Counts.{RoseBy};
+ghost use Rattle.faults.specs.Counts.{RoseBy};
 ghost use Rattle.blobseer_run.specs.Hosting.{served_line, status_of, ServedPeers};
 ghost use Rattle.blobseer_run.specs.Writing.{ToldLine};
 ghost use Rattle.blobseer_run.specs.Status.{code_of};

@@ -1,6 +1,6 @@
 // A load is run over a new store.
 ghost use Rattle.std.specs.Prelude.{◌≡◌, ◌↔◌, ◌-◌, ◌^◌, ◌<◌, ◌≤◌};
-ghost use Rattle.ports.specs.Counts.{RoseBy};
+ghost use Rattle.faults.specs.Counts.{RoseBy};
 ghost use Rattle.workload_law.specs.Said.{said};
 ghost use Rattle.blobseer_run.specs.Loading.{plan_of, status_of, RanLoad};
 ghost use Rattle.blobseer_run.specs.Writing.{ToldLine};

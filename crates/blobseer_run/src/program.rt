@@ -1,6 +1,6 @@
 ghost use Rattle.std.specs.Prelude.{◌≡◌, ◌↔◌, ℕ, ◌-◌, ◌^◌, ◌<◌, ◌≤◌, List, map};
 ghost use Rattle.std.specs.String.{string_bytes};
-ghost use Rattle.ports.specs.Counts.{RoseBy};
+ghost use Rattle.faults.specs.Counts.{RoseBy};
 ghost use Rattle.blobseer_run.specs.Run.{Ran, Did, RefusesWords, RefusesSettings, IsTaken, IsComplete, IsCalm};
 ghost use Rattle.blobseer_run.specs.Status.{code_of, Tells};
 

@@ -1,6 +1,6 @@
 // A script is served by the one session of a new store.
 ghost use Rattle.std.specs.Prelude.{◌≡◌, ◌↔◌, ◌-◌, ◌^◌, ◌<◌, ◌≤◌, ℕ, [], length, sum_by, All};
-ghost use Rattle.ports.specs.Counts.{RoseBy};
+ghost use Rattle.faults.specs.Counts.{RoseBy};
 ghost use Rattle.client_session.specs.Sessions.{IsPassOf, IsOwnerOf, session_at};
 ghost use Rattle.version_manager.specs.Log.{events};
 ghost use Rattle.server_core.specs.Served.{end_read_faults, end_write_faults};

@@ -1,5 +1,5 @@
 ghost use Rattle.std.specs.Prelude.{◌≡◌};
-ghost use Rattle.ports.specs.Counts.{RoseBy};
+ghost use Rattle.faults.specs.Counts.{RoseBy};
 ghost use Rattle.blobseer_run.specs.Status.{code_of, error_line, Tells};
 
 use ports::stream::Sink;

@@ -1,6 +1,6 @@
 // What the program is told to do, by its words, the settings file and the defaults.
 ghost use Rattle.std.specs.Prelude.{◌≡◌, ℕ, List, Some, map, IfOk, IfErr, string_bytes};
-ghost use Rattle.ports.specs.Counts.{RoseBy};
+ghost use Rattle.faults.specs.Counts.{RoseBy};
 ghost use Rattle.blobseer_run.specs.Told.{order_of_words, FileGives, Settled, Stopped};
 ghost use Rattle.blobseer_run.specs.Telling.{FileStops, WordsStop};
 ghost use Rattle.blobseer_run.specs.Status.{code_of};

@@ -1,6 +1,6 @@
 // A command's own text on the output.
 ghost use Rattle.std.specs.Prelude.{◌≡◌};
-ghost use Rattle.ports.specs.Counts.{RoseBy};
+ghost use Rattle.faults.specs.Counts.{RoseBy};
 ghost use Rattle.blobseer_run.specs.Writing.{ToldLine};
 ghost use Rattle.blobseer_run.specs.Status.{code_of};
 

@@ -8,7 +8,7 @@ use Rattle.blob_model.specs.declared.call.Event.{Event}
 use Rattle.blob_model.specs.declared.call.Event.TheVariants as Events
 use Rattle.blob_model.specs.declared.call.Place.{Place}
 use Rattle.blob_model.specs.declared.call.Place.TheVariants.{WriteAt, Append}
-use Rattle.ports.specs.Counts.{RoseBy}
+use Rattle.faults.specs.Counts.{RoseBy}
 use Rattle.request_form.specs.Session.{Fixed, Session, HeldTicket}
 use Rattle.request_form.specs.Answers.{Unless, UpdateAnswer, Updated, ReportAnswer, LookAnswer, Answers, update_fault, max_update, max_tickets}
 use Rattle.request_form.specs.HangUp.{GivenUp, GivesUp, HungUp}

@@ -10,7 +10,7 @@ use Rattle.request_form.specs.declared.form.Fault.{Fault}
 use Rattle.request_form.specs.declared.form.Fault.TheVariants as Faults
 use Rattle.client_session.specs.declared.done.Done.{Done}
 use Rattle.client_session.specs.Sessions.{SessionState, Continues, session_of}
-use Rattle.ports.specs.Counts.{RoseBy}
+use Rattle.faults.specs.Counts.{RoseBy}
 use Rattle.workload_law.specs.Ends.{Leaves, UpdateHindered, StopsAt}
 
 -- an update's own two events: its numbering and its finish

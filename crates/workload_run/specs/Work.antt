@@ -5,7 +5,7 @@ use Rattle.blob_model.specs.History.{events_by}
 use Rattle.blob_model.specs.declared.call.Event.{Event}
 use Rattle.request_form.specs.Session.{Session}
 use Rattle.request_form.specs.declared.form.Fault.{Fault}
-use Rattle.ports.specs.Counts.{RoseBy}
+use Rattle.faults.specs.Counts.{RoseBy}
 use Rattle.client_session.specs.Sessions.{SessionState, Continues, session_of}
 use Rattle.workload_law.specs.declared.plan.LoadPlan.{LoadPlan}
 use Rattle.workload_law.specs.Load.{operation, IsSized, HasDone, HasBegun}

@@ -1,7 +1,7 @@
 // The last session of a load, which reads what the load left.
 ghost use Rattle.std.specs.Prelude.{◌≡◌, ◌≤◌, ◌<◌, ◌+◌, ◌-◌, ◌^◌, ◌↔◌, [], sum_by, ℕ, length, true};
 ghost use denote.Param.Send.{IsSync};
-ghost use Rattle.ports.specs.Counts.{RoseBy};
+ghost use Rattle.faults.specs.Counts.{RoseBy};
 ghost use Rattle.blob_model.specs.Limits.{greatest};
 ghost use Rattle.request_form.specs.Answers.{max_read};
 ghost use Rattle.client_session.specs.Results.{read_reply};

@@ -1,7 +1,7 @@
 // The beginning of a load: the log, the grid and the grid's zeros.
 ghost use Rattle.std.specs.Prelude.{◌≡◌, ◌≤◌, [], ◌∷◌, length, sum_by};
 ghost use denote.Param.Send.{IsSync};
-ghost use Rattle.ports.specs.Counts.{RoseBy};
+ghost use Rattle.faults.specs.Counts.{RoseBy};
 ghost use Rattle.client_session.specs.Sessions.{session_of, Continues};
 ghost use Rattle.workload_law.specs.Load.{IsSized, zeros_of};
 ghost use Rattle.workload_run.specs.Updates.{told_faults};

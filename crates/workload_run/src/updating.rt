@@ -1,7 +1,7 @@
 // An update of a load, which is tried again while too many updates of its blob wait.
 ghost use Rattle.std.specs.Prelude.{◌≡◌, [], length, sum_by, ◌≤◌};
 ghost use denote.Param.Send.{IsSync};
-ghost use Rattle.ports.specs.Counts.{RoseBy};
+ghost use Rattle.faults.specs.Counts.{RoseBy};
 ghost use Rattle.request_form.specs.Replies.{fault_count};
 ghost use Rattle.client_session.specs.Results.{done_reply};
 ghost use Rattle.client_session.specs.Sessions.{session_of, Continues};

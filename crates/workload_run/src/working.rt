@@ -2,7 +2,7 @@
 ghost use Rattle.std.specs.Prelude.{◌≡◌, ◌+◌, ◌≤◌, [], sum_by};
 ghost use denote.Param.Send.{IsSync};
 ghost use Rattle.blob_model.specs.Limits.{greatest};
-ghost use Rattle.ports.specs.Counts.{RoseBy};
+ghost use Rattle.faults.specs.Counts.{RoseBy};
 ghost use Rattle.client_session.specs.Sessions.{session_of, Continues};
 ghost use Rattle.workload_law.specs.Load.{IsSized};
 ghost use Rattle.workload_run.specs.Updates.{told_faults};

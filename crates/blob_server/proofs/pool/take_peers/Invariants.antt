@@ -8,6 +8,7 @@ invariant-loop-taken g l =
     let li = g.Li.Listener in
     record {
       listens : li.listens l.net ≡ true;
+      here : li.listens_at l.net ≡ li.listens_at l.fn.net;
       idle : IsIdle l.fn.session.store l.session;
       took : Taken l.taken (record { handed = li.handed l.fn.net; is_done = li.is_done l.fn.net; faults = li.faults l.fn.net })
           (record { handed = li.handed l.net; is_done = li.is_done l.net; faults = li.faults l.net });

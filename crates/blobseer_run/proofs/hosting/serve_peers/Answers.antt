@@ -1,14 +1,17 @@
-use Rattle.std.proofs.Common.{refl, subst}
+use Rattle.std.proofs.Common.{refl, subst, inl, arith}
+use Rattle.std.specs.Prelude.{Err}
 use Rattle.settings.specs.Values.{SettingsValues}
-use Rattle.blob_server.specs.Serving.{Handing, TookPeers}
-use Rattle.blobseer_run.proofs.PeersServed.{took_since, served_there, unserved_there, starved_there, faulted_there}
+use Rattle.blob_server.specs.Serving.{Handing, TookPeers, EndsAs}
+use Rattle.blobseer_run.proofs.PeersServed.{took_since, served_there, deaf_there, starved_there, faulted_there}
 use Rattle.blobseer_run.proofs.hosting.serve_peers.Goals as goal
 
 pub returns-in_default-clause-served : goal.returns-in_default-clause-served
-returns-in_default-clause-served g c = starved_there _ _ _ _ _
+returns-in_default-clause-served g c = starved_there _ _ _ _ _ (inl refl) (record { handed = refl; done = refl; rose = record { later = omega arith; by = λ less. omega arith } })
 
 pub returns-then-not-listen-clause-served : goal.returns-then-not-listen-clause-served
-returns-then-not-listen-clause-served g c = unserved_there _ _ _ _ _ c.if-not-listen.ensures.faults
+returns-then-not-listen-clause-served g c =
+    let x = c.if-not-listen.ensures in
+    deaf_there _ _ _ _ _ x.listens (record { handed = x.handed; done = x.done; rose = x.faults })
 
 pub returns-in-Ok-served-clause-served : goal.returns-in-Ok-served-clause-served
 returns-in-Ok-served-clause-served g c =
@@ -23,4 +26,10 @@ returns-in-Ok-served-clause-served g c =
 pub returns-in-Err-clause-served : goal.returns-in-Err-clause-served
 returns-in-Err-clause-served g c =
     let x = c.if-not-listen.ensures in
-    rw c.status_of.ensures (faulted_there _ _ _ _ _ _ c.in-Err.fault _ _ refl x.handed x.done x.faults c.in-Err.ensures.ended)
+    let net = c.listen.new.self in
+    let mid : Handing = record { handed = g.L.Listener.handed net; is_done = g.L.Listener.is_done net; faults = g.L.Listener.faults net } in
+    let net' = c.serve-served.new.net in
+    let after : Handing = record { handed = g.L.Listener.handed net'; is_done = g.L.Listener.is_done net'; faults = g.L.Listener.faults net' } in
+    let fault = c.in-Err.fault in
+    let ended = subst (λ (s : SettingsValues). EndsAs s.connections mid after (Err fault)) c.settings.view_is c.in-Err.ensures.ended in
+    rw c.status_of.ensures (faulted_there _ _ _ _ _ mid fault c.in-Err.ensures.listens x.handed x.done x.faults ended)

@@ -1,4 +1,4 @@
-use Rattle.std.proofs.Common.{◌≡◌, ℕ, List, ◌∙◌, subst}
+use Rattle.std.proofs.Common.{ℕ, List, subst}
 use Rattle.blobseer_run.specs.Writing.{ToldLine}
 use Rattle.blobseer_run.specs.Status.{write_fault}
 use Rattle.blobseer_run.proofs.PeersServed.{told_part}
