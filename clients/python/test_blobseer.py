@@ -1,0 +1,333 @@
+"""Tests of the client against the built server, and against servers that answer wrongly.
+
+The program is that of the variable BLOBSEER, or crates/blobseer/out/blobseer of this repository.
+"""
+import contextlib
+import io
+import os
+import pathlib
+import shlex
+import socket
+import struct
+import subprocess
+import sys
+import threading
+import time
+import unittest
+
+import blobseer
+
+HERE = pathlib.Path(__file__).resolve().parent
+PROGRAM = shlex.split(os.environ.get("BLOBSEER", str(HERE.parent.parent / "crates/blobseer/out/blobseer")))
+CLIENT = [sys.executable, str(HERE / "blobseer.py")]
+
+
+def free_port():
+    with socket.socket() as one:
+        one.bind(("127.0.0.1", 0))
+        return one.getsockname()[1]
+
+
+class Server:
+    """A server on a port of its own, which is killed at the end of the block."""
+
+    def __init__(self, *words):
+        self.address = "127.0.0.1:%d" % free_port()
+        self.process = subprocess.Popen([*PROGRAM, "serve", "--listen", self.address, *words], stdout=subprocess.DEVNULL)
+
+    def __enter__(self):
+        host, port = self.address.split(":")
+        for _ in range(600):
+            with contextlib.suppress(ConnectionRefusedError):
+                socket.create_connection((host, int(port))).close()
+                return self
+            time.sleep(0.05)
+        raise RuntimeError("the server doesn't listen")
+
+    def __exit__(self, *_):
+        self.process.kill()
+        self.process.wait()
+
+
+@contextlib.contextmanager
+def played(*replies):
+    """A server that takes one connection, sends these bytes for whatever comes, and closes."""
+    with socket.create_server(("127.0.0.1", 0)) as listener:
+        def serve():
+            peer, _ = listener.accept()
+            with peer:
+                for reply in replies:
+                    peer.recv(65536)
+                    peer.sendall(reply)
+
+        thread = threading.Thread(target=serve)
+        thread.start()
+        yield listener.getsockname()
+        thread.join()
+
+
+def frame(operation, *numbers, data=b""):
+    body = struct.pack(">B%dQ" % len(numbers), operation, *numbers) + data
+    return struct.pack(">I", len(body)) + body
+
+
+class Requests(unittest.TestCase):
+    @classmethod
+    def setUpClass(cls):
+        cls.server = Server("--workers", "8").__enter__()
+        cls.addClassCleanup(cls.server.__exit__)
+
+    def setUp(self):
+        self.store = blobseer.connect(self.server.address)
+        self.addCleanup(self.store.close)
+
+    def refused(self, kind, numbers, call, *arguments):
+        with self.assertRaises(kind) as caught:
+            call(*arguments)
+        self.assertEqual(caught.exception.numbers, numbers)
+        return caught.exception
+
+    def test_each_request(self):
+        store = self.store
+        log = store.create()
+        self.assertEqual(store.append(log, b"one log"), (1, 0, 7))
+        self.assertEqual(store.write(log, 0, b"ONE"), (2, 0, 7))
+        self.assertEqual(store.read(log, 1, 0, 7), b"one log")
+        self.assertEqual(store.read(log, 2, 0, 7), b"ONE log")
+        self.assertEqual(store.recent(log), blobseer.Recent(2, 7))
+        self.assertEqual(store.size(log, 1), 7)
+        self.assertEqual(store.sync(log, 2), 2)
+        started = store.start_append(log, b"!")
+        self.assertEqual(started, (1, 3, 7, 8))
+        self.assertEqual(store.status(log), blobseer.Status(3, 2, 3))
+        self.assertEqual(store.start_write(log, 7, b"?"), (2, 4, 7, 8))
+        self.assertEqual(store.finish(1), 3)
+        self.assertEqual(store.finish(2), 4)
+        branch = store.branch(log, 1)
+        self.assertEqual(store.append(branch, b", one past"), (2, 7, 17))
+        room = bytearray(5)
+        store.read_into(branch, 2, 3, room)
+        self.assertEqual(bytes(room), b" log,")
+        self.assertEqual(list(store.log(log)), [(1, 7), (2, 7), (3, 8), (4, 8)])
+
+    def test_each_refusal_of_a_session(self):
+        store = self.store
+        log = store.create()
+        store.append(log, b"abc")
+        self.assertEqual(self.refused(blobseer.NoBlob, (65535,), store.recent, 65535).blob, 65535)
+        self.refused(blobseer.NotPublished, (5, 1), store.read, log, 5, 0, 1)
+        self.refused(blobseer.OffsetPastSize, (4, 3), store.write, log, 4, b"x")
+        self.refused(blobseer.EmptyUpdate, (), store.append, log, b"")
+        self.refused(blobseer.UpdateTooLong, (1048577,), store.append, log, bytes(1048577))
+        self.refused(blobseer.RangePastSize, (4, 3), store.read, log, 1, 3, 1)
+        self.refused(blobseer.RangePastSize, (2**64, 3), store.read, log, 1, 2**64 - 1, 1)
+        self.refused(blobseer.ReadTooLong, (16777217,), store.read, log, 1, 0, 16777217)
+        self.refused(blobseer.NoTicket, (9,), store.finish, 9)
+        for _ in range(64):
+            store.start_append(log, b"x")
+        self.refused(blobseer.TooManyTickets, (64,), store.start_append, log, b"x")
+        self.refused(blobseer.Pending, (3, 2), store.sync, log, 3)
+        self.refused(blobseer.Pending, (3, 2), store.wait_published, log, 3)
+        self.assertEqual(self.store.status(log).held, 2)
+
+    def test_frames_that_are_no_request(self):
+        with socket.create_connection(self.store._socket.getpeername()) as peer:
+            stream = peer.makefile("rb")
+            peer.sendall(struct.pack(">I", 2097153) + bytes(2097153) + frame(14) + frame(1)[:5])
+            self.assertEqual(stream.read(4 + 17), frame(255, 18, 2097153))
+            self.assertEqual(stream.read(4 + 9), frame(255, 19))
+            self.assertEqual(stream.read(5)[4], 129)
+
+    def test_an_update_waits_for_another_client(self):
+        with blobseer.connect(self.server.address) as other:
+            log = other.create()
+            first = other.start_append(log, b"slow")
+            second = self.store.append(log, b"fast")
+            with self.assertRaises(TimeoutError):
+                self.store.wait_published(log, second.version, timeout=0.05)
+            waiting = threading.Timer(0.1, other.finish, [first.ticket])
+            waiting.start()
+            self.assertEqual(self.store.wait_published(log, second.version), second.version)
+            waiting.join()
+            self.assertEqual(self.store.read(log, 2, 0, 8), b"slowfast")
+
+    def test_a_hundred_thousand_requests_in_a_row(self):
+        log = self.store.create()
+        with self.store.pipeline() as requests:
+            replies = [requests.append(log, b"%015d\n" % number) for number in range(100000)]
+        self.assertEqual(replies[-1].result(), (100000, 1599984, 1600000))
+        with self.store.pipeline() as requests:
+            parts = [requests.read(log, 100000, begin, 1600) for begin in range(0, 1600000, 1600)]
+        self.assertEqual(b"".join(part.result() for part in parts), b"".join(b"%015d\n" % number for number in range(100000)))
+
+    def test_large_requests_and_large_replies_cross(self):
+        blob = self.store.create()
+        piece = os.urandom(1 << 20)
+        with self.store.pipeline() as requests:
+            replies = [requests.append(blob, piece), *(requests.write(blob, 0, piece) for _ in range(30))]
+            reads = [requests.read(blob, 1, 0, 1 << 20) for _ in range(30)]
+        self.assertTrue(all(read.result() == piece for read in reads))
+        self.assertEqual(replies[-1].result().version, 31)
+
+    def test_a_refusal_in_a_row_stands_alone(self):
+        log = self.store.create()
+        with self.store.pipeline() as requests:
+            first, bad, last = requests.append(log, b"a"), requests.append(log, b""), requests.append(log, b"b")
+        self.assertEqual((first.result().version, last.result().version), (1, 2))
+        self.assertRaises(blobseer.EmptyUpdate, bad.result)
+
+    def test_files_both_ways(self):
+        for count in (0, 1, 4096, 50000000):
+            with self.subTest(bytes=count):
+                data = os.urandom(count)
+                log = self.store.create()
+                done = self.store.append_from(log, io.BytesIO(data))
+                self.assertEqual((done.bytes, done.size), (count, count))
+                self.assertEqual(done.last, (count + (1 << 20) - 1) // (1 << 20) or None)
+                out = io.BytesIO()
+                self.assertEqual(self.store.read_to(out, log, done.last or 0), count)
+                self.assertTrue(out.getvalue() == data)
+
+    def test_an_append_waits_where_too_many_updates_wait(self):
+        with Server("--max-open", "1") as server, blobseer.connect(server.address) as one, blobseer.connect(server.address) as other:
+            log = other.create()
+            held = other.start_append(log, b"first ")
+            threading.Timer(0.1, other.finish, [held.ticket]).start()
+            self.assertEqual(one.append_from(log, io.BytesIO(b"second")), (2, 2, 6, 12))
+
+
+class Limits(unittest.TestCase):
+    def test_each_refusal_of_a_small_store(self):
+        words = "--max-size 8 --max-versions 3 --max-open 1 --max-blobs 2".split()
+        with Server(*words) as server, blobseer.connect(server.address) as store:
+            log = store.create()
+            for kind, numbers, call in (
+                (blobseer.BlobTooBig, (9, 8), lambda: store.append(log, bytes(9))),
+                (None, (1, 0, 1), lambda: store.append(log, b"a")),
+                (None, (1, 2, 1, 2), lambda: store.start_append(log, b"b")),
+                (blobseer.TooManyOpen, (1,), lambda: store.append(log, b"c")),
+                (None, 2, lambda: store.finish(1)),
+                (None, (3, 2, 3), lambda: store.append(log, b"c")),
+                (blobseer.TooManyVersions, (3,), lambda: store.append(log, b"d")),
+                (None, 2, store.create),
+                (blobseer.TooManyBlobs, (2,), store.create),
+                (blobseer.TooManyBlobs, (2,), lambda: store.branch(log, 1)),
+            ):
+                if kind is None:
+                    self.assertEqual(call(), numbers)
+                else:
+                    with self.assertRaises(kind) as caught:
+                        call()
+                    self.assertEqual(caught.exception.numbers, numbers)
+
+
+class WrongServers(unittest.TestCase):
+    def test_refusals_that_the_program_seldom_gives(self):
+        for reply, kind, numbers in (
+            (frame(255, 8, 7), blobseer.Already, (7,)),
+            (frame(255, 9), blobseer.NoMemory, ()),
+            (frame(255, 15, 3), blobseer.PageFault, (3,)),
+            (frame(255, 17), blobseer.Malformed, ()),
+            (frame(255, 18, 9), blobseer.FrameTooLong, (9,)),
+            (frame(255, 19), blobseer.BadFrame, ()),
+            (frame(255, 22, 5), blobseer.NoMemoryTicket, (5,)),
+        ):
+            with self.subTest(name=kind.name), played(reply) as address:
+                with self.assertRaises(kind) as caught, blobseer.connect(address) as store:
+                    store.create()
+                self.assertEqual(caught.exception.numbers, numbers)
+
+    def test_replies_that_are_none(self):
+        for reply in (frame(130, 1, 2, 3), frame(129), frame(129, 1, 2), frame(255, 21), frame(255, 8), struct.pack(">I", 0) + b"x", b"\xff" * 8):
+            with self.subTest(reply=reply.hex()), played(reply) as address, blobseer.connect(address) as store:
+                self.assertRaises(blobseer.ProtocolError, store.create)
+                self.assertTrue(store.closed)
+
+    def test_a_reply_that_ends_too_early(self):
+        whole = frame(129, 1)
+        for cut in range(len(whole)):
+            with self.subTest(cut=cut), played(whole[:cut]) as address, blobseer.connect(address) as store:
+                self.assertRaises(blobseer.ConnectionLost, store.create)
+
+    def test_a_reply_byte_by_byte(self):
+        with socket.create_server(("127.0.0.1", 0)) as listener:
+            def serve():
+                peer, _ = listener.accept()
+                with peer:
+                    peer.setsockopt(socket.IPPROTO_TCP, socket.TCP_NODELAY, 1)
+                    for one in frame(129, 7) + frame(135, data=b"abc"):
+                        peer.sendall(bytes([one]))
+                        time.sleep(0.001)
+                    peer.recv(65536)
+
+            thread = threading.Thread(target=serve)
+            thread.start()
+            store = blobseer.connect(listener.getsockname())
+            requests = store.pipeline()
+            created, read = requests.create(), requests.read(7, 1, 0, 3)
+            self.assertEqual((created.result(), read.result()), (7, b"abc"))
+            store.close()
+            thread.join()
+
+    def test_a_server_that_is_silent(self):
+        with socket.create_server(("127.0.0.1", 0)) as listener:
+            store = blobseer.connect(listener.getsockname(), timeout=0.05)
+            self.assertRaises(TimeoutError, store.create)
+            store.close()
+
+    def test_a_server_that_dies(self):
+        with Server() as server:
+            store = blobseer.connect(server.address)
+            log = store.create()
+            requests = store.pipeline()
+            replies = [requests.append(log, bytes(65536)) for _ in range(64)]
+            replies[0].result()
+            server.process.kill()
+            with self.assertRaises(blobseer.ConnectionLost):
+                while True:
+                    replies.append(requests.append(log, bytes(65536)))
+            self.assertTrue(all(reply.done for reply in replies))
+            self.assertRaises(blobseer.ConnectionLost, store.recent, log)
+
+
+class Program(unittest.TestCase):
+    def ran(self, address, *words, data=b"", status=0):
+        done = subprocess.run([*CLIENT, address, *words], input=data, capture_output=True, timeout=300)
+        self.assertEqual(done.returncode, status, done.stderr)
+        return done.stdout if status == 0 else done.stderr.decode()
+
+    def test_each_command(self):
+        with Server() as server:
+            data = os.urandom(3000000)
+            address = server.address
+            self.assertEqual(self.ran(address, "create"), b"blob 1\n")
+            self.assertEqual(self.ran(address, "append", "1", data=data), b"versions 1 to 3 bytes 3000000 size 3000000\n")
+            self.assertEqual(self.ran(address, "append", "1"), b"bytes 0 size 3000000\n")
+            self.assertTrue(self.ran(address, "read", "1") == data)
+            self.assertTrue(self.ran(address, "read", "1", "2") == data[:2097152])
+            self.assertTrue(self.ran(address, "read", "1", "3", "2999990") == data[-10:])
+            self.assertTrue(self.ran(address, "read", "1", "3", "5", "7") == data[5:12])
+            self.assertEqual(self.ran(address, "write", "1", "0", data=b"abc"), b"version 4 at 0 size 3000000\n")
+            self.assertEqual(self.ran(address, "log", "1"), b"1 1048576\n2 2097152\n3 3000000\n4 3000000\n")
+            self.assertEqual(self.ran(address, "status", "1"), b"assigned 4 published 4 held 0\n")
+            self.assertEqual(self.ran(address, "branch", "1", "1"), b"blob 2\n")
+            self.assertEqual(self.ran(address, "wait", "1", "4"), b"published 4\n")
+            self.assertEqual(self.ran(address, "size", "1", status=2).split(":")[0], "usage")
+            self.assertEqual(self.ran(address, "read", "9", status=1), "blobseer: refused: no-blob 9\n")
+            self.assertEqual(self.ran(address, "read", "1", "9", status=1), "blobseer: refused: not-published 9 4\n")
+            self.assertEqual(self.ran(address, "read", "1", "1", "1048577", status=1), "blobseer: refused: range-past-size 1048577 1048576\n")
+            self.assertEqual(self.ran("nowhere", "create", status=2).split(":")[0], "usage")
+
+    def test_no_server(self):
+        address = "127.0.0.1:%d" % free_port()
+        self.assertTrue(self.ran(address, "create", status=3).startswith("blobseer: no connection to " + address))
+
+    def test_help(self):
+        done = subprocess.run([*CLIENT, "--help"], capture_output=True)
+        self.assertEqual(done.returncode, 0)
+        for name in ("create", "append", "write", "read", "branch", "status", "log", "wait"):
+            self.assertIn(name, done.stdout.decode())
+
+
+if __name__ == "__main__":
+    unittest.main()
