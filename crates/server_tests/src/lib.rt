@@ -4,6 +4,8 @@
 #[cfg(test)]
 mod crowd;
 #[cfg(test)]
+mod crush;
+#[cfg(test)]
 mod meeting;
 #[cfg(test)]
 mod program;
