@@ -14,6 +14,8 @@ mod listener;
 #[cfg(test)]
 mod memory;
 #[cfg(test)]
+mod played;
+#[cfg(test)]
 mod tally;
 #[cfg(test)]
 mod tcp;

@@ -1,120 +1,15 @@
 //! Ports over a network that the test plays.
 ghost use Rattle.std.specs.Prelude.{◌≡◌, true};
 
+use crate::played::{Answer, PlayedNet, Seen};
 use ports::listener::{Accepted, Listener};
 use ports::stream::{Sink, Source, Taken, Written};
-use ports::tcp::TcpPorts;
-use std::io::{self, ErrorKind, Read, Write};
-use std::net::{Net, OpenListener, OpenStream, SocketAddr};
-use std::os::fd::{AsRawFd, RawFd};
+use ports::tcp::{Patience, TcpPorts};
+use std::io::ErrorKind;
+use std::net::Net;
 use std::process::Abort;
 use std::sync::Wait;
-use std::sync::atomic::{AtomicU64, Ordering};
-
-// What was asked of the network, and what was written to its streams, in bytes.
-#[derive(Drop)]
-struct Seen {
-    accepts: AtomicU64,
-    prompt: AtomicU64,
-    written: AtomicU64,
-}
-
-// A network of one port, whose accepts are interrupted, give a stream, meet a peer that is gone, give a stream, and then fail.
-#[derive(Drop)]
-struct PlayedNet<'a> {
-    seen: &'a Seen,
-}
-
-#[derive(Drop)]
-struct PlayedListener<'a> {
-    seen: &'a Seen,
-}
-
-// A stream that gives two bytes and ends, and takes one byte at a time.
-#[derive(Drop)]
-struct PlayedStream<'a> {
-    seen: &'a Seen,
-    left: usize,
-}
-
-impl<'a> Net for PlayedNet<'a> {
-    type Stream = PlayedStream<'a>;
-
-    type Listener = PlayedListener<'a>;
-
-    fn bind(&self, addr: SocketAddr) -> io::Result<PlayedListener<'a>> {
-        if addr.port() != 7000 {
-            return Err(io::Error::from(ErrorKind::AddrInUse));
-        }
-        Ok(PlayedListener { seen: self.seen })
-    }
-
-    fn connect(&self, _addr: SocketAddr) -> io::Result<PlayedStream<'a>> {
-        Err(io::Error::from(ErrorKind::ConnectionRefused))
-    }
-}
-
-impl<'a> OpenListener for PlayedListener<'a> {
-    type Stream = PlayedStream<'a>;
-
-    fn accept(&self) -> io::Result<(PlayedStream<'a>, SocketAddr)> {
-        let call = self.seen.accepts.fetch_add(1, Ordering::SeqCst);
-        match call {
-            0 => Err(io::Error::from(ErrorKind::Interrupted)),
-            2 => Err(io::Error::from(ErrorKind::ConnectionAborted)),
-            1 | 3 => {
-                let stream = PlayedStream {
-                    seen: self.seen,
-                    left: 2,
-                };
-                Ok((stream, SocketAddr::from(([127, 0, 0, 1], 7001))))
-            }
-            _ => Err(io::Error::from(ErrorKind::Other)),
-        }
-    }
-}
-
-impl<'a> OpenStream for PlayedStream<'a> {
-    fn set_nodelay(&self, nodelay: bool) -> io::Result<()> {
-        if nodelay {
-            self.seen.prompt.fetch_add(1, Ordering::SeqCst);
-        }
-        Ok(())
-    }
-}
-
-impl<'a> AsRawFd for PlayedListener<'a> {
-    fn as_raw_fd(&self) -> RawFd {
-        0
-    }
-}
-
-impl<'a> AsRawFd for PlayedStream<'a> {
-    fn as_raw_fd(&self) -> RawFd {
-        0
-    }
-}
-
-impl<'a> Read for PlayedStream<'a> {
-    fn read(&mut self, buf: &mut [u8]) -> io::Result<usize> {
-        let n = self.left.min(buf.len());
-        buf[..n].fill(b'h');
-        self.left -= n;
-        Ok(n)
-    }
-}
-
-impl<'a> Write for PlayedStream<'a> {
-    fn write(&mut self, bytes: &[u8]) -> io::Result<usize> {
-        let n = bytes.len().min(1);
-        self.seen.written.fetch_add(n as u64, Ordering::SeqCst);
-        Ok(n)
-    }
-
-    fn flush(&mut self) -> io::Result<()> {
-        Ok(())
-    }
-}
+use std::time::{Clock, Duration};
 
 // Whether a peer gives two bytes and its end, and takes three.
 fn talks<P: Source + Sink + Drop>(peer: P) -> bool {
@@ -138,7 +33,7 @@ fn is_failed<P: Drop>(accepted: Accepted<P>) -> bool {
 }
 
 // Checks that ports listen at the network's one port alone.
-fn check_addresses<N: Net, R: Abort>(rt: &R, ports: &mut TcpPorts<N>)
+fn check_addresses<N: Net + Clock, R: Abort>(rt: &R, ports: &mut TcpPorts<N>)
     ensures { ⟦<TcpPorts<N> as Listener>⟧.listens ports.new ≡ true }
 {
     assert!(rt; !ports.listen("127.0.0.1:7001"));
@@ -146,9 +41,11 @@ fn check_addresses<N: Net, R: Abort>(rt: &R, ports: &mut TcpPorts<N>)
     assert!(rt; ports.listen("127.0.0.1:7000"), "the port was refused");
 }
 
+static CALM: [Answer; 2] = [Answer::Stream, Answer::Stream];
+
 // Checks that ports hand out two peers before they fail.
 fn check_ports<R: Abort + Wait>(rt: &R, seen: &Seen) {
-    let mut ports = TcpPorts::new(PlayedNet { seen });
+    let mut ports = TcpPorts::new(PlayedNet::new(seen, CALM.as_slice()));
     check_addresses(rt, &mut ports);
     check_accepted(rt, ports.accept(rt));
     check_accepted(rt, ports.accept(rt));
@@ -156,17 +53,85 @@ fn check_ports<R: Abort + Wait>(rt: &R, seen: &Seen) {
 }
 
 #[test]
-fn connections_are_handed_out_past_interruptions_and_lost_ones(rt: HostRuntime) {
-    let seen = Seen {
-        accepts: AtomicU64::new(0),
-        prompt: AtomicU64::new(0),
-        written: AtomicU64::new(0),
-    };
+fn connections_are_handed_out_with_the_usual_patience(rt: HostRuntime) {
+    let seen = Seen::new();
     check_ports(&rt, &seen);
-    let counts = [
-        seen.accepts.load(Ordering::SeqCst),
-        seen.prompt.load(Ordering::SeqCst),
-        seen.written.load(Ordering::SeqCst),
-    ];
-    assert_eq!(rt; counts, [5, 2, 6]);
+    assert_eq!(rt; seen.accepts(), 3);
+    assert_eq!(rt; seen.told(), [2, 2 * 300_000, 2 * 60_000]);
+    assert_eq!(rt; seen.written(), 6);
+}
+
+// What an accept answers first, before a stream, whether a peer is handed out then, and how many milliseconds the listener
+// rests before that.
+//
+// The system's numbers are, in order: interrupted, network down, network unreachable, connection aborted, reset, timed out and
+// host unreachable; no memory, too many files in the system and in the process, and no buffers; no permission, no such file,
+// a wrong argument, not a socket, and no such call.
+static ROWS: [(Answer, bool, u64); 20] = [
+    (Answer::Kind(ErrorKind::Interrupted), true, 0),
+    (Answer::Kind(ErrorKind::ConnectionAborted), true, 0),
+    (Answer::Deaf, true, 0),
+    (Answer::Number(4), true, 0),
+    (Answer::Number(100), true, 0),
+    (Answer::Number(101), true, 0),
+    (Answer::Number(103), true, 0),
+    (Answer::Number(104), true, 0),
+    (Answer::Number(110), true, 0),
+    (Answer::Number(113), true, 0),
+    (Answer::Number(12), true, 10),
+    (Answer::Number(23), true, 10),
+    (Answer::Number(24), true, 10),
+    (Answer::Number(105), true, 10),
+    (Answer::Number(1), false, 0),
+    (Answer::Number(9), false, 0),
+    (Answer::Number(22), false, 0),
+    (Answer::Number(88), false, 0),
+    (Answer::Number(95), false, 0),
+    (Answer::Kind(ErrorKind::Other), false, 0),
+];
+
+fn check_row<R: Abort + Wait>(rt: &R, row: &(Answer, bool, u64)) {
+    let (first, comes, rest) = *row;
+    let seen = Seen::new();
+    let answers = [first, Answer::Stream];
+    let mut ports = TcpPorts::new(PlayedNet::new(&seen, answers.as_slice()));
+    check_addresses(rt, &mut ports);
+    assert!(rt; is_failed(ports.accept(rt)) != comes);
+    assert_eq!(rt; seen.accepts(), if comes { 2 } else { 1 });
+    assert_eq!(rt; seen.rested(), rest);
+}
+
+#[test]
+fn each_error_of_an_accept_is_passed_over_rested_after_or_a_fault(rt: HostRuntime) {
+    for row in ROWS.as_slice() {
+        check_row(&rt, row);
+    }
+}
+
+static LATE: [Answer; 1] = [Answer::Late];
+
+// Checks that a peer that keeps its worker waiting too long is at fault, and goes on being a peer.
+fn check_late<P: Source + Sink + Drop, R: Abort>(rt: &R, accepted: Accepted<P>) {
+    let Accepted::Peer(mut peer) = accepted else {
+        panic!(rt; "no peer");
+    };
+    let mut buf = [b'.'; 4];
+    assert!(rt; peer.read(&mut buf) == Taken::Failed);
+    assert!(rt; buf.as_slice() == b"....".as_slice());
+    assert!(rt; peer.write(b"abc") == Written::Failed(1));
+    assert!(rt; peer.read(&mut buf) == Taken::Got(2));
+}
+
+#[test]
+fn a_wait_that_is_too_long_is_a_fault_of_the_peer(rt: HostRuntime) {
+    let seen = Seen::new();
+    let patience = Patience {
+        read: Duration::from_millis(40),
+        write: Duration::from_millis(30),
+    };
+    let net = PlayedNet::new(&seen, LATE.as_slice());
+    let mut ports = TcpPorts::with_patience(net, patience);
+    check_addresses(&rt, &mut ports);
+    check_late(&rt, ports.accept(&rt));
+    assert_eq!(rt; seen.told(), [1, 40, 30]);
 }
