@@ -3,14 +3,15 @@
 
     slow_peers.py [--program PATH] [--port N] PART..
 
-The parts are these, and `quick` is those that take less than three minutes. Each starts a server of its own, opens at most 1,100
+The parts are these, and `quick` is those that take less than five minutes. Each starts a server of its own, opens at most 1,100
 connections, is over after at most 800 seconds, and ends what it started.
 
     halves4, halves16   all workers but the first are held by half frames: a new client is served once a read's timeout passed
     crush               15 workers and 64 places are held, and one more connection holds the first worker; all but that one leave:
                         a new client is served at the latest when that one's timeout passed
     killed              a client is killed inside a frame: the next one is served at once
-    deaf                a client never reads its replies: the next one is served once a write's timeout passed twice
+    deaf                a client never reads its replies: the next one is served once the system's buffers are full and a write's
+                        timeout passed
     idle                1,024 connections that say nothing: 80 are taken, what the server holds then, and when a client is served
                         once they left
 """
@@ -141,8 +142,9 @@ def deaf(program, port):
         for _ in range(64):
             peer.sendall(frame(7, 1, 1, 0, 1 << 20))
         time.sleep(1)
-        # A write of which a part went out before its timeout is no fault. The next one, of which nothing goes out, is.
-        most = 2 * WRITE_TIMEOUT + MARGIN
+        # A write of which a part went out before its timeout is no fault, and the system's buffers grow with each. One of which
+        # nothing goes out is.
+        most = 4 * WRITE_TIMEOUT + MARGIN
         good = tell("deaf", server.served(most), most)
         peer.close()
         return good
