@@ -68,6 +68,11 @@ too_many_versions s b = record { refuses = assigned b == s.limits.max_versions; 
 abbrev pub too_many_open : Store → Blob → Test
 too_many_open s b = record { refuses = waiting b == s.limits.max_open; refusal = Refusals.TooManyOpen s.limits.max_open }
 
+-- why nobody may finish the update of a version: the first of the reasons
+abbrev pub repair_refusal : Store → ℕ → ℕ → Option Refusal
+repair_refusal s blob version =
+    elim (blob_at s blob) [ None ↦ Some (Refusals.NoBlob blob) | Some b ↦ first_refusal (not_numbered b version ∷ already b version ∷ []) ]
+
 -- the bytes of a range of a version
 abbrev pub bytes_of : Blob → ℕ → ℕ → ℕ → List ℕ
 bytes_of b version offset count = take count (drop offset (content b.updates version))

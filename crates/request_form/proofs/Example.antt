@@ -12,7 +12,8 @@ use Rattle.request_form.specs.declared.form.Fault.TheVariants as Faults
 use Rattle.request_form.specs.Session.{Session, IsNobody, sees, drops}
 use Rattle.request_form.specs.Transcript.{first_session}
 use Rattle.request_form.specs.Own.{events_made}
-use Rattle.request_form.specs.HangUp.{GivenUp, HungUp, numbers_anew, finishes_made}
+use Rattle.request_form.specs.Answers.{FinishHindered}
+use Rattle.request_form.specs.HangUp.{GivenUp, HungUp, begins_anew, finishes_made}
 use Rattle.request_form.proofs.Told.{request_told}
 
 abbrev alone : Session
@@ -69,7 +70,7 @@ third_given = drops (sees second_given []) 3
 three_replies : List Reply
 three_replies = Replies.Finished 2 ∷ Replies.Refused (Faults.Already 2) ∷ Replies.Refused Faults.NoMemory ∷ []
 
-hung_up : HungUp IsNobody others_too 2 1 (numbers_anew third_given)
+hung_up : HungUp IsNobody others_too (record { finished = 2; no_memory = 1; pending = 0; page_fault = 0 }) (begins_anew third_given)
 unfolding three_replies
 hung_up = record {
   replies = three_replies;
@@ -80,15 +81,14 @@ hung_up = record {
     (
       second_given,
       GivenUp.found_finished (record { others = []; is_gap = refl; refused = refl; said = refl; seen = refl }),
-      (third_given, GivenUp.dropped (record { mid = sees second_given []; out_of_memory = record { others = []; is_gap = refl; said = refl; seen = refl }; dropped = refl }), refl),
+      (third_given, GivenUp.dropped (record { mid = sees second_given []; hindered = FinishHindered.out_of_memory (record { others = []; is_gap = refl; said = refl; seen = refl }); dropped = refl }), refl),
     ),
   );
-  finished_is = refl;
-  no_memory_is = refl;
+  counts_are = refl;
   anew = refl;
 }
 
-hung_up_left : (numbers_anew third_given).tickets ≡ []
+hung_up_left : (begins_anew third_given).tickets ≡ []
 hung_up_left = refl
 
 hung_up_made : finishes_made 1 others_too.tickets three_replies ≡ Events.Finish 1 1 1 ∷ []

@@ -14,6 +14,7 @@ use Rattle.blob_model.specs.declared.call.Outcome.TheVariants as Outcomes
 use Rattle.blob_model.specs.declared.call.Refusal.TheVariants as Refusals
 use Rattle.request_form.specs.declared.form.Reply.{Reply}
 use Rattle.request_form.specs.Session.{Fixed, Session, HeldTicket, store_at}
+use Rattle.request_form.specs.Answers.{FinishHindered}
 use Rattle.request_form.specs.HangUp.{GivenUp, GivesUp, tells_finished, IsFinishedIn, AllNumbered, AllFinished}
 use Rattle.request_form.specs.Laws.{HungUpAreFinished}
 use Rattle.request_form.proofs.HangUps.{given_up_makes, gives_up_makes}
@@ -103,6 +104,11 @@ module _ (stay : OldVersionsStay) (by_events : FinishedByEvents) (limits : Bound
       (ap (λ (t : Bool). is_finished n.b ticket.version || t) (finishes_last caller ticket.blob ticket.version others) ∙ or_true (is_finished n.b ticket.version))
 
 -- ---- tickets that are given up
+hindered_tells : (s mid : Session) (blob version : ℕ) (reply : Reply) → FinishHindered AllOther s blob version reply mid → tells_finished reply ≡ false
+hindered_tells s mid blob version reply (FinishHindered.out_of_memory t) = ap (λ (r : Reply). tells_finished r) t.said
+hindered_tells s mid blob version reply (FinishHindered.waits t) = ap (λ (r : Reply). tells_finished r) t.said
+hindered_tells s mid blob version reply (FinishHindered.not_folded t) = ap (λ (r : Reply). tells_finished r) t.said
+
 module _ (stay : OldVersionsStay) (by_events : FinishedByEvents) where
   finished_then : (s mid : Session) (ticket : HeldTicket) (reply : Reply) → Numbered (store_of s.fixed.limits s.seen) ticket → GivenUp AllOther s ticket reply mid
       → tells_finished reply ≡ true → IsFinishedIn (store_of s.fixed.limits mid.seen) ticket
@@ -111,8 +117,7 @@ module _ (stay : OldVersionsStay) (by_events : FinishedByEvents) where
   finished_then s mid ticket reply n (GivenUp.found_finished t) told =
       let found : IsFinishedIn (store_at s t.others) ticket = found_in (store_at s t.others) ticket (blob_at (store_at s t.others) ticket.blob) refl t.refused in
       subst (λ (x : List Event). IsFinishedIn (store_of s.fixed.limits x) ticket) (sym (ap (λ (x : Session). x.seen) t.seen)) found
-  finished_then s mid ticket reply n (GivenUp.dropped d) told =
-      absurd (false≢true (sym (ap (λ (r : Reply). tells_finished r) d.out_of_memory.said) ∙ told))
+  finished_then s mid ticket reply n (GivenUp.dropped d) told = absurd (false≢true (sym (hindered_tells s d.mid ticket.blob ticket.version reply d.hindered) ∙ told))
 
   all_finished : (s : Session) (tickets : List HeldTicket) (replies : List Reply) (s' : Session) → GivesUp AllOther s tickets replies s'
       → AllNumbered (store_of s.fixed.limits s.seen) tickets → AllFinished (store_of s.fixed.limits s'.seen) tickets replies
@@ -133,7 +138,7 @@ module _ (stay : OldVersionsStay) (by_events : FinishedByEvents) where
   all_finished s (t ∷ ts) [] s' none all = absurd none
 
   pub hung_up_finished : HungUpAreFinished
-  hung_up_finished s finished no_memory s' h all =
+  hung_up_finished s counts s' h all =
       let m = gives_up_makes s s.tickets h.replies h.mid h.gives_up in
       let seen : s'.seen ≡ h.mid.seen = ap (λ (x : Session). x.seen) h.anew in
       let limits : s'.fixed.limits ≡ s.fixed.limits = ap (λ (x : Session). x.fixed.limits) h.anew ∙ ap (λ (x : Fixed). x.limits) m.fixed in

@@ -27,7 +27,7 @@ module _ (s : Session) (call : Call) (others : List Event) where
         is_gap = other-append s.caller others b.others gap (let next : AllOther s.caller b.others = rw (← caller) b.is_gap in next);
         said = b.said ∙ (ap (λ (x : Session). reply_of (outcome_at x b.others call)) is ∙ ap seen_then (append_assoc s.seen others b.others));
         seen = b.seen ∙ (ap (λ (x : Session). sees x b.others) is
-            ∙ ap (λ (l : List Event). record { fixed = s.fixed; caller = s.caller; seen = l; tickets = s.tickets; next = s.next }) (append_assoc s.seen others b.others));
+            ∙ ap (λ (l : List Event). record { fixed = s.fixed; caller = s.caller; seen = l; tickets = s.tickets; next = s.next; limit = s.limit }) (append_assoc s.seen others b.others));
       }
 
 pub looks_joined : LooksJoin

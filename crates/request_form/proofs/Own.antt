@@ -1,5 +1,5 @@
 -- What answers make of a session's own events.
-use Rattle.std.proofs.Common.{◌≡◌, ℕ, ◌==◌, nat_lt, Bool, true, false, if◌then◌else◌, cond, List, [], ◌∷◌, ◌++◌, length, refl, sym, ap, subst, ◌∙◌, append_assoc, append-nil}
+use Rattle.std.proofs.Common.{◌≡◌, ℕ, ◌-◌, ◌==◌, nat_lt, Bool, true, false, if◌then◌else◌, cond, List, [], ◌∷◌, ◌++◌, length, refl, sym, ap, subst, ◌∙◌, append_assoc, append-nil}
 use Rattle.std.specs.Prelude.{Option, Some, None, IfSome}
 use Rattle.std.proofs.lemmas.Bool.{eq-eqb, ne_eqb}
 use Rattle.std.proofs.lemmas.List.Elements.{filter-append}
@@ -25,10 +25,10 @@ use Rattle.request_form.specs.declared.form.Heard.TheVariants.{Asked, Wrong}
 use Rattle.request_form.specs.declared.form.Fault.{Fault}
 use Rattle.request_form.specs.declared.form.Fault.TheVariants as Faults
 use Rattle.request_form.specs.Replies.{fault_of}
-use Rattle.request_form.specs.Session.{Session, HeldTicket, store_at, outcome_at, sees, holds, ticket_at, drops}
-use Rattle.request_form.specs.Answers.{Unless, OutOfMemory, Updated, Started, Reported, FoundFinished, CreateAnswer, UpdateAnswer, ReportAnswer, FinishAnswer, BranchAnswer, ReadAnswer, LookAnswer, Answers, update_fault, read_fault, max_update, max_tickets}
+use Rattle.request_form.specs.Session.{Session, HeldTicket, store_at, outcome_at, sees, holds, ticket_at, drops, lets_go, takes_up_to}
+use Rattle.request_form.specs.Answers.{Unless, Updated, Started, Reported, FoundFinished, CreateAnswer, UpdateAnswer, WholeUpdate, FinishHindered, ReportAnswer, FinishAnswer, BranchAnswer, ReadAnswer, ReadManyAnswer, RepairAnswer, LookAnswer, Answers, update_fault, read_fault, ranges_fault, max_update_greater, max_tickets}
 use Rattle.request_form.specs.Transcript.{Run, ItemReply}
-use Rattle.request_form.specs.Own.{create_made, update_made, start_made, finish_made, held_made, branch_made, events_made, item_made, made_by, Makes}
+use Rattle.request_form.specs.Own.{create_made, update_made, start_made, finish_made, held_made, repair_made, branch_made, events_made, item_made, made_by, Makes}
 
 -- ---- a caller's events in a list
 -- a gap has none of them
@@ -81,6 +81,14 @@ module _ (s s' : Session) where
   pub makes_drops : (more own : List Event) (number : ℕ) → s' ≡ drops (sees s more) number → events_by s.caller more ≡ own → Makes s own s'
   makes_drops more own number e is =
       makes s s' more own (ap (λ (x : Session). x.fixed) e) (ap (λ (x : Session). x.caller) e) (ap (λ (x : Session). x.seen) e) is
+
+  makes_lets_go : (more own : List Event) (blob version : ℕ) → s' ≡ lets_go (sees s more) blob version → events_by s.caller more ≡ own → Makes s own s'
+  makes_lets_go more own blob version e is =
+      makes s s' more own (ap (λ (x : Session). x.fixed) e) (ap (λ (x : Session). x.caller) e) (ap (λ (x : Session). x.seen) e) is
+
+  makes_takes : (limit : ℕ) → s' ≡ takes_up_to s limit → Makes s [] s'
+  makes_takes limit e =
+      makes s s' [] [] (ap (λ (x : Session). x.fixed) e) (ap (λ (x : Session). x.caller) e) (ap (λ (x : Session). x.seen) e ∙ sym (append-nil s.seen)) refl
 
   pub makes_gap : (others : List Event) → AllOther s.caller others → s' ≡ sees s others → Makes s [] s'
   makes_gap others gap e = makes_sees others [] e (none_own s.caller others gap)
@@ -167,7 +175,7 @@ fault_first P false fault rest here more = more
 own_faults : (P : Fault → Type 0) (s : Session) (bytes : List ℕ) → P Faults.EmptyUpdate → ((n : ℕ) → P (Faults.UpdateTooLong n)) → P Faults.TooManyTickets
     → IfSome (update_fault s bytes) P
 own_faults P s bytes none long many =
-    fault_first P (length bytes == 0) _ _ none (fault_first P (nat_lt max_update (length bytes)) _ _ (long _) (fault_first P (length s.tickets == max_tickets) _ _ many tt))
+    fault_first P (length bytes == 0) _ _ none (fault_first P (nat_lt s.limit (length bytes)) _ _ (long _) (fault_first P (length s.tickets == max_tickets) _ _ many tt))
 
 -- ---- answers
 module _ (s s' : Session) where
@@ -200,10 +208,16 @@ module _ (s s' : Session) where
   read_makes blob version offset count reply (ReadAnswer.out_of_memory t) = makes_gap s s' t.others t.is_gap t.seen
   read_makes blob version offset count reply (ReadAnswer.not_read t) = makes_gap s s' t.others t.is_gap t.seen
 
+  many_makes : (blob version : ℕ) (ranges : List (ℕ × ℕ)) (reply : Reply) → ReadManyAnswer AllOther s blob version ranges reply s' → Makes s [] s'
+  many_makes blob version ranges reply (ReadManyAnswer.contents t) = makes_gap s s' t.others t.is_gap t.seen
+  many_makes blob version ranges reply (ReadManyAnswer.refused t) = makes_gap s s' t.others t.is_gap t.seen
+  many_makes blob version ranges reply (ReadManyAnswer.out_of_memory t) = makes_gap s s' t.others t.is_gap t.seen
+  many_makes blob version ranges reply (ReadManyAnswer.not_read t) = makes_gap s s' t.others t.is_gap t.seen
+
   look_makes : (call : Call) (reply : Reply) → LookAnswer AllOther s call reply s' → Makes s [] s'
   look_makes call reply t = makes_gap s s' t.others t.is_gap t.seen
 
-  -- the three ways in which a ticket's finish ends
+  -- the ways in which a ticket's finish ends
   pub reported_makes : (ticket : HeldTicket) (reply : Reply) → Reported AllOther s ticket reply s' → Makes s (finish_made s.caller ticket reply) s'
   reported_makes ticket reply t =
       makes_told s s' (finish_made s.caller ticket) _ reply (Replies.Finished t.published) t.said refl
@@ -214,15 +228,40 @@ module _ (s s' : Session) where
       makes_told s s' (finish_made s.caller ticket) [] reply (Replies.Refused (Faults.Already ticket.version)) t.said refl
       (makes_drops s s' t.others [] ticket.number t.seen (none_own s.caller t.others t.is_gap))
 
-  pub out_of_memory_makes : (ticket : HeldTicket) (reply : Reply) → OutOfMemory AllOther s reply s' → Makes s (finish_made s.caller ticket reply) s'
-  out_of_memory_makes ticket reply t =
-      makes_told s s' (finish_made s.caller ticket) [] reply (Replies.Refused Faults.NoMemory) t.said refl (makes_gap s s' t.others t.is_gap t.seen)
+  pub hindered_makes : (blob version : ℕ) (M : Reply → List Event) (reply : Reply) → M (Replies.Refused Faults.NoMemory) ≡ []
+      → ((later held : ℕ) → M (Replies.Refused (Faults.Pending later held)) ≡ []) → ((page : ℕ) → M (Replies.Refused (Faults.PageFault page)) ≡ [])
+      → FinishHindered AllOther s blob version reply s' → Makes s (M reply) s'
+  hindered_makes blob version M reply memory pending page (FinishHindered.out_of_memory t) =
+      makes_told s s' M [] reply (Replies.Refused Faults.NoMemory) t.said memory (makes_gap s s' t.others t.is_gap t.seen)
+  hindered_makes blob version M reply memory pending page (FinishHindered.waits t) =
+      makes_told s s' M [] reply (Replies.Refused (Faults.Pending (version - 1) t.held)) t.said (pending _ _) (makes_gap s s' t.others t.is_gap t.seen)
+  hindered_makes blob version M reply memory pending page (FinishHindered.not_folded t) =
+      makes_told s s' M [] reply (Replies.Refused (Faults.PageFault t.page)) t.said (page _) (makes_gap s s' t.others t.is_gap t.seen)
+
+  pub hindered_finish_makes : (ticket : HeldTicket) (reply : Reply) → FinishHindered AllOther s ticket.blob ticket.version reply s' → Makes s (finish_made s.caller ticket reply) s'
+  hindered_finish_makes ticket reply t = hindered_makes ticket.blob ticket.version (finish_made s.caller ticket) reply refl (λ later held. refl) (λ page. refl) t
 
   finish_makes : (number : ℕ) (o : Option HeldTicket) (reply : Reply) → FinishAnswer AllOther s number o reply s' → Makes s (held_made s.caller o reply) s'
   finish_makes number None reply a = makes_none s s' a.1
   finish_makes number (Some ticket) reply (ReportAnswer.reported t) = reported_makes ticket reply t
   finish_makes number (Some ticket) reply (ReportAnswer.finished t) = found_finished_makes ticket reply t
-  finish_makes number (Some ticket) reply (ReportAnswer.out_of_memory t) = out_of_memory_makes ticket reply t
+  finish_makes number (Some ticket) reply (ReportAnswer.hindered t) = hindered_finish_makes ticket reply t
+
+  repair_made_none : (blob version : ℕ) (refusal : Refusal) → repair_made s.caller blob version (Replies.Refused (fault_of refusal)) ≡ []
+  repair_made_none blob version refusal = refl
+
+  repair_makes : (blob version : ℕ) (reply : Reply) → RepairAnswer AllOther s blob version reply s' → Makes s (repair_made s.caller blob version reply) s'
+  repair_makes blob version reply (RepairAnswer.repaired t) =
+      makes_told s s' (repair_made s.caller blob version) _ reply (Replies.Repaired t.published) t.said refl
+      (makes_lets_go s s' _ _ blob version t.seen (event_own s.caller t.others (Events.Finish s.caller blob version) [] [] t.is_gap refl refl))
+  repair_makes blob version reply (RepairAnswer.finished t) =
+      makes_told s s' (repair_made s.caller blob version) [] reply (Replies.Refused (Faults.Already version)) t.said refl
+      (makes_lets_go s s' t.others [] blob version t.seen (none_own s.caller t.others t.is_gap))
+  repair_makes blob version reply (RepairAnswer.refused t) =
+      makes_told s s' (repair_made s.caller blob version) [] reply (Replies.Refused (fault_of t.refusal)) t.said (repair_made_none blob version t.refusal)
+      (makes_gap s s' t.others t.is_gap t.seen)
+  repair_makes blob version reply (RepairAnswer.hindered t) =
+      hindered_makes blob version (repair_made s.caller blob version) reply refl (λ later held. refl) (λ page. refl) t
 
   module _ (blob : ℕ) (place : Place) (bytes : List ℕ) where
     kept_events : (others later : List Event) → AllOther s.caller others → AllOther s.caller later
@@ -244,7 +283,7 @@ module _ (s s' : Session) where
         makes_told s s' M _ reply (Replies.Refused (Faults.NoMemoryTicket s.next)) t.said (ticket s.next)
         (makes_holds s s' _ _ blob t.version t.seen (kept_events t.others t.later t.is_gap t.is_gap_later))
     any_update_makes M Does reply refused memory page ticket f (UpdateAnswer.not_stored t) =
-        makes_told s s' M [] reply (Replies.Refused (Faults.PageFault t.page)) t.said (page t.page) (makes_none s s' t.same)
+        makes_told s s' M [] reply (Replies.Refused (Faults.PageFault t.page)) t.said (page t.page) (makes_gap s s' t.others t.is_gap t.seen)
 
     -- where a gap finished the version, the finish isn't the session's
     told_if : (M : Reply → List Event) (b : Bool) (version : ℕ) (done : Reply) → M done ≡ Events.Assign s.caller blob place bytes ∷ Events.Finish s.caller blob version ∷ []
@@ -281,15 +320,25 @@ module _ (s s' : Session) where
         makes_told s s' (start_made s.caller blob place bytes) _ reply (started s.next t.version t.at t.size) t.said (numbered s.next t.version t.at t.size)
         (makes_holds s s' _ _ blob t.version t.seen (kept_events t.others [] t.is_gap tt))
 
-    update_makes : (done : ℕ → ℕ → ℕ → Reply) (reply : Reply)
+    whole_makes : (done : ℕ → ℕ → ℕ → Reply) (started : ℕ → ℕ → ℕ → ℕ → Reply) (reply : Reply)
         → ((version at size : ℕ) → update_made s.caller blob place bytes (done version at size) ≡ Events.Assign s.caller blob place bytes ∷ Events.Finish s.caller blob version ∷ [])
-        → Unless (update_fault s bytes) s reply s' (UpdateAnswer AllOther s blob place bytes (Updated AllOther s blob place bytes done reply s') reply s')
+        → ((ticket version at size : ℕ) → update_made s.caller blob place bytes (started ticket version at size) ≡ Events.Assign s.caller blob place bytes ∷ [])
+        → WholeUpdate AllOther s blob place bytes done started reply s' → Makes s (update_made s.caller blob place bytes reply) s'
+    whole_makes done started reply whole numbered (WholeUpdate.updated t) = updated_makes done reply whole t
+    whole_makes done started reply whole numbered (WholeUpdate.held_back t) =
+        makes_told s s' (update_made s.caller blob place bytes) _ reply (started s.next t.version t.at t.size) t.said (numbered s.next t.version t.at t.size)
+        (makes_holds s s' _ _ blob t.version t.seen (kept_events t.others t.later t.is_gap t.is_gap_later))
+
+    update_makes : (done : ℕ → ℕ → ℕ → Reply) (started : ℕ → ℕ → ℕ → ℕ → Reply) (reply : Reply)
+        → ((version at size : ℕ) → update_made s.caller blob place bytes (done version at size) ≡ Events.Assign s.caller blob place bytes ∷ Events.Finish s.caller blob version ∷ [])
+        → ((ticket version at size : ℕ) → update_made s.caller blob place bytes (started ticket version at size) ≡ Events.Assign s.caller blob place bytes ∷ [])
+        → Unless (update_fault s bytes) s reply s' (UpdateAnswer AllOther s blob place bytes (WholeUpdate AllOther s blob place bytes done started reply s') reply s')
         → Makes s (update_made s.caller blob place bytes reply) s'
-    update_makes done reply whole u =
+    update_makes done started reply whole numbered u =
         let M : Reply → List Event = λ r. update_made s.caller blob place bytes r in
         unless_makes (update_fault s bytes) M reply _ (own_faults (λ fault. M (Replies.Refused fault) ≡ []) s bytes refl (λ n. refl) refl)
         (any_update_makes M _ reply (λ refusal others e. update_refused s.caller blob place bytes (store_at s others) refusal e) refl (λ page. refl) (λ ticket. refl)
-        (updated_makes done reply whole)) u
+        (whole_makes done started reply whole numbered)) u
 
     start_makes : (started : ℕ → ℕ → ℕ → ℕ → Reply) (reply : Reply)
         → ((ticket version at size : ℕ) → start_made s.caller blob place bytes (started ticket version at size) ≡ Events.Assign s.caller blob place bytes ∷ [])
@@ -307,8 +356,8 @@ read_none s s' None reply Answer f u = f u
 
 pub answer_makes : (s : Session) (request : Request) (reply : Reply) (s' : Session) → Answers AllOther s request reply s' → Makes s (events_made s request reply) s'
 answer_makes s Requests.Create reply s' a = create_makes s s' reply a
-answer_makes s (Requests.Append blob bytes) reply s' a = update_makes s s' blob Append bytes _ reply (λ v at z. refl) a
-answer_makes s (Requests.Write blob offset bytes) reply s' a = update_makes s s' blob (WriteAt offset) bytes _ reply (λ v at z. refl) a
+answer_makes s (Requests.Append blob bytes) reply s' a = update_makes s s' blob Append bytes _ _ reply (λ v at z. refl) (λ t v at z. refl) a
+answer_makes s (Requests.Write blob offset bytes) reply s' a = update_makes s s' blob (WriteAt offset) bytes _ _ reply (λ v at z. refl) (λ t v at z. refl) a
 answer_makes s (Requests.StartAppend blob bytes) reply s' a = start_makes s s' blob Append bytes _ reply (λ t v at z. refl) a
 answer_makes s (Requests.StartWrite blob offset bytes) reply s' a = start_makes s s' blob (WriteAt offset) bytes _ reply (λ t v at z. refl) a
 answer_makes s (Requests.Finish number) reply s' a = finish_makes s s' number (ticket_at s.tickets number) reply a
@@ -318,6 +367,9 @@ answer_makes s (Requests.Size blob version) reply s' a = look_makes s s' (Calls.
 answer_makes s (Requests.Sync blob version) reply s' a = look_makes s s' (Calls.Sync blob version) reply a
 answer_makes s (Requests.Status blob) reply s' a = look_makes s s' (Calls.Status blob) reply a
 answer_makes s (Requests.Branch blob version) reply s' a = branch_makes s s' blob version reply a
+answer_makes s (Requests.Hello version) reply s' a = makes_takes s s' max_update_greater a.1
+answer_makes s (Requests.ReadMany blob version ranges) reply s' a = read_none s s' (ranges_fault 0 ranges) reply _ (many_makes s s' blob version ranges reply) a
+answer_makes s (Requests.Repair blob version) reply s' a = repair_makes s s' blob version reply a
 answer_makes s Requests.Quit reply s' a = makes_none s s' a.1
 
 item_makes : (s : Session) (item : Heard) (reply : Reply) (s' : Session) → ItemReply AllOther s item reply s' → Makes s (item_made s item reply) s'

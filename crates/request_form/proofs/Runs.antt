@@ -1,7 +1,5 @@
 -- How runs go on, that there is always one, and when a run is alone.
-use Rattle.std.proofs.Common.{◌≡◌, ℕ, ◌==◌, nat_lt, Bool, true, false, if◌then◌else◌, ◌||◌, List, [], ◌∷◌, ◌++◌, length, refl, sym, ◌∙◌, ap, subst, append_assoc, append-nil, arith}
-use Rattle.std.proofs.lemmas.Bool.{false≢true}
-use Rattle.std.proofs.lemmas.List.Sums.{sum_by-cons}
+use Rattle.std.proofs.Common.{◌≡◌, ℕ, ◌+◌, ◌==◌, nat_lt, Bool, true, false, if◌then◌else◌, List, [], ◌∷◌, ◌++◌, length, refl, sym, ◌∙◌, ap, subst, append_assoc, append-nil, zero-add}
 use Rattle.std.specs.Prelude.{Option, Some, None, IfSome}
 use Rattle.blob_model.specs.declared.call.Event.{Event}
 use Rattle.blob_model.specs.declared.call.Place.{Place}
@@ -21,12 +19,12 @@ use Rattle.request_form.specs.declared.form.Heard.TheVariants.{Asked, Wrong}
 use Rattle.request_form.specs.declared.form.Fault.{Fault}
 use Rattle.request_form.specs.declared.form.Fault.TheVariants as Faults
 use Rattle.blob_model.specs.History.{AllOther}
-use Rattle.request_form.specs.Session.{Session, HeldTicket, sees, holds, ticket_at, drops, AllOwn, IsNobody}
+use Rattle.request_form.specs.Session.{Session, HeldTicket, sees, holds, ticket_at, drops, lets_go, takes_up_to, AllOwn, IsNobody}
 use Rattle.request_form.specs.Replies.{fault_of, reply_of, page_faults, fault_count}
 use Rattle.request_form.specs.Stream.{IsWellHeard, AllWellHeard}
 use Rattle.request_form.specs.Session.{outcome_at}
-use Rattle.request_form.specs.Answers.{Gap, Answers, Unless, Refused, OutOfMemory, Created, Updated, Started, TicketKept, Reported, FoundFinished, Branched, Content, PageNotRead, CreateAnswer, UpdateAnswer, ReportAnswer, FinishAnswer, BranchAnswer, ReadAnswer, LookAnswer, update_fault, read_fault, max_update, max_read, max_tickets}
-use Rattle.request_form.specs.Transcript.{Run, ItemReply, is_last, until_quit, has_quit, faults_of}
+use Rattle.request_form.specs.Answers.{Gap, Answers, Unless, Refused, OutOfMemory, Created, Updated, HeldBack, Started, TicketKept, PageNotStored, Reported, FoundFinished, FoldWaits, PageNotFolded, Branched, Content, PageNotRead, Contents, RangeRefused, PageOfRangeNotRead, Repaired, FoundRepaired, NoneToRepair, CreateAnswer, UpdateAnswer, WholeUpdate, FinishHindered, ReportAnswer, FinishAnswer, BranchAnswer, ReadAnswer, ReadManyAnswer, RepairAnswer, LookAnswer, update_fault, read_fault, ranges_fault, answer_faults, max_update_greater, max_read, max_tickets}
+use Rattle.request_form.specs.Transcript.{Run, ItemReply, is_last, until_quit, item_faults, faults_of}
 
 -- some answer of a request, or of an item, for which the outside didn't fail
 record SomeReply (Answer : Reply → Session → Type 0) : Type 0 where
@@ -34,6 +32,20 @@ record SomeReply (Answer : Reply → Session → Type 0) : Type 0 where
   pub next : Session
   pub is : Answer reply next
   pub calm : fault_count reply ≡ 0
+
+-- some refusal of it
+record SomeRefusal (Answer : Reply → Session → Type 0) : Type 0 where
+  pub fault : Fault
+  pub next : Session
+  pub is : Answer (Replies.Refused fault) next
+  pub calm : page_faults fault ≡ 0
+
+-- some answer of a request
+record SomeAnswer (s : Session) (request : Request) : Type 0 where
+  pub reply : Reply
+  pub next : Session
+  pub is : Answers IsNobody s request reply next
+  pub calm : answer_faults next request reply ≡ 0
 
 -- that fault, where there is one, is none of the outside
 abbrev IsCalm : Option Fault → Type 0
@@ -45,10 +57,14 @@ calm_if false fault o h k = k
 
 update_calm : (s : Session) (bytes : List ℕ) → IsCalm (update_fault s bytes)
 update_calm s bytes =
-    calm_if (length bytes == 0) _ _ refl (calm_if (nat_lt max_update (length bytes)) _ _ refl (calm_if (length s.tickets == max_tickets) _ _ refl tt))
+    calm_if (length bytes == 0) _ _ refl (calm_if (nat_lt s.limit (length bytes)) _ _ refl (calm_if (length s.tickets == max_tickets) _ _ refl tt))
 
 read_calm : (count : ℕ) → IsCalm (read_fault count)
 read_calm count = calm_if (nat_lt max_read count) _ _ refl tt
+
+ranges_calm : (sum : ℕ) (ranges : List (ℕ × ℕ)) → IsCalm (ranges_fault sum ranges)
+ranges_calm sum [] = tt
+ranges_calm sum (range ∷ ranges) = calm_if (nat_lt max_read (sum + range.1)) _ _ refl (ranges_calm (sum + range.1) ranges)
 
 refusal_calm : (refusal : Refusal) → page_faults (fault_of refusal) ≡ 0
 refusal_calm (Refusals.NoBlob blob) = refl
@@ -81,51 +97,80 @@ unless_possible None s Answer calm p = p
 out_of_memory_here : (s : Session) → OutOfMemory IsNobody s (Replies.Refused Faults.NoMemory) (sees s [])
 out_of_memory_here s = record { others = []; is_gap = refl; said = refl; seen = refl }
 
+refusal_possible : (o : Option Fault) (s : Session) (Answer : Reply → Session → Type 0) → IsCalm o →
+    SomeRefusal Answer → SomeRefusal (λ (r : Reply) (s' : Session). Unless o s r s' (Answer r s'))
+refusal_possible (Some fault) s Answer calm p = record { fault = fault; next = s; is = (refl, refl); calm = calm }
+refusal_possible None s Answer calm p = p
+
 -- an update for which no memory is found, whatever it would do
 update_possible : (s : Session) (blob : ℕ) (place : Place) (bytes : List ℕ) (Does : Reply → Session → Type 0) →
-    SomeReply (λ (r : Reply) (s' : Session). Unless (update_fault s bytes) s r s' (UpdateAnswer IsNobody s blob place bytes (Does r s') r s'))
+    SomeRefusal (λ (r : Reply) (s' : Session). Unless (update_fault s bytes) s r s' (UpdateAnswer IsNobody s blob place bytes (Does r s') r s'))
 update_possible s blob place bytes Does =
-    unless_possible (update_fault s bytes) s
+    refusal_possible (update_fault s bytes) s
     (λ (r : Reply) (s' : Session). UpdateAnswer IsNobody s blob place bytes (Does r s') r s')
     (update_calm s bytes)
-    (record { reply = Replies.Refused Faults.NoMemory; next = sees s []; is = UpdateAnswer.out_of_memory (out_of_memory_here s); calm = refl })
+    (record { fault = Faults.NoMemory; next = sees s []; is = UpdateAnswer.out_of_memory (out_of_memory_here s); calm = refl })
 
 finish_possible : (s : Session) (number : ℕ) (ticket : Option HeldTicket) → SomeReply (λ (r : Reply) (s' : Session). FinishAnswer IsNobody s number ticket r s')
 finish_possible s number None = record { reply = Replies.Refused (Faults.NoTicket number); next = s; is = (refl, refl); calm = refl }
 finish_possible s number (Some ticket) =
-    record { reply = Replies.Refused Faults.NoMemory; next = sees s []; is = ReportAnswer.out_of_memory (out_of_memory_here s); calm = refl }
+    record { reply = Replies.Refused Faults.NoMemory; next = sees s []; is = ReportAnswer.hindered (FinishHindered.out_of_memory (out_of_memory_here s)); calm = refl }
 
 look_possible : (s : Session) (call : Call) → SomeReply (λ (r : Reply) (s' : Session). LookAnswer IsNobody s call r s')
 look_possible s call =
     record { reply = reply_of (outcome_at s [] call); next = sees s []; is = record { others = []; is_gap = refl; said = refl; seen = refl }; calm = outcome_calm (outcome_at s [] call) }
 
-answer_possible : (s : Session) (request : Request) → SomeReply (λ (r : Reply) (s' : Session). Answers IsNobody s request r s')
+-- an answer of a request, whose reply tells how often the outside failed
+told_possible : (s : Session) (request : Request) → ((next : Session) (reply : Reply) → answer_faults next request reply ≡ fault_count reply)
+    → SomeReply (λ (r : Reply) (s' : Session). Answers IsNobody s request r s') → SomeAnswer s request
+told_possible s request told p = record { reply = p.reply; next = p.next; is = p.is; calm = told p.next p.reply ∙ p.calm }
+
+-- and one that is refused
+refused_possible : (s : Session) (request : Request) → ((next : Session) (fault : Fault) → answer_faults next request (Replies.Refused fault) ≡ page_faults fault)
+    → SomeRefusal (λ (r : Reply) (s' : Session). Answers IsNobody s request r s') → SomeAnswer s request
+refused_possible s request told p = record { reply = Replies.Refused p.fault; next = p.next; is = p.is; calm = told p.next p.fault ∙ p.calm }
+
+answer_possible : (s : Session) (request : Request) → SomeAnswer s request
 answer_possible s Requests.Create =
     record { reply = Replies.Refused Faults.NoMemory; next = sees s []; is = CreateAnswer.out_of_memory (out_of_memory_here s); calm = refl }
 answer_possible s (Requests.Append blob bytes) =
-    update_possible s blob Append bytes
-    (λ (r : Reply) (s' : Session). Updated IsNobody s blob Append bytes (λ (v : ℕ) (a : ℕ) (z : ℕ). Replies.Appended v a z) r s')
+    refused_possible s (Requests.Append blob bytes) (λ next fault. refl)
+    (update_possible s blob Append bytes
+    (λ (r : Reply) (s' : Session). WholeUpdate IsNobody s blob Append bytes (λ (v : ℕ) (a : ℕ) (z : ℕ). Replies.Appended v a z) (λ (t : ℕ) (v : ℕ) (a : ℕ) (z : ℕ). Replies.AppendStarted t v a z) r s'))
 answer_possible s (Requests.Write blob offset bytes) =
-    update_possible s blob (WriteAt offset) bytes
-    (λ (r : Reply) (s' : Session). Updated IsNobody s blob (WriteAt offset) bytes (λ (v : ℕ) (a : ℕ) (z : ℕ). Replies.Wrote v a z) r s')
+    refused_possible s (Requests.Write blob offset bytes) (λ next fault. refl)
+    (update_possible s blob (WriteAt offset) bytes
+    (λ (r : Reply) (s' : Session). WholeUpdate IsNobody s blob (WriteAt offset) bytes (λ (v : ℕ) (a : ℕ) (z : ℕ). Replies.Wrote v a z) (λ (t : ℕ) (v : ℕ) (a : ℕ) (z : ℕ). Replies.WriteStarted t v a z) r s'))
 answer_possible s (Requests.StartAppend blob bytes) =
-    update_possible s blob Append bytes
-    (λ (r : Reply) (s' : Session). Started IsNobody s blob Append bytes (λ (t : ℕ) (v : ℕ) (a : ℕ) (z : ℕ). Replies.AppendStarted t v a z) r s')
+    refused_possible s (Requests.StartAppend blob bytes) (λ next fault. refl)
+    (update_possible s blob Append bytes
+    (λ (r : Reply) (s' : Session). Started IsNobody s blob Append bytes (λ (t : ℕ) (v : ℕ) (a : ℕ) (z : ℕ). Replies.AppendStarted t v a z) r s'))
 answer_possible s (Requests.StartWrite blob offset bytes) =
-    update_possible s blob (WriteAt offset) bytes
-    (λ (r : Reply) (s' : Session). Started IsNobody s blob (WriteAt offset) bytes (λ (t : ℕ) (v : ℕ) (a : ℕ) (z : ℕ). Replies.WriteStarted t v a z) r s')
-answer_possible s (Requests.Finish number) = finish_possible s number (ticket_at s.tickets number)
+    refused_possible s (Requests.StartWrite blob offset bytes) (λ next fault. refl)
+    (update_possible s blob (WriteAt offset) bytes
+    (λ (r : Reply) (s' : Session). Started IsNobody s blob (WriteAt offset) bytes (λ (t : ℕ) (v : ℕ) (a : ℕ) (z : ℕ). Replies.WriteStarted t v a z) r s'))
+answer_possible s (Requests.Finish number) = told_possible s (Requests.Finish number) (λ next reply. refl) (finish_possible s number (ticket_at s.tickets number))
 answer_possible s (Requests.Read blob version offset count) =
-    unless_possible (read_fault count) s
+    told_possible s (Requests.Read blob version offset count) (λ next reply. refl)
+    (unless_possible (read_fault count) s
     (λ (r : Reply) (s' : Session). ReadAnswer IsNobody s blob version offset count r s')
     (read_calm count)
-    (record { reply = Replies.Refused Faults.NoMemory; next = sees s []; is = ReadAnswer.out_of_memory (out_of_memory_here s); calm = refl })
-answer_possible s (Requests.Recent blob) = look_possible s (Calls.Recent blob)
-answer_possible s (Requests.Size blob version) = look_possible s (Calls.Size blob version)
-answer_possible s (Requests.Sync blob version) = look_possible s (Calls.Sync blob version)
-answer_possible s (Requests.Status blob) = look_possible s (Calls.Status blob)
+    (record { reply = Replies.Refused Faults.NoMemory; next = sees s []; is = ReadAnswer.out_of_memory (out_of_memory_here s); calm = refl }))
+answer_possible s (Requests.Recent blob) = told_possible s (Requests.Recent blob) (λ next reply. refl) (look_possible s (Calls.Recent blob))
+answer_possible s (Requests.Size blob version) = told_possible s (Requests.Size blob version) (λ next reply. refl) (look_possible s (Calls.Size blob version))
+answer_possible s (Requests.Sync blob version) = told_possible s (Requests.Sync blob version) (λ next reply. refl) (look_possible s (Calls.Sync blob version))
+answer_possible s (Requests.Status blob) = told_possible s (Requests.Status blob) (λ next reply. refl) (look_possible s (Calls.Status blob))
 answer_possible s (Requests.Branch blob version) =
     record { reply = Replies.Refused Faults.NoMemory; next = sees s []; is = BranchAnswer.out_of_memory (out_of_memory_here s); calm = refl }
+answer_possible s (Requests.Hello version) = record { reply = Replies.HelloIs 2; next = takes_up_to s max_update_greater; is = (refl, refl); calm = refl }
+answer_possible s (Requests.ReadMany blob version ranges) =
+    told_possible s (Requests.ReadMany blob version ranges) (λ next reply. refl)
+    (unless_possible (ranges_fault 0 ranges) s
+    (λ (r : Reply) (s' : Session). ReadManyAnswer IsNobody s blob version ranges r s')
+    (ranges_calm 0 ranges)
+    (record { reply = Replies.Refused Faults.NoMemory; next = sees s []; is = ReadManyAnswer.out_of_memory (out_of_memory_here s); calm = refl }))
+answer_possible s (Requests.Repair blob version) =
+    record { reply = Replies.Refused Faults.NoMemory; next = sees s []; is = RepairAnswer.hindered (FinishHindered.out_of_memory (out_of_memory_here s)); calm = refl }
 answer_possible s Requests.Quit = record { reply = Replies.Bye; next = s; is = (refl, refl); calm = refl }
 
 -- some answer of an item, for which the outside didn't fail if the item is no fault of it
@@ -133,22 +178,20 @@ record SomeItemReply (s : Session) (h : Heard) : Type 0 where
   pub reply : Reply
   pub next : Session
   pub is : ItemReply IsNobody s h reply next
-  pub calm : IsWellHeard h → fault_count reply ≡ 0
+  pub calm : IsWellHeard h → item_faults next h reply ≡ 0
 
 item_possible : (s : Session) (h : Heard) → SomeItemReply s h
 item_possible s (Asked request) = let p = answer_possible s request in record { reply = p.reply; next = p.next; is = p.is; calm = λ well. p.calm }
 item_possible s (Wrong fault) = record { reply = Replies.Refused fault; next = s; is = (refl, refl); calm = λ well. well }
 
-none_more : (r : Reply) (rs : List Reply) → fault_count r ≡ 0 → faults_of rs ≡ 0 → faults_of (r ∷ rs) ≡ 0
-none_more r rs h k = sum_by-cons fault_count r rs ∙ omega (arith, h, k)
-
 -- Each list of items has a run with nobody else there, in which the outside failed for no request.
-pub run_possible : (s : Session) (hs : List Heard) → (rs : List Reply) × ((s' : Session) × Run IsNobody s hs rs s' × (AllWellHeard hs → faults_of rs ≡ 0))
-run_possible s [] = ([], (s, refl, λ well. refl))
+pub run_possible : (s : Session) (hs : List Heard)
+    → (rs : List Reply) × ((s' : Session) × ((run : Run IsNobody s hs rs s') × (AllWellHeard hs → faults_of IsNobody s hs rs s' run ≡ 0)))
+run_possible s [] = ([], (s, (refl, λ well. refl)))
 run_possible s (h ∷ hs) =
     let p = item_possible s h in
     let q = run_possible p.next hs in
-    (p.reply ∷ q.0, (q.1.0, (p.next, p.is, q.1.1), λ well. none_more p.reply q.0 (p.calm well.0) (q.1.2 well.1)))
+    (p.reply ∷ q.0, (q.1.0, ((p.next, p.is, q.1.1.0), λ well. let first : item_faults p.next h p.reply ≡ 0 = p.calm well.0 in rw first (rw (zero-add (faults_of IsNobody p.next hs q.0 q.1.0 q.1.1.0)) (q.1.1.1 well.1)))))
 
 well_if : (b : Bool) (hs : List Heard) → AllWellHeard hs → AllWellHeard (if b then [] else hs)
 well_if true hs well = tt
@@ -207,6 +250,122 @@ module _ (gap gap' : Gap) (s s' : Session) (also : (others : List Event) → Sta
         at = t.at;
         size = t.size;
         numbered = t.numbered;
+        said = t.said;
+        seen = t.seen;
+      }
+
+  HeldBack-gap : (blob : ℕ) (place : Place) (bytes : List ℕ) (started : ℕ → ℕ → ℕ → ℕ → Reply) (reply : Reply) →
+      HeldBack gap s blob place bytes started reply s' → HeldBack gap' s blob place bytes started reply s'
+  HeldBack-gap blob place bytes started reply t =
+      let e = ap (λ (x : Session). x.seen) t.seen in
+      record {
+        others = t.others;
+        later = t.later;
+        is_gap = also t.others (first _ _ e) t.is_gap;
+        is_gap_later = also t.later (last _ _ _ e) t.is_gap_later;
+        version = t.version;
+        at = t.at;
+        size = t.size;
+        numbered = t.numbered;
+        unfinished = t.unfinished;
+        folds = t.folds;
+        said = t.said;
+        seen = t.seen;
+      }
+
+  PageNotStored-gap : (bytes : List ℕ) (reply : Reply) → PageNotStored gap s bytes reply s' → PageNotStored gap' s bytes reply s'
+  PageNotStored-gap bytes reply t =
+      record { others = t.others; is_gap = also t.others (alone _ (ap (λ (x : Session). x.seen) t.seen)) t.is_gap; page = t.page; is_page = t.is_page; said = t.said; seen = t.seen }
+
+  FoldWaits-gap : (blob version : ℕ) (reply : Reply) → FoldWaits gap s blob version reply s' → FoldWaits gap' s blob version reply s'
+  FoldWaits-gap blob version reply t =
+      record {
+        others = t.others;
+        is_gap = also t.others (alone _ (ap (λ (x : Session). x.seen) t.seen)) t.is_gap;
+        held = t.held;
+        unfinished = t.unfinished;
+        folds = t.folds;
+        waits = t.waits;
+        said = t.said;
+        seen = t.seen;
+      }
+
+  PageNotFolded-gap : (blob version : ℕ) (reply : Reply) → PageNotFolded gap s blob version reply s' → PageNotFolded gap' s blob version reply s'
+  PageNotFolded-gap blob version reply t =
+      record {
+        others = t.others;
+        is_gap = also t.others (alone _ (ap (λ (x : Session). x.seen) t.seen)) t.is_gap;
+        page = t.page;
+        unfinished = t.unfinished;
+        folds = t.folds;
+        ready = t.ready;
+        said = t.said;
+        seen = t.seen;
+      }
+
+  Contents-gap : (blob version : ℕ) (ranges : List (ℕ × ℕ)) (reply : Reply) → Contents gap s blob version ranges reply s' → Contents gap' s blob version ranges reply s'
+  Contents-gap blob version ranges reply t =
+      record { others = t.others; is_gap = also t.others (alone _ (ap (λ (x : Session). x.seen) t.seen)) t.is_gap; bytes = t.bytes; done = t.done; said = t.said; seen = t.seen }
+
+  RangeRefused-gap : (blob version : ℕ) (ranges : List (ℕ × ℕ)) (reply : Reply) → RangeRefused gap s blob version ranges reply s' → RangeRefused gap' s blob version ranges reply s'
+  RangeRefused-gap blob version ranges reply t =
+      record {
+        others = t.others;
+        is_gap = also t.others (alone _ (ap (λ (x : Session). x.seen) t.seen)) t.is_gap;
+        before = t.before;
+        range = t.range;
+        after = t.after;
+        bytes = t.bytes;
+        joins = t.joins;
+        first = t.first;
+        refusal = t.refusal;
+        refused = t.refused;
+        said = t.said;
+        seen = t.seen;
+      }
+
+  PageOfRangeNotRead-gap : (blob version : ℕ) (ranges : List (ℕ × ℕ)) (reply : Reply) →
+      PageOfRangeNotRead gap s blob version ranges reply s' → PageOfRangeNotRead gap' s blob version ranges reply s'
+  PageOfRangeNotRead-gap blob version ranges reply t =
+      record {
+        others = t.others;
+        is_gap = also t.others (alone _ (ap (λ (x : Session). x.seen) t.seen)) t.is_gap;
+        bytes = t.bytes;
+        would = t.would;
+        range = t.range;
+        among = t.among;
+        some = t.some;
+        page = t.page;
+        begins = t.begins;
+        ends = t.ends;
+        said = t.said;
+        seen = t.seen;
+      }
+
+  Repaired-gap : (blob version : ℕ) (reply : Reply) → Repaired gap s blob version reply s' → Repaired gap' s blob version reply s'
+  Repaired-gap blob version reply t =
+      record {
+        others = t.others;
+        is_gap = also t.others (first _ _ (ap (λ (x : Session). x.seen) t.seen)) t.is_gap;
+        published = t.published;
+        may = t.may;
+        done = t.done;
+        said = t.said;
+        seen = t.seen;
+      }
+
+  FoundRepaired-gap : (blob version : ℕ) (reply : Reply) → FoundRepaired gap s blob version reply s' → FoundRepaired gap' s blob version reply s'
+  FoundRepaired-gap blob version reply t =
+      record { others = t.others; is_gap = also t.others (alone _ (ap (λ (x : Session). x.seen) t.seen)) t.is_gap; refused = t.refused; said = t.said; seen = t.seen }
+
+  NoneToRepair-gap : (blob version : ℕ) (reply : Reply) → NoneToRepair gap s blob version reply s' → NoneToRepair gap' s blob version reply s'
+  NoneToRepair-gap blob version reply t =
+      record {
+        others = t.others;
+        is_gap = also t.others (alone _ (ap (λ (x : Session). x.seen) t.seen)) t.is_gap;
+        refusal = t.refusal;
+        refused = t.refused;
+        other = t.other;
         said = t.said;
         seen = t.seen;
       }
@@ -280,7 +439,29 @@ module _ (gap gap' : Gap) (s s' : Session) (also : (others : List Event) → Sta
   update_gap blob place bytes reply Does Does' f (UpdateAnswer.refused t) = UpdateAnswer.refused (Refused-gap _ reply t)
   update_gap blob place bytes reply Does Does' f (UpdateAnswer.out_of_memory t) = UpdateAnswer.out_of_memory (OutOfMemory-gap reply t)
   update_gap blob place bytes reply Does Does' f (UpdateAnswer.kept t) = UpdateAnswer.kept (TicketKept-gap blob place bytes reply t)
-  update_gap blob place bytes reply Does Does' f (UpdateAnswer.not_stored t) = UpdateAnswer.not_stored t
+  update_gap blob place bytes reply Does Does' f (UpdateAnswer.not_stored t) = UpdateAnswer.not_stored (PageNotStored-gap bytes reply t)
+
+  whole_gap : (blob : ℕ) (place : Place) (bytes : List ℕ) (done : ℕ → ℕ → ℕ → Reply) (started : ℕ → ℕ → ℕ → ℕ → Reply) (reply : Reply) →
+      WholeUpdate gap s blob place bytes done started reply s' → WholeUpdate gap' s blob place bytes done started reply s'
+  whole_gap blob place bytes done started reply (WholeUpdate.updated t) = WholeUpdate.updated (Updated-gap blob place bytes done reply t)
+  whole_gap blob place bytes done started reply (WholeUpdate.held_back t) = WholeUpdate.held_back (HeldBack-gap blob place bytes started reply t)
+
+  hindered_gap : (blob version : ℕ) (reply : Reply) → FinishHindered gap s blob version reply s' → FinishHindered gap' s blob version reply s'
+  hindered_gap blob version reply (FinishHindered.out_of_memory t) = FinishHindered.out_of_memory (OutOfMemory-gap reply t)
+  hindered_gap blob version reply (FinishHindered.waits t) = FinishHindered.waits (FoldWaits-gap blob version reply t)
+  hindered_gap blob version reply (FinishHindered.not_folded t) = FinishHindered.not_folded (PageNotFolded-gap blob version reply t)
+
+  many_gap : (blob version : ℕ) (ranges : List (ℕ × ℕ)) (reply : Reply) → ReadManyAnswer gap s blob version ranges reply s' → ReadManyAnswer gap' s blob version ranges reply s'
+  many_gap blob version ranges reply (ReadManyAnswer.contents t) = ReadManyAnswer.contents (Contents-gap _ _ _ reply t)
+  many_gap blob version ranges reply (ReadManyAnswer.refused t) = ReadManyAnswer.refused (RangeRefused-gap _ _ _ reply t)
+  many_gap blob version ranges reply (ReadManyAnswer.out_of_memory t) = ReadManyAnswer.out_of_memory (OutOfMemory-gap reply t)
+  many_gap blob version ranges reply (ReadManyAnswer.not_read t) = ReadManyAnswer.not_read (PageOfRangeNotRead-gap _ _ _ reply t)
+
+  repair_gap : (blob version : ℕ) (reply : Reply) → RepairAnswer gap s blob version reply s' → RepairAnswer gap' s blob version reply s'
+  repair_gap blob version reply (RepairAnswer.repaired t) = RepairAnswer.repaired (Repaired-gap _ _ reply t)
+  repair_gap blob version reply (RepairAnswer.finished t) = RepairAnswer.finished (FoundRepaired-gap _ _ reply t)
+  repair_gap blob version reply (RepairAnswer.refused t) = RepairAnswer.refused (NoneToRepair-gap _ _ reply t)
+  repair_gap blob version reply (RepairAnswer.hindered t) = RepairAnswer.hindered (hindered_gap _ _ reply t)
 
   read_gap : (blob version offset count : ℕ) (reply : Reply) → ReadAnswer gap s blob version offset count reply s' → ReadAnswer gap' s blob version offset count reply s'
   read_gap blob version offset count reply (ReadAnswer.content t) = ReadAnswer.content (Content-gap _ _ _ _ reply t)
@@ -292,7 +473,7 @@ module _ (gap gap' : Gap) (s s' : Session) (also : (others : List Event) → Sta
   finish_gap number None reply a = a
   finish_gap number (Some ticket) reply (ReportAnswer.reported t) = ReportAnswer.reported (Reported-gap ticket reply t)
   finish_gap number (Some ticket) reply (ReportAnswer.finished t) = ReportAnswer.finished (FoundFinished-gap ticket reply t)
-  finish_gap number (Some ticket) reply (ReportAnswer.out_of_memory t) = ReportAnswer.out_of_memory (OutOfMemory-gap reply t)
+  finish_gap number (Some ticket) reply (ReportAnswer.hindered t) = ReportAnswer.hindered (hindered_gap ticket.blob ticket.version reply t)
 
   look_gap : (call : Call) (reply : Reply) → LookAnswer gap s call reply s' → LookAnswer gap' s call reply s'
   look_gap call reply t =
@@ -310,9 +491,9 @@ module _ (gap gap' : Gap) (s s' : Session) (also : (others : List Event) → Sta
   pub Answers-gap : (request : Request) (reply : Reply) → Answers gap s request reply s' → Answers gap' s request reply s'
   Answers-gap Requests.Create reply a = create_gap reply a
   Answers-gap (Requests.Append blob bytes) reply a =
-      unless_gap (update_fault s bytes) reply _ _ (update_gap blob Append bytes reply _ _ (Updated-gap _ _ _ _ reply)) a
+      unless_gap (update_fault s bytes) reply _ _ (update_gap blob Append bytes reply _ _ (whole_gap _ _ _ _ _ reply)) a
   Answers-gap (Requests.Write blob offset bytes) reply a =
-      unless_gap (update_fault s bytes) reply _ _ (update_gap blob (WriteAt offset) bytes reply _ _ (Updated-gap _ _ _ _ reply)) a
+      unless_gap (update_fault s bytes) reply _ _ (update_gap blob (WriteAt offset) bytes reply _ _ (whole_gap _ _ _ _ _ reply)) a
   Answers-gap (Requests.StartAppend blob bytes) reply a =
       unless_gap (update_fault s bytes) reply _ _ (update_gap blob Append bytes reply _ _ (Started-gap _ _ _ _ reply)) a
   Answers-gap (Requests.StartWrite blob offset bytes) reply a =
@@ -324,6 +505,9 @@ module _ (gap gap' : Gap) (s s' : Session) (also : (others : List Event) → Sta
   Answers-gap (Requests.Sync blob version) reply a = look_gap (Calls.Sync blob version) reply a
   Answers-gap (Requests.Status blob) reply a = look_gap (Calls.Status blob) reply a
   Answers-gap (Requests.Branch blob version) reply a = branch_gap blob version reply a
+  Answers-gap (Requests.Hello version) reply a = a
+  Answers-gap (Requests.ReadMany blob version ranges) reply a = unless_gap (ranges_fault 0 ranges) reply _ _ (many_gap _ _ _ reply) a
+  Answers-gap (Requests.Repair blob version) reply a = repair_gap blob version reply a
   Answers-gap Requests.Quit reply a = a
 
   pub ItemReply-gap : (h : Heard) (reply : Reply) → ItemReply gap s h reply s' → ItemReply gap' s h reply s'
@@ -349,6 +533,13 @@ grows_holds s s' more blob version e = record { fixed = ap (λ (x : Session). x.
 grows_drops : (s s' : Session) (more : List Event) (number : ℕ) → s' ≡ drops (sees s more) number → Grows s s'
 grows_drops s s' more number e = record { fixed = ap (λ (x : Session). x.fixed) e; caller = ap (λ (x : Session). x.caller) e; more = more; seen = ap (λ (x : Session). x.seen) e }
 
+grows_lets_go : (s s' : Session) (more : List Event) (blob version : ℕ) → s' ≡ lets_go (sees s more) blob version → Grows s s'
+grows_lets_go s s' more blob version e = record { fixed = ap (λ (x : Session). x.fixed) e; caller = ap (λ (x : Session). x.caller) e; more = more; seen = ap (λ (x : Session). x.seen) e }
+
+grows_takes : (s s' : Session) (limit : ℕ) → s' ≡ takes_up_to s limit → Grows s s'
+grows_takes s s' limit e =
+    record { fixed = ap (λ (x : Session). x.fixed) e; caller = ap (λ (x : Session). x.caller) e; more = []; seen = simp append-nil (ap (λ (x : Session). x.seen) e) }
+
 pub Grows-trans : (s mid s' : Session) → Grows s mid → Grows mid s' → Grows s s'
 Grows-trans s mid s' a b = record {
   fixed = b.fixed ∙ a.fixed;
@@ -364,7 +555,7 @@ module _ (gap : Gap) (s s' : Session) where
   update_grows blob place bytes reply Does f (UpdateAnswer.refused t) = grows_sees s s' _ t.seen
   update_grows blob place bytes reply Does f (UpdateAnswer.out_of_memory t) = grows_sees s s' _ t.seen
   update_grows blob place bytes reply Does f (UpdateAnswer.kept t) = grows_holds s s' _ blob t.version t.seen
-  update_grows blob place bytes reply Does f (UpdateAnswer.not_stored t) = grows_none s s' t.same
+  update_grows blob place bytes reply Does f (UpdateAnswer.not_stored t) = grows_sees s s' _ t.seen
 
   create_grows : (reply : Reply) → CreateAnswer gap s reply s' → Grows s s'
   create_grows reply (CreateAnswer.created t) = grows_sees s s' _ t.seen
@@ -377,11 +568,28 @@ module _ (gap : Gap) (s s' : Session) where
   read_grows blob version offset count reply (ReadAnswer.out_of_memory t) = grows_sees s s' _ t.seen
   read_grows blob version offset count reply (ReadAnswer.not_read t) = grows_sees s s' _ t.seen
 
+  hindered_grows : (blob version : ℕ) (reply : Reply) → FinishHindered gap s blob version reply s' → Grows s s'
+  hindered_grows blob version reply (FinishHindered.out_of_memory t) = grows_sees s s' _ t.seen
+  hindered_grows blob version reply (FinishHindered.waits t) = grows_sees s s' _ t.seen
+  hindered_grows blob version reply (FinishHindered.not_folded t) = grows_sees s s' _ t.seen
+
+  many_grows : (blob version : ℕ) (ranges : List (ℕ × ℕ)) (reply : Reply) → ReadManyAnswer gap s blob version ranges reply s' → Grows s s'
+  many_grows blob version ranges reply (ReadManyAnswer.contents t) = grows_sees s s' _ t.seen
+  many_grows blob version ranges reply (ReadManyAnswer.refused t) = grows_sees s s' _ t.seen
+  many_grows blob version ranges reply (ReadManyAnswer.out_of_memory t) = grows_sees s s' _ t.seen
+  many_grows blob version ranges reply (ReadManyAnswer.not_read t) = grows_sees s s' _ t.seen
+
+  repair_grows : (blob version : ℕ) (reply : Reply) → RepairAnswer gap s blob version reply s' → Grows s s'
+  repair_grows blob version reply (RepairAnswer.repaired t) = grows_lets_go s s' _ blob version t.seen
+  repair_grows blob version reply (RepairAnswer.finished t) = grows_lets_go s s' _ blob version t.seen
+  repair_grows blob version reply (RepairAnswer.refused t) = grows_sees s s' _ t.seen
+  repair_grows blob version reply (RepairAnswer.hindered t) = hindered_grows blob version reply t
+
   finish_grows : (number : ℕ) (ticket : Option HeldTicket) (reply : Reply) → FinishAnswer gap s number ticket reply s' → Grows s s'
   finish_grows number None reply a = grows_none s s' a.1
   finish_grows number (Some ticket) reply (ReportAnswer.reported t) = grows_drops s s' _ ticket.number t.seen
   finish_grows number (Some ticket) reply (ReportAnswer.finished t) = grows_drops s s' _ ticket.number t.seen
-  finish_grows number (Some ticket) reply (ReportAnswer.out_of_memory t) = grows_sees s s' _ t.seen
+  finish_grows number (Some ticket) reply (ReportAnswer.hindered t) = hindered_grows ticket.blob ticket.version reply t
 
   look_grows : (call : Call) (reply : Reply) → LookAnswer gap s call reply s' → Grows s s'
   look_grows call reply t = grows_sees s s' _ t.seen
@@ -398,13 +606,18 @@ module _ (gap : Gap) (s s' : Session) where
   updated_grows : (blob : ℕ) (place : Place) (bytes : List ℕ) (done : ℕ → ℕ → ℕ → Reply) (reply : Reply) → Updated gap s blob place bytes done reply s' → Grows s s'
   updated_grows blob place bytes done reply t = grows_sees s s' _ t.seen
 
+  whole_grows : (blob : ℕ) (place : Place) (bytes : List ℕ) (done : ℕ → ℕ → ℕ → Reply) (started : ℕ → ℕ → ℕ → ℕ → Reply) (reply : Reply) →
+      WholeUpdate gap s blob place bytes done started reply s' → Grows s s'
+  whole_grows blob place bytes done started reply (WholeUpdate.updated t) = updated_grows blob place bytes done reply t
+  whole_grows blob place bytes done started reply (WholeUpdate.held_back t) = grows_holds s s' _ blob t.version t.seen
+
   started_grows : (blob : ℕ) (place : Place) (bytes : List ℕ) (started : ℕ → ℕ → ℕ → ℕ → Reply) (reply : Reply) → Started gap s blob place bytes started reply s' → Grows s s'
   started_grows blob place bytes started reply t = grows_holds s s' _ blob t.version t.seen
 
   pub Answers-grows : (request : Request) (reply : Reply) → Answers gap s request reply s' → Grows s s'
   Answers-grows Requests.Create reply a = create_grows reply a
-  Answers-grows (Requests.Append blob bytes) reply a = unless_grows (update_fault s bytes) reply _ (update_grows blob Append bytes reply _ (updated_grows _ _ _ _ reply)) a
-  Answers-grows (Requests.Write blob offset bytes) reply a = unless_grows (update_fault s bytes) reply _ (update_grows blob (WriteAt offset) bytes reply _ (updated_grows _ _ _ _ reply)) a
+  Answers-grows (Requests.Append blob bytes) reply a = unless_grows (update_fault s bytes) reply _ (update_grows blob Append bytes reply _ (whole_grows _ _ _ _ _ reply)) a
+  Answers-grows (Requests.Write blob offset bytes) reply a = unless_grows (update_fault s bytes) reply _ (update_grows blob (WriteAt offset) bytes reply _ (whole_grows _ _ _ _ _ reply)) a
   Answers-grows (Requests.StartAppend blob bytes) reply a = unless_grows (update_fault s bytes) reply _ (update_grows blob Append bytes reply _ (started_grows _ _ _ _ reply)) a
   Answers-grows (Requests.StartWrite blob offset bytes) reply a = unless_grows (update_fault s bytes) reply _ (update_grows blob (WriteAt offset) bytes reply _ (started_grows _ _ _ _ reply)) a
   Answers-grows (Requests.Finish number) reply a = finish_grows number (ticket_at s.tickets number) reply a
@@ -414,6 +627,9 @@ module _ (gap : Gap) (s s' : Session) where
   Answers-grows (Requests.Sync blob version) reply a = look_grows (Calls.Sync blob version) reply a
   Answers-grows (Requests.Status blob) reply a = look_grows (Calls.Status blob) reply a
   Answers-grows (Requests.Branch blob version) reply a = branch_grows blob version reply a
+  Answers-grows (Requests.Hello version) reply a = grows_takes s s' max_update_greater a.1
+  Answers-grows (Requests.ReadMany blob version ranges) reply a = unless_grows (ranges_fault 0 ranges) reply _ (many_grows _ _ _ reply) a
+  Answers-grows (Requests.Repair blob version) reply a = repair_grows blob version reply a
   Answers-grows Requests.Quit reply a = grows_none s s' a.1
 
   pub ItemReply-grows : (h : Heard) (reply : Reply) → ItemReply gap s h reply s' → Grows s s'
@@ -456,3 +672,14 @@ Run-alone s (h ∷ hs) (r ∷ rs) s' own (mid, item, rest) =
     )
 Run-alone s [] (r ∷ rs) s' own none = absurd none
 Run-alone s (h ∷ hs) [] s' own none = absurd none
+
+-- and the outside failed as often
+pub alone_faults : (s : Session) (hs : List Heard) (rs : List Reply) (s' : Session) (own : AllOwn s.caller s'.seen) (run : Run AllOther s hs rs s')
+    → faults_of IsNobody s hs rs s' (Run-alone s hs rs s' own run) ≡ faults_of AllOther s hs rs s' run
+unfolding Run-alone
+alone_faults s [] [] s' own e = refl
+alone_faults s (h ∷ hs) (r ∷ rs) s' own (mid, item, rest) =
+    let same = (ItemReply-grows AllOther s mid h r item).caller in
+    ap (λ (n : ℕ). item_faults mid h r + n) (alone_faults mid hs rs s' (subst (λ (c : ℕ). AllOwn c s'.seen) (sym same) own) rest)
+alone_faults s [] (r ∷ rs) s' own none = absurd none
+alone_faults s (h ∷ hs) [] s' own none = absurd none

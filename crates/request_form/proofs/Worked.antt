@@ -6,18 +6,18 @@ use Rattle.blob_model.specs.declared.call.Event.TheVariants as Events
 use Rattle.blob_model.specs.declared.call.Place.TheVariants.{WriteAt, Append}
 use Rattle.blob_model.specs.declared.call.Call.TheVariants as Calls
 use Rattle.request_form.specs.declared.form.Request.{Request}
-use Rattle.request_form.specs.declared.form.Request.TheVariants.{Create, Write, StartAppend, StartWrite, Finish, Read, Recent, Size, Sync, Status, Branch, Quit}
+use Rattle.request_form.specs.declared.form.Request.TheVariants.{Create, Write, StartAppend, StartWrite, Finish, Read, Recent, Size, Sync, Status, Branch, Hello, ReadMany, Repair, Quit}
 use Rattle.request_form.specs.declared.form.Request.TheVariants as Requests
 use Rattle.request_form.specs.declared.form.Reply.{Reply}
-use Rattle.request_form.specs.declared.form.Reply.TheVariants.{Created, Appended, Wrote, AppendStarted, WriteStarted, Finished, Content, RecentIs, SizeIs, Synced, StatusIs, Branched, Refused, Bye}
+use Rattle.request_form.specs.declared.form.Reply.TheVariants.{Created, Appended, Wrote, AppendStarted, WriteStarted, Finished, Content, RecentIs, SizeIs, Synced, StatusIs, Branched, HelloIs, Contents, Repaired, Refused, Bye}
 use Rattle.request_form.specs.declared.form.Heard.{Heard}
 use Rattle.request_form.specs.declared.form.Heard.TheVariants.{Asked, Wrong}
 use Rattle.request_form.specs.declared.form.Fault.TheVariants as Faults
 use Rattle.blob_model.specs.History.{AllOther}
 use Rattle.request_form.specs.Session.{Session, HeldTicket, IsNobody, sees, holds, ticket_at, without_ticket}
-use Rattle.request_form.specs.Answers.{Updated, Reported, FoundFinished, LookAnswer, update_fault}
+use Rattle.request_form.specs.Answers.{Updated, Reported, FoundFinished, LookAnswer, update_fault, ranges_fault, answer_faults, max_update}
 use Rattle.request_form.specs.Transcript.{Transcript, first_session}
-use Rattle.request_form.proofs.Told.{replies_told, told_is}
+use Rattle.request_form.proofs.Told.{replies_told, told_is, request_told}
 
 abbrev all_asked : List Request → List Heard
 all_asked [] = []
@@ -104,6 +104,24 @@ empty_updates : replies (Requests.Append 1 [] ∷ Write 1 0 [] ∷ StartAppend 1
     ∷ Refused (Faults.NoTicket 1) ∷ []
 empty_updates = refl
 
+-- many ranges of a version, in their order; the first refusal stands alone
+many_ranges : replies
+    (Hello 2 ∷ Create ∷ Requests.Append 1 (97 ∷ 98 ∷ 99 ∷ []) ∷ ReadMany 1 1 ((2, 1) ∷ (0, 2) ∷ []) ∷ ReadMany 1 1 ((2, 1) ∷ (3, 1) ∷ (4, 0) ∷ []) ∷ ReadMany 1 2 ((0, 0) ∷ []) ∷ [])
+    ≡ HelloIs 2 ∷ Created 1 ∷ Appended 1 0 3 ∷ Contents (99 ∷ 97 ∷ 98 ∷ []) ∷ Refused (Faults.RangePastSize 4 3) ∷ Refused (Faults.NotPublished 2 1) ∷ []
+many_ranges = refl
+
+-- ranges that are too long together: the first with which they are is named, by its own length
+ranges_too_long : (ranges_fault 0 ((0, 16777216) ∷ (0, 0) ∷ []) ≡ None)
+    × (ranges_fault 0 ((0, 16777215) ∷ (0, 2) ∷ (0, 9) ∷ []) ≡ Some (Faults.ReadTooLong 2))
+    × (ranges_fault 0 ((0, 1) ∷ (0, 16777216) ∷ []) ≡ Some (Faults.ReadTooLong 16777216))
+ranges_too_long = (refl, refl, refl)
+
+-- an update that its session started is finished by a repair, which gives up its ticket
+repaired_row : replies (Create ∷ StartAppend 1 (170 ∷ []) ∷ Repair 1 1 ∷ Finish 1 ∷ Repair 1 1 ∷ Repair 1 2 ∷ Repair 1 0 ∷ Repair 2 0 ∷ [])
+    ≡ Created 1 ∷ AppendStarted 1 1 0 1 ∷ Repaired 1 ∷ Refused (Faults.NoTicket 1) ∷ Refused (Faults.Already 1) ∷ Refused (Faults.NotPublished 2 1)
+    ∷ Refused (Faults.Already 0) ∷ Refused (Faults.NoBlob 2) ∷ []
+repaired_row = refl
+
 abbrev small : Bounds
 small = record { max_size = 8; max_versions = 2; max_open = 64; max_blobs = 1 }
 
@@ -135,13 +153,17 @@ ticket number = record { number = number; blob = 1; version = number }
 
 abbrev with_tickets : ℕ → Session
 with_tickets count =
-    record { fixed = record { limits = greatest; page = 4 }; caller = 1; seen = []; tickets = replicate count (ticket 1); next = count + 1 }
+    record { fixed = record { limits = greatest; page = 4 }; caller = 1; seen = []; tickets = replicate count (ticket 1); next = count + 1; limit = max_update }
 
 -- the 65th ticket is refused, and no byte and too many bytes come before it
 tickets_refuse : (update_fault (with_tickets 64) (97 ∷ []) ≡ Some Faults.TooManyTickets)
     × (update_fault (with_tickets 64) [] ≡ Some Faults.EmptyUpdate)
     × (update_fault (with_tickets 63) (97 ∷ []) ≡ None)
 tickets_refuse = (refl, refl, refl)
+
+-- how many bytes an update may have, before and after hello
+limits_of_updates : ((session_with greatest).limit ≡ 1048576) × ((request_told (session_with greatest) (Hello 2)).next.limit ≡ 16777216)
+limits_of_updates = (refl, refl)
 
 ticket_found : (ticket_at (ticket 1 ∷ ticket 3 ∷ ticket 4 ∷ []) 3 ≡ Some (ticket 3))
     × (ticket_at (ticket 1 ∷ ticket 3 ∷ []) 2 ≡ None)
@@ -160,13 +182,13 @@ started_once = holds (sees (session_with greatest) (Events.Create 1 ∷ Events.A
 
 -- another caller has finished the update: that is told, and the ticket is given up
 finished_by_another : FoundFinished AllOther started_once (ticket 1) (Refused (Faults.Already 1))
-    (record { fixed = started_once.fixed; caller = 1; seen = started_once.seen ++ Events.Finish 2 1 1 ∷ []; tickets = []; next = 2 })
+    (record { fixed = started_once.fixed; caller = 1; seen = started_once.seen ++ Events.Finish 2 1 1 ∷ []; tickets = []; next = 2; limit = max_update })
 unfolding started_once
 finished_by_another = record { others = Events.Finish 2 1 1 ∷ []; is_gap = (two_is_other, tt); refused = refl; said = refl; seen = refl }
 
 -- another caller's append is finished and waits for the session's own update, which then publishes both
 report_publishes_both : Reported AllOther started_once (ticket 1) (Finished 2)
-    (record { fixed = started_once.fixed; caller = 1; seen = started_once.seen ++ Events.Assign 2 1 Append (98 ∷ []) ∷ Events.Finish 2 1 2 ∷ Events.Finish 1 1 1 ∷ []; tickets = []; next = 2 })
+    (record { fixed = started_once.fixed; caller = 1; seen = started_once.seen ++ Events.Assign 2 1 Append (98 ∷ []) ∷ Events.Finish 2 1 2 ∷ Events.Finish 1 1 1 ∷ []; tickets = []; next = 2; limit = max_update })
 unfolding started_once
 report_publishes_both = record {
   others = Events.Assign 2 1 Append (98 ∷ []) ∷ Events.Finish 2 1 2 ∷ [];
@@ -198,3 +220,10 @@ write_finished_by_another = record {
   said = refl;
   seen = refl;
 }
+
+-- an update that is held back counts as a fault of the outside exactly where the version before it doesn't wait
+held_back_counts : (answer_faults started_once (Requests.Append 1 (99 ∷ [])) (AppendStarted 2 2 1 2) ≡ 0)
+    × (answer_faults started_once (Requests.StartAppend 1 (99 ∷ [])) (AppendStarted 2 2 1 2) ≡ 0)
+    × (answer_faults (sees started_once (Events.Finish 1 1 1 ∷ [])) (Requests.Append 1 (99 ∷ [])) (AppendStarted 2 2 1 2) ≡ 1)
+unfolding started_once
+held_back_counts = (refl, refl, refl)

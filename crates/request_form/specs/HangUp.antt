@@ -1,4 +1,4 @@
--- Hanging up: a session gives up the tickets that it holds, one after another, and begins to number them anew.
+-- Hanging up: a session gives up the tickets that it holds, one after another, and begins anew.
 use Rattle.std.specs.Prelude.{◌≡◌, ℕ, ◌+◌, Bool, true, false, List, [], ◌∷◌, ◌++◌, length, count_by, Some}
 use Rattle.blob_model.specs.Store.{Store, Blob, blob_at, is_finished}
 use Rattle.blob_model.specs.History.{IsNumbered}
@@ -7,13 +7,13 @@ use Rattle.request_form.specs.declared.form.Reply.{Reply}
 use Rattle.request_form.specs.declared.form.Reply.TheVariants as Replies
 use Rattle.request_form.specs.declared.form.Fault.TheVariants as Faults
 use Rattle.request_form.specs.Session.{Session, HeldTicket, drops}
-use Rattle.request_form.specs.Answers.{Gap, OutOfMemory, Reported, FoundFinished}
+use Rattle.request_form.specs.Answers.{Gap, Reported, FoundFinished, FinishHindered, max_update}
 use Rattle.request_form.specs.Own.{Makes, finish_made}
 
--- no memory was found for a ticket's finish, and the ticket is given up all the same
+-- a ticket's finish was hindered, and the ticket is given up all the same
 pub record Dropped (gap : Gap) (s : Session) (ticket : HeldTicket) (reply : Reply) (s' : Session) : Type 0 where
   pub mid : Session
-  pub out_of_memory : OutOfMemory gap s reply mid
+  pub hindered : FinishHindered gap s ticket.blob ticket.version reply mid
   pub dropped : s' ≡ drops mid ticket.number
 
 -- the ways in which a ticket is given up
@@ -40,25 +40,42 @@ abbrev pub tells_no_memory : Reply → Bool
 tells_no_memory (Replies.Refused Faults.NoMemory) = true
 tells_no_memory _ = false
 
-abbrev pub finished_count : List Reply → ℕ
-finished_count replies = count_by tells_finished replies
+-- the version before the update waits
+abbrev pub tells_pending : Reply → Bool
+tells_pending (Replies.Refused (Faults.Pending version held)) = true
+tells_pending _ = false
 
-abbrev pub dropped_count : List Reply → ℕ
-dropped_count replies = count_by tells_no_memory replies
+-- no provider gave, or took, a page
+abbrev pub tells_page_fault : Reply → Bool
+tells_page_fault (Replies.Refused (Faults.PageFault page)) = true
+tells_page_fault _ = false
 
--- the session with 1 as the number of its next ticket
-abbrev pub numbers_anew : Session → Session
-numbers_anew s = record { fixed = s.fixed; caller = s.caller; seen = s.seen; tickets = s.tickets; next = 1 }
+-- how many tickets were given up in each of the ways
+pub record GivenUpCounts : Type 0 where
+  pub finished : ℕ
+  pub no_memory : ℕ
+  pub pending : ℕ
+  pub page_fault : ℕ
 
--- All tickets that the session held are given up in their order. So many replies told that the update is finished, and
--- so many that no memory was found.
-pub record HungUp (gap : Gap) (s : Session) (finished no_memory : ℕ) (s' : Session) : Type 0 where
+abbrev pub given_up_counts : List Reply → GivenUpCounts
+given_up_counts replies = record {
+  finished = count_by tells_finished replies;
+  no_memory = count_by tells_no_memory replies;
+  pending = count_by tells_pending replies;
+  page_fault = count_by tells_page_fault replies;
+}
+
+-- the session with 1 as the number of its next ticket, and the limit on the bytes of an update that it had at first
+abbrev pub begins_anew : Session → Session
+begins_anew s = record { fixed = s.fixed; caller = s.caller; seen = s.seen; tickets = s.tickets; next = 1; limit = max_update }
+
+-- All tickets that the session held are given up in their order, and so many of the replies told each of the ways.
+pub record HungUp (gap : Gap) (s : Session) (counts : GivenUpCounts) (s' : Session) : Type 0 where
   pub replies : List Reply
   pub mid : Session
   pub gives_up : GivesUp gap s s.tickets replies mid
-  pub finished_is : finished ≡ finished_count replies
-  pub no_memory_is : no_memory ≡ dropped_count replies
-  pub anew : s' ≡ numbers_anew mid
+  pub counts_are : counts ≡ given_up_counts replies
+  pub anew : s' ≡ begins_anew mid
 
 -- ---- what holds of it
 
@@ -69,10 +86,11 @@ finishes_made caller (ticket ∷ tickets) [] = []
 finishes_made caller (ticket ∷ tickets) (reply ∷ replies) = finish_made caller ticket reply ++ finishes_made caller tickets replies
 
 -- No ticket is left, each one is counted once, and the finishes that these replies tell are the session's own events since.
-pub record LeavesNoTicket (s : Session) (finished no_memory : ℕ) (replies : List Reply) (s' : Session) : Type 0 where
+pub record LeavesNoTicket (s : Session) (counts : GivenUpCounts) (replies : List Reply) (s' : Session) : Type 0 where
   pub tickets : s'.tickets ≡ []
   pub next : s'.next ≡ 1
-  pub counts : finished + no_memory ≡ length s.tickets
+  pub limit : s'.limit ≡ max_update
+  pub each_once : counts.finished + counts.no_memory + counts.pending + counts.page_fault ≡ length s.tickets
   pub makes : Makes s (finishes_made s.caller s.tickets replies) s'
 
 -- the store has the blob, and the version is finished there

@@ -6,23 +6,24 @@ use Rattle.blob_model.specs.declared.call.Call.{Call}
 use Rattle.request_form.specs.Session.{Session, HeldTicket, AllOwn, IsNobody}
 use Rattle.request_form.specs.Stream.{AllWellHeard}
 use Rattle.request_form.specs.Answers.{Answers, LookAnswer}
-use Rattle.request_form.specs.Transcript.{Run, Transcript, faults_of}
+use Rattle.request_form.specs.Transcript.{Run, Transcript, faults_in}
 use Rattle.request_form.specs.Own.{Makes, events_made, made_by}
 use Rattle.request_form.specs.PublishedReads.{IsPublishedIn, Range, ReadAfter, Tells, read_outcome}
-use Rattle.request_form.specs.HangUp.{GivenUp, GivesUp, HungUp, LeavesNoTicket, AllNumbered, AllFinished}
+use Rattle.request_form.specs.HangUp.{GivenUp, GivesUp, GivenUpCounts, HungUp, LeavesNoTicket, AllNumbered, AllFinished}
 use Rattle.request_form.specs.declared.form.Request.{Request}
 use Rattle.request_form.specs.declared.form.Reply.{Reply}
 use Rattle.request_form.specs.declared.form.Reply.TheVariants as Replies
 use Rattle.request_form.specs.declared.form.Heard.{Heard}
 
--- Where all that a session has seen in the end is its own, each gap was empty.
+-- Where all that a session has seen in the end is its own, each gap was empty, and the outside failed as often.
 abbrev pub OwnIsAlone : Type 0
-OwnIsAlone = (s : Session) (heard : List Heard) (replies : List Reply) (s' : Session)
-    → AllOwn s.caller s'.seen → Transcript AllOther s heard replies s' → Transcript IsNobody s heard replies s'
+OwnIsAlone = (s : Session) (heard : List Heard) (replies : List Reply) (s' : Session) → AllOwn s.caller s'.seen → (run : Transcript AllOther s heard replies s')
+    → (alone : Transcript IsNobody s heard replies s') × (faults_in IsNobody s heard replies s' alone ≡ faults_in AllOther s heard replies s' run)
 
 -- Each list of items has a transcript, also where nobody else is there, in which the outside failed for no request.
 abbrev pub AlwaysAnswered : Type 0
-AlwaysAnswered = (s : Session) (heard : List Heard) → (replies : List Reply) × ((s' : Session) × Transcript IsNobody s heard replies s' × (AllWellHeard heard → faults_of replies ≡ 0))
+AlwaysAnswered = (s : Session) (heard : List Heard)
+    → (replies : List Reply) × ((s' : Session) × ((alone : Transcript IsNobody s heard replies s') × (AllWellHeard heard → faults_in IsNobody s heard replies s' alone ≡ 0)))
 
 -- Each answer makes the session's own events that its request and reply tell, and a run those of its items in order.
 abbrev pub OwnEventsAreMade : Type 0
@@ -45,10 +46,10 @@ GivingUpGoesOn = (s : Session) (tickets : List HeldTicket) (replies : List Reply
 -- What hanging up leaves. A ticket that is counted as finished has its update finished in what the session has seen then,
 -- if it was numbered in what the session had seen.
 abbrev pub HangUpsHold : Type 0
-HangUpsHold = (s : Session) (finished no_memory : ℕ) (s' : Session) (h : HungUp AllOther s finished no_memory s') → LeavesNoTicket s finished no_memory h.replies s'
+HangUpsHold = (s : Session) (counts : GivenUpCounts) (s' : Session) (h : HungUp AllOther s counts s') → LeavesNoTicket s counts h.replies s'
 
 abbrev pub HungUpAreFinished : Type 0
-HungUpAreFinished = (s : Session) (finished no_memory : ℕ) (s' : Session) (h : HungUp AllOther s finished no_memory s')
+HungUpAreFinished = (s : Session) (counts : GivenUpCounts) (s' : Session) (h : HungUp AllOther s counts s')
     → AllNumbered (store_of s.fixed.limits s.seen) s.tickets → AllFinished (store_of s'.fixed.limits s'.seen) s.tickets h.replies
 
 -- Where a version is published in a history, each session that has seen it tells of a range of that version what the store

@@ -19,6 +19,7 @@ numbers_of Operations.Size = 2
 numbers_of Operations.Sync = 2
 numbers_of Operations.Status = 1
 numbers_of Operations.Branch = 2
+numbers_of Operations.Repair = 2
 numbers_of Operations.Quit = 0
 
 -- whether all that is left are bytes
@@ -35,6 +36,7 @@ has_bytes Operations.Size = false
 has_bytes Operations.Sync = false
 has_bytes Operations.Status = false
 has_bytes Operations.Branch = false
+has_bytes Operations.Repair = false
 has_bytes Operations.Quit = false
 
 -- the request with these numbers, and these bytes where it has any
@@ -51,4 +53,5 @@ request_with Operations.Size ns bytes = Requests.Size (slice_index ns 0) (slice_
 request_with Operations.Sync ns bytes = Requests.Sync (slice_index ns 0) (slice_index ns 1)
 request_with Operations.Status ns bytes = Requests.Status (slice_index ns 0)
 request_with Operations.Branch ns bytes = Requests.Branch (slice_index ns 0) (slice_index ns 1)
+request_with Operations.Repair ns bytes = Requests.Repair (slice_index ns 0) (slice_index ns 1)
 request_with Operations.Quit ns bytes = Requests.Quit

@@ -21,10 +21,12 @@ abbrev pub create_made : ℕ → Reply → List Event
 create_made caller (Replies.Created blob) = Events.Create caller ∷ []
 create_made caller _ = []
 
--- A whole update: its numbering and its finish. Where its ticket is held, or others finished it, the numbering alone.
+-- A whole update: its numbering and its finish. Where it is held, or others finished it, the numbering alone.
 abbrev pub update_made : ℕ → ℕ → Place → List ℕ → Reply → List Event
 update_made caller blob place bytes (Replies.Appended version at size) = Events.Assign caller blob place bytes ∷ Events.Finish caller blob version ∷ []
 update_made caller blob place bytes (Replies.Wrote version at size) = Events.Assign caller blob place bytes ∷ Events.Finish caller blob version ∷ []
+update_made caller blob place bytes (Replies.AppendStarted ticket version at size) = Events.Assign caller blob place bytes ∷ []
+update_made caller blob place bytes (Replies.WriteStarted ticket version at size) = Events.Assign caller blob place bytes ∷ []
 update_made caller blob place bytes (Replies.Refused (Faults.NoMemoryTicket ticket)) = Events.Assign caller blob place bytes ∷ []
 update_made caller blob place bytes (Replies.Refused (Faults.Already version)) = Events.Assign caller blob place bytes ∷ []
 update_made caller blob place bytes _ = []
@@ -50,6 +52,11 @@ abbrev pub branch_made : ℕ → ℕ → ℕ → Reply → List Event
 branch_made caller blob version (Replies.Branched branch) = Events.Branch caller blob version ∷ []
 branch_made caller blob version _ = []
 
+-- the finish of an update that any session may finish
+abbrev pub repair_made : ℕ → ℕ → ℕ → Reply → List Event
+repair_made caller blob version (Replies.Repaired published) = Events.Finish caller blob version ∷ []
+repair_made caller blob version _ = []
+
 -- the events that a session's request with this reply made, in order
 abbrev pub events_made : Session → Request → Reply → List Event
 events_made s Requests.Create reply = create_made s.caller reply
@@ -64,6 +71,9 @@ events_made s (Requests.Size blob version) reply = []
 events_made s (Requests.Sync blob version) reply = []
 events_made s (Requests.Status blob) reply = []
 events_made s (Requests.Branch blob version) reply = branch_made s.caller blob version reply
+events_made s (Requests.Hello version) reply = []
+events_made s (Requests.ReadMany blob version ranges) reply = []
+events_made s (Requests.Repair blob version) reply = repair_made s.caller blob version reply
 events_made s Requests.Quit reply = []
 
 -- a wrong item makes none

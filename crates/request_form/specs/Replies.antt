@@ -57,7 +57,7 @@ page_faults Faults.BadFrame = 0
 page_faults (Faults.ReadTooLong size) = 0
 page_faults (Faults.NoMemoryTicket ticket) = 0
 
--- how often the outside failed for a reply
+-- how often the outside failed for a reply, as far as the reply tells
 abbrev pub fault_count : Reply → ℕ
 fault_count (Replies.Created blob) = 0
 fault_count (Replies.Appended version at size) = 0
@@ -71,5 +71,8 @@ fault_count (Replies.SizeIs size) = 0
 fault_count (Replies.Synced version) = 0
 fault_count (Replies.StatusIs assigned published held) = 0
 fault_count (Replies.Branched blob) = 0
+fault_count (Replies.HelloIs version) = 0
+fault_count (Replies.Contents bytes) = 0
+fault_count (Replies.Repaired published) = 0
 fault_count (Replies.Refused fault) = page_faults fault
 fault_count Replies.Bye = 0

@@ -1,4 +1,4 @@
-use Rattle.std.specs.Prelude.{◌≡◌, ℕ, ◌+◌, ◌==◌, if◌then◌else◌, List, [], ◌∷◌, ◌++◌, Option, Some, None}
+use Rattle.std.specs.Prelude.{◌≡◌, ℕ, ◌+◌, ◌==◌, ◌&&◌, if◌then◌else◌, List, [], ◌∷◌, ◌++◌, Option, Some, None}
 use Rattle.blob_model.specs.Limits.{Bounds}
 use Rattle.blob_model.specs.Store.{Store}
 use Rattle.blob_model.specs.Answer.{answer}
@@ -18,13 +18,15 @@ pub record HeldTicket : Type 0 where
   pub blob : ℕ
   pub version : ℕ
 
--- a session: its caller, the history that it has seen, the tickets that it holds, and the number of its next one
+-- a session: its caller, the history that it has seen, the tickets that it holds, the number of its next one, and the most bytes
+-- of an update
 pub record Session : Type 0 where
   pub fixed : Fixed
   pub caller : ℕ
   pub seen : List Event
   pub tickets : List HeldTicket
   pub next : ℕ
+  pub limit : ℕ
 
 -- no events: nobody else is there
 abbrev pub IsNobody : ℕ → List Event → Type 0
@@ -45,7 +47,7 @@ outcome_at s more call = (answer (store_at s more) s.caller call).1
 
 -- the session once it has seen more
 abbrev pub sees : Session → List Event → Session
-sees s more = record { fixed = s.fixed; caller = s.caller; seen = s.seen ++ more; tickets = s.tickets; next = s.next }
+sees s more = record { fixed = s.fixed; caller = s.caller; seen = s.seen ++ more; tickets = s.tickets; next = s.next; limit = s.limit }
 
 -- the session once it holds a version under its next ticket
 abbrev pub holds : Session → ℕ → ℕ → Session
@@ -55,6 +57,7 @@ holds s blob version = record {
   seen = s.seen;
   tickets = s.tickets ++ record { number = s.next; blob = blob; version = version } ∷ [];
   next = s.next + 1;
+  limit = s.limit;
 }
 
 -- the ticket of that number among those that are held
@@ -69,4 +72,19 @@ without_ticket (ticket ∷ tickets) number = if ticket.number == number then tic
 
 -- the session once it has given up the ticket of that number
 abbrev pub drops : Session → ℕ → Session
-drops s number = record { fixed = s.fixed; caller = s.caller; seen = s.seen; tickets = without_ticket s.tickets number; next = s.next }
+drops s number = record { fixed = s.fixed; caller = s.caller; seen = s.seen; tickets = without_ticket s.tickets number; next = s.next; limit = s.limit }
+
+-- those tickets without the first one of that version of the blob
+abbrev pub without_version : List HeldTicket → ℕ → ℕ → List HeldTicket
+without_version [] blob version = []
+without_version (ticket ∷ tickets) blob version =
+    if ticket.blob == blob && ticket.version == version then tickets else ticket ∷ without_version tickets blob version
+
+-- the session once it has given up its ticket of that version, where it holds one
+abbrev pub lets_go : Session → ℕ → ℕ → Session
+lets_go s blob version =
+    record { fixed = s.fixed; caller = s.caller; seen = s.seen; tickets = without_version s.tickets blob version; next = s.next; limit = s.limit }
+
+-- the session with another limit on the bytes of an update
+abbrev pub takes_up_to : Session → ℕ → Session
+takes_up_to s limit = record { fixed = s.fixed; caller = s.caller; seen = s.seen; tickets = s.tickets; next = s.next; limit = limit }

@@ -1,5 +1,5 @@
-use Rattle.std.specs.Prelude.{◌≡◌, ℕ, Bool, true, false, List, [], flat_map, sum_by}
-use Rattle.item_stream.specs.Rounds.{until_last, has_last, Rounds}
+use Rattle.std.specs.Prelude.{◌≡◌, ℕ, Bool, true, false, List, [], flat_map}
+use Rattle.item_stream.specs.Rounds.{until_last, has_last, Rounds, sum_rounds}
 use Rattle.request_form.specs.declared.form.Request.{Request}
 use Rattle.request_form.specs.declared.form.Request.TheVariants as Requests
 use Rattle.request_form.specs.declared.form.Reply.{Reply}
@@ -8,7 +8,7 @@ use Rattle.request_form.specs.declared.form.Heard.{Heard}
 use Rattle.request_form.specs.declared.form.Heard.TheVariants.{Asked, Wrong}
 use Rattle.request_form.specs.Replies.{fault_count}
 use Rattle.request_form.specs.Session.{Fixed, Session, IsNobody}
-use Rattle.request_form.specs.Answers.{Gap, Answers}
+use Rattle.request_form.specs.Answers.{Gap, Answers, max_update, answer_faults}
 
 abbrev pub is_quit : Request → Bool
 is_quit Requests.Create = false
@@ -23,6 +23,9 @@ is_quit (Requests.Size blob version) = false
 is_quit (Requests.Sync blob version) = false
 is_quit (Requests.Status blob) = false
 is_quit (Requests.Branch blob version) = false
+is_quit (Requests.Hello version) = false
+is_quit (Requests.ReadMany blob version ranges) = false
+is_quit (Requests.Repair blob version) = false
 is_quit Requests.Quit = true
 
 -- whether the item is the last that has a reply
@@ -50,13 +53,22 @@ Run gap s items replies s' = Rounds (ItemReply gap) s items replies s'
 abbrev pub Transcript : Gap → Session → List Heard → List Reply → Session → Type 0
 Transcript gap s items replies s' = Run gap s (until_quit items) replies s'
 
--- how often the outside failed for these replies
-abbrev pub faults_of : List Reply → ℕ
-faults_of replies = sum_by fault_count replies
+-- how often the outside failed for an item's reply, after which the session is this one
+abbrev pub item_faults : Session → Heard → Reply → ℕ
+item_faults s (Asked request) reply = answer_faults s request reply
+item_faults s (Wrong fault) reply = fault_count reply
+
+-- how often the outside failed in a run
+abbrev pub faults_of : (gap : Gap) (s : Session) (items : List Heard) (replies : List Reply) (s' : Session) → Run gap s items replies s' → ℕ
+faults_of gap s items replies s' run = sum_rounds item_faults (ItemReply gap) s items replies s' run
+
+-- and in a transcript
+abbrev pub faults_in : (gap : Gap) (s : Session) (items : List Heard) (replies : List Reply) (s' : Session) → Transcript gap s items replies s' → ℕ
+faults_in gap s items replies s' run = faults_of gap s (until_quit items) replies s' run
 
 -- a session that has seen nothing and holds no ticket
 abbrev pub first_session : Fixed → ℕ → Session
-first_session fixed caller = record { fixed = fixed; caller = caller; seen = []; tickets = []; next = 1 }
+first_session fixed caller = record { fixed = fixed; caller = caller; seen = []; tickets = []; next = 1; limit = max_update }
 
 -- The text is what is said of a transcript alone: of the first caller's first session, with nobody else there.
 pub record SaysAlone (said : Reply → List ℕ) (fixed : Fixed) (heard : List Heard) (text : List ℕ) : Type 0 where

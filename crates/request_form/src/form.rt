@@ -1,3 +1,4 @@
+use crate::ranges::RangeList;
 use blob_model::{Bytes, Outcome, Refusal};
 
 /// What a client asks of its session.
@@ -61,6 +62,21 @@ pub enum Request {
         blob: u64,
         version: u64,
     },
+    /// From here on updates may have 16,777,216 bytes. The frames of the stream are of that version.
+    Hello {
+        version: u64,
+    },
+    /// Many ranges of a published version, of one store.
+    ReadMany {
+        blob: u64,
+        version: u64,
+        ranges: RangeList,
+    },
+    /// The report of an update that this session or another one has numbered.
+    Repair {
+        blob: u64,
+        version: u64,
+    },
     /// The end of the stream's requests.
     Quit,
 }
@@ -88,7 +104,7 @@ pub enum Fault {
     NoMemory,
     /// An update without bytes.
     EmptyUpdate,
-    /// An update of more than 1,048,576 bytes.
+    /// An update of more bytes than the session takes: 1,048,576, or 16,777,216 once it was said hello.
     UpdateTooLong { length: u64 },
     /// The range would end at `end`, past the version's size.
     RangePastSize { end: u128, size: u64 },
@@ -96,17 +112,18 @@ pub enum Fault {
     NoTicket { ticket: u64 },
     /// The session holds as many tickets as it may hold.
     TooManyTickets,
-    /// No provider took, or gave, this page: of an update's bytes, or of the blob that is read.
+    /// No provider took, or gave, this page: of an update's bytes, or of the blob that is read, or whose update is finished.
     PageFault { page: u64 },
-    /// The version waits; `held` is the least unfinished version of its blob.
+    /// The version waits; `held` is the least unfinished version of its blob. For a finish it is the version before, which the
+    /// update needs.
     Pending { version: u64, held: u64 },
     /// A line that is no request.
     Malformed,
-    /// A frame whose length counts more than 2,097,152 bytes.
+    /// A frame whose length counts more than 2,097,152 bytes, or in frames of version 2 more than 17,825,792.
     FrameTooLong { length: u64 },
     /// A frame that is no request.
     BadFrame,
-    /// A read of more than 16,777,216 bytes.
+    /// A read of more than 16,777,216 bytes. Of many ranges it is the first with which they have more together.
     ReadTooLong { length: u64 },
     /// No memory was found once the update was numbered. The session holds the update under this ticket.
     NoMemoryTicket { ticket: u64 },
@@ -156,14 +173,16 @@ pub enum Reply {
         at: u64,
         size: u64,
     },
-    /// The append's ticket, version and offset, and the blob's size then. It waits for its Finish.
+    /// The append's ticket, version and offset, and the blob's size then. It waits for its Finish. An Append is answered so too
+    /// where the update stores pages of the blob anew, and these couldn't be read or stored yet.
     AppendStarted {
         ticket: u64,
         version: u64,
         at: u64,
         size: u64,
     },
-    /// The write's ticket, version and offset, and the blob's size then. It waits for its Finish.
+    /// The write's ticket, version and offset, and the blob's size then. It waits for its Finish. A Write is answered so too, for
+    /// the same reason.
     WriteStarted {
         ticket: u64,
         version: u64,
@@ -200,6 +219,18 @@ pub enum Reply {
     /// The new blob's id.
     Branched {
         blob: u64,
+    },
+    /// The version of frames that the stream speaks.
+    HelloIs {
+        version: u64,
+    },
+    /// The bytes of the ranges, one behind the other in their order.
+    Contents {
+        bytes: Bytes,
+    },
+    /// Which version of the blob is the last published one, now that the update is finished.
+    Repaired {
+        published: u64,
     },
     /// The request wasn't done.
     Refused(Fault),

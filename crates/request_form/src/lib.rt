@@ -7,6 +7,7 @@ mod dialect;
 mod form;
 pub mod laws;
 mod operation;
+mod ranges;
 mod service;
 
 pub use dialect::{Dialect, Said};
@@ -14,4 +15,5 @@ pub use faults::NoMemory;
 pub use form::{Ending, Fault, Heard, Reply, Request};
 pub use item_stream::Piece;
 pub use operation::Operation;
+pub use ranges::RangeList;
 pub use service::Service;

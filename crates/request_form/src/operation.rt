@@ -4,7 +4,8 @@ ghost use Rattle.request_form.specs.Operations.{numbers_of, has_bytes, request_w
 use crate::form::Request;
 use blob_model::Bytes;
 
-/// What a client asks for, but for the fields: the operation of a frame, or the command of a line.
+/// What a client asks for, but for the fields: the command of a line, or the operation of a frame whose fields are numbers, and
+/// bytes behind them.
 #[derive(Clone, Copy, Debug, PartialEq, Eq)]
 pub enum Operation {
     Create,
@@ -19,6 +20,7 @@ pub enum Operation {
     Sync,
     Status,
     Branch,
+    Repair,
     Quit,
 }
 
@@ -33,7 +35,7 @@ impl Operation {
             Operation::Append | Operation::StartAppend => 1,
             Operation::Finish | Operation::Recent | Operation::Status => 1,
             Operation::Write | Operation::StartWrite => 2,
-            Operation::Size | Operation::Sync | Operation::Branch => 2,
+            Operation::Size | Operation::Sync | Operation::Branch | Operation::Repair => 2,
             Operation::Read => 4,
         }
     }
@@ -47,7 +49,7 @@ impl Operation {
             Operation::StartAppend | Operation::StartWrite => true,
             Operation::Create | Operation::Finish | Operation::Read => false,
             Operation::Recent | Operation::Size | Operation::Sync => false,
-            Operation::Status | Operation::Branch | Operation::Quit => false,
+            Operation::Status | Operation::Branch | Operation::Repair | Operation::Quit => false,
         }
     }
 
@@ -83,6 +85,7 @@ impl Operation {
             (Operation::Sync, &[blob, version]) => Request::Sync { blob, version },
             (Operation::Status, &[blob]) => Request::Status { blob },
             (Operation::Branch, &[blob, version]) => Request::Branch { blob, version },
+            (Operation::Repair, &[blob, version]) => Request::Repair { blob, version },
             (Operation::Quit, _) => Request::Quit,
             _ => unreachable!(),
         }

@@ -9,8 +9,7 @@ pub trait Service {
     ghost use Rattle.faults.specs.Counts.{RoseBy};
     ghost use Rattle.blob_model.specs.History.{AllOther};
     ghost use Rattle.request_form.specs.Session.{Session};
-    ghost use Rattle.request_form.specs.Answers.{Answers};
-    ghost use Rattle.request_form.specs.Replies.{fault_count};
+    ghost use Rattle.request_form.specs.Answers.{Answers, answer_faults};
     ghost use Rattle.request_form.specs.Transcript.{is_quit};
 
     /// Who asks, what it has seen, and the tickets that it holds.
@@ -30,6 +29,6 @@ pub trait Service {
         requires asks { is_quit request ≡ false }
         requires sync { IsSync R.row }
         ensures answers { Answers AllOther (session self.old) request result (session self.new) }
-        ensures faults { RoseBy (fault_count result) (faults self.old) (faults self.new) }
+        ensures faults { RoseBy (answer_faults (session self.new) request result) (faults self.old) (faults self.new) }
         ensures kept { kept self.new ≡ kept self.old };
 }
