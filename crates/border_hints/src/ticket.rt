@@ -32,6 +32,8 @@ pub struct Ticket {
     at: u64,
     len: u64,
     size: u64,
+    // it follows from the place and the size, and is asked for often
+    touch: Touch,
     hints: Hints,
     pages: Arc<Pages>,
 }
@@ -46,6 +48,7 @@ impl Drop for Ticket {
             at: _,
             len: _,
             size: _,
+            touch: _,
             hints: _,
             pages: _,
         } = self;
@@ -54,13 +57,14 @@ impl Drop for Ticket {
 
 impl Model for Ticket {
     ghost use Rattle.std.specs.Arc.{arc_value};
-    ghost use Rattle.border_hints.specs.Numbered.{NumberedUpdate, numbered_update, IsNumbered};
+    ghost use Rattle.border_hints.specs.Numbered.{NumberedUpdate, numbered_update};
+    ghost use Rattle.border_hints.specs.TicketKept.{KeepsTicket};
 
     ghost Value = { NumberedUpdate };
 
     ghost view = { λ t. numbered_update t.caller t.blob t.version t.at t.len t.size t.hints.snapshot t.hints.waiting (arc_value t.pages) };
 
-    ghost invariant = { λ t. IsNumbered (numbered_update t.caller t.blob t.version t.at t.len t.size t.hints.snapshot t.hints.waiting (arc_value t.pages)) };
+    ghost invariant = { KeepsTicket };
 }
 
 impl Ticket {
@@ -95,6 +99,7 @@ impl Ticket {
         laws::page_bytes_stay();
         hints.snapshot.stands();
         hints.waiting.stands();
+        let touch = touched(hints.snapshot.page_size(), at, len, size);
         Ticket {
             caller,
             blob,
@@ -102,6 +107,7 @@ impl Ticket {
             at,
             len,
             size,
+            touch,
             hints,
             pages,
         }
@@ -176,11 +182,6 @@ impl Ticket {
     pub fn touch(&self) -> Touch
         ensures { result ≡ own_touch self.now }
     {
-        touched(
-            self.hints.snapshot.page_size(),
-            self.at,
-            self.len,
-            self.size,
-        )
+        self.touch
     }
 }

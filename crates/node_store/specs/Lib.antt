@@ -3,3 +3,4 @@ pub mod House
 pub mod UpdateRows
 pub mod RowKept
 pub mod NodesKept
+pub mod Shapes

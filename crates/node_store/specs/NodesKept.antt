@@ -1,11 +1,11 @@
 -- What the nodes of a row keep.
-use Rattle.std.specs.Prelude.{◌≡◌, ℕ, ◌<◌, ◌≤◌, length, slice_index_or, vec_capacity}
+use Rattle.std.specs.Prelude.{◌≡◌, ℕ, ◌+◌, ◌<◌, ◌≤◌, length, slice_index_or, vec_capacity}
 use Rattle.boxcar.specs.Table.{id_at}
 use Rattle.node_store.specs.Placed.{no_put}
 use Rattle.node_store.specs.declared.house.RowNodes.TheInside.{Inside}
 
--- node i lies in slot i, and there are slots and room for all
+-- node i lies in the slot that is i after the row's first, and there are slots and room for all
 pub record KeepsPuts (r : Inside) : Type 0 where
-  pub few : length r.puts.items ≤ length r.slots.value.items
-  pub reserved : length r.slots.value.items ≤ vec_capacity r.puts
-  pub each : (i : ℕ) → i < length r.puts.items → (slice_index_or r.puts.items i no_put).slot ≡ id_at r.slots.value.items i
+  pub few : length r.puts.items ≤ vec_capacity r.puts
+  pub within : r.first + vec_capacity r.puts ≤ length r.block.value
+  pub each : (i : ℕ) → i < length r.puts.items → (slice_index_or r.puts.items i no_put).slot ≡ id_at r.block.value (r.first + i)

@@ -5,7 +5,7 @@ use Rattle.node_store.specs.declared.row.Row.TheInside.{Inside}
 
 -- the touched pages stand in order and end at 2^40 at the latest, and there is a node for each range that they meet
 pub record KeepsRow (r : Inside) : Type 0 where
-  pub low : r.height ≤ 38
-  pub ordered : r.touch.first ≤ r.touch.last
-  pub fits : r.touch.last * r.page_size ≤ 2 ^ 40
-  pub whole : length r.nodes.nodes ≡ length (levels_of r.page_size r.touch (r.height + 1))
+  pub low : r.shape.height ≤ 38
+  pub ordered : r.shape.touch.first ≤ r.shape.touch.last
+  pub fits : r.shape.touch.last * r.page_size ≤ 2 ^ 40
+  pub whole : length r.nodes.nodes ≡ length (levels_of r.page_size r.shape.touch (r.shape.height + 1))

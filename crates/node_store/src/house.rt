@@ -1,5 +1,6 @@
 // The house of all nodes, and references to them.
-ghost use Rattle.std.specs.Prelude.{◌≡◌, ◌%◌, ◌<◌, [], ◌∷◌, ◌++◌, length, IfOk, OnOk, OnErr, Some, slice_get};
+ghost use Rattle.std.specs.Prelude.{◌≡◌, ◌+◌, ◌%◌, ◌<◌, ◌≤◌, [], ◌∷◌, ◌++◌, length, IfOk, OnOk, OnErr, IfSome, Some, slice_get, IsTrue};
+ghost use Rattle.boxcar.specs.Table.{Shows};
 ghost use Rattle.node_store.specs.House.{IsIn};
 
 use crate::NoMemory;
@@ -9,6 +10,7 @@ use boxcar::tag::Tag;
 use std::alloc::Global;
 use std::marker::Model;
 use std::sync::Wait;
+use std::sync::atomic::{AtomicUsize, Ordering};
 use tree_geom::Node;
 
 /// Any node may lie in a slot.
@@ -20,17 +22,152 @@ impl SlotRule<Node> for AnyNode {
     ghost holds = { λ _ _. ⊤ };
 }
 
-// The slots of the nodes of one row.
-type Slots = Vec<OnceSlot<Node, AnyNode>>;
-
-/// How many shards a house has.
+// How many shards a house has.
 const SHARDS: usize = 16;
+
+// How many slots a block has that rows share.
+const BLOCK: usize = 256;
+
+// How many nodes a row may have to get slots in a shared block. A row of more gets a block of its own, so that at most so many slots
+// of a shared block are left unused where the next row needs more than there are.
+const SHARED: usize = 32;
+
+// Slots that lie side by side, and how many of them were given out, from the first on. Each is set once at most.
+#[derive(Drop)]
+struct Block {
+    taken: AtomicUsize,
+    slots: Vec<OnceSlot<Node, AnyNode>>,
+}
+
+impl Model for Block {
+    ghost use Rattle.std.specs.Prelude.{List};
+    ghost use Rattle.std.specs.Coded.{coded_list};
+    ghost use Rattle.boxcar.specs.Slot.{Named, named_coded};
+
+    ghost Value = { List Named };
+
+    ghost coded = { coded_list named_coded };
+
+    ghost view = { λ b. b.slots.items };
+}
+
+impl Block {
+    // So many free slots, of which the first `taken` are given out.
+    fn new(alloc: Global, count: usize, taken: usize) -> Result<Block, NoMemory>
+        ensures { IfOk result (λ block. length block ≡ count) }
+    {
+        let tag = Tag::empty();
+        let mut slots = Vec::with_capacity(alloc, count)?;
+        for _slot in 0..count {
+            slots.push_reserved(OnceSlot::new(&tag));
+        }
+        Ok(Block {
+            taken: AtomicUsize::new(taken),
+            slots,
+        })
+    }
+
+    // Gives out the next `count` slots, and tells the number of the first. None where there are too few.
+    fn take(&self, count: usize) -> Option<usize>
+        ensures { IfSome result (λ first. first + count ≤ length self.now) }
+    {
+        let room = self.slots.len();
+        if !fits(room, self.taken.load(Ordering::SeqCst), count) {
+            return None;
+        }
+        let first = self.taken.fetch_add(count, Ordering::SeqCst);
+        // another thread may have taken slots in between
+        if fits(room, first, count) {
+            Some(first)
+        } else {
+            None
+        }
+    }
+}
+
+// Whether `count` of `room` slots are left after the first `taken`.
+fn fits(room: usize, taken: usize, count: usize) -> bool
+    ensures { IsTrue result → taken + count ≤ room }
+{
+    taken <= room && count <= room - taken
+}
+
+// The nodes of the versions of one remainder.
+#[derive(Drop)]
+struct Shard {
+    blocks: boxcar::Vec<Block>,
+    // which block rows share that need few slots
+    open: AtomicUsize,
+}
+
+impl Model for Shard {
+    ghost use Rattle.boxcar.specs.Table.{Shelves, shelves_coded};
+
+    ghost Value = { Shelves };
+
+    ghost coded = { shelves_coded };
+
+    ghost view = { λ s. s.blocks };
+}
+
+// Slots for the nodes of one row: a block, and the number of the first of them there.
+struct Room {
+    block: Pushed<Block>,
+    first: usize,
+}
+
+impl Shard {
+    // No nodes.
+    fn new(alloc: Global) -> Result<Shard, NoMemory> {
+        Ok(Shard {
+            blocks: boxcar::Vec::new(alloc)?,
+            open: AtomicUsize::new(0),
+        })
+    }
+
+    // `count` slots that nobody else gets.
+    fn take<R: Wait>(&self, rt: &R, alloc: Global, count: usize) -> Result<Room, NoMemory>
+        ensures here { IfOk result (λ room. Shows self.now room.block) }
+        ensures within { IfOk result (λ room. room.first + count ≤ length room.block.value) }
+    {
+        if count > SHARED {
+            return self.push(rt, Block::new(alloc, count, count)?);
+        }
+        if let Some(room) = self.take_open(count) {
+            return Ok(room);
+        }
+        let room = self.push(rt, Block::new(alloc, BLOCK, count)?)?;
+        self.open.store(room.block.index(), Ordering::SeqCst);
+        Ok(room)
+    }
+
+    // `count` slots of the block that rows share.
+    fn take_open(&self, count: usize) -> Option<Room>
+        ensures here { IfSome result (λ room. Shows self.now room.block) }
+        ensures within { IfSome result (λ room. room.first + count ≤ length room.block.value) }
+    {
+        let block = self.blocks.witness(self.open.load(Ordering::SeqCst))?;
+        let first = self.blocks.value(&block).take(count)?;
+        Some(Room { block, first })
+    }
+
+    // A new block, from its first slot on.
+    fn push<R: Wait>(&self, rt: &R, block: Block) -> Result<Room, NoMemory>
+        ensures here { IfOk result (λ room. Shows self.now room.block) }
+        ensures whole { IfOk result (λ room. (room.block.value ≡ block) × (room.first ≡ 0)) }
+    {
+        match self.blocks.push_shown(rt, block) {
+            Ok(block) => Ok(Room { block, first: 0 }),
+            Err(_) => Err(NoMemory),
+        }
+    }
+}
 
 /// All nodes of a store, in 16 shards: the nodes of version `v` lie in shard `v mod 16`. A node is put through a shared reference, by
 /// one atomic step, and never changes; it is read without a lock while other threads put more.
 #[derive(Drop)]
 pub struct NodeHouse {
-    shards: Vec<boxcar::Vec<Slots>>,
+    shards: Vec<Shard>,
 }
 
 impl Model for NodeHouse {
@@ -65,20 +202,26 @@ impl Model for Put {
 /// side by side, each in a slot of its own that is set once, and there are slots for all nodes of the row from the start.
 #[derive(Drop)]
 pub struct RowNodes {
-    version: u64,
-    slots: Pushed<Slots>,
     puts: Vec<Put>,
+    first: usize,
+    version: u64,
+    block: Pushed<Block>,
 }
 
 impl Model for RowNodes {
-    ghost use Rattle.std.specs.Prelude.{◌≡◌, ◌%◌, length};
+    ghost use Rattle.std.specs.Prelude.{◌≡◌, ◌%◌, vec_capacity};
     ghost use Rattle.node_store.specs.Placed.{PlacedNodes, nodes_put};
     ghost use Rattle.node_store.specs.NodesKept.{KeepsPuts};
 
     ghost Value = { PlacedNodes };
 
     ghost view = { λ r.
-        record { version = r.version; room = length r.slots.value.items; nodes = nodes_put r.puts.items; spot = record { shard = r.version % 16; shelf = r.slots.bucket; mark = r.slots.row } } };
+        record {
+          version = r.version;
+          room = vec_capacity r.puts;
+          nodes = nodes_put r.puts.items;
+          spot = record { shard = r.version % 16; shelf = r.block.bucket; mark = r.block.row };
+        } };
 
     ghost invariant = { KeepsPuts };
 }
@@ -108,7 +251,7 @@ impl NodeHouse {
     {
         let mut shards = Vec::with_capacity(alloc, SHARDS)?;
         for _shard in 0..SHARDS {
-            shards.push_reserved(boxcar::Vec::new(alloc)?);
+            shards.push_reserved(Shard::new(alloc)?);
         }
         Ok(NodeHouse { shards })
     }
@@ -128,15 +271,13 @@ impl NodeHouse {
         ensures none { IfOk result (λ row. row.nodes ≡ []) }
     {
         let puts = Vec::with_capacity(alloc, count)?;
-        let slots = free_slots(alloc, count)?;
-        match self.shards[shard_of(version)].push_shown(rt, slots) {
-            Ok(slots) => Ok(RowNodes {
-                version,
-                slots,
-                puts,
-            }),
-            Err(_) => Err(NoMemory),
-        }
+        let Room { block, first } = self.shards[shard_of(version)].take(rt, alloc, count)?;
+        Ok(RowNodes {
+            version,
+            block,
+            first,
+            puts,
+        })
     }
 
     /// Puts the next node of the row, by one atomic step on a slot that all threads share. It waits for nobody and takes no memory.
@@ -147,8 +288,8 @@ impl NodeHouse {
         ensures put { OnOk result (row.new ≡ record row.old { nodes = row.old.nodes ++ node ∷ [] }) }
         ensures same { OnErr result (row.new ≡ row.old) }
     {
-        let slots = self.shards[shard_of(row.version)].value(&row.slots);
-        match slots[row.puts.len()].set_written(node) {
+        let block = self.block(row.version, &row.block);
+        match block.slots[row.first + row.puts.len()].set_written(node) {
             Ok(written) => {
                 row.puts.push_reserved(Put { written });
                 Ok(())
@@ -158,20 +299,31 @@ impl NodeHouse {
     }
 
     /// The node that was put. It waits for nobody and takes no memory.
+    #[inline(always)]
     pub fn get(&self, node: &NodeRef) -> Node
         requires { IsIn self.now node.now.spot }
         ensures { result ≡ node.now.node }
     {
-        let placed = node.nodes;
-        let slots = self.shards[shard_of(placed.version)].value(&placed.slots);
+        let row = node.nodes;
         let index = node.index as usize;
-        let put = &placed.puts[index];
-        *slots[index].value(&put.written)
+        let put = &row.puts[index];
+        let block = self.block(row.version, &row.block);
+        *block.slots[row.first + index].value(&put.written)
+    }
+
+    // The block that was pushed for a row of that version.
+    #[inline(always)]
+    fn block(&self, version: u64, pushed: &Pushed<Block>) -> &Block
+        requires { IsIn self.now record { shard = version % 16; shelf = pushed.now.bucket; mark = pushed.now.row } }
+        ensures { result.now ≡ pushed.now.value }
+    {
+        self.shards[shard_of(version)].blocks.value(pushed)
     }
 }
 
 impl RowNodes {
     /// The version of the row.
+    #[inline(always)]
     pub fn version(&self) -> u64
         ensures { result ≡ self.now.version }
     {
@@ -179,6 +331,7 @@ impl RowNodes {
     }
 
     /// How many nodes there are.
+    #[inline(always)]
     pub fn count(&self) -> u64
         ensures { result ≡ length self.now.nodes }
     {
@@ -186,6 +339,7 @@ impl RowNodes {
     }
 
     /// The node of that number, counted from 0. There are more than `index`. It takes no memory.
+    #[inline(always)]
     pub fn node(&self, index: u64) -> NodeRef<'_>
         requires { index < length self.now.nodes }
         ensures node { slice_get self.now.nodes index ≡ Some result.node }
@@ -195,19 +349,8 @@ impl RowNodes {
     }
 }
 
-// So many slots that are free.
-fn free_slots(alloc: Global, count: usize) -> Result<Slots, NoMemory>
-    ensures { IfOk result (λ slots. length slots.items ≡ count) }
-{
-    let tag = Tag::empty();
-    let mut slots = Vec::with_capacity(alloc, count)?;
-    for _slot in 0..count {
-        slots.push_reserved(OnceSlot::new(&tag));
-    }
-    Ok(slots)
-}
-
 // The shard of a version's nodes.
+#[inline(always)]
 fn shard_of(version: u64) -> usize
     ensures is { result ≡ version % 16 }
     ensures within { result < 16 }

@@ -8,6 +8,7 @@
 mod folds;
 mod house;
 mod row;
+mod shape;
 
 pub use faults::NoMemory;
 pub use folds::Folds;

@@ -1,15 +1,19 @@
 // The nodes of one update, by range.
-ghost use Rattle.std.specs.Prelude.{◌≡◌, ◌+◌, ◌*◌, ◌^◌, ◌<◌, ◌≤◌, length, MatchOption, Some, slice_get};
+ghost use Rattle.std.specs.Prelude.{◌≡◌, ◌+◌, ◌*◌, ◌^◌, ◌<◌, ◌≤◌, [], length, IfOk, MatchOption, Some, unwrap_or, slice_get};
 ghost use Rattle.std.specs.List.{zip};
+ghost use Rattle.std.specs.Option.{option_map};
 ghost use Rattle.std.specs.Arc.{arc_value};
 ghost use Rattle.range_log.specs.Rows.{levels_of};
 ghost use Rattle.node_store.specs.UpdateRows.{bytes_of_page, stored_of, IsNodeFor, HasNoNodeFor};
 ghost use Rattle.page_store.specs.Stored.{bytes_of_pages};
 
+use crate::NoMemory;
 use crate::folds::Folds;
 use crate::house::{NodeRef, RowNodes};
+use crate::shape::Shape;
 use page_store::{Pages, StoredPage};
 use range_log::index_in_row;
+use std::alloc::Global;
 use std::marker::Model;
 use std::sync::Arc;
 use tree_geom::{PageSize, Range, Touch};
@@ -23,20 +27,22 @@ use tree_geom::{PageSize, Range, Touch};
 pub struct Row {
     blob: u64,
     offset: u64,
-    touch: Touch,
-    page_size: PageSize,
-    height: u32,
     pages: Arc<Pages>,
-    folds: Folds,
+    // None where there are none, as in most rows
+    folds: Option<Box<Folds>>,
+    // what a look at a node needs stands side by side
     nodes: RowNodes,
+    page_size: PageSize,
+    shape: Shape,
 }
 
 impl Model for Row {
-    ghost use Rattle.std.specs.Prelude.{◌+◌};
+    ghost use Rattle.std.specs.Prelude.{◌+◌, [], unwrap_or};
     ghost use Rattle.std.specs.List.{zip};
     ghost use Rattle.std.specs.Arc.{arc_value};
     ghost use Rattle.range_log.specs.Rows.{levels_of};
     ghost use Rattle.node_store.specs.UpdateRows.{UpdateRow};
+    ghost use Rattle.std.specs.Option.{option_map};
     ghost use Rattle.node_store.specs.RowKept.{KeepsRow};
 
     ghost Value = { UpdateRow };
@@ -46,11 +52,11 @@ impl Model for Row {
           blob = r.blob;
           version = r.nodes.version;
           offset = r.offset;
-          touch = r.touch;
-          nodes = zip (levels_of r.page_size r.touch (r.height + 1)) r.nodes.nodes;
+          touch = r.shape.touch;
+          nodes = zip (levels_of r.page_size r.shape.touch (r.shape.height + 1)) r.nodes.nodes;
           spot = r.nodes.spot;
           pages = arc_value r.pages;
-          folds = r.folds;
+          folds = unwrap_or (option_map (λ b. b.value) r.folds) [];
         } };
 
     ghost invariant = { KeepsRow };
@@ -59,8 +65,9 @@ impl Model for Row {
 impl Row {
     /// The row of an update that begins at byte `offset` of the blob, touches `touch`, has these pages and stores those pages of the
     /// blob anew, in a tree of that height over pages of `p` bytes. Its nodes are those of the ranges that it touches, in the order of
-    /// a row. It takes no memory.
+    /// a row. It takes memory where there are pages that are stored anew, and else none.
     pub fn of(
+        alloc: Global,
         blob: u64,
         offset: u64,
         touch: Touch,
@@ -69,12 +76,12 @@ impl Row {
         pages: Arc<Pages>,
         folds: Folds,
         nodes: RowNodes,
-    ) -> Row
+    ) -> Result<Row, NoMemory>
         requires height { height ≤ 38 }
         requires ordered { touch.first ≤ touch.last }
         requires fits { touch.last * p ≤ 2 ^ 40 }
         requires whole { length nodes.nodes ≡ length (levels_of p touch (height + 1)) }
-        ensures { result ≡ record {
+        ensures { IfOk result (λ row. row ≡ record {
           blob = blob;
           version = nodes.version;
           offset = offset;
@@ -83,18 +90,18 @@ impl Row {
           spot = nodes.spot;
           pages = arc_value pages;
           folds = folds;
-        } }
+        }) }
     {
-        Row {
+        let folds = kept(alloc, folds)?;
+        Ok(Row {
             blob,
             offset,
-            touch,
-            page_size: p,
-            height,
             pages,
             folds,
             nodes,
-        }
+            page_size: p,
+            shape: Shape::of(touch, height),
+        })
     }
 
     /// The blob under which the update was made.
@@ -122,15 +129,17 @@ impl Row {
     pub fn touch(&self) -> Touch
         ensures { result ≡ self.now.touch }
     {
-        self.touch
+        self.shape.touch()
     }
 
+    #[inline(always)]
     /// The node of that range, or None where the row has none. Its index is computed, and no node is looked at.
     pub fn at(&self, range: Range) -> Option<NodeRef<'_>>
         ensures { MatchOption result (HasNoNodeFor self.now range) (λ node. IsNodeFor self.now range node) }
     {
         let count = self.nodes.count();
-        match index_in_row(self.page_size, self.height, &self.touch, count, range) {
+        let (touch, height) = (self.shape.touch(), self.shape.height());
+        match index_in_row(self.page_size, height, &touch, count, range) {
             Some(index) => Some(self.nodes.node(index)),
             None => None,
         }
@@ -143,11 +152,14 @@ impl Row {
         &self.pages
     }
 
-    /// The pages of the blob that the update stores anew.
-    pub fn folds(&self) -> &Folds
-        ensures { result.now ≡ self.now.folds }
+    /// The pages of the blob that the update stores anew, or None where there are none.
+    pub fn folds(&self) -> Option<&Folds>
+        ensures { MatchOption result (self.now.folds ≡ []) (λ folds. folds.now ≡ self.now.folds) }
     {
-        &self.folds
+        match &self.folds {
+            Some(folds) => Some(folds),
+            None => None,
+        }
     }
 
     /// The stored page `q`, counted from 0, to which a piece of that number leads: first come the update's pages, of which page
@@ -163,7 +175,20 @@ impl Row {
         if q < count {
             self.pages.page(q)
         } else {
-            self.folds.page(q - count)
+            match &self.folds {
+                Some(folds) => folds.page(q - count),
+                None => unreachable!(),
+            }
         }
     }
+}
+
+// The pages as a row keeps them.
+fn kept(alloc: Global, folds: Folds) -> Result<Option<Box<Folds>>, NoMemory>
+    ensures { IfOk result (λ kept. unwrap_or (option_map (λ b. b.value) kept) [] ≡ folds) }
+{
+    if folds.count() == 0 {
+        return Ok(None);
+    }
+    Ok(Some(Box::new(alloc, folds)?))
 }

@@ -5,7 +5,7 @@ ghost use Rattle.range_log.specs.Laws.{FoldNumberIs};
 
 /// The fold number: how many leaves of a page that their updates don't cover may come in a row until the last of them stores the
 /// whole page anew. With 0 none ever does.
-pub const FOLD: u32 = 0;
+pub const FOLD: u32 = 16;
 
 /// The fold number is 0 or 16, and nothing else is known of it. For proofs: it does nothing.
 pub fn fold_stands()

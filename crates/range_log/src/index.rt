@@ -16,6 +16,7 @@ pub(crate) struct Level {
 }
 
 // The ranges of so many bytes in the row of an update with that touch, in a tree of that height.
+#[inline(always)]
 fn level_of_size(p: PageSize, height: u32, touch: &Touch, size: u64) -> Option<Level>
     requires height { height ≤ 38 }
     requires ordered { touch.now.first ≤ touch.now.last }
@@ -42,6 +43,7 @@ fn level_of_size(p: PageSize, height: u32, touch: &Touch, size: u64) -> Option<L
 }
 
 // Which range of `size` bytes begins at `offset`, or before it. Mostly it is the first of its level, and then nothing is divided.
+#[inline(always)]
 fn number_of(first: u64, size: u64, offset: u64) -> u64
     requires some { 1 ≤ size }
     requires fits { first * size ≤ 2 ^ 40 }
@@ -58,6 +60,7 @@ fn number_of(first: u64, size: u64, offset: u64) -> u64
 ///
 /// The row is that of an update with that touch, in a tree of that height, and has `count` ranges. The time is constant for a
 /// page, and else linear in the height of the range.
+#[inline(always)]
 pub fn index_in_row(
     p: PageSize,
     height: u32,

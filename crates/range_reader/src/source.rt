@@ -43,6 +43,7 @@ impl LeafParts {
     }
 
     // Whether any of `count` bytes of the page from its byte `begin` on is the leaf's own.
+    #[inline(always)]
     pub(crate) fn meets(&self, begin: usize, count: usize) -> bool
         requires { begin + count < 2 ^ 64 }
         ensures { IsTrue result ↔ (begin < self.now.start + (self.now.first.len + self.now.second.len)) × (self.now.start < begin + count) }
@@ -54,6 +55,7 @@ impl LeafParts {
 }
 
 // The node that the row of update `j` has for the range.
+#[inline(always)]
 fn node<L: Ledger>(
     snapshot: &Snapshot,
     nodes: &NodeHouse,
@@ -94,6 +96,7 @@ pub(crate) fn links<L: Ledger>(
 }
 
 // The leaf of the page in the row of update `j`.
+#[inline(always)]
 pub(crate) fn leaf<L: Ledger>(
     snapshot: &Snapshot,
     nodes: &NodeHouse,

@@ -11,4 +11,4 @@ mod weave;
 
 pub use node_store::NoMemory;
 pub use put::put_row;
-pub use weave::{PlannedRow, plan};
+pub use weave::{PlannedRow, folds_of_ticket, plan};

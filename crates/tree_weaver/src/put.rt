@@ -63,6 +63,6 @@ pub fn put_row<R: Wait>(
     let (blob, version) = (ticket.blob(), ticket.version());
     let (offset, touch) = (ticket.at(), ticket.touch());
     let placed = put_nodes(rt, alloc, version, planned, nodes)?;
-    let row = Row::of(blob, offset, touch, p, height, pages, folds, placed);
+    let row = Row::of(alloc, blob, offset, touch, p, height, pages, folds, placed)?;
     Ok(Arc::new(alloc, row)?)
 }

@@ -1,5 +1,5 @@
 // The plan of a row.
-ghost use Rattle.std.specs.Prelude.{◌≡◌, ℕ, ◌+◌, ◌-◌, ◌*◌, ◌/◌, ◌^◌, ◌≤◌, ◌++◌, List, length, IfOk};
+ghost use Rattle.std.specs.Prelude.{◌≡◌, ℕ, ◌+◌, ◌-◌, ◌*◌, ◌/◌, ◌^◌, ◌<◌, ◌≤◌, ◌++◌, List, length, IfOk};
 ghost use Rattle.std.specs.List.{filter_map};
 ghost use Rattle.tree_geom.specs.Geometry.{tree_range, height_of};
 ghost use Rattle.range_log.specs.Extents.{Extent};
@@ -13,8 +13,8 @@ use crate::node::{folds, inner, leaf};
 use border_hints::{Borders, Ticket, borders};
 use node_store::{NoMemory, NodeHouse};
 use std::alloc::Global;
-use std::marker::Model;
-use std::sync::ledger::Ledger;
+use std::marker::{Brand, Model};
+use std::sync::ledger::{Blank, Ledger};
 use tree_geom::{Node, Range, Steps, Touch, height, span_stands};
 
 /// The nodes of a numbered update beside their ranges, in the order of its row: the largest ranges first, and then by offset.
@@ -152,4 +152,30 @@ pub fn plan<L: Ledger>(
         nodes: row,
         folded: folds(ticket, &borders),
     })
+}
+
+/// The pages of the blob that the ticket's update stores anew, in their order: those that its planned row would name, from the ticket
+/// alone and without a plan.
+///
+/// It goes down the snapshot's tree as `plan` does and makes no row: it takes no memory and no lock, and waits for nobody.
+pub fn folds_of_ticket(ticket: &Ticket, nodes: &NodeHouse) -> [Option<u64>; 2]
+    requires here { NodesLieIn nodes.now ticket.now.snapshot }
+    ensures folded { (us : List Extent) → StandsFor ticket.now us → filter_map (λ o. o) result ≡ folds_of ticket.now.snapshot.page_size us ticket.now.version }
+{
+    folds_by::<Brand>(ticket, nodes, Blank::new(1))
+}
+
+// The same. Nobody counts the node steps that it takes.
+fn folds_by<L: Ledger>(ticket: &Ticket, nodes: &NodeHouse, blank: Blank) -> [Option<u64>; 2]
+    requires here { NodesLieIn nodes.now ticket.now.snapshot }
+    requires name { blank.name ≡ L.name }
+    requires parts { blank.parts ≡ L.parts }
+    requires some { 0 < blank.parts }
+    ensures folded { (us : List Extent) → StandsFor ticket.now us → filter_map (λ o. o) result ≡ folds_of ticket.now.snapshot.page_size us ticket.now.version }
+{
+    range_log::laws::logs_are_grown();
+    ticket.stands();
+    let mut steps = Steps::<L>::open(blank);
+    let borders = borders(ticket, nodes, &mut steps);
+    folds(ticket, &borders)
 }

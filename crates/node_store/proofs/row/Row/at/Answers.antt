@@ -1,4 +1,5 @@
-use Rattle.std.proofs.Common.{◌+◌, subst}
+use Rattle.std.proofs.Common.{◌≡◌, ◌+◌, List, ap, subst, sym, ◌∙◌}
+use Rattle.std.specs.Prelude.{Some, slice_get}
 use Rattle.std.specs.List.{Contains}
 use Rattle.tree_geom.specs.declared.range.Range.{Range}
 use Rattle.range_log.specs.Rows.{levels_of}
@@ -8,14 +9,22 @@ use Rattle.node_store.proofs.row.Row.at.Goals as goal
 pub returns-in-Some : goal.returns-in-Some
 returns-in-Some c =
     let row = c.self.inside in
+    let asked : List Range = levels_of row.page_size c.touch-touch.result (c.height-height.result + 1) in
+    let kept : List Range = levels_of row.page_size row.shape.touch (row.shape.height + 1) in
+    let same : asked ≡ kept = ap (λ t. levels_of row.page_size t (c.height-height.result + 1)) c.touch-touch.ensures ∙ ap (λ h. levels_of row.page_size row.shape.touch (h + 1)) c.height-height.ensures in
+    let S : List Range → Type 0 = λ ranges. slice_get ranges c.in-Some.index ≡ Some c.args.range in
     rw (← c.self.view_is) (record {
-      among = contains_pair (levels_of row.page_size row.touch (row.height + 1)) row.nodes.nodes c.in-Some.index c.args.range c.node.result.node c.in-Some.ensures c.node.ensures.node;
+      among = contains_pair kept row.nodes.nodes c.in-Some.index c.args.range c.node.result.node (subst S same c.in-Some.ensures) c.node.ensures.node;
       there = c.node.ensures.spot;
     })
 
 pub returns-in-None : goal.returns-in-None
 returns-in-None c =
     let row = c.self.inside in
-    rw (← c.self.view_is) (λ i pair is same.
-    let C : Range → Type 0 = λ r. Contains (levels_of row.page_size row.touch (row.height + 1)) r in
-    c.in-None.ensures (subst C same (contains_left (levels_of row.page_size row.touch (row.height + 1)) row.nodes.nodes i pair is)))
+    let asked : List Range = levels_of row.page_size c.touch-touch.result (c.height-height.result + 1) in
+    let kept : List Range = levels_of row.page_size row.shape.touch (row.shape.height + 1) in
+    let same : asked ≡ kept = ap (λ t. levels_of row.page_size t (c.height-height.result + 1)) c.touch-touch.ensures ∙ ap (λ h. levels_of row.page_size row.shape.touch (h + 1)) c.height-height.ensures in
+    rw (← c.self.view_is) (λ i pair is found.
+    let C : Range → Type 0 = λ r. Contains kept r in
+    let L : List Range → Type 0 = λ ranges. Contains ranges c.args.range in
+    c.in-None.ensures (subst L (sym same) (subst C found (contains_left kept row.nodes.nodes i pair is))))
