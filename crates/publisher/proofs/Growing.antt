@@ -122,7 +122,7 @@ module _ (stay : RowsStay) (grow : ExtentsGrow) (own : OwnRowsStay) where
 
 -- ---- published versions
 -- the first updates have the first touches
-touches_first : RowsStay → (p v : ℕ) (xs : List Extent) → v ≤ length xs → touches p (take v xs) ≡ take v (touches p xs)
+pub touches_first : RowsStay → (p v : ℕ) (xs : List Extent) → v ≤ length xs → touches p (take v xs) ≡ take v (touches p xs)
 touches_first stay p v xs le =
     let first : length (take v xs) ≡ v = length-take-le v xs le in
     let left : length (touches p (take v xs)) ≡ v = length-touches p (take v xs) ∙ first in

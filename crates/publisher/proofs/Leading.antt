@@ -1,5 +1,6 @@
 -- The rows before the first missing one.
 use Rattle.std.proofs.Common.{◌≡◌, ℕ, zero, suc, ◌+◌, ◌<◌, ◌≤◌, List, [], ◌∷◌, ◌++◌, length, take, drop, map, is_some, option_map, Option, None, Some, arith, refl, ap, sym, ◌∙◌, get_or, set}
+use Rattle.std.specs.Prelude.{All, IfSome}
 use Rattle.std.proofs.lemmas.List.{drop_more}
 use Rattle.blob_model.specs.Store.{true_prefix}
 use Rattle.tree_geom.specs.declared.touch.Touch.{Touch}
@@ -60,6 +61,13 @@ leading_at [] i d lt = absurd (omega arith)
 leading_at (None ∷ xs) i d lt = absurd (omega arith)
 leading_at (Some r ∷ xs) zero d lt = refl
 leading_at (Some r ∷ xs) (suc i) d lt = leading_at xs i d (omega arith)
+
+-- what holds of each row that is there holds of these
+pub leading_all : (P : UpdateRow → Type 0) (rows : List (Option UpdateRow)) → All (λ (o : Option UpdateRow). IfSome o P) rows → All P (leading rows)
+leading_all P [] h k d lt = absurd (omega arith)
+leading_all P (None ∷ rest) h k d lt = absurd (omega arith)
+leading_all P (Some row ∷ rest) h zero d lt = h 0 None (omega arith)
+leading_all P (Some row ∷ rest) h (suc k) d lt = leading_all P rest (λ i o l. h (suc i) o (omega arith)) k d (omega arith)
 
 -- rows that touch what the first of these touches say
 pub touches_match : (rows : List UpdateRow) (ts : List Touch) → length rows ≤ length ts → ((i : ℕ) → i < length rows → (get_or rows i no_row).touch ≡ get_or ts i no_touch) → row_touches rows ≡ take (length rows) ts

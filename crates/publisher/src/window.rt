@@ -1,5 +1,5 @@
 // The numbered updates of one blob.
-ghost use Rattle.std.specs.Prelude.{◌≡◌, ◌+◌, ◌<◌, ◌≤◌, ◌↔◌, true, false, length, IfOk, IfErr};
+ghost use Rattle.std.specs.Prelude.{◌≡◌, ◌+◌, ◌-◌, ◌<◌, ◌≤◌, ◌↔◌, true, false, length, IfOk, IfErr};
 ghost use Rattle.std.specs.Arc.{arc_value};
 ghost use Rattle.snapshot.specs.Versions.{older_version, IsVersion};
 
@@ -128,6 +128,14 @@ impl Window {
             return true;
         }
         self.above[(version - published - 1) as usize].is_some()
+    }
+
+    /// Which of the waiting updates that version is, the least being number 0. It is numbered and not published.
+    pub fn place(&self, version: u64) -> u32
+        requires { (published_of self.now < version) × (version ≤ length self.now.log) }
+        ensures { result ≡ version - published_of self.now - 1 }
+    {
+        (version - self.snapshot.version() - 1) as u32
     }
 
     /// The greatest version up to which all are finished.

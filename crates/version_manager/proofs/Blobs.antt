@@ -1,9 +1,9 @@
 -- What a window tells of the blob that it keeps.
-use Rattle.std.proofs.Common.{◌≡◌, ℕ, suc, ◌+◌, ◌-◌, ◌≤◌, ◌==◌, Bool, true, false, List, [], length, take, drop, arith, refl, ap, sym, subst, ◌∙◌, get_or, set, Some, is_some, length-drop, take-append-drop}
+use Rattle.std.proofs.Common.{◌≡◌, ℕ, suc, ◌+◌, ◌-◌, ◌<◌, ◌≤◌, ◌==◌, Bool, true, false, List, [], length, take, drop, arith, refl, ap, sym, subst, ◌∙◌, get_or, set, Some, is_some, length-drop, take-append-drop, true≢false, inl, inr}
 use Rattle.std.proofs.lemmas.List.{length-map, length-take-le, map-set, get_or-drop}
 use Rattle.std.proofs.Math.Seq.{take-length}
 use Rattle.std.specs.Prelude.{replicate, if◌then◌else◌}
-use Rattle.std.proofs.lemmas.Bool.{ne_eqb}
+use Rattle.std.proofs.lemmas.Bool.{ne_eqb, cases_lt}
 use Rattle.blob_model.specs.Content.{Update, size_of}
 use Rattle.blob_model.specs.Limits.{Bounds}
 use Rattle.blob_model.specs.Store.{Blob, true_prefix, assigned, published, waiting, size_now, is_finished, finish, branch_of}
@@ -29,7 +29,7 @@ use Rattle.publisher.proofs.Standing.{rows_published, stands_finished}
 use Rattle.range_log.proofs.Growth.{extent_of_front, size_front}
 use Rattle.tree_geom.proofs.Spans.{page_pos}
 use Rattle.version_manager.specs.DeskInvariant.{Keeps}
-use Rattle.version_manager.proofs.BlobsSizes.{prefix_within, prefix_set, prefix_whole, all_present, opens_count, opens_touch, sizes_grow}
+use Rattle.version_manager.proofs.BlobsSizes.{prefix_within, prefix_set, prefix_true, prefix_whole, all_present, opens_count, opens_touch, sizes_grow}
 
 -- rows of updates are those of the first of them
 rows_of_front : (p v : ℕ) (us : List Update) (rows : List UpdateRow) → v ≤ length us → length rows ≤ v → AreRowsOf p us rows → AreRowsOf p (take v us) rows
@@ -47,7 +47,7 @@ size_taken us v k le few =
     let count : length (take v us) ≡ v = length-take-le v us le in
     sym (size_front (take v us) (drop v us) k (omega arith)) ∙ ap (λ l. size_of l k) (take-append-drop v us)
 
-replayable_taken : (us : List Update) (v : ℕ) → v ≤ length us → Replayable us → Replayable (take v us)
+pub replayable_taken : (us : List Update) (v : ℕ) → v ≤ length us → Replayable us → Replayable (take v us)
 replayable_taken us v le ok k lt =
     let count : length (take v us) ≡ v = length-take-le v us le in
     let same : extent_of us (suc k) ≡ extent_of (take v us) (suc k) = ap (λ l. extent_of l (suc k)) (sym (take-append-drop v us)) ∙ extent_of_front (take v us) (drop v us) k (omega arith) in
@@ -71,6 +71,13 @@ first_kept limits id p = record {
   waiting = omega arith;
   size = omega arith;
 }
+
+-- an unfinished version isn't published
+pub unfinished_above : (w : Numbered) (version : ℕ) → 1 ≤ version → is_done w version ≡ false → published_of w < version
+unfinished_above w version some e = elim (cases_lt (version - 1) (published_of w)) [
+  | inl lt ↦ absurd (true≢false (sym (prefix_true (finished_of w) (version - 1) lt) ∙ e))
+  | inr le ↦ omega arith
+]
 
 module _ (limits : Bounds) (w : Numbered) (b : Blob) (k : Keeps limits w b) where
   pub assigned_is : length w.log ≡ assigned b

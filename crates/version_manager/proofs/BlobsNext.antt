@@ -103,7 +103,7 @@ module _ (us : List Update) (u : Update) (ok : Replayable us) (begins : offset_o
 
 -- what a window and its published version tell of the log
 module _ (limits : Bounds) (w : Numbered) (b : Blob) (k : Keeps limits w b) (even : length w.rows ≡ length w.log) (is : IsVersion (version_of w)) where
-  front : log_of (version_of w) ≡ take (published_of w) w.log
+  pub front : log_of (version_of w) ≡ take (published_of w) w.log
   front =
       let rows : List UpdateRow = leading w.rows in
       let whole : take (length rows) rows ≡ rows = take-length rows in

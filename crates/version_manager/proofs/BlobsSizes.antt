@@ -31,6 +31,12 @@ prefix_set (true ∷ bs) zero = omega arith
 prefix_set (true ∷ bs) (suc i) = omega (arith, prefix_set bs i)
 prefix_set (false ∷ bs) i = omega arith
 
+pub prefix_true : (bs : List Bool) (i : ℕ) → i < true_prefix bs → get_or bs i false ≡ true
+prefix_true [] i lt = absurd (omega arith)
+prefix_true (true ∷ bs) zero lt = refl
+prefix_true (true ∷ bs) (suc i) lt = prefix_true bs i (omega arith)
+prefix_true (false ∷ bs) i lt = absurd (omega arith)
+
 pub prefix_whole : (n : ℕ) → true_prefix (replicate n true) ≡ n
 prefix_whole zero = refl
 prefix_whole (suc n) = omega (arith, prefix_whole n)

@@ -1,5 +1,5 @@
 -- In which houses the rows of a desk lie.
-use Rattle.std.proofs.Common.{◌≡◌, ℕ, ◌-◌, ◌<◌, List, [], ◌∷◌, length, get_or, zero, suc, sym, subst, arith}
+use Rattle.std.proofs.Common.{◌≡◌, ℕ, ◌-◌, ◌<◌, List, [], length, get_or, sym, subst, arith}
 use Rattle.std.specs.Prelude.{Option, Some, None, All, take}
 use Rattle.std.proofs.lemmas.List.Elements.{All-push, All-set, All-take, All-map}
 use Rattle.boxcar.specs.Table.{Shelves}
@@ -7,6 +7,7 @@ use Rattle.page_store.specs.House.{House}
 use Rattle.node_store.specs.UpdateRows.{UpdateRow, IsRowIn}
 use Rattle.tree_geom.specs.declared.touch.Touch.{Touch}
 use Rattle.publisher.specs.Windows.{Numbered, leading, version_of, window_on, with_numbered, with_finished}
+use Rattle.publisher.proofs.Leading.{leading_all}
 use Rattle.snapshot.specs.Versions.{older_version, under_blob, IsVersionIn}
 use Rattle.version_manager.specs.Desks.{IsRowIfAnyIn}
 
@@ -31,15 +32,8 @@ module _ (nodes : List Shelves) (houses : List House) where
   pub window_lies : (ws : List Numbered) (i : ℕ) (w e : Numbered) → All AreRowsIn ws → i < length ws → w ≡ get_or ws i e → AreRowsIn w
   window_lies ws i w e h lt is = subst (λ (x : Numbered). AreRowsIn x) (sym is) (h i e lt)
 
-  -- the rows before the first missing one
-  leading_at : (rows : List (Option UpdateRow)) → All (IsRowIfAnyIn nodes houses) rows → (k : ℕ) (d : UpdateRow) → k < length (leading rows) → IsRowIn nodes houses (get_or (leading rows) k d)
-  leading_at [] h k d lt = absurd (omega arith)
-  leading_at (None ∷ rest) h k d lt = absurd (omega arith)
-  leading_at (Some row ∷ rest) h zero d lt = h 0 None (omega arith)
-  leading_at (Some row ∷ rest) h (suc k) d lt = leading_at rest (λ i o l. h (suc i) o (omega arith)) k d (omega arith)
-
   older_rows_in : (w : Numbered) (version : ℕ) → AreRowsIn w → All (IsRowIn nodes houses) (take version (leading w.rows))
-  older_rows_in w version h = All-take (IsRowIn nodes houses) version (leading w.rows) (leading_at w.rows h)
+  older_rows_in w version h = All-take (IsRowIn nodes houses) version (leading w.rows) (leading_all (IsRowIn nodes houses) w.rows h)
 
   pub older_in : (w : Numbered) (version : ℕ) → AreRowsIn w → IsVersionIn nodes houses (older_version (version_of w) version)
   older_in w version h =

@@ -16,3 +16,5 @@ pub mod Turns
 pub mod Gaps
 pub mod GapFinishes
 pub mod Origins
+pub mod Waits
+pub mod Reissuing

@@ -1,13 +1,13 @@
 -- The numbering of an update.
-use Rattle.std.proofs.Common.{◌≡◌, ℕ, ◌+◌, ◌-◌, ◌≤◌, ◌==◌, Bool, false, List, [], ◌∷◌, ◌++◌, length, map, take, get_or, set, zero, suc, refl, sym, ◌∙◌, ap, subst, arith, length-append}
-use Rattle.std.specs.Prelude.{Some, None, is_some}
+use Rattle.std.proofs.Common.{◌≡◌, ℕ, ◌+◌, ◌-◌, ◌<◌, ◌≤◌, ◌==◌, Bool, false, List, [], ◌∷◌, ◌++◌, length, map, take, get_or, set, zero, suc, refl, sym, ◌∙◌, ap, subst, arith, length-append}
+use Rattle.std.specs.Prelude.{Option, Some, None, is_some}
 use Rattle.std.proofs.Math.Seq.{take-length}
 use Rattle.std.proofs.lemmas.List.{get_or_push, length-map}
 use Rattle.std.proofs.lemmas.Bool.Decides.{nat_tests}
 use Rattle.blob_model.specs.Limits.{Bounds}
 use Rattle.blob_model.specs.Content.{Update, offset_of}
 use Rattle.blob_model.specs.Store.{Store, Blob, blob_at, assigned, size_now, size_with, and_update, with_blob, is_finished}
-use Rattle.blob_model.specs.Answer.{Answered, answer, first_refusal, unless_refused, offset_past_size, blob_too_big, too_many_versions, too_many_open}
+use Rattle.blob_model.specs.Answer.{Answered, answer, first_refusal, unless_refused, refuse, offset_past_size, blob_too_big, too_many_versions, too_many_open}
 use Rattle.blob_model.specs.History.{store_of}
 use Rattle.blob_model.specs.declared.call.Place.{Place}
 use Rattle.blob_model.specs.declared.call.Call.TheVariants as Calls
@@ -15,6 +15,7 @@ use Rattle.blob_model.specs.declared.call.Event.{Event}
 use Rattle.blob_model.specs.declared.call.Event.TheVariants as Events
 use Rattle.blob_model.specs.declared.call.Outcome.TheVariants as Outcomes
 use Rattle.blob_model.specs.declared.call.Refusal.{Refusal}
+use Rattle.blob_model.specs.declared.call.Refusal.TheVariants as Refusals
 use Rattle.range_log.specs.Updates.{update_at, extents, no_update}
 use Rattle.std.proofs.Common.{Global}
 use Rattle.std.specs.declared.sync.Arc.{Arc}
@@ -26,12 +27,12 @@ use Rattle.version_manager.specs.declared.entry.Entry.{Entry}
 use Rattle.version_manager.specs.Entries.{event_of}
 use Rattle.border_hints.specs.Numbered.{NumberedUpdate, StandsFor}
 use Rattle.publisher.specs.Windows.{Numbered}
-use Rattle.version_manager.specs.Desks.{DeskState, updates_or_none, updates_in, finished_or_not, OnRefused, IsTicketOf, IsUnfinished}
+use Rattle.version_manager.specs.Desks.{DeskState, updates_or_none, updates_in, finished_or_not, OnRefused, IsTicketOf, IsUnfinished, refusal_in}
 use Rattle.version_manager.specs.declared.fault.DeskFault.{DeskFault}
 use Rattle.version_manager.specs.declared.fault.DeskFault.TheVariants.{Refused, NoMemory}
 use Rattle.version_manager.specs.DeskInvariant.{Keeps, KeepsDesk, update_tests}
-use Rattle.version_manager.proofs.Stores.{store_after, legal_after, unless_none, unless_some, in_blob_here, store_limits, blob_at-with}
-use Rattle.version_manager.proofs.Desks.{pushed_event, kept_of, replaced, IsHere}
+use Rattle.version_manager.proofs.Stores.{store_after, legal_after, unless_none, unless_some, in_blob_here, in_blob_none, store_limits, blob_at-with}
+use Rattle.version_manager.proofs.Desks.{pushed_event, absent, kept_of, replaced, IsHere}
 
 -- ---- the entry of a numbering
 pub numbered_event : (old room new : List Entry) (caller blob : ℕ) (place : Place) (pages : Arc Pages Global) (q : Cut) → room ≡ old
@@ -84,6 +85,11 @@ is_unfinished d blob v b u at is even =
       unfinished = ap (λ o. finished_or_not o v) at ∙ open_yet;
     }
 
+-- the refusal of an answer, by the first of the reasons
+told : (s : Store) (o : Option Refusal) (done : Answered) → refusal_in done.1 ≡ None → refusal_in (let a : Answered = elim o [ Some r ↦ refuse s r | None ↦ done ] in a).1 ≡ o
+told s (Some r) done e = refl
+told s None done e = e
+
 module _ (limits : Bounds) (p : ℕ) (h : List Event) (ws : List Numbered) (kept : KeepsDesk limits p h ws) (caller blob : ℕ) (place : Place) (bytes : List ℕ) where
   abbrev pub own_update : Update
   own_update = record { caller = caller; place = place; bytes = bytes }
@@ -98,6 +104,10 @@ module _ (limits : Bounds) (p : ℕ) (h : List Event) (ws : List Numbered) (kept
       (offset_past_size b place ∷ blob_too_big s b place bytes ∷ too_many_versions s b ∷ too_many_open s b ∷ [])
       (with_blob s blob (and_update b own_update), Outcomes.Assigned (assigned b + 1) (offset_of place (size_now b)) (size_with b place bytes))
 
+  pub assign_absent : (1 ≤ blob → length ws < blob) → (answer (store_of limits h) caller (Calls.Assign blob place bytes)).1 ≡ Outcomes.Refused (Refusals.NoBlob blob)
+  unfolding assigning
+  assign_absent past = ap (λ (a : Answered). a.1) (in_blob_none (store_of limits h) blob assigning (absent limits p h ws kept blob past))
+
   module _ (x : IsHere limits p h ws kept blob) where
     tests_is : first_refusal (update_tests (store_of limits h).limits x.b place bytes) ≡ first_refusal (update_tests limits x.b place bytes)
     tests_is = ap (λ (l : Bounds). first_refusal (update_tests l x.b place bytes)) (store_limits limits h)
@@ -109,6 +119,14 @@ module _ (limits : Bounds) (p : ℕ) (h : List Event) (ws : List Numbered) (kept
     assign_refused : (r : Refusal) → first_refusal (update_tests limits x.b place bytes) ≡ Some r → (answer (store_of limits h) caller (Calls.Assign blob place bytes)).1 ≡ Outcomes.Refused r
     unfolding assigning
     assign_refused r e = ap (λ (a : Answered). a.1) (assign_at ∙ unless_some (store_of limits h) (update_tests (store_of limits h).limits x.b place bytes) _ r (tests_is ∙ e))
+
+    -- what it is refused for, if it is
+    pub assign_told : refusal_in (answer (store_of limits h) caller (Calls.Assign blob place bytes)).1 ≡ first_refusal (update_tests limits x.b place bytes)
+    unfolding assigning
+    assign_told =
+        ap (λ (a : Answered). refusal_in a.1) assign_at
+        ∙ told (store_of limits h) (first_refusal (update_tests (store_of limits h).limits x.b place bytes)) (with_blob (store_of limits h) blob (and_update x.b own_update), Outcomes.Assigned (assigned x.b + 1) (offset_of place (size_now x.b)) (size_with x.b place bytes)) refl
+        ∙ tests_is
 
     pub assign_fault : (fault : DeskFault) → OnRefused fault (λ r. first_refusal (update_tests limits x.b place bytes) ≡ Some r)
         → OnRefused fault (λ r. (answer (store_of limits h) caller (Calls.Assign blob place bytes)).1 ≡ Outcomes.Refused r)

@@ -1,6 +1,6 @@
 -- What a call on the desk tells of the list of entries.
 use Rattle.std.proofs.Common.{◌≡◌, ℕ, ◌<◌, ◌^◌, true, false, List, [], ◌∷◌, ◌++◌, length, refl, sym, ap, ◌∙◌, subst, inl, inr, arith}
-use Rattle.std.specs.Prelude.{◌⊎◌, Result, Ok, Err, IfOk, IfErr}
+use Rattle.std.specs.Prelude.{◌⊎◌, Option, None, Some, Result, Ok, Err, IfOk, IfErr}
 use Rattle.std.proofs.lemmas.List.{map-append, length-map}
 use Rattle.blob_model.specs.History.{caller_of, is_refused, IsLegal}
 use Rattle.blob_model.specs.declared.call.Call.{Call}
@@ -8,7 +8,9 @@ use Rattle.blob_model.specs.declared.call.Call.TheVariants as Calls
 use Rattle.blob_model.specs.declared.call.Event.{Event}
 use Rattle.blob_model.specs.declared.call.Outcome.{Outcome}
 use Rattle.blob_model.specs.declared.call.Outcome.TheVariants as Outcomes
-use Rattle.page_store.specs.Stored.{Cut, bytes_of_pages}
+use Rattle.blob_model.specs.declared.call.Place.{Place}
+use Rattle.blob_model.specs.declared.call.Refusal.{Refusal}
+use Rattle.page_store.specs.Stored.{Cut, bytes_of_pages, LieAmong}
 use Rattle.node_store.specs.UpdateRows.{UpdateRow}
 use Rattle.snapshot.specs.Versions.{Version, IsRowOf, IsVersionIn, size_now}
 use Rattle.snapshot.specs.Laws.{TellUpdates}
@@ -16,9 +18,9 @@ use Rattle.border_hints.specs.Numbered.{NumberedUpdate}
 use Rattle.publisher.specs.Windows.{Numbered}
 use Rattle.version_manager.specs.declared.fault.DeskFault.{DeskFault}
 use Rattle.version_manager.specs.declared.journal.DeskFixed.{DeskFixed}
-use Rattle.version_manager.specs.Desks.{DeskState, OnRefused, OnNoMemory, IsTicketOf, IsRowFor, IsNumbering, IsUnfinished, HasHints, with_event, outcome_now, updates_in, is_finished_in}
+use Rattle.version_manager.specs.Desks.{DeskState, OnRefused, OnNoMemory, IsTicketOf, IsRowFor, IsNumbering, IsUnfinished, HasHints, HasHintsBelow, refusal_in, ticket_refusal, with_event, outcome_now, updates_in, is_finished_in}
 use Rattle.version_manager.specs.Origins.{LieUnderOrigins}
-use Rattle.version_manager.specs.Log.{IsLog, Looked, Changed, IsNewTicket, IsSnapshotOf, Opened, Finishes, desk_at, events, tagged, tag, fixed_of}
+use Rattle.version_manager.specs.Log.{IsLog, Looked, Changed, IsNewTicket, IsSnapshotOf, Opened, IsWaitingTicket, Reissued, Foreseen, Finishes, desk_at, events, tagged, tag, fixed_of}
 
 pub events_tagged : (h : List Event) → events (tagged h) ≡ h
 events_tagged [] = refl
@@ -181,3 +183,41 @@ opened d blob version caller r legal short size refused memory id rows page tell
       memory = subst M (sym (at_now d)) (memory caller);
       snapshot = snapshot_by d blob version r id rows page tells here origins;
     }
+
+-- a ticket of a waiting version
+waiting_ticket : (d : DeskState) (blob version : ℕ) (r : Result NumberedUpdate DeskFault) → IfOk r (λ t. t.blob ≡ blob) → IfOk r (λ t. t.version ≡ version) → IfOk r (λ t. IsTicketOf d t) → IfOk r (λ t. HasHintsBelow d blob t)
+    → IfOk r (λ t. LieAmong d.houses t.pages.pages) → IfOk r (λ _. IsUnfinished d blob version) → IfOk r (λ t. IsWaitingTicket (fixed_of d) (tagged d.history) blob version t)
+waiting_ticket d blob version (Err x) id is ticket hints here waits = tt
+waiting_ticket d blob version (Ok t) id is ticket hints here waits = record {
+  blob_is = id;
+  version_is = is;
+  ticket = subst (λ (s : DeskState). IsTicketOf s t) (sym (at_now d)) (bare_ticket d t ticket);
+  hints = subst (λ (s : DeskState). HasHintsBelow s blob t) (sym (at_now d))
+      record { blob_is = hints.blob_is; rows = hints.rows; tells = hints.tells; waiting = hints.waiting; here = hints.here; origins = hints.origins };
+  pages_here = here;
+  unfinished = subst (λ (s : DeskState). IsUnfinished s blob version) (sym (at_now d)) (bare_unfinished d blob version waits);
+}
+
+pub reissued : (d : DeskState) (blob version : ℕ) (r : Result NumberedUpdate DeskFault) → IsLegal d.limits d.history → length d.history < 2 ^ 38
+    → IfOk r (λ _. ticket_refusal d blob version ≡ None) → IfErr r (λ fault. OnRefused fault (λ x. ticket_refusal d blob version ≡ Some x)) → IfErr r (λ fault. OnNoMemory fault (ticket_refusal d blob version ≡ None))
+    → IfOk r (λ t. t.blob ≡ blob) → IfOk r (λ t. t.version ≡ version) → IfOk r (λ t. IsTicketOf d t) → IfOk r (λ t. HasHintsBelow d blob t)
+    → IfOk r (λ t. LieAmong d.houses t.pages.pages) → IfOk r (λ _. IsUnfinished d blob version) → Reissued (fixed_of d) blob version (tagged d.history) r (tagged d.history)
+reissued d blob version r legal short done refused memory id is ticket hints here waits =
+    let D : DeskState → Type 0 = λ s. IfOk r (λ _. ticket_refusal s blob version ≡ None) in
+    let R : DeskState → Type 0 = λ s. IfErr r (λ fault. OnRefused fault (λ x. ticket_refusal s blob version ≡ Some x)) in
+    let M : DeskState → Type 0 = λ s. IfErr r (λ fault. OnNoMemory fault (ticket_refusal s blob version ≡ None)) in
+    record {
+      log = is_log d d refl legal short;
+      same = refl;
+      done = subst D (sym (at_now d)) done;
+      refused = subst R (sym (at_now d)) refused;
+      memory = subst M (sym (at_now d)) memory;
+      ticket = waiting_ticket d blob version r id is ticket hints here waits;
+    }
+
+-- what would be refused
+pub foreseen : (d : DeskState) (blob : ℕ) (place : Place) (len caller : ℕ) (said : Option Refusal) → IsLegal d.limits d.history → length d.history < 2 ^ 38
+    → ((c : ℕ) (bytes : List ℕ) → length bytes ≡ len → said ≡ refusal_in (outcome_now d c (Calls.Assign blob place bytes))) → Foreseen (fixed_of d) blob place len (tagged d.history) caller said (tagged d.history)
+foreseen d blob place len caller said legal short is =
+    let S : DeskState → Type 0 = λ s. (bytes : List ℕ) → length bytes ≡ len → said ≡ refusal_in (outcome_now s caller (Calls.Assign blob place bytes)) in
+    record { log = is_log d d refl legal short; same = refl; said_is = subst S (sym (at_now d)) (is caller) }

@@ -1,7 +1,9 @@
 -- How a desk keeps its blobs.
-use Rattle.std.specs.Prelude.{◌≡◌, ℕ, suc, ◌^◌, ◌<◌, ◌≤◌, List, [], ◌∷◌, length, Some, slice_get}
+use Rattle.std.specs.Prelude.{◌≡◌, ℕ, suc, ◌+◌, ◌^◌, ◌<◌, ◌≤◌, List, [], ◌∷◌, length, Some, slice_get}
+use Rattle.std.specs.Arc.{arc_value}
+use Rattle.blob_model.specs.Content.{Update}
 use Rattle.blob_model.specs.Limits.{Bounds}
-use Rattle.blob_model.specs.Store.{Blob, empty_store, assigned, waiting, size_now}
+use Rattle.blob_model.specs.Store.{Blob, blob_at, empty_store, assigned, waiting, size_now}
 use Rattle.blob_model.specs.Answer.{Test, offset_past_size, blob_too_big, too_many_versions, too_many_open}
 use Rattle.blob_model.specs.History.{store_of, IsLegal}
 use Rattle.blob_model.specs.declared.call.Place.{Place}
@@ -9,8 +11,11 @@ use Rattle.blob_model.specs.declared.call.Event.{Event}
 use Rattle.tree_geom.specs.Geometry.{IsPageSize}
 use Rattle.boxcar.specs.Table.{Shelves}
 use Rattle.page_store.specs.House.{House}
-use Rattle.publisher.specs.Windows.{Numbered, finished_of, StandsFor}
-use Rattle.version_manager.specs.Desks.{LieIn}
+use Rattle.page_store.specs.Stored.{bytes_of_pages, LieAmong}
+use Rattle.range_log.specs.Updates.{update_at, extent_of}
+use Rattle.publisher.specs.Windows.{Numbered, finished_of, published_of, StandsFor}
+use Rattle.version_manager.specs.declared.waiting.WaitingUpdate.{WaitingUpdate}
+use Rattle.version_manager.specs.Desks.{LieIn, updates_or_none}
 use Rattle.version_manager.specs.Origins.{parents_of, KeepsOrigins}
 
 -- the window keeps the blob of that id: it stands for its updates, and tells which of them are finished; the blob is within the limits
@@ -41,9 +46,31 @@ pub record KeepsDesk (limits : Bounds) (p : ℕ) (history : List Event) (windows
   pub each : (i : ℕ) (b : Blob) (w : Numbered) → slice_get (store_of limits history).blobs i ≡ Some b → slice_get windows i ≡ Some w
       → IsBlobKept limits p (suc i) b w
 
--- The desk keeps its blobs, its rows lie in its houses, each under the blob that its version was numbered in, and its history is short.
-pub record IsDesk (limits : Bounds) (p : ℕ) (houses : List House) (nodes : List Shelves) (history : List Event) (windows : List Numbered) : Type 0 where
+-- ---- the updates that wait
+-- it tells of update v of these: who made it, where it begins, and the pages of its bytes, which lie in these houses
+pub record IsWaitingUpdate (p : ℕ) (houses : List House) (us : List Update) (v : ℕ) (u : WaitingUpdate) : Type 0 where
+  pub numbered : v ≤ length us
+  pub caller : u.caller ≡ (update_at us v).caller
+  pub at : u.at ≡ (extent_of us v).at
+  pub bytes : bytes_of_pages (arc_value u.pages).pages ≡ (update_at us v).bytes
+  pub page_size : (arc_value u.pages).page_size ≡ p
+  pub here : LieAmong houses (arc_value u.pages).pages
+
+-- they are all of these updates that the window doesn't publish, by version
+pub record AreWaiting (p : ℕ) (houses : List House) (us : List Update) (w : Numbered) (list : List WaitingUpdate) : Type 0 where
+  pub count : published_of w + length list ≡ length w.log
+  pub each : (i : ℕ) (u : WaitingUpdate) → slice_get list i ≡ Some u → IsWaitingUpdate p houses us (suc (published_of w + i)) u
+
+-- there is such a list of each blob, blob 1 first
+pub record KeepsWaiting (limits : Bounds) (p : ℕ) (houses : List House) (history : List Event) (windows : List Numbered) (lists : List (List WaitingUpdate)) : Type 0 where
+  pub count : length lists ≡ length windows
+  pub each : (i : ℕ) (w : Numbered) (list : List WaitingUpdate) → slice_get windows i ≡ Some w → slice_get lists i ≡ Some list
+      → AreWaiting p houses (updates_or_none (blob_at (store_of limits history) (suc i))) w list
+
+-- The desk keeps its blobs and the updates that wait, its rows lie in its houses, each under the blob that its version was numbered in, and its history is short.
+pub record IsDesk (limits : Bounds) (p : ℕ) (houses : List House) (nodes : List Shelves) (history : List Event) (windows : List Numbered) (lists : List (List WaitingUpdate)) : Type 0 where
   pub kept : KeepsDesk limits p history windows
+  pub waits : KeepsWaiting limits p houses history windows lists
   pub lies : LieIn nodes houses windows
   pub origins : KeepsOrigins (parents_of history) windows
   pub short : length history < 2 ^ 38

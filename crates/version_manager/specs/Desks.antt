@@ -1,15 +1,18 @@
 -- What a clause sees of a desk, and what its calls do.
-use Rattle.std.specs.Prelude.{◌≡◌, ℕ, ◌+◌, ◌-◌, ◌≤◌, Bool, false, List, [], ◌∷◌, ◌++◌, length, take, drop, slice_index_or, slice_set, Option, Some, None, IfSome, All}
+use Rattle.std.specs.Prelude.{◌≡◌, ℕ, ◌+◌, ◌-◌, ◌≤◌, nat_lt, Bool, false, List, [], ◌∷◌, ◌++◌, length, take, drop, filter, slice_index_or, slice_set, Option, Some, None, IfSome, All}
 use Rattle.boxcar.specs.Table.{Shelves}
 use Rattle.blob_model.specs.Content.{Update}
 use Rattle.blob_model.specs.Limits.{Bounds}
 use Rattle.blob_model.specs.Store.{Store, Blob, blob_at, published, is_finished}
-use Rattle.blob_model.specs.Answer.{answer}
+use Rattle.blob_model.specs.Answer.{answer, repair_refusal}
 use Rattle.blob_model.specs.History.{store_of}
 use Rattle.blob_model.specs.declared.call.Call.{Call}
 use Rattle.blob_model.specs.declared.call.Event.{Event}
 use Rattle.blob_model.specs.declared.call.Outcome.{Outcome}
+use Rattle.blob_model.specs.declared.call.Outcome.TheVariants as Outcomes
 use Rattle.blob_model.specs.declared.call.Refusal.{Refusal}
+use Rattle.blob_model.specs.declared.call.Refusal.TheVariants as Refusals
+use Rattle.range_log.specs.declared.open.OpenTouch.{OpenTouch}
 use Rattle.range_log.specs.Extents.{touches}
 use Rattle.range_log.specs.Updates.{update_at, extents}
 use Rattle.page_store.specs.House.{House}
@@ -98,6 +101,22 @@ windows_with d blob w = slice_set d.windows (blob - 1) w
 abbrev pub windows_and : DeskState → Numbered → List Numbered
 windows_and d w = d.windows ++ w ∷ []
 
+-- how many bytes an update has at most
+abbrev pub most_bytes : ℕ
+most_bytes = 16777216
+
+-- the refusal that an outcome is, if it is one
+abbrev pub refusal_in : Outcome → Option Refusal
+refusal_in (Outcomes.Refused refusal) = Some refusal
+refusal_in (Outcomes.Blob blob) = None
+refusal_in (Outcomes.Assigned version at size) = None
+refusal_in (Outcomes.Published version) = None
+refusal_in (Outcomes.Content bytes) = None
+refusal_in (Outcomes.Recent version size) = None
+refusal_in (Outcomes.Size size) = None
+refusal_in (Outcomes.Synced version) = None
+refusal_in (Outcomes.Status assigned published held) = None
+
 -- a fact on the refusal, where the call was refused
 abbrev pub OnRefused : DeskFault → (Refusal → Type 0) → Type 0
 OnRefused (Refused refusal) P = P refusal
@@ -126,6 +145,14 @@ pub record IsTicketOf (d : DeskState) (t : NumberedUpdate) : Type 0 where
   pub stands : StandsFor t (extents (take t.version (updates_in d t.blob)))
   pub bytes : bytes_of_pages t.pages.pages ≡ (update_at (updates_in d t.blob) t.version).bytes
 
+-- why there is no ticket of that version now: the blob isn't there, the version was never numbered, or it is finished, as version 0 always is
+abbrev pub ticket_refusal : DeskState → ℕ → ℕ → Option Refusal
+ticket_refusal d blob version = repair_refusal (store_now d) blob version
+
+-- those of the waiting updates that are below that version
+abbrev pub opens_below : ℕ → List OpenTouch → List OpenTouch
+opens_below version opens = filter (λ (o : OpenTouch). nat_lt o.version version) opens
+
 -- the row is that of the ticket's update
 abbrev pub IsRowFor : DeskState → NumberedUpdate → UpdateRow → Type 0
 IsRowFor d t row = IsRowOf d.page_size (updates_in d t.blob) t.version row
@@ -147,5 +174,15 @@ pub record HasHints (d : DeskState) (on : ℕ) (t : NumberedUpdate) : Type 0 whe
   pub rows : length t.snapshot.rows ≡ published_in d on
   pub tells : TellUpdates d.page_size (updates_in d on) t.snapshot.rows
   pub waiting : t.waiting ≡ opens_from (published_in d on + 1) (drop (published_in d on) (touches d.page_size (extents (updates_in d on))))
+  pub here : IsVersionIn d.nodes d.houses t.snapshot
+  pub origins : LieUnderOrigins d.history on t.snapshot.rows
+
+-- The same of an update that was numbered before, by what is known now: the published ones by their rows, and what those touch that
+-- wait below it.
+pub record HasHintsBelow (d : DeskState) (on : ℕ) (t : NumberedUpdate) : Type 0 where
+  pub blob_is : t.snapshot.blob ≡ on
+  pub rows : length t.snapshot.rows ≡ published_in d on
+  pub tells : TellUpdates d.page_size (updates_in d on) t.snapshot.rows
+  pub waiting : t.waiting ≡ opens_from (published_in d on + 1) (drop (published_in d on) (take (t.version - 1) (touches d.page_size (extents (updates_in d on)))))
   pub here : IsVersionIn d.nodes d.houses t.snapshot
   pub origins : LieUnderOrigins d.history on t.snapshot.rows

@@ -1,5 +1,5 @@
 -- A desk's history as a list of entries, each with its caller, and what the acts on a desk do to it.
-use Rattle.std.specs.Prelude.{◌≡◌, ℕ, ◌<◌, ◌≤◌, ◌^◌, ◌++◌, true, false, List, [], ◌∷◌, map, length, IfOk, IfErr, Result}
+use Rattle.std.specs.Prelude.{◌≡◌, ℕ, ◌<◌, ◌≤◌, ◌^◌, ◌++◌, true, false, List, [], ◌∷◌, map, length, Option, None, Some, IfOk, IfErr, Result}
 use Rattle.page_store.specs.Stored.{Cut, bytes_of_pages, LieAmong}
 use Rattle.node_store.specs.UpdateRows.{UpdateRow, IsRowIn}
 use Rattle.snapshot.specs.Versions.{Version, IsVersionIn, size_now}
@@ -10,11 +10,13 @@ use Rattle.blob_model.specs.declared.call.Call.TheVariants as Calls
 use Rattle.blob_model.specs.declared.call.Event.{Event}
 use Rattle.blob_model.specs.declared.call.Outcome.{Outcome}
 use Rattle.blob_model.specs.declared.call.Outcome.TheVariants as Outcomes
+use Rattle.blob_model.specs.declared.call.Place.{Place}
+use Rattle.blob_model.specs.declared.call.Refusal.{Refusal}
 use Rattle.border_hints.specs.Numbered.{NumberedUpdate}
 use Rattle.version_manager.specs.Origins.{LieUnderOrigins}
 use Rattle.version_manager.specs.declared.fault.DeskFault.{DeskFault}
 use Rattle.version_manager.specs.declared.journal.DeskFixed.{DeskFixed}
-use Rattle.version_manager.specs.Desks.{DeskState, OnRefused, OnNoMemory, IsTicketOf, IsRowFor, IsUnfinished, HasHints, outcome_now, updates_in, is_finished_in}
+use Rattle.version_manager.specs.Desks.{DeskState, OnRefused, OnNoMemory, IsTicketOf, IsRowFor, IsUnfinished, HasHints, HasHintsBelow, outcome_now, updates_in, is_finished_in, most_bytes, refusal_in, ticket_refusal}
 
 -- an event with its caller
 abbrev pub tag : Event → ℕ × Event
@@ -66,7 +68,7 @@ pub record Changed {A E : Type 0} (f : DeskFixed) (call : Call) (event : Event) 
 -- what a numbering needs
 pub record MayAssign (pages : Cut) (f : DeskFixed) : Type 0 where
   pub some : 1 ≤ length (bytes_of_pages pages.pages)
-  pub few : length (bytes_of_pages pages.pages) ≤ 1048576
+  pub few : length (bytes_of_pages pages.pages) ≤ most_bytes
   pub page_size : pages.page_size ≡ f.page_size
   pub here : LieAmong f.houses pages.pages
 
@@ -114,3 +116,28 @@ pub record Opened (f : DeskFixed) (blob version : ℕ) (before : List (ℕ × Ev
   pub refused : IfErr said (λ fault. OnRefused fault (λ refusal. outcome_in f before caller (Calls.Size blob version) ≡ Outcomes.Refused refusal))
   pub memory : IfErr said (λ fault. OnNoMemory fault (is_refused (outcome_in f before caller (Calls.Size blob version)) ≡ false))
   pub snapshot : IfOk said (λ s. IsSnapshotOf f before blob version s)
+
+-- The ticket of a waiting version of the blob, with the hints of this history: it is of the history, whoever asked for it. Its pages, and
+-- the nodes and pages of its snapshot, lie in the desk's houses.
+pub record IsWaitingTicket (f : DeskFixed) (log : List (ℕ × Event)) (blob version : ℕ) (t : NumberedUpdate) : Type 0 where
+  pub blob_is : t.blob ≡ blob
+  pub version_is : t.version ≡ version
+  pub ticket : IsTicketOf (desk_at f log) t
+  pub hints : HasHintsBelow (desk_at f log) blob t
+  pub pages_here : LieAmong f.houses t.pages.pages
+  pub unfinished : IsUnfinished (desk_at f log) blob version
+
+-- A look at a waiting version, with its ticket. It finds no memory only where nothing is refused.
+pub record Reissued (f : DeskFixed) (blob version : ℕ) (before : List (ℕ × Event)) (said : Result NumberedUpdate DeskFault) (after : List (ℕ × Event)) : Type 0 where
+  pub log : IsLog f before
+  pub same : after ≡ before
+  pub done : IfOk said (λ _. ticket_refusal (desk_at f before) blob version ≡ None)
+  pub refused : IfErr said (λ fault. OnRefused fault (λ refusal. ticket_refusal (desk_at f before) blob version ≡ Some refusal))
+  pub memory : IfErr said (λ fault. OnNoMemory fault (ticket_refusal (desk_at f before) blob version ≡ None))
+  pub ticket : IfOk said (λ t. IsWaitingTicket f before blob version t)
+
+-- A look at what the store would refuse of an update of so many bytes there.
+pub record Foreseen (f : DeskFixed) (blob : ℕ) (place : Place) (len : ℕ) (before : List (ℕ × Event)) (caller : ℕ) (said : Option Refusal) (after : List (ℕ × Event)) : Type 0 where
+  pub log : IsLog f before
+  pub same : after ≡ before
+  pub said_is : (bytes : List ℕ) → length bytes ≡ len → said ≡ refusal_in (outcome_in f before caller (Calls.Assign blob place bytes))

@@ -8,6 +8,7 @@ use Rattle.snapshot.proofs.Growing.{IsRowOf-longer}
 use Rattle.border_hints.specs.Numbered.{NumberedUpdate, StandsFor}
 use Rattle.node_store.specs.UpdateRows.{UpdateRow}
 use Rattle.blob_model.specs.Content.{Update}
+use Rattle.blob_model.specs.Limits.{Bounds}
 use Rattle.blob_model.specs.Store.{Store, Blob, blob_at, empty_store}
 use Rattle.blob_model.specs.History.{store_of}
 use Rattle.blob_model.specs.declared.call.Event.{Event}
@@ -17,27 +18,27 @@ use Rattle.version_manager.specs.declared.journal.DeskFixed.{DeskFixed}
 use Rattle.version_manager.specs.Desks.{IsTicketOf, updates_in, updates_or_none}
 use Rattle.version_manager.specs.Log.{MayFinish, desk_at, events}
 
-same_update : (us later : List Update) (v : ℕ) → v ≤ length us → update_at (us ++ later) v ≡ update_at us v
+pub same_update : (us later : List Update) (v : ℕ) → v ≤ length us → update_at (us ++ later) v ≡ update_at us v
 same_update us later zero le = refl
 same_update us later (suc k) le = get_or_append_left us later no_update k (omega arith)
 
-Longer : List Update → List Update → Type 0
+unfoldable pub Longer : List Update → List Update → Type 0
 Longer old new = (later : List Update) × (new ≡ old ++ later)
 
-longer : (f : DeskFixed) (h more : List Event) (blob : ℕ) (o : Option Blob) → blob_at (store_of f.limits h) blob ≡ o
-    → Longer (updates_or_none o) (updates_or_none (blob_at (store_of f.limits (h ++ more)) blob))
+pub longer : (limits : Bounds) (h more : List Event) (blob : ℕ) (o : Option Blob) → blob_at (store_of limits h) blob ≡ o
+    → Longer (updates_or_none o) (updates_or_none (blob_at (store_of limits (h ++ more)) blob))
 unfolding Longer
-longer f h more blob None is = (_, refl)
-longer f h more blob (Some b) is =
-    let (new, at, stay) = store_kept (store_of f.limits h) more blob b is in
-    let there : blob_at (store_of f.limits (h ++ more)) blob ≡ Some new = ap (λ (s : Store). blob_at s blob) (store_from-append (empty_store f.limits) h more) ∙ at in
+longer limits h more blob None is = (_, refl)
+longer limits h more blob (Some b) is =
+    let (new, at, stay) = store_kept (store_of limits h) more blob b is in
+    let there : blob_at (store_of limits (h ++ more)) blob ≡ Some new = ap (λ (s : Store). blob_at s blob) (store_from-append (empty_store limits) h more) ∙ at in
     (stay.later, ap updates_or_none there ∙ stay.updates)
 
 -- the updates of a blob go on from what they were
 updates_longer : (f : DeskFixed) (xs ys : List (ℕ × Event)) (blob : ℕ) → Longer (updates_in (desk_at f xs) blob) (updates_in (desk_at f (xs ++ ys)) blob)
 unfolding Longer
 updates_longer f xs ys blob =
-    let (later, more_is) = longer f (events xs) (events ys) blob (blob_at (store_of f.limits (events xs)) blob) refl in
+    let (later, more_is) = longer f.limits (events xs) (events ys) blob (blob_at (store_of f.limits (events xs)) blob) refl in
     let O : List Event → List Update = λ l. updates_or_none (blob_at (store_of f.limits l) blob) in
     (later, ap O (map-append (λ (x : ℕ × Event). x.1) xs ys) ∙ more_is)
 

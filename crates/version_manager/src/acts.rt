@@ -6,7 +6,7 @@ ghost use Rattle.blob_model.specs.declared.call.Outcome.TheVariants as Outcomes;
 
 use crate::desk::Desk;
 use crate::fault::DeskFault;
-use blob_model::{Outcome, Place};
+use blob_model::{Outcome, Place, Refusal};
 use border_hints::Ticket;
 use node_store::Row;
 use page_store::Pages;
@@ -160,6 +160,57 @@ impl Act<Desk> for Open {
     }
 
     ghost stays_ready = { λ _ _ _ _ _. tt };
+}
+
+/// Hands out the ticket of a waiting version.
+pub struct Reissue {
+    pub blob: u64,
+    pub version: u64,
+}
+
+impl Act<Desk> for Reissue {
+    ghost use Rattle.version_manager.specs.Log.{Reissued};
+
+    type Answer = Result<Ticket, DeskFault>;
+
+    ghost ready = { λ _ _ _. Unit {0} };
+
+    ghost gives = { λ a before f by said after. Reissued f a.blob a.version before said after };
+
+    fn act(self, state: &mut Desk, _caller: u32) -> Result<Ticket, DeskFault> {
+        let Reissue { blob, version } = self;
+        state.stands();
+        state.ticket_of(blob, version)
+    }
+
+    ghost stays_ready = { λ _ _ _ _ _. tt };
+}
+
+/// What would be refused of an update of so many bytes at that place.
+pub struct Foresee {
+    pub blob: u64,
+    pub place: Place,
+    pub len: u64,
+}
+
+impl Act<Desk> for Foresee {
+    ghost use Rattle.std.specs.Prelude.{◌≤◌};
+    ghost use Rattle.version_manager.specs.Desks.{most_bytes};
+    ghost use Rattle.version_manager.specs.Log.{Foreseen};
+
+    type Answer = Option<Refusal>;
+
+    ghost ready = { λ a _ _. (1 ≤ a.len) × (a.len ≤ most_bytes) };
+
+    ghost gives = { λ a before f by said after. Foreseen f a.blob a.place a.len before by said after };
+
+    fn act(self, state: &mut Desk, _caller: u32) -> Option<Refusal> {
+        let Foresee { blob, place, len } = self;
+        state.stands();
+        state.refusal_of(blob, place, len)
+    }
+
+    ghost stays_ready = { λ _ _ _ _ h. h };
 }
 
 /// The greatest published version of a blob and its size.

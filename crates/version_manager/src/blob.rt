@@ -1,24 +1,27 @@
 // One blob's changes, each on its window alone. What a clause says of a blob holds of each one that the window keeps.
-ghost use Rattle.std.specs.Prelude.{◌≡◌, ℕ, ◌+◌, ◌-◌, ◌^◌, ◌<◌, ◌≤◌, List, [], ◌∷◌, ◌++◌, length, Some, None, IfOk, IfErr, IfNone};
+ghost use Rattle.std.specs.Prelude.{◌≡◌, ℕ, ◌+◌, ◌-◌, ◌^◌, ◌<◌, ◌≤◌, List, [], ◌∷◌, ◌++◌, length, take, Some, None, IfOk, IfErr, IfNone};
 ghost use Rattle.std.specs.Arc.{arc_value};
 ghost use Rattle.blob_model.specs.Content.{Update, offset_of};
 ghost use Rattle.blob_model.specs.Limits.{Bounds};
 ghost use Rattle.blob_model.specs.Store.{Store, Blob, assigned, size_now, size_with, and_update, branch_of};
 ghost use Rattle.blob_model.specs.Answer.{first_refusal};
 ghost use Rattle.range_log.specs.Updates.{extents};
+ghost use Rattle.page_store.specs.House.{House};
 ghost use Rattle.page_store.specs.Stored.{bytes_of_pages};
 ghost use Rattle.snapshot.specs.Versions.{IsVersion, under_blob, older_version};
 ghost use Rattle.border_hints.specs.Numbered.{own_touch, StandsFor};
 ghost use Rattle.publisher.specs.Windows.{window_on, version_of, waiting_of, published_of, with_numbered};
-ghost use Rattle.version_manager.specs.Desks.{OnRefused, OnNoMemory};
+ghost use Rattle.version_manager.specs.Desks.{OnRefused, OnNoMemory, most_bytes};
 ghost use Rattle.version_manager.specs.Blobs.{Takes};
-ghost use Rattle.version_manager.specs.DeskInvariant.{Keeps, update_tests};
+ghost use Rattle.version_manager.specs.DeskInvariant.{Keeps, IsWaitingUpdate, update_tests};
 
 use crate::fault::DeskFault;
+use crate::waiting::WaitingUpdate;
 use blob_model::{Limits, Place, Refusal};
 use border_hints::{Hints, Ticket};
 use page_store::Pages;
 use publisher::{NoMemory, Window};
+use range_log::{OpenCopy, OpenList};
 use snapshot::Snapshot;
 use std::alloc::Global;
 use std::sync::Arc;
@@ -46,11 +49,16 @@ fn offset_in(place: Place, size: u64) -> u64
     }
 }
 
-// Why the store refuses an update of `len` bytes of this blob: the first of its reasons.
-fn refusal_of_update(limits: Limits, window: &Window, place: Place, len: u64) -> Option<Refusal>
+/// Why the store refuses an update of `len` bytes of this blob: the first of its reasons.
+pub(crate) fn refusal_of_update(
+    limits: Limits,
+    window: &Window,
+    place: Place,
+    len: u64,
+) -> Option<Refusal>
     requires kept { (b : Blob) × Keeps limits window.now b }
     requires some { 1 ≤ len }
-    requires few { len ≤ 1048576 }
+    requires few { len ≤ most_bytes }
     ensures refusal { (b : Blob) (bytes : List ℕ) → Keeps limits window.now b → length bytes ≡ len → result ≡ first_refusal (update_tests limits b place bytes) }
     ensures takes { (b : Blob) (bytes : List ℕ) → Keeps limits window.now b → length bytes ≡ len → IfNone result (Takes limits window.now b place bytes) }
 {
@@ -90,7 +98,7 @@ pub(crate) fn ticket_over(
 ) -> Result<Ticket, DeskFault>
     requires kept { (b : Blob) × Keeps limits window.now b }
     requires some { 1 ≤ length (bytes_of_pages (arc_value pages.now).pages) }
-    requires few { length (bytes_of_pages (arc_value pages.now).pages) ≤ 1048576 }
+    requires few { length (bytes_of_pages (arc_value pages.now).pages) ≤ most_bytes }
     requires page_size { (arc_value pages.now).page_size ≡ window.now.page_size }
     ensures refused { (b : Blob) → Keeps limits window.now b
         → IfErr result (λ fault. OnRefused fault (λ refusal. first_refusal (update_tests limits b place (bytes_of_pages (arc_value pages.now).pages)) ≡ Some refusal)) }
@@ -168,11 +176,71 @@ fn hints_of(alloc: Global, window: &Window) -> Result<Hints, NoMemory>
     ensures snapshot { IfOk result (λ h. h.snapshot ≡ version_of window.now) }
     ensures waiting { IfOk result (λ h. h.waiting ≡ waiting_of window.now) }
 {
-    let snapshot = window.snapshot();
     Ok(Hints {
-        snapshot: snapshot.at(snapshot.version())?,
+        snapshot: published_in(window)?,
         waiting: window.waiting().copied(alloc)?,
     })
+}
+
+/// The ticket of a waiting version, as it was numbered, by what is known now of the lower ones.
+pub(crate) fn ticket_again(
+    alloc: Global,
+    window: &Window,
+    version: u64,
+    update: &WaitingUpdate,
+) -> Result<Ticket, NoMemory>
+    requires waits { (published_of window.now < version) × (version ≤ length window.now.log) }
+    requires update { (limits : Bounds) × (b : Blob) × (houses : List House) × Keeps limits window.now b × IsWaitingUpdate window.now.page_size houses b.updates version update.now }
+    ensures caller { IfOk result (λ t. t.caller ≡ update.now.caller) }
+    ensures blob { IfOk result (λ t. t.blob ≡ window.now.blob) }
+    ensures version { IfOk result (λ t. t.version ≡ version) }
+    ensures published { IfOk result (λ t. IsVersion t.snapshot) }
+    ensures snapshot { IfOk result (λ t. t.snapshot ≡ version_of window.now) }
+    ensures waiting { IfOk result (λ t. t.waiting ≡ take (version - published_of window.now - 1) (waiting_of window.now)) }
+    ensures pages { IfOk result (λ t. t.pages ≡ arc_value update.now.pages) }
+    ensures stands { (limits : Bounds) (b : Blob) (houses : List House) → Keeps limits window.now b → IsWaitingUpdate window.now.page_size houses b.updates version update.now
+        → IfOk result (λ t. StandsFor t (extents (take version b.updates))) }
+{
+    window.stands();
+    let below = window.place(version);
+    let waiting = window.waiting();
+    let size = waiting.at(below).touch.size;
+    let hints = Hints {
+        snapshot: published_in(window)?,
+        waiting: first_of(alloc, waiting, below)?,
+    };
+    hints.snapshot.stands();
+    let pages = Arc::try_clone(&update.pages)?;
+    Ok(Ticket::of(
+        update.caller,
+        window.snapshot().blob(),
+        version,
+        update.at,
+        pages.len(),
+        size,
+        hints,
+        pages,
+    ))
+}
+
+// The published snapshot.
+fn published_in(window: &Window) -> Result<Snapshot, NoMemory>
+    ensures { IfOk result (λ s. s ≡ version_of window.now) }
+{
+    let snapshot = window.snapshot();
+    snapshot.at(snapshot.version())
+}
+
+// A copy of the first of the waiting updates, of which there are that many.
+fn first_of(alloc: Global, waiting: &OpenList, count: u32) -> Result<OpenCopy, NoMemory>
+    requires { count ≤ length waiting.now }
+    ensures { IfOk result (λ copy. copy ≡ take count waiting.now) }
+{
+    let mut first = OpenList::new(alloc)?;
+    for i in 0..count.min(waiting.count()) {
+        first.add(waiting.at(i));
+    }
+    first.copied(alloc)
 }
 
 /// The window of a new blob.

@@ -1,11 +1,11 @@
 // The blobs of a store and its history.
-ghost use Rattle.std.specs.Prelude.{◌≡◌, ℕ, ◌+◌, ◌-◌, ◌^◌, ◌<◌, ◌≤◌, true, false, List, [], ◌∷◌, ◌++◌};
+ghost use Rattle.std.specs.Prelude.{◌≡◌, ℕ, ◌+◌, ◌-◌, ◌^◌, ◌<◌, ◌≤◌, true, false, List, [], ◌∷◌, ◌++◌, Some, None};
 ghost use Rattle.std.specs.Prelude.{length, map, MatchOption, IfOk, IfErr, OnOk, OnErr, vec_len, vec_capacity};
 ghost use Rattle.std.specs.Arc.{arc_value};
 ghost use Rattle.page_store.specs.Stored.{bytes_of_pages, LieAmong};
 ghost use Rattle.node_store.specs.UpdateRows.{IsRowIn};
 ghost use Rattle.border_hints.specs.Numbered.{own_touch};
-ghost use Rattle.publisher.specs.Windows.{version_of, window_on, with_numbered, with_finished};
+ghost use Rattle.publisher.specs.Windows.{version_of, waiting_of, window_on, with_numbered, with_finished};
 ghost use Rattle.snapshot.specs.Versions.{IsVersionIn, older_version, under_blob, size_now};
 ghost use Rattle.snapshot.specs.Laws.{AreRowsOf, TellUpdates};
 ghost use Rattle.blob_model.specs.History.{is_refused, IsLegal};
@@ -13,13 +13,15 @@ ghost use Rattle.blob_model.specs.declared.call.Call.TheVariants as Calls;
 ghost use Rattle.blob_model.specs.declared.call.Event.TheVariants as Events;
 ghost use Rattle.blob_model.specs.declared.call.Outcome.TheVariants as Outcomes;
 ghost use Rattle.version_manager.specs.Desks.{empty_desk, outcome_now, updates_in, window_in, with_event, windows_with, windows_and};
-ghost use Rattle.version_manager.specs.Desks.{is_finished_in, OnRefused, OnNoMemory, IsUnfinished, IsNumbering, IsTicketOf, IsRowFor, HasHints};
+ghost use Rattle.version_manager.specs.Desks.{is_finished_in, OnRefused, OnNoMemory, IsUnfinished, IsNumbering, IsTicketOf, IsRowFor, HasHints, HasHintsBelow};
+ghost use Rattle.version_manager.specs.Desks.{most_bytes, refusal_in, ticket_refusal, opens_below};
 ghost use Rattle.version_manager.specs.Origins.{LieUnderOrigins};
 
-use crate::blob::{branch_in, first_in, ticket_over};
+use crate::blob::{branch_in, first_in, refusal_of_update, ticket_again, ticket_over};
 use crate::entry::{Change, Entry};
 use crate::fault::DeskFault;
-use crate::looks::{recent_in, size_in, snapshot_in, status_in, sync_in};
+use crate::looks::{no_ticket, recent_in, size_in, snapshot_in, status_in, sync_in};
+use crate::waiting::{WaitingList, WaitingUpdate};
 use blob_model::{Limits, Outcome, Place, Refusal};
 use border_hints::Ticket;
 use node_store::{NodeHouse, Row};
@@ -48,6 +50,8 @@ pub struct Desk {
     nodes: Arc<NodeHouse>,
     history: Vec<Entry>,
     windows: Vec<Window>,
+    // for each blob how those of its updates were numbered that aren't published
+    waiting: Vec<WaitingList>,
 }
 
 impl Model for Desk {
@@ -68,7 +72,7 @@ impl Model for Desk {
       windows = d.windows.items;
     } };
 
-    ghost invariant = { λ d. IsDesk d.limits d.page_size (arc_value d.houses) (arc_value d.nodes) (map event_of d.history.items) d.windows.items };
+    ghost invariant = { λ d. IsDesk d.limits d.page_size (arc_value d.houses) (arc_value d.nodes) (map event_of d.history.items) d.windows.items d.waiting.items };
 }
 
 impl Desk {
@@ -91,6 +95,7 @@ impl Desk {
             nodes: Arc::try_clone(nodes)?,
             history: Vec::new(alloc),
             windows: Vec::new(alloc),
+            waiting: Vec::new(alloc),
         })
     }
 
@@ -150,13 +155,21 @@ impl Desk {
             caller,
             change: Change::Create,
         };
-        let Ok(()) = add(&mut self.history, &mut self.windows, entry, window) else {
+        let none = WaitingList::new(self.alloc);
+        let Ok(()) = add(
+            &mut self.history,
+            &mut self.windows,
+            &mut self.waiting,
+            entry,
+            window,
+            none,
+        ) else {
             return Err(DeskFault::NoMemory);
         };
         Ok(blob)
     }
 
-    /// Numbers an update of the bytes of these pages, and gives its ticket. `Refused` in the order of the reasons.
+    /// Numbers an update of the bytes of these pages, 1 to 16,777,216, and gives its ticket. `Refused` in the order of the reasons.
     pub fn assign(
         &mut self,
         caller: u32,
@@ -165,7 +178,7 @@ impl Desk {
         pages: &Arc<Pages>,
     ) -> Result<Ticket, DeskFault>
         requires some { 1 ≤ length (bytes_of_pages (arc_value pages.now).pages) }
-        requires few { length (bytes_of_pages (arc_value pages.now).pages) ≤ 1048576 }
+        requires few { length (bytes_of_pages (arc_value pages.now).pages) ≤ most_bytes }
         requires page_size { (arc_value pages.now).page_size ≡ self.old.page_size }
         requires here { LieAmong self.old.houses (arc_value pages.now).pages }
         ensures assigned { IfOk result (λ t. outcome_now self.old caller (Calls.Assign blob place (bytes_of_pages (arc_value pages.now).pages)) ≡ Outcomes.Assigned t.version t.at t.size) }
@@ -190,10 +203,18 @@ impl Desk {
             Ok(ticket) => ticket,
             Err(fault) => return Err(fault),
         };
-        let Ok(pages) = Arc::try_clone(pages) else {
+        let Ok((pages, kept)) = shared_twice(pages) else {
             return Err(DeskFault::NoMemory);
         };
         let Ok(()) = make_room(&mut self.history) else {
+            return Err(DeskFault::NoMemory);
+        };
+        let update = WaitingUpdate {
+            caller,
+            at: ticket.at(),
+            pages: kept,
+        };
+        let Ok(()) = self.waiting[index].add(update) else {
             return Err(DeskFault::NoMemory);
         };
         self.history.push_reserved(Entry {
@@ -238,8 +259,11 @@ impl Desk {
         let Ok(()) = make_room(&mut self.history) else {
             return Err((DeskFault::NoMemory, row));
         };
+        let before = window.published();
         match self.windows[index].finish(version, row) {
             Ok(published) => {
+                let passed = (published - before) as usize;
+                self.waiting[index].drop_first(self.alloc, passed);
                 self.history.push_reserved(Entry {
                     caller,
                     change: Change::Finish { blob, version },
@@ -282,7 +306,15 @@ impl Desk {
             caller,
             change: Change::Branch { blob, version },
         };
-        let Ok(()) = add(&mut self.history, &mut self.windows, entry, window) else {
+        let none = WaitingList::new(self.alloc);
+        let Ok(()) = add(
+            &mut self.history,
+            &mut self.windows,
+            &mut self.waiting,
+            entry,
+            window,
+            none,
+        ) else {
             return Err(DeskFault::NoMemory);
         };
         Ok(id)
@@ -305,6 +337,51 @@ impl Desk {
         match index_of(&self.windows, blob) {
             Some(index) => snapshot_in(&self.windows[index], version),
             None => Err(DeskFault::Refused(Refusal::NoBlob { blob })),
+        }
+    }
+
+    /// The ticket of a waiting version, whoever numbered it, by which anybody may finish it. It is as its numbering made it, but for
+    /// its hints, which are of now: the published snapshot, and what those waiting updates touch that are below it.
+    ///
+    /// `Refused` with `NoBlob`; with `NotPublished` where the version was never numbered; with `Already` where it is finished,
+    /// published or not, as version 0 always is. It looks at nothing but the blob's published version and the updates that wait.
+    pub fn ticket_of(&self, blob: u64, version: u64) -> Result<Ticket, DeskFault>
+        ensures ticket { IfOk result (λ t. IsTicketOf self.now t) }
+        ensures blob { IfOk result (λ t. t.blob ≡ blob) }
+        ensures version { IfOk result (λ t. t.version ≡ version) }
+        ensures snapshot { IfOk result (λ t. t.snapshot ≡ version_of (window_in self.now blob)) }
+        ensures waiting { IfOk result (λ t. t.waiting ≡ opens_below version (waiting_of (window_in self.now blob))) }
+        ensures hints { IfOk result (λ t. HasHintsBelow self.now blob t) }
+        ensures here { IfOk result (λ t. LieAmong self.now.houses t.pages.pages) }
+        ensures unfinished { IfOk result (λ _. IsUnfinished self.now blob version) }
+        ensures done { IfOk result (λ _. ticket_refusal self.now blob version ≡ None) }
+        ensures refused { IfErr result (λ fault. OnRefused fault (λ refusal. ticket_refusal self.now blob version ≡ Some refusal)) }
+        ensures memory { IfErr result (λ fault. OnNoMemory fault (ticket_refusal self.now blob version ≡ None)) }
+    {
+        let Some(index) = index_of(&self.windows, blob) else {
+            return Err(DeskFault::Refused(Refusal::NoBlob { blob }));
+        };
+        let window = &self.windows[index];
+        window.stands();
+        if let Some(refusal) = no_ticket(window, version) {
+            return Err(DeskFault::Refused(refusal));
+        }
+        let update = self.waiting[index].at(window.place(version));
+        match ticket_again(self.alloc, window, version, update) {
+            Ok(ticket) => Ok(ticket),
+            Err(NoMemory) => Err(DeskFault::NoMemory),
+        }
+    }
+
+    /// What the store would refuse now of an update of `len` bytes at that place, or `None`. It takes no memory.
+    pub fn refusal_of(&self, blob: u64, place: Place, len: u64) -> Option<Refusal>
+        requires some { 1 ≤ len }
+        requires few { len ≤ most_bytes }
+        ensures { (caller : ℕ) (bytes : List ℕ) → length bytes ≡ len → result ≡ refusal_in (outcome_now self.now caller (Calls.Assign blob place bytes)) }
+    {
+        match index_of(&self.windows, blob) {
+            Some(index) => refusal_of_update(self.limits, &self.windows[index], place, len),
+            None => Some(Refusal::NoBlob { blob }),
         }
     }
 
@@ -359,6 +436,15 @@ fn index_of(windows: &Vec<Window>, blob: u64) -> Option<usize>
     Some((blob - 1) as usize)
 }
 
+// The same pages, shared twice.
+fn shared_twice(pages: &Arc<Pages>) -> Result<(Arc<Pages>, Arc<Pages>), NoMemory>
+    ensures { IfOk result (λ both. (arc_value both.0 ≡ arc_value pages.now) × (arc_value both.1 ≡ arc_value pages.now)) }
+{
+    let first = Arc::try_clone(pages)?;
+    let second = Arc::try_clone(pages)?;
+    Ok((first, second))
+}
+
 // Room for one entry more, where the history may have one.
 fn make_room(history: &mut Vec<Entry>) -> Result<(), NoMemory>
     ensures items { history.new.items ≡ history.old.items }
@@ -372,21 +458,27 @@ fn make_room(history: &mut Vec<Entry>) -> Result<(), NoMemory>
     Ok(())
 }
 
-// Adds the window of a new blob, and the entry of its making.
+// Adds the window of a new blob, of which no update waits, and the entry of its making.
 fn add(
     history: &mut Vec<Entry>,
     windows: &mut Vec<Window>,
+    waiting: &mut Vec<WaitingList>,
     entry: Entry,
     window: Window,
+    none: WaitingList,
 ) -> Result<(), NoMemory>
     ensures history { OnOk result (history.new.items ≡ history.old.items ++ entry ∷ []) }
     ensures windows { OnOk result (windows.new.items ≡ windows.old.items ++ window ∷ []) }
+    ensures waiting { OnOk result (waiting.new.items ≡ waiting.old.items ++ none ∷ []) }
     ensures same_history { OnErr result (history.new.items ≡ history.old.items) }
     ensures same_windows { OnErr result (windows.new.items ≡ windows.old.items) }
+    ensures same_waiting { OnErr result (waiting.new.items ≡ waiting.old.items) }
     ensures short { OnOk result (length history.old.items + 1 < 2 ^ 38) }
 {
     make_room(history)?;
-    windows.push(window)?;
+    windows.reserve(1)?;
+    waiting.push(none)?;
+    windows.push_reserved(window);
     history.push_reserved(entry);
     Ok(())
 }

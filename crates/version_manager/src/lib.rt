@@ -33,6 +33,7 @@ mod journal;
 pub mod laws;
 mod looks;
 mod shared;
+mod waiting;
 
 pub use desk::Desk;
 pub use fault::DeskFault;

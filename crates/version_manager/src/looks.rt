@@ -1,9 +1,9 @@
 // Looks at one blob, over its window alone. What a clause says of a blob holds of each one that the window keeps.
-ghost use Rattle.std.specs.Prelude.{◌≡◌, ℕ, false, List, [], ◌∷◌, length, ◌≤◌, IfOk, IfErr, IfNone};
+ghost use Rattle.std.specs.Prelude.{◌≡◌, ℕ, false, List, [], ◌∷◌, length, ◌<◌, ◌≤◌, IfOk, IfErr, IfNone};
 ghost use Rattle.blob_model.specs.Content.{size_of};
 ghost use Rattle.blob_model.specs.Limits.{Bounds};
 ghost use Rattle.blob_model.specs.Store.{Store, Blob, assigned, published, held};
-ghost use Rattle.blob_model.specs.Answer.{first_refusal, unless_refused, not_published, not_numbered, pending};
+ghost use Rattle.blob_model.specs.Answer.{first_refusal, unless_refused, not_published, not_numbered, already, pending};
 ghost use Rattle.blob_model.specs.History.{is_refused};
 ghost use Rattle.blob_model.specs.declared.call.Outcome.TheVariants as Outcomes;
 ghost use Rattle.publisher.specs.Windows.{published_of, version_of};
@@ -25,6 +25,21 @@ fn unpublished(window: &Window, version: u64) -> Option<Refusal>
     let published = window.published();
     if version > published {
         Some(Refusal::NotPublished { version, published })
+    } else {
+        None
+    }
+}
+
+/// Why there is no ticket of that version now, if so: it was never numbered, or it is finished.
+pub(crate) fn no_ticket(window: &Window, version: u64) -> Option<Refusal>
+    ensures refusal { (limits : Bounds) (b : Blob) → Keeps limits window.now b → result ≡ first_refusal (not_numbered b version ∷ already b version ∷ []) }
+    ensures waits { IfNone result ((published_of window.now < version) × (version ≤ length window.now.log)) }
+{
+    let published = window.published();
+    if window.assigned() < version {
+        Some(Refusal::NotPublished { version, published })
+    } else if version == 0 || window.is_finished(version) {
+        Some(Refusal::Already { version })
     } else {
         None
     }

@@ -7,12 +7,15 @@ ghost use Rattle.blob_model.specs.declared.call.Event.TheVariants as Events;
 ghost use Rattle.blob_model.specs.declared.call.Outcome.TheVariants as Outcomes;
 ghost use Rattle.turn_lock.specs.History.{entries_by, Begins, longer, LacksUngiven};
 ghost use Rattle.turn_lock.specs.Shown.{Turned};
-ghost use Rattle.version_manager.specs.Log.{Looked, Changed, MayAssign, IsNewTicket, MayFinish, Finishes, Opened, tagged, fixed_of};
+ghost use Rattle.version_manager.specs.Log.{Looked, Changed, MayAssign, IsNewTicket, MayFinish, Finishes, Opened, Reissued, Foreseen, tagged, fixed_of};
+ghost use Rattle.version_manager.specs.Desks.{most_bytes};
 
-use crate::acts::{Assign, Branch, Create, Finish, Open, Recent, Size, Status, Sync};
+use crate::acts::{
+    Assign, Branch, Create, Finish, Foresee, Open, Recent, Reissue, Size, Status, Sync,
+};
 use crate::desk::Desk;
 use crate::fault::DeskFault;
-use blob_model::{Outcome, Place};
+use blob_model::{Outcome, Place, Refusal};
 use border_hints::Ticket;
 use node_store::Row;
 use page_store::Pages;
@@ -196,6 +199,40 @@ impl SharedDesk {
         ensures turned { Turned (λ before f after. Opened f blob version before pass.old.caller result after) pass.old pass.new }
     {
         self.turn.with_turn(rt, pass, Open { blob, version })
+    }
+
+    /// The ticket of a waiting version, in one turn, whichever pass numbered it. Its hints are of the history that the call found,
+    /// which the pass has seen then, and it is a ticket of that history: the pass may finish by it.
+    pub fn ticket_of<R: Wait>(
+        &self,
+        rt: &R,
+        pass: &mut Pass,
+        blob: u64,
+        version: u64,
+    ) -> Result<Ticket, DeskFault>
+        requires { pass.old.lock ≡ self.now }
+        ensures pass { pass.new ≡ record pass.old { seen = pass.new.seen } }
+        ensures turned { Turned (λ before f after. Reissued f blob version before result after) pass.old pass.new }
+    {
+        self.turn.with_turn(rt, pass, Reissue { blob, version })
+    }
+
+    /// What the store would refuse of an update of `len` bytes at that place, or `None`, in one turn.
+    pub fn refusal_of<R: Wait>(
+        &self,
+        rt: &R,
+        pass: &mut Pass,
+        blob: u64,
+        place: Place,
+        len: u64,
+    ) -> Option<Refusal>
+        requires lock { pass.old.lock ≡ self.now }
+        requires some { 1 ≤ len }
+        requires few { len ≤ most_bytes }
+        ensures pass { pass.new ≡ record pass.old { seen = pass.new.seen } }
+        ensures turned { Turned (λ before f after. Foreseen f blob place len before pass.old.caller result after) pass.old pass.new }
+    {
+        self.turn.with_turn(rt, pass, Foresee { blob, place, len })
     }
 
     /// The greatest published version of the blob and its size, in one turn.

@@ -20,6 +20,7 @@ use Rattle.version_manager.specs.Entries.{event_of}
 use Rattle.version_manager.specs.DeskInvariant.{KeepsDesk}
 use Rattle.version_manager.specs.Origins.{parents_of, AreUnder}
 use Rattle.version_manager.proofs.Desks.{at_index, pushed_event, short_yet}
+use Rattle.version_manager.proofs.Waits.{waits_made}
 use Rattle.version_manager.proofs.NewBlobs.{branch_ahead, branch_full, branch_outcome, branch_keeps}
 use Rattle.version_manager.proofs.Houses.{AreRowsIn, branch_in_houses, window_lies}
 use Rattle.version_manager.proofs.Origins.{branch_under, origins_at, origins_pushed, origins_after}
@@ -90,6 +91,7 @@ invariant_of-self-2 c =
     let own : U w = subst U (sym c.in-Ok.ensures.new) (branch_under (parents_of h) parent before (suc (length ws)) (omega (arith, k.count)) far there) in
     record {
       kept = subst Q (sym c.in-Ok-add.ensures.windows) (subst P (sym history) keeps);
+      waits = waits_made d.limits d.page_size houses d.windows.items d.waiting.items h _ (Events.Branch c.args.caller blob version) _ _ w c.new-none.result _ history c.in-Ok-add.ensures.windows c.in-Ok-add.ensures.waiting c.new-none.ensures c.in-Ok.ensures.new c.self.invariant.waits;
       lies = subst A (sym c.in-Ok-add.ensures.windows) (All-push (AreRowsIn nodes houses) d.windows.items w c.self.invariant.lies new);
       origins = origins_after h _ (Events.Branch c.args.caller blob version) _ _ history c.in-Ok-add.ensures.windows (origins_pushed (parents_of h) ws k (Some parent) w own);
       short = short_yet d.history.items _ _ c.in-Ok-add.ensures.history c.in-Ok-add.ensures.short;

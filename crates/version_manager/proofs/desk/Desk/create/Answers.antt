@@ -17,6 +17,7 @@ use Rattle.version_manager.specs.Entries.{event_of}
 use Rattle.version_manager.specs.DeskInvariant.{KeepsDesk}
 use Rattle.version_manager.specs.Origins.{parents_of}
 use Rattle.version_manager.proofs.Desks.{short_yet}
+use Rattle.version_manager.proofs.Waits.{waits_made}
 use Rattle.version_manager.proofs.NewBlobs.{create_refused, create_outcome, create_keeps}
 use Rattle.version_manager.proofs.Houses.{AreRowsIn, none_in}
 use Rattle.version_manager.proofs.Origins.{none_under, origins_pushed, origins_after}
@@ -50,6 +51,7 @@ invariant_of-self-2 c =
     let own = none_under (parents_of h) w (suc (length d.windows.items)) (omega (arith, k.count)) (ap (λ (x : Numbered). x.rows) c.in-Ok.ensures.new) in
     record {
       kept = subst Q (sym c.in-Ok-add.ensures.windows) (subst P (sym history) keeps);
+      waits = waits_made d.limits d.page_size (arc_value d.houses) d.windows.items d.waiting.items h _ (Events.Create c.args.caller) _ _ w c.new-none.result (record { blob = c.len-count.result + 1; page_size = d.page_size; rows = [] }) history c.in-Ok-add.ensures.windows c.in-Ok-add.ensures.waiting c.new-none.ensures c.in-Ok.ensures.new c.self.invariant.waits;
       lies = subst A (sym c.in-Ok-add.ensures.windows) (All-push (AreRowsIn (arc_value d.nodes) (arc_value d.houses)) d.windows.items w c.self.invariant.lies new);
       origins = origins_after h _ (Events.Create c.args.caller) _ _ history c.in-Ok-add.ensures.windows (origins_pushed (parents_of h) d.windows.items k None w own);
       short = short_yet d.history.items _ _ c.in-Ok-add.ensures.history c.in-Ok-add.ensures.short;

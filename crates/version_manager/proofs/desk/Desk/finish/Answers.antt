@@ -1,4 +1,4 @@
-use Rattle.std.proofs.Common.{◌≡◌, ℕ, ◌-◌, ◌≤◌, true, false, List, [], ◌∷◌, ◌++◌, length, map, set, refl, sym, ◌∙◌, ap, subst, arith}
+use Rattle.std.proofs.Common.{◌≡◌, ℕ, ◌-◌, ◌≤◌, true, false, List, [], ◌∷◌, ◌++◌, length, map, set, drop, refl, sym, ◌∙◌, ap, subst, arith}
 use Rattle.std.specs.Arc.{arc_value}
 use Rattle.std.proofs.lemmas.List.Elements.{All-set}
 use Rattle.blob_model.specs.Store.{Blob, blob_at, published, is_finished, finish}
@@ -10,12 +10,14 @@ use Rattle.blob_model.specs.declared.call.Event.TheVariants as Events
 use Rattle.blob_model.specs.declared.call.Outcome.TheVariants as Outcomes
 use Rattle.blob_model.specs.declared.call.Refusal.TheVariants as Refusals
 use Rattle.node_store.specs.UpdateRows.{IsRowIn}
-use Rattle.publisher.specs.Windows.{Numbered, with_finished}
+use Rattle.publisher.specs.Windows.{Numbered, published_of, with_finished}
 use Rattle.version_manager.specs.declared.entry.Entry.{Entry}
 use Rattle.version_manager.specs.declared.entry.Change.TheVariants as Changes
-use Rattle.version_manager.specs.Desks.{DeskState, no_window, finished_or_not, is_finished_in, with_event, window_in, windows_with, IsTicketOf, IsRowFor}
+use Rattle.version_manager.specs.Desks.{DeskState, no_window, updates_or_none, finished_or_not, is_finished_in, with_event, window_in, windows_with, IsTicketOf, IsRowFor}
 use Rattle.version_manager.specs.Entries.{event_of}
-use Rattle.version_manager.specs.DeskInvariant.{KeepsDesk}
+use Rattle.version_manager.specs.DeskInvariant.{KeepsDesk, AreWaiting}
+use Rattle.version_manager.specs.declared.waiting.WaitingUpdate.{WaitingUpdate}
+use Rattle.version_manager.proofs.Waits.{finish_passes, published_wait, waits_changed, waits_found}
 use Rattle.version_manager.specs.Origins.{parents_of, AreUnder}
 use Rattle.version_manager.proofs.Blobs.{finish_kept, published_is, assigned_is, finished_is}
 use Rattle.version_manager.proofs.Desks.{pushed_event, short_yet}
@@ -84,6 +86,81 @@ finish-requires-clause-own c =
     let f = finishable d.limits d.page_size h ws c.self.invariant.kept blob (arc_value d.houses) (arc_value d.nodes) t v (blob - 1) w row on is refl first (subst T (sym c.self.view_is) c.requires.ticket) (subst R (sym c.self.view_is) c.requires.row) c.index_mut.ensures.value in
     (f.at.found.b.updates, f.at.keeps.stands, f.own)
 
+pub index_mut-requires-in-Ok-finish : goal.index_mut-requires-in-Ok-finish
+index_mut-requires-in-Ok-finish c =
+    let d = c.self.inside in
+    let h = map event_of d.history.items in
+    let ws = d.windows.items in
+    let this : DeskState = record { limits = d.limits; page_size = d.page_size; houses = arc_value d.houses; nodes = arc_value d.nodes; history = h; windows = ws } in
+    let t = c.args.ticket.now in
+    let row = arc_value c.args.row in
+    let blob = c.blob-blob.result in
+    let v = c.version-version.result in
+    let w = c.index_mut.result.now in
+    let on : blob ≡ t.blob = c.blob-blob.ensures in
+    let is : v ≡ t.version = c.version-version.ensures.version in
+    let first : 1 ≤ v = omega (arith, is, c.version-version.ensures.stands.version) in
+    let T : DeskState → Type 0 = λ s. IsTicketOf s t in
+    let R : DeskState → Type 0 = λ s. IsRowFor s t row in
+    let f = finishable d.limits d.page_size h ws c.self.invariant.kept blob (arc_value d.houses) (arc_value d.nodes) t v (blob - 1) w row on is refl first (subst T (sym c.self.view_is) c.requires.ticket) (subst R (sym c.self.view_is) c.requires.row) c.index_mut.ensures.value in
+    let r = ticket_place d.limits d.page_size h ws c.self.invariant.kept blob (arc_value d.houses) (arc_value d.nodes) t v on is first (subst T (sym c.self.view_is) c.requires.ticket) in
+    omega (arith, r.0, r.1, c.self.invariant.waits.count, d.waiting.ok.0)
+
+pub overflow_sub-passed : goal.overflow_sub-passed
+overflow_sub-passed c =
+    let d = c.self.inside in
+    let h = map event_of d.history.items in
+    let ws = d.windows.items in
+    let this : DeskState = record { limits = d.limits; page_size = d.page_size; houses = arc_value d.houses; nodes = arc_value d.nodes; history = h; windows = ws } in
+    let t = c.args.ticket.now in
+    let row = arc_value c.args.row in
+    let blob = c.blob-blob.result in
+    let v = c.version-version.result in
+    let w = c.index_mut.result.now in
+    let on : blob ≡ t.blob = c.blob-blob.ensures in
+    let is : v ≡ t.version = c.version-version.ensures.version in
+    let first : 1 ≤ v = omega (arith, is, c.version-version.ensures.stands.version) in
+    let T : DeskState → Type 0 = λ s. IsTicketOf s t in
+    let R : DeskState → Type 0 = λ s. IsRowFor s t row in
+    let f = finishable d.limits d.page_size h ws c.self.invariant.kept blob (arc_value d.houses) (arc_value d.nodes) t v (blob - 1) w row on is refl first (subst T (sym c.self.view_is) c.requires.ticket) (subst R (sym c.self.view_is) c.requires.row) c.index_mut.ensures.value in
+    let seen = c.index-window.result.now in
+    let g = finishable d.limits d.page_size h ws c.self.invariant.kept blob (arc_value d.houses) (arc_value d.nodes) t v (blob - 1) seen row on is refl first (subst T (sym c.self.view_is) c.requires.ticket) (subst R (sym c.self.view_is) c.requires.row) c.index-window.ensures in
+    let same : seen ≡ w = g.at.window ∙ sym f.at.window in
+    let E : Numbered → Type 0 = λ x. length x.rows ≡ length x.log in
+    let even : length w.rows ≡ length w.log = subst E same (sym c.stands.ensures.log) in
+    let passes = finish_passes w v row even in
+    let was : c.published-before.result ≡ published_of w = c.published-before.ensures ∙ ap published_of same in
+    omega (arith, passes.0, was, c.in-Ok-finish.ensures.published)
+
+pub drop_first-requires : goal.drop_first-requires
+drop_first-requires c =
+    let d = c.self.inside in
+    let h = map event_of d.history.items in
+    let ws = d.windows.items in
+    let this : DeskState = record { limits = d.limits; page_size = d.page_size; houses = arc_value d.houses; nodes = arc_value d.nodes; history = h; windows = ws } in
+    let t = c.args.ticket.now in
+    let row = arc_value c.args.row in
+    let blob = c.blob-blob.result in
+    let v = c.version-version.result in
+    let w = c.index_mut.result.now in
+    let on : blob ≡ t.blob = c.blob-blob.ensures in
+    let is : v ≡ t.version = c.version-version.ensures.version in
+    let first : 1 ≤ v = omega (arith, is, c.version-version.ensures.stands.version) in
+    let T : DeskState → Type 0 = λ s. IsTicketOf s t in
+    let R : DeskState → Type 0 = λ s. IsRowFor s t row in
+    let f = finishable d.limits d.page_size h ws c.self.invariant.kept blob (arc_value d.houses) (arc_value d.nodes) t v (blob - 1) w row on is refl first (subst T (sym c.self.view_is) c.requires.ticket) (subst R (sym c.self.view_is) c.requires.row) c.index_mut.ensures.value in
+    let seen = c.index-window.result.now in
+    let g = finishable d.limits d.page_size h ws c.self.invariant.kept blob (arc_value d.houses) (arc_value d.nodes) t v (blob - 1) seen row on is refl first (subst T (sym c.self.view_is) c.requires.ticket) (subst R (sym c.self.view_is) c.requires.row) c.index-window.ensures in
+    let same : seen ≡ w = g.at.window ∙ sym f.at.window in
+    let E : Numbered → Type 0 = λ x. length x.rows ≡ length x.log in
+    let even : length w.rows ≡ length w.log = subst E same (sym c.stands.ensures.log) in
+    let passes = finish_passes w v row even in
+    let was : c.published-before.result ≡ published_of w = c.published-before.ensures ∙ ap published_of same in
+    let r = ticket_place d.limits d.page_size h ws c.self.invariant.kept blob (arc_value d.houses) (arc_value d.nodes) t v on is first (subst T (sym c.self.view_is) c.requires.ticket) in
+    let list = c.index_mut-in-Ok-finish.result.now in
+    let before = waits_found d.limits d.page_size (arc_value d.houses) ws d.waiting.items h c.self.invariant.kept blob (blob - 1) w list f.at r.1 c.self.invariant.waits c.index_mut-in-Ok-finish.ensures.value in
+    omega (arith, passes, was, c.in-Ok-finish.ensures.published, before.count)
+
 pub invariant_of-self-in-Ok-finish : goal.invariant_of-self-in-Ok-finish
 invariant_of-self-in-Ok-finish c =
     let d = c.self.inside in
@@ -125,8 +202,20 @@ invariant_of-self-in-Ok-finish c =
     let U : Numbered → Type 0 = λ x. AreUnder (parents_of h) blob x.rows in
     let none = unfinished_none w.rows (v - 1) c.in-Ok-finish.ensures.unfinished in
     let own : U c.finish.new.self = subst U (sym c.in-Ok-finish.ensures.finished) (finished_under (parents_of h) blob w v row (c.requires.under ∙ sym on) none there) in
+    let passes = finish_passes w v row even in
+    let same : seen ≡ w = g.at.window ∙ sym f.at.window in
+    let far : c.published-before.result ≡ published_of w = c.published-before.ensures ∙ ap published_of same in
+    let n = c.in-Ok-finish.published - c.published-before.result in
+    let list = c.index_mut-in-Ok-finish.result.now in
+    let before = waits_found d.limits d.page_size houses ws d.waiting.items h c.self.invariant.kept blob (blob - 1) w list f.at r.1 c.self.invariant.waits c.index_mut-in-Ok-finish.ensures.value in
+    let left : AreWaiting d.page_size houses b.updates W (drop n list) =
+    published_wait d.page_size houses b.updates w W list n (omega (arith, passes, far, c.in-Ok-finish.ensures.published)) refl (omega (arith, passes, far, c.in-Ok-finish.ensures.published, before.count)) before in
+    let V : Numbered → Type 0 = λ x. AreWaiting d.page_size houses b.updates x (drop n list) in
+    let X : List WaitingUpdate → Type 0 = λ l. AreWaiting d.page_size houses b.updates c.finish.new.self l in
+    let there' = finish_there d.limits d.page_size h ws c.self.invariant.kept blob c.args.caller v f.at.found waits in
     record {
       kept = subst R (sym c.in-Ok-finish.ensures.finished) (subst P (sym history) keeps);
+      waits = waits_changed d.limits d.page_size houses ws d.waiting.items h _ (Events.Finish c.args.caller blob v) blob (blob - 1) (blob - 1) c.finish.new.self c.drop_first.new.self b.updates history refl refl f.at.some c.self.invariant.waits (ap updates_or_none there') (subst X (sym c.drop_first.ensures) (subst V (sym c.in-Ok-finish.ensures.finished) left));
       lies = All-set (AreRowsIn nodes houses) ws (blob - 1) c.finish.new.self now c.self.invariant.lies;
       origins = origins_after h _ (Events.Finish c.args.caller blob v) _ _ history refl (origins_set (parents_of h) ws c.self.invariant.origins blob c.finish.new.self f.at.some own);
       short = short_yet d.history.items c.push_reserved.new.self.items entry (c.push_reserved.ensures.items ∙ ap (λ (l : List Entry). l ++ entry ∷ []) c.make_room.ensures.items) c.in-Ok.ensures.short;
