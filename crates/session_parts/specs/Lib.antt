@@ -1,3 +1,4 @@
+pub mod Anew
 pub mod Lost
 pub mod Ranges
 pub mod Tickets

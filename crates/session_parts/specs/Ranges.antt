@@ -1,6 +1,8 @@
 -- Ranges of a version, and why one is not read.
-use Rattle.std.specs.Prelude.{ℕ, ◌+◌, ◌*◌, ◌<◌, ◌≤◌, List}
+use Rattle.std.specs.Prelude.{ℕ, ◌+◌, ◌*◌, ◌<◌, ◌≤◌, nat_lt, if◌then◌else◌, List, [], ◌∷◌, ◌++◌, take, drop, sum_by, Option, Some, None, Contains}
 use Rattle.blob_model.specs.Content.{Update}
+use Rattle.range_log.specs.Extents.{Extent}
+use Rattle.range_log.specs.Visits.{visits}
 use Rattle.snapshot.specs.Versions.{Version}
 use Rattle.snapshot.specs.Laws.{TellUpdates}
 use Rattle.session_parts.specs.declared.reading.RangeFault.{RangeFault}
@@ -15,6 +17,31 @@ pub record IsMet (p o n i : ℕ) : Type 0 where
   pub some : 1 ≤ n
   pub begins : p * i < o + n
   pub ends : o < p * (i + 1)
+
+-- ---- many ranges, each by the byte at which it begins and how many bytes it has
+-- the bytes of these ranges of a content, one behind the other
+abbrev pub joined : List ℕ → List (ℕ × ℕ) → List ℕ
+joined content [] = []
+joined content (range ∷ ranges) = take range.1 (drop range.0 content) ++ joined content ranges
+
+-- how many bytes they have together
+abbrev pub bytes_in : List (ℕ × ℕ) → ℕ
+bytes_in ranges = sum_by (λ range. range.1) ranges
+
+-- how many nodes the reads of them may visit together
+abbrev pub visits_of : ℕ → List Extent → ℕ → List (ℕ × ℕ) → ℕ
+visits_of p falls version ranges = sum_by (λ range. visits p falls version range.0 range.1) ranges
+
+-- where the first of them ends that ends past the size
+abbrev pub first_end_past : ℕ → List (ℕ × ℕ) → Option ℕ
+first_end_past size [] = None
+first_end_past size (range ∷ ranges) = if nat_lt size (range.0 + range.1) then Some (range.0 + range.1) else first_end_past size ranges
+
+-- page i is one that one of them meets
+pub record IsMetByOne (p : ℕ) (ranges : List (ℕ × ℕ)) (i : ℕ) : Type 0 where
+  pub range : ℕ × ℕ
+  pub among : Contains ranges range
+  pub met : IsMet p range.0 range.1 i
 
 -- a fact, where the range ends past the size
 abbrev pub OnRangePast : RangeFault → Type 0 → Type 0

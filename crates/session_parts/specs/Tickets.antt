@@ -2,7 +2,7 @@
 use Rattle.std.specs.Prelude.{◌≡◌, ℕ, ◌<◌, List, length, map, remove, slice_get, Option, Some, All, AllPairs}
 use Rattle.node_store.specs.UpdateRows.{UpdateRow}
 use Rattle.border_hints.specs.Numbered.{NumberedUpdate}
-use Rattle.request_form.specs.Session.{HeldTicket, ticket_at, without_ticket}
+use Rattle.request_form.specs.Session.{HeldTicket, ticket_at, without_ticket, without_version}
 
 -- the number that it is held under, the numbered update, and its row, where it is woven
 pub record OpenUpdate : Type 0 where
@@ -29,6 +29,20 @@ pub record IsHeldAt (os : List OpenUpdate) (number i : ℕ) : Type 0 where
   pub number_is : update.number ≡ number
   pub held : ticket_at (tickets_of os) number ≡ Some (ticket_of update)
   pub left : without_ticket (tickets_of os) number ≡ tickets_of (remove os i)
+
+-- no update of that version of the blob is held
+pub record HoldsNone (os : List OpenUpdate) (blob version : ℕ) : Type 0 where
+  pub none : (i : ℕ) (update : OpenUpdate) → slice_get os i ≡ Some update → ¬ ((update.ticket.blob ≡ blob) × (update.ticket.version ≡ version))
+  pub left : without_version (tickets_of os) blob version ≡ tickets_of os
+
+-- the first update of that version of the blob stands at index i
+pub record IsVersionAt (os : List OpenUpdate) (blob version i : ℕ) : Type 0 where
+  pub within : i < length os
+  pub update : OpenUpdate
+  pub is : slice_get os i ≡ Some update
+  pub blob_is : update.ticket.blob ≡ blob
+  pub version_is : update.ticket.version ≡ version
+  pub left : without_version (tickets_of os) blob version ≡ tickets_of (remove os i)
 
 -- the numbers of the tickets rise, and the next one is above them all
 pub record Rise (tickets : List HeldTicket) (next : ℕ) : Type 0 where

@@ -2,7 +2,7 @@
 ghost use Rattle.std.specs.Prelude.{◌≡◌, ℕ, ◌<◌, ◌≤◌, List, [], ◌∷◌, ◌++◌, length, None, Some, IfOk, IfSome, MatchOption, option_map, remove, slice_get, slice_set};
 ghost use Rattle.std.specs.Arc.{arc_value};
 ghost use Rattle.request_form.specs.Session.{ticket_at};
-ghost use Rattle.session_parts.specs.Tickets.{OpenUpdate, tickets_of, with_row, IsHeldAt};
+ghost use Rattle.session_parts.specs.Tickets.{OpenUpdate, tickets_of, with_row, IsHeldAt, HoldsNone, IsVersionAt};
 
 use border_hints::Ticket;
 use node_store::Row;
@@ -130,6 +130,19 @@ impl Tickets {
     {
         for (index, open) in self.open.iter().enumerate() {
             if open.number() == number {
+                return Some(index);
+            }
+        }
+        None
+    }
+
+    /// The index of the first update of that version of the blob, or none where there is no such update.
+    pub fn find_version(&self, blob: u64, version: u64) -> Option<usize>
+        ensures { MatchOption result (HoldsNone self.now blob version) (λ index. IsVersionAt self.now blob version index) }
+    {
+        for (index, open) in self.open.iter().enumerate() {
+            let ticket = open.ticket();
+            if ticket.blob() == blob && ticket.version() == version {
                 return Some(index);
             }
         }

@@ -1,5 +1,5 @@
-// A range of a version, read into a buffer of its own.
-ghost use Rattle.std.specs.Prelude.{◌≡◌, ℕ, ◌+◌, ◌<◌, ◌≤◌, length, take, drop, map, sum_by, All, IfOk, OnOk, IfErr, Err};
+// Ranges of a version, read into a buffer of their own.
+ghost use Rattle.std.specs.Prelude.{◌≡◌, ◌≢◌, ℕ, ◌+◌, ◌<◌, ◌≤◌, length, take, drop, map, sum_by, All, IfOk, OnOk, IfErr, Err, None, Some};
 ghost use Rattle.blob_model.specs.Content.{content, size_of};
 ghost use Rattle.range_log.specs.Updates.{extents};
 ghost use Rattle.range_log.specs.Visits.{visits};
@@ -7,7 +7,7 @@ ghost use Rattle.page_store.specs.Count.{HasRisen};
 ghost use Rattle.page_fan.specs.Counts.{NoneFell};
 ghost use Rattle.snapshot.specs.Versions.{IsVersionIn};
 ghost use Rattle.range_reader.specs.Faults.{PageFailedIn};
-ghost use Rattle.session_parts.specs.Ranges.{OverUpdates, IsMet, OnRangePast, OnPageLost};
+ghost use Rattle.session_parts.specs.Ranges.{OverUpdates, IsMet, IsMetByOne, OnRangePast, OnPageLost, first_end_past, joined, bytes_in, visits_of};
 
 use blob_model::Bytes;
 use node_store::NodeHouse;
@@ -32,6 +32,54 @@ pub enum RangeFault {
     /// Memory was refused.
     #[error("no memory")]
     NoMemory,
+}
+
+/// Fills a part of a buffer with the bytes of the version from byte `offset` on, as many as the part has.
+///
+/// `RangePastSize` comes exactly where the range ends past the version's size. `PageFault` comes only where all doors of a stored
+/// page failed that a page of the range needs; the part then holds any bytes. It takes no memory and no lock and waits for nobody.
+/// The clause `steps` bounds its node steps; a range past the size takes none. `room` is one for pages of the snapshot's size.
+fn read_into<D: Door, L: Ledger>(
+    snapshot: &Snapshot,
+    nodes: &NodeHouse,
+    houses: &Houses,
+    doors: &mut Doors<D>,
+    room: &mut ReadRoom,
+    offset: u64,
+    out: &mut [u8],
+    steps: &mut Steps<L>,
+) -> Result<(), RangeFault>
+    requires here { IsVersionIn nodes.now houses.now snapshot.now }
+    requires doors { length doors.old ≡ length houses.now }
+    requires room { length room.old ≡ snapshot.now.page_size }
+    requires true_doors { All D.is_true doors.old }
+    ensures bytes { OverUpdates snapshot.now (λ us. OnOk result (out.new ≡ take (length out.old) (drop offset (content us (length snapshot.now.rows))))) }
+    ensures within { OverUpdates snapshot.now (λ us. OnOk result (offset + length out.old ≤ size_of us (length snapshot.now.rows))) }
+    ensures refused { OverUpdates snapshot.now (λ us. size_of us (length snapshot.now.rows) < offset + length out.old
+        → result ≡ Err (RangeFault.RangePastSize (offset + length out.old) (size_of us (length snapshot.now.rows)))) }
+    ensures past { OverUpdates snapshot.now (λ us. IfErr result (λ fault. OnRangePast fault (size_of us (length snapshot.now.rows) < offset + length out.old))) }
+    ensures lost_within { OverUpdates snapshot.now (λ us. IfErr result (λ fault. OnPageLost fault (λ _. offset + length out.old ≤ size_of us (length snapshot.now.rows)))) }
+    ensures page { IfErr result (λ fault. OnPageLost fault (IsMet snapshot.now.page_size offset (length out.old))) }
+    ensures failed { IfErr result (λ fault. OnPageLost fault (PageFailedIn snapshot.now offset (length out.old) (map D.faults doors.old) (map D.faults doors.new))) }
+    ensures counted { IfErr result (λ fault. OnPageLost fault (λ _. HasRisen (sum_by D.faults doors.old) (sum_by D.faults doors.new))) }
+    ensures memory { IfErr result (λ fault. fault ≢ RangeFault.NoMemory) }
+    ensures steps { OverUpdates snapshot.now (λ us. steps.new ≤ steps.old + visits snapshot.now.page_size (extents us) (length snapshot.now.rows) offset (length out.old)) }
+    ensures no_steps { OverUpdates snapshot.now (λ us. size_of us (length snapshot.now.rows) < offset + length out.old → steps.new ≡ steps.old) }
+    ensures none_fell { NoneFell (map D.faults doors.old) (map D.faults doors.new) }
+    ensures sum_never_falls { sum_by D.faults doors.old ≤ sum_by D.faults doors.new }
+    ensures doors_stay { length doors.new ≡ length doors.old }
+    ensures room_stays { length room.new ≡ length room.old }
+    ensures truth_stays { All D.is_true doors.new }
+{
+    range_log::laws::older_versions_stay();
+    range_log::laws::page_bytes_stay();
+    snapshot.page_size().stands();
+    snapshot.stands();
+    match read(snapshot, nodes, houses, doors, room, offset, out, steps) {
+        Ok(()) => Ok(()),
+        Err(ReadFault::RangePastSize { end, size }) => Err(RangeFault::RangePastSize { end, size }),
+        Err(ReadFault::PageFault(page)) => Err(RangeFault::PageFault(page)),
+    }
 }
 
 /// The `count` bytes of the version from byte `offset` on.
@@ -81,10 +129,6 @@ pub fn read_range<D: Door, L: Ledger>(
     ensures room_stays { length room.new ≡ length room.old }
     ensures truth_stays { All D.is_true doors.new }
 {
-    range_log::laws::older_versions_stay();
-    range_log::laws::page_bytes_stay();
-    snapshot.page_size().stands();
-    snapshot.stands();
     let size = snapshot.size();
     let end = u128::from(offset) + u128::from(count);
     if end > u128::from(size) {
@@ -94,9 +138,122 @@ pub fn read_range<D: Door, L: Ledger>(
         return Err(RangeFault::NoMemory);
     };
     let buffer = out.as_mut_slice();
-    match read(snapshot, nodes, houses, doors, room, offset, buffer, steps) {
+    match read_into(snapshot, nodes, houses, doors, room, offset, buffer, steps) {
         Ok(()) => Ok(Bytes::of(out)),
-        Err(ReadFault::RangePastSize { end, size }) => Err(RangeFault::RangePastSize { end, size }),
-        Err(ReadFault::PageFault(page)) => Err(RangeFault::PageFault(page)),
+        Err(fault) => Err(fault),
+    }
+}
+
+// The end of the first of these ranges that ends past the size.
+fn first_past(size: u64, ranges: &[(u64, u64)]) -> Option<u128>
+    ensures { result ≡ first_end_past size ranges.now }
+{
+    for range in ranges {
+        let (offset, count) = *range;
+        let end = u128::from(offset) + u128::from(count);
+        if u128::from(size) < end {
+            return Some(end);
+        }
+    }
+    None
+}
+
+// Fills a buffer with the bytes of these ranges of the version, one behind the other.
+fn fill_ranges<D: Door, L: Ledger>(
+    snapshot: &Snapshot,
+    nodes: &NodeHouse,
+    houses: &Houses,
+    doors: &mut Doors<D>,
+    room: &mut ReadRoom,
+    ranges: &[(u64, u64)],
+    out: &mut [u8],
+    steps: &mut Steps<L>,
+) -> Result<(), RangeFault>
+    requires here { IsVersionIn nodes.now houses.now snapshot.now }
+    requires doors { length doors.old ≡ length houses.now }
+    requires room { length room.old ≡ snapshot.now.page_size }
+    requires true_doors { All D.is_true doors.old }
+    requires whole { length out.old ≡ bytes_in ranges.now }
+    ensures bytes { OverUpdates snapshot.now (λ us. OnOk result (out.new ≡ joined (content us (length snapshot.now.rows)) ranges.now)) }
+    ensures past { OverUpdates snapshot.now (λ us. IfErr result (λ fault. OnRangePast fault (first_end_past (size_of us (length snapshot.now.rows)) ranges.now ≢ None))) }
+    ensures page { IfErr result (λ fault. OnPageLost fault (IsMetByOne snapshot.now.page_size ranges.now)) }
+    ensures counted { IfErr result (λ fault. OnPageLost fault (λ _. HasRisen (sum_by D.faults doors.old) (sum_by D.faults doors.new))) }
+    ensures memory { IfErr result (λ fault. fault ≢ RangeFault.NoMemory) }
+    ensures steps { OverUpdates snapshot.now (λ us. steps.new ≤ steps.old + visits_of snapshot.now.page_size (extents us) (length snapshot.now.rows) ranges.now) }
+    ensures sum_never_falls { sum_by D.faults doors.old ≤ sum_by D.faults doors.new }
+    ensures doors_stay { length doors.new ≡ length doors.old }
+    ensures room_stays { length room.new ≡ length room.old }
+    ensures truth_stays { All D.is_true doors.new }
+{
+    let mut filled = 0;
+    for range in ranges {
+        let (offset, count) = *range;
+        let end = filled + count as usize;
+        let part = &mut out[filled..end];
+        match read_into(snapshot, nodes, houses, doors, room, offset, part, steps) {
+            Ok(()) => filled = end,
+            Err(fault) => return Err(fault),
+        }
+    }
+    Ok(())
+}
+
+/// The bytes of these ranges of the version, one behind the other. They have `count` bytes together.
+///
+/// `RangePastSize` comes exactly where one of them ends past the version's size, and tells of the first such range. `PageFault`
+/// comes only where a door failed, and names a page that one of the ranges meets. Memory is taken once for all bytes, when all
+/// ranges are known to be within the size, and each range is read into its place there.
+///
+/// It takes no lock and waits for nobody. The clause `steps` bounds its node steps; where a range ends past the size there are
+/// none. `room` is one for pages of the snapshot's size, and stays one.
+pub fn read_ranges<D: Door, L: Ledger>(
+    alloc: Global,
+    snapshot: &Snapshot,
+    nodes: &NodeHouse,
+    houses: &Houses,
+    doors: &mut Doors<D>,
+    room: &mut ReadRoom,
+    ranges: &[(u64, u64)],
+    count: u64,
+    steps: &mut Steps<L>,
+) -> Result<Bytes, RangeFault>
+    requires here { IsVersionIn nodes.now houses.now snapshot.now }
+    requires doors { length doors.old ≡ length houses.now }
+    requires room { length room.old ≡ snapshot.now.page_size }
+    requires true_doors { All D.is_true doors.old }
+    requires count { count ≡ bytes_in ranges.now }
+
+    // Where all is well.
+    ensures bytes { OverUpdates snapshot.now (λ us. IfOk result (λ bytes. bytes ≡ joined (content us (length snapshot.now.rows)) ranges.now)) }
+
+    // Why a fault is answered.
+    ensures refused { OverUpdates snapshot.now (λ us. (end : ℕ) → first_end_past (size_of us (length snapshot.now.rows)) ranges.now ≡ Some end
+        → result ≡ Err (RangeFault.RangePastSize end (size_of us (length snapshot.now.rows)))) }
+    ensures past { OverUpdates snapshot.now (λ us. IfErr result (λ fault. OnRangePast fault (first_end_past (size_of us (length snapshot.now.rows)) ranges.now ≢ None))) }
+    ensures page { IfErr result (λ fault. OnPageLost fault (IsMetByOne snapshot.now.page_size ranges.now)) }
+    ensures counted { IfErr result (λ fault. OnPageLost fault (λ _. HasRisen (sum_by D.faults doors.old) (sum_by D.faults doors.new))) }
+
+    // What it costs.
+    ensures steps { OverUpdates snapshot.now (λ us. steps.new ≤ steps.old + visits_of snapshot.now.page_size (extents us) (length snapshot.now.rows) ranges.now) }
+    ensures no_steps { OverUpdates snapshot.now (λ us. first_end_past (size_of us (length snapshot.now.rows)) ranges.now ≢ None → steps.new ≡ steps.old) }
+
+    // What becomes of the doors and the room.
+    ensures sum_never_falls { sum_by D.faults doors.old ≤ sum_by D.faults doors.new }
+    ensures doors_stay { length doors.new ≡ length doors.old }
+    ensures room_stays { length room.new ≡ length room.old }
+    ensures truth_stays { All D.is_true doors.new }
+{
+    snapshot.stands();
+    let size = snapshot.size();
+    if let Some(end) = first_past(size, ranges) {
+        return Err(RangeFault::RangePastSize { end, size });
+    }
+    let Ok(mut out) = vec![in alloc; 0; count as usize] else {
+        return Err(RangeFault::NoMemory);
+    };
+    let buffer = out.as_mut_slice();
+    match fill_ranges(snapshot, nodes, houses, doors, room, ranges, buffer, steps) {
+        Ok(()) => Ok(Bytes::of(out)),
+        Err(fault) => Err(fault),
     }
 }

@@ -1,0 +1,113 @@
+use Rattle.std.proofs.Common.{◌≡◌, ◌≢◌, sym, ◌∙◌, ap, subst, ℕ, ◌+◌, ◌-◌, ◌<◌, ◌≤◌, List, ◌∷◌, ◌++◌, append_assoc, length, length-drop, take, drop, None, slice_index_or, arith}
+use Rattle.std.proofs.lemmas.List.{length-take-le}
+use Rattle.std.proofs.lemmas.List.Sums.{sum_by-cons}
+use Rattle.std.proofs.lemmas.Slice.{take-put_mid}
+use borrow.Rule.Slice.PartMut.{put_mid}
+use Rattle.blob_model.specs.Content.{content, size_of}
+use Rattle.range_log.specs.Updates.{extents}
+use Rattle.range_log.specs.Visits.{visits}
+use Rattle.session_parts.specs.Ranges.{IsMet, IsMetByOne, first_end_past, joined, bytes_in, visits_of}
+use Rattle.session_parts.proofs.JoinedRanges.{at_drop, one_of_them, some_past, on_past, on_lost}
+use Rattle.session_parts.proofs.reading.fill_ranges.Goals as goal
+
+pub returns-in-Err-clause-past : goal.returns-in-Err-clause-past
+returns-in-Err-clause-past g c us tell =
+    let ranges = c.args.ranges.now in
+    let k = c.loop-range.range-index in
+    let filled = c.loop-range.filled in
+    let out = c.loop-range.out in
+    let r : ℕ × ℕ = slice_index_or ranges k (0, 0) in
+    let within : k < length ranges = c.loop-range-test.true in
+    let tail : drop k ranges ≡ r ∷ drop (k + 1) ranges = at_drop ranges k within in
+    let bytes : bytes_in (drop k ranges) ≡ r.1 + bytes_in (drop (k + 1) ranges) = ap bytes_in tail ∙ sum_by-cons (λ (x : ℕ × ℕ). x.1) r (drop (k + 1) ranges) in
+    let room : r.1 ≤ length (drop filled out) = omega (arith, length-drop filled out, c.loop-range.auto.out, c.loop-range.invariant.left, bytes) in
+    let count : filled + r.1 - filled ≡ r.1 = omega arith in
+    let whole : length (take (filled + r.1 - filled) (drop filled out)) ≡ r.1 = ap (λ (n : ℕ). length (take n (drop filled out))) count ∙ length-take-le r.1 (drop filled out) room in
+    let size = size_of us (length c.args.snapshot.now.rows) in
+    on_past c.in-Err.fault _ (first_end_past size ranges ≢ None) (λ past. some_past size ranges k within (subst (λ (n : ℕ). size < r.0 + n) whole past)) (c.in-Err.ensures.past us tell)
+
+pub returns-in-Err-clause-page : goal.returns-in-Err-clause-page
+returns-in-Err-clause-page g c =
+    let ranges = c.args.ranges.now in
+    let k = c.loop-range.range-index in
+    let filled = c.loop-range.filled in
+    let out = c.loop-range.out in
+    let r : ℕ × ℕ = slice_index_or ranges k (0, 0) in
+    let within : k < length ranges = c.loop-range-test.true in
+    let tail : drop k ranges ≡ r ∷ drop (k + 1) ranges = at_drop ranges k within in
+    let bytes : bytes_in (drop k ranges) ≡ r.1 + bytes_in (drop (k + 1) ranges) = ap bytes_in tail ∙ sum_by-cons (λ (x : ℕ × ℕ). x.1) r (drop (k + 1) ranges) in
+    let room : r.1 ≤ length (drop filled out) = omega (arith, length-drop filled out, c.loop-range.auto.out, c.loop-range.invariant.left, bytes) in
+    let count : filled + r.1 - filled ≡ r.1 = omega arith in
+    let whole : length (take (filled + r.1 - filled) (drop filled out)) ≡ r.1 = ap (λ (n : ℕ). length (take n (drop filled out))) count ∙ length-take-le r.1 (drop filled out) room in
+    let p = c.args.snapshot.now.page_size in
+    on_lost c.in-Err.fault _ (IsMetByOne p ranges) (λ page met. record { range = r; among = one_of_them ranges k within; met = subst (λ (n : ℕ). IsMet p r.0 n page) whole met }) c.in-Err.ensures.page
+
+pub returns-in-Err-clause-steps : goal.returns-in-Err-clause-steps
+returns-in-Err-clause-steps g c us tell =
+    let ranges = c.args.ranges.now in
+    let k = c.loop-range.range-index in
+    let filled = c.loop-range.filled in
+    let out = c.loop-range.out in
+    let r : ℕ × ℕ = slice_index_or ranges k (0, 0) in
+    let within : k < length ranges = c.loop-range-test.true in
+    let tail : drop k ranges ≡ r ∷ drop (k + 1) ranges = at_drop ranges k within in
+    let bytes : bytes_in (drop k ranges) ≡ r.1 + bytes_in (drop (k + 1) ranges) = ap bytes_in tail ∙ sum_by-cons (λ (x : ℕ × ℕ). x.1) r (drop (k + 1) ranges) in
+    let room : r.1 ≤ length (drop filled out) = omega (arith, length-drop filled out, c.loop-range.auto.out, c.loop-range.invariant.left, bytes) in
+    let count : filled + r.1 - filled ≡ r.1 = omega arith in
+    let whole : length (take (filled + r.1 - filled) (drop filled out)) ≡ r.1 = ap (λ (n : ℕ). length (take n (drop filled out))) count ∙ length-take-le r.1 (drop filled out) room in
+    let p = c.args.snapshot.now.page_size in
+    let v = length c.args.snapshot.now.rows in
+    let each : ℕ × ℕ → ℕ = λ x. visits p (extents us) v x.0 x.1 in
+    let visited : visits_of p (extents us) v (drop k ranges) ≡ each r + visits_of p (extents us) v (drop (k + 1) ranges) =
+    ap (visits_of p (extents us) v) tail ∙ sum_by-cons each r (drop (k + 1) ranges)
+    in
+    let here : c.read_into.new.steps ≤ c.loop-range.steps + visits p (extents us) v r.0 r.1 =
+    subst (λ (n : ℕ). c.read_into.new.steps ≤ c.loop-range.steps + visits p (extents us) v r.0 n) whole (c.read_into.ensures.steps us tell)
+    in
+    omega (arith, here, visited, c.loop-range.invariant.steps us tell)
+
+pub loop-range-preserved : goal.loop-range-preserved
+loop-range-preserved g c =
+    let ranges = c.args.ranges.now in
+    let k = c.loop-range.range-index in
+    let filled = c.loop-range.filled in
+    let out = c.loop-range.out in
+    let r : ℕ × ℕ = slice_index_or ranges k (0, 0) in
+    let within : k < length ranges = c.loop-range-test.true in
+    let tail : drop k ranges ≡ r ∷ drop (k + 1) ranges = at_drop ranges k within in
+    let bytes : bytes_in (drop k ranges) ≡ r.1 + bytes_in (drop (k + 1) ranges) = ap bytes_in tail ∙ sum_by-cons (λ (x : ℕ × ℕ). x.1) r (drop (k + 1) ranges) in
+    let room : r.1 ≤ length (drop filled out) = omega (arith, length-drop filled out, c.loop-range.auto.out, c.loop-range.invariant.left, bytes) in
+    let count : filled + r.1 - filled ≡ r.1 = omega arith in
+    let whole : length (take (filled + r.1 - filled) (drop filled out)) ≡ r.1 = ap (λ (n : ℕ). length (take n (drop filled out))) count ∙ length-take-le r.1 (drop filled out) room in
+    record {
+      left = omega (arith, c.loop-range.invariant.left, bytes);
+      bytes = λ us tell.
+          let c' : List ℕ = content us (length c.args.snapshot.now.rows) in
+          let ys = c.read_into.new.out in
+          let rest : List ℕ = joined c' (drop (k + 1) ranges) in
+          let own : ys ≡ take r.1 (drop r.0 c') = c.in-Ok.ensures.bytes us tell ∙ ap (λ (n : ℕ). take n (drop r.0 c')) whole in
+          let long : length ys ≡ r.1 = c.read_into.auto.out ∙ whole in
+          let front : take (filled + r.1) (put_mid filled (filled + r.1 - filled) out ys) ≡ take filled out ++ ys =
+          take-put_mid filled (filled + r.1 - filled) out ys (filled + r.1) (omega (arith, long)) (omega (arith, c.loop-range.auto.out, c.loop-range.invariant.left))
+          in
+          ap (λ (l : List ℕ). l ++ rest) front
+          ∙ (append_assoc (take filled out) ys rest
+          ∙ (ap (λ (l : List ℕ). take filled out ++ (l ++ rest)) own
+          ∙ (ap (λ (rs : List (ℕ × ℕ)). take filled out ++ joined c' rs) (sym tail)
+          ∙ c.loop-range.invariant.bytes us tell)));
+      steps = λ us tell.
+          let p = c.args.snapshot.now.page_size in
+          let v = length c.args.snapshot.now.rows in
+          let each : ℕ × ℕ → ℕ = λ x. visits p (extents us) v x.0 x.1 in
+          let visited : visits_of p (extents us) v (drop k ranges) ≡ each r + visits_of p (extents us) v (drop (k + 1) ranges) =
+          ap (visits_of p (extents us) v) tail ∙ sum_by-cons each r (drop (k + 1) ranges)
+          in
+          let here : c.read_into.new.steps ≤ c.loop-range.steps + visits p (extents us) v r.0 r.1 =
+          subst (λ (n : ℕ). c.read_into.new.steps ≤ c.loop-range.steps + visits p (extents us) v r.0 n) whole (c.read_into.ensures.steps us tell)
+          in
+          omega (arith, here, visited, c.loop-range.invariant.steps us tell);
+      risen = omega (arith, c.loop-range.invariant.risen, c.read_into.ensures.sum_never_falls);
+      doors = c.read_into.ensures.doors_stay ∙ c.loop-range.invariant.doors;
+      room = c.read_into.ensures.room_stays ∙ c.loop-range.invariant.room;
+      truth = c.read_into.ensures.truth_stays;
+    }

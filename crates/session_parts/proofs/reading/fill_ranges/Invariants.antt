@@ -1,0 +1,20 @@
+use Rattle.std.proofs.Common.{◌≡◌, ◌+◌, ◌≤◌, ◌++◌, List, length, take, drop}
+use Rattle.std.specs.Prelude.{All, sum_by}
+use Rattle.blob_model.specs.Content.{Update, content}
+use Rattle.range_log.specs.Updates.{extents}
+use Rattle.snapshot.specs.Laws.{TellUpdates}
+use Rattle.session_parts.specs.Ranges.{joined, bytes_in, visits_of}
+use Rattle.session_parts.proofs.reading.fill_ranges.Given as goal
+
+abbrev pub invariant-loop-range : goal.invariant-loop-range
+invariant-loop-range g l = record {
+  left : l.filled + bytes_in (drop l.range-index l.ranges) ≡ length l.fn.out;
+  bytes : (us : List Update) → TellUpdates l.snapshot.page_size us l.snapshot.rows
+      → take l.filled l.out ++ joined (content us (length l.snapshot.rows)) (drop l.range-index l.ranges) ≡ joined (content us (length l.snapshot.rows)) l.ranges;
+  steps : (us : List Update) → TellUpdates l.snapshot.page_size us l.snapshot.rows
+      → l.steps + visits_of l.snapshot.page_size (extents us) (length l.snapshot.rows) (drop l.range-index l.ranges) ≤ l.fn.steps + visits_of l.snapshot.page_size (extents us) (length l.snapshot.rows) l.ranges;
+  risen : sum_by g.D.Door.faults l.fn.doors ≤ sum_by g.D.Door.faults l.doors;
+  doors : length l.doors ≡ length l.fn.doors;
+  room : length l.room ≡ length l.fn.room;
+  truth : All g.D.Door.is_true l.doors;
+}
