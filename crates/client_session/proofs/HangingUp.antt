@@ -1,6 +1,7 @@
 -- A session that hangs up, ticket by ticket.
-use Rattle.std.proofs.Common.{◌≡◌, refl, sym, ◌∙◌, ap, subst, ℕ, suc, ◌+◌, ◌<◌, ◌≤◌, List, [], ◌∷◌, ◌++◌, append_assoc, append-nil, Bool, true, false, not, length, length-append, take, Option, Some, None, Result, Ok, Err, eq-eqb, arith}
-use Rattle.std.specs.Prelude.{All, cond, count_by, slice_get}
+use Rattle.std.proofs.Common.{◌≡◌, refl, sym, ◌∙◌, ap, subst, ℕ, suc, ◌+◌, ◌<◌, ◌≤◌, List, [], ◌∷◌, ◌++◌, append_assoc, append-nil, Bool, true, false, length, length-append, take, Option, Some, None, eq-eqb, arith}
+use Rattle.std.specs.Prelude.{All, cond, count_by, sum_by, slice_get}
+use Rattle.std.proofs.lemmas.Bool.{false≢true}
 use Rattle.std.proofs.lemmas.List.{length-map, length-take-le}
 use Rattle.std.proofs.lemmas.List.Sums.{sum_by-cons}
 use Rattle.blob_model.specs.History.{AllOther, IsNumbered, store_of}
@@ -14,19 +15,17 @@ use Rattle.version_manager.specs.Desks.{finished_or_not, updates_or_none, update
 use Rattle.version_manager.specs.Log.{desk_at, events}
 use Rattle.version_manager.specs.declared.journal.DeskFixed.{DeskFixed}
 use Rattle.request_form.specs.Session.{Session, HeldTicket, drops, ticket_at, without_ticket}
-use Rattle.request_form.specs.Answers.{FinishAnswer, ReportAnswer}
-use Rattle.request_form.specs.HangUp.{GivenUp, GivesUp, HungUp, IsFinishedIn, AllNumbered, AllFinished, tells_finished, tells_no_memory, finished_count, dropped_count, numbers_anew}
+use Rattle.faults.specs.Counts.{RoseBy}
+use Rattle.request_form.specs.Answers.{FinishAnswer, FinishHindered, ReportAnswer}
+use Rattle.request_form.specs.Replies.{fault_count}
+use Rattle.request_form.specs.HangUp.{GivenUp, GivesUp, HungUp, IsFinishedIn, AllNumbered, AllFinished, GivenUpCounts, given_up_counts, tells_finished, tells_no_memory, tells_pending, tells_page_fault, begins_anew}
 use Rattle.request_form.specs.Laws.{GivingUpGoesOn, HungUpAreFinished}
-use Rattle.request_form.proofs.HangUps.{finished_more, dropped_more}
+use Rattle.request_form.proofs.HangUps.{count_more}
 use Rattle.request_form.specs.declared.form.Reply.{Reply}
-use Rattle.request_form.specs.declared.form.Reply.TheVariants as Replies
-use Rattle.request_form.specs.declared.form.Fault.{Fault}
-use Rattle.request_form.specs.declared.form.Fault.TheVariants as Faults
-use Rattle.client_session.specs.Results.{finish_reply}
 use Rattle.client_session.specs.Sessions.{SessionState, Continues, session_of}
 use Rattle.session_parts.specs.Tickets.{OpenUpdate, ticket_of, tickets_of}
 use Rattle.client_session.specs.SessionInvariant.{IsOpen}
-use Rattle.client_session.specs.HangUp.{GivesUpOne, GivingUp, finished_seen}
+use Rattle.client_session.specs.HangUp.{GivesUpOne, GivingUp, finished_seen, counted, tells_hindered}
 use Rattle.client_session.proofs.Waiting.{goes_both}
 
 -- the first ticket is found under its number, and left out by it
@@ -61,68 +60,72 @@ fewer_held old new t ts is left = omega (arith, ap length is, ap length left, le
 pub some_left : (os : List OpenUpdate) (t : HeldTicket) (ts : List HeldTicket) → tickets_of os ≡ t ∷ ts → 0 < length os
 some_left os t ts is = omega (arith, ap length is, length-map os ticket_of)
 
--- the finish of the first ticket was done, or found done
-pub one_finished : (s : Session) (t : HeldTicket) (ts : List HeldTicket) (r : Result ℕ Fault) (s' : Session) → s.tickets ≡ t ∷ ts → (r ≡ Err Faults.NoMemory → ⊥)
-    → FinishAnswer AllOther s t.number (ticket_at s.tickets t.number) (finish_reply r) s' → GivesUpOne s t ts true s'
-one_finished s t ts r s' is other a =
-    elim (report_of s t ts (finish_reply r) s' is a) [
-      | ReportAnswer.reported x ↦ record {
-        reply = finish_reply r;
-        given_up = GivenUp.reported x;
-        left = ap (λ (y : Session). y.tickets) x.seen ∙ dropped_left s t ts is;
-        tells = ap tells_finished x.said;
-        memory = ap tells_no_memory x.said;
+abbrev ways_told : Reply → ℕ
+ways_told reply = cond (tells_finished reply) 1 0 + cond (tells_no_memory reply) 1 0 + cond (tells_pending reply) 1 0 + cond (tells_page_fault reply) 1 0
+
+abbrev FaultsAre : Reply → Type 0
+FaultsAre reply = fault_count reply ≡ cond (tells_page_fault reply) 1 0
+
+module _ (s : Session) (t : HeldTicket) (ts : List HeldTicket) (is : s.tickets ≡ t ∷ ts) (reply : Reply) (mid : Session) where
+  hindered_told : FinishHindered AllOther s t.blob t.version reply mid → tells_hindered reply ≡ true
+  hindered_told (FinishHindered.out_of_memory x) = ap tells_hindered x.said
+  hindered_told (FinishHindered.waits x) = ap tells_hindered x.said
+  hindered_told (FinishHindered.not_folded x) = ap tells_hindered x.said
+
+  hindered_once : FinishHindered AllOther s t.blob t.version reply mid → ways_told reply ≡ 1
+  hindered_once (FinishHindered.out_of_memory x) = ap ways_told x.said
+  hindered_once (FinishHindered.waits x) = ap ways_told x.said
+  hindered_once (FinishHindered.not_folded x) = ap ways_told x.said
+
+  hindered_faults : FinishHindered AllOther s t.blob t.version reply mid → FaultsAre reply
+  hindered_faults (FinishHindered.out_of_memory x) = subst FaultsAre (sym x.said) refl
+  hindered_faults (FinishHindered.waits x) = subst FaultsAre (sym x.said) refl
+  hindered_faults (FinishHindered.not_folded x) = subst FaultsAre (sym x.said) refl
+
+  hindered_same : FinishHindered AllOther s t.blob t.version reply mid → mid.tickets ≡ s.tickets
+  hindered_same (FinishHindered.out_of_memory x) = ap (λ (y : Session). y.tickets) x.seen
+  hindered_same (FinishHindered.waits x) = ap (λ (y : Session). y.tickets) x.seen
+  hindered_same (FinishHindered.not_folded x) = ap (λ (y : Session). y.tickets) x.seen
+
+  -- the finish of the first ticket was done, or found done
+  gone_by : tells_hindered reply ≡ false → ReportAnswer AllOther s t reply mid → GivesUpOne s t ts reply mid
+  gone_by calm (ReportAnswer.reported x) = record {
+    given_up = GivenUp.reported x;
+    left = ap (λ (y : Session). y.tickets) x.seen ∙ dropped_left s t ts is;
+    once = ap ways_told x.said;
+    faults = subst FaultsAre (sym x.said) refl;
+  }
+  gone_by calm (ReportAnswer.finished x) = record {
+    given_up = GivenUp.found_finished x;
+    left = ap (λ (y : Session). y.tickets) x.seen ∙ dropped_left s t ts is;
+    once = ap ways_told x.said;
+    faults = subst FaultsAre (sym x.said) refl;
+  }
+  gone_by calm (ReportAnswer.hindered x) = absurd (false≢true (sym calm ∙ hindered_told x))
+
+  pub one_gone : FinishAnswer AllOther s t.number (ticket_at s.tickets t.number) reply mid → tells_hindered reply ≡ false → GivesUpOne s t ts reply mid
+  one_gone a calm = gone_by calm (report_of s t ts reply mid is a)
+
+  -- it was hindered
+  hindered_by : tells_hindered reply ≡ true → ReportAnswer AllOther s t reply mid → FinishHindered AllOther s t.blob t.version reply mid
+  hindered_by told (ReportAnswer.reported x) = absurd (false≢true (sym (ap tells_hindered x.said) ∙ told))
+  hindered_by told (ReportAnswer.finished x) = absurd (false≢true (sym (ap tells_hindered x.said) ∙ told))
+  hindered_by told (ReportAnswer.hindered x) = x
+
+  -- after that the same tickets are held
+  pub same_tickets : FinishAnswer AllOther s t.number (ticket_at s.tickets t.number) reply mid → tells_hindered reply ≡ true → mid.tickets ≡ t ∷ ts
+  same_tickets a told = hindered_same (hindered_by told (report_of s t ts reply mid is a)) ∙ is
+
+  -- and it is dropped
+  pub one_dropped : FinishAnswer AllOther s t.number (ticket_at s.tickets t.number) reply mid → tells_hindered reply ≡ true → (s' : Session) → s' ≡ drops mid t.number → GivesUpOne s t ts reply s'
+  one_dropped a told s' dropped =
+      let h : FinishHindered AllOther s t.blob t.version reply mid = hindered_by told (report_of s t ts reply mid is a) in
+      record {
+        given_up = GivenUp.dropped (record { mid = mid; hindered = h; dropped = dropped });
+        left = ap (λ (y : Session). y.tickets) dropped ∙ dropped_left mid t ts (hindered_same h ∙ is);
+        once = hindered_once h;
+        faults = hindered_faults h;
       }
-      | ReportAnswer.finished x ↦ record {
-        reply = finish_reply r;
-        given_up = GivenUp.found_finished x;
-        left = ap (λ (y : Session). y.tickets) x.seen ∙ dropped_left s t ts is;
-        tells = ap tells_finished x.said;
-        memory = ap tells_no_memory x.said;
-      }
-      | ReportAnswer.out_of_memory x ↦ absurd (other (no_memory_of r x.said))
-    ]
-  where
-    no_memory_of : (r : Result ℕ Fault) → finish_reply r ≡ Replies.Refused Faults.NoMemory → r ≡ Err Faults.NoMemory
-    no_memory_of (Ok n) e = cc
-    no_memory_of (Err fault) e = let same : fault ≡ Faults.NoMemory = cc in ap Err same
-
--- no memory was found for it, and it is dropped
-pub one_dropped : (s : Session) (t : HeldTicket) (ts : List HeldTicket) (mid s' : Session) → s.tickets ≡ t ∷ ts → FinishAnswer AllOther s t.number (ticket_at s.tickets t.number) (Replies.Refused Faults.NoMemory) mid
-    → s' ≡ drops mid t.number → mid.tickets ≡ t ∷ ts → GivesUpOne s t ts false s'
-one_dropped s t ts mid s' is a dropped held =
-    elim (report_of s t ts (Replies.Refused Faults.NoMemory) mid is a) [
-      | ReportAnswer.reported x ↦ absurd (not_finished x.published x.said)
-      | ReportAnswer.finished x ↦ absurd (not_already t.version x.said)
-      | ReportAnswer.out_of_memory x ↦ record {
-        reply = Replies.Refused Faults.NoMemory;
-        given_up = GivenUp.dropped (record { mid = mid; out_of_memory = x; dropped = dropped });
-        left = ap (λ (y : Session). y.tickets) dropped ∙ dropped_left mid t ts held;
-        tells = refl;
-        memory = refl;
-      }
-    ]
-  where
-    not_finished : (n : ℕ) → Replies.Refused Faults.NoMemory ≡ Replies.Finished n → ⊥
-    not_finished n e = cc
-
-    not_already : (n : ℕ) → Replies.Refused Faults.NoMemory ≡ Replies.Refused (Faults.Already n) → ⊥
-    not_already n e = cc
-
--- after want of memory the same tickets are held
-pub same_tickets : (s : Session) (t : HeldTicket) (ts : List HeldTicket) (mid : Session) → s.tickets ≡ t ∷ ts → FinishAnswer AllOther s t.number (ticket_at s.tickets t.number) (Replies.Refused Faults.NoMemory) mid → mid.tickets ≡ t ∷ ts
-same_tickets s t ts mid is a =
-    elim (report_of s t ts (Replies.Refused Faults.NoMemory) mid is a) [
-      | ReportAnswer.reported x ↦ absurd (not_finished x.published x.said)
-      | ReportAnswer.finished x ↦ absurd (not_already t.version x.said)
-      | ReportAnswer.out_of_memory x ↦ ap (λ (y : Session). y.tickets) x.seen ∙ is
-    ]
-  where
-    not_finished : (n : ℕ) → Replies.Refused Faults.NoMemory ≡ Replies.Finished n → ⊥
-    not_finished n e = cc
-
-    not_already : (n : ℕ) → Replies.Refused Faults.NoMemory ≡ Replies.Refused (Faults.Already n) → ⊥
-    not_already n e = cc
 
 -- ---- what is finished then
 none_below : (x y : Bool) → (x ≡ true → y ≡ true) → cond x 1 0 ≤ cond y 1 0
@@ -134,7 +137,7 @@ found_there store t (b, is, done) = ap (λ (o : Option Blob). finished_or_not o 
 
 -- no more replies tell of a finish than versions are finished
 few_finished : (s : Session) (ts : List HeldTicket) (replies : List Reply) (s' : Session) (store : Store) → GivesUp AllOther s ts replies s' → AllFinished store ts replies
-    → finished_count replies ≤ count_by (λ (t : HeldTicket). finished_or_not (blob_at store t.blob) t.version) ts
+    → count_by tells_finished replies ≤ count_by (λ (t : HeldTicket). finished_or_not (blob_at store t.blob) t.version) ts
 few_finished s [] [] s' store g all = omega arith
 few_finished s (t ∷ ts) (r ∷ rs) s' store (mid, first, rest) all =
     let f : HeldTicket → Bool = λ t. finished_or_not (blob_at store t.blob) t.version in
@@ -170,63 +173,74 @@ all_numbered touched counted f log (o ∷ os) all =
     let some = some_version touched counted o.ticket (updates_in (desk_at f log) o.ticket.blob) first.ticket.numbered first.ticket.stands in
     (there_numbered (blob_at (store_of f.limits (events log)) o.ticket.blob) o.ticket.version some first.ticket.numbered, all_numbered touched counted f log os (λ k x lt. all (suc k) x (omega arith)))
 
-pub finished_then : HungUpAreFinished → (s : Session) (finished no_memory : ℕ) (s' : Session) → HungUp AllOther s finished no_memory s' → AllNumbered (store_of s.fixed.limits s.seen) s.tickets
-    → finished ≤ finished_seen s' s.tickets
-finished_then law s finished no_memory s' h numbered =
-    let few = few_finished s s.tickets h.replies h.mid (store_of s'.fixed.limits s'.seen) h.gives_up (law s finished no_memory s' h numbered) in
-    omega (arith, few, h.finished_is)
+pub finished_then : HungUpAreFinished → (s : Session) (counts : GivenUpCounts) (s' : Session) → HungUp AllOther s counts s' → AllNumbered (store_of s.fixed.limits s.seen) s.tickets
+    → counts.finished ≤ finished_seen s' s.tickets
+finished_then law s counts s' h numbered =
+    let few = few_finished s s.tickets h.replies h.mid (store_of s'.fixed.limits s'.seen) h.gives_up (law s counts s' h numbered) in
+    omega (arith, few, ap (λ (c : GivenUpCounts). c.finished) h.counts_are)
+
+-- ---- the counts
+rose_both : (n m a b c : ℕ) → RoseBy n a b → RoseBy m b c → RoseBy (n + m) a c
+rose_both n m a b c x y = record {
+  later = omega (arith, x.later, y.later);
+  by = λ few. omega (arith, x.by (omega (arith, few, y.later)), y.by few);
+}
+
+abbrev these : ℕ → ℕ → ℕ → ℕ → GivenUpCounts
+these finished no_memory pending page_fault = record { finished = finished; no_memory = no_memory; pending = pending; page_fault = page_fault }
+
+-- one reply more
+counted_more : (replies : List Reply) (reply : Reply) → counted (given_up_counts replies) reply ≡ given_up_counts (replies ++ reply ∷ [])
+counted_more replies reply =
+    let old : GivenUpCounts = counted (given_up_counts replies) reply in
+    let new : GivenUpCounts = given_up_counts (replies ++ reply ∷ []) in
+    ap (λ (n : ℕ). these n old.no_memory old.pending old.page_fault) (sym (count_more tells_finished replies reply))
+    ∙ (ap (λ (n : ℕ). these new.finished n old.pending old.page_fault) (sym (count_more tells_no_memory replies reply))
+    ∙ (ap (λ (n : ℕ). these new.finished new.no_memory n old.page_fault) (sym (count_more tells_pending replies reply))
+    ∙ ap (λ (n : ℕ). these new.finished new.no_memory new.pending n) (sym (count_more tells_page_fault replies reply))))
 
 -- ---- the loop
 module _ {D : Type 0} (faults : D → ℕ) where
-  pub giving_start : (s : SessionState D) → GivingUp s s 0 0
+  pub giving_start : (s : SessionState D) → GivingUp faults s s (these 0 0 0 0)
   giving_start s = record {
     gone = [];
     replies = [];
     split = refl;
     gives_up = refl;
-    finished_is = refl;
-    no_memory_is = refl;
-    counts = omega arith;
-    doors = refl;
+    counts_are = refl;
+    each_once = omega arith;
+    faults_rose = record { later = omega arith; by = λ few. omega arith };
     goes_on = record { store = refl; caller = refl; begins = ([], sym (append-nil s.log)) };
   }
 
-  counted_by : (b : Bool) (n m : ℕ) (x : Bool) → x ≡ b → n ≡ m → n + cond b 1 0 ≡ m + cond x 1 0
-  counted_by b n m x e is = cc
-
-  pub giving_more : GivingUpGoesOn → (a b d : SessionState D) (finished no_memory : ℕ) (done : Bool) (t : HeldTicket) (ts : List HeldTicket) → GivingUp a b finished no_memory → (session_of b).tickets ≡ t ∷ ts
-      → GivesUpOne (session_of b) t ts done (session_of d) → length b.held ≡ length d.held + 1 → d.doors ≡ b.doors → Continues b d
-      → GivingUp a d (finished + cond done 1 0) (no_memory + cond (not done) 1 0)
-  giving_more law a b d finished no_memory done t ts g is one fewer doors goes = record {
+  pub giving_more : GivingUpGoesOn → (a b d : SessionState D) (counts : GivenUpCounts) (reply : Reply) (t : HeldTicket) (ts : List HeldTicket) → GivingUp faults a b counts → (session_of b).tickets ≡ t ∷ ts
+      → GivesUpOne (session_of b) t ts reply (session_of d) → length b.held ≡ length d.held + 1 → RoseBy (fault_count reply) (sum_by faults b.doors) (sum_by faults d.doors) → Continues b d
+      → GivingUp faults a d (counted counts reply)
+  giving_more law a b d counts reply t ts g is one fewer rose goes = record {
     gone = g.gone ++ t ∷ [];
-    replies = g.replies ++ one.reply ∷ [];
+    replies = g.replies ++ reply ∷ [];
     split = g.split ∙ (ap (λ (hs : List HeldTicket). g.gone ++ hs) (is ∙ ap (λ (hs : List HeldTicket). t ∷ hs) (sym one.left)) ∙ sym (append_assoc g.gone (t ∷ []) (session_of d).tickets));
-    gives_up = law (session_of a) g.gone g.replies (session_of b) t one.reply (session_of d) g.gives_up one.given_up;
-    finished_is = counted_by done finished (finished_count g.replies) (tells_finished one.reply) one.tells g.finished_is ∙ sym (finished_more g.replies one.reply);
-    no_memory_is = counted_by (not done) no_memory (dropped_count g.replies) (tells_no_memory one.reply) one.memory g.no_memory_is ∙ sym (dropped_more g.replies one.reply);
-    counts = by_done done (omega (arith, g.counts, fewer)) (omega (arith, g.counts, fewer));
-    doors = doors ∙ g.doors;
+    gives_up = law (session_of a) g.gone g.replies (session_of b) t reply (session_of d) g.gives_up one.given_up;
+    counts_are = ap (λ (c : GivenUpCounts). counted c reply) g.counts_are ∙ counted_more g.replies reply;
+    each_once = omega (arith, g.each_once, fewer, one.once);
+    faults_rose = rose_both counts.page_fault (cond (tells_page_fault reply) 1 0) (sum_by faults a.doors) (sum_by faults b.doors) (sum_by faults d.doors) g.faults_rose
+        (subst (λ (n : ℕ). RoseBy n (sum_by faults b.doors) (sum_by faults d.doors)) one.faults rose);
     goes_on = goes_both a b d g.goes_on goes;
   }
-    where
-      by_done : (x : Bool) → finished + 1 + no_memory + length d.held ≡ length a.held → finished + (no_memory + 1) + length d.held ≡ length a.held → finished + cond x 1 0 + (no_memory + cond (not x) 1 0) + length d.held ≡ length a.held
-      by_done true p q = omega (arith, p)
-      by_done false p q = omega (arith, q)
 
   none_left : (xs : List HeldTicket) → length xs ≤ 0 → xs ≡ []
   none_left [] le = refl
   none_left (x ∷ xs) le = absurd (omega arith)
 
   -- all are given up
-  pub hung_up : (a b : SessionState D) (finished no_memory : ℕ) (s' : Session) → GivingUp a b finished no_memory → length b.held ≤ 0 → s' ≡ numbers_anew (session_of b) → HungUp AllOther (session_of a) finished no_memory s'
-  hung_up a b finished no_memory s' g none anew =
+  pub hung_up : (a b : SessionState D) (counts : GivenUpCounts) (s' : Session) → GivingUp faults a b counts → length b.held ≤ 0 → s' ≡ begins_anew (session_of b) → HungUp AllOther (session_of a) counts s'
+  hung_up a b counts s' g none anew =
       let left : (session_of b).tickets ≡ [] = none_left (session_of b).tickets (omega (arith, none, length-map b.held ticket_of)) in
       let all : g.gone ≡ (session_of a).tickets = sym (g.split ∙ (ap (λ (hs : List HeldTicket). g.gone ++ hs) left ∙ append-nil g.gone)) in
       record {
         replies = g.replies;
         mid = session_of b;
         gives_up = subst (λ (hs : List HeldTicket). GivesUp AllOther (session_of a) hs g.replies (session_of b)) all g.gives_up;
-        finished_is = g.finished_is;
-        no_memory_is = g.no_memory_is;
+        counts_are = g.counts_are;
         anew = anew;
       }

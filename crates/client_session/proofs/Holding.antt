@@ -1,19 +1,17 @@
 -- What becomes of the held updates.
-use Rattle.std.proofs.Common.{◌≡◌, sym, subst, ℕ, ◌+◌, ◌<◌, ◌≤◌, List, [], ◌∷◌, ◌++◌, length, Some, inl, inr, arith}
-use Rattle.std.specs.Prelude.{All, slice_get, slice_set, remove}
+use Rattle.std.proofs.Common.{◌≡◌, sym, subst, ℕ, ◌+◌, ◌<◌, ◌≤◌, List, [], ◌∷◌, ◌++◌, length, inl, inr, arith}
+use Rattle.std.specs.Prelude.{All, remove}
 use Rattle.std.proofs.lemmas.Bool.{cases_lt}
 use Rattle.std.proofs.lemmas.List.{map_push, length-map}
 use Rattle.std.proofs.lemmas.List.Edits.{length-remove, get_or-remove_below, get_or-remove_above}
-use Rattle.std.proofs.lemmas.List.Elements.{All-push, All-set}
+use Rattle.std.proofs.lemmas.List.Elements.{All-push}
 use Rattle.std.proofs.lemmas.List.Quantifiers.{all_pairs_push, all_pairs_remove}
 use Rattle.blob_model.specs.declared.call.Event.{Event}
-use Rattle.node_store.specs.UpdateRows.{UpdateRow}
 use Rattle.version_manager.specs.declared.journal.DeskFixed.{DeskFixed}
 use Rattle.request_form.specs.Session.{HeldTicket}
-use Rattle.session_parts.specs.Tickets.{OpenUpdate, Rise, ticket_of, tickets_of, with_row}
-use Rattle.session_parts.specs.Woven.{IsWoven}
+use Rattle.session_parts.specs.Tickets.{OpenUpdate, Rise, ticket_of, tickets_of}
 use Rattle.client_session.specs.SessionInvariant.{IsOpen, IsHolding}
-use Rattle.session_parts.proofs.HeldRows.{at_index, tickets_of-remove, tickets_of-with_row}
+use Rattle.session_parts.proofs.HeldRows.{tickets_of-remove}
 
 -- ---- the numbers
 all_remove : {X : Type 0} (P : X → Type 0) (xs : List X) (i : ℕ) → i < length xs → All P xs → All P (remove xs i)
@@ -52,14 +50,3 @@ module _ (f : DeskFixed) (log : List (ℕ × Event)) (held : List OpenUpdate) (n
     rise = subst (λ (ts : List HeldTicket). Rise ts next) (sym (tickets_of-remove held i)) (rise_remove (tickets_of held) i next (omega (arith, within, length-map held ticket_of)) h.rise);
     drawn = h.drawn;
   }
-
-  -- the row of one is kept
-  pub holding_row : (i : ℕ) (o : OpenUpdate) (row : UpdateRow) → slice_get held i ≡ Some o → IsWoven f.nodes f.houses o.ticket row → IsHolding f log held next → IsHolding f log (slice_set held i (with_row o row)) next
-  holding_row i o row at woven h =
-      let old : IsOpen f log o = at_index (IsOpen f log) held i o at h.open_ in
-      let new : IsOpen f log (with_row o row) = record { ticket = old.ticket; here = old.here; row = woven } in
-      record {
-        open_ = All-set (IsOpen f log) held i (with_row o row) new h.open_;
-        rise = subst (λ (ts : List HeldTicket). Rise ts next) (sym (tickets_of-with_row held i o row at)) h.rise;
-        drawn = h.drawn;
-      }

@@ -1,42 +1,99 @@
--- What a session's fields give to its calls.
-use Rattle.std.proofs.Common.{◌≡◌, sym, ◌∙◌, ap, subst, ℕ, List, Option, Some}
-use Rattle.std.specs.Prelude.{IfSome, slice_set, remove}
+-- What a ticket, and a held update, give to a session's calls.
+use Rattle.std.proofs.Common.{◌≡◌, refl, sym, ◌∙◌, ap, subst, ℕ, ◌≤◌, List, [], ◌++◌, length, Option, Some, None, arith}
+use Rattle.std.specs.Prelude.{IfSome}
+use Rattle.std.proofs.lemmas.List.{map-append}
+use Rattle.blob_model.specs.Content.{Update, content}
+use Rattle.blob_model.specs.Store.{Store, Blob, blob_at, empty_store}
+use Rattle.blob_model.specs.History.{store_of}
 use Rattle.blob_model.specs.declared.call.Event.{Event}
+use Rattle.blob_model.proofs.Marks.{published_within}
+use Rattle.blob_model.proofs.Stays.{store_kept, store_from-append}
+use Rattle.page_store.specs.Stored.{Cut, LieAmong}
 use Rattle.node_store.specs.UpdateRows.{UpdateRow}
 use Rattle.border_hints.specs.Numbered.{NumberedUpdate}
-use Rattle.session_parts.specs.Woven.{IsAmong, IsWoven}
-use Rattle.version_manager.specs.Desks.{DeskState, IsTicketOf, updates_in}
-use Rattle.version_manager.specs.Log.{MayFinish, desk_at}
+use Rattle.border_hints.specs.Numbered.{IsNumbered as IsWellNumbered}
+use Rattle.session_parts.specs.Tickets.{OpenUpdate}
+use Rattle.session_parts.specs.Woven.{IsWoven}
+use Rattle.version_manager.specs.Desks.{updates_in, updates_or_none, published_or_none}
+use Rattle.version_manager.specs.Log.{MayFinish, IsNewTicket, IsWaitingTicket, desk_at, events}
+use Rattle.version_manager.specs.Stays.{ticket_stays}
 use Rattle.version_manager.specs.declared.journal.DeskFixed.{DeskFixed}
-use Rattle.request_form.specs.Session.{HeldTicket}
-use Rattle.session_parts.specs.Tickets.{OpenUpdate, tickets_of, with_row, IsHeldAt}
-use Rattle.client_session.specs.SessionInvariant.{IsOpen}
-use Rattle.session_parts.proofs.HeldRows.{tickets_of-with_row, tickets_of-remove}
-use Rattle.client_session.proofs.Reports.{IsTaken}
-
--- a ticket of a desk is one of the updates of its blob there
-among : (d : DeskState) (t : NumberedUpdate) → IsTicketOf d t → IsAmong d.page_size (updates_in d t.blob) t
-among d t of = record { page_size = of.page_size; numbered = of.numbered; stands = of.stands; bytes = of.bytes }
+use Rattle.client_session.specs.Finishing.{IsFreshHere, TicketsStayHere}
+use Rattle.client_session.specs.SessionInvariant.{IsOpen, IsTicketHere}
 
 -- an open update with its row may be finished
 pub may_finish : (f : DeskFixed) (log : List (ℕ × Event)) (o : OpenUpdate) (row : UpdateRow) → IsOpen f log o → o.row ≡ Some row → MayFinish o.ticket row log f
-may_finish f log o row open_ is =
-    let woven : IsWoven f.nodes f.houses o.ticket row = subst (λ (x : Option UpdateRow). IfSome x (IsWoven f.nodes f.houses o.ticket)) is open_.row in
-    let d : DeskState = desk_at f log in
+may_finish f log o row open_ is = subst (λ (x : Option UpdateRow). IfSome x (λ r. MayFinish o.ticket r log f)) is open_.row
+
+-- so may one that was woven by a ticket that is here
+pub may_finish_woven : (f : DeskFixed) (log : List (ℕ × Event)) (t : NumberedUpdate) (row : UpdateRow) → IsTicketHere f log t → IsWoven f.nodes f.houses t row → MayFinish t row log f
+may_finish_woven f log t row h woven = record {
+  ticket = h.ticket;
+  row_for = woven.for f.page_size (updates_in (desk_at f log) t.blob)
+      (record { page_size = h.ticket.page_size; numbered = h.ticket.numbered; stands = h.ticket.stands; bytes = h.ticket.bytes; before = h.bytes });
+  under = woven.under;
+  here = woven.here;
+}
+
+-- ---- what a blob's updates leave stays, as they go on
+content_longer : (f : DeskFixed) (h more : List Event) (blob v : ℕ) (o : Option Blob) → blob_at (store_of f.limits h) blob ≡ o → v ≤ length (updates_or_none o)
+    → content (updates_or_none (blob_at (store_of f.limits (h ++ more)) blob)) v ≡ content (updates_or_none o) v
+content_longer f h more blob v None is few =
+    let none : v ≡ 0 = omega (arith, few) in
+    ap (content (updates_or_none (blob_at (store_of f.limits (h ++ more)) blob))) none ∙ ap (content []) (sym none)
+content_longer f h more blob v (Some b) is few =
+    let (new, at, stay) = store_kept (store_of f.limits h) more blob b is in
+    let there : blob_at (store_of f.limits (h ++ more)) blob ≡ Some new = ap (λ (s : Store). blob_at s blob) (store_from-append (empty_store f.limits) h more) ∙ at in
+    ap (λ (x : Option Blob). content (updates_or_none x) v) there ∙ stay.content v few
+
+pub content_stays : (f : DeskFixed) (log more : List (ℕ × Event)) (blob v : ℕ) → v ≤ length (updates_in (desk_at f log) blob)
+    → content (updates_in (desk_at f (log ++ more)) blob) v ≡ content (updates_in (desk_at f log) blob) v
+content_stays f log more blob v few =
+    ap (λ (h : List Event). content (updates_or_none (blob_at (store_of f.limits h) blob)) v) (map-append (λ (x : ℕ × Event). x.1) log more)
+    ∙ content_longer f (events log) (events more) blob v (blob_at (store_of f.limits (events log)) blob) refl few
+
+-- a ticket that is here stays here
+pub ticket_here_stays : TicketsStayHere
+ticket_here_stays f log log' t (more, is) h =
+    subst (λ (l : List (ℕ × Event)). IsTicketHere f l t) (sym is)
+    (record {
+      ticket = ticket_stays t log more f h.ticket;
+      here = h.here;
+      below = h.below;
+      bytes = h.bytes ∙ sym (content_stays f log more t.blob (length t.snapshot.rows) (omega (arith, h.below, h.ticket.numbered)));
+    })
+
+-- ---- tickets that were just given
+published_few : (f : DeskFixed) (h : List Event) (blob : ℕ) (o : Option Blob) → blob_at (store_of f.limits h) blob ≡ o → published_or_none o ≤ length (updates_or_none o)
+published_few f h blob None is = omega arith
+published_few f h blob (Some b) is = published_within f.limits h blob b is
+
+-- one of a numbering
+pub new_ticket_here : (f : DeskFixed) (blob caller : ℕ) (log more : List (ℕ × Event)) (t : NumberedUpdate) (cut : Cut) → IsWellNumbered t → LieAmong f.houses cut.pages
+    → IsNewTicket f blob caller cut log (log ++ more) t → IsTicketHere f (log ++ more) t
+new_ticket_here f blob caller log more t cut well pages n =
+    let before : List Update = updates_in (desk_at f log) blob in
+    let v : ℕ = length t.snapshot.rows in
+    let few : v ≤ length before = omega (arith, n.hints.rows, published_few f (events log) blob (blob_at (store_of f.limits (events log)) blob) refl) in
     record {
-      ticket = open_.ticket;
-      row_for = woven.for d.page_size (updates_in d o.ticket.blob) (among d o.ticket open_.ticket);
-      under = woven.under;
-      here = woven.here;
+      ticket = n.ticket;
+      here = record { snapshot = n.hints.here.0; pages = subst (λ (x : Cut). LieAmong f.houses x.pages) (sym n.pages_are) pages };
+      below = omega (arith, well.version);
+      bytes =
+          n.hints.tells.leave v (omega arith)
+          ∙ (sym (content_stays f log more blob v few) ∙ ap (λ (b : ℕ). content (updates_in (desk_at f (log ++ more)) b) v) (sym n.blob_is));
     }
 
--- the update of that number, once its row is kept
-pub taken_of : (held os : List OpenUpdate) (index number : ℕ) (row : UpdateRow) → (h : IsHeldAt held number index) → os ≡ slice_set held index (with_row h.update row) → IsTaken held os index number h.update
-taken_of held os index number row h is =
-    let same : tickets_of os ≡ tickets_of held = ap tickets_of is ∙ tickets_of-with_row held index h.update row h.is in
+-- one of a waiting version
+pub waiting_ticket_here : (f : DeskFixed) (log : List (ℕ × Event)) (blob version : ℕ) (t : NumberedUpdate) → IsWellNumbered t → IsWaitingTicket f log blob version t → IsTicketHere f log t
+waiting_ticket_here f log blob version t well w =
+    let v : ℕ = length t.snapshot.rows in
     record {
-      found = h.held;
-      number_is = h.number_is;
-      same = same;
-      left = tickets_of-remove os index ∙ (ap (λ (hs : List HeldTicket). remove hs index) same ∙ (sym (tickets_of-remove held index) ∙ sym h.left));
+      ticket = w.ticket;
+      here = record { snapshot = w.hints.here.0; pages = w.pages_here };
+      below = omega (arith, well.version);
+      bytes = w.hints.tells.leave v (omega arith) ∙ ap (λ (b : ℕ). content (updates_in (desk_at f log) b) v) (sym w.blob_is);
     }
+
+pub waiting_ticket_fresh : (f : DeskFixed) (log : List (ℕ × Event)) (blob version : ℕ) (t : NumberedUpdate) → IsWaitingTicket f log blob version t → IsFreshHere f t
+waiting_ticket_fresh f log blob version t w = record { snapshot = w.hints.here; pages = w.pages_here; page_size = w.ticket.page_size }

@@ -52,7 +52,7 @@ few_enough s count reply s' Answer few answer =
 abbrev pub IsThat : Result (List ℕ) RangeFault → Result (List ℕ) RangeFault → Type 0
 IsThat a b = a ≡ b
 
-same_range : (end size end' size' : ℕ) → IsThat (Err (RangeFaults.RangePastSize end size)) (Err (RangeFaults.RangePastSize end' size'))
+pub same_range : (end size end' size' : ℕ) → IsThat (Err (RangeFaults.RangePastSize end size)) (Err (RangeFaults.RangePastSize end' size'))
     → Faults.RangePastSize end size ≡ Faults.RangePastSize end' size'
 same_range end size end' size' e =
     let first : end ≡ end' = cc in
@@ -107,50 +107,50 @@ not_both : (r : Refusal) (bytes : List ℕ) → Outcomes.Refused r ≡ Outcomes.
 not_both r bytes e = cc
 
 -- a turn that left the history as it found it
-module _ (f : DeskFixed) (caller : ℕ) (log log' gap : List (ℕ × Event)) (others : AllOther caller (events gap)) (same : log' ≡ log ++ gap) (held : List OpenUpdate) (next blob version offset count : ℕ) where
+module _ (f : DeskFixed) (caller : ℕ) (log log' gap : List (ℕ × Event)) (others : AllOther caller (events gap)) (same : log' ≡ log ++ gap) (held : List OpenUpdate) (next limit blob version offset count : ℕ) where
   -- the version isn't there
   pub refused_read : (fault : DeskFault) → OnRefused fault (λ r. outcome_in f (log ++ gap) caller (Calls.Size blob version) ≡ Outcomes.Refused r)
-      → ReadAnswer AllOther (session_at f caller log held next) blob version offset count (Replies.Refused (desk_fault fault)) (session_at f caller log' held next)
+      → ReadAnswer AllOther (session_at f caller log held next limit) blob version offset count (Replies.Refused (desk_fault fault)) (session_at f caller log' held next limit)
   refused_read (DeskFaults.Refused r) e =
       ReadAnswer.refused record {
         others = events gap;
         is_gap = others;
         refusal = r;
-        refused = outcome_of_gap f caller log log' gap held next (Calls.Read blob version offset count) ∙ read_refused f (log ++ gap) caller blob version offset count r e;
+        refused = outcome_of_gap f caller log log' gap held next limit (Calls.Read blob version offset count) ∙ read_refused f (log ++ gap) caller blob version offset count r e;
         said = refl;
-        seen = seen_gap f caller log log' gap held next same;
+        seen = seen_gap f caller log log' gap held next limit same;
       }
-  refused_read DeskFaults.NoMemory e = ReadAnswer.out_of_memory record { others = events gap; is_gap = others; said = refl; seen = seen_gap f caller log log' gap held next same }
+  refused_read DeskFaults.NoMemory e = ReadAnswer.out_of_memory record { others = events gap; is_gap = others; said = refl; seen = seen_gap f caller log log' gap held next limit same }
 
   -- the version is there, with so many bytes
   module _ (n : ℕ) (there : outcome_in f (log ++ gap) caller (Calls.Size blob version) ≡ Outcomes.Size n) where
     -- the bytes of the range
     pub content_read : (bytes : List ℕ) → offset + count ≤ size_of (updates_in (desk_at f (log ++ gap)) blob) version
         → bytes ≡ take count (drop offset (content (updates_in (desk_at f (log ++ gap)) blob) version))
-        → ReadAnswer AllOther (session_at f caller log held next) blob version offset count (Replies.Content bytes) (session_at f caller log' held next)
+        → ReadAnswer AllOther (session_at f caller log held next limit) blob version offset count (Replies.Content bytes) (session_at f caller log' held next limit)
     content_read bytes within is =
         ReadAnswer.content record {
           others = events gap;
           is_gap = others;
           bytes = bytes;
-          done = outcome_of_gap f caller log log' gap held next (Calls.Read blob version offset count)
+          done = outcome_of_gap f caller log log' gap held next limit (Calls.Read blob version offset count)
               ∙ (read_within f (log ++ gap) caller blob version offset count n there within ∙ ap Outcomes.Content (sym is));
           said = refl;
-          seen = seen_gap f caller log log' gap held next same;
+          seen = seen_gap f caller log log' gap held next limit same;
         }
 
     -- a range that was not read
     failed_read : (fault : Fault) → count ≤ max_read → RangeCause f.page_size (updates_in (desk_at f (log ++ gap)) blob) version offset count fault
-        → ReadAnswer AllOther (session_at f caller log held next) blob version offset count (Replies.Refused fault) (session_at f caller log' held next)
+        → ReadAnswer AllOther (session_at f caller log held next limit) blob version offset count (Replies.Refused fault) (session_at f caller log' held next limit)
     failed_read fault few (RangeCause.too_long is long) = absurd (omega (arith, few, long))
     failed_read fault few (RangeCause.past is few' past) =
         ReadAnswer.refused record {
           others = events gap;
           is_gap = others;
           refusal = Refusals.RangePastSize (offset + count) (size_of (updates_in (desk_at f (log ++ gap)) blob) version);
-          refused = outcome_of_gap f caller log log' gap held next (Calls.Read blob version offset count) ∙ read_past f (log ++ gap) caller blob version offset count n there past;
+          refused = outcome_of_gap f caller log log' gap held next limit (Calls.Read blob version offset count) ∙ read_past f (log ++ gap) caller blob version offset count n there past;
           said = ap Replies.Refused is;
-          seen = seen_gap f caller log log' gap held next same;
+          seen = seen_gap f caller log log' gap held next limit same;
         }
     failed_read fault few (RangeCause.lost page is few' within met) =
         let bytes : List ℕ = take count (drop offset (content (updates_in (desk_at f (log ++ gap)) blob) version)) in
@@ -159,26 +159,26 @@ module _ (f : DeskFixed) (caller : ℕ) (log log' gap : List (ℕ × Event)) (ot
           others = events gap;
           is_gap = others;
           bytes = bytes;
-          would = outcome_of_gap f caller log log' gap held next (Calls.Read blob version offset count) ∙ read_within f (log ++ gap) caller blob version offset count n there within;
+          would = outcome_of_gap f caller log log' gap held next limit (Calls.Read blob version offset count) ∙ read_within f (log ++ gap) caller blob version offset count n there within;
           some = some;
           page = page;
           begins = met.begins;
           ends = met.ends;
           said = ap Replies.Refused is;
-          seen = seen_gap f caller log log' gap held next same;
+          seen = seen_gap f caller log log' gap held next limit same;
         }
     failed_read fault few (RangeCause.no_memory is) =
-        ReadAnswer.out_of_memory record { others = events gap; is_gap = others; said = ap Replies.Refused is; seen = seen_gap f caller log log' gap held next same }
+        ReadAnswer.out_of_memory record { others = events gap; is_gap = others; said = ap Replies.Refused is; seen = seen_gap f caller log log' gap held next limit same }
 
     -- what a range of the opened version gives
     pub range_answer : (said : Result (List ℕ) Fault) → count ≤ max_read → ReadsRange f.page_size (updates_in (desk_at f (log ++ gap)) blob) version offset count said
-        → ReadAnswer AllOther (session_at f caller log held next) blob version offset count (read_reply said) (session_at f caller log' held next)
+        → ReadAnswer AllOther (session_at f caller log held next limit) blob version offset count (read_reply said) (session_at f caller log' held next limit)
     range_answer (Ok bytes) few r = content_read bytes r.within r.bytes
     range_answer (Err fault) few r = failed_read fault few r.cause
 
     -- no node was met where the read is refused, if none was met where the range goes past the version's end
     pub no_step_there : (before after : ℕ) → count ≤ max_read → (size_of (updates_in (desk_at f (log ++ gap)) blob) version < offset + count → after ≡ before)
-        → NoStepIfRefused (session_at f caller log' held next) blob version offset count before after
+        → NoStepIfRefused (session_at f caller log' held next limit) blob version offset count before after
     no_step_there before after few none =
         let bytes : List ℕ = take count (drop offset (content (updates_in (desk_at f (log ++ gap)) blob) version)) in
         let call = Calls.Read blob version offset count in
@@ -187,7 +187,7 @@ module _ (f : DeskFixed) (caller : ℕ) (log log' gap : List (ℕ × Event)) (ot
           refused = λ r e. elim (cases_lt (size_of (updates_in (desk_at f (log ++ gap)) blob) version) (offset + count)) [
             | inl past ↦ none past
             | inr within ↦
-                absurd (not_both r bytes (sym e ∙ (outcome_of_gap f caller log' log' [] held next call ∙ (now ∙ read_within f (log ++ gap) caller blob version offset count n there within))))
+                absurd (not_both r bytes (sym e ∙ (outcome_of_gap f caller log' log' [] held next limit call ∙ (now ∙ read_within f (log ++ gap) caller blob version offset count n there within))))
           ];
           too_long = λ long. absurd (omega (arith, few));
         }
@@ -195,7 +195,7 @@ module _ (f : DeskFixed) (caller : ℕ) (log log' gap : List (ℕ × Event)) (ot
 -- ---- a read is an opening and a range of what was opened
 -- a session that has seen more
 abbrev pub seen_to : {D : Type 0} → SessionState D → List (ℕ × Event) → Session
-seen_to s log' = session_at s.store.fixed s.caller log' s.held s.next
+seen_to s log' = session_at s.store.fixed s.caller log' s.held s.next s.limit
 
 module _ {D : Type 0} (s s1 : SessionState D) (blob version offset count : ℕ) (few : count ≤ max_read) where
   pub opened_read : (s' : SessionState D) (v : Version) (said : Result (List ℕ) Fault) → Opening s blob version (Ok v) s1 → s' ≡ record s1 { doors = s'.doors }
@@ -212,7 +212,7 @@ module _ {D : Type 0} (s s1 : SessionState D) (blob version offset count : ℕ) 
       subst (λ (l : List (ℕ × Event)). outcome_in f l s.caller (Calls.Size blob version) ≡ Outcomes.Size (size_now v)) o.log o.done
       in
       let answer : ReadAnswer AllOther (session_of s) blob version offset count (read_reply said) (seen_to s s1.log) =
-      range_answer f s.caller s.log s1.log o.gap o.others o.log s.held s.next blob version offset count (size_now v) there said few r'
+      range_answer f s.caller s.log s1.log o.gap o.others o.log s.held s.next s.limit blob version offset count (size_now v) there said few r'
       in
       let now : session_of s' ≡ seen_to s s1.log = ap (λ (x : SessionState D). session_of x) stays ∙ ap (λ (x : SessionState D). session_of x) o.same in
       subst (λ (x : Session). Answers AllOther (session_of s) (Requests.Read blob version offset count) (read_reply said) x) (sym now)
@@ -227,7 +227,7 @@ module _ {D : Type 0} (s s1 : SessionState D) (blob version offset count : ℕ) 
       subst (λ (l : List (ℕ × Event)). OnRefused why (λ r. outcome_in f l s.caller (Calls.Size blob version) ≡ Outcomes.Refused r)) o.log o.refused.refused
       in
       let answer : ReadAnswer AllOther (session_of s) blob version offset count (Replies.Refused (desk_fault why)) (seen_to s s1.log) =
-      refused_read f s.caller s.log s1.log o.gap o.others o.log s.held s.next blob version offset count why refused
+      refused_read f s.caller s.log s1.log o.gap o.others o.log s.held s.next s.limit blob version offset count why refused
       in
       let reply : Reply = Replies.Refused (desk_fault why) in
       let now : session_of s1 ≡ seen_to s s1.log = ap (λ (x : SessionState D). session_of x) o.same in
@@ -250,4 +250,4 @@ module _ {D : Type 0} (s s1 : SessionState D) (blob version offset count : ℕ) 
       let none' : size_of us version < offset + count → after ≡ before = subst (λ (n : ℕ). size_of us n < offset + count → after ≡ before) snap.rows (none us tells) in
       let now : session_of s' ≡ seen_to s s1.log = ap (λ (x : SessionState D). session_of x) stays ∙ ap (λ (x : SessionState D). session_of x) o.same in
       subst (λ (x : Session). NoStepIfRefused x blob version offset count before after) (sym now)
-      (no_step_there f s.caller s.log s1.log o.gap o.others o.log s.held s.next blob version offset count (size_now v) there before after few none')
+      (no_step_there f s.caller s.log s1.log o.gap o.others o.log s.held s.next s.limit blob version offset count (size_now v) there before after few none')

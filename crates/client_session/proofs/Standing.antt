@@ -1,25 +1,33 @@
 -- What a session keeps, from call to call.
-use Rattle.std.proofs.Common.{◌≡◌, sym, ◌∙◌, ap, subst, ℕ, ◌≤◌, List, length, length-append, get_or, arith}
-use Rattle.std.specs.Prelude.{All, Bool}
+use Rattle.std.proofs.Common.{◌≡◌, sym, ◌∙◌, ap, subst, ℕ, ◌≤◌, List, ◌++◌, length, length-append, get_or, arith, Option, Some, None}
+use Rattle.std.specs.Prelude.{All, Bool, IfSome}
+use Rattle.node_store.specs.UpdateRows.{UpdateRow}
+use Rattle.border_hints.specs.Numbered.{NumberedUpdate}
 use Rattle.blob_model.specs.declared.call.Event.{Event}
 use Rattle.turn_lock.specs.History.{Begins}
 use Rattle.turn_lock.specs.Shown.{PassView}
 use Rattle.version_manager.specs.Desks.{IsTicketOf}
-use Rattle.version_manager.specs.Log.{desk_at}
-use Rattle.version_manager.specs.Stays.{ticket_stays}
+use Rattle.version_manager.specs.Log.{MayFinish, desk_at}
+use Rattle.version_manager.specs.Stays.{ticket_stays, finish_stays}
 use Rattle.version_manager.specs.declared.journal.DeskFixed.{DeskFixed}
 use Rattle.session_parts.specs.Tickets.{OpenUpdate}
 use Rattle.client_session.specs.SessionInvariant.{IsOpen, IsHolding, IsSession}
 use Rattle.client_session.specs.Sessions.{StoreState, IsPassOf, Went}
+use Rattle.client_session.specs.Finishing.{IsEquipped}
+
+-- a row by which an update may be finished stays one as the history goes on
+row_stays : (f : DeskFixed) (log more : List (ℕ × Event)) (t : NumberedUpdate) (row : Option UpdateRow) → IfSome row (λ r. MayFinish t r log f) → IfSome row (λ r. MayFinish t r (log ++ more) f)
+row_stays f log more t None may = tt
+row_stays f log more t (Some r) may = finish_stays t r log more f may
 
 -- a held update stays one as the history goes on
 pub open_stays : (f : DeskFixed) (log log' : List (ℕ × Event)) (o : OpenUpdate) → Begins log log' → IsOpen f log o → IsOpen f log' o
 open_stays f log log' o begins open_ =
     let (more, is) = begins in
     record {
+      some = open_.some;
       ticket = subst (λ (l : List (ℕ × Event)). IsTicketOf (desk_at f l) o.ticket) (sym is) (ticket_stays o.ticket log more f open_.ticket);
-      here = open_.here;
-      row = open_.row;
+      row = subst (λ (l : List (ℕ × Event)). IfSome o.row (λ row. MayFinish o.ticket row l f)) (sym is) (row_stays f log more o.ticket o.row open_.row);
     }
 
 pub longer_log : (log log' : List (ℕ × Event)) → Begins log log' → length log ≤ length log'
@@ -69,4 +77,17 @@ session_doors is_true store pass held next doors doors' room room' count true_ m
   served = count ∙ s.served;
   true_doors = true_;
   marks = marks ∙ s.marks;
+}
+
+-- after turns, with doors and room as good as before
+pub session_equipped : {D : Type 0} (is_true : D → Type 0) (store : StoreState) (pass pass' : PassView Event DeskFixed) (held : List OpenUpdate) (next : ℕ) (doors doors' : List D) (room room' : List Bool)
+    → IsSession is_true store pass held next doors room → pass' ≡ record pass { seen = pass'.seen } → Went store.fixed pass.seen pass'.seen → IsEquipped is_true store doors' room'
+    → IsSession is_true store pass' held next doors' room'
+session_equipped is_true store pass pass' held next doors doors' room room' s same went ready = record {
+  pass_is = pass_after store pass pass' s.pass_is same went;
+  holding = holding_stays store.fixed pass.seen pass'.seen held next went.begins s.holding;
+  housed = s.housed;
+  served = ready.served;
+  true_doors = ready.true_doors;
+  marks = ready.marks;
 }

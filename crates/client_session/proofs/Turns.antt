@@ -51,52 +51,52 @@ module _ (f : DeskFixed) (caller : ℕ) (log log' : List (ℕ × Event)) where
   went_changed call event tells fault (Err e) t = record { begins = (t.gap, t.gives.same); log_is = t.gives.log_after }
 
   -- what the store answers after the gap
-  pub outcome_of_gap : (gap : List (ℕ × Event)) (held : List OpenUpdate) (next : ℕ) (call : Call) → outcome_at (session_at f caller log held next) (events gap) call ≡ outcome_in f (log ++ gap) caller call
-  outcome_of_gap gap held next call = ap (λ (h : List Event). (answer (store_of f.limits h) caller call).1) (sym (map-append (λ (x : ℕ × Event). x.1) log gap))
+  pub outcome_of_gap : (gap : List (ℕ × Event)) (held : List OpenUpdate) (next limit : ℕ) (call : Call) → outcome_at (session_at f caller log held next limit) (events gap) call ≡ outcome_in f (log ++ gap) caller call
+  outcome_of_gap gap held next limit call = ap (λ (h : List Event). (answer (store_of f.limits h) caller call).1) (sym (map-append (λ (x : ℕ × Event). x.1) log gap))
 
-  with_seen : List OpenUpdate → ℕ → List Event → Session
-  with_seen held next h = record { fixed = (session_at f caller log held next).fixed; caller = caller; seen = h; tickets = (session_at f caller log held next).tickets; next = next }
+  with_seen : List OpenUpdate → ℕ → ℕ → List Event → Session
+  with_seen held next limit h = record { fixed = (session_at f caller log held next limit).fixed; caller = caller; seen = h; tickets = (session_at f caller log held next limit).tickets; next = next; limit = limit }
 
   -- what the session has seen after a gap
-  pub seen_gap : (gap : List (ℕ × Event)) (held : List OpenUpdate) (next : ℕ) → log' ≡ log ++ gap → session_at f caller log' held next ≡ sees (session_at f caller log held next) (events gap)
+  pub seen_gap : (gap : List (ℕ × Event)) (held : List OpenUpdate) (next limit : ℕ) → log' ≡ log ++ gap → session_at f caller log' held next limit ≡ sees (session_at f caller log held next limit) (events gap)
   unfolding with_seen
-  seen_gap gap held next is = ap (with_seen held next) (ap events is ∙ map-append (λ (x : ℕ × Event). x.1) log gap)
+  seen_gap gap held next limit is = ap (with_seen held next limit) (ap events is ∙ map-append (λ (x : ℕ × Event). x.1) log gap)
 
   -- and after an event of its own
-  pub seen_event : (gap : List (ℕ × Event)) (e : Event) (held : List OpenUpdate) (next : ℕ) → log' ≡ (log ++ gap) ++ tag e ∷ []
-      → session_at f caller log' held next ≡ sees (session_at f caller log held next) (events gap ++ e ∷ [])
+  pub seen_event : (gap : List (ℕ × Event)) (e : Event) (held : List OpenUpdate) (next limit : ℕ) → log' ≡ (log ++ gap) ++ tag e ∷ []
+      → session_at f caller log' held next limit ≡ sees (session_at f caller log held next limit) (events gap ++ e ∷ [])
   unfolding with_seen
-  seen_event gap e held next is =
-      ap (with_seen held next) (ap events is
+  seen_event gap e held next limit is =
+      ap (with_seen held next limit) (ap events is
       ∙ (map-append (λ (x : ℕ × Event). x.1) (log ++ gap) (tag e ∷ [])
       ∙ (ap (λ (h : List Event). h ++ e ∷ []) (map-append (λ (x : ℕ × Event). x.1) log gap)
       ∙ append_assoc (events log) (events gap) (e ∷ []))))
 
   -- a look
-  pub looked : (call : Call) (said : Outcome) (held : List OpenUpdate) (next : ℕ) → Took caller log log' (λ before after. Looked f call before caller said after)
-      → LookAnswer AllOther (session_at f caller log held next) call (reply_of said) (session_at f caller log' held next)
-  looked call said held next t = record {
+  pub looked : (call : Call) (said : Outcome) (held : List OpenUpdate) (next limit : ℕ) → Took caller log log' (λ before after. Looked f call before caller said after)
+      → LookAnswer AllOther (session_at f caller log held next limit) call (reply_of said) (session_at f caller log' held next limit)
+  looked call said held next limit t = record {
     others = events t.gap;
     is_gap = t.others;
-    said = ap reply_of (t.gives.said_is ∙ sym (outcome_of_gap t.gap held next call));
-    seen = seen_gap t.gap held next t.gives.same;
+    said = ap reply_of (t.gives.said_is ∙ sym (outcome_of_gap t.gap held next limit call));
+    seen = seen_gap t.gap held next limit t.gives.same;
   }
 
   -- A call that was not done: the store refused it, or no memory was found.
-  pub data NotDone (call : Call) (held : List OpenUpdate) (next : ℕ) (reply : Reply) : Type 0 where
-    refused : Refused AllOther (session_at f caller log held next) call reply (session_at f caller log' held next) → NotDone call held next reply
-    out_of_memory : OutOfMemory AllOther (session_at f caller log held next) reply (session_at f caller log' held next) → NotDone call held next reply
+  pub data NotDone (call : Call) (held : List OpenUpdate) (next limit : ℕ) (reply : Reply) : Type 0 where
+    refused : Refused AllOther (session_at f caller log held next limit) call reply (session_at f caller log' held next limit) → NotDone call held next limit reply
+    out_of_memory : OutOfMemory AllOther (session_at f caller log held next limit) reply (session_at f caller log' held next limit) → NotDone call held next limit reply
 
-  pub not_done : (call : Call) (held : List OpenUpdate) (next : ℕ) (gap : List (ℕ × Event)) (fault : DeskFault) → AllOther caller (events gap) → log' ≡ log ++ gap
-      → OnRefused fault (λ refusal. outcome_in f (log ++ gap) caller call ≡ Outcomes.Refused refusal) → NotDone call held next (Replies.Refused (desk_fault fault))
-  not_done call held next gap (DeskFaults.Refused refusal) others is why =
+  pub not_done : (call : Call) (held : List OpenUpdate) (next limit : ℕ) (gap : List (ℕ × Event)) (fault : DeskFault) → AllOther caller (events gap) → log' ≡ log ++ gap
+      → OnRefused fault (λ refusal. outcome_in f (log ++ gap) caller call ≡ Outcomes.Refused refusal) → NotDone call held next limit (Replies.Refused (desk_fault fault))
+  not_done call held next limit gap (DeskFaults.Refused refusal) others is why =
       NotDone.refused record {
         others = events gap;
         is_gap = others;
         refusal = refusal;
-        refused = outcome_of_gap gap held next call ∙ why;
+        refused = outcome_of_gap gap held next limit call ∙ why;
         said = refl;
-        seen = seen_gap gap held next is;
+        seen = seen_gap gap held next limit is;
       }
-  not_done call held next gap DeskFaults.NoMemory others is why =
-      NotDone.out_of_memory record { others = events gap; is_gap = others; said = refl; seen = seen_gap gap held next is }
+  not_done call held next limit gap DeskFaults.NoMemory others is why =
+      NotDone.out_of_memory record { others = events gap; is_gap = others; said = refl; seen = seen_gap gap held next limit is }

@@ -19,7 +19,7 @@ all_other_both caller [] b x y = y
 all_other_both caller (e ∷ a) b x y = (x.0, all_other_both caller a b x.1 y)
 
 sees_both : (x : Session) (a b : List Event) → sees (sees x a) b ≡ sees x (a ++ b)
-sees_both x a b = ap (λ (h : List Event). record { fixed = x.fixed; caller = x.caller; seen = h; tickets = x.tickets; next = x.next }) (append_assoc x.seen a b)
+sees_both x a b = ap (λ (h : List Event). record { fixed = x.fixed; caller = x.caller; seen = h; tickets = x.tickets; next = x.next; limit = x.limit }) (append_assoc x.seen a b)
 
 pub goes_both : {D : Type 0} (a b d : SessionState D) → Continues a b → Continues b d → Continues a d
 goes_both a b d x y = record { store = y.store ∙ x.store; caller = y.caller ∙ x.caller; begins = begins_both a.log b.log d.log x.begins y.begins }

@@ -6,3 +6,5 @@ pub mod Results
 pub mod HangUp
 pub mod Waiting
 pub mod Opening
+pub mod Finishing
+pub mod Numbering

@@ -1,5 +1,5 @@
 -- A version that a session opened, and reads of it that take no turn.
-use Rattle.std.specs.Prelude.{◌≡◌, ℕ, ◌+◌, ◌<◌, ◌≤◌, List, ◌++◌, take, drop, Result, IfOk, OnOk, IfErr}
+use Rattle.std.specs.Prelude.{◌≡◌, ℕ, ◌+◌, ◌<◌, ◌≤◌, List, ◌++◌, take, drop, Result, IfOk, OnOk, IfErr, Some, None}
 use Rattle.blob_model.specs.Content.{Update, content, size_of}
 use Rattle.blob_model.specs.History.{AllOther}
 use Rattle.blob_model.specs.declared.call.Call.TheVariants as Calls
@@ -13,7 +13,7 @@ use Rattle.version_manager.specs.declared.fault.DeskFault.{DeskFault}
 use Rattle.request_form.specs.Answers.{max_read}
 use Rattle.request_form.specs.declared.form.Fault.{Fault}
 use Rattle.request_form.specs.declared.form.Fault.TheVariants as Faults
-pub use Rattle.session_parts.specs.Ranges.{OverUpdates, IsMet}
+pub use Rattle.session_parts.specs.Ranges.{OverUpdates, IsMet, IsMetByOne, joined, first_end_past}
 use Rattle.client_session.specs.Results.{desk_fault}
 use Rattle.client_session.specs.Sessions.{SessionState, StoreState}
 
@@ -52,3 +52,15 @@ pub record ReadsRange (p : ℕ) (us : List Update) (version offset count : ℕ) 
   pub few : OnOk said (count ≤ max_read)
   pub within : OnOk said (offset + count ≤ size_of us version)
   pub cause : IfErr said (RangeCause p us version offset count)
+
+-- why ranges of a version of these updates aren't read, in this order, once they aren't too long together
+pub data RangesCause (p : ℕ) (us : List Update) (version : ℕ) (ranges : List (ℕ × ℕ)) (fault : Fault) : Type 0 where
+  past : (end : ℕ) → fault ≡ Faults.RangePastSize end (size_of us version) → first_end_past (size_of us version) ranges ≡ Some end → RangesCause p us version ranges fault
+  lost : (page : ℕ) → fault ≡ Faults.PageFault page → first_end_past (size_of us version) ranges ≡ None → IsMetByOne p ranges page → RangesCause p us version ranges fault
+  no_memory : fault ≡ Faults.NoMemory → RangesCause p us version ranges fault
+
+-- What a read of many ranges gives: their bytes, where all lie within the version of these updates, or else a fault with its cause.
+pub record ReadsRanges (p : ℕ) (us : List Update) (version : ℕ) (ranges : List (ℕ × ℕ)) (said : Result (List ℕ) Fault) : Type 0 where
+  pub bytes : IfOk said (λ bytes. bytes ≡ joined (content us version) ranges)
+  pub within : OnOk said (first_end_past (size_of us version) ranges ≡ None)
+  pub cause : IfErr said (RangesCause p us version ranges)

@@ -4,6 +4,8 @@ use Rattle.blob_model.specs.declared.call.Place.{Place}
 use Rattle.snapshot.specs.Versions.{Version}
 use Rattle.page_fan.specs.declared.storing.StoreFault.{StoreFault}
 use Rattle.page_fan.specs.declared.storing.StoreFault.TheVariants as StoreFaults
+use Rattle.session_parts.specs.declared.folding.WeaveFault.{WeaveFault}
+use Rattle.session_parts.specs.declared.folding.WeaveFault.TheVariants as WeaveFaults
 use Rattle.session_parts.specs.declared.reading.RangeFault.{RangeFault}
 use Rattle.session_parts.specs.declared.reading.RangeFault.TheVariants as RangeFaults
 use Rattle.version_manager.specs.declared.fault.DeskFault.{DeskFault}
@@ -14,7 +16,8 @@ use Rattle.request_form.specs.declared.form.Reply.TheVariants as Replies
 use Rattle.request_form.specs.declared.form.Fault.{Fault}
 use Rattle.request_form.specs.declared.form.Fault.TheVariants as Faults
 use Rattle.client_session.specs.declared.done.Started.{Started}
-use Rattle.client_session.specs.declared.done.Done.{Done}
+use Rattle.client_session.specs.declared.done.Updated.{Updated}
+use Rattle.client_session.specs.declared.done.Updated.TheVariants as WholeUpdates
 use Rattle.client_session.specs.Updates.{update_reply, start_reply}
 
 -- what a session says of the desk's fault
@@ -36,6 +39,11 @@ opened_of (Err fault) = Err (desk_fault fault)
 abbrev pub store_fault : StoreFault → Fault
 store_fault (StoreFaults.PageFault page before) = Faults.PageFault page
 store_fault StoreFaults.NoMemory = Faults.NoMemory
+
+-- what it says where an update was not woven
+abbrev pub weave_fault : WeaveFault → Fault
+weave_fault (WeaveFaults.PageFault page) = Faults.PageFault page
+weave_fault WeaveFaults.NoMemory = Faults.NoMemory
 
 -- what it says where a range was not read
 abbrev pub range_fault : RangeFault → Fault
@@ -64,11 +72,21 @@ abbrev pub read_reply : Result (List ℕ) Fault → Reply
 read_reply (Ok bytes) = Replies.Content bytes
 read_reply (Err fault) = Replies.Refused fault
 
+abbrev pub contents_reply : Result (List ℕ) Fault → Reply
+contents_reply (Ok bytes) = Replies.Contents bytes
+contents_reply (Err fault) = Replies.Refused fault
+
+-- of an update that any session may finish
+abbrev pub repair_reply : Result ℕ Fault → Reply
+repair_reply (Ok published) = Replies.Repaired published
+repair_reply (Err fault) = Replies.Refused fault
+
 -- of an update at that place
 abbrev pub started_reply : Place → Result Started Fault → Reply
 started_reply place (Ok started) = start_reply place started.ticket started.version started.at started.size
 started_reply place (Err fault) = Replies.Refused fault
 
-abbrev pub done_reply : Place → Result Done Fault → Reply
-done_reply place (Ok done) = update_reply place done.version done.at done.size
-done_reply place (Err fault) = Replies.Refused fault
+abbrev pub updated_reply : Place → Result Updated Fault → Reply
+updated_reply place (Ok (WholeUpdates.Done done)) = update_reply place done.version done.at done.size
+updated_reply place (Ok (WholeUpdates.Held started)) = start_reply place started.ticket started.version started.at started.size
+updated_reply place (Err fault) = Replies.Refused fault

@@ -1,15 +1,15 @@
 -- What a session keeps between two calls.
-use Rattle.std.specs.Prelude.{◌≡◌, ℕ, ◌+◌, ◌≤◌, List, Bool, length, IfSome, All}
+use Rattle.std.specs.Prelude.{◌≡◌, ℕ, ◌+◌, ◌<◌, ◌≤◌, List, Bool, length, IfSome, All}
 use Rattle.boxcar.specs.Table.{Shelves}
 use Rattle.page_store.specs.House.{House}
 use Rattle.page_store.specs.Stored.{LieAmong}
+use Rattle.blob_model.specs.Content.{content}
 use Rattle.blob_model.specs.declared.call.Event.{Event}
-use Rattle.snapshot.specs.Versions.{NodesLieIn}
+use Rattle.snapshot.specs.Versions.{NodesLieIn, updates_of}
 use Rattle.border_hints.specs.Numbered.{NumberedUpdate}
-use Rattle.session_parts.specs.Woven.{IsWoven}
 use Rattle.turn_lock.specs.Shown.{PassView}
-use Rattle.version_manager.specs.Desks.{IsTicketOf}
-use Rattle.version_manager.specs.Log.{desk_at}
+use Rattle.version_manager.specs.Desks.{IsTicketOf, updates_in}
+use Rattle.version_manager.specs.Log.{MayFinish, desk_at}
 use Rattle.version_manager.specs.declared.journal.DeskFixed.{DeskFixed}
 use Rattle.session_parts.specs.Tickets.{OpenUpdate, Rise, tickets_of}
 use Rattle.client_session.specs.Sessions.{StoreState, IsPassOf}
@@ -20,11 +20,19 @@ pub record IsHere (nodes : List Shelves) (houses : List House) (t : NumberedUpda
   pub snapshot : NodesLieIn nodes t.snapshot
   pub pages : LieAmong houses t.pages.pages
 
--- the update was numbered in that history, and it and its row lie in the store's houses
+-- The ticket's update was numbered in that history. Its pages, and what its hints name, lie in the store's houses, and the hints have
+-- the bytes that the blob's updates leave at their version.
+pub record IsTicketHere (f : DeskFixed) (log : List (ℕ × Event)) (t : NumberedUpdate) : Type 0 where
+  pub ticket : IsTicketOf (desk_at f log) t
+  pub here : IsHere f.nodes f.houses t
+  pub below : length t.snapshot.rows < t.version
+  pub bytes : content (updates_of t.snapshot) (length t.snapshot.rows) ≡ content (updates_in (desk_at f log) t.blob) (length t.snapshot.rows)
+
+-- the update was numbered in that history, and where it has its row it may be finished by it
 pub record IsOpen (f : DeskFixed) (log : List (ℕ × Event)) (o : OpenUpdate) : Type 0 where
+  pub some : 1 ≤ o.ticket.version
   pub ticket : IsTicketOf (desk_at f log) o.ticket
-  pub here : IsHere f.nodes f.houses o.ticket
-  pub row : IfSome o.row (IsWoven f.nodes f.houses o.ticket)
+  pub row : IfSome o.row (λ row. MayFinish o.ticket row log f)
 
 -- Each held update is a numbered one. Their numbers rise to the next one, of which no more were drawn than there are events.
 pub record IsHolding (f : DeskFixed) (log : List (ℕ × Event)) (held : List OpenUpdate) (next : ℕ) : Type 0 where

@@ -1,5 +1,5 @@
 -- A store that sessions share, and a session of it: what their clauses see.
-use Rattle.std.specs.Prelude.{◌≡◌, ◌≢◌, ℕ, ◌<◌, List, [], ◌++◌, Some}
+use Rattle.std.specs.Prelude.{◌≡◌, ◌≢◌, ℕ, ◌<◌, List, [], ◌++◌, Some, None, sum_by, Contains}
 use Rattle.atomic_table.specs.Seated.{TableId}
 use Rattle.blob_model.specs.Content.{Update}
 use Rattle.blob_model.specs.Store.{blob_at}
@@ -17,11 +17,13 @@ use Rattle.turn_lock.specs.Shown.{PassView, OwnerView}
 use Rattle.version_manager.specs.Desks.{updates_or_none}
 use Rattle.version_manager.specs.Log.{IsLog, events}
 use Rattle.version_manager.specs.declared.journal.DeskFixed.{DeskFixed}
-use Rattle.request_form.specs.Answers.{max_read}
+use Rattle.request_form.specs.Answers.{max_read, max_update, max_update_greater, ranges_fault}
 use Rattle.request_form.specs.PublishedReads.{IsPublishedIn, Range, Tells, read_outcome}
 use Rattle.request_form.specs.Session.{Session, outcome_at}
 use Rattle.request_form.specs.declared.form.Reply.{Reply}
 use Rattle.session_parts.specs.Tickets.{OpenUpdate, tickets_of}
+use Rattle.client_session.specs.declared.limit.UpdateLimit.{UpdateLimit}
+use Rattle.client_session.specs.declared.limit.UpdateLimit.TheVariants as UpdateLimits
 
 -- a store that sessions share: the lock of its desk, what no act changes, and how many providers it has
 pub record StoreState : Type 0 where
@@ -47,7 +49,7 @@ pub record Went (f : DeskFixed) (log log' : List (ℕ × Event)) : Type 0 where
   pub log_is : IsLog f log'
 
 -- A session: its store, its caller, the history that it has seen, each event with its caller, the updates that it has numbered
--- and not yet finished, the number of the next one, and its doors.
+-- and not yet finished, the number of the next one, its doors, and the most bytes of an update.
 pub record SessionState (D : Type 0) : Type 0 where
   pub store : StoreState
   pub caller : ℕ
@@ -55,19 +57,26 @@ pub record SessionState (D : Type 0) : Type 0 where
   pub held : List OpenUpdate
   pub next : ℕ
   pub doors : List D
+  pub limit : ℕ
+
+-- how many bytes the longest update has
+abbrev pub longest : UpdateLimit → ℕ
+longest UpdateLimits.AtFirst = max_update
+longest UpdateLimits.AfterHello = max_update_greater
 
 -- a session as the definition of its answers sees it
-abbrev pub session_at : DeskFixed → ℕ → List (ℕ × Event) → List OpenUpdate → ℕ → Session
-session_at f caller log held next = record {
+abbrev pub session_at : DeskFixed → ℕ → List (ℕ × Event) → List OpenUpdate → ℕ → ℕ → Session
+session_at f caller log held next limit = record {
   fixed = record { limits = f.limits; page = f.page_size };
   caller = caller;
   seen = events log;
   tickets = tickets_of held;
   next = next;
+  limit = limit;
 }
 
 abbrev pub session_of : {D : Type 0} → SessionState D → Session
-session_of s = session_at s.store.fixed s.caller s.log s.held s.next
+session_of s = session_at s.store.fixed s.caller s.log s.held s.next s.limit
 
 -- the pass that the session works with
 abbrev pub pass_of : {D : Type 0} → SessionState D → PassView Event DeskFixed
@@ -91,6 +100,16 @@ visits_seen s blob version offset count = visits s.fixed.page (extents (updates_
 pub record NoStepIfRefused (s : Session) (blob version offset count before after : ℕ) : Type 0 where
   pub refused : (r : Refusal) → outcome_at s [] (Calls.Read blob version offset count) ≡ Outcomes.Refused r → after ≡ before
   pub too_long : max_read < count → after ≡ before
+
+-- how many nodes a read of many ranges may visit: the sum over the ranges
+abbrev pub all_visits_seen : Session → ℕ → ℕ → List (ℕ × ℕ) → ℕ
+all_visits_seen s blob version ranges = sum_by (λ range. visits_seen s blob version range.0 range.1) ranges
+
+-- A read of many ranges takes no node step where one of them is refused, nor where they are too long together. The session is the
+-- one after the read.
+pub record NoStepIfOneRefused (s : Session) (blob version : ℕ) (ranges : List (ℕ × ℕ)) (before after : ℕ) : Type 0 where
+  pub refused : (range : ℕ × ℕ) (r : Refusal) → Contains ranges range → outcome_at s [] (Calls.Read blob version range.0 range.1) ≡ Outcomes.Refused r → after ≡ before
+  pub too_long : ranges_fault 0 ranges ≢ None → after ≡ before
 
 -- it isn't said that the version is pending
 abbrev pub IsSettled : Outcome → Type 0

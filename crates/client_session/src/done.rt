@@ -22,6 +22,15 @@ pub struct Done {
     pub size: u64,
 }
 
+/// What became of an update that was to be finished at once.
+#[derive(Clone, Copy, Debug, PartialEq, Eq)]
+pub enum Updated {
+    /// It is finished.
+    Done(Done),
+    /// It stores a page of the blob anew, which couldn't be read or stored yet: the session holds it, and `finish` goes on with it.
+    Held(Started),
+}
+
 /// What became of the tickets that a session gave up, each counted once.
 #[derive(Clone, Copy, Debug, PartialEq, Eq)]
 pub struct HangUp {
@@ -29,8 +38,9 @@ pub struct HangUp {
     pub finished: u32,
     /// Those that were dropped for want of memory. Their updates stay unfinished.
     pub no_memory: u32,
-    /// Those whose updates wait for the version before them. None does yet.
+    /// Those whose updates store pages of the blob anew, which they read from the version before them, and that waits. Theirs stay
+    /// unfinished too.
     pub pending: u32,
-    /// Those of whose pages no provider gave one. None is read yet.
+    /// Those whose updates store pages of the blob anew, of which no provider gave, or took, one. Theirs stay unfinished too.
     pub page_fault: u32,
 }

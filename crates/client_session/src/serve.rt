@@ -1,20 +1,22 @@
 // A session answers the requests of a stream.
 ghost use Rattle.std.specs.Prelude.{◌≡◌, ◌+◌, ◌<◌, length, sum_by};
+ghost use denote.Param.Send.{IsSync};
 ghost use Rattle.faults.specs.Counts.{RoseBy};
 ghost use Rattle.blob_model.specs.History.{AllOther};
 ghost use Rattle.request_form.specs.Replies.{fault_count};
-ghost use Rattle.request_form.specs.Answers.{Answers};
+ghost use Rattle.request_form.specs.Answers.{Answers, update_faults};
 ghost use Rattle.request_form.specs.declared.form.Request.TheVariants as Requests;
 ghost use Rattle.client_session.specs.Sessions.{StoreState, session_of};
-ghost use Rattle.client_session.specs.Results.{create_reply, branch_reply, finish_reply, read_reply, started_reply, done_reply};
+ghost use Rattle.client_session.specs.Results.{create_reply, branch_reply, finish_reply, read_reply, contents_reply, repair_reply, started_reply, updated_reply};
+ghost use Rattle.client_session.specs.Updates.{update_request, start_request};
 
-use crate::done::{Done, Started};
+use crate::done::{Done, Started, Updated};
 use crate::session::Session;
 use blob_model::{Bytes, Place};
 use page_fan::BesideDoor;
 use page_store::Door;
 use ports::gate::Gate;
-use request_form::{Fault, Reply, Request, Service};
+use request_form::{Fault, RangeList, Reply, Request, Service};
 use std::marker::Brand;
 use std::sync::Wait;
 use std::sync::ledger::{Blank, Ledger};
@@ -91,15 +93,36 @@ fn said_of_start(place: Place, started: Result<Started, Fault>) -> Reply
     }
 }
 
-// What is said of an update at that place that is finished.
-fn said_of_update(place: Place, done: Result<Done, Fault>) -> Reply
-    ensures { result ≡ done_reply place done }
+// What is said of an update at that place that is finished, or held.
+fn said_of_update(place: Place, updated: Result<Updated, Fault>) -> Reply
+    ensures { result ≡ updated_reply place updated }
 {
-    match done {
-        Ok(Done { version, at, size }) => match place {
+    match updated {
+        Ok(Updated::Done(Done { version, at, size })) => match place {
             Place::Append => Reply::Appended { version, at, size },
             Place::WriteAt(_) => Reply::Wrote { version, at, size },
         },
+        Ok(Updated::Held(started)) => said_of_start(place, Ok(started)),
+        Err(fault) => Reply::Refused(fault),
+    }
+}
+
+// What is said of a read of many ranges.
+fn said_of_contents(read: Result<Bytes, Fault>) -> Reply
+    ensures { result ≡ contents_reply read }
+{
+    match read {
+        Ok(bytes) => Reply::Contents { bytes },
+        Err(fault) => Reply::Refused(fault),
+    }
+}
+
+// What is said of a repair.
+fn said_of_repair(repaired: Result<u64, Fault>) -> Reply
+    ensures { result ≡ repair_reply repaired }
+{
+    match repaired {
+        Ok(published) => Reply::Repaired { published },
         Err(fault) => Reply::Refused(fault),
     }
 }
@@ -125,6 +148,101 @@ fn read_uncounted<D: Door, G: Gate, R: Wait, L: Ledger>(
     session.read(rt, blob, version, offset, count, &mut steps)
 }
 
+// A read of many ranges whose node steps nobody counts.
+fn read_many_uncounted<D: Door, G: Gate, R: Wait, L: Ledger>(
+    session: &mut Session<'_, D, G>,
+    rt: &R,
+    blob: u64,
+    version: u64,
+    ranges: &RangeList,
+    blank: Blank,
+) -> Result<Bytes, Fault>
+    requires name { blank.name ≡ L.name }
+    requires parts { blank.parts ≡ L.parts }
+    requires some { 0 < blank.parts }
+    ensures answers { Answers AllOther (session_of session.old) (Requests.ReadMany blob version ranges.now) (contents_reply result) (session_of session.new) }
+    ensures faults { RoseBy (fault_count (contents_reply result)) (sum_by D.faults session.old.doors) (sum_by D.faults session.new.doors) }
+    ensures store { session.new.store ≡ session.old.store }
+{
+    let mut steps = Steps::<L>::open(blank);
+    session.read_many(rt, blob, version, ranges, &mut steps)
+}
+
+impl<'a, D: BesideDoor, G: Gate> Session<'a, D, G> {
+    // The reply to an update at that place which is finished at once.
+    fn answer_update<R: Threads + Wait + Sync>(
+        &mut self,
+        rt: &R,
+        blob: u64,
+        place: Place,
+        bytes: Bytes,
+    ) -> Reply
+        requires sync { IsSync R.row }
+        ensures answers { Answers AllOther (session_of self.old) (update_request blob place bytes) result (session_of self.new) }
+        ensures faults { RoseBy (update_faults (session_of self.new) blob result) (sum_by D.faults self.old.doors) (sum_by D.faults self.new.doors) }
+        ensures store { self.new.store ≡ self.old.store }
+    {
+        let done = match place {
+            Place::Append => self.append(rt, blob, bytes.as_slice()),
+            Place::WriteAt(offset) => self.write(rt, blob, offset, bytes.as_slice()),
+        };
+        said_of_update(place, done)
+    }
+
+    // The reply to an update at that place which is finished later.
+    fn answer_start<R: Threads + Wait + Sync>(
+        &mut self,
+        rt: &R,
+        blob: u64,
+        place: Place,
+        bytes: Bytes,
+    ) -> Reply
+        requires sync { IsSync R.row }
+        ensures answers { Answers AllOther (session_of self.old) (start_request blob place bytes) result (session_of self.new) }
+        ensures faults { RoseBy (fault_count result) (sum_by D.faults self.old.doors) (sum_by D.faults self.new.doors) }
+        ensures store { self.new.store ≡ self.old.store }
+    {
+        said_of_start(place, self.start(rt, blob, place, bytes.as_slice()))
+    }
+
+    // The reply to a read.
+    fn answer_read<R: Wait>(
+        &mut self,
+        rt: &R,
+        blob: u64,
+        version: u64,
+        offset: u64,
+        count: u64,
+    ) -> Reply
+        ensures answers { Answers AllOther (session_of self.old) (Requests.Read blob version offset count) result (session_of self.new) }
+        ensures faults { RoseBy (fault_count result) (sum_by D.faults self.old.doors) (sum_by D.faults self.new.doors) }
+        ensures store { self.new.store ≡ self.old.store }
+    {
+        let blank = Blank::new(1);
+        said_of_read(read_uncounted::<D, G, R, Brand>(
+            self, rt, blob, version, offset, count, blank,
+        ))
+    }
+
+    // The reply to a read of many ranges.
+    fn answer_read_many<R: Wait>(
+        &mut self,
+        rt: &R,
+        blob: u64,
+        version: u64,
+        ranges: RangeList,
+    ) -> Reply
+        ensures answers { Answers AllOther (session_of self.old) (Requests.ReadMany blob version ranges) result (session_of self.new) }
+        ensures faults { RoseBy (fault_count result) (sum_by D.faults self.old.doors) (sum_by D.faults self.new.doors) }
+        ensures store { self.new.store ≡ self.old.store }
+    {
+        let blank = Blank::new(1);
+        said_of_contents(read_many_uncounted::<D, G, R, Brand>(
+            self, rt, blob, version, &ranges, blank,
+        ))
+    }
+}
+
 impl<'a, D: BesideDoor, G: Gate> Service for Session<'a, D, G> {
     ghost session = { λ s. session_of s };
 
@@ -137,46 +255,44 @@ impl<'a, D: BesideDoor, G: Gate> Service for Session<'a, D, G> {
     fn answer<R: Wait + Threads + Sync>(&mut self, rt: &R, request: Request) -> Reply {
         match request {
             Request::Create => said_of_create(self.create(rt)),
-            Request::Append { blob, bytes } => {
-                said_of_update(Place::Append, self.append(rt, blob, bytes.as_slice()))
-            }
+            Request::Append { blob, bytes } => self.answer_update(rt, blob, Place::Append, bytes),
             Request::Write {
                 blob,
                 offset,
                 bytes,
-            } => said_of_update(
-                Place::WriteAt(offset),
-                self.write(rt, blob, offset, bytes.as_slice()),
-            ),
-            Request::StartAppend { blob, bytes } => said_of_start(
+            } => self.answer_update(rt, blob, Place::WriteAt(offset), bytes),
+            Request::StartAppend { blob, bytes } => self.answer_start(
+                rt,
+                blob,
                 Place::Append,
-                self.start(rt, blob, Place::Append, bytes.as_slice()),
+                bytes,
             ),
             Request::StartWrite {
                 blob,
                 offset,
                 bytes,
-            } => said_of_start(
-                Place::WriteAt(offset),
-                self.start(rt, blob, Place::WriteAt(offset), bytes.as_slice()),
-            ),
+            } => self.answer_start(rt, blob, Place::WriteAt(offset), bytes),
             Request::Finish { ticket } => said_of_finish(self.finish(rt, ticket)),
             Request::Read {
                 blob,
                 version,
                 offset,
                 length,
-            } => {
-                let blank = Blank::new(1);
-                said_of_read(read_uncounted::<D, G, R, Brand>(
-                    self, rt, blob, version, offset, length, blank,
-                ))
-            }
+            } => self.answer_read(rt, blob, version, offset, length),
             Request::Recent { blob } => Reply::of(self.recent(rt, blob)),
             Request::Size { blob, version } => Reply::of(self.size(rt, blob, version)),
             Request::Sync { blob, version } => Reply::of(self.sync(rt, blob, version)),
             Request::Status { blob } => Reply::of(self.status(rt, blob)),
             Request::Branch { blob, version } => said_of_branch(self.branch(rt, blob, version)),
+            Request::Hello { .. } => Reply::HelloIs {
+                version: self.hello(),
+            },
+            Request::ReadMany {
+                blob,
+                version,
+                ranges,
+            } => self.answer_read_many(rt, blob, version, ranges),
+            Request::Repair { blob, version } => said_of_repair(self.repair(rt, blob, version)),
             Request::Quit => Reply::Bye,
         }
     }

@@ -3,8 +3,9 @@ ghost use Rattle.std.specs.Prelude.{◌≡◌, ◌≢◌, ℕ, ◌+◌, ◌<◌,
 ghost use Rattle.faults.specs.Counts.{RoseBy};
 ghost use Rattle.blob_model.specs.History.{AllOther};
 ghost use Rattle.request_form.specs.Replies.{reply_of, page_faults, fault_count};
-ghost use Rattle.request_form.specs.Answers.{Answers, max_read};
+ghost use Rattle.request_form.specs.Answers.{Answers, max_read, max_update, max_update_greater};
 ghost use Rattle.request_form.specs.declared.form.Request.TheVariants as Requests;
+ghost use Rattle.request_form.specs.declared.form.Reply.TheVariants as Replies;
 ghost use Rattle.request_form.specs.declared.form.Fault.TheVariants as Faults;
 ghost use Rattle.blob_model.specs.Content.{size_of};
 ghost use Rattle.range_log.specs.Updates.{extents};
@@ -14,6 +15,7 @@ ghost use Rattle.client_session.specs.Results.{desk_fault, told_of, opened_of, r
 ghost use Rattle.client_session.specs.Opening.{Opening, IsOfStore, ReadsRange};
 ghost use Rattle.client_session.specs.Sessions.{IsPassOf, session_of, pass_of, Continues, visits_seen, NoStepIfRefused, IsSettled, AnswersAsPublished};
 
+use crate::limit::UpdateLimit;
 use crate::shared::Shared;
 use blob_model::{Bytes, Outcome, Refusal};
 use page_fan::Doors;
@@ -31,7 +33,10 @@ use tree_geom::Steps;
 use version_manager::{DeskFault, Pass};
 
 // The most bytes of a read.
-const MAX_READ: u64 = 16_777_216;
+pub(crate) const MAX_READ: u64 = 16_777_216;
+
+// The version of frames with updates of the greater limit and reads of many ranges.
+const GREATER_FRAMES: u64 = 2;
 
 // The desk's fault as the session's.
 pub(crate) fn fault_of(fault: DeskFault) -> Fault
@@ -66,7 +71,7 @@ fn opened(answer: Result<Snapshot, DeskFault>) -> Result<Snapshot, Fault>
 }
 
 // What the session says of a range.
-fn range_told(answer: Result<Bytes, RangeFault>) -> Result<Bytes, Fault>
+pub(crate) fn range_told(answer: Result<Bytes, RangeFault>) -> Result<Bytes, Fault>
     ensures is { result ≡ range_of answer }
 {
     match answer {
@@ -90,7 +95,7 @@ fn is_pending(outcome: &Outcome) -> bool
 /// it; the gate is called between the acts of its updates. A contract sees the history that the session has seen, which is a
 /// beginning of the store's one history and never gets shorter: each call sees what others have done meanwhile, the gap, and
 /// then its own event. A call that is refused, and one that finds no memory before an update is numbered, enters nothing. It
-/// holds no turn when a call returns, nor when the gate is called. A call that makes no update leaves the held tickets with their
+/// holds no turn when a call returns, nor when the gate is called. A call that makes and finishes no update leaves the held tickets with their
 /// rows as they are, and one that reads no bytes the doors too.
 #[derive(Drop)]
 pub struct Session<'a, D: Door, G: Gate> {
@@ -101,25 +106,26 @@ pub struct Session<'a, D: Door, G: Gate> {
     pub(crate) doors: Doors<D>,
     pub(crate) held: Tickets,
     pub(crate) next: u64,
-    room: ReadRoom,
+    pub(crate) room: ReadRoom,
+    pub(crate) limit: UpdateLimit,
 }
 
 impl<'a, D: Door, G: Gate> Model for Session<'a, D, G> {
     ghost use Rattle.std.specs.Coded.{coded_list};
-    ghost use Rattle.client_session.specs.Sessions.{SessionState};
+    ghost use Rattle.client_session.specs.Sessions.{SessionState, longest};
     ghost use Rattle.client_session.specs.SessionInvariant.{IsSession};
 
     ghost Value = { SessionState D };
 
-    ghost view = { λ s. record { store = s.shared.now; caller = s.pass.caller; log = s.pass.seen; held = s.held; next = s.next; doors = s.doors } };
+    ghost view = { λ s. record { store = s.shared.now; caller = s.pass.caller; log = s.pass.seen; held = s.held; next = s.next; doors = s.doors; limit = longest s.limit } };
 
     ghost invariant = { λ s. IsSession D.is_true s.shared.now s.pass s.held s.next s.doors s.room };
 }
 
 impl<'a, D: Door, G: Gate> Session<'a, D, G> {
     /// A session that works with this pass of the store, and with doors that give back what was put, one to each of its
-    /// providers. It has seen what the pass has, holds no ticket, and its first one will be number 1. Where no memory is found the
-    /// pass and the doors come back.
+    /// providers. It has seen what the pass has, holds no ticket, and its first one will be number 1. Its updates have at most
+    /// 1,048,576 bytes. Where no memory is found the pass and the doors come back.
     pub fn new(
         alloc: Global,
         shared: &'a Shared,
@@ -130,7 +136,7 @@ impl<'a, D: Door, G: Gate> Session<'a, D, G> {
         requires pass { IsPassOf shared.now pass }
         requires served { length doors ≡ shared.now.providers }
         requires true_doors { All D.is_true doors }
-        ensures session { IfOk result (λ s. s ≡ record { store = shared.now; caller = pass.caller; log = pass.seen; held = []; next = 1; doors = doors }) }
+        ensures session { IfOk result (λ s. s ≡ record { store = shared.now; caller = pass.caller; log = pass.seen; held = []; next = 1; doors = doors; limit = max_update }) }
         ensures pass_back { IfErr result (λ e. e.0 ≡ pass) }
         ensures doors_back { IfErr result (λ e. e.1 ≡ doors) }
     {
@@ -150,6 +156,7 @@ impl<'a, D: Door, G: Gate> Session<'a, D, G> {
             held,
             next: 1,
             room,
+            limit: UpdateLimit::AtFirst,
         })
     }
 
@@ -162,6 +169,16 @@ impl<'a, D: Door, G: Gate> Session<'a, D, G> {
     {
         let Session { pass, doors, .. } = self;
         (pass, doors)
+    }
+
+    /// From here on an update may have 16,777,216 bytes, until the session hangs up. It answers the version of frames that has
+    /// them: 2. It takes no memory and no turn.
+    pub fn hello(&mut self) -> u64
+        ensures answers { (version : ℕ) → Answers AllOther (session_of self.old) (Requests.Hello version) (Replies.HelloIs result) (session_of self.new) }
+        ensures rest { self.new ≡ record self.old { limit = max_update_greater } }
+    {
+        self.limit = UpdateLimit::AfterHello;
+        GREATER_FRAMES
     }
 
     /// Makes an empty blob, and gives its id. One turn.

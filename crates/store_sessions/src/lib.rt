@@ -39,7 +39,7 @@ fn give_back<M: DoorMaker>(
 }
 
 /// A session with a new pass, which has seen what the store's owner has, and with new doors of the maker. It holds no ticket,
-/// and its first one will be number 1. Where no memory is found the pass, if one was made, and the doors have gone back.
+/// its first one will be number 1, and its updates have at most 1,048,576 bytes. Where no memory is found the pass, if one was made, and the doors have gone back.
 pub fn open_session<'a, M: DoorMaker, G: Gate>(
     alloc: Global,
     shared: &'a Shared,

@@ -23,5 +23,6 @@ returns-in-Ok-new-clause-session g c =
           (subst (λ (n : ℕ). entries_by n c.in-Ok-pass.pass.seen ≡ []) (sym caller) c.in-Ok-pass.ensures.own);
       none_held = ap (λ (s : SessionState _). s.held) is;
       first_next = ap (λ (s : SessionState _). s.next) is;
+      limit = ap (λ (s : SessionState _). s.limit) is;
       no_fault = ap (λ (s : SessionState _). sum_by faults s.doors) is ∙ fresh_doors faults c.in-Ok.doors c.in-Ok.ensures.fresh;
     }

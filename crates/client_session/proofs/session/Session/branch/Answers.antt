@@ -7,6 +7,7 @@ use Rattle.turn_lock.specs.Shown.{PassView}
 use Rattle.version_manager.specs.Log.{Changed}
 use Rattle.version_manager.specs.declared.journal.DeskFixed.{DeskFixed}
 use Rattle.version_manager.specs.declared.fault.DeskFault.{DeskFault}
+use Rattle.client_session.specs.Sessions.{longest}
 use Rattle.client_session.proofs.Turns.{Took, took, went_changed}
 use Rattle.client_session.proofs.Standing.{session_after}
 use Rattle.client_session.proofs.Answering.{branch_told}
@@ -32,7 +33,7 @@ returns-clause-answers g c =
     took c.gaps_are_of_others.ensures fixed i.pass c.branch-desk.new.pass (λ before f after. Changed f (Calls.Branch c.args.blob c.args.version) (Events.Branch by c.args.blob c.args.version) (λ id. Outcomes.Blob id) (λ (x : DeskFault). x) before by c.branch-desk.result after) c.self.invariant.pass_is.fixed (λ before after x. x.log) c.branch-desk.ensures.turned
     in
     let same : c.branch-desk.new.pass.caller ≡ by = ap (λ (p : PassView Event DeskFixed). p.caller) c.branch-desk.ensures.pass in
-    rw (← c.self.view_is, c.told.ensures.is, same) (branch_told fixed by i.pass.seen c.branch-desk.new.pass.seen i.held i.next c.args.blob c.args.version c.branch-desk.result t)
+    rw (← c.self.view_is, c.told.ensures.is, same) (branch_told fixed by i.pass.seen c.branch-desk.new.pass.seen i.held i.next (longest i.limit) c.args.blob c.args.version c.branch-desk.result t)
 
 pub returns-clause-goes_on : goal.returns-clause-goes_on
 returns-clause-goes_on g c =

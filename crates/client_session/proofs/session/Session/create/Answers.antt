@@ -7,6 +7,7 @@ use Rattle.turn_lock.specs.Shown.{PassView}
 use Rattle.version_manager.specs.Log.{Changed}
 use Rattle.version_manager.specs.declared.journal.DeskFixed.{DeskFixed}
 use Rattle.version_manager.specs.declared.fault.DeskFault.{DeskFault}
+use Rattle.client_session.specs.Sessions.{longest}
 use Rattle.client_session.proofs.Turns.{Took, took, went_changed}
 use Rattle.client_session.proofs.Standing.{session_after}
 use Rattle.client_session.proofs.Answering.{create_told}
@@ -32,7 +33,7 @@ returns-clause-answers g c =
     took c.gaps_are_of_others.ensures fixed i.pass c.create.new.pass (λ before f after. Changed f (Calls.Create) (Events.Create by) (λ id. Outcomes.Blob id) (λ (x : DeskFault). x) before by c.create.result after) c.self.invariant.pass_is.fixed (λ before after x. x.log) c.create.ensures.turned
     in
     let same : c.create.new.pass.caller ≡ by = ap (λ (p : PassView Event DeskFixed). p.caller) c.create.ensures.pass in
-    rw (← c.self.view_is, c.told.ensures.is, same) (create_told fixed by i.pass.seen c.create.new.pass.seen i.held i.next c.create.result t)
+    rw (← c.self.view_is, c.told.ensures.is, same) (create_told fixed by i.pass.seen c.create.new.pass.seen i.held i.next (longest i.limit) c.create.result t)
 
 pub returns-clause-goes_on : goal.returns-clause-goes_on
 returns-clause-goes_on g c =

@@ -5,6 +5,7 @@ use Rattle.turn_lock.specs.Shown.{PassView as Seat}
 use Rattle.version_manager.specs.Log.{Opened}
 use Rattle.version_manager.specs.declared.journal.DeskFixed.{DeskFixed}
 use Rattle.version_manager.specs.declared.fault.DeskFault.{DeskFault}
+use Rattle.client_session.specs.Sessions.{longest}
 use Rattle.client_session.proofs.Turns.{Took, took, went_opened}
 use Rattle.client_session.proofs.Standing.{session_after}
 use Rattle.client_session.proofs.RangeAnswers.{opening_told}
@@ -33,4 +34,4 @@ returns-clause-opening g c =
     took c.gaps_are_of_others.ensures fixed i.pass new (λ before f after. Opened f c.args.blob c.args.version before by r after) c.self.invariant.pass_is.fixed (λ before after x. x.log) c.snapshot_of.ensures.turned
     in
     let same : new.caller ≡ by = ap (λ (p : Seat Event DeskFixed). p.caller) c.snapshot_of.ensures.pass in
-    rw (← c.self.view_is, same, c.opened.ensures.is) (opening_told (record { store = i.shared.now; caller = by; log = i.pass.seen; held = i.held; next = i.next; doors = i.doors }) new.seen c.args.blob c.args.version r t)
+    rw (← c.self.view_is, same, c.opened.ensures.is) (opening_told (record { store = i.shared.now; caller = by; log = i.pass.seen; held = i.held; next = i.next; doors = i.doors; limit = longest i.limit }) new.seen c.args.blob c.args.version r t)

@@ -4,6 +4,7 @@ use Rattle.blob_model.specs.declared.call.Event.{Event}
 use Rattle.turn_lock.specs.Shown.{PassView}
 use Rattle.version_manager.specs.Log.{Looked}
 use Rattle.version_manager.specs.declared.journal.DeskFixed.{DeskFixed}
+use Rattle.client_session.specs.Sessions.{longest}
 use Rattle.client_session.proofs.Turns.{Took, took, looked, went_looked}
 use Rattle.client_session.proofs.Standing.{session_after}
 use Rattle.client_session.proofs.session.Session.size.Goals as goal
@@ -28,7 +29,7 @@ returns-clause-answers g c =
     took c.gaps_are_of_others.ensures fixed i.pass c.size.new.pass (λ before f after. Looked f (Calls.Size c.args.blob c.args.version) before by c.size.result after) c.self.invariant.pass_is.fixed (λ before after x. x.log) c.size.ensures.turned
     in
     let same : c.size.new.pass.caller ≡ by = ap (λ (p : PassView Event DeskFixed). p.caller) c.size.ensures.pass in
-    rw (← c.self.view_is, same) (looked fixed by i.pass.seen c.size.new.pass.seen (Calls.Size c.args.blob c.args.version) c.size.result i.held i.next t)
+    rw (← c.self.view_is, same) (looked fixed by i.pass.seen c.size.new.pass.seen (Calls.Size c.args.blob c.args.version) c.size.result i.held i.next (longest i.limit) t)
 
 pub returns-clause-rest : goal.returns-clause-rest
 returns-clause-rest g c =

@@ -4,6 +4,7 @@ use Rattle.blob_model.specs.declared.call.Event.{Event}
 use Rattle.turn_lock.specs.Shown.{PassView}
 use Rattle.version_manager.specs.Log.{Looked}
 use Rattle.version_manager.specs.declared.journal.DeskFixed.{DeskFixed}
+use Rattle.client_session.specs.Sessions.{longest}
 use Rattle.client_session.proofs.Turns.{Took, took, looked, went_looked}
 use Rattle.client_session.proofs.Standing.{session_after}
 use Rattle.client_session.proofs.session.Session.sync.Goals as goal
@@ -28,7 +29,7 @@ returns-clause-answers g c =
     took c.gaps_are_of_others.ensures fixed i.pass c.sync.new.pass (λ before f after. Looked f (Calls.Sync c.args.blob c.args.version) before by c.sync.result after) c.self.invariant.pass_is.fixed (λ before after x. x.log) c.sync.ensures.turned
     in
     let same : c.sync.new.pass.caller ≡ by = ap (λ (p : PassView Event DeskFixed). p.caller) c.sync.ensures.pass in
-    rw (← c.self.view_is, same) (looked fixed by i.pass.seen c.sync.new.pass.seen (Calls.Sync c.args.blob c.args.version) c.sync.result i.held i.next t)
+    rw (← c.self.view_is, same) (looked fixed by i.pass.seen c.sync.new.pass.seen (Calls.Sync c.args.blob c.args.version) c.sync.result i.held i.next (longest i.limit) t)
 
 pub returns-clause-rest : goal.returns-clause-rest
 returns-clause-rest g c =

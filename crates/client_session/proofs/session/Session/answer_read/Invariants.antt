@@ -1,4 +1,4 @@
-use Rattle.client_session.proofs.serve.SessionService.answer.Given as goal
+use Rattle.client_session.proofs.session.Session.answer_read.Given as goal
 
 abbrev pub ghosts-read_uncounted : goal.ghosts-read_uncounted
 ghosts-read_uncounted g a = record { name = a.blank.name; parts = a.blank.parts }

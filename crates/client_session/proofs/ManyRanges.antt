@@ -1,0 +1,337 @@
+-- What a session answers a read of many ranges, by what its turn and its walks gave.
+use Rattle.std.proofs.Common.{◌≡◌, ◌≢◌, refl, sym, ◌∙◌, ap, ℕ, ◌+◌, ◌<◌, ◌≤◌, subst, List, [], ◌∷◌, ◌++◌, append-nil, length, take, drop, slice_index_or, Result, Ok, Err, Bool, true, false, Option, Some, None, Contains, arith, inl, inr}
+use Rattle.std.specs.Prelude.{nat_lt, if◌then◌else◌, IfOk, IfErr}
+use Rattle.std.proofs.lemmas.Bool.{lt-ltb, ltb-true, false≢true, cases_lt}
+use Rattle.std.proofs.lemmas.List.{get_or_default}
+use Rattle.blob_model.specs.Content.{Update, content, size_of}
+use Rattle.blob_model.specs.History.{AllOther}
+use Rattle.blob_model.specs.declared.call.Call.{Call}
+use Rattle.blob_model.specs.declared.call.Call.TheVariants as Calls
+use Rattle.blob_model.specs.declared.call.Event.{Event}
+use Rattle.blob_model.specs.declared.call.Outcome.TheVariants as Outcomes
+use Rattle.blob_model.specs.declared.call.Refusal.{Refusal}
+use Rattle.blob_model.specs.declared.call.Refusal.TheVariants as Refusals
+use Rattle.range_log.specs.Updates.{extents}
+use Rattle.snapshot.specs.Versions.{Version, size_now}
+use Rattle.snapshot.specs.Laws.{TellUpdates}
+use Rattle.version_manager.specs.Desks.{OnRefused, updates_in}
+use Rattle.version_manager.specs.Log.{IsSnapshotOf, desk_at, events, outcome_in}
+use Rattle.version_manager.specs.declared.journal.DeskFixed.{DeskFixed}
+use Rattle.version_manager.specs.declared.fault.DeskFault.{DeskFault}
+use Rattle.version_manager.specs.declared.fault.DeskFault.TheVariants as DeskFaults
+use Rattle.request_form.specs.Session.{Session, outcome_at}
+use Rattle.request_form.specs.Answers.{Answers, AreContents, ReadManyAnswer, Unless, ranges_fault}
+use Rattle.request_form.specs.declared.form.Request.TheVariants as Requests
+use Rattle.request_form.specs.declared.form.Reply.{Reply}
+use Rattle.request_form.specs.declared.form.Reply.TheVariants as Replies
+use Rattle.request_form.specs.declared.form.Fault.{Fault}
+use Rattle.request_form.specs.declared.form.Fault.TheVariants as Faults
+use Rattle.session_parts.specs.Tickets.{OpenUpdate}
+use Rattle.session_parts.specs.declared.reading.RangeFault.{RangeFault}
+use Rattle.session_parts.specs.declared.reading.RangeFault.TheVariants as RangeFaults
+use Rattle.session_parts.specs.Ranges.{IsMetByOne, OnRangePast, OnPageLost, joined, first_end_past, visits_of}
+use Rattle.session_parts.proofs.JoinedRanges.{some_past}
+use Rattle.client_session.specs.Results.{desk_fault, range_of, contents_reply}
+use Rattle.client_session.specs.Opening.{Opening, RangesCause, ReadsRanges}
+use Rattle.client_session.specs.Sessions.{SessionState, session_at, session_of, all_visits_seen, NoStepIfOneRefused}
+use Rattle.client_session.proofs.Turns.{outcome_of_gap, seen_gap}
+use Rattle.client_session.proofs.Ranges.{read_refused, read_past, read_within, not_below}
+use Rattle.client_session.proofs.RangeAnswers.{IsThat, same_range, seen_to}
+
+-- ---- which of them end past the size
+none_of_both : (x : Bool) (end : ℕ) (o : Option ℕ) → (if x then Some end else o) ≡ None → (x ≡ false) × (o ≡ None)
+none_of_both true end o e = cc
+none_of_both false end o e = (refl, e)
+
+some_of_both : (x : Bool) (end end' : ℕ) (o : Option ℕ) → x ≡ true → (if x then Some end else o) ≡ Some end' → end' ≡ end
+some_of_both true end end' o is e = cc
+some_of_both false end end' o is e = absurd (false≢true is)
+
+other_of_both : (x : Bool) (end : ℕ) (o : Option ℕ) → x ≡ false → (if x then Some end else o) ≡ o
+other_of_both true end o is = absurd (false≢true (sym is))
+other_of_both false end o is = refl
+
+within_by : (size end : ℕ) → nat_lt size end ≡ false → end ≤ size
+within_by size end is = elim (cases_lt size end) [ inl past ↦ absurd (false≢true (sym is ∙ lt-ltb size end past)) | inr within ↦ within ]
+
+-- each of them ends within the size, where none is past it
+each_within : (size : ℕ) (ranges : List (ℕ × ℕ)) (range : ℕ × ℕ) → Contains ranges range → first_end_past size ranges ≡ None → range.0 + range.1 ≤ size
+each_within size ranges range (k, lt, is) none =
+    let there : slice_index_or ranges k (0, 0) ≡ range = get_or_default ranges k (0, 0) range lt ∙ is in
+    elim (cases_lt size (range.0 + range.1)) [
+      | inl past ↦ absurd (some_past size ranges k lt (subst (λ (r : ℕ × ℕ). size < r.0 + r.1) (sym there) past) none)
+      | inr within ↦ within
+    ]
+
+not_none : (o : Option ℕ) (end : ℕ) → o ≡ Some end → o ≢ None
+not_none o end is none = cc
+
+not_both : (r : Refusal) (bytes : List ℕ) → Outcomes.Refused r ≡ Outcomes.Content bytes → ⊥
+not_both r bytes e = cc
+
+-- ---- a turn that left the history as it found it
+module _ (f : DeskFixed) (caller : ℕ) (log log' gap : List (ℕ × Event)) (others : AllOther caller (events gap)) (same : log' ≡ log ++ gap) (held : List OpenUpdate) (next limit blob version : ℕ) where
+  -- the version isn't there: the first range is refused
+  refused_ranges : (fault : DeskFault) (ranges : List (ℕ × ℕ)) → 1 ≤ length ranges → OnRefused fault (λ r. outcome_in f (log ++ gap) caller (Calls.Size blob version) ≡ Outcomes.Refused r)
+      → ReadManyAnswer AllOther (session_at f caller log held next limit) blob version ranges (Replies.Refused (desk_fault fault)) (session_at f caller log' held next limit)
+  refused_ranges fault [] some e = absurd (omega arith)
+  refused_ranges (DeskFaults.Refused r) (range ∷ ranges) some e =
+      ReadManyAnswer.refused record {
+        others = events gap;
+        is_gap = others;
+        before = [];
+        range = range;
+        after = ranges;
+        bytes = [];
+        joins = refl;
+        first = refl;
+        refusal = r;
+        refused = outcome_of_gap f caller log log' gap held next limit (Calls.Read blob version range.0 range.1) ∙ read_refused f (log ++ gap) caller blob version range.0 range.1 r e;
+        said = refl;
+        seen = seen_gap f caller log log' gap held next limit same;
+      }
+  refused_ranges DeskFaults.NoMemory (range ∷ ranges) some e =
+      ReadManyAnswer.out_of_memory record { others = events gap; is_gap = others; said = refl; seen = seen_gap f caller log log' gap held next limit same }
+
+  -- the version is there, with so many bytes
+  module _ (n : ℕ) (there : outcome_in f (log ++ gap) caller (Calls.Size blob version) ≡ Outcomes.Size n) where
+    abbrev updates : List Update
+    updates = updates_in (desk_at f (log ++ gap)) blob
+
+    one_within : (range : ℕ × ℕ) → range.0 + range.1 ≤ size_of updates version
+        → outcome_at (session_at f caller log held next limit) (events gap) (Calls.Read blob version range.0 range.1) ≡ Outcomes.Content (take range.1 (drop range.0 (content updates version)))
+    one_within range within =
+        outcome_of_gap f caller log log' gap held next limit (Calls.Read blob version range.0 range.1) ∙ read_within f (log ++ gap) caller blob version range.0 range.1 n there within
+
+    all_within : (ranges : List (ℕ × ℕ)) → first_end_past (size_of updates version) ranges ≡ None
+        → AreContents (session_at f caller log held next limit) (events gap) blob version ranges (joined (content updates version) ranges)
+    all_within [] none = refl
+    all_within (range ∷ ranges) none =
+        let both = none_of_both (nat_lt (size_of updates version) (range.0 + range.1)) (range.0 + range.1) (first_end_past (size_of updates version) ranges) none in
+        let within : range.0 + range.1 ≤ size_of updates version = within_by (size_of updates version) (range.0 + range.1) both.0 in
+        (take range.1 (drop range.0 (content updates version)), one_within range within, (joined (content updates version) ranges, all_within ranges both.1, refl))
+
+    -- the first range that ends past the size
+    record FirstPast (ranges : List (ℕ × ℕ)) (end : ℕ) : Type 0 where
+      before : List (ℕ × ℕ)
+      range : ℕ × ℕ
+      after : List (ℕ × ℕ)
+      joins : ranges ≡ before ++ range ∷ after
+      first : AreContents (session_at f caller log held next limit) (events gap) blob version before (joined (content updates version) before)
+      past : size_of updates version < range.0 + range.1
+      end_is : end ≡ range.0 + range.1
+
+    first_of : (ranges : List (ℕ × ℕ)) (end : ℕ) → first_end_past (size_of updates version) ranges ≡ Some end → FirstPast ranges end
+    first_of [] end e = cc
+    first_of (range ∷ ranges) end e =
+        let size : ℕ = size_of updates version in
+        let here : ℕ = range.0 + range.1 in
+        let rest : Option ℕ = first_end_past size ranges in
+        elim (cases_lt size here) [
+          | inl past ↦ record {
+            before = [];
+            range = range;
+            after = ranges;
+            joins = refl;
+            first = refl;
+            past = past;
+            end_is = some_of_both (nat_lt size here) here end rest (lt-ltb size here past) e;
+          }
+          | inr within ↦
+              let later : FirstPast ranges end = first_of ranges end (sym (other_of_both (nat_lt size here) here rest (not_below (nat_lt size here) size here (ltb-true size here) within)) ∙ e) in
+              record {
+                before = range ∷ later.before;
+                range = later.range;
+                after = later.after;
+                joins = ap (λ (l : List (ℕ × ℕ)). range ∷ l) later.joins;
+                first = (take range.1 (drop range.0 (content updates version)), one_within range within, (joined (content updates version) later.before, later.first, refl));
+                past = later.past;
+                end_is = later.end_is;
+              }
+        ]
+
+    failed_ranges : (ranges : List (ℕ × ℕ)) (fault : Fault) → RangesCause f.page_size updates version ranges fault
+        → ReadManyAnswer AllOther (session_at f caller log held next limit) blob version ranges (Replies.Refused fault) (session_at f caller log' held next limit)
+    failed_ranges ranges fault (RangesCause.past end is first) =
+        let p : FirstPast ranges end = first_of ranges end first in
+        let size : ℕ = size_of updates version in
+        ReadManyAnswer.refused record {
+          others = events gap;
+          is_gap = others;
+          before = p.before;
+          range = p.range;
+          after = p.after;
+          bytes = joined (content updates version) p.before;
+          joins = p.joins;
+          first = p.first;
+          refusal = Refusals.RangePastSize (p.range.0 + p.range.1) size;
+          refused = outcome_of_gap f caller log log' gap held next limit (Calls.Read blob version p.range.0 p.range.1)
+              ∙ read_past f (log ++ gap) caller blob version p.range.0 p.range.1 n there p.past;
+          said = ap Replies.Refused (is ∙ ap (λ (e : ℕ). Faults.RangePastSize e size) p.end_is);
+          seen = seen_gap f caller log log' gap held next limit same;
+        }
+    failed_ranges ranges fault (RangesCause.lost page is none met) =
+        ReadManyAnswer.not_read record {
+          others = events gap;
+          is_gap = others;
+          bytes = joined (content updates version) ranges;
+          would = all_within ranges none;
+          range = met.range;
+          among = met.among;
+          some = met.met.some;
+          page = page;
+          begins = met.met.begins;
+          ends = met.met.ends;
+          said = ap Replies.Refused is;
+          seen = seen_gap f caller log log' gap held next limit same;
+        }
+    failed_ranges ranges fault (RangesCause.no_memory is) =
+        ReadManyAnswer.out_of_memory record { others = events gap; is_gap = others; said = ap Replies.Refused is; seen = seen_gap f caller log log' gap held next limit same }
+
+    -- what ranges of the opened version give
+    ranges_answer : (ranges : List (ℕ × ℕ)) (said : Result (List ℕ) Fault) → ReadsRanges f.page_size updates version ranges said
+        → ReadManyAnswer AllOther (session_at f caller log held next limit) blob version ranges (contents_reply said) (session_at f caller log' held next limit)
+    ranges_answer ranges (Ok bytes) r =
+        ReadManyAnswer.contents record {
+          others = events gap;
+          is_gap = others;
+          bytes = bytes;
+          done = subst (λ (b : List ℕ). AreContents (session_at f caller log held next limit) (events gap) blob version ranges b) (sym r.bytes) (all_within ranges r.within);
+          said = refl;
+          seen = seen_gap f caller log log' gap held next limit same;
+        }
+    ranges_answer ranges (Err fault) r = failed_ranges ranges fault r.cause
+
+    -- no node was met where a range is refused, if none was met where one goes past the version's end
+    no_step_there : (ranges : List (ℕ × ℕ)) (before after : ℕ) → ranges_fault 0 ranges ≡ None → (first_end_past (size_of updates version) ranges ≢ None → after ≡ before)
+        → NoStepIfOneRefused (session_at f caller log' held next limit) blob version ranges before after
+    no_step_there ranges before after few none = record {
+      refused = λ range r among e. by_first range r among e (first_end_past (size_of updates version) ranges) refl;
+      too_long = λ long. absurd (long few);
+    }
+      where
+        by_first : (range : ℕ × ℕ) (r : Refusal) → Contains ranges range → outcome_at (session_at f caller log' held next limit) [] (Calls.Read blob version range.0 range.1) ≡ Outcomes.Refused r
+            → (o : Option ℕ) → first_end_past (size_of updates version) ranges ≡ o → after ≡ before
+        by_first range r among e (Some end) is = none (not_none (first_end_past (size_of updates version) ranges) end is)
+        by_first range r among e None is =
+            let call : Call = Calls.Read blob version range.0 range.1 in
+            let within : range.0 + range.1 ≤ size_of updates version = each_within (size_of updates version) ranges range among is in
+            let now : outcome_in f (log' ++ []) caller call ≡ outcome_in f (log ++ gap) caller call = ap (λ (h : List (ℕ × Event)). outcome_in f h caller call) (append-nil log' ∙ same) in
+            absurd (not_both r (take range.1 (drop range.0 (content updates version)))
+            (sym e ∙ (outcome_of_gap f caller log' log' [] held next limit call ∙ (now ∙ read_within f (log ++ gap) caller blob version range.0 range.1 n there within))))
+
+-- ---- a read of many ranges is an opening, and ranges of what was opened
+few_together : (o : Option Fault) (s : Session) (reply : Reply) (s' : Session) (Answer : Type 0) → o ≡ None → Answer → Unless o s reply s' Answer
+few_together None s reply s' Answer is answer = answer
+few_together (Some fault) s reply s' Answer is answer = cc
+
+module _ {D : Type 0} (s s1 : SessionState D) (blob version : ℕ) (ranges : List (ℕ × ℕ)) (few : ranges_fault 0 ranges ≡ None) where
+  pub opened_ranges : (s' : SessionState D) (v : Version) (said : Result (List ℕ) Fault) → Opening s blob version (Ok v) s1 → s' ≡ record s1 { doors = s'.doors }
+      → ((us : List Update) → TellUpdates v.page_size us v.rows → ReadsRanges v.page_size us (length v.rows) ranges said)
+      → Answers AllOther (session_of s) (Requests.ReadMany blob version ranges) (contents_reply said) (session_of s')
+  opened_ranges s' v said o stays reads =
+      let f = s.store.fixed in
+      let us : List Update = updates_in (desk_at f (s.log ++ o.gap)) blob in
+      let snap : IsSnapshotOf f (s.log ++ o.gap) blob version v = subst (λ (l : List (ℕ × Event)). IsSnapshotOf f l blob version v) o.log o.snapshot in
+      let tells : TellUpdates v.page_size us v.rows = subst (λ (p : ℕ). TellUpdates p us v.rows) (sym snap.page_size) snap.tells in
+      let r : ReadsRanges v.page_size us version ranges said = subst (λ (n : ℕ). ReadsRanges v.page_size us n ranges said) snap.rows (reads us tells) in
+      let r' : ReadsRanges f.page_size us version ranges said = subst (λ (p : ℕ). ReadsRanges p us version ranges said) snap.page_size r in
+      let there : outcome_in f (s.log ++ o.gap) s.caller (Calls.Size blob version) ≡ Outcomes.Size (size_now v) =
+      subst (λ (l : List (ℕ × Event)). outcome_in f l s.caller (Calls.Size blob version) ≡ Outcomes.Size (size_now v)) o.log o.done
+      in
+      let answer : ReadManyAnswer AllOther (session_of s) blob version ranges (contents_reply said) (seen_to s s1.log) =
+      ranges_answer f s.caller s.log s1.log o.gap o.others o.log s.held s.next s.limit blob version (size_now v) there ranges said r'
+      in
+      let now : session_of s' ≡ seen_to s s1.log = ap (λ (x : SessionState D). session_of x) stays ∙ ap (λ (x : SessionState D). session_of x) o.same in
+      subst (λ (x : Session). Answers AllOther (session_of s) (Requests.ReadMany blob version ranges) (contents_reply said) x) (sym now)
+      (few_together (ranges_fault 0 ranges) (session_of s) (contents_reply said) (seen_to s s1.log) (ReadManyAnswer AllOther (session_of s) blob version ranges (contents_reply said) (seen_to s s1.log)) few answer)
+
+  pub unopened_ranges : (fault : Fault) → 1 ≤ length ranges → Opening s blob version (Err fault) s1
+      → Answers AllOther (session_of s) (Requests.ReadMany blob version ranges) (contents_reply (Err fault)) (session_of s1)
+  unopened_ranges fault some o =
+      let f = s.store.fixed in
+      let why = o.refused.why in
+      let refused : OnRefused why (λ r. outcome_in f (s.log ++ o.gap) s.caller (Calls.Size blob version) ≡ Outcomes.Refused r) =
+      subst (λ (l : List (ℕ × Event)). OnRefused why (λ r. outcome_in f l s.caller (Calls.Size blob version) ≡ Outcomes.Refused r)) o.log o.refused.refused
+      in
+      let reply : Reply = Replies.Refused (desk_fault why) in
+      let answer : ReadManyAnswer AllOther (session_of s) blob version ranges reply (seen_to s s1.log) =
+      refused_ranges f s.caller s.log s1.log o.gap o.others o.log s.held s.next s.limit blob version why ranges some refused
+      in
+      let now : session_of s1 ≡ seen_to s s1.log = ap (λ (x : SessionState D). session_of x) o.same in
+      let same : reply ≡ Replies.Refused fault = ap Replies.Refused (sym o.refused.said) in
+      subst (λ (x : Session). Answers AllOther (session_of s) (Requests.ReadMany blob version ranges) (contents_reply (Err fault)) x) (sym now)
+      (subst (λ (x : Reply). Answers AllOther (session_of s) (Requests.ReadMany blob version ranges) x (seen_to s s1.log)) same
+      (few_together (ranges_fault 0 ranges) (session_of s) reply (seen_to s s1.log) (ReadManyAnswer AllOther (session_of s) blob version ranges reply (seen_to s s1.log)) few answer))
+
+  -- no node was met where a range is refused
+  pub no_step_opened : (s' : SessionState D) (v : Version) → Opening s blob version (Ok v) s1 → s' ≡ record s1 { doors = s'.doors } → (before after : ℕ)
+      → ((us : List Update) → TellUpdates v.page_size us v.rows → first_end_past (size_of us (length v.rows)) ranges ≢ None → after ≡ before)
+      → NoStepIfOneRefused (session_of s') blob version ranges before after
+  no_step_opened s' v o stays before after none =
+      let f = s.store.fixed in
+      let us : List Update = updates_in (desk_at f (s.log ++ o.gap)) blob in
+      let snap : IsSnapshotOf f (s.log ++ o.gap) blob version v = subst (λ (l : List (ℕ × Event)). IsSnapshotOf f l blob version v) o.log o.snapshot in
+      let tells : TellUpdates v.page_size us v.rows = subst (λ (p : ℕ). TellUpdates p us v.rows) (sym snap.page_size) snap.tells in
+      let there : outcome_in f (s.log ++ o.gap) s.caller (Calls.Size blob version) ≡ Outcomes.Size (size_now v) =
+      subst (λ (l : List (ℕ × Event)). outcome_in f l s.caller (Calls.Size blob version) ≡ Outcomes.Size (size_now v)) o.log o.done
+      in
+      let none' : first_end_past (size_of us version) ranges ≢ None → after ≡ before = subst (λ (n : ℕ). first_end_past (size_of us n) ranges ≢ None → after ≡ before) snap.rows (none us tells) in
+      let now : session_of s' ≡ seen_to s s1.log = ap (λ (x : SessionState D). session_of x) stays ∙ ap (λ (x : SessionState D). session_of x) o.same in
+      subst (λ (x : Session). NoStepIfOneRefused x blob version ranges before after) (sym now)
+      (no_step_there f s.caller s.log s1.log o.gap o.others o.log s.held s.next s.limit blob version (size_now v) there ranges before after few none')
+
+  -- nor where the version wasn't opened
+  pub no_step_unopened : (n : ℕ) → NoStepIfOneRefused (session_of s1) blob version ranges n n
+  no_step_unopened n = record { refused = λ range r among e. refl; too_long = λ long. refl }
+
+  -- how many nodes were met
+  pub visits_opened : (s' : SessionState D) (v : Version) → Opening s blob version (Ok v) s1 → s' ≡ record s1 { doors = s'.doors } → (before after : ℕ)
+      → ((us : List Update) → TellUpdates v.page_size us v.rows → after ≤ before + visits_of v.page_size (extents us) (length v.rows) ranges)
+      → after ≤ before + all_visits_seen (session_of s') blob version ranges
+  visits_opened s' v o stays before after bound =
+      let f = s.store.fixed in
+      let us : List Update = updates_in (desk_at f s1.log) blob in
+      let snap : IsSnapshotOf f s1.log blob version v = o.snapshot in
+      let tells : TellUpdates v.page_size us v.rows = subst (λ (p : ℕ). TellUpdates p us v.rows) (sym snap.page_size) snap.tells in
+      let most : after ≤ before + visits_of v.page_size (extents us) version ranges = subst (λ (n : ℕ). after ≤ before + visits_of v.page_size (extents us) n ranges) snap.rows (bound us tells) in
+      let most' : after ≤ before + visits_of f.page_size (extents us) version ranges = subst (λ (p : ℕ). after ≤ before + visits_of p (extents us) version ranges) snap.page_size most in
+      let now : session_of s' ≡ seen_to s s1.log = ap (λ (x : SessionState D). session_of x) stays ∙ ap (λ (x : SessionState D). session_of x) o.same in
+      subst (λ (x : Session). after ≤ before + all_visits_seen x blob version ranges) (sym now) most'
+
+-- too many bytes together are refused before anything else
+pub too_long_together : {D : Type 0} (s : SessionState D) (blob version count : ℕ) (ranges : List (ℕ × ℕ)) → ranges_fault 0 ranges ≡ Some (Faults.ReadTooLong count)
+    → Answers AllOther (session_of s) (Requests.ReadMany blob version ranges) (contents_reply (Err (Faults.ReadTooLong count))) (session_of s)
+too_long_together s blob version count ranges is =
+    let reply : Reply = Replies.Refused (Faults.ReadTooLong count) in
+    subst (λ (o : Option Fault). Unless o (session_of s) reply (session_of s) (ReadManyAnswer AllOther (session_of s) blob version ranges reply (session_of s))) (sym is) (refl, refl)
+
+-- ---- what the walks gave
+none_if : (o : Option ℕ) → ((end : ℕ) → o ≡ Some end → ⊥) → o ≡ None
+none_if None never = refl
+none_if (Some end) never = absurd (never end refl)
+
+not_refused : (bytes : List ℕ) (end size : ℕ) → IsThat (Ok bytes) (Err (RangeFaults.RangePastSize end size)) → ⊥
+not_refused bytes end size e = cc
+
+not_lost : (page end size : ℕ) → IsThat (Err (RangeFaults.PageFault page)) (Err (RangeFaults.RangePastSize end size)) → ⊥
+not_lost page end size e = cc
+
+past_by : (p version end size : ℕ) (us : List Update) (ranges : List (ℕ × ℕ)) (o : Option ℕ) → first_end_past (size_of us version) ranges ≡ o → o ≢ None
+    → ((e : ℕ) → first_end_past (size_of us version) ranges ≡ Some e → IsThat (Err (RangeFaults.RangePastSize end size)) (Err (RangeFaults.RangePastSize e (size_of us version))))
+    → RangesCause p us version ranges (Faults.RangePastSize end size)
+past_by p version end size us ranges None is some refused = absurd (some refl)
+past_by p version end size us ranges (Some e) is some refused = RangesCause.past e (same_range end size e (size_of us version) (refused e is)) is
+
+-- they gave the ranges, or told why not
+pub reads_ranges : (p version : ℕ) (us : List Update) (ranges : List (ℕ × ℕ)) (r : Result (List ℕ) RangeFault) → IfOk r (λ bytes. bytes ≡ joined (content us version) ranges)
+    → ((end : ℕ) → first_end_past (size_of us version) ranges ≡ Some end → IsThat r (Err (RangeFaults.RangePastSize end (size_of us version))))
+    → IfErr r (λ fault. OnRangePast fault (first_end_past (size_of us version) ranges ≢ None)) → IfErr r (λ fault. OnPageLost fault (IsMetByOne p ranges)) → ReadsRanges p us version ranges (range_of r)
+reads_ranges p version us ranges (Ok bytes) is refused past lost =
+    record { bytes = is; within = none_if (first_end_past (size_of us version) ranges) (λ end e. not_refused bytes end (size_of us version) (refused end e)); cause = tt }
+reads_ranges p version us ranges (Err (RangeFaults.RangePastSize end size)) is refused past lost =
+    record { bytes = tt; within = tt; cause = past_by p version end size us ranges (first_end_past (size_of us version) ranges) refl past refused }
+reads_ranges p version us ranges (Err (RangeFaults.PageFault page)) is refused past lost =
+    let none : first_end_past (size_of us version) ranges ≡ None = none_if (first_end_past (size_of us version) ranges) (λ end e. not_lost page end (size_of us version) (refused end e)) in
+    record { bytes = tt; within = tt; cause = RangesCause.lost page refl none lost }
+reads_ranges p version us ranges (Err RangeFaults.NoMemory) is refused past lost = record { bytes = tt; within = tt; cause = RangesCause.no_memory refl }

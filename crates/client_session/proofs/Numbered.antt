@@ -1,0 +1,178 @@
+-- Numbering an update: a first look, its pages stored, and its number; each told of the session without its tickets.
+use Rattle.std.proofs.Common.{◌≡◌, refl, sym, ◌∙◌, ap, subst, ℕ, ◌+◌, ◌*◌, ◌<◌, ◌≤◌, List, [], ◌∷◌, ◌++◌, append_assoc, append-nil, length, length-append, Option, Some, None, Ok, Err, arith}
+use Rattle.std.specs.Prelude.{IfOk, IfSome}
+use Rattle.std.proofs.lemmas.List.{map-append}
+use Rattle.blob_model.specs.Answer.{answer}
+use Rattle.blob_model.specs.History.{AllOther, store_of}
+use Rattle.blob_model.specs.declared.call.Place.{Place}
+use Rattle.blob_model.specs.declared.call.Call.TheVariants as Calls
+use Rattle.blob_model.specs.declared.call.Event.{Event}
+use Rattle.blob_model.specs.declared.call.Event.TheVariants as Events
+use Rattle.blob_model.specs.declared.call.Outcome.{Outcome}
+use Rattle.blob_model.specs.declared.call.Outcome.TheVariants as Outcomes
+use Rattle.blob_model.specs.declared.call.Refusal.{Refusal}
+use Rattle.page_store.specs.Stored.{Cut, LieAmong}
+use Rattle.page_fan.specs.Fault.{OnPageFault}
+use Rattle.page_fan.specs.declared.storing.StoreFault.{StoreFault}
+use Rattle.page_fan.specs.declared.storing.StoreFault.TheVariants as StoreFaults
+use Rattle.border_hints.specs.Numbered.{NumberedUpdate}
+use Rattle.border_hints.specs.Numbered.{IsNumbered as IsWellNumbered}
+use Rattle.turn_lock.specs.Shown.{PassView, Turned}
+use Rattle.version_manager.specs.Desks.{IsUnfinished, refusal_in}
+use Rattle.version_manager.specs.Laws.{GapsAreOfOthers}
+use Rattle.version_manager.specs.Log.{Changed, Foreseen, IsLog, IsNewTicket, tag, events, desk_at, outcome_in}
+use Rattle.version_manager.specs.declared.journal.DeskFixed.{DeskFixed}
+use Rattle.version_manager.specs.declared.fault.DeskFault.{DeskFault}
+use Rattle.request_form.specs.Session.{Session, outcome_at, sees}
+use Rattle.request_form.specs.Answers.{max_update}
+use Rattle.request_form.specs.Replies.{fault_of}
+use Rattle.request_form.specs.declared.form.Reply.TheVariants as Replies
+use Rattle.request_form.specs.declared.form.Fault.{Fault}
+use Rattle.session_parts.specs.Tickets.{OpenUpdate}
+use Rattle.client_session.specs.Results.{desk_fault, store_fault}
+use Rattle.client_session.specs.Sessions.{Went, session_at}
+use Rattle.client_session.specs.Finishing.{bare}
+use Rattle.client_session.specs.SessionInvariant.{IsTicketHere}
+use Rattle.client_session.specs.Numbering.{LookedAhead, NotNumberedFor, Numbering}
+use Rattle.client_session.proofs.Finished.{outcome_of}
+use Rattle.client_session.proofs.Gapped.{others_both, unnumbered_later}
+use Rattle.client_session.proofs.Opened.{new_ticket_here}
+use Rattle.client_session.proofs.Turns.{Took, NotDone, took, not_done, seen_gap}
+
+-- ---- the first look
+module _ (f : DeskFixed) (caller : ℕ) (log log' : List (ℕ × Event)) (blob : ℕ) (place : Place) where
+  pub ahead_unlooked : (bytes : List ℕ) → LookedAhead f caller log blob place bytes None log
+  ahead_unlooked bytes = record { gap = []; others = tt; same = sym (append-nil log); refused = tt }
+
+  refused_in : (o : Outcome) (r : Refusal) → Some r ≡ refusal_in o → o ≡ Outcomes.Refused r
+  refused_in (Outcomes.Refused refusal) r e = cc
+  refused_in (Outcomes.Blob b) r e = let never : ⊥ = cc in absurd never
+  refused_in (Outcomes.Assigned version at size) r e = let never : ⊥ = cc in absurd never
+  refused_in (Outcomes.Published version) r e = let never : ⊥ = cc in absurd never
+  refused_in (Outcomes.Content bytes) r e = let never : ⊥ = cc in absurd never
+  refused_in (Outcomes.Recent version size) r e = let never : ⊥ = cc in absurd never
+  refused_in (Outcomes.Size size) r e = let never : ⊥ = cc in absurd never
+  refused_in (Outcomes.Synced version) r e = let never : ⊥ = cc in absurd never
+  refused_in (Outcomes.Status assigned published held) r e = let never : ⊥ = cc in absurd never
+
+  if_refused : (said : Option Refusal) (o : Outcome) → said ≡ refusal_in o → IfSome said (λ refusal. o ≡ Outcomes.Refused refusal)
+  if_refused None o e = tt
+  if_refused (Some r) o e = refused_in o r e
+
+  pub ahead_looked : (bytes : List ℕ) (len : ℕ) (said : Option Refusal) → length bytes ≡ len → Took caller log log' (λ before after. Foreseen f blob place len before caller said after)
+      → LookedAhead f caller log blob place bytes said log'
+  ahead_looked bytes len said is t = record {
+    gap = t.gap;
+    others = t.others;
+    same = t.gives.same;
+    refused = if_refused said (outcome_in f (log ++ t.gap) caller (Calls.Assign blob place bytes)) (t.gives.said_is bytes is);
+  }
+
+  pub went_ahead : (len : ℕ) (said : Option Refusal) → Took caller log log' (λ before after. Foreseen f blob place len before caller said after) → Went f log log'
+  went_ahead len said t = record { begins = (t.gap, t.gives.same); log_is = subst (IsLog f) (sym t.gives.same) t.gives.log }
+
+pub took_ahead : GapsAreOfOthers → (f : DeskFixed) (v w : PassView Event DeskFixed) (blob : ℕ) (place : Place) (len : ℕ) (said : Option Refusal) → v.fixed ≡ Some f
+    → Turned (λ before f after. Foreseen f blob place len before v.caller said after) v w → Took v.caller v.seen w.seen (λ before after. Foreseen f blob place len before v.caller said after)
+took_ahead law f v w blob place len said fixed turned = took law f v w (λ before g after. Foreseen g blob place len before v.caller said after) fixed (λ before after x. x.log) turned
+
+-- ---- what isn't prepared
+module _ (f : DeskFixed) (caller : ℕ) (log log' : List (ℕ × Event)) (blob : ℕ) (place : Place) (bytes : List ℕ) where
+  pub ahead_refused : (refusal : Refusal) → LookedAhead f caller log blob place bytes (Some refusal) log' → NotNumberedFor (bare f caller log) blob place bytes (fault_of refusal) (bare f caller log')
+  ahead_refused refusal look =
+      NotNumberedFor.refused record {
+        others = events look.gap;
+        is_gap = look.others;
+        refusal = refusal;
+        refused = outcome_of f caller log look.gap (Calls.Assign blob place bytes) ∙ look.refused;
+        said = refl;
+        seen = seen_gap f caller log log' look.gap [] 1 max_update look.same;
+      }
+
+  -- a refusal is what others' events made of it, and so is none
+  pub ahead_none : (said : Option Refusal) → LookedAhead f caller log blob place bytes said log' → LookedAhead f caller log blob place bytes None log'
+  ahead_none said look = record { gap = look.gap; others = look.others; same = look.same; refused = tt }
+
+  pub not_stored : (fault : StoreFault) → LookedAhead f caller log blob place bytes None log' → OnPageFault fault (λ i. f.page_size * i < length bytes)
+      → NotNumberedFor (bare f caller log) blob place bytes (store_fault fault) (bare f caller log')
+  not_stored (StoreFaults.PageFault page before) look is_page =
+      NotNumberedFor.not_stored record {
+        others = events look.gap;
+        is_gap = look.others;
+        page = page;
+        is_page = is_page;
+        said = refl;
+        seen = seen_gap f caller log log' look.gap [] 1 max_update look.same;
+      }
+  not_stored StoreFaults.NoMemory look is_page =
+      NotNumberedFor.out_of_memory record { others = events look.gap; is_gap = look.others; said = refl; seen = seen_gap f caller log log' look.gap [] 1 max_update look.same }
+
+  -- ---- the numbering
+  pub numbered : (cut : Cut) (t : NumberedUpdate) → IsWellNumbered t → LieAmong f.houses cut.pages
+      → Took caller log log' (λ before after. Changed f (Calls.Assign blob place bytes) (Events.Assign caller blob place bytes) (λ (x : NumberedUpdate). Outcomes.Assigned x.version x.at x.size) (λ (x : DeskFault). x) before caller (Ok t) after
+      × IfOk {E = DeskFault} (Ok t) (λ x. IsNewTicket f blob caller cut before after x))
+      → Numbering f caller log blob place bytes t log'
+  numbered cut t well pages took =
+      let e : Event = Events.Assign caller blob place bytes in
+      let n : IsNewTicket f blob caller cut (log ++ took.gap) ((log ++ took.gap) ++ tag e ∷ []) t =
+      subst (λ (l : List (ℕ × Event)). IsNewTicket f blob caller cut (log ++ took.gap) l t) took.gives.0.added took.gives.1 in
+      record {
+        gap = took.gap;
+        others = took.others;
+        added = took.gives.0.added;
+        outcome = took.gives.0.done;
+        blob_is = n.blob_is;
+        ticket =
+            subst (λ (l : List (ℕ × Event)). IsTicketHere f l t) (sym took.gives.0.added)
+            (new_ticket_here f blob caller (log ++ took.gap) (tag e ∷ []) t cut well pages n);
+        unfinished = subst (λ (b : ℕ). IsUnfinished (desk_at f log') b t.version) (sym n.blob_is) took.gives.1.unfinished;
+      }
+
+  as_unnumbered : (fault : Fault) → NotDone f caller log log' (Calls.Assign blob place bytes) [] 1 max_update (Replies.Refused fault) → NotNumberedFor (bare f caller log) blob place bytes fault (bare f caller log')
+  as_unnumbered fault (NotDone.refused a) = NotNumberedFor.refused a
+  as_unnumbered fault (NotDone.out_of_memory a) = NotNumberedFor.out_of_memory a
+
+  pub not_numbered : {A : Type 0} (tells : A → Outcome) (fault : DeskFault)
+      → Took caller log log' (λ before after. Changed f (Calls.Assign blob place bytes) (Events.Assign caller blob place bytes) tells (λ (x : DeskFault). x) before caller (Err fault) after)
+      → NotNumberedFor (bare f caller log) blob place bytes (desk_fault fault) (bare f caller log')
+  not_numbered tells fault took =
+      as_unnumbered (desk_fault fault) (not_done f caller log log' (Calls.Assign blob place bytes) [] 1 max_update took.gap fault took.others took.gives.same took.gives.refused)
+
+-- ---- both, one after the other
+module _ (f : DeskFixed) (caller : ℕ) (log mid log' : List (ℕ × Event)) (blob : ℕ) (place : Place) (bytes : List ℕ) (look : LookedAhead f caller log blob place bytes None mid) where
+  pub not_numbered_both : (fault : Fault) → NotNumberedFor (bare f caller mid) blob place bytes fault (bare f caller log') → NotNumberedFor (bare f caller log) blob place bytes fault (bare f caller log')
+  not_numbered_both fault a =
+      unnumbered_later (bare f caller log) (events look.gap) look.others blob place bytes fault (bare f caller log')
+      (subst (λ (s : Session). NotNumberedFor s blob place bytes fault (bare f caller log')) (seen_gap f caller log mid look.gap [] 1 max_update look.same) a)
+
+  module _ (t : NumberedUpdate) (n : Numbering f caller mid blob place bytes t log') where
+    pub both_gaps : List Event
+    both_gaps = events look.gap ++ events n.gap
+
+    events_both : events (mid ++ n.gap) ≡ events log ++ (events look.gap ++ events n.gap)
+    events_both =
+        map-append (λ (x : ℕ × Event). x.1) mid n.gap
+        ∙ (ap (λ (l : List (ℕ × Event)). events l ++ events n.gap) look.same
+        ∙ (ap (λ (h : List Event). h ++ events n.gap) (map-append (λ (x : ℕ × Event). x.1) log look.gap)
+        ∙ append_assoc (events log) (events look.gap) (events n.gap)))
+
+    pub both_others : AllOther caller (events look.gap ++ events n.gap)
+    both_others = others_both caller (events look.gap) (events n.gap) look.others n.others
+
+    module _ (held : List OpenUpdate) (next limit : ℕ) where
+      pub both_outcome : outcome_at (session_at f caller log held next limit) (events look.gap ++ events n.gap) (Calls.Assign blob place bytes) ≡ Outcomes.Assigned t.version t.at t.size
+      both_outcome = ap (λ (h : List Event). (answer (store_of f.limits h) caller (Calls.Assign blob place bytes)).1) (sym events_both) ∙ n.outcome
+
+      with_seen : List Event → Session
+      with_seen h = record (session_at f caller log held next limit) { seen = h }
+
+      pub both_seen : session_at f caller log' held next limit ≡ sees (session_at f caller log held next limit) ((events look.gap ++ events n.gap) ++ Events.Assign caller blob place bytes ∷ [])
+      unfolding with_seen
+      both_seen =
+          ap with_seen (ap events n.added
+          ∙ (map-append (λ (x : ℕ × Event). x.1) (mid ++ n.gap) (tag (Events.Assign caller blob place bytes) ∷ [])
+          ∙ (ap (λ (h : List Event). h ++ Events.Assign caller blob place bytes ∷ []) events_both
+          ∙ append_assoc (events log) (events look.gap ++ events n.gap) (Events.Assign caller blob place bytes ∷ []))))
+
+    pub both_longer : (next : ℕ) → next ≤ length log + 1 → next ≤ length log'
+    both_longer next few =
+        omega (arith, few, ap length n.added, length-append (mid ++ n.gap) (tag (Events.Assign caller blob place bytes) ∷ []), length-append mid n.gap, ap length look.same, length-append log look.gap)

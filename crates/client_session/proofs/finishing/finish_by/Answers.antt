@@ -1,0 +1,13 @@
+use Rattle.std.proofs.Common.{List, subst}
+use Rattle.std.specs.Arc.{arc_value}
+use Rattle.boxcar.specs.Table.{Shelves}
+use Rattle.session_parts.specs.Woven.{IsWoven}
+use Rattle.client_session.proofs.Opened.{may_finish_woven}
+use Rattle.client_session.proofs.finishing.finish_by.Goals as goal
+
+pub report-requires-clause-may : goal.report-requires-clause-may
+report-requires-clause-may g c =
+    let f = c.args.shared.now.fixed in
+    may_finish_woven f c.args.pass.now.seen c.args.ticket.now (arc_value c.in-Ok-Some.row) c.requires.ticket
+    (subst (λ (n : List Shelves). IsWoven n f.houses c.args.ticket.now (arc_value c.in-Ok-Some.row)) c.nodes.ensures
+    ((rw c.in-Ok-Some.field-0-is at c.in-Ok-Some.ensures.woven) f.houses c.requires.ticket.here.pages))

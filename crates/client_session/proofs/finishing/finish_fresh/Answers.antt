@@ -1,0 +1,42 @@
+use Rattle.std.proofs.Common.{◌≡◌, ap, subst, ℕ, Result, Ok, Err}
+use Rattle.std.specs.Arc.{arc_value}
+use Rattle.turn_lock.specs.Shown.{PassView}
+use Rattle.blob_model.specs.declared.call.Event.{Event}
+use Rattle.version_manager.specs.declared.journal.DeskFixed.{DeskFixed}
+use Rattle.request_form.specs.declared.form.Fault.{Fault}
+use Rattle.client_session.specs.Finishing.{Finishing}
+use Rattle.client_session.proofs.Finished.{look_failed, after_look, not_woven}
+use Rattle.client_session.proofs.Opened.{may_finish_woven}
+use Rattle.client_session.proofs.finishing.finish_fresh.Goals as goal
+
+pub returns-in-Err-clause-finishing : goal.returns-in-Err-clause-finishing
+returns-in-Err-clause-finishing g c =
+    rw c.fault_of.ensures.is
+    (look_failed c.args.shared.now.fixed c.args.pass.now.caller c.args.pass.now.seen c.fresh_ticket.new.pass.seen c.args.blob c.args.version c.in-Err.fault c.in-Err.ensures.looked)
+
+pub returns-in-Err-woven_or_why-clause-finishing : goal.returns-in-Err-woven_or_why-clause-finishing
+returns-in-Err-woven_or_why-clause-finishing g c =
+    let f = c.args.shared.now.fixed in
+    let caller = c.args.pass.now.caller in
+    let seen = c.fresh_ticket.new.pass.seen in
+    let look = c.in-Ok.ensures.looked in
+    after_look f caller c.args.pass.now.seen seen c.args.blob c.args.version (Ok c.in-Ok.ticket) (Err c.in-Err-woven_or_why.fault) seen look
+    (not_woven f caller seen c.args.blob c.args.version c.in-Ok.ticket look.ticket c.in-Err-woven_or_why.fault c.in-Err-woven_or_why.ensures.why)
+
+pub report-requires-clause-may : goal.report-requires-clause-may
+report-requires-clause-may g c =
+    may_finish_woven c.args.shared.now.fixed c.fresh_ticket.new.pass.seen c.in-Ok.ticket (arc_value c.in-Ok-woven_or_why.row) c.in-Ok.ensures.looked.here c.in-Ok-woven_or_why.ensures.woven
+
+pub returns-clause-finishing : goal.returns-clause-finishing
+returns-clause-finishing g c =
+    let f = c.args.shared.now.fixed in
+    let caller = c.args.pass.now.caller in
+    let seen = c.fresh_ticket.new.pass.seen in
+    let seen' = c.report.new.pass.seen in
+    let look = c.in-Ok.ensures.looked in
+    let said : Result ℕ Fault = c.report.result in
+    let same : c.fresh_ticket.new.pass.caller ≡ caller = ap (λ (p : PassView Event DeskFixed). p.caller) c.fresh_ticket.ensures.pass in
+    let a : Finishing f caller seen c.in-Ok.ticket.blob c.in-Ok.ticket.version said seen' = subst (λ (k : ℕ). Finishing f k seen c.in-Ok.ticket.blob c.in-Ok.ticket.version said seen') same c.report.ensures.finishing in
+    let b : Finishing f caller seen c.args.blob c.in-Ok.ticket.version said seen' = subst (λ (n : ℕ). Finishing f caller seen n c.in-Ok.ticket.version said seen') look.ticket.blob_is a in
+    let d : Finishing f caller seen c.args.blob c.args.version said seen' = subst (λ (n : ℕ). Finishing f caller seen c.args.blob n said seen') look.ticket.version_is b in
+    after_look f caller c.args.pass.now.seen seen c.args.blob c.args.version (Ok c.in-Ok.ticket) said seen' look d

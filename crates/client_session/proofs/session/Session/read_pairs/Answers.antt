@@ -1,0 +1,12 @@
+use Rattle.std.proofs.Common.{sym, subst, ℕ, List, length, Result}
+use Rattle.request_form.specs.declared.form.Fault.{Fault}
+use Rattle.client_session.specs.Opening.{ReadsRanges}
+use Rattle.client_session.proofs.ManyRanges.{reads_ranges}
+use Rattle.client_session.proofs.session.Session.read_pairs.Goals as goal
+
+pub returns-clause-reads : goal.returns-clause-reads
+returns-clause-reads g c = λ us tells.
+    let v = c.args.snapshot.now in
+    let x = c.read_ranges.ensures in
+    subst (λ (said : Result (List ℕ) Fault). ReadsRanges v.page_size us (length v.rows) c.args.pairs.now said) (sym c.range_told.ensures.is)
+    (reads_ranges v.page_size (length v.rows) us c.args.pairs.now c.read_ranges.result (x.bytes us tells) (x.refused us tells) (x.past us tells) x.page)
