@@ -1,3 +1,5 @@
 mod Worked
 pub mod RequestLemmas
 pub mod ReplyLemmas
+mod PairLemmas
+mod SpokenLemmas

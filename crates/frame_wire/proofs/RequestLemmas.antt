@@ -1,5 +1,5 @@
 -- What operations and their fields ask for.
-use Rattle.std.proofs.Common.{◌≡◌, ◌∙◌, ℕ, zero, suc, ◌+◌, ◌*◌, ◌^◌, ◌<◌, ◌≤◌, ◌==◌, nat_le, true, false, true≢false, List, [], ◌∷◌, ◌++◌, length, drop, slice_index, Some, None, refl, sym, ap, arith, append_assoc, length-append, inl, inr}
+use Rattle.std.proofs.Common.{◌≡◌, ◌≢◌, ◌∙◌, ℕ, zero, suc, ◌+◌, ◌*◌, ◌^◌, ◌<◌, ◌≤◌, ◌==◌, nat_le, true, false, true≢false, List, [], ◌∷◌, ◌++◌, length, drop, slice_index, Some, None, refl, sym, ap, arith, append_assoc, length-append, inl, inr}
 use Rattle.std.proofs.Math.Seq.{drop-append-add}
 use Rattle.std.proofs.lemmas.Bool.{cases_lt}
 use Rattle.std.proofs.lemmas.Bool.Decides.{nat_tests}
@@ -23,7 +23,7 @@ pub wide_field-length : (n : ℕ) → length (wide_field n) ≡ 16
 unfolding wide_field
 wide_field-length n = length-bytes_high_first 16 n
 
-field-number : (n : ℕ) (rest : List ℕ) → n < 2 ^ 64 → big_number 8 (field n ++ rest) ≡ n
+pub field-number : (n : ℕ) (rest : List ℕ) → n < 2 ^ 64 → big_number 8 (field n ++ rest) ≡ n
 unfolding field
 field-number n rest small = big_number-reads_back 8 n rest small
 
@@ -78,6 +78,7 @@ misfit Operations.Size bytes h = rw h refl
 misfit Operations.Sync bytes h = rw h refl
 misfit Operations.Status bytes h = rw h refl
 misfit Operations.Branch bytes h = rw h refl
+misfit Operations.Repair bytes h = refl
 misfit Operations.Quit [] h = absurd (true≢false h)
 misfit Operations.Quit (b ∷ bs) h = refl
 
@@ -94,26 +95,26 @@ none_behind : (ns bytes : List ℕ) → bytes ≡ [] → length (fields ns ++ by
 none_behind ns bytes e = let l = both_length ns bytes in let none : length bytes ≡ 0 = ap (λ (l : List ℕ). length l) e in omega arith
 
 -- the fields of whole requests
-pub asks : (operation : Operation) (ns bytes : List ℕ) → length ns ≡ numbers_of operation → (has_bytes operation ≡ false → bytes ≡ []) → AllSmall ns
+pub asks : (operation : Operation) (ns bytes : List ℕ) → operation ≢ Operations.Repair → length ns ≡ numbers_of operation → (has_bytes operation ≡ false → bytes ≡ []) → AllSmall ns
     → request_of (number_of operation ∷ (fields ns ++ bytes)) ≡ Some (request_with operation ns bytes)
-asks Operations.Create [] bytes count only small = rw (only refl) refl
-asks Operations.Create (n ∷ ns) bytes count only small = absurd (omega arith)
-asks Operations.Append ns bytes count only small =
+asks Operations.Create [] bytes plain count only small = rw (only refl) refl
+asks Operations.Create (n ∷ ns) bytes plain count only small = absurd (omega arith)
+asks Operations.Append ns bytes plain count only small =
     let whole = both_length ns bytes in
     rw (at_least 8 (length (fields ns ++ bytes)) (omega arith), number_at_is 0 0 ns bytes refl (omega arith) small, drop_fields 8 ns bytes (omega arith)) refl
-asks Operations.Write ns bytes count only small =
+asks Operations.Write ns bytes plain count only small =
     let whole = both_length ns bytes in
     rw (at_least 16 (length (fields ns ++ bytes)) (omega arith), number_at_is 0 0 ns bytes refl (omega arith) small, number_at_is 8 1 ns bytes refl (omega arith) small, drop_fields 16 ns bytes (omega arith)) refl
-asks Operations.StartAppend ns bytes count only small =
+asks Operations.StartAppend ns bytes plain count only small =
     let whole = both_length ns bytes in
     rw (at_least 8 (length (fields ns ++ bytes)) (omega arith), number_at_is 0 0 ns bytes refl (omega arith) small, drop_fields 8 ns bytes (omega arith)) refl
-asks Operations.StartWrite ns bytes count only small =
+asks Operations.StartWrite ns bytes plain count only small =
     let whole = both_length ns bytes in
     rw (at_least 16 (length (fields ns ++ bytes)) (omega arith), number_at_is 0 0 ns bytes refl (omega arith) small, number_at_is 8 1 ns bytes refl (omega arith) small, drop_fields 16 ns bytes (omega arith)) refl
-asks Operations.Finish ns bytes count only small =
+asks Operations.Finish ns bytes plain count only small =
     let whole = none_behind ns bytes (only refl) in
     rw (exactly 8 (length (fields ns ++ bytes)) (omega arith), number_at_is 0 0 ns bytes refl (omega arith) small) refl
-asks Operations.Read ns bytes count only small =
+asks Operations.Read ns bytes plain count only small =
     let whole = none_behind ns bytes (only refl) in
     rw (
       exactly 32 (length (fields ns ++ bytes)) (omega arith),
@@ -122,23 +123,24 @@ asks Operations.Read ns bytes count only small =
       number_at_is 16 2 ns bytes refl (omega arith) small,
       number_at_is 24 3 ns bytes refl (omega arith) small,
     ) refl
-asks Operations.Recent ns bytes count only small =
+asks Operations.Recent ns bytes plain count only small =
     let whole = none_behind ns bytes (only refl) in
     rw (exactly 8 (length (fields ns ++ bytes)) (omega arith), number_at_is 0 0 ns bytes refl (omega arith) small) refl
-asks Operations.Size ns bytes count only small =
+asks Operations.Size ns bytes plain count only small =
     let whole = none_behind ns bytes (only refl) in
     rw (exactly 16 (length (fields ns ++ bytes)) (omega arith), number_at_is 0 0 ns bytes refl (omega arith) small, number_at_is 8 1 ns bytes refl (omega arith) small) refl
-asks Operations.Sync ns bytes count only small =
+asks Operations.Sync ns bytes plain count only small =
     let whole = none_behind ns bytes (only refl) in
     rw (exactly 16 (length (fields ns ++ bytes)) (omega arith), number_at_is 0 0 ns bytes refl (omega arith) small, number_at_is 8 1 ns bytes refl (omega arith) small) refl
-asks Operations.Status ns bytes count only small =
+asks Operations.Status ns bytes plain count only small =
     let whole = none_behind ns bytes (only refl) in
     rw (exactly 8 (length (fields ns ++ bytes)) (omega arith), number_at_is 0 0 ns bytes refl (omega arith) small) refl
-asks Operations.Branch ns bytes count only small =
+asks Operations.Branch ns bytes plain count only small =
     let whole = none_behind ns bytes (only refl) in
     rw (exactly 16 (length (fields ns ++ bytes)) (omega arith), number_at_is 0 0 ns bytes refl (omega arith) small, number_at_is 8 1 ns bytes refl (omega arith) small) refl
-asks Operations.Quit [] bytes count only small = rw (only refl) refl
-asks Operations.Quit (n ∷ ns) bytes count only small = absurd (omega arith)
+asks Operations.Repair ns bytes plain count only small = absurd (plain refl)
+asks Operations.Quit [] bytes plain count only small = rw (only refl) refl
+asks Operations.Quit (n ∷ ns) bytes plain count only small = absurd (omega arith)
 
 -- ---- what was decoded, once nothing more is to come
 
@@ -159,7 +161,7 @@ decoded_asks operation ns part bytes left d none small =
     let count : length ns ≡ numbers_of operation = whole_count operation ns part bytes left d none in
     let no_part : part ≡ [] = d.no_part count in
     ap (λ (l : List ℕ). request_of (number_of operation ∷ (fields ns ++ (l ++ bytes)))) no_part
-    ∙ asks operation ns bytes count (λ h. empty bytes (let all = d.exact h in let parts : length part ≡ 0 = ap (λ (l : List ℕ). length l) no_part in omega arith)) small
+    ∙ asks operation ns bytes d.in_first count (λ h. empty bytes (let all = d.exact h in let parts : length part ≡ 0 = ap (λ (l : List ℕ). length l) no_part in omega arith)) small
   where
     empty : (l : List ℕ) → length l ≡ 0 → l ≡ []
     empty [] h = refl

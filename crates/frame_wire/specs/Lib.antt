@@ -3,3 +3,5 @@ pub mod Frames
 pub mod Said
 pub mod Operations
 pub mod Decoded
+pub mod Second
+pub mod Fed

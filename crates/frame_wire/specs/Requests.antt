@@ -1,5 +1,5 @@
 -- The operations of requests, and what the fields behind each make.
-use Rattle.std.specs.Prelude.{ℕ, ◌==◌, nat_le, if◌then◌else◌, List, [], ◌∷◌, length, drop, Option, Some, None}
+use Rattle.std.specs.Prelude.{ℕ, zero, suc, ◌-◌, ◌/◌, ◌%◌, ◌==◌, ◌&&◌, nat_le, Bool, if◌then◌else◌, List, [], ◌∷◌, length, drop, Option, Some, None}
 use Rattle.std.specs.Option.{option_map}
 use Rattle.byteorder.specs.Endian.{big_number}
 use Rattle.request_form.specs.declared.form.Request.{Request}
@@ -30,6 +30,20 @@ abbrev pub two_numbers_and_bytes : List ℕ → Option ((ℕ × ℕ) × List ℕ
 two_numbers_and_bytes fields =
     if nat_le 16 (length fields) then Some ((number_at 0 fields, number_at 8 fields), drop 16 fields) else None
 
+-- so many pairs of numbers, one behind the other
+abbrev pub pairs_of : ℕ → List ℕ → List (ℕ × ℕ)
+pairs_of zero fields = []
+pairs_of (suc count) fields = (number_at 0 fields, number_at 8 fields) ∷ pairs_of count (drop 16 fields)
+
+-- whether so many bytes are two numbers and from 1 to 64 pairs of numbers
+abbrev pub holds_ranges : ℕ → Bool
+holds_ranges count = count % 16 == 0 && (nat_le 32 count && nat_le count 1040)
+
+-- two numbers, and all that is left are from 1 to 64 pairs of numbers
+abbrev pub two_numbers_and_ranges : List ℕ → Option ((ℕ × ℕ) × List (ℕ × ℕ))
+two_numbers_and_ranges fields =
+    if holds_ranges (length fields) then Some ((number_at 0 fields, number_at 8 fields), pairs_of (length fields / 16 - 1) (drop 16 fields)) else None
+
 -- ---- the operations
 
 -- an operation's number, and the request that the fields behind it make
@@ -46,7 +60,7 @@ abbrev pub alone : Request → List ℕ → Option Request
 alone request [] = Some request
 alone request (b ∷ bs) = None
 
--- the table of operations; no two have one number
+-- the table of the operations of version 1; no two have one number
 abbrev pub forms : List Form
 forms =
     record { operation = 1; makes = alone Requests.Create }
@@ -64,12 +78,24 @@ forms =
     ∷ record { operation = 13; makes = alone Requests.Quit }
     ∷ []
 
+-- and those of version 2, which has two more
+abbrev pub second_forms : List Form
+second_forms =
+    form 15 two_numbers_and_ranges (λ f. Requests.ReadMany f.0.0 f.0.1 f.1)
+    ∷ form 16 two_numbers (λ f. Requests.Repair f.0 f.1)
+    ∷ forms
+
 -- what the form with that operation makes of the bytes behind it
 abbrev pub request_in : List Form → ℕ → List ℕ → Option Request
 request_in [] operation fields = None
 request_in (form ∷ others) operation fields = if operation == form.operation then form.makes fields else request_in others operation fields
 
--- the request that the bytes counted by a frame's length spell, where they spell one
+-- the request that the bytes counted by a frame's length spell in version 1, where they spell one
 abbrev pub request_of : List ℕ → Option Request
 request_of [] = None
 request_of (operation ∷ fields) = request_in forms operation fields
+
+-- the same in version 2
+abbrev pub second_request_of : List ℕ → Option Request
+second_request_of [] = None
+second_request_of (operation ∷ fields) = request_in second_forms operation fields

@@ -18,6 +18,10 @@ wide_field number = big_bytes 16 number
 abbrev pub fields : List ℕ → List ℕ
 fields numbers = flat_map field numbers
 
+-- pairs of numbers as fields
+abbrev pub pair_fields : List (ℕ × ℕ) → List ℕ
+pair_fields pairs = flat_map (λ pair. field pair.0 ++ field pair.1) pairs
+
 -- a refusal's number and what was compared
 abbrev pub fault_fields : Fault → List ℕ
 fault_fields (Faults.NoBlob blob) = fields (1 ∷ blob ∷ [])
@@ -56,6 +60,9 @@ reply_bytes (Replies.SizeIs size) = 137 ∷ fields (size ∷ [])
 reply_bytes (Replies.Synced version) = 138 ∷ fields (version ∷ [])
 reply_bytes (Replies.StatusIs assigned published held) = 139 ∷ fields (assigned ∷ published ∷ held ∷ [])
 reply_bytes (Replies.Branched blob) = 140 ∷ fields (blob ∷ [])
+reply_bytes (Replies.HelloIs version) = 142 ∷ fields (version ∷ [])
+reply_bytes (Replies.Contents bytes) = 143 ∷ bytes
+reply_bytes (Replies.Repaired published) = 144 ∷ fields (published ∷ [])
 reply_bytes (Replies.Refused fault) = 255 ∷ fault_fields fault
 reply_bytes Replies.Bye = 141 ∷ []
 

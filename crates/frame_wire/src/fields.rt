@@ -1,7 +1,8 @@
-ghost use Rattle.std.specs.Prelude.{◌≡◌, ◌<◌, ◌≤◌, ◌∷◌, ◌++◌, [], length, take, min, true, IfOk, OnErr, Some};
+ghost use Rattle.std.specs.Prelude.{◌≡◌, ◌≢◌, ◌<◌, ◌≤◌, ◌∷◌, ◌++◌, [], length, take, min, true, IfOk, OnErr, Some};
 ghost use Rattle.frame_wire.specs.Requests.{request_of};
 ghost use Rattle.frame_wire.specs.Operations.{number_of, fits};
 ghost use Rattle.framing.specs.Come.{Come, TakesBytes};
+ghost use Rattle.request_form.specs.declared.operation.Operation.TheVariants.{Repair};
 
 use crate::number::take_number;
 use crate::operation::{fits, operation_of};
@@ -12,10 +13,10 @@ use request_form::{Fault, Heard, NoMemory, Operation, Request};
 use std::alloc::Global;
 use std::marker::Model;
 
-// The most bytes that a frame's length may count.
+// The most bytes that the length of a frame of version 1 may count.
 const MAX_FRAME: u32 = 2_097_152;
 
-/// What has come of a request's fields, decoded. Contracts see the operation and the bytes that have come behind it, and how many
+/// What has come of a request's fields in version 1, decoded. Contracts see the operation and the bytes that have come behind it, and how many
 /// are still to come.
 #[derive(Drop)]
 pub struct Fields {
@@ -63,7 +64,8 @@ fn take_bytes(bytes: &mut Vec<u8>, left: u32, piece: &[u8]) -> Result<usize, NoM
 impl Fields {
     // The fields of an operation, of which nothing has come.
     fn of(alloc: Global, operation: Operation, left: u32) -> Fields
-        requires { fits operation left ≡ true }
+        requires fits { fits operation left ≡ true }
+        requires in_first { operation ≢ Repair }
         ensures { result ≡ record { bytes = number_of operation ∷ []; left = left } }
     {
         Fields {
@@ -75,8 +77,8 @@ impl Fields {
         }
     }
 
-    // The request, now that all has come.
-    fn into_request(self) -> Request
+    /// The request, now that all has come.
+    pub(crate) fn into_request(self) -> Request
         requires { self.left ≡ 0 }
         ensures { request_of self.bytes ≡ Some result }
     {

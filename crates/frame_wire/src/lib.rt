@@ -1,6 +1,7 @@
 //! Requests and replies as frames of bytes: which requests they spell, and how replies are framed.
 //!
-//! A stream of frames is read by `FrameDialect`. What it hears is the definition `heard` of the bytes that it was fed,
+//! A stream of frames is read by `FrameDialect`. A stream whose first frame is a hello goes on in frames of version 2, which may be
+//! longer and have two more operations. What it hears is the definition `heard` of the bytes that it was fed,
 //! wherever they were cut into pieces, and a reply is framed as `said` tells.
 #![tactic(auto)]
 
@@ -10,7 +11,10 @@ mod dialect;
 mod fields;
 mod number;
 mod operation;
+mod pairs;
 mod reply;
+mod second;
+mod spoken;
 
 pub use dialect::FrameDialect;
 pub use request_form::Operation;

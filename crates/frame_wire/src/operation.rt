@@ -1,14 +1,15 @@
-ghost use Rattle.std.specs.Prelude.{◌≡◌, ℕ, List, ◌∷◌, None, MatchOption};
+ghost use Rattle.std.specs.Prelude.{◌≡◌, ◌≢◌, ℕ, List, ◌∷◌, None, MatchOption};
+ghost use Rattle.request_form.specs.declared.operation.Operation.TheVariants.{Repair};
 ghost use Rattle.frame_wire.specs.Requests.{request_of};
 ghost use Rattle.frame_wire.specs.Operations.{number_of, fits};
 
 use request_form::Operation;
 
-/// The operation of that number.
+/// The operation of that number in frames of version 1.
 pub fn operation_of(number: u8) -> Option<Operation>
     ensures { MatchOption result
         ((bytes : List ℕ) → request_of (number ∷ bytes) ≡ None)
-        (λ operation. number_of operation ≡ number) }
+        (λ operation. (number_of operation ≡ number) × (operation ≢ Repair)) }
 {
     match number {
         1 => Some(Operation::Create),

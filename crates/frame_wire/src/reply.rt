@@ -101,15 +101,15 @@ fn fault_frame(alloc: Global, fault: &Fault) -> Result<Vec<u8>, AllocError>
     }
 }
 
-// The frame of a read's bytes.
-fn content_frame(alloc: Global, bytes: &[u8]) -> Result<Vec<u8>, AllocError>
-    ensures { IfOk result (λ frame. frame.items ≡ frame_of (135 ∷ bytes.now)) }
+// The frame of an operation and what was read.
+fn content_frame(alloc: Global, operation: u8, bytes: &[u8]) -> Result<Vec<u8>, AllocError>
+    ensures { IfOk result (λ frame. frame.items ≡ frame_of (operation ∷ bytes.now)) }
 {
     // No frame's length counts more.
     if bytes.len() >= u32::MAX as usize {
         return Err(AllocError);
     }
-    let mut frame = begin_frame(alloc, 1 + bytes.len() as u32, 135)?;
+    let mut frame = begin_frame(alloc, 1 + bytes.len() as u32, operation)?;
     frame.extend_from_slice(bytes)?;
     Ok(frame)
 }
@@ -135,7 +135,7 @@ pub fn reply_frame(alloc: Global, reply: &Reply) -> Result<Vec<u8>, AllocError>
             size,
         } => numbers_frame(alloc, 133, &[*ticket, *version, *at, *size]),
         Reply::Finished { published } => numbers_frame(alloc, 134, &[*published]),
-        Reply::Content { bytes } => content_frame(alloc, bytes.as_slice()),
+        Reply::Content { bytes } => content_frame(alloc, 135, bytes.as_slice()),
         Reply::RecentIs { version, size } => numbers_frame(alloc, 136, &[*version, *size]),
         Reply::SizeIs { size } => numbers_frame(alloc, 137, &[*size]),
         Reply::Synced { version } => numbers_frame(alloc, 138, &[*version]),
@@ -145,20 +145,23 @@ pub fn reply_frame(alloc: Global, reply: &Reply) -> Result<Vec<u8>, AllocError>
             held,
         } => numbers_frame(alloc, 139, &[*assigned, *published, *held]),
         Reply::Branched { blob } => numbers_frame(alloc, 140, &[*blob]),
+        Reply::HelloIs { version } => numbers_frame(alloc, 142, &[*version]),
+        Reply::Contents { bytes } => content_frame(alloc, 143, bytes.as_slice()),
+        Reply::Repaired { published } => numbers_frame(alloc, 144, &[*published]),
         Reply::Refused(fault) => fault_frame(alloc, fault),
         Reply::Bye => numbers_frame(alloc, 141, &[]),
     }
 }
 
-// The frame of a read's bytes, which are its body as they are.
-fn content_parts(alloc: Global, bytes: Bytes) -> Result<Said, AllocError>
-    ensures { IfOk result (λ parts. parts.head ++ parts.body ≡ frame_of (135 ∷ bytes)) }
+// The frame of an operation and what was read, which is its body as it is.
+fn content_parts(alloc: Global, operation: u8, bytes: Bytes) -> Result<Said, AllocError>
+    ensures { IfOk result (λ parts. parts.head ++ parts.body ≡ frame_of (operation ∷ bytes)) }
 {
     // No frame's length counts more.
     if bytes.len() >= u32::MAX as usize {
         return Err(AllocError);
     }
-    let head = frame_head(alloc, 1 + bytes.len() as u32, 135, 5)?;
+    let head = frame_head(alloc, 1 + bytes.len() as u32, operation, 5)?;
     Ok(Said {
         head: Bytes::of(head),
         body: bytes,
@@ -170,7 +173,8 @@ pub fn reply_parts(alloc: Global, reply: Reply) -> Result<Said, AllocError>
     ensures { IfOk result (λ parts. parts.head ++ parts.body ≡ said reply) }
 {
     match reply {
-        Reply::Content { bytes } => content_parts(alloc, bytes),
+        Reply::Content { bytes } => content_parts(alloc, 135, bytes),
+        Reply::Contents { bytes } => content_parts(alloc, 143, bytes),
         other => Ok(Said::whole(alloc, Bytes::of(reply_frame(alloc, &other)?))),
     }
 }

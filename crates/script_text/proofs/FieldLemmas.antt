@@ -84,6 +84,7 @@ command_letters Operations.Size = letters_from (codes "size") refl
 command_letters Operations.Sync = letters_from (codes "sync") refl
 command_letters Operations.Status = letters_from (codes "status") refl
 command_letters Operations.Branch = letters_from (codes "branch") refl
+command_letters Operations.Repair = letters_from (codes "repair") refl
 command_letters Operations.Quit = letters_from (codes "quit") refl
 
 pub letter_solid : (b : ℕ) → IsLetter b → 35 < b
@@ -208,6 +209,7 @@ command_reads Operations.Size fs = two_is (λ f. Requests.Size f.0 f.1) (λ r. r
 command_reads Operations.Sync fs = two_is (λ f. Requests.Sync f.0 f.1) (λ r. request_with Operations.Sync r.0 r.1) (λ n m. refl) fs
 command_reads Operations.Status fs = one_is (λ n. Requests.Status n) (λ r. request_with Operations.Status r.0 r.1) (λ n. refl) fs
 command_reads Operations.Branch fs = two_is (λ f. Requests.Branch f.0 f.1) (λ r. request_with Operations.Branch r.0 r.1) (λ n m. refl) fs
+command_reads Operations.Repair fs = two_is (λ f. Requests.Repair f.0 f.1) (λ r. request_with Operations.Repair r.0 r.1) (λ n m. refl) fs
 command_reads Operations.Quit [] = refl
 command_reads Operations.Quit (f ∷ fs) = refl
 
@@ -233,6 +235,7 @@ no_command word fs h =
       differs word (codes "sync") (h Operations.Sync),
       differs word (codes "status") (h Operations.Status),
       differs word (codes "branch") (h Operations.Branch),
+      differs word (codes "repair") (h Operations.Repair),
       differs word (codes "create") (h Operations.Create),
       differs word (codes "quit") (h Operations.Quit),
     ) refl

@@ -69,6 +69,7 @@ command_short Operations.Size = omega arith
 command_short Operations.Sync = omega arith
 command_short Operations.Status = omega arith
 command_short Operations.Branch = omega arith
+command_short Operations.Repair = omega arith
 command_short Operations.Quit = omega arith
 
 letter_inside : (front : List ℕ) (b : ℕ) (back : List ℕ) → All IsLetter (front ++ b ∷ back) → IsLetter b
@@ -127,6 +128,7 @@ not_bare Operations.Size a b = refl
 not_bare Operations.Sync a b = refl
 not_bare Operations.Status a b = refl
 not_bare Operations.Branch a b = refl
+not_bare Operations.Repair a b = refl
 not_bare Operations.Quit a b = absurd (b refl)
 
 -- a line that is no more than a word

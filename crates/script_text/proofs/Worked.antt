@@ -47,10 +47,11 @@ ranges_heard = refl
 -- each form once, and no bytes
 forms_heard : heard (lines
     (codes "create" ∷ codes "append 1 -" ∷ codes "write 1 0 ff" ∷ codes "start-append 2 AA" ∷ codes "start-write 3 4 -" ∷ codes "finish 5" ∷ codes "read 1 2 3 4" ∷ codes "recent 1" ∷ codes "size 1 2"
-    ∷ codes "sync 1 2" ∷ codes "status 1" ∷ codes "branch 1 2" ∷ codes "quit" ∷ codes "append 1 aa" ∷ []))
+    ∷ codes "sync 1 2" ∷ codes "status 1" ∷ codes "branch 1 2" ∷ codes "repair 1 2" ∷ codes "quit" ∷ codes "append 1 aa" ∷ []))
     ≡ whole
     (Asked Requests.Create ∷ Asked (Requests.Append 1 []) ∷ Asked (Requests.Write 1 0 (255 ∷ [])) ∷ Asked (Requests.StartAppend 2 (170 ∷ [])) ∷ Asked (Requests.StartWrite 3 4 [])
     ∷ Asked (Requests.Finish 5) ∷ Asked (Requests.Read 1 2 3 4) ∷ Asked (Requests.Recent 1) ∷ Asked (Requests.Size 1 2) ∷ Asked (Requests.Sync 1 2) ∷ Asked (Requests.Status 1) ∷ Asked (Requests.Branch 1 2)
+    ∷ Asked (Requests.Repair 1 2)
     ∷ Asked Requests.Quit ∷ Asked (Requests.Append 1 (170 ∷ [])) ∷ [])
 unfolding whole lines decode_pairs
 forms_heard = refl
@@ -85,10 +86,19 @@ unfolding whole lines malformed
 spaces_heard = refl
 
 -- fields too many and too few
-counts_heard : heard (lines (codes "create 1" ∷ codes "append 1" ∷ codes "append 1 aa aa" ∷ codes "read 1 1 0" ∷ codes "read 1 1 0 1 1" ∷ codes "write 1 aa" ∷ codes "start-write 1 2 3 aa" ∷ codes "finish" ∷ codes "finish 1 1" ∷ codes "status" ∷ codes "size 1" ∷ codes "branch 1 0 0" ∷ codes "quit now" ∷ codes "quit " ∷ []))
-    ≡ whole (malformed ∷ malformed ∷ malformed ∷ malformed ∷ malformed ∷ malformed ∷ malformed ∷ malformed ∷ malformed ∷ malformed ∷ malformed ∷ malformed ∷ malformed ∷ malformed ∷ [])
+counts_heard : heard (lines
+    (codes "create 1" ∷ codes "append 1" ∷ codes "append 1 aa aa" ∷ codes "read 1 1 0" ∷ codes "read 1 1 0 1 1" ∷ codes "write 1 aa" ∷ codes "start-write 1 2 3 aa" ∷ codes "finish"
+    ∷ codes "finish 1 1" ∷ codes "status" ∷ codes "size 1" ∷ codes "branch 1 0 0" ∷ codes "repair 1" ∷ codes "repair 1 0 0" ∷ codes "quit now" ∷ codes "quit " ∷ []))
+    ≡ whole
+    (malformed ∷ malformed ∷ malformed ∷ malformed ∷ malformed ∷ malformed ∷ malformed ∷ malformed ∷ malformed ∷ malformed ∷ malformed ∷ malformed ∷ malformed ∷ malformed ∷ malformed
+    ∷ malformed ∷ [])
 unfolding whole lines malformed decode_pairs
 counts_heard = refl
+
+-- no line asks for what only frames have
+frames_alone_heard : heard (lines (codes "hello 2" ∷ codes "hello" ∷ codes "read-many 1 1 0 1" ∷ codes "read 1 1 0 1 2 1" ∷ [])) ≡ whole (malformed ∷ malformed ∷ malformed ∷ malformed ∷ [])
+unfolding whole lines malformed
+frames_alone_heard = refl
 
 -- numbers: zero, a zero more, the greatest, one more, signs, and the longest read and one more, which is the session's to refuse
 numbers_heard : heard (lines (codes "read 0 0 0 0" ∷ codes "read 00 0 0 0" ∷ codes "read 18446744073709551615 0 0 0" ∷ codes "read 18446744073709551616 0 0 0" ∷ codes "read +1 0 0 0" ∷ codes "read -1 0 0 0" ∷ codes "read 1a 0 0 0"
@@ -122,6 +132,12 @@ forms_said : said_all
     ∷ codes "status assigned 2 published 0 held 1" ∷ codes "blob 2" ∷ [])
 unfolding said_all lines digits
 forms_said = refl
+
+-- what only a stream of frames asks for has a line all the same
+later_said : said_all (Replies.HelloIs 2 ∷ Replies.Contents (99 ∷ 97 ∷ 98 ∷ []) ∷ Replies.Contents [] ∷ Replies.Repaired 3 ∷ [])
+    ≡ lines (codes "hello 2" ∷ codes "data 636162" ∷ codes "data -" ∷ codes "published 3" ∷ [])
+unfolding said_all lines digits encode_with
+later_said = refl
 
 ranges_said : said_all (Replies.Refused (Faults.RangePastSize 7 6) ∷ Replies.Refused (Faults.RangePastSize 18446744073709551616 6) ∷ Replies.Refused Faults.Malformed ∷ Replies.Refused (Faults.NoBlob 1) ∷ [])
     ≡ lines (codes "error range-past-size 7 6" ∷ codes "error range-past-size 18446744073709551616 6" ∷ codes "error malformed" ∷ codes "error no-blob 1" ∷ [])

@@ -74,6 +74,7 @@ number_forms =
     ∷ form (codes "sync") two_numbers (λ f. Requests.Sync f.0 f.1)
     ∷ form (codes "status") one_number (λ blob. Requests.Status blob)
     ∷ form (codes "branch") two_numbers (λ f. Requests.Branch f.0 f.1)
+    ∷ form (codes "repair") two_numbers (λ f. Requests.Repair f.0 f.1)
     ∷ []
 
 -- the requests that are their command alone

@@ -61,6 +61,9 @@ reply_text (Replies.SizeIs size) = codes "size " ++ decimal size
 reply_text (Replies.Synced version) = codes "synced " ++ decimal version
 reply_text (Replies.StatusIs assigned published held) = status_text assigned published held
 reply_text (Replies.Branched blob) = codes "blob " ++ decimal blob
+reply_text (Replies.HelloIs version) = codes "hello " ++ decimal version
+reply_text (Replies.Contents bytes) = codes "data " ++ hex_text bytes
+reply_text (Replies.Repaired published) = codes "published " ++ decimal published
 reply_text (Replies.Refused fault) = fault_text fault
 reply_text Replies.Bye = codes "bye"
 

@@ -34,6 +34,8 @@ pub fn operation_of(word: &[u8]) -> Option<Operation>
         Some(Operation::Status)
     } else if word == b"branch".as_slice() {
         Some(Operation::Branch)
+    } else if word == b"repair".as_slice() {
+        Some(Operation::Repair)
     } else if word == b"quit".as_slice() {
         Some(Operation::Quit)
     } else {

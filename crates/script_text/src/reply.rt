@@ -120,10 +120,12 @@ pub fn reply_line(alloc: Global, reply: &Reply) -> Result<Vec<u8>, AllocError>
             at,
             size,
         } => { started_line(alloc, *ticket, *version, *at, *size) }
-        Reply::Finished { published } => Ok(format!(in alloc;
-            "published {published}\n"
-        )?.into_bytes()),
-        Reply::Content { bytes } => data_line(alloc, bytes.as_slice()),
+        Reply::Finished { published } | Reply::Repaired { published } => {
+            Ok(format!(in alloc; "published {published}\n")?.into_bytes())
+        }
+        Reply::Content { bytes } | Reply::Contents { bytes } => {
+            data_line(alloc, bytes.as_slice())
+        }
         Reply::RecentIs { version, size } => {
             Ok(format!(in alloc; "recent {version} size {size}\n")?.into_bytes())
         }
@@ -134,6 +136,7 @@ pub fn reply_line(alloc: Global, reply: &Reply) -> Result<Vec<u8>, AllocError>
             published,
             held,
         } => { status_line(alloc, *assigned, *published, *held) }
+        Reply::HelloIs { version } => Ok(format!(in alloc; "hello {version}\n")?.into_bytes()),
         Reply::Refused(fault) => Ok(fault_line(alloc, fault)?.into_bytes()),
         Reply::Bye => b"bye\n".to_vec(alloc),
     }

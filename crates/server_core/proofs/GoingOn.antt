@@ -1,20 +1,37 @@
 -- How progress goes on.
-use Rattle.std.proofs.Common.{◌≡◌, ℕ, ◌+◌, true, false, if◌then◌else◌, List, [], ◌∷◌, ◌++◌, refl, sym, ◌∙◌, ap, subst, append_assoc, append-nil, zero-add, arith}
+use Rattle.std.proofs.Common.{◌≡◌, ℕ, ◌+◌, true, false, if◌then◌else◌, List, [], ◌∷◌, ◌++◌, refl, sym, ◌∙◌, ap, subst, append_assoc, append-nil, zero-add, add-zero, add_assoc, arith}
 use Rattle.std.proofs.lemmas.List.Concat.{flat_map-append}
-use Rattle.std.proofs.lemmas.List.Sums.{sum_by-append}
 use Rattle.std.proofs.KnownBytes.{Appends-nil, Appends-trans}
-use Rattle.std.specs.Prelude.{Option, flat_map, sum_by}
+use Rattle.std.specs.Prelude.{Option, flat_map}
 use Rattle.std.specs.Io.KnownBytes.{Appends}
 use Rattle.faults.specs.Counts.{RoseBy}
 use Rattle.item_stream.specs.Items.{ItemStream, after_item, after_items}
-use Rattle.item_stream.specs.Rounds.{until_last, has_last}
-use Rattle.item_stream.proofs.Rounds.{Rounds-append, until_last-append, has_last-append, until_last-last}
+use Rattle.item_stream.specs.Rounds.{until_last, has_last, Rounds, sum_rounds}
+use Rattle.item_stream.proofs.Rounds.{until_last-append, has_last-append, until_last-last}
 use Rattle.server_core.specs.Talk.{Talk, PointOf}
 use Rattle.server_core.specs.Conversing.{Progress, Writes, AnswersFront, IsQuitBy, Goes, Quits, Stops, IsDrained}
 use Rattle.server_core.specs.declared.flow.Flow.{Flow}
 
 pub RoseBy-trans : (n m a b c : ℕ) → RoseBy n a b → RoseBy m b c → RoseBy (n + m) a c
 RoseBy-trans n m a b c p q = record { later = omega arith; by = λ h. omega (arith, p.by, q.by) }
+
+-- rounds and then more, and their numbers added up
+module _ {A B S : Type 0} (Answers : S → A → B → S → Type 0) (count : S → A → B → ℕ) where
+  abbrev pub sum : (s : S) (items : List A) (replies : List B) (s' : S) → Rounds Answers s items replies s' → ℕ
+  sum s items replies s' rounds = sum_rounds count Answers s items replies s' rounds
+
+  -- these rounds, for which the numbers add up to that
+  abbrev pub Summed : S → List A → List B → S → ℕ → Type 0
+  Summed s items replies s' total = (rounds : Rounds Answers s items replies s') × (sum s items replies s' rounds ≡ total)
+
+  pub Rounds-both : (s : S) (items : List A) (replies : List B) (mid : S) (more : List A) (replies' : List B) (s' : S) (run : Rounds Answers s items replies mid) (rounds : Rounds Answers mid more replies' s') →
+      Summed s (items ++ more) (replies ++ replies') s' (sum s items replies mid run + sum mid more replies' s' rounds)
+  Rounds-both s [] [] mid more replies' s' e rounds = subst (λ (x : S). Summed x more replies' s' (0 + sum mid more replies' s' rounds)) e (rounds, sym (zero-add (sum mid more replies' s' rounds)))
+  Rounds-both s (item ∷ items) (reply ∷ replies) mid more replies' s' (m, first, rest) rounds =
+      let on = Rounds-both m items replies mid more replies' s' rest rounds in
+      ((m, first, on.0), ap (λ (n : ℕ). count m item reply + n) on.1 ∙ sym (add_assoc (count m item reply) (sum m items replies mid rest) (sum mid more replies' s' rounds)))
+  Rounds-both s [] (reply ∷ replies) mid more replies' s' none rounds = absurd none
+  Rounds-both s (item ∷ items) [] mid more replies' s' none rounds = absurd none
 
 -- what stays as it was is appended nothing
 pub Appends-none : (a b : Option (List ℕ)) → b ≡ a → Appends a b []
@@ -32,10 +49,10 @@ at_point {Session = Session} P session session' faults faults' written same same
 
 -- one item
 pub Progress-one : {Item : Type 0} (talk : Talk Item) (held : List ℕ) (old new : PointOf talk.Session) (heard : Item) (reply : talk.Reply) (rest : List ℕ) →
-    talk.Answers old.session heard reply new.session → RoseBy (talk.fault_count reply) old.faults new.faults →
+    talk.Answers old.session heard reply new.session → RoseBy (talk.fault_count new.session heard reply) old.faults new.faults →
     Writes held (talk.said reply) old.written new.written rest → Progress talk held old (heard ∷ []) rest new
 Progress-one talk held old new heard reply rest item faults w =
-    record { replies = reply ∷ []; out = w.out; run = (new.session, item, refl); faults = rw (zero-add (talk.fault_count reply)) faults; adds = w.adds; says = rw (append-nil (talk.said reply)) w.joins }
+    record { replies = reply ∷ []; out = w.out; run = (new.session, item, refl); faults = rw (add-zero (talk.fault_count new.session heard reply)) faults; adds = w.adds; says = rw (append-nil (talk.said reply)) w.joins }
 
 pub says_more : (held middle rest a b out out' whole : List ℕ) → whole ≡ a ++ b → held ++ a ≡ out ++ middle → middle ++ b ≡ out' ++ rest → held ++ whole ≡ (out ++ out') ++ rest
 says_more held middle rest a b out out' whole e f g =
@@ -45,11 +62,12 @@ says_more held middle rest a b out out' whole e f g =
 abbrev pub Progress-trans : {Item : Type 0} (talk : Talk Item) (held : List ℕ) (old mid new : PointOf talk.Session) (items more : List Item) (middle rest : List ℕ) →
     Progress talk held old items middle mid → Progress talk middle mid more rest new → Progress talk held old (items ++ more) rest new
 Progress-trans talk held old mid new items more middle rest p q =
+    let both = Rounds-both talk.Answers talk.fault_count old.session items p.replies mid.session more q.replies new.session p.run q.run in
     record {
       replies = p.replies ++ q.replies;
       out = p.out ++ q.out;
-      run = Rounds-append talk.Answers old.session items p.replies mid.session more q.replies new.session p.run q.run;
-      faults = rw (sum_by-append talk.fault_count p.replies q.replies) (RoseBy-trans (sum_by talk.fault_count p.replies) (sum_by talk.fault_count q.replies) _ _ _ p.faults q.faults);
+      run = both.0;
+      faults = rw (both.1) (RoseBy-trans _ _ _ _ _ p.faults q.faults);
       adds = Appends-trans old.written mid.written new.written p.out q.out p.adds q.adds;
       says = says_more held middle rest (flat_map talk.said p.replies) (flat_map talk.said q.replies) p.out q.out _ (flat_map-append talk.said p.replies q.replies) p.says q.says;
     }

@@ -1,9 +1,9 @@
 -- What goes on while the items of a stream are answered.
-use Rattle.std.specs.Prelude.{◌≡◌, ◌⊎◌, ℕ, ◌<◌, Bool, true, false, List, [], ◌∷◌, ◌++◌, length, flat_map, sum_by, Option}
+use Rattle.std.specs.Prelude.{◌≡◌, ◌⊎◌, ℕ, ◌<◌, Bool, true, false, List, [], ◌∷◌, ◌++◌, length, flat_map, Option}
 use Rattle.std.specs.Io.KnownBytes.{Appends}
 use Rattle.faults.specs.Counts.{RoseBy}
 use Rattle.item_stream.specs.Items.{ItemStream, after_items}
-use Rattle.item_stream.specs.Rounds.{until_last, has_last, Rounds}
+use Rattle.item_stream.specs.Rounds.{until_last, has_last, Rounds, sum_rounds}
 use Rattle.server_core.specs.Talk.{Talk, PointOf}
 use Rattle.server_core.specs.declared.flow.Flow.{Flow}
 use Rattle.server_core.specs.declared.flow.Flow.TheVariants as Flows
@@ -14,7 +14,7 @@ pub record Progress {Item : Type 0} (talk : Talk Item) (held : List ℕ) (old : 
   pub replies : List talk.Reply
   pub out : List ℕ
   pub run : Rounds talk.Answers old.session items replies new.session
-  pub faults : RoseBy (sum_by talk.fault_count replies) old.faults new.faults
+  pub faults : RoseBy (sum_rounds talk.fault_count talk.Answers old.session items replies new.session run) old.faults new.faults
   pub adds : Appends old.written new.written out
   pub says : held ++ flat_map talk.said replies ≡ out ++ rest
 

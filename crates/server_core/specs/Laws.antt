@@ -1,8 +1,8 @@
 -- When each end comes, and what was written where nobody else was there.
 use Rattle.std.specs.Prelude.{◌≡◌, ◌⊎◌, ℕ, ◌<◌, true, List, ◌++◌, length}
 use Rattle.faults.specs.Counts.{RoseBy}
-use Rattle.request_form.specs.Session.{Fixed, AllOwn}
-use Rattle.request_form.specs.Transcript.{is_last, has_quit, first_session, SaysAlone, faults_of}
+use Rattle.request_form.specs.Session.{Fixed, AllOwn, IsNobody}
+use Rattle.request_form.specs.Transcript.{is_last, has_quit, first_session, SaysAlone, faults_in}
 use Rattle.request_form.specs.Stream.{Stream, AllWellHeard}
 use Rattle.request_form.specs.declared.form.Reply.{Reply}
 use Rattle.request_form.specs.declared.form.Heard.{Heard}
@@ -18,10 +18,11 @@ ServedExactly = (said : Reply → List ℕ) (old : Point) (reads : List ℕ → 
     → (served : Served said old reads before after limit new end)
     → EndsExactly is_last (reads served.taken) (length served.taken) limit served.items served.rest before.ends after.ends end
 
--- The text is what is said of a transcript alone, whose replies tell of no more faults than a count rose by, where no wrong item is a fault of the outside.
+-- The text is what is said of a transcript alone, in which the outside failed no more often than a count rose by, where no wrong item is a fault of the
+-- outside.
 pub record SaysWithin (said : Reply → List ℕ) (fixed : Fixed) (heard : List Heard) (before after : ℕ) (text : List ℕ) : Type 0 where
   pub alone : SaysAlone said fixed heard text
-  pub faults : AllWellHeard heard → RoseBy (faults_of alone.replies) before after
+  pub faults : AllWellHeard heard → RoseBy (faults_in IsNobody (first_session fixed 1) heard alone.replies alone.last alone.transcript) before after
 
 -- The items that a stream had to answer by then: all, where it came to its end before the limit, or the whole ones.
 abbrev pub IsDue : Stream → ℕ → ℕ → ℕ → ℕ → List Heard → Type 0
@@ -41,7 +42,7 @@ WroteAlone said fixed heard taken limit ends ends' before after text Ends.NoMemo
     (due : List Heard) × IsDue heard taken limit ends ends' due × ((more : List ℕ) × SaysWithin said fixed due before after (text ++ more))
 
 -- Where the session was the first caller's first one, and has seen no event but its own in the end, what was written is said of a transcript alone.
--- The replies of that transcript tell of no more faults than the service's count rose by.
+-- In that transcript the outside failed no more often than the service's count rose by.
 abbrev pub ServedAlone : Type 0
 ServedAlone = (said : Reply → List ℕ) (fixed : Fixed) (old : Point) (reads : List ℕ → Stream) (before after : Input) (limit : ℕ) (new : Point) (end : End)
     → old.session ≡ first_session fixed 1 → AllOwn 1 new.session.seen

@@ -2,9 +2,8 @@
 use Rattle.std.specs.Prelude.{ℕ, List}
 use Rattle.blob_model.specs.History.{AllOther}
 use Rattle.request_form.specs.Session.{Session}
-use Rattle.request_form.specs.Replies.{fault_count}
 use Rattle.request_form.specs.Stream.{IsWellHeard}
-use Rattle.request_form.specs.Transcript.{ItemReply, is_last}
+use Rattle.request_form.specs.Transcript.{ItemReply, is_last, item_faults}
 use Rattle.request_form.specs.declared.form.Reply.{Reply}
 use Rattle.request_form.specs.declared.form.Heard.{Heard}
 use Rattle.server_core.specs.Talk.{Talk, PointOf}
@@ -16,7 +15,7 @@ requests said = record {
   Session = Session;
   Answers = ItemReply AllOther;
   is_last = is_last;
-  fault_count = fault_count;
+  fault_count = item_faults;
   said = said;
   IsWell = IsWellHeard;
 }

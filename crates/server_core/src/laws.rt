@@ -7,8 +7,8 @@ use crate::conversation::Conversation;
 use request_form::laws::transcripts_hold;
 
 /// A stream that was served ended exactly as the bytes taken, the replies written and the count of ends say. And where
-/// the session saw no event but its own, what was written is said of a transcript alone, whose replies tell of no more
-/// faults than the service's count rose by.
+/// the session saw no event but its own, what was written is said of a transcript alone, in which the outside failed
+/// no more often than the service's count rose by.
 pub fn endings_hold()
     ensures exact { ServedExactly }
     ensures alone { ServedAlone }

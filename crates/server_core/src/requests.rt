@@ -2,9 +2,8 @@
 ghost use Rattle.std.specs.Prelude.{◌≡◌, ◌≤◌, []};
 ghost use Rattle.faults.specs.Counts.{RoseBy};
 ghost use Rattle.blob_model.specs.History.{AllOther};
-ghost use Rattle.request_form.specs.Replies.{fault_count};
 ghost use Rattle.request_form.specs.Stream.{IsWellHeard};
-ghost use Rattle.request_form.specs.Transcript.{is_quit, ItemReply};
+ghost use Rattle.request_form.specs.Transcript.{is_quit, ItemReply, item_faults};
 ghost use Rattle.server_core.specs.Served.{Served, end_read_faults, end_write_faults, end_ends};
 
 use crate::conversation::Conversation;
@@ -34,7 +33,7 @@ fn is_quit_request(request: &Request) -> bool
 fn reply_to<R: Wait + Threads + Sync, V: Service>(rt: &R, service: &mut V, heard: Heard) -> Reply
     requires { IsWellHeard heard }
     ensures answer { ItemReply AllOther (V.session service.old) heard result (V.session service.new) }
-    ensures faults { RoseBy (fault_count result) (V.faults service.old) (V.faults service.new) }
+    ensures faults { RoseBy (item_faults (V.session service.new) heard result) (V.faults service.old) (V.faults service.new) }
     ensures kept { V.kept service.new ≡ V.kept service.old }
 {
     match heard {

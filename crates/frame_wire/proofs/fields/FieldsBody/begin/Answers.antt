@@ -11,7 +11,7 @@ returns-in_default c =
     elim c.in_default.branch [
       | in_default-via-in-Some+else-fits w ↦ λ xs h.
           ap heard_as (
-          ap (λ (b : ℕ). request_of (b ∷ xs)) (sym w.in-Some.ensures)
+          ap (λ (b : ℕ). request_of (b ∷ xs)) (sym w.in-Some.ensures.0)
           ∙ misfit w.in-Some.operation xs (ap (λ (k : ℕ). fits w.in-Some.operation k) h ∙ sym w.fits.ensures ∙ w.if-fits.false)
           )
       | in_default-via-in_default w ↦ λ xs h. ap heard_as (w.in_default.ensures xs)
