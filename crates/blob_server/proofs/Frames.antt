@@ -1,6 +1,8 @@
 -- What a connection was served.
-use Rattle.std.proofs.Common.{◌≡◌, ℕ, List, [], ◌++◌, refl, subst}
+use Rattle.std.proofs.Common.{◌≡◌, [], refl, subst}
+use Rattle.std.specs.Prelude.{None}
 use Rattle.frame_wire.specs.Frames.{heard}
+use Rattle.frame_wire.specs.Fed.{Fed, heard_by}
 use Rattle.frame_wire.specs.Said.{said}
 use Rattle.server_core.specs.declared.flow.End.{End}
 use Rattle.server_core.specs.declared.flow.End.TheVariants as Ends
@@ -14,5 +16,6 @@ pub served_none : (old : Point) (input : Input) → Served said old heard input 
 served_none old input = Served-none said old heard input connection_limit refl
 
 -- a dialect that was fed nothing hears the whole stream
-pub served_new : (old new : Point) (before after : Input) (end : End) (fed : List ℕ) → fed ≡ [] → Served said old (λ more. heard (fed ++ more)) before after connection_limit new end → Served said old heard before after connection_limit new end
-served_new old new before after end fed none served = subst (λ (l : List ℕ). Served said old (λ more. heard (l ++ more)) before after connection_limit new end) none served
+pub served_new : (old new : Point) (before after : Input) (end : End) (fed : Fed) → fed ≡ record { version = None; bytes = [] }
+    → Served said old (heard_by fed) before after connection_limit new end → Served said old heard before after connection_limit new end
+served_new old new before after end fed none served = subst (λ (f : Fed). Served said old (heard_by f) before after connection_limit new end) none served

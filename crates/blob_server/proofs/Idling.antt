@@ -32,7 +32,7 @@ module _ {D : Type 0} where
   pub own_store : (store : StoreState) (sessions : List (SessionState D)) → All (IsIdle store) sessions → All (λ s. IsIdle s.store s) sessions
   own_store store sessions idle k d less =
       let i = idle k d less in
-      record { of_store = refl; none_held = i.none_held; first_next = i.first_next }
+      record { of_store = refl; none_held = i.none_held; first_next = i.first_next; first_limit = i.first_limit }
 
   -- they are of the store still where each is of the store that it was of
   pub idle_still : (store : StoreState) (old new : List (SessionState D)) → length new ≡ length old → All (IsIdle store) old
@@ -41,7 +41,7 @@ module _ {D : Type 0} where
       let there : k < length old = omega (arith, same) in
       let i = idle k d there in
       let j = each k d there in
-      record { of_store = j.of_store ∙ i.of_store; none_held = j.none_held; first_next = j.first_next }
+      record { of_store = j.of_store ∙ i.of_store; none_held = j.none_held; first_next = j.first_next; first_limit = j.first_limit }
 
 -- ---- counts of doors
 

@@ -1,14 +1,15 @@
 -- Where nobody else is there, each history that a session has seen is legal.
-use Rattle.std.proofs.Common.{◌≡◌, ℕ, ◌+◌, ◌-◌, ◌≤◌, ◌==◌, nat_lt, Bool, true, false, if◌then◌else◌, List, [], ◌∷◌, ◌++◌, length, set, zero, suc, refl, sym, ◌∙◌, ap, subst, length-append, append_assoc, append-nil, arith}
+use Rattle.std.proofs.Common.{◌≡◌, ℕ, ◌+◌, ◌-◌, ◌≤◌, ◌==◌, nat_lt, Bool, true, false, if◌then◌else◌, ◌&&◌, List, [], ◌∷◌, ◌++◌, length, set, zero, suc, refl, sym, ◌∙◌, ap, subst, length-append, append_assoc, append-nil, arith}
 use Rattle.std.specs.Prelude.{Option, Some, None, slice_get, slice_index_or}
 use Rattle.std.proofs.Math.ListN.{length-set}
 use Rattle.std.proofs.lemmas.List.{length-take-le, length-replicate}
 use Rattle.std.proofs.lemmas.Option.{none-some, same_Some}
+use Rattle.std.proofs.lemmas.Bool.{false≢true}
 use Rattle.std.proofs.lemmas.Bool.Decides.{nat_tests}
 use Rattle.blob_model.specs.Limits.{Bounds}
 use Rattle.blob_model.specs.Content.{Update, offset_of}
 use Rattle.blob_model.specs.Store.{Store, Blob, true_prefix, assigned, published, size_now, size_with, is_finished, finish, branch_of, blob_at, and_blob, and_update, with_blob}
-use Rattle.blob_model.specs.Answer.{Test, Answered, answer, refuse, in_blob, first_refusal, unless_refused, too_many_blobs, offset_past_size, blob_too_big, too_many_versions, too_many_open, already}
+use Rattle.blob_model.specs.Answer.{Test, Answered, answer, refuse, in_blob, first_refusal, unless_refused, too_many_blobs, offset_past_size, blob_too_big, too_many_versions, too_many_open, not_numbered, already}
 use Rattle.blob_model.specs.History.{caller_of, call_of, store_from, store_of, is_refused, IsAccepted, IsNumbered, IsLegalFrom, IsLegal, finishes}
 use Rattle.blob_model.specs.Laws.{OldVersionsStay}
 use Rattle.blob_model.specs.declared.call.Place.{Place}
@@ -20,9 +21,9 @@ use Rattle.blob_model.specs.declared.call.Event.TheVariants as Events
 use Rattle.blob_model.specs.declared.call.Outcome.TheVariants as Outcomes
 use Rattle.blob_model.specs.declared.call.Refusal.{Refusal}
 use Rattle.blob_model.specs.declared.call.Refusal.TheVariants as Refusals
-use Rattle.request_form.specs.Session.{Fixed, Session, HeldTicket, IsNobody, sees, holds, ticket_at, without_ticket, drops}
-use Rattle.request_form.specs.Answers.{Updated, Started, CreateAnswer, UpdateAnswer, ReportAnswer, FinishAnswer, BranchAnswer, ReadAnswer, LookAnswer, Unless, update_fault, read_fault, Answers}
-use Rattle.request_form.specs.Transcript.{ItemReply, Run}
+use Rattle.request_form.specs.Session.{Fixed, Session, HeldTicket, IsNobody, sees, holds, ticket_at, without_ticket, drops, without_version, lets_go, takes_up_to}
+use Rattle.request_form.specs.Answers.{Updated, HeldBack, Started, CreateAnswer, UpdateAnswer, WholeUpdate, FinishHindered, ReportAnswer, FinishAnswer, BranchAnswer, ReadAnswer, ReadManyAnswer, RepairAnswer, LookAnswer, Unless, update_fault, read_fault, ranges_fault, Answers}
+use Rattle.request_form.specs.Transcript.{ItemReply, Run, first_session}
 use Rattle.request_form.specs.declared.form.Request.{Request}
 use Rattle.request_form.specs.declared.form.Request.TheVariants as Requests
 use Rattle.request_form.specs.declared.form.Reply.{Reply}
@@ -288,6 +289,25 @@ unfolding AllNumbered
 numbered_held s [] number found h e = absurd (none-some found e)
 numbered_held s (t ∷ ts) number found h e = found_if s (t.number == number) t found (ticket_at ts number) e h.0 (numbered_held s ts number found h.1)
 
+numbered_without_version : (s : Store) (ts : List HeldTicket) (blob version : ℕ) → AllNumbered s ts → AllNumbered s (without_version ts blob version)
+unfolding AllNumbered
+numbered_without_version s [] blob version h = tt
+numbered_without_version s (t ∷ ts) blob version h =
+    without_if s (t.blob == blob && t.version == version) t ts (without_version ts blob version) h.0 h.1 (numbered_without_version s ts blob version h.1)
+
+-- a version that may be repaired was numbered
+unrefused : (b : Blob) (version : ℕ) (t u : Bool) → nat_lt (assigned b) version ≡ t → is_finished b version ≡ u
+    → (if t then Some (Refusals.NotPublished version (published b)) else (if u then Some (Refusals.Already version) else None)) ≡ None → IsNumbered (Some b) version
+unrefused b version true u e f h = absurd (none-some _ (sym h))
+unrefused b version false true e f h = absurd (none-some _ (sym h))
+unrefused b zero false false e f h = let no : true ≡ false = f in absurd (false≢true (sym no))
+unrefused b (suc n) false false e f h = (omega arith, grind (arith, nat_tests))
+
+repairable : (o : Option Blob) (blob version : ℕ)
+    → (let r : Option Refusal = elim o [ None ↦ Some (Refusals.NoBlob blob) | Some b ↦ first_refusal (not_numbered b version ∷ already b version ∷ []) ] in r) ≡ None → IsNumbered o version
+repairable None blob version h = absurd (none-some _ (sym h))
+repairable (Some b) blob version h = unrefused b version (nat_lt (assigned b) version) (is_finished b version) refl refl h
+
 some_numbered : (o : Option Blob) (version : ℕ) → IsNumbered o version → (b : Blob) × (o ≡ Some b)
 some_numbered None version h = absurd h
 some_numbered (Some b) version h = (b, refl)
@@ -406,6 +426,12 @@ module _ (stay : OldVersionsStay) where
     updated_well s' blob place bytes done reply some a =
         sees_well s' _ (updated_sound blob place bytes a.others a.later a.is_gap a.is_gap_later a.version a.at a.size a.numbered some) a.seen
 
+    whole_well : (s' : Session) (blob : ℕ) (place : Place) (bytes : List ℕ) (done : ℕ → ℕ → ℕ → Reply) (started : ℕ → ℕ → ℕ → ℕ → Reply) (reply : Reply) → 1 ≤ length bytes →
+        WholeUpdate IsNobody s blob place bytes done started reply s' → GoesWell s s'
+    whole_well s' blob place bytes done started reply some (WholeUpdate.updated a) = updated_well s' blob place bytes done reply some a
+    whole_well s' blob place bytes done started reply some (WholeUpdate.held_back a) =
+        goes_to s s' _ a.seen refl (kept_good blob place bytes a.others a.later a.is_gap a.is_gap_later a.version a.at a.size a.numbered some)
+
     started_well : (s' : Session) (blob : ℕ) (place : Place) (bytes : List ℕ) (started : ℕ → ℕ → ℕ → ℕ → Reply) (reply : Reply) → 1 ≤ length bytes → Started IsNobody s blob place bytes started reply s' → GoesWell s s'
     started_well s' blob place bytes started reply some a =
         goes_to s s' _ a.seen refl (kept_good blob place bytes a.others [] a.is_gap refl a.version a.at a.size a.numbered some)
@@ -417,7 +443,7 @@ module _ (stay : OldVersionsStay) where
     update_well s' blob place bytes reply Does some f (UpdateAnswer.out_of_memory a) = none_well s' a.others a.is_gap a.seen
     update_well s' blob place bytes reply Does some f (UpdateAnswer.kept a) =
         goes_to s s' _ a.seen refl (kept_good blob place bytes a.others a.later a.is_gap a.is_gap_later a.version a.at a.size a.numbered some)
-    update_well s' blob place bytes reply Does some f (UpdateAnswer.not_stored a) = same_well s' a.same
+    update_well s' blob place bytes reply Does some f (UpdateAnswer.not_stored a) = none_well s' a.others a.is_gap a.seen
 
     read_well : (s' : Session) (blob version offset count : ℕ) (reply : Reply) → ReadAnswer IsNobody s blob version offset count reply s' → GoesWell s s'
     read_well s' blob version offset count reply (ReadAnswer.content a) = none_well s' a.others a.is_gap a.seen
@@ -432,6 +458,33 @@ module _ (stay : OldVersionsStay) where
     drops_well s' more number sound e =
         goes_to s s' (drops (sees s more) number) e refl (record { sound = sound; held = numbered_without (store_of s.fixed.limits (s.seen ++ more)) s.tickets number (sees_good more sound).held })
 
+    hindered_well : (s' : Session) (blob version : ℕ) (reply : Reply) → FinishHindered IsNobody s blob version reply s' → GoesWell s s'
+    hindered_well s' blob version reply (FinishHindered.out_of_memory a) = none_well s' a.others a.is_gap a.seen
+    hindered_well s' blob version reply (FinishHindered.waits a) = none_well s' a.others a.is_gap a.seen
+    hindered_well s' blob version reply (FinishHindered.not_folded a) = none_well s' a.others a.is_gap a.seen
+
+    lets_go_well : (s' : Session) (more : List Event) (blob version : ℕ) → IsSound s.fixed.limits (s.seen ++ more) → s' ≡ lets_go (sees s more) blob version → GoesWell s s'
+    lets_go_well s' more blob version sound e =
+        goes_to s s' (lets_go (sees s more) blob version) e refl
+        (record { sound = sound; held = numbered_without_version (store_of s.fixed.limits (s.seen ++ more)) s.tickets blob version (sees_good more sound).held })
+
+    repair_well : (s' : Session) (blob version : ℕ) (reply : Reply) → RepairAnswer IsNobody s blob version reply s' → GoesWell s s'
+    repair_well s' blob version reply (RepairAnswer.repaired a) =
+        let may = repairable (blob_at (store_of s.fixed.limits (s.seen ++ a.others)) blob) blob version a.may in
+        lets_go_well s' _ blob version (sound_event s.fixed.limits s.seen a.others (Events.Finish s.caller blob version) a.is_gap good.sound (record { may = may; accepted = ap is_refused a.done })) a.seen
+    repair_well s' blob version reply (RepairAnswer.finished a) = lets_go_well s' a.others blob version (sound_none s.fixed.limits s.seen a.others a.is_gap good.sound) a.seen
+    repair_well s' blob version reply (RepairAnswer.refused a) = none_well s' a.others a.is_gap a.seen
+    repair_well s' blob version reply (RepairAnswer.hindered a) = hindered_well s' blob version reply a
+
+    many_well : (s' : Session) (blob version : ℕ) (ranges : List (ℕ × ℕ)) (reply : Reply) → ReadManyAnswer IsNobody s blob version ranges reply s' → GoesWell s s'
+    many_well s' blob version ranges reply (ReadManyAnswer.contents a) = none_well s' a.others a.is_gap a.seen
+    many_well s' blob version ranges reply (ReadManyAnswer.refused a) = none_well s' a.others a.is_gap a.seen
+    many_well s' blob version ranges reply (ReadManyAnswer.out_of_memory a) = none_well s' a.others a.is_gap a.seen
+    many_well s' blob version ranges reply (ReadManyAnswer.not_read a) = none_well s' a.others a.is_gap a.seen
+
+    hello_well : (s' : Session) (limit : ℕ) → s' ≡ takes_up_to s limit → GoesWell s s'
+    hello_well s' limit e = goes_to s s' (takes_up_to s limit) e refl (record { sound = good.sound; held = good.held })
+
     finish_well : (s' : Session) (number : ℕ) (o : Option HeldTicket) (reply : Reply) → ticket_at s.tickets number ≡ o → FinishAnswer IsNobody s number o reply s' → GoesWell s s'
     finish_well s' number None reply e a = same_well s' a.1
     finish_well s' number (Some t) reply e (ReportAnswer.reported a) =
@@ -440,7 +493,7 @@ module _ (stay : OldVersionsStay) where
         let may : P (s.seen ++ a.others) = subst P (sym none) (numbered_held (store_of s.fixed.limits s.seen) s.tickets number t good.held e) in
         drops_well s' _ t.number (sound_event s.fixed.limits s.seen a.others (Events.Finish s.caller t.blob t.version) a.is_gap good.sound (record { may = may; accepted = ap is_refused a.done })) a.seen
     finish_well s' number (Some t) reply e (ReportAnswer.finished a) = drops_well s' a.others t.number (sound_none s.fixed.limits s.seen a.others a.is_gap good.sound) a.seen
-    finish_well s' number (Some t) reply e (ReportAnswer.out_of_memory a) = none_well s' a.others a.is_gap a.seen
+    finish_well s' number (Some t) reply e (ReportAnswer.hindered a) = hindered_well s' t.blob t.version reply a
 
     unless_well : (s' : Session) (reply : Reply) (A : Type 0) (fault fault' : Option Fault) → fault' ≡ fault → (fault' ≡ None → A → GoesWell s s') → Unless fault s reply s' A → GoesWell s s'
     unless_well s' reply A None fault' e f h = f e h
@@ -449,9 +502,9 @@ module _ (stay : OldVersionsStay) where
     request_well : (s' : Session) (request : Request) (reply : Reply) → Answers IsNobody s request reply s' → GoesWell s s'
     request_well s' Requests.Create reply a = create_well s' reply a
     request_well s' (Requests.Append blob bytes) reply a =
-        unless_well s' reply _ (update_fault s bytes) (update_fault s bytes) refl (λ free h. update_well s' blob Append bytes reply _ (some_bytes s bytes free) (updated_well s' blob Append bytes _ reply (some_bytes s bytes free)) h) a
+        unless_well s' reply _ (update_fault s bytes) (update_fault s bytes) refl (λ free h. update_well s' blob Append bytes reply _ (some_bytes s bytes free) (whole_well s' blob Append bytes _ _ reply (some_bytes s bytes free)) h) a
     request_well s' (Requests.Write blob offset bytes) reply a =
-        unless_well s' reply _ (update_fault s bytes) (update_fault s bytes) refl (λ free h. update_well s' blob (WriteAt offset) bytes reply _ (some_bytes s bytes free) (updated_well s' blob (WriteAt offset) bytes _ reply (some_bytes s bytes free)) h) a
+        unless_well s' reply _ (update_fault s bytes) (update_fault s bytes) refl (λ free h. update_well s' blob (WriteAt offset) bytes reply _ (some_bytes s bytes free) (whole_well s' blob (WriteAt offset) bytes _ _ reply (some_bytes s bytes free)) h) a
     request_well s' (Requests.StartAppend blob bytes) reply a =
         unless_well s' reply _ (update_fault s bytes) (update_fault s bytes) refl (λ free h. update_well s' blob Append bytes reply _ (some_bytes s bytes free) (started_well s' blob Append bytes _ reply (some_bytes s bytes free)) h) a
     request_well s' (Requests.StartWrite blob offset bytes) reply a =
@@ -464,6 +517,10 @@ module _ (stay : OldVersionsStay) where
     request_well s' (Requests.Sync blob version) reply a = look_well s' (Calls.Sync blob version) reply a
     request_well s' (Requests.Status blob) reply a = look_well s' (Calls.Status blob) reply a
     request_well s' (Requests.Branch blob version) reply a = branch_well s' blob version reply a
+    request_well s' (Requests.Hello version) reply a = hello_well s' _ a.1
+    request_well s' (Requests.ReadMany blob version ranges) reply a =
+        unless_well s' reply _ (ranges_fault 0 ranges) (ranges_fault 0 ranges) refl (λ free h. many_well s' blob version ranges reply h) a
+    request_well s' (Requests.Repair blob version) reply a = repair_well s' blob version reply a
     request_well s' Requests.Quit reply a = same_well s' a.1
 
     item_well : (s' : Session) (item : Heard) (reply : Reply) → ItemReply IsNobody s item reply s' → GoesWell s s'
@@ -480,6 +537,6 @@ module _ (stay : OldVersionsStay) where
       let Q : Fixed → Type 0 = λ f. IsLegal f.limits last.seen in
       subst Q well.fixed (run_legal run.0 last items replies well.good run.2)
 
-pub first_good : (fixed : Fixed) → IsGood (record { fixed = fixed; caller = 1; seen = []; tickets = []; next = 1 })
+pub first_good : (fixed : Fixed) → IsGood (first_session fixed 1)
 unfolding AllEven AllNumbered
 first_good fixed = record { sound = record { legal = tt; even = tt }; held = tt }

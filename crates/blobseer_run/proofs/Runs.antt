@@ -8,7 +8,7 @@ use Rattle.std.specs.Prelude.{Option, ◌∷◌, ◌⊎◌}
 use Rattle.faults.specs.Counts.{RoseBy}
 use Rattle.request_form.specs.Session.{Fixed, AllOwn}
 use Rattle.request_form.specs.Stream.{AllWellHeard}
-use Rattle.request_form.specs.Transcript.{has_quit, first_session, faults_of}
+use Rattle.request_form.specs.Transcript.{has_quit, first_session}
 use Rattle.request_form.specs.declared.form.Heard.{Heard}
 use Rattle.script_text.specs.Lines.{heard}
 use Rattle.script_text.specs.Said.{said}
@@ -19,7 +19,7 @@ use Rattle.server_core.specs.Served.{Input, end_read_faults, end_write_faults}
 use Rattle.server_core.specs.Laws as Streams
 use Rattle.blobseer_run.specs.declared.status.Status.{Status}
 use Rattle.blobseer_run.specs.declared.status.Status.TheVariants as Statuses
-use Rattle.blobseer_run.specs.Legal.{LegalAlone}
+use Rattle.blobseer_run.specs.Legal.{LegalAlone, faults_alone}
 use Rattle.blobseer_run.specs.Run.{input_limit, IsCalm, Says, Outside, IsDue, Ended, ServedScript}
 use Rattle.blobseer_run.specs.Serving.{ServedByOne}
 use Rattle.blobseer_run.specs.Status.{code_of, out_of_memory, input_too_long}
@@ -86,8 +86,8 @@ module _ (alone : Streams.ServedAlone) (legal : LegalAlone) (fixed : Fixed) (cal
   says items text before after well gave s = record {
     alone = s.alone;
     legal = legal fixed items s.alone.replies s.alone.last s.alone.transcript;
-    page_faults = rose_within (faults_of s.alone.replies) before after doors doors' gave.fresh gave.rises (s.faults well);
-    no_page_fault = λ is_calm. rose_none (faults_of s.alone.replies) before after gave.fresh (gave.quiet is_calm) (s.faults well);
+    page_faults = rose_within (faults_alone fixed items text s.alone) before after doors doors' gave.fresh gave.rises (s.faults well);
+    no_page_fault = λ is_calm. rose_none (faults_alone fixed items text s.alone) before after gave.fresh (gave.quiet is_calm) (s.faults well);
   }
 
   module _ (before after : Input) (faults faults' : ℕ) (written written' : Option (List ℕ)) (reads reads' writes writes' files files' : ℕ) (gave : GaveBack calm faults faults' doors doors') where

@@ -3,6 +3,7 @@ use Rattle.std.proofs.Common.{◌≡◌, ℕ, List, [], ◌++◌, sum_by, refl, 
 use Rattle.std.specs.Prelude.{Option}
 use Rattle.blob_model.specs.declared.call.Event.{Event}
 use Rattle.request_form.specs.Session.{Session, AllOwn}
+use Rattle.request_form.specs.Answers.{max_update}
 use Rattle.request_form.specs.Transcript.{first_session}
 use Rattle.script_text.specs.Lines.{heard}
 use Rattle.script_text.specs.Said.{said}
@@ -31,24 +32,24 @@ lines_none session faults input written = record { last = session; sees = refl; 
 
 -- the session couldn't be made, and its pass and its doors came back
 pub lines_back : {D : Type 0} (faults : D → ℕ) (f : DeskFixed) (pass back : PassView Event DeskFixed) (doors doors' : List D) (input : Input) (written : Option (List ℕ)) → back ≡ pass → doors' ≡ doors
-    → ServedLines (record { session = session_at f pass.caller pass.seen [] 1; faults = sum_by faults doors; written = written }) input input (events back.seen) (sum_by faults doors') written Ends.NoMemory
+    → ServedLines (record { session = session_at f pass.caller pass.seen [] 1 max_update; faults = sum_by faults doors; written = written }) input input (events back.seen) (sum_by faults doors') written Ends.NoMemory
 lines_back {D} faults f pass back doors doors' input written same all =
-    let start : Point = record { session = session_at f pass.caller pass.seen [] 1; faults = sum_by faults doors; written = written } in
+    let start : Point = record { session = session_at f pass.caller pass.seen [] 1 max_update; faults = sum_by faults doors; written = written } in
     let P : PassView Event DeskFixed → Type 0 = λ p. ServedLines start input input (events p.seen) (sum_by faults doors') written Ends.NoMemory in
     let Q : List D → Type 0 = λ ds. ServedLines start input input (events pass.seen) (sum_by faults ds) written Ends.NoMemory in
-    subst P (sym same) (subst Q (sym all) (lines_none (session_at f pass.caller pass.seen [] 1) (sum_by faults doors) input written))
+    subst P (sym same) (subst Q (sym all) (lines_none (session_at f pass.caller pass.seen [] 1 max_update) (sum_by faults doors) input written))
 
 -- ---- what a session was served
 
 module _ {D : Type 0} (faults : D → ℕ) (store : StoreState) (pass back : PassView Event DeskFixed) (doors doors' : List D) (start stop : SessionState D) (before after : Input) (written written' : Option (List ℕ)) (end : End) where
   abbrev new : SessionState D
-  new = record { store = store; caller = pass.caller; log = pass.seen; held = []; next = 1; doors = doors }
+  new = record { store = store; caller = pass.caller; log = pass.seen; held = []; next = 1; doors = doors; limit = max_update }
 
   abbrev ServedFrom : SessionState D → List ℕ → Type 0
   ServedFrom s fed = Served said (record { session = session_of s; faults = sum_by faults s.doors; written = written }) (λ more. heard (fed ++ more)) before after input_limit (record { session = session_of stop; faults = sum_by faults stop.doors; written = written' }) end
 
   pub lines_of : (fed : List ℕ) → fed ≡ [] → start ≡ new → back ≡ pass_of stop → doors' ≡ stop.doors → ServedFrom start fed
-      → ServedLines (record { session = session_at store.fixed pass.caller pass.seen [] 1; faults = sum_by faults doors; written = written }) before after (events back.seen) (sum_by faults doors') written' end
+      → ServedLines (record { session = session_at store.fixed pass.caller pass.seen [] 1 max_update; faults = sum_by faults doors; written = written }) before after (events back.seen) (sum_by faults doors') written' end
   lines_of fed none made gave same served =
       let first : ServedFrom new [] = subst (λ (l : List ℕ). ServedFrom new l) none (subst (λ (s : SessionState D). ServedFrom s fed) made served) in
       let F : List D → Type 0 = λ ds. Served said (record { session = session_of new; faults = sum_by faults doors; written = written }) heard before after input_limit (record { session = session_of stop; faults = sum_by faults ds; written = written' }) end in
@@ -60,7 +61,7 @@ module _ {D : Type 0} (faults : D → ℕ) (store : StoreState) (pass back : Pas
 
 -- ---- the first session of a new store, alone in it
 
-pub first_there : (f : DeskFixed) (caller : ℕ) (seen : Log Event) → caller ≡ 1 → seen ≡ [] → session_at f caller seen [] 1 ≡ first_session (record { limits = f.limits; page = f.page_size }) 1
+pub first_there : (f : DeskFixed) (caller : ℕ) (seen : Log Event) → caller ≡ 1 → seen ≡ [] → session_at f caller seen [] 1 max_update ≡ first_session (record { limits = f.limits; page = f.page_size }) 1
 first_there f caller seen one none = rw (one, none) refl
 
 -- what its pass has seen is its own, by the history of the closed store

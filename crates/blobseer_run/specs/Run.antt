@@ -5,7 +5,8 @@ use Rattle.faults.specs.Counts.{RoseBy}
 use Rattle.ports.specs.Files.{Files}
 use Rattle.blob_model.specs.History.{IsLegal}
 use Rattle.request_form.specs.Session.{Fixed}
-use Rattle.request_form.specs.Transcript.{SaysAlone, has_quit, faults_of}
+use Rattle.request_form.specs.Transcript.{SaysAlone, has_quit}
+use Rattle.blobseer_run.specs.Legal.{faults_alone}
 use Rattle.request_form.specs.declared.form.Heard.{Heard}
 use Rattle.script_text.specs.Lines.{heard}
 use Rattle.script_text.specs.Said.{said}
@@ -30,13 +31,13 @@ fixed_of settings = record { limits = settings.limits; page = settings.page }
 abbrev pub IsCalm : {D : Type 0} → (D → ℕ) → Type 0
 IsCalm {D} faults = (door : D) → faults door ≡ 0
 
--- The text is said of a transcript alone of these items, whose history is legal. At most as many of its replies are page faults as the count of the doors'
--- faults rose by, and none is one where the doors are calm.
+-- The text is said of a transcript alone of these items, whose history is legal. The outside failed in it at most as often as the count of the doors' faults
+-- rose by, and not at all where the doors are calm.
 pub record Says (fixed : Fixed) (calm : Type 0) (doors doors' : ℕ) (items : List Heard) (text : List ℕ) : Type 0 where
   pub alone : SaysAlone said fixed items text
   pub legal : IsLegal fixed.limits alone.last.seen
-  pub page_faults : doors' < 2 ^ 64 - 1 → doors + faults_of alone.replies ≤ doors'
-  pub no_page_fault : calm → faults_of alone.replies ≡ 0
+  pub page_faults : doors' < 2 ^ 64 - 1 → doors + faults_alone fixed items text alone ≤ doors'
+  pub no_page_fault : calm → faults_alone fixed items text alone ≡ 0
 
 -- A run's objects: the bytes that the input gave and has left, those that the output got, and the counts: the faults of the input's reads and its ends, the
 -- faults of the output's writes, those of the files' reads, and those of the doors that came back to their maker.

@@ -1,6 +1,7 @@
 // A script is served by the one session of a new store.
 ghost use Rattle.std.specs.Prelude.{◌≡◌, ◌↔◌, ◌-◌, ◌^◌, ◌<◌, ◌≤◌, ℕ, [], length, sum_by, All};
 ghost use Rattle.faults.specs.Counts.{RoseBy};
+ghost use Rattle.request_form.specs.Answers.{max_update};
 ghost use Rattle.client_session.specs.Sessions.{IsPassOf, IsOwnerOf, session_at};
 ghost use Rattle.version_manager.specs.Log.{events};
 ghost use Rattle.server_core.specs.Served.{end_read_faults, end_write_faults};
@@ -54,7 +55,7 @@ fn serve_session<R: Wait + Threads + Sync, S: Source, K: Sink, D: BesideDoor, G:
     requires served { length doors ≡ shared.now.providers }
     requires true_doors { All D.is_true doors }
     ensures lines { ServedLines
-        (record { session = session_at shared.now.fixed pass.caller pass.seen [] 1; faults = sum_by D.faults doors; written = K.written out.old })
+        (record { session = session_at shared.now.fixed pass.caller pass.seen [] 1 max_update; faults = sum_by D.faults doors; written = K.written out.old })
         (record { given = S.given script.old; left = S.left script.old; ends = S.ends script.old })
         (record { given = S.given script.new; left = S.left script.new; ends = S.ends script.new })
         (events result.1.seen) (sum_by D.faults result.2) (K.written out.new) result.0 }

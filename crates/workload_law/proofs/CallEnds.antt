@@ -1,7 +1,11 @@
 -- How a call ends, by the answer to it.
-use Rattle.std.proofs.Common.{◌≡◌, ◌≢◌, ◌⊎◌, inl, inr, ℕ, Bool, true, false, if◌then◌else◌, List, [], ◌∷◌, ◌++◌, refl, sym, ap, subst, ◌∙◌, append_assoc, append-nil}
+use Rattle.std.proofs.Common.{◌≡◌, ◌≢◌, ◌⊎◌, inl, inr, ℕ, ◌-◌, ◌==◌, Bool, true, false, cond, if◌then◌else◌, List, [], ◌∷◌, ◌++◌, refl, sym, ap, subst, ◌∙◌, append_assoc, append-nil, arith}
+use Rattle.std.specs.Prelude.{Option, Some, None}
+use Rattle.std.proofs.lemmas.Bool.{eq-eqb}
 use Rattle.blob_model.specs.Limits.{Bounds}
-use Rattle.blob_model.specs.History.{finishes, events_by, AllOther}
+use Rattle.blob_model.specs.Answer.{answer}
+use Rattle.blob_model.specs.History.{caller_of, store_of, finishes, events_by, AllOther}
+use Rattle.blob_model.specs.Laws.{FinishedByEvents}
 use Rattle.blob_model.specs.declared.call.Call.{Call}
 use Rattle.blob_model.specs.declared.call.Call.TheVariants as Calls
 use Rattle.blob_model.specs.declared.call.Event.{Event}
@@ -10,26 +14,34 @@ use Rattle.blob_model.specs.declared.call.Outcome.TheVariants as Outcomes
 use Rattle.blob_model.specs.declared.call.Place.{Place}
 use Rattle.blob_model.specs.declared.call.Refusal.{Refusal}
 use Rattle.blob_model.specs.declared.call.Refusal.TheVariants as Refusals
-use Rattle.request_form.specs.Session.{Fixed, HeldTicket, Session, sees, outcome_at}
+use Rattle.request_form.specs.Session.{Fixed, HeldTicket, Session, sees, holds as put_by, outcome_at, ticket_at, without_ticket}
 use Rattle.request_form.specs.Replies.{fault_of}
-use Rattle.request_form.specs.Answers.{Updated, CreateAnswer, UpdateAnswer, ReportAnswer, LookAnswer, TicketKept}
+use Rattle.request_form.specs.Answers.{WholeUpdate, CreateAnswer, UpdateAnswer, ReportAnswer, FinishAnswer, FinishHindered, LookAnswer, TicketKept, HeldBack, Reported, FoundFinished}
 use Rattle.request_form.specs.declared.form.Reply.{Reply}
 use Rattle.request_form.specs.declared.form.Reply.TheVariants as Replies
 use Rattle.request_form.specs.declared.form.Fault.{Fault}
 use Rattle.request_form.specs.declared.form.Fault.TheVariants as Faults
 use Rattle.workload_law.specs.Numbered.{IsNumberedBy}
 use Rattle.workload_law.specs.Sessions.{FinishesItsOwn}
-use Rattle.workload_law.specs.Ends.{IsOutside, RefusedAt, CreateHindered, UpdateHindered, Leaves, StopsAt, CreateEnds, UpdateEnds}
-use Rattle.workload_law.proofs.OwnEvents.{gap_has_none, numbering_is_own, update_is_own, gap_stays, finishes_stay, numbers_own, event_is_own, event_stays, reports_stay}
+use Rattle.workload_law.specs.Ends.{IsOutside, RefusedAt, CreateHindered, UpdateHindered, Leaves, Holds, StopsAt, ticket_of, still_held, CreateEnds, UpdateEnds, FinishEnds}
+use Rattle.workload_law.proofs.Marks.{already_by_events}
+use Rattle.workload_law.proofs.OneCaller.{IsNext, is_next}
+use Rattle.workload_law.proofs.OwnEvents.{both as own_both, gap_has_none, numbering_is_own, update_is_own, gap_stays, finishes_stay, event_is_own, event_stays, reports_stay}
 
 -- the session afterwards, but for its tickets
 record Goes (s : Session) (more : List Event) (s' : Session) : Type 0 where
   seen : s'.seen ≡ s.seen ++ more
   caller : s'.caller ≡ s.caller
   fixed : s'.fixed ≡ s.fixed
+  limit : s'.limit ≡ s.limit
 
 goes_on : (s : Session) (more : List Event) (s' : Session) → s' ≡ sees s more → Goes s more s'
-goes_on s more s' e = record { seen = ap (λ (x : Session). x.seen) e; caller = ap (λ (x : Session). x.caller) e; fixed = ap (λ (x : Session). x.fixed) e }
+goes_on s more s' e = record {
+  seen = ap (λ (x : Session). x.seen) e;
+  caller = ap (λ (x : Session). x.caller) e;
+  fixed = ap (λ (x : Session). x.fixed) e;
+  limit = ap (λ (x : Session). x.limit) e;
+}
 
 same_tickets : (s : Session) (more : List Event) (s' : Session) → s' ≡ sees s more → s'.tickets ≡ s.tickets
 same_tickets s more s' e = ap (λ (x : Session). x.tickets) e
@@ -44,6 +56,7 @@ module _ (s s' : Session) where
     caller = goes.caller;
     fixed = goes.fixed;
     finishes = λ was. subst (λ (h : List Event). FinishesItsOwn s.fixed.limits h s.caller) (sym goes.seen) (finishes was);
+    limit = λ was. goes.limit ∙ was;
   }
 
   -- others alone came
@@ -51,17 +64,6 @@ module _ (s s' : Session) where
   left_gap others gap e =
       left [] others (goes_on s others s' e) (gap_has_none s.caller s.seen others gap ∙ sym (append-nil (events_by s.caller s.seen)))
       (gap_stays s.fixed.limits s.caller s.seen others gap)
-
-  -- nothing came
-  pub left_same : s' ≡ s → Leaves s [] s'
-  left_same e = record {
-    more = [];
-    seen = ap (λ (x : Session). x.seen) e ∙ sym (append-nil s.seen);
-    mine = ap (λ (x : Session). events_by s.caller x.seen) e ∙ sym (append-nil (events_by s.caller s.seen));
-    caller = ap (λ (x : Session). x.caller) e;
-    fixed = ap (λ (x : Session). x.fixed) e;
-    finishes = λ was. subst (λ (x : Session). FinishesItsOwn s.fixed.limits x.seen s.caller) (sym e) was;
-  }
 
 module _ (s : Session) (blob : ℕ) (place : Place) (bytes : List ℕ) (s' : Session) (others later : List Event) (gap : AllOther s.caller others) (next : AllOther s.caller later) (version at size : ℕ)
     (numbered : outcome_at s others (Calls.Assign blob place bytes) ≡ Outcomes.Assigned version at size) where
@@ -81,11 +83,20 @@ module _ (s : Session) (blob : ℕ) (place : Place) (bytes : List ℕ) (s' : Ses
       (update_is_own s.caller blob version place bytes s.seen others later gap next)
       (λ was. (finishes_stay s.fixed.limits s.caller blob version at size place bytes s.seen others later gap next numbered was).2)
 
-  -- the version is the caller's
-  is_numbered : Goes s (others ++ Events.Assign s.caller blob place bytes ∷ later) s' → IsNumberedBy s.fixed.limits s'.seen s.caller blob version
-  is_numbered goes =
-      subst (λ (h : List Event). IsNumberedBy s.fixed.limits h s.caller blob version) (sym goes.seen)
-      (numbers_own s.fixed.limits s.caller blob version at size place bytes s.seen others later numbered)
+  -- it is held under a ticket
+  holds : (number : ℕ) → Goes s (others ++ Events.Assign s.caller blob place bytes ∷ later) s' → s'.tickets ≡ s.tickets ++ record { number = number; blob = blob; version = version } ∷ []
+      → Holds s blob place bytes number version s'
+  holds number goes tickets = record {
+    leaves = left_numbered goes;
+    before = s.seen ++ others;
+    later = later;
+    at = at;
+    size = size;
+    split = goes.seen ∙ sym (append_assoc s.seen others (Events.Assign s.caller blob place bytes ∷ later));
+    numbered = numbered;
+    is_gap = next;
+    tickets = tickets;
+  }
 
 -- the store's refusal
 refused_at : (s s' : Session) (call : Call) (others : List Event) → AllOther s.caller others → (refusal : Refusal) → outcome_at s others call ≡ Outcomes.Refused refusal → s' ≡ sees s others
@@ -100,12 +111,25 @@ refused_at s s' call others gap refusal refused seen = record {
   is = refl;
 }
 
-module _ (s : Session) (blob : ℕ) (place : Place) (bytes : List ℕ) (done : ℕ → ℕ → ℕ → Reply) (reply : Reply) (s' : Session) where
+-- what a session goes on with once it holds a numbered update
+held_goes : (s : Session) (blob : ℕ) (s' : Session) (others later : List Event) (place : Place) (bytes : List ℕ) (version : ℕ)
+    → s' ≡ put_by (sees s (others ++ Events.Assign s.caller blob place bytes ∷ later)) blob version → Goes s (others ++ Events.Assign s.caller blob place bytes ∷ later) s'
+held_goes s blob s' others later place bytes version e = record {
+  seen = ap (λ (x : Session). x.seen) e;
+  caller = ap (λ (x : Session). x.caller) e;
+  fixed = ap (λ (x : Session). x.fixed) e;
+  limit = ap (λ (x : Session). x.limit) e;
+}
+
+module _ (s : Session) (blob : ℕ) (place : Place) (bytes : List ℕ) (done : ℕ → ℕ → ℕ → Reply) (started : ℕ → ℕ → ℕ → ℕ → Reply) (reply : Reply) (s' : Session) where
+  abbrev Ends : Type 0
+  Ends = UpdateEnds s blob place bytes done started reply s'
+
   updated : (others later : List Event) → AllOther s.caller others → AllOther s.caller later → (version at size : ℕ)
       → outcome_at s others (Calls.Assign blob place bytes) ≡ Outcomes.Assigned version at size → (t : Bool) → finishes blob version later ≡ t
       → reply ≡ (if t then Replies.Refused (Faults.Already version) else done version at size)
       → s' ≡ sees s (others ++ Events.Assign s.caller blob place bytes ∷ (later ++ (if t then [] else Events.Finish s.caller blob version ∷ [])))
-      → UpdateEnds s blob place bytes done reply s'
+      → Ends
   updated others later gap next version at size numbered true found said seen =
       let this : Event = Events.Assign s.caller blob place bytes in
       let short : s' ≡ sees s (others ++ this ∷ later) = seen ∙ ap (λ (l : List Event). sees s (others ++ this ∷ l)) (append-nil later) in
@@ -113,66 +137,68 @@ module _ (s : Session) (blob : ℕ) (place : Place) (bytes : List ℕ) (done : �
       let long : s'.seen ≡ (s.seen ++ others) ++ this ∷ (later ++ []) = ap (λ (x : Session). x.seen) seen ∙ sym (append_assoc s.seen others (this ∷ (later ++ []))) in
       UpdateEnds.hinders (Faults.Already version) said (λ limit same. cc)
       (UpdateHindered.finished (s.seen ++ others) later [] version at size long numbered next found)
-      (StopsAt.numbered (left_numbered s blob place bytes s' others later gap next version at size numbered goes) (same_tickets s (others ++ this ∷ later) s' short))
+      (StopsAt.numbered refl (left_numbered s blob place bytes s' others later gap next version at size numbered goes) (same_tickets s (others ++ this ∷ later) s' short))
   updated others later gap next version at size numbered false found said seen =
       let more : List Event = others ++ Events.Assign s.caller blob place bytes ∷ (later ++ Events.Finish s.caller blob version ∷ []) in
       UpdateEnds.does version at size said
       (left_updated s blob place bytes s' others later gap next version at size numbered (goes_on s more s' seen)) (same_tickets s more s' seen)
 
+  -- numbered, and held back
+  held_back : HeldBack AllOther s blob place bytes started reply s' → Ends
+  held_back h =
+      let goes = held_goes s blob s' h.others h.later place bytes h.version h.seen in
+      let here : IsNext (store_of s.fixed.limits (s.seen ++ h.others)) blob h.version =
+      is_next (store_of s.fixed.limits (s.seen ++ h.others)) s.caller blob place bytes h.version h.at h.size h.numbered in
+      UpdateEnds.held_back s.next h.version h.at h.size h.said (omega (arith, here.next))
+      (holds s blob place bytes s' h.others h.later h.is_gap h.is_gap_later h.version h.at h.size h.numbered s.next goes (ap (λ (x : Session). x.tickets) h.seen))
+
   -- by the outside, before it was numbered
-  outside : (others : List Event) → AllOther s.caller others → (fault : Fault) → IsOutside fault → ((limit : ℕ) → fault ≢ Faults.TooManyOpen limit)
-      → reply ≡ Replies.Refused fault → s' ≡ sees s others → UpdateEnds s blob place bytes done reply s'
-  outside others gap fault out other said seen =
-      UpdateEnds.hinders fault said other (UpdateHindered.outside out) (StopsAt.unnumbered (left_gap s s' others gap seen) (same_tickets s others s' seen))
+  outside : (others : List Event) → AllOther s.caller others → (fault : Fault) → IsOutside fault → ((limit : ℕ) → fault ≢ Faults.TooManyOpen limit) → ticket_of fault ≡ None
+      → reply ≡ Replies.Refused fault → s' ≡ sees s others → Ends
+  outside others gap fault out other none said seen =
+      UpdateEnds.hinders fault said other (UpdateHindered.outside out) (StopsAt.unnumbered none (left_gap s s' others gap seen) (same_tickets s others s' seen))
 
   -- by the store
-  other_refusal : (others : List Event) → AllOther s.caller others → (refusal : Refusal) → ((limit : ℕ) → fault_of refusal ≢ Faults.TooManyOpen limit)
+  other_refusal : (others : List Event) → AllOther s.caller others → (refusal : Refusal) → ((limit : ℕ) → fault_of refusal ≢ Faults.TooManyOpen limit) → ticket_of (fault_of refusal) ≡ None
       → outcome_at s others (Calls.Assign blob place bytes) ≡ Outcomes.Refused refusal → reply ≡ Replies.Refused (fault_of refusal) → s' ≡ sees s others
-      → UpdateEnds s blob place bytes done reply s'
-  other_refusal others gap refusal other refused said seen =
+      → Ends
+  other_refusal others gap refusal other none refused said seen =
       UpdateEnds.hinders (fault_of refusal) said other (UpdateHindered.refused (refused_at s s' (Calls.Assign blob place bytes) others gap refusal refused seen) other)
-      (StopsAt.unnumbered (left_gap s s' others gap seen) (same_tickets s others s' seen))
+      (StopsAt.unnumbered none (left_gap s s' others gap seen) (same_tickets s others s' seen))
 
   by_refusal : (others : List Event) → AllOther s.caller others → (refusal : Refusal)
       → outcome_at s others (Calls.Assign blob place bytes) ≡ Outcomes.Refused refusal → reply ≡ Replies.Refused (fault_of refusal) → s' ≡ sees s others
-      → UpdateEnds s blob place bytes done reply s'
+      → Ends
   by_refusal others gap (Refusals.TooManyOpen limit) refused said seen = UpdateEnds.full limit said (left_gap s s' others gap seen) (same_tickets s others s' seen)
-  by_refusal others gap (Refusals.NoBlob b) refused said seen = other_refusal others gap (Refusals.NoBlob b) (λ limit same. cc) refused said seen
-  by_refusal others gap (Refusals.NotPublished v p) refused said seen = other_refusal others gap (Refusals.NotPublished v p) (λ limit same. cc) refused said seen
-  by_refusal others gap (Refusals.OffsetPastSize o n) refused said seen = other_refusal others gap (Refusals.OffsetPastSize o n) (λ limit same. cc) refused said seen
-  by_refusal others gap (Refusals.BlobTooBig n m) refused said seen = other_refusal others gap (Refusals.BlobTooBig n m) (λ limit same. cc) refused said seen
-  by_refusal others gap (Refusals.TooManyVersions m) refused said seen = other_refusal others gap (Refusals.TooManyVersions m) (λ limit same. cc) refused said seen
-  by_refusal others gap (Refusals.TooManyBlobs m) refused said seen = other_refusal others gap (Refusals.TooManyBlobs m) (λ limit same. cc) refused said seen
-  by_refusal others gap (Refusals.Already v) refused said seen = other_refusal others gap (Refusals.Already v) (λ limit same. cc) refused said seen
-  by_refusal others gap (Refusals.RangePastSize n m) refused said seen = other_refusal others gap (Refusals.RangePastSize n m) (λ limit same. cc) refused said seen
-  by_refusal others gap (Refusals.Pending v h) refused said seen = other_refusal others gap (Refusals.Pending v h) (λ limit same. cc) refused said seen
+  by_refusal others gap (Refusals.NoBlob b) refused said seen = other_refusal others gap (Refusals.NoBlob b) (λ limit same. cc) refl refused said seen
+  by_refusal others gap (Refusals.NotPublished v p) refused said seen = other_refusal others gap (Refusals.NotPublished v p) (λ limit same. cc) refl refused said seen
+  by_refusal others gap (Refusals.OffsetPastSize o n) refused said seen = other_refusal others gap (Refusals.OffsetPastSize o n) (λ limit same. cc) refl refused said seen
+  by_refusal others gap (Refusals.BlobTooBig n m) refused said seen = other_refusal others gap (Refusals.BlobTooBig n m) (λ limit same. cc) refl refused said seen
+  by_refusal others gap (Refusals.TooManyVersions m) refused said seen = other_refusal others gap (Refusals.TooManyVersions m) (λ limit same. cc) refl refused said seen
+  by_refusal others gap (Refusals.TooManyBlobs m) refused said seen = other_refusal others gap (Refusals.TooManyBlobs m) (λ limit same. cc) refl refused said seen
+  by_refusal others gap (Refusals.Already v) refused said seen = other_refusal others gap (Refusals.Already v) (λ limit same. cc) refl refused said seen
+  by_refusal others gap (Refusals.RangePastSize n m) refused said seen = other_refusal others gap (Refusals.RangePastSize n m) (λ limit same. cc) refl refused said seen
+  by_refusal others gap (Refusals.Pending v h) refused said seen = other_refusal others gap (Refusals.Pending v h) (λ limit same. cc) refl refused said seen
 
   -- numbered, and held under a ticket
-  kept_ends : TicketKept AllOther s blob place bytes reply s' → UpdateEnds s blob place bytes done reply s'
+  kept_ends : TicketKept AllOther s blob place bytes reply s' → Ends
   kept_ends k =
-      let this : Event = Events.Assign s.caller blob place bytes in
-      let goes : Goes s (k.others ++ this ∷ k.later) s' = record {
-        seen = ap (λ (x : Session). x.seen) k.seen;
-        caller = ap (λ (x : Session). x.caller) k.seen;
-        fixed = ap (λ (x : Session). x.fixed) k.seen;
-      } in
+      let goes = held_goes s blob s' k.others k.later place bytes k.version k.seen in
       UpdateEnds.hinders (Faults.NoMemoryTicket s.next) k.said (λ limit same. cc) (UpdateHindered.outside (IsOutside.held s.next refl))
-      (StopsAt.held (left_numbered s blob place bytes s' k.others k.later k.is_gap k.is_gap_later k.version k.at k.size k.numbered goes) s.next k.version
-      (is_numbered s blob place bytes s' k.others k.later k.is_gap k.is_gap_later k.version k.at k.size k.numbered goes)
-      (ap (λ (x : Session). x.tickets) k.seen))
+      (StopsAt.held s.next k.version refl
+      (holds s blob place bytes s' k.others k.later k.is_gap k.is_gap_later k.version k.at k.size k.numbered s.next goes (ap (λ (x : Session). x.tickets) k.seen)))
 
-  ends : UpdateAnswer AllOther s blob place bytes (Updated AllOther s blob place bytes done reply s') reply s' → UpdateEnds s blob place bytes done reply s'
-  ends (UpdateAnswer.does u) = updated u.others u.later u.is_gap u.is_gap_later u.version u.at u.size u.numbered (finishes blob u.version u.later) refl u.said u.seen
+  ends : UpdateAnswer AllOther s blob place bytes (WholeUpdate AllOther s blob place bytes done started reply s') reply s' → Ends
+  ends (UpdateAnswer.does (WholeUpdate.updated u)) = updated u.others u.later u.is_gap u.is_gap_later u.version u.at u.size u.numbered (finishes blob u.version u.later) refl u.said u.seen
+  ends (UpdateAnswer.does (WholeUpdate.held_back h)) = held_back h
   ends (UpdateAnswer.refused r) = by_refusal r.others r.is_gap r.refusal r.refused r.said r.seen
-  ends (UpdateAnswer.out_of_memory m) = outside m.others m.is_gap Faults.NoMemory (IsOutside.starved refl) (λ limit same. cc) m.said m.seen
+  ends (UpdateAnswer.out_of_memory m) = outside m.others m.is_gap Faults.NoMemory (IsOutside.starved refl) (λ limit same. cc) refl m.said m.seen
   ends (UpdateAnswer.kept k) = kept_ends k
-  ends (UpdateAnswer.not_stored p) =
-      UpdateEnds.hinders (Faults.PageFault p.page) p.said (λ limit same. cc) (UpdateHindered.outside (IsOutside.lost p.page refl))
-      (StopsAt.unnumbered (left_same s s' p.same) (ap (λ (x : Session). x.tickets) p.same))
+  ends (UpdateAnswer.not_stored p) = outside p.others p.is_gap (Faults.PageFault p.page) (IsOutside.lost p.page refl) (λ limit same. cc) refl p.said p.seen
 
-pub updates_ended : (s : Session) (blob : ℕ) (place : Place) (bytes : List ℕ) (done : ℕ → ℕ → ℕ → Reply) (reply : Reply) (s' : Session)
-    → UpdateAnswer AllOther s blob place bytes (Updated AllOther s blob place bytes done reply s') reply s' → UpdateEnds s blob place bytes done reply s'
-updates_ended s blob place bytes done reply s' answer = ends s blob place bytes done reply s' answer
+pub updates_ended : (s : Session) (blob : ℕ) (place : Place) (bytes : List ℕ) (done : ℕ → ℕ → ℕ → Reply) (started : ℕ → ℕ → ℕ → ℕ → Reply) (reply : Reply) (s' : Session)
+    → UpdateAnswer AllOther s blob place bytes (WholeUpdate AllOther s blob place bytes done started reply s') reply s' → UpdateEnds s blob place bytes done started reply s'
+updates_ended s blob place bytes done started reply s' answer = ends s blob place bytes done started reply s' answer
 
 -- ---- blobs
 create_ends : (s : Session) (reply : Reply) (s' : Session) → CreateAnswer AllOther s reply s' → CreateEnds s reply s'
@@ -231,6 +257,7 @@ leaves_add s mid s' own more first second =
       caller = second.caller ∙ first.caller;
       fixed = second.fixed ∙ first.fixed;
       finishes = λ was. finishes (first.finishes was);
+      limit = λ was. second.limit (first.limit was);
     }
 
 pub looks_leave_none : (s : Session) (call : Call) (reply : Reply) (s' : Session) → LookAnswer AllOther s call reply s' → Leaves s [] s' × (s'.tickets ≡ s.tickets)
@@ -241,24 +268,207 @@ left_others : (s : Session) (others : List Event) (s' : Session) → AllOther s.
 left_others s others s' gap goes =
     left s s' [] others goes (gap_has_none s.caller s.seen others gap ∙ sym (append-nil (events_by s.caller s.seen))) (gap_stays s.fixed.limits s.caller s.seen others gap)
 
-pub reports_leave : (s : Session) (ticket : HeldTicket) (reply : Reply) (s' : Session) → IsNumberedBy s.fixed.limits s.seen s.caller ticket.blob ticket.version → ReportAnswer AllOther s ticket reply s'
-    → Leaves s [] s' ⊎ Leaves s (Events.Finish s.caller ticket.blob ticket.version ∷ []) s'
-reports_leave s ticket reply s' numbered (ReportAnswer.reported r) =
-    let finish : Event = Events.Finish s.caller ticket.blob ticket.version in
-    inr (left s s' (finish ∷ []) (r.others ++ finish ∷ [])
-    (record { seen = ap (λ (x : Session). x.seen) r.seen; caller = ap (λ (x : Session). x.caller) r.seen; fixed = ap (λ (x : Session). x.fixed) r.seen })
-    (event_is_own s.caller s.seen r.others finish r.is_gap refl)
-    (reports_stay s.fixed.limits s.caller ticket.blob ticket.version s.seen r.others r.is_gap numbered))
-reports_leave s ticket reply s' numbered (ReportAnswer.finished r) =
-    inl (left_others s r.others s' r.is_gap
-    (record { seen = ap (λ (x : Session). x.seen) r.seen; caller = ap (λ (x : Session). x.caller) r.seen; fixed = ap (λ (x : Session). x.fixed) r.seen }))
-reports_leave s ticket reply s' numbered (ReportAnswer.out_of_memory m) = inl (left_gap s s' m.others m.is_gap m.seen)
+-- but for the tickets, others and then the finish
+left_finish : (s : Session) (blob version : ℕ) (others : List Event) (s' : Session) → AllOther s.caller others → IsNumberedBy s.fixed.limits s.seen s.caller blob version
+    → Goes s (others ++ Events.Finish s.caller blob version ∷ []) s' → Leaves s (Events.Finish s.caller blob version ∷ []) s'
+left_finish s blob version others s' gap numbered goes =
+    let finish : Event = Events.Finish s.caller blob version in
+    left s s' (finish ∷ []) (others ++ finish ∷ []) goes (event_is_own s.caller s.seen others finish gap refl)
+    (reports_stay s.fixed.limits s.caller blob version s.seen others gap numbered)
 
-pub stops_later : (s mid s' : Session) (blob : ℕ) (place : Place) (bytes : List ℕ) → Leaves s [] mid → mid.tickets ≡ s.tickets → StopsAt mid blob place bytes s' → StopsAt s blob place bytes s'
-stops_later s mid s' blob place bytes first same (StopsAt.unnumbered l t) = StopsAt.unnumbered (leaves_add s mid s' [] [] first l) (t ∙ same)
-stops_later s mid s' blob place bytes first same (StopsAt.numbered l t) =
-    StopsAt.numbered (leaves_add s mid s' [] (Events.Assign s.caller blob place bytes ∷ []) first (subst (λ (c : ℕ). Leaves mid (Events.Assign c blob place bytes ∷ []) s') first.caller l)) (t ∙ same)
-stops_later s mid s' blob place bytes first same (StopsAt.held l number version n t) =
-    StopsAt.held (leaves_add s mid s' [] (Events.Assign s.caller blob place bytes ∷ []) first (subst (λ (c : ℕ). Leaves mid (Events.Assign c blob place bytes ∷ []) s') first.caller l)) number version
-    (subst (λ (f : Fixed). IsNumberedBy f.limits s'.seen s.caller blob version) first.fixed (subst (λ (c : ℕ). IsNumberedBy mid.fixed.limits s'.seen c blob version) first.caller n))
-    (t ∙ ap (λ (l : List HeldTicket). l ++ record { number = number; blob = blob; version = version } ∷ []) same)
+reported_goes : (s : Session) (ticket : HeldTicket) (reply : Reply) (s' : Session) (r : Reported AllOther s ticket reply s')
+    → Goes s (r.others ++ Events.Finish s.caller ticket.blob ticket.version ∷ []) s'
+reported_goes s ticket reply s' r = record {
+  seen = ap (λ (x : Session). x.seen) r.seen;
+  caller = ap (λ (x : Session). x.caller) r.seen;
+  fixed = ap (λ (x : Session). x.fixed) r.seen;
+  limit = ap (λ (x : Session). x.limit) r.seen;
+}
+
+found_goes : (s : Session) (ticket : HeldTicket) (reply : Reply) (s' : Session) (r : FoundFinished AllOther s ticket reply s') → Goes s r.others s'
+found_goes s ticket reply s' r = record {
+  seen = ap (λ (x : Session). x.seen) r.seen;
+  caller = ap (λ (x : Session). x.caller) r.seen;
+  fixed = ap (λ (x : Session). x.fixed) r.seen;
+  limit = ap (λ (x : Session). x.limit) r.seen;
+}
+
+-- a finish that is hindered
+record Hindered (s : Session) (version : ℕ) (reply : Reply) (s' : Session) : Type 0 where
+  leaves : Leaves s [] s'
+  tickets : s'.tickets ≡ s.tickets
+  why : ((least : ℕ) × (reply ≡ Replies.Refused (Faults.Pending (version - 1) least)))
+      ⊎ ((fault : Fault)
+      × ((reply ≡ Replies.Refused fault) × (IsOutside fault × (((earlier least : ℕ) → fault ≢ Faults.Pending earlier least) × ((number : ℕ) → still_held number fault ≡ Some number)))))
+
+hindered : (s : Session) (blob version : ℕ) (reply : Reply) (s' : Session) → FinishHindered AllOther s blob version reply s' → Hindered s version reply s'
+hindered s blob version reply s' (FinishHindered.out_of_memory m) = record {
+  leaves = left_gap s s' m.others m.is_gap m.seen;
+  tickets = same_tickets s m.others s' m.seen;
+  why = inr (Faults.NoMemory, (m.said, (IsOutside.starved refl, ((λ earlier least same. cc), λ number. refl))));
+}
+hindered s blob version reply s' (FinishHindered.waits w) = record {
+  leaves = left_gap s s' w.others w.is_gap w.seen;
+  tickets = same_tickets s w.others s' w.seen;
+  why = inl (w.held, w.said);
+}
+hindered s blob version reply s' (FinishHindered.not_folded p) = record {
+  leaves = left_gap s s' p.others p.is_gap p.seen;
+  tickets = same_tickets s p.others s' p.seen;
+  why = inr (Faults.PageFault p.page, (p.said, (IsOutside.lost p.page refl, ((λ earlier least same. cc), λ number. refl))));
+}
+
+pub reports_leave : (s : Session) (ticket : HeldTicket) (reply : Reply) (s' : Session) → IsNumberedBy s.fixed.limits s.seen s.caller ticket.blob ticket.version
+    → ReportAnswer AllOther s ticket reply s' → Leaves s [] s' ⊎ Leaves s (Events.Finish s.caller ticket.blob ticket.version ∷ []) s'
+reports_leave s ticket reply s' numbered (ReportAnswer.reported r) = inr (left_finish s ticket.blob ticket.version r.others s' r.is_gap numbered (reported_goes s ticket reply s' r))
+reports_leave s ticket reply s' numbered (ReportAnswer.finished r) = inl (left_others s r.others s' r.is_gap (found_goes s ticket reply s' r))
+reports_leave s ticket reply s' numbered (ReportAnswer.hindered h) = inl (hindered s ticket.blob ticket.version reply s' h).leaves
+
+-- ---- updates that are held
+
+-- those of others alone have no own events
+apart_from : (caller : ℕ) (e : Event) (es : List Event) (t : Bool) → (caller_of e == caller) ≡ t → cond t (e ∷ events_by caller es) (events_by caller es) ≡ []
+    → (caller_of e ≢ caller) × (events_by caller es ≡ [])
+apart_from caller e es true is none = absurd (let no : (e ∷ events_by caller es) ≡ [] = none in cc)
+apart_from caller e es false is none = (λ same. absurd (let no : true ≡ false = sym (eq-eqb (caller_of e) caller same) ∙ is in cc), none)
+
+all_other : (caller : ℕ) (es : List Event) → events_by caller es ≡ [] → AllOther caller es
+all_other caller [] none = tt
+all_other caller (e ∷ es) none = let apart = apart_from caller e es (caller_of e == caller) refl none in (apart.0, all_other caller es apart.1)
+
+other_both : (caller : ℕ) (xs ys : List Event) → AllOther caller xs → AllOther caller ys → AllOther caller (xs ++ ys)
+other_both caller [] ys x y = y
+other_both caller (e ∷ xs) ys x y = (x.0, other_both caller xs ys x.1 y)
+
+none_after : (xs ys : List Event) → xs ++ ys ≡ xs → ys ≡ []
+none_after [] ys e = e
+none_after (x ∷ xs) ys e = none_after xs ys (cc)
+
+-- what came while nothing of the session's own did is others'
+others_since : (s s' : Session) (l : Leaves s [] s') → AllOther s.caller l.more
+others_since s s' l =
+    all_other s.caller l.more
+    (none_after (events_by s.caller s.seen) (events_by s.caller l.more)
+    (sym (own_both s.caller s.seen l.more) ∙ (ap (λ (h : List Event). events_by s.caller h) (sym l.seen) ∙ (l.mine ∙ append-nil (events_by s.caller s.seen)))))
+
+module _ (s mid : Session) (blob : ℕ) (place : Place) (bytes : List ℕ) (number version : ℕ) (h : Holds s blob place bytes number version mid) where
+  caller_stays : mid.caller ≡ s.caller
+  caller_stays = h.leaves.caller
+
+  -- what was seen by then, and the events since the numbering
+  since : (s' : Session) (l : Leaves mid [] s') → (s'.seen ≡ h.before ++ Events.Assign s.caller blob place bytes ∷ (h.later ++ l.more)) × AllOther s.caller (h.later ++ l.more)
+  since s' l = (
+    l.seen ∙ (ap (λ (x : List Event). x ++ l.more) h.split ∙ append_assoc h.before (Events.Assign s.caller blob place bytes ∷ h.later) l.more),
+    other_both s.caller h.later l.more h.is_gap (subst (λ (c : ℕ). AllOther c l.more) caller_stays (others_since mid s' l)),
+  )
+
+  pub holds_stay : (s' : Session) → Leaves mid [] s' → s'.tickets ≡ mid.tickets → Holds s blob place bytes number version s'
+  holds_stay s' l same = record {
+    leaves = leaves_add s mid s' (Events.Assign s.caller blob place bytes ∷ []) [] h.leaves l;
+    before = h.before;
+    later = h.later ++ l.more;
+    at = h.at;
+    size = h.size;
+    split = (since s' l).0;
+    numbered = h.numbered;
+    is_gap = (since s' l).1;
+    tickets = same ∙ h.tickets;
+  }
+
+  pub holds_own : IsNumberedBy mid.fixed.limits mid.seen mid.caller blob version
+  holds_own =
+      subst (λ (f : Fixed). IsNumberedBy f.limits mid.seen mid.caller blob version) (sym h.leaves.fixed)
+      (subst (λ (c : ℕ). IsNumberedBy s.fixed.limits mid.seen c blob version) (sym caller_stays)
+      (record { before = h.before; after = h.later; place = place; bytes = bytes; at = h.at; size = h.size; split = h.split; answered = h.numbered }))
+
+  module _ (by_events : FinishedByEvents) (none : s.tickets ≡ []) (reply : Reply) (s' : Session) where
+    abbrev its_ticket : HeldTicket
+    its_ticket = record { number = number; blob = blob; version = version }
+
+    one_ticket : mid.tickets ≡ its_ticket ∷ []
+    one_ticket = h.tickets ∙ ap (λ (ts : List HeldTicket). ts ++ its_ticket ∷ []) none
+
+    given_up : without_ticket mid.tickets number ≡ s.tickets
+    given_up =
+        ap (λ (ts : List HeldTicket). without_ticket ts number) one_ticket
+        ∙ (ap (λ (t : Bool). let ts : List HeldTicket = (if t then [] else its_ticket ∷ []) in ts) (eq-eqb number number refl) ∙ sym none)
+
+    found_at : ticket_at mid.tickets number ≡ Some its_ticket
+    found_at =
+        ap (λ (ts : List HeldTicket). ticket_at ts number) one_ticket
+        ∙ ap (λ (t : Bool). if t then Some its_ticket else None) (eq-eqb number number refl)
+
+    -- it is done
+    finish_does : Reported AllOther mid its_ticket reply s' → FinishEnds s blob place bytes number version reply s'
+    finish_does r =
+        let last : Leaves mid (Events.Finish mid.caller blob version ∷ []) s' = left_finish mid blob version r.others s' r.is_gap holds_own (reported_goes mid its_ticket reply s' r) in
+        FinishEnds.does r.published r.said
+        (leaves_add s mid s' (Events.Assign s.caller blob place bytes ∷ []) (Events.Finish s.caller blob version ∷ []) h.leaves
+        (subst (λ (c : ℕ). Leaves mid (Events.Finish c blob version ∷ []) s') caller_stays last))
+        (ap (λ (x : Session). x.tickets) r.seen ∙ given_up)
+
+    -- another caller had done it
+    found_done : FoundFinished AllOther mid its_ticket reply s' → FinishEnds s blob place bytes number version reply s'
+    found_done r =
+        let this : Event = Events.Assign s.caller blob place bytes in
+        let goes : Goes mid r.others s' = found_goes mid its_ticket reply s' r in
+        let l : Leaves mid [] s' = left_others mid r.others s' r.is_gap goes in
+        let all : List Event = h.later ++ r.others in
+        let split : mid.seen ++ r.others ≡ h.before ++ this ∷ all = ap (λ (x : List Event). x ++ r.others) h.split ∙ append_assoc h.before (this ∷ h.later) r.others in
+        let seen : s'.seen ≡ h.before ++ this ∷ (all ++ []) = goes.seen ∙ (split ∙ ap (λ (x : List Event). h.before ++ this ∷ x) (sym (append-nil all))) in
+        let gap : AllOther s.caller all = other_both s.caller h.later r.others h.is_gap (subst (λ (c : ℕ). AllOther c r.others) caller_stays r.is_gap) in
+        let refused : (answer (store_of s.fixed.limits (h.before ++ this ∷ all)) s.caller (Calls.Finish blob version)).1 ≡ Outcomes.Refused (Refusals.Already version) =
+        subst (λ (x : List Event). (answer (store_of s.fixed.limits x) s.caller (Calls.Finish blob version)).1 ≡ Outcomes.Refused (Refusals.Already version)) split
+        (subst (λ (f : Fixed). (answer (store_of f.limits (mid.seen ++ r.others)) s.caller (Calls.Finish blob version)).1 ≡ Outcomes.Refused (Refusals.Already version)) h.leaves.fixed
+        (subst (λ (c : ℕ). (answer (store_of mid.fixed.limits (mid.seen ++ r.others)) c (Calls.Finish blob version)).1 ≡ Outcomes.Refused (Refusals.Already version)) caller_stays r.refused)) in
+        let done : finishes blob version all ≡ true = already_by_events by_events s.fixed.limits s.caller blob version h.at h.size place bytes h.before all h.numbered refused in
+        FinishEnds.hinders (Faults.Already version) r.said (λ earlier least same. cc)
+        (λ first. UpdateHindered.finished h.before all [] version h.at h.size seen h.numbered gap done)
+        (StopsAt.numbered refl (leaves_add s mid s' (this ∷ []) [] h.leaves l) (ap (λ (x : Session). x.tickets) r.seen ∙ given_up))
+
+    -- it was hindered, and is held as before
+    still_holds : Hindered mid version reply s' → Holds s blob place bytes number version s'
+    still_holds x = holds_stay s' x.leaves x.tickets
+
+    finish_hindered : Hindered mid version reply s' → FinishEnds s blob place bytes number version reply s'
+    finish_hindered x =
+        elim x.why [
+          | inl (least, said) ↦ FinishEnds.waits least said (still_holds x)
+          | inr (fault, (said, (out, (other, held)))) ↦
+              FinishEnds.hinders fault said other (λ first. UpdateHindered.outside out) (StopsAt.held number version (held number) (still_holds x))
+        ]
+
+    by_report : ReportAnswer AllOther mid its_ticket reply s' → FinishEnds s blob place bytes number version reply s'
+    by_report (ReportAnswer.reported r) = finish_does r
+    by_report (ReportAnswer.finished r) = found_done r
+    by_report (ReportAnswer.hindered x) = finish_hindered (hindered mid blob version reply s' x)
+
+    pub finish_ended : FinishAnswer AllOther mid number (ticket_at mid.tickets number) reply s' → FinishEnds s blob place bytes number version reply s'
+    finish_ended a = by_report (subst (λ (o : Option HeldTicket). FinishAnswer AllOther mid number o reply s') found_at a)
+
+-- ---- from an earlier moment on
+pub holds_later : (s mid s' : Session) (blob : ℕ) (place : Place) (bytes : List ℕ) (number version : ℕ)
+    → Leaves s [] mid → mid.tickets ≡ s.tickets → Holds mid blob place bytes number version s' → Holds s blob place bytes number version s'
+holds_later s mid s' blob place bytes number version first same h = record {
+  leaves =
+      leaves_add s mid s' [] (Events.Assign s.caller blob place bytes ∷ []) first
+      (subst (λ (c : ℕ). Leaves mid (Events.Assign c blob place bytes ∷ []) s') first.caller h.leaves);
+  before = h.before;
+  later = h.later;
+  at = h.at;
+  size = h.size;
+  split = subst (λ (c : ℕ). s'.seen ≡ h.before ++ Events.Assign c blob place bytes ∷ h.later) first.caller h.split;
+  numbered =
+      subst (λ (f : Fixed). (answer (store_of f.limits h.before) s.caller (Calls.Assign blob place bytes)).1 ≡ Outcomes.Assigned version h.at h.size) first.fixed
+      (subst (λ (c : ℕ). (answer (store_of mid.fixed.limits h.before) c (Calls.Assign blob place bytes)).1 ≡ Outcomes.Assigned version h.at h.size) first.caller h.numbered);
+  is_gap = subst (λ (c : ℕ). AllOther c h.later) first.caller h.is_gap;
+  tickets = h.tickets ∙ ap (λ (l : List HeldTicket). l ++ record { number = number; blob = blob; version = version } ∷ []) same;
+}
+
+pub stops_later : (s mid s' : Session) (blob : ℕ) (place : Place) (bytes : List ℕ) (ticket : Option ℕ) → Leaves s [] mid → mid.tickets ≡ s.tickets → StopsAt mid blob place bytes ticket s'
+    → StopsAt s blob place bytes ticket s'
+stops_later s mid s' blob place bytes ticket first same (StopsAt.unnumbered none l t) = StopsAt.unnumbered none (leaves_add s mid s' [] [] first l) (t ∙ same)
+stops_later s mid s' blob place bytes ticket first same (StopsAt.numbered none l t) =
+    StopsAt.numbered none
+    (leaves_add s mid s' [] (Events.Assign s.caller blob place bytes ∷ []) first (subst (λ (c : ℕ). Leaves mid (Events.Assign c blob place bytes ∷ []) s') first.caller l)) (t ∙ same)
+stops_later s mid s' blob place bytes ticket first same (StopsAt.held number version is h) = StopsAt.held number version is (holds_later s mid s' blob place bytes number version first same h)

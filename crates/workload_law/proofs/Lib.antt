@@ -16,6 +16,7 @@ pub mod Standing
 pub mod ReadBack
 pub mod GoingOn
 pub mod OneCaller
+pub mod Marks
 pub mod OwnEvents
 pub mod PrintedLines
 pub mod CallEnds

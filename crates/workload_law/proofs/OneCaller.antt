@@ -53,7 +53,7 @@ pub legal_front : (s : Store) (xs ys : List Event) → IsLegalFrom s (xs ++ ys) 
 legal_front s [] ys legal = tt
 legal_front s (x ∷ xs) ys legal = (legal.0, legal_front (answer s (caller_of x) (call_of x)).0 xs ys legal.1)
 
-store_of_both : (s : Store) (xs ys : List Event) → store_from s (xs ++ ys) ≡ store_from (store_from s xs) ys
+pub store_of_both : (s : Store) (xs ys : List Event) → store_from s (xs ++ ys) ≡ store_from (store_from s xs) ys
 store_of_both s [] ys = refl
 store_of_both s (x ∷ xs) ys = store_of_both (answer s (caller_of x) (call_of x)).0 xs ys
 
@@ -74,7 +74,7 @@ blob_numbers : (s : Store) (blob : ℕ) (o : Option Blob) (f : Blob → Answered
 blob_numbers s blob None f version at size is e each = (let no : ⊥ = cc in absurd no)
 blob_numbers s blob (Some b) f version at size is e each = record { here = b; there = is; next = each b e }
 
-is_next : (s : Store) (caller blob : ℕ) (place : Place) (bytes : List ℕ) (version at size : ℕ) → (answer s caller (Calls.Assign blob place bytes)).1 ≡ Outcomes.Assigned version at size
+pub is_next : (s : Store) (caller blob : ℕ) (place : Place) (bytes : List ℕ) (version at size : ℕ) → (answer s caller (Calls.Assign blob place bytes)).1 ≡ Outcomes.Assigned version at size
     → IsNext s blob version
 is_next s caller blob place bytes version at size e =
     blob_numbers s blob (blob_at s blob) _ version at size refl e (λ b e. unless_numbers s _ _ version at size (assigned b + 1) _ _ refl e)

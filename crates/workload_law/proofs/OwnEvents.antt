@@ -20,7 +20,7 @@ none_own : (caller : ℕ) (others : List Event) → AllOther caller others → e
 none_own caller [] all = refl
 none_own caller (e ∷ es) all = ap (λ (t : Bool). cond t (e ∷ events_by caller es) (events_by caller es)) (ne_eqb (caller_of e) caller all.0) ∙ none_own caller es all.1
 
-both : (caller : ℕ) (xs ys : List Event) → events_by caller (xs ++ ys) ≡ events_by caller xs ++ events_by caller ys
+pub both : (caller : ℕ) (xs ys : List Event) → events_by caller (xs ++ ys) ≡ events_by caller xs ++ events_by caller ys
 both caller xs ys = filter-append (λ e. caller_of e == caller) xs ys
 
 pub gap_has_none : (caller : ℕ) (seen others : List Event) → AllOther caller others → events_by caller (seen ++ others) ≡ events_by caller seen

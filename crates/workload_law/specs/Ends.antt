@@ -1,5 +1,5 @@
 -- How an update of a session ends, what it leaves, and what may hinder it.
-use Rattle.std.specs.Prelude.{◌≡◌, ◌≢◌, ◌⊎◌, ℕ, true, List, [], ◌∷◌, ◌++◌}
+use Rattle.std.specs.Prelude.{◌≡◌, ◌≢◌, ◌⊎◌, ℕ, ◌-◌, ◌≤◌, true, List, [], ◌∷◌, ◌++◌, Option, Some, None}
 use Rattle.blob_model.specs.Limits.{Bounds}
 use Rattle.blob_model.specs.Answer.{answer}
 use Rattle.blob_model.specs.History.{store_of, finishes, events_by, AllOther}
@@ -10,9 +10,9 @@ use Rattle.blob_model.specs.declared.call.Event.TheVariants as Events
 use Rattle.blob_model.specs.declared.call.Outcome.TheVariants as Outcomes
 use Rattle.blob_model.specs.declared.call.Place.{Place}
 use Rattle.blob_model.specs.declared.call.Refusal.{Refusal}
-use Rattle.request_form.specs.Session.{Session, HeldTicket}
+use Rattle.request_form.specs.Session.{Session, HeldTicket, ticket_at}
 use Rattle.request_form.specs.Replies.{fault_of}
-use Rattle.request_form.specs.Answers.{Updated, CreateAnswer, UpdateAnswer, ReportAnswer, LookAnswer}
+use Rattle.request_form.specs.Answers.{WholeUpdate, CreateAnswer, UpdateAnswer, ReportAnswer, FinishAnswer, LookAnswer, max_update}
 use Rattle.request_form.specs.declared.form.Reply.{Reply}
 use Rattle.request_form.specs.declared.form.Reply.TheVariants as Replies
 use Rattle.request_form.specs.declared.form.Fault.{Fault}
@@ -53,7 +53,8 @@ pub data UpdateHindered (limits : Bounds) (caller blob : ℕ) (place : Place) (b
       → AllOther caller later → finishes blob version later ≡ true
       → UpdateHindered limits caller blob place bytes first seen fault
 
--- A session has seen more. Its own events are those that it had, and then these. It finishes only what it numbered, if it did so before.
+-- A session has seen more. Its own events are those that it had, and then these. It finishes only what it numbered, and takes as many
+-- bytes in an update as at first, if it did so before.
 pub record Leaves (s : Session) (own : List Event) (s' : Session) : Type 0 where
   pub more : List Event
   pub seen : s'.seen ≡ s.seen ++ more
@@ -61,28 +62,70 @@ pub record Leaves (s : Session) (own : List Event) (s' : Session) : Type 0 where
   pub caller : s'.caller ≡ s.caller
   pub fixed : s'.fixed ≡ s.fixed
   pub finishes : FinishesItsOwn s.fixed.limits s.seen s.caller → FinishesItsOwn s.fixed.limits s'.seen s.caller
+  pub limit : s.limit ≡ max_update → s'.limit ≡ max_update
 
--- An update that was hindered: it wasn't numbered; or it was, and another caller finished it; or the session holds it under a ticket.
-pub data StopsAt (s : Session) (blob : ℕ) (place : Place) (bytes : List ℕ) (s' : Session) : Type 0 where
-  unnumbered : Leaves s [] s' → s'.tickets ≡ s.tickets → StopsAt s blob place bytes s'
-  numbered : Leaves s (Events.Assign s.caller blob place bytes ∷ []) s' → s'.tickets ≡ s.tickets → StopsAt s blob place bytes s'
-  held : Leaves s (Events.Assign s.caller blob place bytes ∷ []) s' → (number version : ℕ) → IsNumberedBy s.fixed.limits s'.seen s.caller blob version
-      → s'.tickets ≡ s.tickets ++ record { number = number; blob = blob; version = version } ∷ [] → StopsAt s blob place bytes s'
+-- A session numbered an update, and holds it under a ticket. Since then it has seen others' events alone.
+pub record Holds (s : Session) (blob : ℕ) (place : Place) (bytes : List ℕ) (number version : ℕ) (s' : Session) : Type 0 where
+  pub leaves : Leaves s (Events.Assign s.caller blob place bytes ∷ []) s'
+  pub before : List Event
+  pub later : List Event
+  pub at : ℕ
+  pub size : ℕ
+  pub split : s'.seen ≡ before ++ Events.Assign s.caller blob place bytes ∷ later
+  pub numbered : (answer (store_of s.fixed.limits before) s.caller (Calls.Assign blob place bytes)).1 ≡ Outcomes.Assigned version at size
+  pub is_gap : AllOther s.caller later
+  pub tickets : s'.tickets ≡ s.tickets ++ record { number = number; blob = blob; version = version } ∷ []
 
--- How an update ends: it is done; or too many updates of the blob wait, and it may be tried again; or it was hindered.
-pub data UpdateEnds (s : Session) (blob : ℕ) (place : Place) (bytes : List ℕ) (done : ℕ → ℕ → ℕ → Reply) (reply : Reply) (s' : Session) : Type 0 where
+-- the ticket under which an update is held that was refused so
+abbrev pub ticket_of : Fault → Option ℕ
+ticket_of (Faults.NoMemoryTicket ticket) = Some ticket
+ticket_of _ = None
+
+-- An update that was hindered: it wasn't numbered; or it was, and another caller finished it; or the session holds it under this ticket.
+pub data StopsAt (s : Session) (blob : ℕ) (place : Place) (bytes : List ℕ) (ticket : Option ℕ) (s' : Session) : Type 0 where
+  unnumbered : ticket ≡ None → Leaves s [] s' → s'.tickets ≡ s.tickets → StopsAt s blob place bytes ticket s'
+  numbered : ticket ≡ None → Leaves s (Events.Assign s.caller blob place bytes ∷ []) s' → s'.tickets ≡ s.tickets → StopsAt s blob place bytes ticket s'
+  held : (number version : ℕ) → ticket ≡ Some number → Holds s blob place bytes number version s' → StopsAt s blob place bytes ticket s'
+
+-- How an update ends: it is done; or it is held back under a ticket; or too many updates of the blob wait, and it may be tried again; or
+-- it was hindered.
+pub data UpdateEnds (s : Session) (blob : ℕ) (place : Place) (bytes : List ℕ) (done : ℕ → ℕ → ℕ → Reply) (started : ℕ → ℕ → ℕ → ℕ → Reply) (reply : Reply) (s' : Session) : Type 0 where
   does : (version at size : ℕ) → reply ≡ done version at size
       → Leaves s (Events.Assign s.caller blob place bytes ∷ Events.Finish s.caller blob version ∷ []) s' → s'.tickets ≡ s.tickets
-      → UpdateEnds s blob place bytes done reply s'
-  full : (limit : ℕ) → reply ≡ Replies.Refused (Faults.TooManyOpen limit) → Leaves s [] s' → s'.tickets ≡ s.tickets → UpdateEnds s blob place bytes done reply s'
+      → UpdateEnds s blob place bytes done started reply s'
+  held_back : (number version at size : ℕ) → reply ≡ started number version at size → 1 ≤ version → Holds s blob place bytes number version s'
+      → UpdateEnds s blob place bytes done started reply s'
+  full : (limit : ℕ) → reply ≡ Replies.Refused (Faults.TooManyOpen limit) → Leaves s [] s' → s'.tickets ≡ s.tickets → UpdateEnds s blob place bytes done started reply s'
   hinders : (fault : Fault) → reply ≡ Replies.Refused fault → ((limit : ℕ) → fault ≢ Faults.TooManyOpen limit)
-      → UpdateHindered s.fixed.limits s.caller blob place bytes s.seen s'.seen fault → StopsAt s blob place bytes s'
-      → UpdateEnds s blob place bytes done reply s'
+      → UpdateHindered s.fixed.limits s.caller blob place bytes s.seen s'.seen fault → StopsAt s blob place bytes (ticket_of fault) s'
+      → UpdateEnds s blob place bytes done started reply s'
 
 -- How an update may end that the session lets through to the store.
 abbrev pub UpdatesEnd : Type 0
-UpdatesEnd = (s : Session) (blob : ℕ) (place : Place) (bytes : List ℕ) (done : ℕ → ℕ → ℕ → Reply) (reply : Reply) (s' : Session)
-    → UpdateAnswer AllOther s blob place bytes (Updated AllOther s blob place bytes done reply s') reply s' → UpdateEnds s blob place bytes done reply s'
+UpdatesEnd = (s : Session) (blob : ℕ) (place : Place) (bytes : List ℕ) (done : ℕ → ℕ → ℕ → Reply) (started : ℕ → ℕ → ℕ → ℕ → Reply) (reply : Reply) (s' : Session)
+    → UpdateAnswer AllOther s blob place bytes (WholeUpdate AllOther s blob place bytes done started reply s') reply s' → UpdateEnds s blob place bytes done started reply s'
+
+-- the ticket under which an update is held still, once its finish was refused so: another caller's finish takes the ticket
+abbrev pub still_held : ℕ → Fault → Option ℕ
+still_held number (Faults.Already version) = None
+still_held number _ = Some number
+
+-- How a session's finish of an update ends that it holds under a ticket: it is done; or the version before it waits, and it is held as
+-- before; or it was hindered.
+pub data FinishEnds (s : Session) (blob : ℕ) (place : Place) (bytes : List ℕ) (number version : ℕ) (reply : Reply) (s' : Session) : Type 0 where
+  does : (published : ℕ) → reply ≡ Replies.Finished published
+      → Leaves s (Events.Assign s.caller blob place bytes ∷ Events.Finish s.caller blob version ∷ []) s' → s'.tickets ≡ s.tickets
+      → FinishEnds s blob place bytes number version reply s'
+  waits : (least : ℕ) → reply ≡ Replies.Refused (Faults.Pending (version - 1) least) → Holds s blob place bytes number version s' → FinishEnds s blob place bytes number version reply s'
+  hinders : (fault : Fault) → reply ≡ Replies.Refused fault → ((earlier least : ℕ) → fault ≢ Faults.Pending earlier least)
+      → ((first : List Event) → UpdateHindered s.fixed.limits s.caller blob place bytes first s'.seen fault) → StopsAt s blob place bytes (still_held number fault) s'
+      → FinishEnds s blob place bytes number version reply s'
+
+-- So it ends where the session held no other ticket.
+abbrev pub FinishesEnd : Type 0
+FinishesEnd = (s mid : Session) (blob : ℕ) (place : Place) (bytes : List ℕ) (number version : ℕ) (reply : Reply) (s' : Session)
+    → s.tickets ≡ [] → Holds s blob place bytes number version mid → FinishAnswer AllOther mid number (ticket_at mid.tickets number) reply s'
+    → FinishEnds s blob place bytes number version reply s'
 
 -- How the making of a blob ends: it is done, or was hindered.
 pub data CreateEnds (s : Session) (reply : Reply) (s' : Session) : Type 0 where
@@ -105,13 +148,30 @@ LeavesAdd = (s mid s' : Session) (own more : List Event) → Leaves s own mid �
 
 -- where nothing of the session's own came before, what a hindered update left is left from there on
 abbrev pub StopsLater : Type 0
-StopsLater = (s mid s' : Session) (blob : ℕ) (place : Place) (bytes : List ℕ) → Leaves s [] mid → mid.tickets ≡ s.tickets → StopsAt mid blob place bytes s' → StopsAt s blob place bytes s'
+StopsLater = (s mid s' : Session) (blob : ℕ) (place : Place) (bytes : List ℕ) (ticket : Option ℕ)
+    → Leaves s [] mid → mid.tickets ≡ s.tickets → StopsAt mid blob place bytes ticket s' → StopsAt s blob place bytes ticket s'
+
+-- and so an update is held from there on
+abbrev pub HoldsLater : Type 0
+HoldsLater = (s mid s' : Session) (blob : ℕ) (place : Place) (bytes : List ℕ) (number version : ℕ)
+    → Leaves s [] mid → mid.tickets ≡ s.tickets → Holds mid blob place bytes number version s' → Holds s blob place bytes number version s'
+
+-- an update is held while nothing of the session's own comes
+abbrev pub HoldsStay : Type 0
+HoldsStay = (s mid s' : Session) (blob : ℕ) (place : Place) (bytes : List ℕ) (number version : ℕ)
+    → Holds s blob place bytes number version mid → Leaves mid [] s' → s'.tickets ≡ mid.tickets → Holds s blob place bytes number version s'
+
+-- what is held is the session's own
+abbrev pub HoldsItsOwn : Type 0
+HoldsItsOwn = (s : Session) (blob : ℕ) (place : Place) (bytes : List ℕ) (number version : ℕ) (s' : Session)
+    → Holds s blob place bytes number version s' → IsNumberedBy s'.fixed.limits s'.seen s'.caller blob version
 
 -- a look leaves nothing
 abbrev pub LooksLeaveNone : Type 0
 LooksLeaveNone = (s : Session) (call : Call) (reply : Reply) (s' : Session) → LookAnswer AllOther s call reply s' → Leaves s [] s' × (s'.tickets ≡ s.tickets)
 
--- the report of an update that the session numbered leaves its finish, or nothing
+-- The report of an update that the session numbered leaves its finish, or nothing: where another had reported it, and where it was
+-- hindered.
 abbrev pub ReportsLeave : Type 0
 ReportsLeave = (s : Session) (ticket : HeldTicket) (reply : Reply) (s' : Session) → IsNumberedBy s.fixed.limits s.seen s.caller ticket.blob ticket.version → ReportAnswer AllOther s ticket reply s'
     → Leaves s [] s' ⊎ Leaves s (Events.Finish s.caller ticket.blob ticket.version ∷ []) s'

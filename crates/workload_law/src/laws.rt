@@ -2,7 +2,7 @@
 
 ghost use Rattle.workload_law.specs.Laws.{SummariesHold, LoadsReadBack, RefusedWhenFull, OpeningsGoOn, LoadsAreUnderway, BeginningsAreUnderway, BlobsAreThere, StoppedHaveBegun};
 ghost use Rattle.workload_law.specs.Numbered.{VersionsHaveOneCaller, NumberedStays};
-ghost use Rattle.workload_law.specs.Ends.{CreatesEnd, UpdatesEnd, HindrancesStay, LeavesAdd, StopsLater, LooksLeaveNone, ReportsLeave};
+ghost use Rattle.workload_law.specs.Ends.{CreatesEnd, UpdatesEnd, FinishesEnd, HindrancesStay, LeavesAdd, StopsLater, HoldsLater, HoldsStay, HoldsItsOwn, LooksLeaveNone, ReportsLeave};
 ghost use Rattle.workload_law.specs.Closing.{SeenAlone, NobodysAreNone, OpeningsAreFirst, OwnsStay, IdleOwnsAll, NothingElseHindersOpenings, NothingElseHinders, ReadsAreShort};
 ghost use Rattle.workload_law.specs.Sessions.{GapsHaveNoOwn, EventsAreOwn, NumberingsAreOwn, UpdatesAreOwn, NumbersItsOwn, FinishesStayOwn, ReportsStayOwn, NobodyElseFinishes};
 
@@ -50,18 +50,26 @@ pub fn sessions_own()
     ensures nobody { NobodyElseFinishes }
 {}
 
-/// A new blob of a session is made or was hindered; an update is done, or is to be tried again as too many updates of its blob
-/// wait, or was hindered.
+/// A new blob of a session is made or was hindered; an update is done, or is held back under a ticket, or is to be tried again as too
+/// many updates of its blob wait, or was hindered; the finish of an update that is held is done, or is to be tried again as the
+/// version before it waits, or was hindered.
 pub fn calls_end()
     ensures creates { CreatesEnd }
     ensures updates { UpdatesEnd }
+    ensures finishes { FinishesEnd }
     ensures stay { HindrancesStay }
-{}
+{
+    blob_model::laws::finished_by_events();
+}
 
-/// What a session's calls leave of its own events, one after another: a look nothing, a report a finish or nothing.
+/// What a session's calls leave of its own events, one after another: a look nothing, a report a finish or nothing. An update is
+/// held as long as they leave nothing.
 pub fn calls_leave()
     ensures add { LeavesAdd }
     ensures stops { StopsLater }
+    ensures holds { HoldsLater }
+    ensures held { HoldsStay }
+    ensures held_own { HoldsItsOwn }
     ensures looks { LooksLeaveNone }
     ensures reports { ReportsLeave }
 {}

@@ -1,4 +1,5 @@
 pub mod Updates
+pub mod Finishes
 pub mod Operations
 pub mod Openings
 pub mod Returns

@@ -1,5 +1,5 @@
 -- The opening of a load, step by step.
-use Rattle.std.proofs.Common.{◌≡◌, ℕ, List, [], ◌∷◌, ◌++◌, refl, sym, ap, subst, ◌∙◌, append-nil}
+use Rattle.std.proofs.Common.{◌≡◌, ℕ, List, [], ◌∷◌, ◌++◌, ap, subst, ◌∙◌}
 use Rattle.blob_model.specs.Limits.{Bounds, greatest}
 use Rattle.blob_model.specs.History.{events_by}
 use Rattle.blob_model.specs.declared.call.Event.{Event}
@@ -11,9 +11,10 @@ use Rattle.workload_law.specs.declared.plan.LoadPlan.{LoadPlan}
 use Rattle.workload_law.specs.Load.{zeros_of}
 use Rattle.workload_law.specs.Ends.{CreateHindered, UpdateHindered, Leaves, LeavesAdd}
 use Rattle.workload_law.specs.Closing.{OpeningHindered}
-use Rattle.workload_run.specs.Updates.{update_events, IsUpdated, IsStopped}
+use Rattle.workload_run.specs.Updates.{update_events, IsReady, IsUpdated, IsStopped}
 use Rattle.workload_run.specs.Work.{IsFresh}
 use Rattle.workload_run.specs.Opening.{HasDoneOwn, HasNotMade, HasOpened, HasNotOpened}
+use Rattle.workload_run.proofs.Updates.{leaves_same}
 
 module _ (adds : LeavesAdd) (plan : LoadPlan) (s : Session) (fresh : IsFresh 0 s) where
   abbrev create_one : List Event
@@ -41,6 +42,10 @@ module _ (adds : LeavesAdd) (plan : LoadPlan) (s : Session) (fresh : IsFresh 0 s
       let next : Leaves one create_one two = subst (λ (c : ℕ). Leaves one (Events.Create c ∷ []) two) (caller_at create_one one first) second.leaves in
       record { leaves = adds s one two create_one create_one first.leaves next; none_held = second.none_held }
 
+  -- it may do an update next
+  pub ready_both : (two : Session) → HasDoneOwn s create_both two → IsReady two
+  ready_both two did = record { none_held = did.none_held; limit = did.leaves.limit fresh.ready.limit }
+
   pub opened : (two s' : Session) → HasDoneOwn s create_both two → IsUpdated two 2 Append (zeros_of plan) s' → HasOpened plan s s'
   opened two s' both done =
       let events : ℕ → List Event = λ c. update_events c 2 Append (zeros_of plan) done.version in
@@ -55,8 +60,8 @@ module _ (adds : LeavesAdd) (plan : LoadPlan) (s : Session) (fresh : IsFresh 0 s
 
   did_none : HasDoneOwn s [] s
   did_none = record {
-    leaves = record { more = []; seen = sym (append-nil s.seen); mine = sym (append-nil (events_by s.caller s.seen)); caller = refl; fixed = refl; finishes = λ was. was };
-    none_held = fresh.none_held;
+    leaves = leaves_same s;
+    none_held = fresh.ready.none_held;
   }
 
   -- it did this, and then no more

@@ -101,7 +101,7 @@ worked_start idle plan worker s fresh = record {
   own = idle greatest (worker + 1) s.seen fresh.none;
   caller = fresh.caller;
   fixed = refl;
-  none_held = fresh.none_held;
+  ready = fresh.ready;
 }
 
 module _ (plan : LoadPlan) (worker op : ℕ) (s mid s' : Session) (limits : s.fixed.limits ≡ greatest) (worked : HasWorked plan worker op s mid) where
@@ -132,7 +132,7 @@ module _ (plan : LoadPlan) (worker op : ℕ) (s mid s' : Session) (limits : s.fi
         own = finishes_more events done.leaves;
         caller = done.leaves.caller ∙ worked.caller;
         fixed = done.leaves.fixed ∙ worked.fixed;
-        none_held = done.none_held;
+        ready = record { none_held = done.none_held; limit = done.leaves.limit worked.ready.limit };
       }
 
   pub ended_early : StoppedHaveBegun → op < plan.ops → (fault : Fault) → HasStoppedAt plan worker op fault mid s' → HasEndedEarly plan worker fault s s'

@@ -12,6 +12,7 @@ use Rattle.version_manager.specs.declared.journal.DeskFixed.{DeskFixed}
 use Rattle.version_manager.specs.Log.{tagged, events}
 use Rattle.version_manager.specs.Laws.{EntriesAreEvents}
 use Rattle.request_form.specs.Session.{Session}
+use Rattle.request_form.specs.Answers.{max_update}
 use Rattle.request_form.specs.Replies.{page_faults}
 use Rattle.request_form.specs.declared.form.Fault.{Fault}
 use Rattle.client_session.specs.Sessions.{StoreState, SessionState, session_of}
@@ -37,12 +38,12 @@ use Rattle.workload_run.proofs.Returns.{none_by, same_by, came_back, owns_back, 
 -- ---- sessions
 
 module _ {D : Type 0} (s : SessionState D) where
-  pub fresh_at : EntriesAreEvents → (worker : ℕ) → s.caller ≡ worker + 1 → s.store.fixed.limits ≡ greatest → s.log ≡ tagged (events s.log) → entries_by (worker + 1) s.log ≡ [] → s.held ≡ [] → IsFresh worker (session_of s)
-  fresh_at are worker caller limits tags none none_held = record {
+  pub fresh_at : EntriesAreEvents → (worker : ℕ) → s.caller ≡ worker + 1 → s.store.fixed.limits ≡ greatest → s.log ≡ tagged (events s.log) → entries_by (worker + 1) s.log ≡ [] → s.held ≡ [] → s.limit ≡ max_update → IsFresh worker (session_of s)
+  fresh_at are worker caller limits tags none none_held limit = record {
     caller = caller;
     limits = limits;
     none = none_by are s.log (worker + 1) tags none;
-    none_held = ap (λ (l : List OpenUpdate). tickets_of l) none_held;
+    ready = record { none_held = ap (λ (l : List OpenUpdate). tickets_of l) none_held; limit = limit };
   }
 
 -- what a session has done that hadn't done anything
@@ -180,7 +181,7 @@ module _ {D : Type 0} (are : EntriesAreEvents) (faults : D → ℕ) (plan : Load
         last = omega (arith, r.number, within, count);
         fresh =
             fresh_at o.session are o.number r.caller (ap (λ (t : StoreState). t.fixed.limits) r.of_store ∙ limits)
-            (subst (λ (l : List (ℕ × Event)). l ≡ tagged (events l)) (sym r.seen) tags_first) (subst (λ (l : List (ℕ × Event)). entries_by (o.number + 1) l ≡ []) (sym r.seen) r.none) r.none_held;
+            (subst (λ (l : List (ℕ × Event)). l ≡ tagged (events l)) (sym r.seen) tags_first) (subst (λ (l : List (ℕ × Event)). entries_by (o.number + 1) l ≡ []) (sym r.seen) r.none) r.none_held r.limit;
       }
 
   first_worker : WorkerState D
@@ -320,7 +321,7 @@ module _ {D : Type 0} (are : EntriesAreEvents) (idle : IdleOwnsAll) (plan : Load
   fresh_last : IsFresh old.made (session_of s)
   fresh_last =
       fresh_at s are old.made fresh.caller (ap (λ (t : StoreState). t.fixed.limits) fresh.of_store ∙ limits) (subst (λ (l : List (ℕ × Event)). l ≡ tagged (events l)) (sym fresh.log) tags_old)
-      (subst (λ (c : ℕ). entries_by c s.log ≡ []) fresh.caller fresh.none) fresh.none_held
+      (subst (λ (c : ℕ). entries_by c s.log ≡ []) fresh.caller fresh.none) fresh.none_held fresh.limit
 
   seen_first : (session_of s).seen ≡ events old.seen
   seen_first = ap (λ (l : List (ℕ × Event)). events l) fresh.log
@@ -396,7 +397,7 @@ module _ {D : Type 0} (are : EntriesAreEvents) (idle : IdleOwnsAll) (stay : Owns
   fresh_zero : IsFresh 0 (session_of s)
   fresh_zero =
       fresh_at s are 0 caller_first (ap (λ (t : StoreState). t.fixed.limits) fresh.of_store ∙ limits) (subst (λ (l : List (ℕ × Event)). l ≡ tagged (events l)) (sym fresh.log) tags_first)
-      (subst (λ (c : ℕ). entries_by c s.log ≡ []) caller_first fresh.none) fresh.none_held
+      (subst (λ (c : ℕ). entries_by c s.log ≡ []) caller_first fresh.none) fresh.none_held fresh.limit
 
   made_one : new.made ≡ 1
   made_one = went.made ∙ ap (λ (n : ℕ). n + 1) none_made

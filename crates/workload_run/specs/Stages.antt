@@ -1,5 +1,5 @@
 -- What the owner of a load's store has seen, stage by stage, once the passes came back.
-use Rattle.std.specs.Prelude.{◌≡◌, ◌⊎◌, ℕ, ◌+◌, ◌<◌, ◌≤◌, ◌^◌, ◌-◌, List, [], ◌++◌, Result, Ok, Err, Contains}
+use Rattle.std.specs.Prelude.{◌≡◌, ◌⊎◌, ℕ, ◌+◌, ◌<◌, ◌≤◌, List, [], ◌++◌, Result, Ok, Err, Contains}
 use Rattle.blob_model.specs.Limits.{greatest}
 use Rattle.blob_model.specs.History.{store_of, IsLegal, events_by}
 use Rattle.blob_model.specs.declared.call.Event.{Event}

@@ -3,6 +3,7 @@ use Rattle.std.specs.Prelude.{◌≡◌, ℕ, ◌+◌, ◌<◌, ◌≤◌, List,
 use Rattle.blob_model.specs.declared.call.Event.{Event}
 use Rattle.faults.specs.Counts.{RoseBy}
 use Rattle.turn_lock.specs.History.{Begins, entries_by}
+use Rattle.request_form.specs.Answers.{max_update}
 use Rattle.request_form.specs.declared.form.Fault.{Fault}
 use Rattle.client_session.specs.Sessions.{StoreState, SessionState, Continues, session_of}
 use Rattle.workload_law.specs.declared.plan.LoadPlan.{LoadPlan}
@@ -38,6 +39,7 @@ module _ {D : Type 0} where
     pub seen : worker.session.log ≡ log
     pub none : entries_by (worker.number + 1) log ≡ []
     pub none_held : worker.session.held ≡ []
+    pub limit : worker.session.limit ≡ max_update
     pub no_fault : sum_by faults worker.session.doors ≡ 0
 
   -- the workers 1, 2, 3 and so on are ready

@@ -3,11 +3,14 @@
 #![tactic(auto)]
 
 mod crew;
+mod finishing;
 mod loading;
 mod looking;
 mod opening;
 mod starting;
+mod trying;
 mod updating;
+mod waiting;
 mod working;
 
 pub use loading::{LoadFault, load};

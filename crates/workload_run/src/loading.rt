@@ -92,8 +92,10 @@ where
 /// Runs a load on a new store with the greatest limits: its first session makes two blobs, the log and the grid, and fills the
 /// grid with zeros. Then the plan's workers, each in a thread of its own where one can be made and by a session of its own,
 /// append their records to the log and write their cells into the grid; an update that is refused as too many of its blob
-/// wait is done again once the least of them is published. A worker that is refused otherwise, or that finds no memory, hangs
-/// its session up and stops, and the others go on to their ends. One more session reads what both blobs came to.
+/// wait is done again once the least of them is published, and one that is held back is finished once the version before it is
+/// published. A worker that is refused otherwise, or that finds no memory, or whose finish of such an update lost a page, finishes
+/// what it holds, hangs its session up and stops, and the others go on to their ends. One more session reads what both blobs came
+/// to.
 ///
 /// It answers that summary, which is the plan's at every schedule, and the desk of the closed store, whose history is a load's.
 /// Where the opening, a worker or the last session didn't come to its end it answers why, of the lowest such worker: a page was

@@ -64,7 +64,7 @@ pub(crate) fn open_blobs<R: Threads + Wait + Sync, D: BesideDoor, G: Gate>(
         Err(no_grid) => return Err(no_grid),
     }
     match update(rt, session, GRID, Place::Append, zeros) {
-        Ok(_done) => Ok(()),
+        Ok(()) => Ok(()),
         Err(no_zeros) => Err(no_zeros),
     }
 }

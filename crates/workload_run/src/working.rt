@@ -5,7 +5,7 @@ ghost use Rattle.blob_model.specs.Limits.{greatest};
 ghost use Rattle.faults.specs.Counts.{RoseBy};
 ghost use Rattle.client_session.specs.Sessions.{session_of, Continues};
 ghost use Rattle.workload_law.specs.Load.{IsSized};
-ghost use Rattle.workload_run.specs.Updates.{told_faults};
+ghost use Rattle.workload_run.specs.Updates.{IsReady, told_faults};
 ghost use Rattle.workload_run.specs.Work.{IsOperation, Operated, IsFresh, WorkEnds};
 
 use crate::updating::update;
@@ -37,7 +37,7 @@ fn operate<R: Threads + Wait + Sync, D: BesideDoor, G: Gate>(
     requires operation { IsOperation plan.now worker op }
     requires caller { (session_of session.old).caller ≡ worker + 1 }
     requires limits { (session_of session.old).fixed.limits ≡ greatest }
-    requires none_held { (session_of session.old).tickets ≡ [] }
+    requires ready { IsReady (session_of session.old) }
     ensures operated { Operated plan.now worker op result (session_of session.old) (session_of session.new) }
     ensures faults { RoseBy (told_faults result) (sum_by D.faults session.old.doors) (sum_by D.faults session.new.doors) }
     ensures goes_on { Continues session.old session.new }
@@ -45,19 +45,19 @@ fn operate<R: Threads + Wait + Sync, D: BesideDoor, G: Gate>(
     calls_leave();
     let recorded = record(worker, op);
     match update(rt, session, LOG, Place::Append, &recorded) {
-        Ok(_done) => {}
+        Ok(()) => {}
         Err(fault) => return Err(fault),
     }
     let offset = plan.cell_offset(worker, op);
     let written = cell(plan.seed, worker, op);
     match update(rt, session, GRID, Place::WriteAt(offset), &written) {
-        Ok(_done) => Ok(()),
+        Ok(()) => Ok(()),
         Err(lost) => Err(lost),
     }
 }
 
 /// Does all operations of a worker, one after another, by a session that hasn't done anything yet. Where an update isn't done,
-/// and not as too many updates wait, the session hangs up and the worker stops.
+/// and that neither as too many updates wait nor as it is held back, the session hangs up and the worker stops.
 pub fn work<R: Threads + Wait + Sync, D: BesideDoor, G: Gate>(
     rt: &R,
     session: &mut Session<'_, D, G>,

@@ -14,7 +14,7 @@ loop-preserved g c =
     record {
       count = omega (arith, p.len, i.count);
       room = omega (arith, p.capacity, i.room);
-      idle = rw p.items (All-push (IsIdle c.args.shared.now) c.loop.sessions.items c.in-Ok-open_session.session i.idle (record { of_store = m.session.of_store; none_held = m.session.none_held; first_next = m.session.first_next }));
+      idle = rw p.items (All-push (IsIdle c.args.shared.now) c.loop.sessions.items c.in-Ok-open_session.session i.idle (record { of_store = m.session.of_store; none_held = m.session.none_held; first_next = m.session.first_next; first_limit = m.session.limit }));
       owner = m.owner;
       passes_left = i.passes_left;
       made = omega (arith, ap (λ (o : OwnerView _ _). o.made) m.given, i.made);

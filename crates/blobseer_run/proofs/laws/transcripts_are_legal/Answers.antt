@@ -13,8 +13,8 @@ returns-clause-always c = λ fixed items well.
     let made = c.transcripts_hold.ensures.always (first_session fixed 1) items in (
       flat_map said made.0,
       record {
-        alone = record { replies = made.0; last = made.1.0; transcript = made.1.1; says = refl };
-        legal = run_legal c.old_versions_stay.ensures (first_session fixed 1) made.1.0 (until_quit items) made.0 (first_good fixed) made.1.1;
-        calm = made.1.2 well;
+        alone = record { replies = made.0; last = made.1.0; transcript = made.1.1.0; says = refl };
+        legal = run_legal c.old_versions_stay.ensures (first_session fixed 1) made.1.0 (until_quit items) made.0 (first_good fixed) made.1.1.0;
+        calm = made.1.1.1 well;
       },
     )

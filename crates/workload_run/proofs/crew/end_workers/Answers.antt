@@ -1,6 +1,6 @@
-use Rattle.std.proofs.Common.{◌≡◌, ◌∙◌, ℕ, List, [], ◌∷◌, ◌++◌, ap, subst, sym, refl, length, arith}
-use Rattle.std.specs.Prelude.{Err, Some, Option}
-use Rattle.workload_run.specs.Workers.{WorkerState, IsOfStore, AreOfStore, AreBack, AreKept, stop_or}
+use Rattle.std.proofs.Common.{◌≡◌, ◌∙◌, List, [], ◌∷◌, ◌++◌, ap, subst, sym, length, arith}
+use Rattle.std.specs.Prelude.{Some}
+use Rattle.workload_run.specs.Workers.{WorkerState, IsOfStore, AreOfStore}
 use Rattle.workload_run.proofs.Crews.{Ending, none_ended, one_ended, each_last, stopped_by, goes_on_with, all_back, all_kept}
 use Rattle.workload_run.proofs.crew.end_workers.Goals as goal
 

@@ -18,6 +18,7 @@ makes-preserved g c = record {
     seen = search rules;
     none = search rules;
     none_held = search rules;
+    limit = search rules;
     no_fault = search rules;
   });
   owner = search rules;

@@ -1,5 +1,5 @@
-use Rattle.std.proofs.Common.{◌≡◌, ◌∙◌, ℕ, List, ap, subst, sym}
-use Rattle.blob_model.specs.Limits.{Bounds, greatest}
+use Rattle.std.proofs.Common.{◌∙◌, ℕ, List, ap, subst, sym}
+use Rattle.blob_model.specs.Limits.{Bounds}
 use Rattle.blob_model.specs.History.{IsLegal}
 use Rattle.blob_model.specs.declared.call.Event.{Event}
 use Rattle.turn_lock.specs.History.{LacksUngiven}
