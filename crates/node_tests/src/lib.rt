@@ -1,0 +1,9 @@
+//! Tests of page nodes: what a node answers to a stream, and what a door to a node makes of what its link gives.
+#![tactic(auto)]
+
+#[cfg(test)]
+mod doors;
+#[cfg(test)]
+mod links;
+#[cfg(test)]
+mod served;

@@ -1,0 +1,11 @@
+pub mod Node
+pub mod Frames
+pub mod Asking
+pub mod Said
+pub mod Transcript
+pub mod Grammar
+pub mod Link
+pub mod Door
+pub mod Own
+pub mod Loop
+pub mod FarKeeps

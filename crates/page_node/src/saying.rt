@@ -1,0 +1,203 @@
+//! How replies are framed, and what a node is asked. All of it stands in place, and takes no memory.
+ghost use Rattle.std.specs.Prelude.{◌≡◌, ℕ, ◌+◌, ◌<◌, ◌≤◌, ◌^◌, ◌∷◌, ◌++◌, [], List, length, IfOk};
+ghost use Rattle.frame_wire.specs.Said.{field, wide_field, frame_of};
+ghost use Rattle.framing.specs.Begun.{frame_part};
+ghost use Rattle.page_node.specs.Said.{said, asked, fault_fields};
+ghost use Rattle.page_node.specs.declared.form.NodeRequest.TheVariants as Requests;
+ghost use Rattle.page_node.specs.declared.form.NodeReply.TheVariants as Replies;
+ghost use Rattle.page_node.specs.declared.form.NodeFault.TheVariants as Faults;
+
+use crate::form::{NodeFault, NodeReply};
+use arrayvec::ArrayVec;
+use blob_model::Bytes;
+use byteorder::{BigEndian, ByteOrder};
+use faults::NoMemory;
+use request_form::Said;
+use std::alloc::Global;
+
+/// The most bytes of a frame, but for those of a page.
+pub(crate) const MOST: usize = 37;
+
+/// A frame, or its front where a page's bytes come behind it.
+pub(crate) type Front = ArrayVec<u8, MOST>;
+
+// Adds bytes for which there is room.
+fn extend(front: &mut Front, bytes: &[u8])
+    requires { length front.old.items + length bytes.now ≤ 37 }
+    ensures { front.new.items ≡ front.old.items ++ bytes.now }
+{
+    match front.try_extend_from_slice(bytes) {
+        Ok(()) => {}
+        Err(_) => unreachable!(),
+    }
+}
+
+// A frame's length and its operation.
+#[tactic(auto, unfolding(framing::specs::Begun::frame_part))]
+fn begin(count: u32, operation: u8) -> Front
+    ensures front { result.items ≡ frame_part count (operation ∷ []) }
+    ensures length { length result.items ≡ 5 }
+{
+    let mut length = [0u8; 4];
+    BigEndian::write_u32(&mut length, count);
+    let mut front = Front::new();
+    extend(&mut front, &length);
+    extend(&mut front, &[operation]);
+    front
+}
+
+// Adds a number.
+#[tactic(auto, unfolding(frame_wire::specs::Said::field))]
+fn add(front: &mut Front, number: u64)
+    requires { length front.old.items + 8 ≤ 37 }
+    ensures front { front.new.items ≡ front.old.items ++ field number }
+    ensures length { length front.new.items ≡ length front.old.items + 8 }
+{
+    let mut bytes = [0u8; 8];
+    BigEndian::write_u64(&mut bytes, number);
+    extend(front, &bytes);
+}
+
+// Adds a number in 16 bytes.
+#[tactic(auto, unfolding(frame_wire::specs::Said::wide_field))]
+fn add_wide(front: &mut Front, number: u128)
+    requires { length front.old.items + 16 ≤ 37 }
+    ensures front { front.new.items ≡ front.old.items ++ wide_field number }
+    ensures length { length front.new.items ≡ length front.old.items + 16 }
+{
+    let mut bytes = [0u8; 16];
+    BigEndian::write_u128(&mut bytes, number);
+    extend(front, &bytes);
+}
+
+// The frame of an operation and one number.
+fn number_frame(operation: u8, number: u64) -> Front
+    ensures frame { result.items ≡ frame_of (operation ∷ field number) }
+    ensures length { length result.items ≡ 13 }
+{
+    let mut front = begin(9, operation);
+    add(&mut front, number);
+    front
+}
+
+// The frame of a refusal with one number.
+fn refusal_frame(refusal: u64, number: u64) -> Front
+    ensures { result.items ≡ frame_of (255 ∷ (field refusal ++ field number)) }
+{
+    let mut front = begin(17, 255);
+    add(&mut front, refusal);
+    add(&mut front, number);
+    front
+}
+
+// The frame of the refusal with a number of 16 bytes.
+fn past_page_frame(end: u128, length: u64) -> Front
+    ensures { result.items ≡ frame_of (255 ∷ (field 24 ++ (wide_field end ++ field length))) }
+{
+    let mut front = begin(33, 255);
+    add(&mut front, 24);
+    add_wide(&mut front, end);
+    add(&mut front, length);
+    front
+}
+
+/// A refusal's frame.
+pub(crate) fn fault_frame(fault: &NodeFault) -> Front
+    ensures { result.items ≡ said (Replies.Refused fault.now) }
+{
+    match *fault {
+        NodeFault::NoMemory => number_frame(255, 9),
+        NodeFault::EmptyUpdate => number_frame(255, 10),
+        NodeFault::UpdateTooLong { length } => refusal_frame(11, length),
+        NodeFault::NoPage { id } => refusal_frame(23, id),
+        NodeFault::PastPage { end, length } => past_page_frame(end, length),
+        NodeFault::FrameTooLong { length } => refusal_frame(18, length),
+        NodeFault::BadFrame => number_frame(255, 19),
+    }
+}
+
+/// The frame of want of memory.
+pub(crate) fn memory_frame() -> Front
+    ensures frame { result.items ≡ said (Replies.Refused Faults.NoMemory) }
+    ensures length { length result.items ≡ 13 }
+{
+    number_frame(255, 9)
+}
+
+/// The frame that tells a page's id.
+pub(crate) fn kept_frame(id: u64) -> Front
+    ensures frame { result.items ≡ said (Replies.Kept id) }
+    ensures length { length result.items ≡ 13 }
+{
+    number_frame(160, id)
+}
+
+/// The frame of the reply to the last request.
+pub(crate) fn bye_frame() -> Front
+    ensures { result.items ≡ said Replies.Bye }
+{
+    begin(1, 141)
+}
+
+/// What stands before so many bytes that are given.
+pub(crate) fn given_front(count: u32) -> Front
+    requires { count + 1 < 2 ^ 32 }
+    ensures { (bytes : List ℕ) → length bytes ≡ count → result.items ++ bytes ≡ said (Replies.Given bytes) }
+{
+    begin(1 + count, 161)
+}
+
+/// What stands before so many bytes that are put.
+pub(crate) fn put_front(count: u32) -> Front
+    requires { count + 1 < 2 ^ 32 }
+    ensures { (bytes : List ℕ) → length bytes ≡ count → result.items ++ bytes ≡ asked (Requests.Put bytes) }
+{
+    begin(1 + count, 32)
+}
+
+/// The frame of a get.
+pub(crate) fn get_frame(id: u64, from: u64, length: u64) -> Front
+    ensures { result.items ≡ asked (Requests.Get id from length) }
+{
+    let mut front = begin(25, 33);
+    add(&mut front, id);
+    add(&mut front, from);
+    add(&mut front, length);
+    front
+}
+
+// The bytes of a frame as a vector.
+fn whole(alloc: Global, front: &Front) -> Result<Said, NoMemory>
+    ensures { IfOk result (λ parts. parts.head ++ parts.body ≡ front.now.items) }
+{
+    let bytes = Vec::from_slice(alloc, front.as_slice())?;
+    Ok(Said::whole(alloc, Bytes::of(bytes)))
+}
+
+// The frame of given bytes, which are its body as they are.
+fn given(alloc: Global, bytes: Bytes) -> Result<Said, NoMemory>
+    ensures { IfOk result (λ parts. parts.head ++ parts.body ≡ said (Replies.Given bytes)) }
+{
+    // No frame's length counts more.
+    if bytes.len() >= u32::MAX as usize {
+        return Err(NoMemory);
+    }
+    let front = given_front(bytes.len() as u32);
+    let head = Vec::from_slice(alloc, front.as_slice())?;
+    Ok(Said {
+        head: Bytes::of(head),
+        body: bytes,
+    })
+}
+
+/// A reply's frame in two parts. The bytes that a node gives are the body, uncopied. Each other reply is all head.
+pub(crate) fn say(alloc: Global, reply: NodeReply) -> Result<Said, NoMemory>
+    ensures { IfOk result (λ parts. parts.head ++ parts.body ≡ said reply) }
+{
+    match reply {
+        NodeReply::Kept { id } => whole(alloc, &kept_frame(id)),
+        NodeReply::Given { bytes } => given(alloc, bytes),
+        NodeReply::Bye => whole(alloc, &bye_frame()),
+        NodeReply::Refused(fault) => whole(alloc, &fault_frame(&fault)),
+    }
+}
