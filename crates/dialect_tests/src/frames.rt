@@ -68,18 +68,20 @@ static STREAMS: [(&str, &str); 18] = [
     ("0020000000", "cut;"),
 ];
 
-// Feeds a stream in pieces of this length, and checks what it says.
-fn check_stream<R: Abort>(rt: &R, alloc: Global, stream: &[u8], want: &str, piece: usize) {
+/// Feeds a stream in pieces of this length, and checks what it says.
+pub fn check_stream<R: Abort>(rt: &R, alloc: Global, stream: &[u8], want: &str, piece: usize) {
     let mut dialect = FrameDialect::new(alloc).expect(rt, "memory");
     let told = heard_in_pieces(rt, alloc, &mut dialect, stream, piece);
     assert_eq!(rt; told.as_str(), want, "in pieces of {piece}");
 }
 
-fn decoded<R: Abort>(rt: &R, alloc: Global, digits: &str) -> Vec<u8> {
+/// The bytes that hex digits spell.
+pub fn decoded<R: Abort>(rt: &R, alloc: Global, digits: &str) -> Vec<u8> {
     hex::decode(alloc, digits).expect(rt, digits)
 }
 
-fn check_streams<R: Abort>(rt: &R, alloc: Global, rows: &[(&str, &str)], piece: usize) {
+/// Checks what streams in hex digits say that are fed in pieces of this length.
+pub fn check_streams<R: Abort>(rt: &R, alloc: Global, rows: &[(&str, &str)], piece: usize) {
     for (digits, want) in rows {
         let stream = decoded(rt, alloc, digits);
         check_stream(rt, alloc, stream.as_slice(), want, piece);
@@ -93,15 +95,15 @@ fn streams_say_the_same_in_pieces_of_any_length(rt: HostRuntime) {
     }
 }
 
-// Feeds a stream in two pieces, the first with so many bytes, and checks what it says.
-fn check_cut<R: Abort>(rt: &R, alloc: Global, stream: &[u8], want: &str, at: usize) {
+/// Feeds a stream in two pieces, the first with so many bytes, and checks what it says.
+pub fn check_cut<R: Abort>(rt: &R, alloc: Global, stream: &[u8], want: &str, at: usize) {
     let mut dialect = FrameDialect::new(alloc).expect(rt, "memory");
     let told = heard_cut_at(rt, alloc, &mut dialect, stream, at);
     assert_eq!(rt; told.as_str(), want, "cut at {at}");
 }
 
-// The same, cut at each byte.
-fn check_cuts<R: Abort>(rt: &R, alloc: Global, digits: &str, want: &str) {
+/// The same of a stream in hex digits, cut at each byte.
+pub fn check_cuts<R: Abort>(rt: &R, alloc: Global, digits: &str, want: &str) {
     let stream = decoded(rt, alloc, digits);
     for at in 0..stream.len() {
         check_cut(rt, alloc, stream.as_slice(), want, at);

@@ -34,7 +34,17 @@ fn update<R: Abort>(rt: &R, alloc: Global, name: &str, place: &[u64], bytes: &By
     told
 }
 
-// A request, as a line would spell it.
+// A read of many ranges: a name, a blob and its version, and the numbers of each range.
+fn read_many<R: Abort>(rt: &R, alloc: Global, target: &[u64], ranges: &[(u64, u64)]) -> String {
+    let mut told = command(rt, alloc, "read-many", target);
+    for (offset, length) in ranges {
+        add_number(rt, alloc, &mut told, *offset);
+        add_number(rt, alloc, &mut told, *length);
+    }
+    told
+}
+
+// A request, as a line would spell it if lines had each.
 fn spelled<R: Abort>(rt: &R, alloc: Global, request: &Request) -> String {
     match request {
         Request::Create => command(rt, alloc, "create", &[]),
@@ -64,6 +74,13 @@ fn spelled<R: Abort>(rt: &R, alloc: Global, request: &Request) -> String {
         Request::Sync { blob, version } => command(rt, alloc, "sync", &[*blob, *version]),
         Request::Status { blob } => command(rt, alloc, "status", &[*blob]),
         Request::Branch { blob, version } => command(rt, alloc, "branch", &[*blob, *version]),
+        Request::Hello { version } => command(rt, alloc, "hello", &[*version]),
+        Request::ReadMany {
+            blob,
+            version,
+            ranges,
+        } => read_many(rt, alloc, &[*blob, *version], ranges.as_slice()),
+        Request::Repair { blob, version } => command(rt, alloc, "repair", &[*blob, *version]),
         Request::Quit => command(rt, alloc, "quit", &[]),
     }
 }

@@ -9,3 +9,5 @@ mod heard;
 mod lines;
 #[cfg(test)]
 mod replies;
+#[cfg(test)]
+mod second;

@@ -8,7 +8,7 @@ use std::process::Abort;
 static PIECES: [usize; 4] = [1, 2, 7, 65_536];
 
 // A script and what it says.
-static SCRIPTS: [(&str, &str); 16] = [
+static SCRIPTS: [(&str, &str); 18] = [
     ("", ""),
     (
         "create\nappend 1 616263646566\nread 1 1 0 6\n",
@@ -60,6 +60,14 @@ static SCRIPTS: [(&str, &str); 16] = [
     (
         "Quit\nstart_append 1 aa\nbranch 01 1\nbranch 18446744073709551615 0\n",
         "malformed;malformed;malformed;branch 18446744073709551615 0;",
+    ),
+    (
+        "repair 1 1\nrepair 18446744073709551615 0\nrepair 1\nrepair 1 2 3\nrepair 01 1\nrepair\nRepair 1 1\n",
+        "repair 1 1;repair 18446744073709551615 0;malformed;malformed;malformed;malformed;malformed;",
+    ),
+    (
+        "hello 2\nhello\nread-many 1 1 0 1\nread 1 1 0 1 2 1\n",
+        "malformed;malformed;malformed;malformed;",
     ),
 ];
 

@@ -47,7 +47,7 @@ const SIZE: u64 = 18_446_744_073_709_551_615;
 const TICKET: u64 = 3;
 
 // A reply to a change, its line, and its frame in hex digits.
-const CHANGES: [(Reply, &str, &str); 9] = [
+const CHANGES: [(Reply, &str, &str); 11] = [
     (
         Reply::Created { blob: 1 },
         "blob 1\n",
@@ -111,6 +111,16 @@ const CHANGES: [(Reply, &str, &str); 9] = [
         "blob 258\n",
         "000000098c0000000000000102",
     ),
+    (
+        Reply::HelloIs { version: 2 },
+        "hello 2\n",
+        "000000098e0000000000000002",
+    ),
+    (
+        Reply::Repaired { published: 3 },
+        "published 3\n",
+        "00000009900000000000000003",
+    ),
 ];
 
 // A reply to a look, its line, and its frame in hex digits.
@@ -167,9 +177,20 @@ static CONTENTS: [(&[u8], &str, &str); 3] = [
     (b"", "data -\n", "0000000187"),
 ];
 
+// The same of a read of many ranges.
+static RANGES: [(&[u8], &str, &str); 2] = [
+    (b"cab", "data 636162\n", "000000048f636162"),
+    (b"", "data -\n", "000000018f"),
+];
+
 fn content<R: Abort>(rt: &R, alloc: Global, bytes: &[u8]) -> Reply {
     let bytes = Bytes::of(bytes.to_vec(alloc).expect(rt, "memory"));
     Reply::Content { bytes }
+}
+
+fn contents<R: Abort>(rt: &R, alloc: Global, bytes: &[u8]) -> Reply {
+    let bytes = Bytes::of(bytes.to_vec(alloc).expect(rt, "memory"));
+    Reply::Contents { bytes }
 }
 
 // Checks that what is said in two parts is these bytes.
@@ -181,33 +202,34 @@ fn check_joined<R: Abort>(rt: &R, alloc: Global, parts: &Said, whole: &[u8]) {
     assert_eq!(rt; joined.as_slice(), whole);
 }
 
-// What was read, said in two parts, where they are what is said of it whole.
-fn parts_of_content<R: Abort, T: Dialect>(
-    rt: &R,
-    alloc: Global,
-    dialect: &T,
-    bytes: &[u8],
-) -> Said {
-    let reply = content(rt, alloc, bytes);
+// A reply said in two parts, where they are what is said of it whole.
+fn said_in_parts<R: Abort, T: Dialect>(rt: &R, alloc: Global, dialect: &T, reply: Reply) -> Said {
     let whole = said(rt, dialect, &reply);
     let parts = dialect.say_in_parts(reply).expect(rt, "memory");
     check_joined(rt, alloc, &parts, whole.as_slice());
     parts
 }
 
-// Checks that a frame's body is what was read, so many bytes.
-fn check_body<R: Abort>(rt: &R, alloc: Global, dialect: &FrameDialect, count: usize) {
-    let bytes = vec![in alloc; b'z'; count].expect(rt, "memory");
-    let parts = parts_of_content(rt, alloc, dialect, bytes.as_slice());
+// Checks that a frame's body is what was read.
+fn check_body<R: Abort>(rt: &R, alloc: Global, reply: Reply, bytes: &[u8]) {
+    let dialect = FrameDialect::new(alloc).expect(rt, "memory");
+    let parts = said_in_parts(rt, alloc, &dialect, reply);
     assert_eq!(rt; parts.head.len(), 5);
-    assert_eq!(rt; parts.body.as_slice(), bytes.as_slice());
+    assert_eq!(rt; parts.body.as_slice(), bytes);
+}
+
+// The same of so many bytes that were read.
+fn check_bodies<R: Abort>(rt: &R, alloc: Global, count: usize) {
+    let bytes = vec![in alloc; b'z'; count].expect(rt, "memory");
+    let bytes = bytes.as_slice();
+    check_body(rt, alloc, content(rt, alloc, bytes), bytes);
+    check_body(rt, alloc, contents(rt, alloc, bytes), bytes);
 }
 
 #[test]
 fn what_was_read_is_the_body_of_its_frame(rt: HostRuntime) {
-    let dialect = FrameDialect::new(rt.alloc()).expect(&rt, "memory");
     for count in [0usize, 1, 5, 4096, 100_000] {
-        check_body(&rt, rt.alloc(), &dialect, count);
+        check_bodies(&rt, rt.alloc(), count);
     }
 }
 
@@ -220,7 +242,8 @@ fn check_head<R: Abort>(rt: &R, parts: &Said, head: &[u8]) {
 #[test]
 fn each_other_reply_has_no_body(rt: HostRuntime) {
     let lines = ScriptDialect::new(rt.alloc()).expect(&rt, "memory");
-    let parts = parts_of_content(&rt, rt.alloc(), &lines, b"\x00abz\xff");
+    let reply = content(&rt, rt.alloc(), b"\x00abz\xff");
+    let parts = said_in_parts(&rt, rt.alloc(), &lines, reply);
     check_head(&rt, &parts, b"data 0061627aff\n");
     let frames = FrameDialect::new(rt.alloc()).expect(&rt, "memory");
     let parts = frames.say_in_parts(Reply::Bye).expect(&rt, "memory");
@@ -231,6 +254,10 @@ fn each_other_reply_has_no_body(rt: HostRuntime) {
 fn what_was_read_is_a_line_and_a_frame(rt: HostRuntime) {
     for (bytes, line, frame) in CONTENTS.as_slice() {
         let reply = content(&rt, rt.alloc(), bytes);
+        check_reply(&rt, rt.alloc(), &reply, line, frame);
+    }
+    for (bytes, line, frame) in RANGES.as_slice() {
+        let reply = contents(&rt, rt.alloc(), bytes);
         check_reply(&rt, rt.alloc(), &reply, line, frame);
     }
 }

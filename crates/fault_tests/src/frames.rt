@@ -1,4 +1,4 @@
-//! Wrong frames, each in a stream of its own behind one that makes a blob.
+//! Wrong frames, each in a stream of its own behind one that makes a blob; and streams that say hello.
 ghost use Rattle.client_session.specs.Sessions.{IsOwnerOf};
 
 use blob_model::Limits;
@@ -18,10 +18,10 @@ use std::thread::Threads;
 use tree_geom::PageSize;
 
 // More bytes than any replies here have.
-const ROOM: usize = 64;
+const ROOM: usize = 256;
 
 // More bytes than any stream here has.
-const LIMIT: u64 = 1 << 22;
+const LIMIT: u64 = 1 << 25;
 
 // A store with no blobs, and its owner.
 fn store_of<R: Abort>(rt: &R, alloc: Global) -> (Shared, Owner)
@@ -159,5 +159,92 @@ fn check_frame<R: Wait + Threads + Sync + Abort>(
 fn wrong_frames_are_answered_or_cut(rt: HostRuntime) {
     for (frame, zeros, end, reply) in FRAMES.as_slice() {
         check_frame(&rt, rt.alloc(), frame, *zeros, *end, reply);
+    }
+}
+
+// A stream, and its replies.
+static STREAMS: [(&str, &str); 4] = [
+    // After hello two ranges are read in one, and another hello is wrong.
+    (
+        "000000090e000000000000000200000001010000000c02000000000000000161626300000031\
+         0f00000000000000010000000000000001000000000000000200000000000000010000000000000000\
+         0000000000000002000000090e0000000000000002",
+        "000000098e0000000000000002000000098100000000000000010000001982000000000000000100000000000000000000000000000003\
+         000000048f63616200000009ff0000000000000013",
+    ),
+    // Without it both are.
+    (
+        "00000001010000000c02000000000000000161626300000031\
+         0f00000000000000010000000000000001000000000000000200000000000000010000000000000000\
+         0000000000000002000000090e0000000000000002",
+        "000000098100000000000000010000001982000000000000000100000000000000000000000000000003\
+         00000009ff000000000000001300000009ff0000000000000013",
+    ),
+    // After hello a version is repaired.
+    (
+        "000000090e000000000000000200000001010000000a040000000000000001aa000000111000000000000000010000000000000001",
+        "000000098e0000000000000002000000098100000000000000010000002184000000000000000100000000000000010000000000000000\
+         000000000000000100000009900000000000000001",
+    ),
+    // Without it that is wrong.
+    (
+        "00000001010000000a040000000000000001aa000000111000000000000000010000000000000001",
+        "000000098100000000000000010000002184000000000000000100000000000000010000000000000000000000000000000100000009ff0000000000000013",
+    ),
+];
+
+fn check_stream<R: Wait + Threads + Sync + Abort>(rt: &R, alloc: Global, stream: &str, want: &str) {
+    let bytes = hex::decode(alloc, stream).expect(rt, "digits");
+    let (end, replies) = served(rt, alloc, bytes);
+    assert_eq!(rt; replies.as_str(), want, "{stream}");
+    assert!(rt; end == End::InputEnd, "{stream}");
+}
+
+#[test]
+fn a_stream_that_says_hello_has_the_frames_of_version_2(rt: HostRuntime) {
+    for (stream, replies) in STREAMS.as_slice() {
+        check_stream(&rt, rt.alloc(), stream, replies);
+    }
+}
+
+// The beginning of a frame, how many zeros follow it, and the reply, each between a hello and a frame that makes a blob.
+static LONG_FRAMES: [(&str, usize, &str); 2] = [
+    (
+        "0100000a020000000000000001",
+        16_777_217,
+        "00000011ff000000000000000b0000000001000001",
+    ),
+    (
+        "01100001",
+        17_825_793,
+        "00000011ff00000000000000120000000001100001",
+    ),
+];
+
+fn check_long<R: Wait + Threads + Sync + Abort>(
+    rt: &R,
+    alloc: Global,
+    frame: &str,
+    zeros: usize,
+    reply: &str,
+) {
+    let begin = format!(in alloc; "000000090e0000000000000002{frame}").expect(rt, "memory");
+    let mut stream = hex::decode(alloc, begin.as_str()).expect(rt, "digits");
+    add_zeros(&mut stream, zeros).expect(rt, "memory");
+    stream
+        .extend_from_slice(b"\x00\x00\x00\x01\x01".as_slice())
+        .expect(rt, "memory");
+    let (end, replies) = served(rt, alloc, stream);
+    let want = format!(in alloc; "000000098e0000000000000002{reply}{CREATED}").expect(rt, "memory");
+    assert!(rt;
+        end == End::InputEnd && replies.as_str() == want.as_str(),
+        "{frame}"
+    );
+}
+
+#[test]
+fn after_hello_updates_and_frames_are_longer_and_not_longer_than_that(rt: HostRuntime) {
+    for (frame, zeros, reply) in LONG_FRAMES.as_slice() {
+        check_long(&rt, rt.alloc(), frame, *zeros, reply);
     }
 }

@@ -7,6 +7,8 @@ mod accepts;
 #[cfg(test)]
 mod doors;
 #[cfg(test)]
+mod folding;
+#[cfg(test)]
 mod frames;
 #[cfg(test)]
 mod program;

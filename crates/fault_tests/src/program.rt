@@ -92,8 +92,8 @@ where
     Ran { out, err, status }
 }
 
-// A listener to which nobody comes.
-fn nobody<'a>(alloc: Global) -> MemListener<Pair<'a, MemSource, MemSink>> {
+/// A listener to which nobody comes.
+pub(crate) fn nobody<'a>(alloc: Global) -> MemListener<Pair<'a, MemSource, MemSink>> {
     MemListener::new(String::new(alloc), VecDeque::new(alloc), Vec::new(alloc))
 }
 

@@ -28,7 +28,7 @@ const FIRST_REPLIES: &str = "blob 1\nversion 1 at 0 size 6\ndata 616263646566\n"
 const SMALL_PAGES: &str = "run --page 4 --providers 3 --replicas 2";
 
 // Scripts and their replies.
-static ROWS: [(&str, &str); 21] = [
+static ROWS: [(&str, &str); 25] = [
     ("", ""),
     (FIRST, FIRST_REPLIES),
     (
@@ -112,6 +112,47 @@ static ROWS: [(&str, &str); 21] = [
          read 1 1 0 1\nstatus 3\n",
         "blob 1\nversion 1 at 0 size 1\nblob 2\nblob 3\nversion 2 at 0 size 1\nversion 1 at 0 size 1\ndata bb\n\
          data cc\ndata aa\nstatus assigned 1 published 1 held 0\n",
+    ),
+    // Sixteen changes of a part of a page: the last one stores the page anew.
+    (
+        "create\nappend 1 0000\nwrite 1 0 ff\nwrite 1 0 ff\nwrite 1 0 ff\nwrite 1 0 ff\nwrite 1 0 ff\nwrite 1 0 ff\n\
+         write 1 0 ff\nwrite 1 0 ff\nwrite 1 0 ff\nwrite 1 0 ff\nwrite 1 0 ff\nwrite 1 0 ff\nwrite 1 0 ff\n\
+         write 1 0 ff\nwrite 1 0 ff\nwrite 1 0 ff\nread 1 16 0 2\nread 1 17 0 2\n",
+        "blob 1\nversion 1 at 0 size 2\nversion 2 at 0 size 2\nversion 3 at 0 size 2\nversion 4 at 0 size 2\n\
+         version 5 at 0 size 2\nversion 6 at 0 size 2\nversion 7 at 0 size 2\nversion 8 at 0 size 2\n\
+         version 9 at 0 size 2\nversion 10 at 0 size 2\nversion 11 at 0 size 2\nversion 12 at 0 size 2\n\
+         version 13 at 0 size 2\nversion 14 at 0 size 2\nversion 15 at 0 size 2\nversion 16 at 0 size 2\n\
+         version 17 at 0 size 2\ndata ff00\ndata ff00\n",
+    ),
+    // The update that stores the page anew is finished only once the version before it is published.
+    (
+        "create\nappend 1 0000\nwrite 1 0 ff\nwrite 1 0 ff\nwrite 1 0 ff\nwrite 1 0 ff\nwrite 1 0 ff\nwrite 1 0 ff\n\
+         write 1 0 ff\nwrite 1 0 ff\nwrite 1 0 ff\nwrite 1 0 ff\nwrite 1 0 ff\nwrite 1 0 ff\nwrite 1 0 ff\n\
+         write 1 0 ff\nstart-write 1 0 aa\nstart-write 1 0 bb\nfinish 2\nwrite 1 0 cc\nfinish 1\nfinish 2\n\
+         read 1 17 0 2\nread 1 18 0 2\n",
+        "blob 1\nversion 1 at 0 size 2\nversion 2 at 0 size 2\nversion 3 at 0 size 2\nversion 4 at 0 size 2\n\
+         version 5 at 0 size 2\nversion 6 at 0 size 2\nversion 7 at 0 size 2\nversion 8 at 0 size 2\n\
+         version 9 at 0 size 2\nversion 10 at 0 size 2\nversion 11 at 0 size 2\nversion 12 at 0 size 2\n\
+         version 13 at 0 size 2\nversion 14 at 0 size 2\nversion 15 at 0 size 2\nticket 1 version 16 at 0 size 2\n\
+         ticket 2 version 17 at 0 size 2\nerror pending 16 held 16\nversion 18 at 0 size 2\npublished 16\n\
+         published 18\ndata bb00\ndata cc00\n",
+    ),
+    // Until then it is held, where it was to be finished at once.
+    (
+        "create\nappend 1 0000\nwrite 1 0 ff\nwrite 1 0 ff\nwrite 1 0 ff\nwrite 1 0 ff\nwrite 1 0 ff\nwrite 1 0 ff\n\
+         write 1 0 ff\nwrite 1 0 ff\nwrite 1 0 ff\nwrite 1 0 ff\nwrite 1 0 ff\nwrite 1 0 ff\nwrite 1 0 ff\n\
+         write 1 0 ff\nstart-write 1 0 aa\nwrite 1 0 bb\nfinish 1\nfinish 2\n",
+        "blob 1\nversion 1 at 0 size 2\nversion 2 at 0 size 2\nversion 3 at 0 size 2\nversion 4 at 0 size 2\n\
+         version 5 at 0 size 2\nversion 6 at 0 size 2\nversion 7 at 0 size 2\nversion 8 at 0 size 2\n\
+         version 9 at 0 size 2\nversion 10 at 0 size 2\nversion 11 at 0 size 2\nversion 12 at 0 size 2\n\
+         version 13 at 0 size 2\nversion 14 at 0 size 2\nversion 15 at 0 size 2\nticket 1 version 16 at 0 size 2\n\
+         ticket 2 version 17 at 0 size 2\npublished 16\npublished 17\n",
+    ),
+    // A repaired version takes its ticket.
+    (
+        "create\nstart-append 1 aa\nrepair 1 1\nfinish 1\nrepair 1 1\nrepair 1 2\nrepair 1 0\n",
+        "blob 1\nticket 1 version 1 at 0 size 1\npublished 1\nerror no-ticket 1\nerror already 1\n\
+         error not-published 2 1\nerror already 0\n",
     ),
 ];
 

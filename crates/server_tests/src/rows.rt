@@ -108,6 +108,32 @@ fn peers_one_after_the_other(rt: HostRuntime) {
     }
 }
 
+// A frame that appends so many zeros, in digits, behind one that makes a blob.
+fn long_append<R: Abort>(rt: &R, alloc: Global, head: &str, count: u32) -> String {
+    let mut digits = String::from_str(alloc, "0000000101").expect(rt, "memory");
+    digits.push_str(head).expect(rt, "memory");
+    for _ in 0..count {
+        digits.push_str("00").expect(rt, "memory");
+    }
+    digits
+}
+
+// The first of two peers says hello. The next one's updates have a mebibyte again.
+#[test]
+fn the_next_peer_has_the_lesser_limit_again(rt: HostRuntime) {
+    let alloc: Global = rt.alloc();
+    let long = long_append(&rt, alloc, "0010000a020000000000000001", 1_048_577);
+    let mut lines = two_giving(&rt, alloc, "000000090e0000000000000002", long.as_str());
+    let none = Vec::new(alloc);
+    let served = serve_anew(&rt, alloc, &FreeGate, lines.as_mut_slice(), none, 1, 2);
+    assert!(rt; served == Ok(2));
+    let wanted = [
+        "000000098e0000000000000002",
+        "0000000981000000000000000100000011ff000000000000000b0000000000100001",
+    ];
+    check_all_got(&rt, alloc, lines.as_slice(), &wanted);
+}
+
 // Three peers, and a listener.
 #[derive(Clone, Copy)]
 struct Listening {

@@ -5,6 +5,10 @@
 #[cfg(test)]
 mod branches;
 #[cfg(test)]
+mod lengths;
+#[cfg(test)]
+mod parts;
+#[cfg(test)]
 mod scripts;
 #[cfg(test)]
 mod session;

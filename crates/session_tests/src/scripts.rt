@@ -107,7 +107,7 @@ const CALM_ROWS: [Row; 13] = [
 ];
 
 // Of six bytes the first page lies at the providers 1 and 2, and the second at 3 and 1.
-const FAILING_ROWS: [Row; 8] = [
+const FAILING_ROWS: [Row; 10] = [
     // The first get of the first replica fails.
     Row {
         failing: [&[3], &[], &[]],
@@ -145,11 +145,23 @@ const FAILING_ROWS: [Row; 8] = [
         script: "create\nappend 1 61\nstatus 1\n",
         replies: "blob 1\nerror page-fault 0\nstatus assigned 0 published 0 held 0\n",
     },
-    // Each put of the second page fails, also where the update would be refused. The next update finds other providers.
+    // Each put of the second page fails. The next update finds other providers.
     Row {
         failing: [&[2], &[], &[1]],
-        script: "create\nstart-write 1 7 616263646566\nappend 1 6162\nread 1 1 0 2\nfinish 1\n",
+        script: "create\nstart-write 1 0 616263646566\nappend 1 6162\nread 1 1 0 2\nfinish 1\n",
         replies: "blob 1\nerror page-fault 1\nversion 1 at 0 size 2\ndata 6162\nerror no-ticket 1\n",
+    },
+    // An update of several pages that the store refuses calls no door. One of a single page is stored before it is refused.
+    Row {
+        failing: [EVERY, EVERY, EVERY],
+        script: "create\nstart-write 1 7 616263646566\nappend 2 616263646566\nstart-write 1 7 61\n",
+        replies: "blob 1\nerror offset-past-size 7 0\nerror no-blob 2\nerror page-fault 0\n",
+    },
+    // Nor is it placed: the next page goes to the first two providers.
+    Row {
+        failing: [&[1], &[1], &[]],
+        script: "create\nstart-write 1 7 616263646566\nappend 1 61\n",
+        replies: "blob 1\nerror offset-past-size 7 0\nerror page-fault 0\n",
     },
     // A branch reads its parent's pages by the same doors.
     Row {

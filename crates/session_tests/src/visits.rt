@@ -1,7 +1,8 @@
 //! How many node steps a read takes: as many as the shape of the tree asks for, and no step more.
 ghost use Rattle.std.specs.Prelude.{◌≡◌, ◌<◌};
 
-use crate::session::{replies_to, said_to_script, session_of, store_of};
+use crate::session::{replies_to, session_of, store_of};
+use blob_model::Place;
 use client_session::Session;
 use page_store::{PlainDoor, PlainMaker};
 use ports::gate::FreeGate;
@@ -16,10 +17,10 @@ use tree_geom::Steps;
 
 // A range of a version of blob 1.
 #[derive(Clone, Copy)]
-struct Part {
-    version: u64,
-    offset: u64,
-    count: u64,
+pub(crate) struct Part {
+    pub(crate) version: u64,
+    pub(crate) offset: u64,
+    pub(crate) count: u64,
 }
 
 // Reads it, and says how many bytes came and how many node steps it took.
@@ -38,12 +39,50 @@ fn counted_by<R: Threads + Wait + Sync, L: Ledger>(
     Ok((bytes.into_vec(), steps.taken()))
 }
 
-fn counted<R: Threads + Wait + Sync + Abort>(
+/// Reads it, and says how many bytes came and how many node steps it took.
+pub(crate) fn counted<R: Threads + Wait + Sync + Abort>(
     rt: &R,
     session: &mut Session<'_, PlainDoor, FreeGate>,
     part: Part,
 ) -> (Vec<u8>, u64) {
     counted_by::<R, Brand>(rt, session, part, Blank::new(1)).expect(rt, "a read")
+}
+
+// Opens version 1 of blob 1, writes over its first byte, and reads the two bytes of what is open.
+fn opened_by<R: Threads + Wait + Sync + Abort, L: Ledger>(
+    rt: &R,
+    session: &mut Session<'_, PlainDoor, FreeGate>,
+    blank: Blank,
+) -> Vec<u8>
+    requires name { blank.name ≡ L.name }
+    requires parts { blank.parts ≡ L.parts }
+    requires some { 0 < blank.parts }
+{
+    let mut steps = Steps::<L>::open(blank);
+    let snapshot = session.open(rt, 1, 1).expect(rt, "a snapshot");
+    session
+        .write(rt, 1, 0, b"z".as_slice())
+        .expect(rt, "an update");
+    let bytes = session.read_at(&snapshot, 0, 2, &mut steps);
+    bytes.expect(rt, "a read").into_vec()
+}
+
+fn opened<R: Threads + Wait + Sync + Abort>(
+    rt: &R,
+    session: &mut Session<'_, PlainDoor, FreeGate>,
+) -> Vec<u8> {
+    opened_by::<R, Brand>(rt, session, Blank::new(1))
+}
+
+#[test]
+fn what_is_held_open_is_read_whatever_has_come_since(rt: HostRuntime) {
+    let alloc = rt.alloc();
+    let (shared, mut owner) = store_of(&rt, alloc, 4);
+    let mut maker = PlainMaker::new();
+    let mut session = session_of(&rt, alloc, &shared, &mut owner, &mut maker, &FreeGate);
+    replies_to(&rt, alloc, &mut session, FIFTEEN);
+    let bytes = opened(&rt, &mut session);
+    assert_eq!(rt; bytes.as_slice(), b"\x00\x00".as_slice());
 }
 
 // Updates of blob 1, a range of its last version, its bytes, and the node steps of reading it.
@@ -55,8 +94,19 @@ struct Visits<'a> {
     steps: u64,
 }
 
+// Two bytes, of which the first is written sixteen times.
+const PARTS: &str =
+    "create\nappend 1 0000\nwrite 1 0 ff\nwrite 1 0 ff\nwrite 1 0 ff\nwrite 1 0 ff\nwrite 1 0 ff\nwrite 1 0 ff\n\
+    write 1 0 ff\nwrite 1 0 ff\nwrite 1 0 ff\nwrite 1 0 ff\nwrite 1 0 ff\nwrite 1 0 ff\nwrite 1 0 ff\nwrite 1 0 ff\nwrite 1 0 ff\n\
+    write 1 0 ff\n";
+
+// Two bytes, of which the first is written fifteen times.
+const FIFTEEN: &str =
+    "create\nappend 1 0000\nwrite 1 0 ff\nwrite 1 0 ff\nwrite 1 0 ff\nwrite 1 0 ff\nwrite 1 0 ff\nwrite 1 0 ff\n\
+    write 1 0 ff\nwrite 1 0 ff\nwrite 1 0 ff\nwrite 1 0 ff\nwrite 1 0 ff\nwrite 1 0 ff\nwrite 1 0 ff\nwrite 1 0 ff\nwrite 1 0 ff\n";
+
 // Pages of four bytes.
-const VISITS: [Visits; 6] = [
+const VISITS: [Visits; 7] = [
     // The root, a leaf, and the older leaf of the same page.
     Visits {
         script: "create\nappend 1 616263646566\nappend 1 5859\n",
@@ -88,15 +138,27 @@ const VISITS: [Visits; 6] = [
         bytes: b"abcdefghi",
         steps: 6,
     },
+    // Sixteen versions that write the first byte: the leaves of one page, one behind another.
     Visits {
-        script: "create\nappend 1 61626364\nwrite 1 0 ff\nwrite 1 1 fe\n",
+        script: PARTS,
         part: Part {
-            version: 3,
+            version: 16,
             offset: 0,
-            count: 4,
+            count: 2,
         },
-        bytes: b"\xff\xfecd",
-        steps: 3,
+        bytes: b"\xff\x00",
+        steps: 16,
+    },
+    // The next one stores the page anew.
+    Visits {
+        script: PARTS,
+        part: Part {
+            version: 17,
+            offset: 0,
+            count: 2,
+        },
+        bytes: b"\xff\x00",
+        steps: 1,
     },
     Visits {
         script: "create\nappend 1 616263646566\nwrite 1 3 ffff\n",
@@ -152,6 +214,48 @@ fn a_read_takes_as_many_node_steps_as_it_needs(rt: HostRuntime) {
     }
 }
 
+// Finishes the update of a ticket. Where no memory is found it does so again.
+fn finish_again<R: Threads + Wait + Sync>(
+    rt: &R,
+    session: &mut Session<'_, PlainDoor, FreeGate>,
+    ticket: u64,
+) -> Result<u64, Fault> {
+    match session.finish(rt, ticket) {
+        Err(Fault::NoMemory) => session.finish(rt, ticket),
+        finished => finished,
+    }
+}
+
+// Starts one more update of a blob, finishes it, and reads its version.
+fn finished_after<R: Threads + Wait + Sync + Abort>(
+    rt: &R,
+    session: &mut Session<'_, PlainDoor, FreeGate>,
+) -> (Vec<u8>, u64) {
+    let started = session
+        .start(rt, 1, Place::WriteAt(1), b"a".as_slice())
+        .expect(rt, "a ticket");
+    let published = finish_again(rt, session, started.ticket);
+    assert!(rt; published == Ok(started.version));
+    let whole = Part {
+        version: started.version,
+        offset: 0,
+        count: 2,
+    };
+    counted(rt, session, whole)
+}
+
+// It stores the page anew. It comes to the same where an allocation of the finish is refused.
+#[test]
+fn a_finish_that_stores_a_page_anew_is_done_again_after_want_of_memory(rt: HostRuntime) {
+    let alloc = rt.alloc();
+    let (shared, mut owner) = store_of(&rt, alloc, 4);
+    let mut maker = PlainMaker::new();
+    let mut session = session_of(&rt, alloc, &shared, &mut owner, &mut maker, &FreeGate);
+    replies_to(&rt, alloc, &mut session, FIFTEEN);
+    let (bytes, steps) = finished_after(&rt, &mut session);
+    assert_eq!(rt; (bytes.as_slice(), steps), (b"\xffa".as_slice(), 1));
+}
+
 // So many bytes, of which no two pages have the same.
 fn long_bytes<R: Abort>(rt: &R, alloc: Global, count: u32) -> Vec<u8> {
     let mut bytes = Vec::with_capacity(alloc, count as usize).expect(rt, "memory");
@@ -205,14 +309,4 @@ fn a_mebibyte_is_read_whole_in_511_node_steps(rt: HostRuntime) {
     let mut session = session_of(&rt, alloc, &shared, &mut owner, &mut maker, &FreeGate);
     append_mebibyte(&rt, alloc, &mut session, bytes.as_slice());
     check_mebibyte(&rt, &mut session, bytes.as_slice());
-}
-
-#[test]
-fn a_mebibyte_and_a_byte_is_refused(rt: HostRuntime) {
-    let alloc = rt.alloc();
-    let bytes = long_bytes(&rt, alloc, 1_048_577);
-    let script = append_of(&rt, alloc, bytes.as_slice());
-    let replies = said_to_script(&rt, alloc, 4096, &mut PlainMaker::new(), script.as_str());
-    let expected = "blob 1\nerror update-too-long 1048577\n".as_bytes();
-    assert_eq!(rt; replies.as_slice(), expected);
 }

@@ -3,7 +3,7 @@
 ghost use Rattle.std.specs.Prelude.{◌≡◌};
 
 use blob_model::{Outcome, Place, Refusal};
-use client_session::{Done, HangUp, Session, Started};
+use client_session::{HangUp, Session, Started, Updated};
 use page_store::PlainDoor;
 use ports::gate::Gate;
 use request_form::Fault;
@@ -26,7 +26,7 @@ pub(crate) fn append<G: Gate, R: Threads + Wait + Sync>(
     rt: &R,
     session: &mut Session<'_, PlainDoor, G>,
     bytes: &[u8],
-) -> Result<Done, Fault>
+) -> Result<Updated, Fault>
     ensures { session.new.store ≡ session.old.store }
 {
     session.append(rt, 1, bytes)
@@ -44,7 +44,7 @@ pub(crate) fn start<G: Gate, R: Threads + Wait + Sync>(
 }
 
 /// Finishes the update of a ticket, and answers what is published then.
-pub(crate) fn finish<G: Gate, R: Wait>(
+pub(crate) fn finish<G: Gate, R: Threads + Wait + Sync>(
     rt: &R,
     session: &mut Session<'_, PlainDoor, G>,
     ticket: u64,
@@ -54,8 +54,22 @@ pub(crate) fn finish<G: Gate, R: Wait>(
     session.finish(rt, ticket)
 }
 
+/// Finishes a version that some session numbered, and answers what is published then.
+pub(crate) fn repair<G: Gate, R: Threads + Wait + Sync>(
+    rt: &R,
+    session: &mut Session<'_, PlainDoor, G>,
+    version: u64,
+) -> Result<u64, Fault>
+    ensures { session.new.store ≡ session.old.store }
+{
+    session.repair(rt, 1, version)
+}
+
 /// Gives up all tickets.
-pub(crate) fn hang_up<G: Gate, R: Wait>(rt: &R, session: &mut Session<'_, PlainDoor, G>) -> HangUp
+pub(crate) fn hang_up<G: Gate, R: Threads + Wait + Sync>(
+    rt: &R,
+    session: &mut Session<'_, PlainDoor, G>,
+) -> HangUp
     ensures { session.new.store ≡ session.old.store }
 {
     session.hang_up(rt)

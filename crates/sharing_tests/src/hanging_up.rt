@@ -3,7 +3,7 @@ ghost use Rattle.std.specs.Prelude.{◌≡◌};
 ghost use Rattle.client_session.specs.Sessions.{IsOwnerOf};
 
 use crate::calls::{
-    append, create, finish, hang_up, pending, refusal_of, start, status, status_of,
+    append, create, finish, hang_up, pending, refusal_of, repair, start, status, status_of,
 };
 use crate::store::{Two, closed, end_session, new_store, two_sessions};
 use client_session::{HangUp, Owner, Session, Shared};
@@ -170,31 +170,39 @@ fn start_and_end<R: Threads + Wait + Sync>(
     made && first && second
 }
 
-// Another session appends twice, and ends. How far it sees the updates, and what its last version waits for.
-fn append_and_end<R: Threads + Wait + Sync>(
+// Another session appends twice, finishes what the first left, and ends. How far it sees the updates before, what its last version
+// waits for, and what is published by each finish.
+fn append_and_end<R: Threads + Wait + Sync + Abort>(
     rt: &R,
     mut session: Session<'_, PlainDoor, FreeGate>,
     shared: &Shared,
     owner: &mut Owner,
-) -> (bool, Option<(u64, u64, u64)>, Option<(u64, u64)>)
+) -> (
+    Option<(u64, u64, u64)>,
+    Option<(u64, u64)>,
+    [Option<u64>; 2],
+)
     requires session { session.store ≡ shared.now }
     requires owner { IsOwnerOf shared.now owner.old }
     ensures { IsOwnerOf shared.now owner.new }
 {
-    let first = append(rt, &mut session, b"b").is_ok();
-    let second = append(rt, &mut session, b"b").is_ok();
+    append(rt, &mut session, b"b").expect(rt, "an append");
+    append(rt, &mut session, b"b").expect(rt, "an append");
     let status = status(rt, &mut session);
     let pending = pending(rt, &mut session, 4);
+    let second = repair(rt, &mut session, 2).ok();
+    let first = repair(rt, &mut session, 1).ok();
     end_session(session, shared, owner);
-    (first && second, status, pending)
+    (status, pending, [second, first])
 }
 
 // How far the second session of a new store sees the updates, where the first has ended without hanging up; what its last version
-// waits for; and how far they are on the desk, once the store is closed.
+// waits for; what is published by its finishes of what the first left; and how far they are on the desk, once the store is closed.
 #[derive(Clone, Copy, Debug, PartialEq)]
 struct Left {
     seen: Option<(u64, u64, u64)>,
     pending: Option<(u64, u64)>,
+    repaired: [Option<u64>; 2],
     closed: Option<(u64, u64, u64)>,
 }
 
@@ -202,24 +210,25 @@ fn left_unfinished<R: Threads + Wait + Sync + Abort>(rt: &R, alloc: Global) -> L
     let (shared, mut owner) = new_store(rt, alloc);
     let Two { one, two } = two_sessions(rt, alloc, &shared, &mut owner, &FreeGate);
     assert!(rt; start_and_end(rt, one, &shared, &mut owner));
-    let (appended, seen, pending) = append_and_end(rt, two, &shared, &mut owner);
-    assert!(rt; appended);
+    let (seen, pending, repaired) = append_and_end(rt, two, &shared, &mut owner);
     let desk = closed(rt, shared, owner);
     let status = desk.status(1);
     Left {
         seen,
         pending,
+        repaired,
         closed: status_of(&status),
     }
 }
 
 #[test]
-fn a_session_that_ends_without_hanging_up_holds_the_others_back(rt: HostRuntime) {
+fn a_session_that_ends_without_hanging_up_holds_the_others_back_until_they_repair(rt: HostRuntime) {
     let left = left_unfinished(&rt, rt.alloc());
     let expected = Left {
         seen: Some((4, 0, 1)),
         pending: Some((4, 1)),
-        closed: Some((4, 0, 1)),
+        repaired: [Some(0), Some(4)],
+        closed: Some((4, 4, 0)),
     };
     assert_eq!(rt; left, expected);
 }

@@ -7,6 +7,8 @@ mod calls;
 #[cfg(test)]
 mod hanging_up;
 #[cfg(test)]
+mod repairing;
+#[cfg(test)]
 mod sharing;
 #[cfg(test)]
 mod store;

@@ -1,5 +1,6 @@
-//! Sixteen sessions on threads that append, write, branch and read over three blobs. Each reads back what it wrote, and what all
-//! were told agrees with the updates played again, and with what the store holds in the end.
+//! Sixteen sessions on threads that append, write, branch and read over three blobs, most of them small parts of one page. Each reads
+//! back what it wrote, and what all were told agrees with the updates played again, and with what the store holds in the end. And
+//! sixteen that leave updates open, and finish those of others.
 mod client;
 mod replay;
 mod script;
@@ -10,7 +11,7 @@ ghost use Rattle.client_session.specs.Sessions.{IsOwnerOf};
 use crate::calls::recent_of;
 use crate::sharing::client::{Client, Member, Naming, Note};
 use crate::sharing::replay::{check_history, ends_as, ends_at, has_size};
-use crate::sharing::script::{BASE, CLIENTS, sum_of};
+use crate::sharing::script::{BASE, CLIENTS, Manner, sum_of};
 use crate::store::{closed, new_store};
 use blob_model::Place;
 use client_session::{Owner, Shared};
@@ -62,6 +63,7 @@ fn clients_of<'a, N: Naming, R: Abort>(
     for number in 0..CLIENTS {
         let client = Client {
             member: Member::new(rt, alloc, shared, owner),
+            alloc,
             number,
             notes: Vec::new(alloc),
             is_content: false,
@@ -75,12 +77,13 @@ fn clients_of<'a, N: Naming, R: Abort>(
 fn work_all<N: Naming + Send + Sync, R: Threads + Wait + Sync>(
     rt: &R,
     clients: &mut [Client<'_, N>],
+    manner: Manner,
 ) -> bool {
     thread::for_each_mut(
         rt,
         clients,
         usize::from(CLIENTS),
-        &|_, client| { client.work(rt) },
+        &|_, client| { client.work(rt, manner) },
     );
     clients.iter().all(|client| client.is_content)
 }
@@ -125,12 +128,77 @@ fn end_all<N: Naming, R: Abort>(
     all
 }
 
+// Finishes the versions of a blob that aren't finished, in rising order. Whether all are finished then.
+fn mend_blob<N: Naming, R: Threads + Wait + Sync>(
+    rt: &R,
+    mender: &mut Member<'_, N>,
+    blob: u64,
+) -> bool {
+    for before in 1..sum_of(blob).last {
+        if !mender.repair(rt, blob, before + 1) {
+            return false;
+        }
+    }
+    true
+}
+
+fn mend_blobs<N: Naming, R: Threads + Wait + Sync>(rt: &R, mender: &mut Member<'_, N>) -> bool {
+    for before in 0..3 {
+        if !mend_blob(rt, mender, before + 1) {
+            return false;
+        }
+    }
+    true
+}
+
+// Whether each version is read as its note says. The notes of careless clients say nothing before: they do so from here on.
+fn read_again<N: Naming, R: Threads + Wait + Sync>(
+    rt: &R,
+    reader: &mut Member<'_, N>,
+    notes: &mut [Note],
+    manner: Manner,
+) -> bool {
+    for note in notes {
+        let is_read = match manner {
+            Manner::Careful => reader.reads_again(rt, note),
+            Manner::Careless => reader.reads_first(rt, note),
+        };
+        if !is_read {
+            return false;
+        }
+    }
+    true
+}
+
+// A last session finishes what the clients left, and reads every version.
+fn end_with<N: Naming, R: Threads + Wait + Sync + Abort>(
+    rt: &R,
+    alloc: Global,
+    shared: &Shared,
+    owner: &mut Owner,
+    notes: &mut [Note],
+    manner: Manner,
+)
+    requires store { shared.now ≡ N.store }
+    requires owner { IsOwnerOf shared.now owner.old }
+    ensures { IsOwnerOf shared.now owner.new }
+{
+    let mut last = Member::<N>::new(rt, alloc, shared, owner);
+    assert!(rt; mend_blobs(rt, &mut last), "a version isn't finished");
+    assert!(rt;
+        read_again(rt, &mut last, notes, manner),
+        "a version is read as something else"
+    );
+    last.end(shared, owner);
+}
+
 // What the clients were told. All sessions have ended.
 fn share_in<N: Naming + Send + Sync, R: Threads + Wait + Sync + Abort>(
     rt: &R,
     alloc: Global,
     shared: &Shared,
     owner: &mut Owner,
+    manner: Manner,
 ) -> Vec<Note>
     requires store { shared.now ≡ N.store }
     requires owner { IsOwnerOf shared.now owner.old }
@@ -139,10 +207,12 @@ fn share_in<N: Naming + Send + Sync, R: Threads + Wait + Sync + Abort>(
     found::<N, R>(rt, alloc, shared, owner);
     let mut clients = clients_of::<N, R>(rt, alloc, shared, owner);
     assert!(rt;
-        work_all(rt, clients.as_mut_slice()),
+        work_all(rt, clients.as_mut_slice(), manner),
         "a client was told something else"
     );
-    end_all(rt, alloc, shared, owner, clients)
+    let mut notes = end_all(rt, alloc, shared, owner, clients);
+    end_with::<N, R>(rt, alloc, shared, owner, notes.as_mut_slice(), manner);
+    notes
 }
 
 fn share<R: Threads + Wait + Sync + Abort>(
@@ -150,11 +220,12 @@ fn share<R: Threads + Wait + Sync + Abort>(
     alloc: Global,
     shared: &Shared,
     owner: &mut Owner,
+    manner: Manner,
 ) -> Vec<Note>
     requires { IsOwnerOf shared.now owner.old }
     ensures { IsOwnerOf shared.now owner.new }
 {
-    share_in::<Brand, R>(rt, alloc, shared, owner)
+    share_in::<Brand, R>(rt, alloc, shared, owner, manner)
 }
 
 // How many branches were made of a blob, whose history is what the notes say and the scripts add up to.
@@ -177,9 +248,13 @@ fn branch_notes(notes: &[Note]) -> usize {
 }
 
 // What the clients of a new store were told, and its desk once they have ended.
-fn told_all<R: Threads + Wait + Sync + Abort>(rt: &R, alloc: Global) -> (Vec<Note>, Desk) {
+fn told_all<R: Threads + Wait + Sync + Abort>(
+    rt: &R,
+    alloc: Global,
+    manner: Manner,
+) -> (Vec<Note>, Desk) {
     let (shared, mut owner) = new_store(rt, alloc);
-    let notes = share(rt, alloc, &shared, &mut owner);
+    let notes = share(rt, alloc, &shared, &mut owner, manner);
     (notes, closed(rt, shared, owner))
 }
 
@@ -201,9 +276,17 @@ fn has_blob(desk: &Desk, blob: u64) -> bool {
 }
 
 #[test]
-fn sixteen_sessions_share_three_blobs(rt: HostRuntime) {
-    let (notes, desk) = told_all(&rt, rt.alloc());
+fn sixteen_sessions_write_parts_of_a_page_of_three_blobs(rt: HostRuntime) {
+    let (notes, desk) = told_all(&rt, rt.alloc(), Manner::Careful);
     let branches = check_branches(&rt, rt.alloc(), &desk, notes.as_slice());
     assert_eq!(rt; branch_notes(notes.as_slice()) as u64, branches);
     assert!(rt; !has_blob(&desk, branches.saturating_add(4)));
+}
+
+#[test]
+fn what_sixteen_sessions_leave_open_is_finished_by_others(rt: HostRuntime) {
+    let (notes, desk) = told_all(&rt, rt.alloc(), Manner::Careless);
+    check_branches(&rt, rt.alloc(), &desk, notes.as_slice());
+    assert_eq!(rt; branch_notes(notes.as_slice()), 0);
+    assert!(rt; !has_blob(&desk, 4));
 }

@@ -2,7 +2,7 @@
 
 use crate::calls::{append, create, finish, pending, recent, start, status, sync_wait};
 use crate::store::{Two, new_store, two_sessions};
-use client_session::{Done, Session};
+use client_session::{Done, Session, Updated};
 use page_store::PlainDoor;
 use ports::gate::{FreeGate, HoldGate, Point};
 use request_form::{Fault, Reply, Request, Service};
@@ -19,7 +19,7 @@ const LOOKS: u32 = 1_000_000;
 // for.
 #[derive(Clone, Copy, Debug, PartialEq)]
 struct Told {
-    done: Done,
+    done: Updated,
     bytes: Option<usize>,
     pending: Option<(u64, u64)>,
 }
@@ -27,7 +27,7 @@ struct Told {
 // What both are told, and what is published once both have gone on.
 #[derive(Clone, Copy, Debug, PartialEq)]
 struct Both {
-    first: Done,
+    first: Updated,
     told: Told,
     ran_out: bool,
     synced: Option<u64>,
@@ -97,7 +97,7 @@ fn append_both<R: Threads + Wait + Sync>(
     gate: &HoldGate,
     one: &mut Session<'_, PlainDoor, HoldGate>,
     two: &mut Session<'_, PlainDoor, HoldGate>,
-) -> (Result<Done, Fault>, Option<Told>) {
+) -> (Result<Updated, Fault>, Option<Told>) {
     thread::join(
         rt,
         || append(rt, one, b"abc"),
@@ -139,16 +139,16 @@ fn told_at_gate<R: Threads + Wait + Sync + Abort>(rt: &R, alloc: Global) -> Both
 #[test]
 fn a_session_goes_on_while_another_is_held_at_its_number(rt: HostRuntime) {
     let both = told_at_gate(&rt, rt.alloc());
-    let first = Done {
+    let first = Updated::Done(Done {
         version: 1,
         at: 0,
         size: 3,
-    };
-    let second = Done {
+    });
+    let second = Updated::Done(Done {
         version: 2,
         at: 3,
         size: 5,
-    };
+    });
     let told = Told {
         done: second,
         bytes: Some(0),
@@ -166,7 +166,7 @@ fn a_session_goes_on_while_another_is_held_at_its_number(rt: HostRuntime) {
 
 // Finishes the update of the ticket, after others may have begun to wait for it. Where no memory is found it tries again, since
 // they would wait forever.
-fn finish_late<R: Wait>(
+fn finish_late<R: Threads + Wait + Sync>(
     rt: &R,
     session: &mut Session<'_, PlainDoor, FreeGate>,
     ticket: u64,

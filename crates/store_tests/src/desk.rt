@@ -56,7 +56,7 @@ enum DeskCall {
 }
 
 // One house, for the pages of one provider.
-fn one_house<R: Abort>(rt: &R, alloc: Global) -> Arc<Houses>
+pub(crate) fn one_house<R: Abort>(rt: &R, alloc: Global) -> Arc<Houses>
     ensures { length (arc_value result) ≡ 1 }
 {
     let houses = Houses::new(alloc, 1).expect(rt, "memory");
@@ -64,14 +64,14 @@ fn one_house<R: Abort>(rt: &R, alloc: Global) -> Arc<Houses>
 }
 
 // A door to one provider.
-fn one_door<R: Abort>(rt: &R, alloc: Global) -> Doors<PlainDoor>
+pub(crate) fn one_door<R: Abort>(rt: &R, alloc: Global) -> Doors<PlainDoor>
     ensures { length result ≡ 1 }
 {
     Doors::new(alloc, &mut PlainMaker::new(), 1).expect(rt, "memory")
 }
 
 // Pages of four bytes.
-fn four_bytes<R: Abort>(rt: &R) -> PageSize
+pub(crate) fn four_bytes<R: Abort>(rt: &R) -> PageSize
     ensures { result ≡ 4 }
 {
     PageSize::new(4).expect(rt, "four bytes")
@@ -364,7 +364,7 @@ fn a_desk_answers_each_step_by_its_line(rt: HostRuntime) {
 }
 
 // Numbers one more update of a blob, and gives its version.
-fn next_version(desk: &mut Desk, blob: u64, pages: &Arc<Pages>) -> Result<u64, DeskFault>
+pub(crate) fn next_version(desk: &mut Desk, blob: u64, pages: &Arc<Pages>) -> Result<u64, DeskFault>
     requires some { 1 ≤ length (bytes_of_pages (arc_value pages.now).pages) }
     requires few { length (bytes_of_pages (arc_value pages.now).pages) ≤ 8 }
     requires cut { (arc_value pages.now).page_size ≡ 4 }
@@ -372,6 +372,7 @@ fn next_version(desk: &mut Desk, blob: u64, pages: &Arc<Pages>) -> Result<u64, D
     requires here { LieAmong desk.old.houses (arc_value pages.now).pages }
     ensures page_size { desk.new.page_size ≡ 4 }
     ensures houses { desk.new.houses ≡ desk.old.houses }
+    ensures nodes { desk.new.nodes ≡ desk.old.nodes }
 {
     match desk.assign(CALLER, blob, Place::Append, pages) {
         Ok(ticket) => Ok(ticket.version()),

@@ -20,7 +20,7 @@ lengths = record {
   Session = ℕ;
   Answers = IsGreatest;
   is_last = λ length. length == 0;
-  fault_count = λ reply. 0;
+  fault_count = λ session length reply. 0;
   said = λ reply. decimal reply ++ 10 ∷ [];
   IsWell = λ length. Unit {0};
 }

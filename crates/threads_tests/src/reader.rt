@@ -105,6 +105,7 @@ fn row_by_hand<R: Wait + Abort>(
     let pages = Arc::new(alloc, pages).expect(rt, "memory");
     let folds = Folds::none();
     Row::of(
+        alloc,
         1,
         write.offset,
         write.touch,
@@ -114,6 +115,7 @@ fn row_by_hand<R: Wait + Abort>(
         folds,
         nodes,
     )
+    .expect(rt, "memory")
 }
 
 // The version after `before` with such a row.

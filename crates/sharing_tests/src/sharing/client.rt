@@ -2,13 +2,13 @@
 ghost use Rattle.std.specs.Prelude.{◌≡◌};
 ghost use Rattle.client_session.specs.Sessions.{IsOwnerOf};
 
-use crate::sharing::script::{BASE, Dice, MOST, Next, STEPS, Step};
+use crate::sharing::script::{BASE, Dice, MOST, Manner, Next, STEPS, Step};
 use crate::store::{end_session, new_session};
 use blob_model::{Bytes, Outcome, Place};
-use client_session::{Done, Owner, Session, Shared};
+use client_session::{Done, Owner, Session, Shared, Started, Updated};
 use page_store::PlainDoor;
 use ports::gate::FreeGate;
-use request_form::{Reply, Request, Service};
+use request_form::{Fault, Reply, Request, Service};
 use std::alloc::Global;
 use std::marker::{Brand, PhantomData};
 use std::process::Abort;
@@ -86,14 +86,33 @@ impl<'a, N: Naming> Member<'a, N> {
         blob: u64,
         place: Place,
         bytes: &[u8],
-    ) -> Option<Done> {
+    ) -> Option<Updated> {
         match place {
             Place::Append => self.session.append(rt, blob, bytes).ok(),
             Place::WriteAt(offset) => self.session.write(rt, blob, offset, bytes).ok(),
         }
     }
 
-    /// Updates a blob. Where that fails the session gives up its ticket, so that no other waits for it.
+    // Finishes an update that stores a page anew, once the version before it is published.
+    fn finish<R: Threads + Wait + Sync>(
+        &mut self,
+        rt: &R,
+        blob: u64,
+        started: &Started,
+    ) -> Option<Done> {
+        if !self.waits_for(rt, blob, started.version.saturating_sub(1)) {
+            return None;
+        }
+        self.session.finish(rt, started.ticket).ok()?;
+        Some(Done {
+            version: started.version,
+            at: started.at,
+            size: started.size,
+        })
+    }
+
+    /// Updates a blob, and waits for the version before where that is needed. Where that fails the session gives up its ticket, so
+    /// that no other waits for it.
     pub(crate) fn update<R: Threads + Wait + Sync>(
         &mut self,
         rt: &R,
@@ -101,15 +120,57 @@ impl<'a, N: Naming> Member<'a, N> {
         place: Place,
         bytes: &[u8],
     ) -> Option<Done> {
-        let done = self.try_update(rt, blob, place, bytes);
+        let done = match self.try_update(rt, blob, place, bytes) {
+            Some(Updated::Done(done)) => Some(done),
+            Some(Updated::Held(started)) => self.finish(rt, blob, &started),
+            None => None,
+        };
         if done.is_none() {
             self.give_up(rt);
         }
         done
     }
 
-    fn give_up<R: Wait>(&mut self, rt: &R) {
+    fn give_up<R: Threads + Wait + Sync>(&mut self, rt: &R) {
         let _ = self.session.hang_up(rt);
+    }
+
+    // Starts an update, and answers what it will be once it is finished, and the ticket's number.
+    fn start<R: Threads + Wait + Sync>(
+        &mut self,
+        rt: &R,
+        blob: u64,
+        place: Place,
+        bytes: &[u8],
+    ) -> Option<(u64, Done)> {
+        let started = self.session.start(rt, blob, place, bytes).ok()?;
+        let done = Done {
+            version: started.version,
+            at: started.at,
+            size: started.size,
+        };
+        Some((started.ticket, done))
+    }
+
+    // Finishes the update of a ticket, unless the version before it waits, and answers whether that is well.
+    fn try_finish<R: Threads + Wait + Sync>(&mut self, rt: &R, ticket: u64) -> bool {
+        is_well(&self.session.finish(rt, ticket))
+    }
+
+    // Repairs a version, unless the one before it waits, and answers whether that is well.
+    fn try_repair<R: Threads + Wait + Sync>(&mut self, rt: &R, blob: u64, version: u64) -> bool {
+        is_well(&self.session.repair(rt, blob, version))
+    }
+
+    /// Repairs a version of which all before are published. Whether it is finished then, by this session or by another before it.
+    pub(crate) fn repair<R: Threads + Wait + Sync>(
+        &mut self,
+        rt: &R,
+        blob: u64,
+        version: u64,
+    ) -> bool {
+        let finished = self.session.repair(rt, blob, version);
+        matches!(finished, Ok(_) | Err(Fault::Already { .. }))
     }
 
     // Waits until the version is published, and answers whether it is.
@@ -151,6 +212,35 @@ impl<'a, N: Naming> Member<'a, N> {
         }
         self.read(rt, blob, version, size)
     }
+
+    /// Whether the version of a note is read as the note says.
+    pub(crate) fn reads_again<R: Threads + Wait + Sync>(&mut self, rt: &R, note: &Note) -> bool {
+        match self.read(rt, note.blob, note.done.version, note.done.size) {
+            Some(bytes) => bytes.as_slice() == note.content.as_slice(),
+            None => false,
+        }
+    }
+
+    /// Reads the version of a note, for the first time, and answers whether the note's own bytes stand there.
+    pub(crate) fn reads_first<R: Threads + Wait + Sync>(
+        &mut self,
+        rt: &R,
+        note: &mut Note,
+    ) -> bool {
+        let Some(content) = self.read(rt, note.blob, note.done.version, note.done.size) else {
+            return false;
+        };
+        note.content = content;
+        note.reads_back([note.byte; MOST].get(..note.count).unwrap_or_default())
+    }
+}
+
+// Whether a finish came to what it may where other sessions repair.
+fn is_well(finished: &Result<u64, Fault>) -> bool {
+    matches!(
+        finished,
+        Ok(_) | Err(Fault::Already { .. }) | Err(Fault::Pending { .. })
+    )
 }
 
 /// An update of which a client was told: so many bytes, all the same, and what it then read.
@@ -188,6 +278,8 @@ impl Note {
 #[derive(Drop)]
 pub(crate) struct Client<'a, N: Naming> {
     pub(crate) member: Member<'a, N>,
+    /// Where its notes lie.
+    pub(crate) alloc: Global,
     /// Its number, which is each byte that it writes.
     pub(crate) number: u8,
     /// Its updates.
@@ -198,8 +290,63 @@ pub(crate) struct Client<'a, N: Naming> {
 
 impl<'a, N: Naming> Client<'a, N> {
     /// Goes through its steps.
-    pub(crate) fn work<R: Threads + Wait + Sync>(&mut self, rt: &R) {
-        self.is_content = self.go_through(rt).is_some();
+    pub(crate) fn work<R: Threads + Wait + Sync>(&mut self, rt: &R, manner: Manner) {
+        let done = match manner {
+            Manner::Careful => self.go_through(rt),
+            Manner::Careless => self.go_carelessly(rt),
+        };
+        self.is_content = done.is_some();
+    }
+
+    fn go_carelessly<R: Threads + Wait + Sync>(&mut self, rt: &R) -> Option<()> {
+        let mut dice = Dice::of(self.number);
+        for _ in 0..STEPS {
+            let step = dice.step();
+            let (ticket, note) = self.start(rt, &step)?;
+            if !self.leave(rt, &step, ticket, note.done.version) {
+                return None;
+            }
+            self.notes.push(note).ok()?;
+        }
+        Some(())
+    }
+
+    // Repairs a version, or finishes the update, or leaves it. Whether that went as it may.
+    fn leave<R: Threads + Wait + Sync>(
+        &mut self,
+        rt: &R,
+        step: &Step,
+        ticket: u64,
+        version: u64,
+    ) -> bool {
+        match step.next {
+            Next::Branches => self
+                .member
+                .try_repair(rt, step.blob, step.version_up_to(version)),
+            Next::ReadsBase => step.count == 1 || self.member.try_finish(rt, ticket),
+        }
+    }
+
+    // Starts an update, whose version isn't read yet.
+    fn start<R: Threads + Wait + Sync>(&mut self, rt: &R, step: &Step) -> Option<(u64, Note)> {
+        let Step {
+            blob,
+            place,
+            count,
+            ..
+        } = *step;
+        let bytes = [self.number; MOST];
+        let bytes = bytes.get(..count)?;
+        let (ticket, done) = self.member.start(rt, blob, place, bytes)?;
+        let note = Note {
+            blob,
+            place,
+            byte: self.number,
+            count,
+            done,
+            content: Bytes::of(Vec::new(self.alloc)),
+        };
+        Some((ticket, note))
     }
 
     fn go_through<R: Threads + Wait + Sync>(&mut self, rt: &R) -> Option<()> {

@@ -6,20 +6,29 @@ use blob_model::Place;
 pub(crate) const CLIENTS: u8 = 16;
 
 /// How many steps each goes through.
-pub(crate) const STEPS: u32 = 4;
+pub(crate) const STEPS: u32 = 6;
 
 /// The bytes of version 1 of each of the three blobs. No write ends behind them.
 pub(crate) const BASE: &[u8] = b"abcdefghijklmnop";
 
 /// The most bytes of an update.
-pub(crate) const MOST: usize = 7;
+pub(crate) const MOST: usize = 3;
 
-/// What a client does once it has read its update.
+/// How the clients work.
+#[derive(Clone, Copy, PartialEq)]
+pub(crate) enum Manner {
+    /// Each update is finished, and its version read.
+    Careful,
+    /// Each update is started. Some are finished, some versions are repaired, and the rest is held where the session ends.
+    Careless,
+}
+
+/// What a client does with an update.
 #[derive(Clone, Copy, PartialEq)]
 pub(crate) enum Next {
-    /// It branches the blob at the update, and writes the branch's first byte.
+    /// It reads it, branches the blob there, and writes the branch's first byte. A careless client repairs some version up to it.
     Branches,
-    /// It reads version 1 of the blob.
+    /// It reads it, and version 1 of the blob. A careless client finishes it, or leaves it.
     ReadsBase,
 }
 
@@ -30,6 +39,14 @@ pub(crate) struct Step {
     pub(crate) place: Place,
     pub(crate) count: usize,
     pub(crate) next: Next,
+    lot: u64,
+}
+
+impl Step {
+    /// One of the versions up to this one, drawn with the step.
+    pub(crate) fn version_up_to(&self, version: u64) -> u64 {
+        (self.lot % version.max(1)).saturating_add(1)
+    }
 }
 
 /// Draws the steps of a client, the same at each run.
@@ -51,14 +68,14 @@ impl Dice {
         self.state
     }
 
-    /// The next step.
+    /// The next step. Most of them write a part of the first page, so that the blobs that are written most store it anew.
     pub(crate) fn step(&mut self) -> Step {
-        let blob = self.roll() % 3 + 1;
-        let count = (self.roll() % 7 + 1) as usize;
-        let place = match self.roll() % 2 {
+        let blob = (self.roll() % 5).max(2) - 1;
+        let place = match self.roll() % 4 {
             0 => Place::Append,
-            _ => Place::WriteAt(self.roll() % 8),
+            _ => Place::WriteAt(self.roll() % 2),
         };
+        let count = (self.roll() % 3 + 1) as usize;
         let next = match self.roll() % 3 {
             0 => Next::Branches,
             _ => Next::ReadsBase,
@@ -68,6 +85,7 @@ impl Dice {
             place,
             count,
             next,
+            lot: self.roll(),
         }
     }
 }

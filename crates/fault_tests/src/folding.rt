@@ -1,0 +1,104 @@
+//! Doors that fail at each call of a finish that stores a page of the blob anew.
+
+use crate::program::{nobody, run_over};
+use crate::rows::split_lines;
+use page_store::FlakyMaker;
+use ports::memory::MemSource;
+use std::alloc::Global;
+use std::process::Abort;
+use std::sync::Wait;
+use std::thread::Threads;
+
+// Past the bytes of any replies here.
+const ROOM: usize = 4096;
+
+// One provider, whose door's calls are numbered from 1: each of the first seventeen updates puts one page.
+const WORDS: &str = "run --page 4 --providers 1 --replicas 1";
+
+// Sixteen versions of two bytes.
+const BEFORE: &str =
+    "create\nappend 1 0000\nwrite 1 0 ff\nwrite 1 0 ff\nwrite 1 0 ff\nwrite 1 0 ff\nwrite 1 0 ff\nwrite 1 0 ff\n\
+    write 1 0 ff\nwrite 1 0 ff\nwrite 1 0 ff\nwrite 1 0 ff\nwrite 1 0 ff\nwrite 1 0 ff\nwrite 1 0 ff\nwrite 1 0 ff\nwrite 1 0 aa\n";
+
+// How many lines answer these.
+const LINES: usize = 17;
+
+// An update that is started and then finished, and one that is to be finished at once. Where that can't be the ticket stays, and a later
+// finish makes the same version.
+const STARTED: &str = "start-write 1 0 bb\nfinish 1\nfinish 1\nread 1 17 0 2\n";
+
+const AT_ONCE: &str = "write 1 0 bb\nfinish 1\nread 1 17 0 2\n";
+
+// The call that fails, and the replies to both.
+static CALLS: [(u64, &str, &str); 6] = [
+    // The page of the update isn't stored.
+    (
+        17,
+        "error page-fault 0\nerror no-ticket 1\nerror no-ticket 1\nerror not-published 17 16\n",
+        "error page-fault 0\nerror no-ticket 1\nerror not-published 17 16\n",
+    ),
+    // Two pages of versions before are read, and that of the update, and the page is stored anew.
+    (
+        18,
+        "ticket 1 version 17 at 0 size 2\nerror page-fault 0\npublished 17\ndata bb00\n",
+        "ticket 1 version 17 at 0 size 2\npublished 17\ndata bb00\n",
+    ),
+    (
+        19,
+        "ticket 1 version 17 at 0 size 2\nerror page-fault 0\npublished 17\ndata bb00\n",
+        "ticket 1 version 17 at 0 size 2\npublished 17\ndata bb00\n",
+    ),
+    (
+        20,
+        "ticket 1 version 17 at 0 size 2\nerror page-fault 0\npublished 17\ndata bb00\n",
+        "ticket 1 version 17 at 0 size 2\npublished 17\ndata bb00\n",
+    ),
+    (
+        21,
+        "ticket 1 version 17 at 0 size 2\nerror page-fault 0\npublished 17\ndata bb00\n",
+        "ticket 1 version 17 at 0 size 2\npublished 17\ndata bb00\n",
+    ),
+    // Then it is read alone.
+    (
+        22,
+        "ticket 1 version 17 at 0 size 2\npublished 17\nerror no-ticket 1\nerror page-fault 0\n",
+        "version 17 at 0 size 2\nerror no-ticket 1\nerror page-fault 0\n",
+    ),
+];
+
+// Doors of one provider of which this call fails.
+fn maker_of<R: Abort>(rt: &R, alloc: Global, call: u64) -> FlakyMaker {
+    let list = vec![in alloc; call].expect(rt, "memory");
+    let lists = vec![in alloc; list].expect(rt, "memory");
+    FlakyMaker::new(alloc, lists)
+}
+
+// A script of the versions and then these lines.
+fn source_of<R: Abort>(rt: &R, alloc: Global, lines: &str) -> MemSource {
+    let script = format!(in alloc; "{BEFORE}{lines}").expect(rt, "memory");
+    MemSource::new(script.into_bytes(), ROOM, Vec::new(alloc))
+}
+
+fn check_lines<R: Wait + Threads + Sync + Abort>(
+    rt: &R,
+    alloc: Global,
+    call: u64,
+    lines: &str,
+    replies: &str,
+) {
+    let source = source_of(rt, alloc, lines);
+    let mut doors = maker_of(rt, alloc, call);
+    let mut net = nobody(alloc);
+    let ran = run_over(rt, alloc, WORDS, source, ROOM, &mut net, &mut doors);
+    let (_, said) = split_lines(ran.out.bytes(), LINES);
+    assert!(rt; said == replies.as_bytes(), "call {call} of {lines}");
+    assert!(rt; ran.ended_with(0) && doors.faults() == 1);
+}
+
+#[test]
+fn a_finish_that_stores_a_page_anew_is_done_again_where_a_call_of_a_door_failed(rt: HostRuntime) {
+    for (call, started, at_once) in CALLS.as_slice() {
+        check_lines(&rt, rt.alloc(), *call, STARTED, started);
+        check_lines(&rt, rt.alloc(), *call, AT_ONCE, at_once);
+    }
+}
