@@ -30,8 +30,10 @@ import struct
 import sys
 import time
 
-LONGEST_UPDATE = 1 << 20
+LONGEST_UPDATE = 1 << 24
 LONGEST_READ = 1 << 24
+MOST_RANGES = 64
+PIECE = 1 << 20
 
 Update = collections.namedtuple("Update", "version offset size")
 Started = collections.namedtuple("Started", "ticket version offset size")
@@ -146,9 +148,12 @@ def _address_of(text):
     return host[1:-1] if host.startswith("[") and host.endswith("]") else host, int(port)
 
 
-def connect(address, timeout=None):
-    """A client of the server at `HOST:PORT`, or at a pair of host and port. With `timeout`, a wait of so many seconds raises TimeoutError."""
-    return Client(address, timeout)
+def connect(address, timeout=None, version=2):
+    """A client of the server at `HOST:PORT`, or at a pair of host and port. With `timeout`, a wait of so many seconds raises TimeoutError.
+
+    It speaks version 2 of the frames, or with `version=1` the older one, in which an update has at most 1,048,576 bytes, many ranges are
+    read one by one, and nothing is repaired."""
+    return Client(address, timeout, version)
 
 
 class Client:
@@ -157,7 +162,7 @@ class Client:
     Each request has a method that waits for the reply. `pipeline` has the same methods and doesn't wait. A client is for one thread.
     """
 
-    def __init__(self, address, timeout=None):
+    def __init__(self, address, timeout=None, version=2):
         where = _address_of(address) if isinstance(address, str) else address
         self._timeout = timeout
         self._tickets = {}
@@ -170,6 +175,8 @@ class Client:
         self._selector = selectors.DefaultSelector()
         self._interest = selectors.EVENT_READ
         self._selector.register(self._socket, self._interest)
+        # The first frame says hello. Nobody waits for its reply: a server that doesn't know it refuses it, and speaks version 1.
+        self._hello = self._send(14, 2, decode=_number) if version == 2 else None
 
     def __enter__(self):
         return self
@@ -192,6 +199,16 @@ class Client:
             self._socket = None
             self._give_up(ConnectionLost("the connection was closed"))
 
+    @property
+    def version(self):
+        """The version of the frames that the server speaks on this connection."""
+        if self._hello is None:
+            return 1
+        try:
+            return self._hello.result()
+        except BadFrame:
+            return 1
+
     # ---- requests
 
     def create(self):
@@ -199,12 +216,15 @@ class Client:
         return self._send(1, decode=_number).result()
 
     def append(self, blob, data):
-        """Adds bytes at the end of a blob: an Update. That it is numbered doesn't mean that it is published."""
-        return self._send(2, blob, data=data, decode=_update).result()
+        """Adds bytes at the end of a blob: an Update. That it is numbered doesn't mean that it is published.
+
+        Where the server holds the update back until the version before it is published, this waits for that and finishes it. If the
+        version before waits for an update that this client holds itself, Pending is raised, and the update's ticket is held too."""
+        return self._finished(blob, self._send(2, blob, data=data, decode=_update))
 
     def write(self, blob, offset, data):
-        """Puts bytes over those at an offset: an Update."""
-        return self._send(3, blob, offset, data=data, decode=_update).result()
+        """Puts bytes over those at an offset: an Update. It may be held back as an append."""
+        return self._finished(blob, self._send(3, blob, offset, data=data, decode=_update))
 
     def start_append(self, blob, data):
         """An append that waits for its finish: a Started."""
@@ -229,6 +249,21 @@ class Client:
         into = memoryview(buffer).cast("B")
         self._send(7, blob, version, offset, len(into), decode=None, into=into).result()
 
+    def read_many(self, blob, version, ranges):
+        """The bytes of many ranges of a published version, pairs of offset and length: a list with the bytes of each. At most MOST_RANGES of them,
+        of LONGEST_READ bytes together, are asked for in one request; more, and a server that speaks version 1, take several."""
+        ranges = list(ranges)
+        requests = self.pipeline()
+        if self.version == 1:
+            return [reply.result() for reply in [requests.read(blob, version, *one) for one in ranges]]
+        parts = []
+        for group, reply in [(group, requests.read_many(blob, version, group)) for group in _groups(ranges)]:
+            joined, begin = reply.result(), 0
+            for _, length in group:
+                parts.append(joined[begin:begin + length])
+                begin += length
+        return parts
+
     def recent(self, blob):
         """The last published version and its size: a Recent."""
         return self._send(8, blob, decode=_recent).result()
@@ -248,6 +283,13 @@ class Client:
     def branch(self, blob, version):
         """Makes a blob that shares the versions up to a published one, and gives its id."""
         return self._send(12, blob, version, decode=_number).result()
+
+    def repair(self, blob, version):
+        """Finishes the update of a version that its client left unfinished, and gives the last published version of its blob. Whoever is first
+        finishes it; for the other it is refused as Already."""
+        published = self._send(16, blob, version, decode=_number).result()
+        self._tickets = {ticket: held for ticket, held in self._tickets.items() if held != (blob, version)}
+        return published
 
     def quit(self):
         """Ends the session and the connection."""
@@ -276,7 +318,7 @@ class Client:
             time.sleep(pause)
             pause = min(2 * pause, 0.1)
 
-    def append_from(self, blob, file, piece=LONGEST_UPDATE, progress=None):
+    def append_from(self, blob, file, piece=PIECE, progress=None):
         """Appends what a binary file object has, in updates of `piece` bytes, one after another: an Appended with the first and the last
         version, the bytes and the size. Other clients' updates may fall between them. Where as many updates of the blob wait as may, it
         waits for the first of them."""
@@ -292,7 +334,7 @@ class Client:
             if progress:
                 progress(count)
 
-    def read_to(self, file, blob, version, offset=0, length=None, piece=LONGEST_UPDATE, progress=None):
+    def read_to(self, file, blob, version, offset=0, length=None, piece=PIECE, progress=None):
         """Writes bytes of a published version to a binary file object, to its end where no length is given, and gives their number."""
         length = self.size(blob, version) - offset if length is None else length
         requests = self.pipeline()
@@ -331,6 +373,19 @@ class Client:
         started = reply.result()
         self._tickets[started.ticket] = (blob, started.version)
         return started
+
+    def _finished(self, blob, reply):
+        update = reply.result()
+        if isinstance(update, Update):
+            return update
+        self._tickets[update.ticket] = (blob, update.version)
+        while True:
+            self.wait_published(blob, update.version - 1)
+            try:
+                self.finish(update.ticket)
+                return Update(update.version, update.offset, update.size)
+            except Pending:
+                pass
 
     # ---- the stream
 
@@ -423,6 +478,9 @@ class Client:
         self._have, self._body = 0, None
         if operation == 255:
             error = _refusal_of(body)
+        elif operation in (132, 133) and operation == 130 + reply._operation:
+            # An append or a write that is held back.
+            error, reply._decode = None, _started
         elif operation != 128 + reply._operation:
             error = ProtocolError("a reply to another request")
         else:
@@ -468,6 +526,19 @@ def _status(body):
     return Status(*struct.unpack(">3Q", body))
 
 
+def _groups(ranges):
+    """The ranges in groups that one request may ask for."""
+    group, count = [], 0
+    for one in ranges:
+        if group and (len(group) == MOST_RANGES or count + one[1] > LONGEST_READ):
+            yield group
+            group, count = [], 0
+        group.append(one)
+        count += one[1]
+    if group:
+        yield group
+
+
 def _filled(file, count):
     """The next bytes of a file, fewer than asked for only at its end."""
     parts, left = [], count
@@ -481,7 +552,8 @@ def _filled(file, count):
 
 
 class Pipeline:
-    """Requests that don't wait for one another. Each method gives a Reply, whose `result()` waits. The server answers in order, and replies are
+    """Requests that don't wait for one another. Each method gives a Reply, whose `result()` waits. An append or a write whose result is a Started is
+    held back: finish its ticket once the version before it is published. The server answers in order, and replies are
     taken while requests are sent, so neither side can stand still because the other's buffers are full. At the end of a `with` block all
     replies have come."""
 
@@ -533,6 +605,10 @@ class Pipeline:
         into = memoryview(buffer).cast("B")
         return self._send(7, blob, version, offset, len(into), decode=None, into=into)
 
+    def read_many(self, blob, version, ranges):
+        """From 1 to MOST_RANGES ranges of a version, of LONGEST_READ bytes together: their bytes, joined."""
+        return self._send(15, blob, version, *itertools.chain.from_iterable(ranges), decode=bytes)
+
     def recent(self, blob):
         return self._send(8, blob, decode=_recent)
 
@@ -547,6 +623,9 @@ class Pipeline:
 
     def branch(self, blob, version):
         return self._send(12, blob, version, decode=_number)
+
+    def repair(self, blob, version):
+        return self._send(16, blob, version, decode=_number)
 
 
 # ---- the program
@@ -589,13 +668,15 @@ def _words():
 
     command("create", "make an empty blob; prints its id")
     command("append", "append the standard input, in updates of one MiB; prints the versions, the bytes and the size", "blob")
-    command("write", "write the standard input, at most one MiB, at an offset; prints the version", "blob", "offset")
+    command("write", "write the standard input, at most 16 MiB, at an offset; prints the version", "blob", "offset")
     command("read", "write bytes of a version, the most recent one unless said otherwise, to the standard output",
             "blob", "version?", "offset?", "length?")
     command("branch", "make a blob that shares the versions up to one, the most recent unless said otherwise; prints its id", "blob", "version?")
     command("status", "print how far the updates of a blob are", "blob")
     command("log", "print the published versions of a blob, a line each: the version and its size", "blob")
     command("wait", "wait until a version is published", "blob", "version")
+    command("repair", "finish an update that its writer left unfinished, the least one unless said otherwise; prints the last published version",
+            "blob", "version?")
     return whole
 
 
@@ -630,6 +711,11 @@ def _branch(store, words):
     print("blob %d" % store.branch(words.blob, store.recent(words.blob).version if words.version is None else words.version))
 
 
+def _repair(store, words):
+    version = store.status(words.blob).held if words.version is None else words.version
+    print("published %d" % store.repair(words.blob, version))
+
+
 def _log(store, words):
     for version, size in store.log(words.blob):
         print(version, size)
@@ -643,6 +729,7 @@ _COMMANDS = {
     "branch": _branch,
     "status": lambda store, words: print("assigned %d published %d held %d" % store.status(words.blob)),
     "log": _log,
+    "repair": _repair,
     "wait": lambda store, words: print("published %d" % store.wait_published(words.blob, words.version)),
 }
 

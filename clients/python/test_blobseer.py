@@ -118,7 +118,10 @@ class Requests(unittest.TestCase):
         self.refused(blobseer.NotPublished, (5, 1), store.read, log, 5, 0, 1)
         self.refused(blobseer.OffsetPastSize, (4, 3), store.write, log, 4, b"x")
         self.refused(blobseer.EmptyUpdate, (), store.append, log, b"")
-        self.refused(blobseer.UpdateTooLong, (1048577,), store.append, log, bytes(1048577))
+        self.refused(blobseer.UpdateTooLong, (16777217,), store.append, log, bytes(16777217))
+        with blobseer.connect(self.server.address, version=1) as older:
+            self.refused(blobseer.UpdateTooLong, (1048577,), older.append, log, bytes(1048577))
+            self.refused(blobseer.BadFrame, (), older.repair, log, 1)
         self.refused(blobseer.RangePastSize, (4, 3), store.read, log, 1, 3, 1)
         self.refused(blobseer.RangePastSize, (2**64, 3), store.read, log, 1, 2**64 - 1, 1)
         self.refused(blobseer.ReadTooLong, (16777217,), store.read, log, 1, 0, 16777217)
@@ -133,10 +136,96 @@ class Requests(unittest.TestCase):
     def test_frames_that_are_no_request(self):
         with socket.create_connection(self.store._socket.getpeername()) as peer:
             stream = peer.makefile("rb")
-            peer.sendall(struct.pack(">I", 2097153) + bytes(2097153) + frame(14) + frame(1)[:5])
+            peer.sendall(struct.pack(">I", 2097153) + bytes(2097153) + frame(14, 2) + frame(1)[:5])
             self.assertEqual(stream.read(4 + 17), frame(255, 18, 2097153))
             self.assertEqual(stream.read(4 + 9), frame(255, 19))
             self.assertEqual(stream.read(5)[4], 129)
+
+    def test_frames_of_version_2(self):
+        with socket.create_connection(self.store._socket.getpeername()) as peer:
+            stream = peer.makefile("rb")
+            peer.sendall(frame(14, 2) + frame(1))
+            self.assertEqual(stream.read(13), frame(142, 2))
+            blob = struct.unpack(">IBQ", stream.read(13))[2]
+            peer.sendall(frame(2, blob, data=b"abc") + frame(15, blob, 1, 2, 1, 0, 2) + frame(15, blob, 1) + frame(15, blob, 1, 2)
+                         + frame(15, blob, 1, *range(130)) + frame(14, 2))
+            self.assertEqual(stream.read(29), frame(130, 1, 0, 3))
+            self.assertEqual(stream.read(8), frame(143, data=b"cab"))
+            for _ in range(4):
+                self.assertEqual(stream.read(13), frame(255, 19))
+            peer.sendall(struct.pack(">I", 17825793) + bytes(17825793) + frame(13))
+            self.assertEqual(stream.read(4 + 17), frame(255, 18, 17825793))
+            self.assertEqual(stream.read(5), frame(141))
+
+    def test_many_ranges(self):
+        data = os.urandom(1 << 20)
+        blob = self.store.create()
+        self.store.append(blob, data)
+        self.assertEqual(self.store.version, 2)
+        ranges = [(number * 4099 % (len(data) - 64), 64) for number in range(1000)] + [(0, 0), (len(data), 0)]
+        parts = [data[begin:begin + count] for begin, count in ranges]
+        self.assertEqual(self.store.read_many(blob, 1, ranges), parts)
+        self.assertEqual(self.store.read_many(blob, 1, []), [])
+        self.assertEqual(b"".join(self.store.read_many(blob, 1, [(0, len(data))] * 40)), data * 40)
+        with blobseer.connect(self.server.address, version=1) as older:
+            self.assertEqual(older.version, 1)
+            self.assertEqual(older.read_many(blob, 1, ranges), parts)
+        self.refused(blobseer.RangePastSize, (len(data) + 1, len(data)), self.store.read_many, blob, 1, [(0, 1), (len(data), 1)])
+        self.refused(blobseer.ReadTooLong, (2,), self.store.pipeline().read_many(blob, 1, [(0, 16777215), (0, 2)]).result)
+
+    def test_a_long_update(self):
+        data = os.urandom(1 << 24)
+        blob = self.store.create()
+        self.assertEqual(self.store.append(blob, data), (1, 0, 1 << 24))
+        self.assertTrue(self.store.read(blob, 1, 0, 1 << 24) == data)
+
+    def test_what_another_client_left_is_repaired(self):
+        log = self.store.create()
+        other = blobseer.connect(self.server.address)
+        self.assertEqual(other.start_append(log, b"left ").version, 1)
+        self.assertEqual(self.store.append(log, b"behind").version, 2)
+        self.refused(blobseer.Pending, (2, 1), self.store.sync, log, 2)
+        self.assertEqual(self.store.repair(log, 1), 2)
+        self.assertEqual(self.store.read(log, 2, 0, 11), b"left behind")
+        self.refused(blobseer.Already, (1,), other.finish, 1)
+        self.refused(blobseer.Already, (1,), self.store.repair, log, 1)
+        self.refused(blobseer.NotPublished, (3, 2), self.store.repair, log, 3)
+        other.close()
+
+    def test_an_update_of_its_own_is_repaired(self):
+        log = self.store.create()
+        self.store.start_append(log, b"a")
+        self.assertEqual(self.store.repair(log, 1), 1)
+        self.refused(blobseer.NoTicket, (1,), self.store.finish, 1)
+
+    def test_a_page_that_is_changed_in_small_parts(self):
+        log = self.store.create()
+        self.store.append(log, bytes(2))
+        for number in range(1, 40):
+            self.assertEqual(self.store.write(log, number % 2, bytes([number])).version, number + 1)
+        for number in range(1, 40):
+            even, odd = number - number % 2, number - (number + 1) % 2
+            self.assertEqual(self.store.read(log, number + 1, 0, 2), bytes([even, odd]))
+
+    def test_an_update_is_held_back(self):
+        log = self.store.create()
+        self.store.append(log, bytes(2))
+        for number in range(14):
+            self.store.write(log, 0, b"\xff")
+        with blobseer.connect(self.server.address) as other:
+            held = other.start_write(log, 0, b"\xaa")
+            reply = self.store.pipeline().write(log, 0, b"\xbb")
+            if isinstance(reply.result(), blobseer.Started):
+                self.refused(blobseer.Pending, (16, 16), self.store.finish, reply.result().ticket)
+                self.assertEqual(other.finish(held.ticket), 16)
+                self.assertEqual(self.store.finish(reply.result().ticket), 17)
+            else:
+                self.assertEqual(other.finish(held.ticket), 17)
+            threading.Timer(0.1, other.finish, [other.start_write(log, 0, b"\xcc").ticket]).start()
+            self.assertEqual(self.store.write(log, 1, b"\xdd").version, 19)
+            self.store.wait_published(log, 19)
+            self.assertEqual(self.store.read(log, 19, 0, 2), b"\xcc\xdd")
+            time.sleep(0.2)
 
     def test_an_update_waits_for_another_client(self):
         with blobseer.connect(self.server.address) as other:
@@ -233,20 +322,20 @@ class WrongServers(unittest.TestCase):
             (frame(255, 22, 5), blobseer.NoMemoryTicket, (5,)),
         ):
             with self.subTest(name=kind.name), played(reply) as address:
-                with self.assertRaises(kind) as caught, blobseer.connect(address) as store:
+                with self.assertRaises(kind) as caught, blobseer.connect(address, version=1) as store:
                     store.create()
                 self.assertEqual(caught.exception.numbers, numbers)
 
     def test_replies_that_are_none(self):
         for reply in (frame(130, 1, 2, 3), frame(129), frame(129, 1, 2), frame(255, 21), frame(255, 8), struct.pack(">I", 0) + b"x", b"\xff" * 8):
-            with self.subTest(reply=reply.hex()), played(reply) as address, blobseer.connect(address) as store:
+            with self.subTest(reply=reply.hex()), played(reply) as address, blobseer.connect(address, version=1) as store:
                 self.assertRaises(blobseer.ProtocolError, store.create)
                 self.assertTrue(store.closed)
 
     def test_a_reply_that_ends_too_early(self):
         whole = frame(129, 1)
         for cut in range(len(whole)):
-            with self.subTest(cut=cut), played(whole[:cut]) as address, blobseer.connect(address) as store:
+            with self.subTest(cut=cut), played(whole[:cut]) as address, blobseer.connect(address, version=1) as store:
                 self.assertRaises(blobseer.ConnectionLost, store.create)
 
     def test_a_reply_byte_by_byte(self):
@@ -262,12 +351,19 @@ class WrongServers(unittest.TestCase):
 
             thread = threading.Thread(target=serve)
             thread.start()
-            store = blobseer.connect(listener.getsockname())
+            store = blobseer.connect(listener.getsockname(), version=1)
             requests = store.pipeline()
             created, read = requests.create(), requests.read(7, 1, 0, 3)
             self.assertEqual((created.result(), read.result()), (7, b"abc"))
             store.close()
             thread.join()
+
+    def test_a_server_of_version_1(self):
+        with played(frame(255, 19) + frame(129, 7)) as address:
+            store = blobseer.connect(address)
+            self.assertEqual(store.create(), 7)
+            self.assertEqual(store.version, 1)
+            store.close()
 
     def test_a_server_that_is_silent(self):
         with socket.create_server(("127.0.0.1", 0)) as listener:
