@@ -4,8 +4,8 @@ What a run may come to, where the right replies are those of a run in which noth
 
     out of memory     it ends with status 5 and its line on the error output, and wrote a beginning of the right output
     no-memory         one reply is no-memory, and all others are those of a run in which that request isn't made
-    no-memory ticket  one reply is no-memory with a ticket, finish with that ticket follows and is done, and all other replies are those of
-                      a run in which the update is started and then finished
+    no-memory ticket  one reply is no-memory with a ticket, finish with that ticket follows and is done, or pending where the update is held
+                      back, and all other replies are those of a run in which the update is started and then finished
     cut short         a connection ended early and got a beginning of the right replies, and the server went on to its end (frames alone)
     unharmed          everything is right, as the program could do without
 
@@ -38,6 +38,12 @@ SCRIPTS = {
     "sync": "create; start-append 1 aa; start-append 1 bb; finish 2; sync 1 2; sync 1 3; finish 1; sync 1 2; finish 1",
     "wide": "create; append 1 %s; start-write 1 100 %s; append 1 00; finish 1; read 1 3 0 401" % ("5a" * 400, "a5" * 200),
     "refused": "append 1 00; create; append 1 -; write 1 1 00; create; append 2 0102030405; read 2 1 1 3; append 1 01; status 2",
+    # The sixteenth small write to the first page stores the page anew; the one that comes while version 18 waits is held back.
+    "folds": "create; append 1 61626364; %s; read 1 16 0 4; read 1 17 0 4; start-append 1 5858; %s; write 1 2 7a; finish 1; finish 2; "
+    "read 1 34 0 6" % ("; ".join("write 1 %d %02x" % (at % 4, at) for at in range(16)),
+                       "; ".join("write 1 %d %02x" % (at % 3, 16 + at) for at in range(15))),
+    "repairs": "create; start-append 1 aa; append 1 bbcc; start-write 1 0 dd; repair 1 1; repair 1 1; finish 1; status 1; repair 1 3; "
+    "repair 1 4; repair 2 1; repair 1 0; read 1 3 0 3",
 }
 
 
@@ -45,10 +51,12 @@ SCRIPTS = {
 
 ASKS = {"create": (1, "", 0), "append": (2, "n", 1), "write": (3, "nn", 1), "start-append": (4, "n", 1), "start-write": (5, "nn", 1),
         "finish": (6, "n", 0), "read": (7, "nnnn", 0), "recent": (8, "n", 0), "size": (9, "nn", 0), "sync": (10, "nn", 0),
-        "status": (11, "n", 0), "branch": (12, "nn", 0)}
+        "status": (11, "n", 0), "branch": (12, "nn", 0), "repair": (16, "nn", 0)}
+HELLO = bytes.fromhex("000000090e0000000000000002")
+GREETED = bytes.fromhex("000000098e0000000000000002")
 SAYS = {129: "blob %d", 130: "version %d at %d size %d", 131: "version %d at %d size %d", 132: "ticket %d version %d at %d size %d",
         133: "ticket %d version %d at %d size %d", 134: "published %d", 136: "recent %d size %d", 137: "size %d", 138: "synced %d",
-        139: "status assigned %d published %d held %d", 140: "blob %d"}
+        139: "status assigned %d published %d held %d", 140: "blob %d", 144: "published %d"}
 REFUSES = {1: "no-blob %d", 2: "not-published %d %d", 3: "offset-past-size %d %d", 4: "blob-too-big %d %d", 5: "too-many-versions %d",
            6: "too-many-open %d", 7: "too-many-blobs %d", 8: "already %d", 9: "no-memory", 10: "empty-update", 11: "update-too-long %d",
            13: "no-ticket %d", 14: "too-many-tickets %d", 15: "page-fault %d", 16: "pending %d held %d", 19: "bad-frame",
@@ -144,7 +152,7 @@ def free_port():
 
 
 class Frames:
-    """The same requests as frames to a server that serves one connection."""
+    """The same requests as frames of version 2 to a server that serves one connection."""
 
     def __init__(self, tried, refused):
         port = free_port()
@@ -155,6 +163,17 @@ class Frames:
                 self.socket = socket.create_connection(("127.0.0.1", port))
             except OSError:
                 select.select([], [], [], 0.002)
+        self.greeted = self.says(HELLO, len(GREETED)) == GREETED
+
+    def says(self, frame, count):
+        """Sends a frame, and takes so many bytes of what comes back; None where the connection ends before."""
+        if self.socket is None:
+            return None
+        try:
+            self.socket.sendall(frame)
+            return self.take(count)
+        except OSError:
+            return None
 
     def take(self, count):
         taken = b""
@@ -166,15 +185,9 @@ class Frames:
         return taken
 
     def ask(self, line):
-        if self.socket is None:
-            return None
-        try:
-            self.socket.sendall(frame_of(line))
-            length = self.take(4)
-            body = length and self.take(struct.unpack(">I", length)[0])
-        except OSError:
-            return None
-        return body and line_of(body)
+        length = self.greeted and self.says(frame_of(line), 4)
+        body = length and self.says(b"", struct.unpack(">I", length)[0])
+        return line_of(body) if body else None
 
     def ends(self):
         if self.socket is not None:
@@ -223,7 +236,7 @@ class Script:
     def right(self, lines):
         key = tuple(lines)
         if key not in self.known:
-            told, end = converse(self.talk(self.tried, 0), lines)
+            told, end, _ = self.talked(0, lines)
             if len(told) != len(lines) or end != (0, self.talk.right_end, ""):
                 raise Wrong("nothing was refused, and it came to %s and %s" % (told, end))
             self.known[key] = [reply for _, reply in told]
@@ -260,21 +273,27 @@ class Script:
         others = self.right(self.lines[:at] + instead + self.lines[at + 1:])
         if instead and not others[at].startswith("ticket %s version " % ticket):
             raise Wrong("ticket %s in place of %s" % (ticket, others[at]))
-        if instead and not others[at + 1].startswith("published "):
+        if instead and not others[at + 1].startswith(("published ", "error pending ")):
             raise Wrong("finish answered %s" % others[at + 1])
         wanted = others[:at] + (wanted or [replies[at]]) + others[at + len(wanted):]
         if replies != wanted:
             raise Wrong("%s in place of %s" % (replies, wanted))
         return kind
 
-    def one(self, refused):
+    def talked(self, refused, lines):
+        """The requests with their replies, how the program ended, and whether an allocation was refused."""
         for _ in range(5):
             talk = self.talk(self.tried, refused)
-            told, end = converse(talk, self.lines)
+            told, end = converse(talk, lines)
+            was_refused = talk.run.refused()
             # Somebody else may have taken the port meanwhile. What comes of the refused allocation comes again.
             if self.talk is not Frames or told or end[0] != 6:
                 break
-        return judged(lambda: self.check(told, end), refused), talk.run.refused()
+        return told, end, was_refused
+
+    def one(self, refused):
+        told, end, was_refused = self.talked(refused, self.lines)
+        return judged(lambda: self.check(told, end), refused), was_refused
 
 
 class Load:
