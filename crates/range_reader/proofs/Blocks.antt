@@ -1,6 +1,6 @@
 -- Marks that are looked at block by block.
-use Rattle.std.proofs.Common.{◌≡◌, ℕ, ◌+◌, ◌-◌, ◌<◌, ◌≤◌, ◌∙◌, sym, Bool, true, false, List, length, take, drop, get_or, ap, arith, inl, inr}
-use mathlib.Core.Bool.{beq}
+use Rattle.std.proofs.Common.{◌≡◌, refl, ℕ, ◌+◌, ◌-◌, ◌<◌, ◌≤◌, ◌∙◌, sym, Bool, true, false, List, length, take, drop, get_or, ap, arith, inl, inr}
+use mathlib.Core.Bool.{beq, ◌||◌}
 use Rattle.std.proofs.lemmas.Bool.{cases_lt, false≢true}
 use Rattle.std.proofs.lemmas.List.{get_or-take, get_or-drop, length-take-le, length-drop}
 
@@ -27,3 +27,18 @@ differs true true apart same = absurd (false≢true (sym apart))
 differs true false apart same = absurd (false≢true (sym same))
 differs false true apart same = absurd (false≢true same)
 differs false false apart same = absurd (false≢true (sym apart))
+
+-- of two that are false together each is
+neither : (a b : Bool) → (a || b) ≡ false → (a ≡ false) × (b ≡ false)
+neither false b e = (refl, e)
+neither true b e = absurd (false≢true (sym e))
+
+-- where none of the first i marks is this and mark i differs too, none of the first i + 1 is
+pub none_with : (marks : List Bool) (i : ℕ) (found w : Bool) → (found || beq (get_or marks i false) w) ≡ false
+    → (found ≡ false → (x : ℕ) → x < i → get_or marks x false ≡ w → ⊥) → (x : ℕ) → x < i + 1 → get_or marks x false ≡ w → ⊥
+none_with marks i found w e before x lt at =
+    let both : (found ≡ false) × (beq (get_or marks i false) w ≡ false) = neither found (beq (get_or marks i false) w) e in
+    elim (cases_lt x i) [
+      | inl below ↦ before both.0 x below at
+      | inr past ↦ let same : i ≡ x = omega arith in differs (get_or marks i false) w both.1 (ap (λ k. get_or marks k false) same ∙ at)
+    ]

@@ -48,6 +48,17 @@ pub(crate) fn mark_all(marks: &mut [bool], wanted: bool)
 // How many marks are looked at together.
 const BLOCK: usize = 64;
 
+// Whether some mark is `wanted`. It looks at all of them, without a branch for each, so that many are looked at by one instruction.
+fn has_mark(marks: &[bool], wanted: bool) -> bool
+    ensures none { result ≡ false → (x : ℕ) → x < length marks.now → slice_index_or marks.now x false ≢ wanted }
+{
+    let mut found = false;
+    for mark in marks {
+        found |= *mark == wanted;
+    }
+    found
+}
+
 // The first byte from `from` on whose mark is `wanted`, or the number of marks.
 pub(crate) fn first_marked(marks: &[bool], from: usize, wanted: bool) -> usize
     requires { from ≤ length marks.now }
@@ -58,7 +69,7 @@ pub(crate) fn first_marked(marks: &[bool], from: usize, wanted: bool) -> usize
 {
     let mut start = from;
     while marks.len() - start >= BLOCK {
-        if marks[start..start + BLOCK].contains(&wanted) {
+        if has_mark(&marks[start..start + BLOCK], wanted) {
             break;
         }
         start += BLOCK;
