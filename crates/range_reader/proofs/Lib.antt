@@ -15,3 +15,4 @@ pub mod Walking
 pub mod Rooted
 pub mod Blocks
 pub mod Stating
+pub mod Holding

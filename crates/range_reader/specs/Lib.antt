@@ -1,4 +1,5 @@
 pub mod Filling
 pub mod Reading
 pub mod Faults
+pub mod Holders
 pub mod Answers

@@ -1,5 +1,5 @@
 //! Reads bytes of a published version: a walk by links that takes no lock and no memory, in a number of node steps that is
-//! bounded beforehand. `stated` tells that bound before the read.
+//! bounded beforehand. `stated` tells that bound before the read, and `holder` the stored page that a byte lies in.
 //!
 //! The walk begins at the version's root, visits once each inner node above a page of the range, and comes to the newest leaf
 //! of each such page. There it goes on along the backs for the bytes that the newer leaves lack. The bytes go straight into the caller's
@@ -7,6 +7,7 @@
 #![tactic(auto)]
 
 mod bound;
+mod locate;
 mod marks;
 mod page;
 mod piece;
@@ -16,6 +17,7 @@ mod walk;
 mod whole;
 
 pub use bound::stated;
+pub use locate::holder;
 pub use marks::ReadRoom;
 pub use node_store::NoMemory;
 pub use reader::{ReadFault, read};

@@ -5,6 +5,7 @@ ghost use Rattle.range_log.specs.Log.{newest_of};
 ghost use Rattle.range_log.specs.Rows.{node_of};
 ghost use Rattle.snapshot.specs.Versions.{HasNodeFor, NodesLieIn};
 ghost use Rattle.range_reader.specs.Reading.{falls, log_of, IsLeafOf};
+ghost use Rattle.range_reader.specs.Holders.{piece_with};
 
 use node_store::{Node, NodeHouse, Piece, Range};
 use page_store::Houses;
@@ -51,6 +52,17 @@ impl LeafParts {
         let start = self.start as usize;
         let end = start + self.first.len as usize + self.second.len as usize;
         begin < end && start < begin + count
+    }
+
+    // The piece that has this byte of the page, which is one of the leaf's own.
+    pub(crate) fn piece_with(&self, byte: usize) -> Piece
+        ensures { result ≡ piece_with self.now.start self.now.first self.now.second byte }
+    {
+        if byte < self.start as usize + self.first.len as usize {
+            self.first
+        } else {
+            self.second
+        }
     }
 }
 

@@ -1,0 +1,101 @@
+-- The leaf that has a byte, and the stored page in which it has it.
+use Rattle.std.proofs.Common.{◌≡◌, ◌⊎◌, ℕ, ◌+◌, ◌-◌, ◌*◌, ◌/◌, ◌<◌, ◌≤◌, [], ◌∷◌, length, arith, refl, ap, sym, ◌∙◌, inl, inr, true, false}
+use Rattle.std.specs.Prelude.{nat_lt}
+use Rattle.std.proofs.lemmas.Bool.{cases_lt}
+use Rattle.std.specs.List.{range_with_len, sum_by}
+use Rattle.std.proofs.lemmas.Bool.Decides.{nat_tests}
+use Rattle.std.proofs.lemmas.List.Sums.{sum_by-cons}
+use Rattle.tree_geom.specs.declared.range.Range.{Range}
+use Rattle.tree_geom.specs.Geometry.{Aligned, page_range, height_of}
+use Rattle.range_log.specs.Rows.{back_of}
+use Rattle.range_log.specs.Visits.{pages_met, backs_of}
+use Rattle.range_log.specs.Laws.{BacksHaveNoHoles, BacksLead, ExtentsStand, PageBytesStay}
+use Rattle.tree_walk.specs.Walk.{nodes_visited, WalksAreBounded}
+use Rattle.node_store.specs.UpdateRows.{stored_of}
+use Rattle.snapshot.specs.Versions.{Version, row_at, updates_of, size_now, HasNodeFor, IsVersion}
+use Rattle.tree_geom.proofs.Spans.{page_pos}
+use Rattle.range_reader.specs.declared.source.LeafParts.{LeafParts}
+use Rattle.range_reader.specs.Reading.{falls, newest_in, backs_in, bound, page_in, own_start, own_len, IsLeafOf}
+use Rattle.range_reader.specs.Holders.{HasByte, piece_with}
+use Rattle.range_reader.proofs.Going.{in_newest}
+use Rattle.range_reader.proofs.Leaves.{LeafOf}
+use Rattle.range_reader.proofs.Rooted.{walk_bound}
+use Rattle.range_reader.proofs.Taking.{lens, first_is, second_is}
+use Rattle.range_reader.proofs.Walking.{div_is, page_of_range}
+
+-- a range of one page is that of the page of each byte in it
+pub page_is : (p : ℕ) (r : Range) (at : ℕ) → 1 ≤ p → Aligned p r → r.size ≡ p → r.offset ≤ at → at < r.offset + r.size → r ≡ page_range p (at / p)
+page_is p r at pos al whole le lt =
+    let page : ℕ = r.offset / p in
+    let same : r ≡ page_range p page = page_of_range p r pos al whole in
+    let o : r.offset ≡ page * p = ap (λ (x : Range). x.offset) same in
+    let span : (page + 1) * p ≡ page * p + p = omega arith in
+    let i : at / p ≡ page = div_is p page at pos (omega arith) (omega arith) in
+    same ∙ ap (page_range p) (sym i)
+
+-- a byte below the size is valid in the page at its newest version
+pub valid_newest : PageBytesStay → (s : Version) → IsVersion s → (i newest b : ℕ) → newest ≡ newest_in s (page_range s.page_size i) → b < s.page_size
+    → i * s.page_size + b < size_now s → b < length (page_in s newest i)
+valid_newest stay s is i newest b same within valid =
+    let f : b + 0 < length (page_in s newest i) = (in_newest stay s is i newest b 1 (true ∷ []) same (omega arith) (omega arith)).valid 0 (omega arith) refl in
+    omega (arith, f)
+
+-- a walk to the page of a byte, and then along all its backs, is within the visit bound of a read of this one byte
+pub byte_bound : WalksAreBounded → ExtentsStand → (s : Version) → IsVersion s → (at : ℕ) → at < size_now s
+    → nodes_visited (height_of s.page_size (size_now s)) 0 (at / s.page_size) (at / s.page_size) + backs_of s.page_size (falls s) (length s.rows) (at / s.page_size) ≤ bound s at 1
+byte_bound walks stand s is at lt =
+    let p : ℕ = s.page_size in
+    let i : ℕ = at / p in
+    let f : ℕ → ℕ = λ k. backs_of p (falls s) (length s.rows) k in
+    let same : at + 1 - 1 ≡ at = omega arith in
+    let last : (at + 1 - 1) / p ≡ i = ap (λ x. x / p) same in
+    let one : i + 1 - i ≡ 1 = omega arith in
+    let met : pages_met p at 1 ≡ i ∷ [] = ap (λ y. range_with_len i (y + 1 - i)) last ∙ ap (range_with_len i) one in
+    let backs : backs_in s at 1 ≡ f i = ap (sum_by f) met ∙ sum_by-cons f i [] ∙ (let e : f i + sum_by f [] ≡ f i = omega arith in e) in
+    let w = walk_bound stand s is walks at 1 (omega arith) (omega arith) in
+    omega (arith, w, backs, ap (λ y. nodes_visited (height_of p (size_now s)) 0 i y) last)
+
+-- ---- on to the next leaf
+-- the leaf at the back of that of page i in the row of update j, for byte b of the page
+pub record NextLeaf (s : Version) (j i b : ℕ) : Type 0 where
+  pub some : 1 ≤ back_of s.page_size (falls s) j i
+  pub less : back_of s.page_size (falls s) j i < j
+  pub stands : HasNodeFor s (back_of s.page_size (falls s) j i) (page_range s.page_size i)
+  pub valid : b < length (page_in s (back_of s.page_size (falls s) j i) i)
+
+-- where a leaf lacks a valid byte of its page, it has a back, and the byte is valid there too
+pub next_leaf : BacksHaveNoHoles → BacksLead → ExtentsStand → (s : Version) → IsVersion s → (j i b : ℕ) → HasNodeFor s j (page_range s.page_size i) → LeafOf s j i
+    → b < length (page_in s j i) → ¬ HasByte s j i b → NextLeaf s j i b
+next_leaf holes lead stand s is j i b has leaf valid lacks =
+    let p : ℕ = s.page_size in
+    let pos : 1 ≤ p = page_pos p is.page_size in
+    let bounds = (stand (updates_of s) is.replayable).0 in
+    let out : (b < own_start s j i) ⊎ (own_start s j i + own_len s j i ≤ b) = elim (cases_lt b (own_start s j i)) [
+      | inl below ↦ inl below
+      | inr from ↦ elim (cases_lt b (own_start s j i + own_len s j i)) [
+        | inl within ↦ absurd (lacks (from, within))
+        | inr above ↦ inr above
+      ]
+    ] in
+    let rest = leaf.tells.rest b out valid in
+    let back = (holes p j i (falls s) pos bounds has rest.0.0).1 rest.0.1 in
+    record { some = back.0; less = back.1; stands = lead p j i (falls s) pos bounds has back.0; valid = rest.2 }
+
+-- ---- a leaf by its parts
+module _ (s : Version) (j i b : ℕ) (parts : LeafParts) (is : IsLeafOf s j i parts) where
+  pub byte_in : (parts.start ≤ b) × (b + 1 ≤ parts.start + parts.first.len + parts.second.len) → HasByte s j i b
+  byte_in within = (omega (arith, within.0, is.start), omega (arith, within.1, is.start, lens s j i parts is))
+
+  pub byte_out : ((parts.start ≤ b) × (b + 1 ≤ parts.start + parts.first.len + parts.second.len) → ⊥) → ¬ HasByte s j i b
+  byte_out out = λ has. out (omega (arith, has.0, is.start), omega (arith, has.1, is.start, lens s j i parts is))
+
+  -- the stored page of the piece with the byte is there
+  pub piece_stands : LeafOf s j i → HasByte s j i b → (piece_with parts.start parts.first parts.second b).page < length (stored_of (row_at s.rows j))
+  piece_stands of has =
+      elim (cases_lt b (parts.start + parts.first.len)) [
+        | inl low ↦ (let e : nat_lt b (parts.start + parts.first.len) ≡ true = grind (arith, nat_tests) in rw e (first_is s j i parts is of).number)
+        | inr high ↦
+            (let e : nat_lt b (parts.start + parts.first.len) ≡ false = grind (arith, nat_tests) in
+            let some : 1 ≤ parts.second.len = omega (arith, has.1, is.start, lens s j i parts is) in
+            rw e (second_is s j i parts is of some).number)
+      ]
