@@ -1,6 +1,5 @@
-use Rattle.std.proofs.Common.{rules, ◌≡◌, ℕ, ◌+◌, ◌*◌, ◌/◌, ◌<◌, ◌≤◌, arith, ap, sym, ◌∙◌, subst, inl, inr}
+use Rattle.std.proofs.Common.{rules, ◌+◌, ◌*◌, ◌/◌, ◌<◌, ◌≤◌, arith, ap, sym, ◌∙◌, subst, inl, inr}
 use Rattle.tree_geom.specs.declared.range.Range.{Range}
-use Rattle.tree_geom.specs.Geometry.{page_range}
 use Rattle.tree_geom.proofs.Spans.{page_pos}
 use Rattle.range_log.specs.Log.{newest_of}
 use Rattle.snapshot.specs.Versions.{HasNodeFor}

@@ -1,4 +1,4 @@
-use Rattle.std.proofs.Common.{◌≡◌, ℕ, ◌/◌, ◌%◌, ◌<◌, ◌≤◌, length, arith, ap, sym, ◌∙◌, subst, true, false}
+use Rattle.std.proofs.Common.{◌≡◌, ℕ, ◌/◌, ◌%◌, ◌<◌, ◌≤◌, length, arith, ap, sym, ◌∙◌, subst}
 use Rattle.tree_geom.specs.declared.node.NodeKey.{NodeKey}
 use Rattle.tree_geom.specs.declared.node.Piece.{Piece}
 use Rattle.tree_geom.specs.Geometry.{height_of, page_range}
@@ -7,7 +7,7 @@ use Rattle.snapshot.specs.Versions.{size_now, HasNodeFor}
 use Rattle.range_reader.specs.Reading.{falls}
 use Rattle.range_reader.proofs.Among.{in_rows, page_in}
 use Rattle.range_reader.proofs.Leaves.{leaf_of_version}
-use Rattle.range_reader.proofs.Rooted.{not_zero, root_stands, root_newest, root_tree}
+use Rattle.range_reader.proofs.Rooted.{root_stands, root_newest, root_tree}
 use Rattle.range_reader.proofs.Holding.{byte_bound, piece_stands}
 use Rattle.range_reader.proofs.locate.holder.Goals as goal
 
