@@ -1,0 +1,4 @@
+pub mod HeardLemmas
+pub mod TextLemmas
+mod LineLemmas
+mod LinesLemmas
