@@ -20,7 +20,7 @@ use Rattle.script_text.specs.Commands.{command_of}
 use Rattle.script_text.specs.Decoded.{AsksAs, AsksNothing, SpellsNoNumber, numbers_text, digits_of, part_text, fields_text, IsPart, IsDecoded, IsFieldBehind, BeginsPair, EndsNumber, Adds}
 use Rattle.script_text.specs.declared.fields.Part.{Part}
 use Rattle.script_text.specs.declared.fields.Part.TheVariants.{Number, Dash, Digits}
-use Rattle.script_text.proofs.HeardLemmas.{HasFirst, slice_split_has, split_behind}
+use Rattle.text_lines.proofs.HeardLemmas.{HasFirst, slice_split_has, split_behind}
 use Rattle.script_text.proofs.BytesLemmas.{dash_more, no_digit, no_second, pair_stands, whole_pairs, odd_pairs}
 use Rattle.script_text.proofs.FieldLemmas.{fields_of-cut, fields_of-one, IsSolid, solid_without, decimal_solid, command_letters, letters_solid, read_last, read, ask, with_number, with_number-none, with_numbers, with_numbers-none, with_numbers-some, AllSmall, text_splits, command_cut, command_reads, asks}
 
@@ -505,6 +505,9 @@ fields_plain operation ns part bytes d =
 
 pub letters_plain : (word : List ℕ) → All IsLetter word → IsPlain word
 letters_plain word h = ink_plain word (ink_solid word (letters_solid word h))
+
+pub word_plain : (word : List ℕ) → All IsLetter word → IsPlain (word ++ 32 ∷ [])
+word_plain word h = ink_plain (word ++ 32 ∷ []) (All-append IsInk word (32 ∷ []) (ink_solid word (letters_solid word h)) (space_ink [] (All-nil IsInk)))
 
 -- ---- a command alone
 

@@ -94,26 +94,25 @@ pairs_decoded operation ns part bytes digits bytes' e d h =
     subst (λ (p : Part). IsDecoded operation ns p bytes') (sym e) (come operation ns bytes digits bytes' is h).decoded
 
 -- pairs are taken off the front of a piece
-pub pairs_taken : (operation : Operation) (ns : List ℕ) (part : Part) (bytes digits bytes' piece : List ℕ) (room count : ℕ) → part ≡ Digits None → IsDecoded operation ns part bytes → Decodes bytes digits bytes'
-    → digits ≡ take count piece → count ≡ length digits → count ≤ length piece → count ≤ room → TakesPairs (fields_text operation ns part bytes) piece room (fields_text operation ns part bytes') count
-pairs_taken operation ns part bytes digits bytes' piece room count e d h front all within few =
+pub pairs_taken : (operation : Operation) (ns : List ℕ) (part : Part) (bytes digits bytes' piece : List ℕ) (count : ℕ) → part ≡ Digits None → IsDecoded operation ns part bytes → Decodes bytes digits bytes'
+    → digits ≡ take count piece → count ≡ length digits → count ≤ length piece → TakesPairs (fields_text operation ns part bytes) piece (fields_text operation ns part bytes') count
+pairs_taken operation ns part bytes digits bytes' piece count e d h front all within =
     let is = subst (λ (p : Part). IsDecoded operation ns p bytes) e d in
     let c = come operation ns bytes digits bytes' is h in
     let ok = decode_of-ok digits h.spelled h.spells in
-    subst (λ (p : Part). TakesPairs (fields_text operation ns p bytes) piece room (fields_text operation ns p bytes') count) (sym e)
+    subst (λ (p : Part). TakesPairs (fields_text operation ns p bytes) piece (fields_text operation ns p bytes') count) (sym e)
     (record {
       within = within;
-      few = few;
       digits = subst (λ (l : List ℕ). AllPass is_hex_digit l) front ok.1;
       asks = subst (λ (l : List ℕ). AsksAs (text operation ns bytes ++ l) (text operation ns bytes')) front c.asks;
       longer = c.longer ∙ ap (λ (n : ℕ). length (text operation ns bytes) + n) (sym all);
     })
 
 -- or none are
-pub none_taken : (line piece line' : List ℕ) (room : ℕ) → line' ≡ line → TakesPairs line piece room line' 0
-none_taken line piece line' room e =
-    subst (λ (l : List ℕ). TakesPairs line piece room l 0) (sym e)
-    (record { within = omega arith; few = omega arith; digits = All-nil (λ c. is_hex_digit c ≡ true); asks = asks_same line; longer = omega arith })
+pub none_taken : (line piece line' : List ℕ) → line' ≡ line → TakesPairs line piece line' 0
+none_taken line piece line' e =
+    subst (λ (l : List ℕ). TakesPairs line piece l 0) (sym e)
+    (record { within = omega arith; digits = All-nil (λ c. is_hex_digit c ≡ true); asks = asks_same line; longer = omega arith })
 
 -- ---- digits that decode
 

@@ -92,10 +92,9 @@ pub record Decodes (bytes digits bytes' : List ℕ) : Type 0 where
   pub spells : decode_of digits ≡ Ok spelled
   pub behind : bytes' ≡ bytes ++ spelled
 
--- pairs of digits have come off the front of a piece, in no more than so many bytes
-pub record TakesPairs (text piece : List ℕ) (room : ℕ) (text' : List ℕ) (count : ℕ) : Type 0 where
+-- pairs of digits have come off the front of a piece
+pub record TakesPairs (text piece text' : List ℕ) (count : ℕ) : Type 0 where
   pub within : count ≤ length piece
-  pub few : count ≤ room
   pub digits : AllPass is_hex_digit (take count piece)
   pub asks : AsksAs (text ++ take count piece) text'
   pub longer : length text' ≡ length text + count

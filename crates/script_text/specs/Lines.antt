@@ -1,13 +1,15 @@
-use Rattle.std.specs.Prelude.{ℕ, ◌==◌, nat_lt, false, if◌then◌else◌, List, [], ◌∷◌, length, Option, Some, None}
-use Rattle.std.specs.Option.{option_to_list}
+use Rattle.std.specs.Prelude.{ℕ, ◌==◌, List, Option, Some, None, refl}
 use Rattle.std.specs.List.{slice_split}
-use Rattle.std.specs.Str.Lines.{strip_carriage_return}
-use Rattle.request_form.specs.Stream.{Stream, after_item}
+use Rattle.std.proofs.Common.{lit≤}
+use Rattle.request_form.specs.Stream.{Stream}
 use Rattle.request_form.specs.declared.form.Request.{Request}
 use Rattle.request_form.specs.declared.form.Heard.{Heard}
 use Rattle.request_form.specs.declared.form.Heard.TheVariants.{Asked, Wrong}
 use Rattle.request_form.specs.declared.form.Fault.TheVariants.{Malformed}
+use Rattle.text_lines.specs.Lines as Of
+use Rattle.text_lines.specs.Lines.{Lining, IsLining, lined}
 use Rattle.script_text.specs.Requests.{request_of}
+pub use Rattle.text_lines.specs.Lines.{with_item}
 
 -- the most bytes of a line, its end not counted
 abbrev pub max_line : ℕ
@@ -26,27 +28,26 @@ heard_as None = Wrong Malformed
 abbrev pub spelled : List ℕ → Heard
 spelled line = heard_as (request_of (fields_of line))
 
+-- the lines of a script
+abbrev pub script_lines : Lining Heard
+script_lines = record { limit = max_line; bad = Wrong Malformed; spelled = λ line. spelled line }
+
+-- no command begins with a space
+pub script_lines_hold : IsLining script_lines
+script_lines_hold = record { some = lit≤ tt; space = λ text. refl }
+
 -- the item of a line without its end: an empty line and one that begins with `#` have none
 abbrev pub item_of_text : List ℕ → Option Heard
-item_of_text [] = None
-item_of_text (b ∷ bs) =
-    if b == 35 then None
-    else Some (if nat_lt max_line (length (b ∷ bs)) then Wrong Malformed else spelled (b ∷ bs))
+item_of_text text = Of.item_of_text script_lines text
 
 -- the item of the bytes before a line feed, or behind the last one; a CR at their end isn't part of the line
 abbrev pub item_of : List ℕ → Option Heard
-item_of line = item_of_text (strip_carriage_return line)
-
-abbrev pub with_item : Option Heard → Stream → Stream
-with_item None stream = stream
-with_item (Some heard) stream = after_item heard stream
+item_of line = Of.item_of script_lines line
 
 -- the stream of some lines: each is ended by a line feed, but the last, which the stream's end makes whole
 abbrev pub stream_of : List (List ℕ) → Stream
-stream_of [] = record { items = []; whole = []; cut = false }
-stream_of (last ∷ []) = record { items = option_to_list (item_of last); whole = []; cut = false }
-stream_of (line ∷ next ∷ more) = with_item (item_of line) (stream_of (next ∷ more))
+stream_of lines = Of.stream_of script_lines lines
 
 -- what a script says: its lines lie between its line feeds
 abbrev pub heard : List ℕ → Stream
-heard script = stream_of (slice_split (λ b. b == 10) script)
+heard script = lined script_lines script

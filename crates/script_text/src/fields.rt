@@ -7,7 +7,8 @@ ghost use Rattle.std.specs.Result.{result_ok};
 ghost use Rattle.hex.specs.Hex.{pair_value, is_hex_digit};
 ghost use Rattle.request_form.specs.Operations.{numbers_of};
 ghost use Rattle.script_text.specs.Requests.{request_of};
-ghost use Rattle.script_text.specs.Lines.{fields_of};
+ghost use Rattle.text_lines.specs.Text.{Takes};
+ghost use Rattle.script_text.specs.Lines.{fields_of, script_lines};
 ghost use Rattle.script_text.specs.Begun.{IsPlain};
 ghost use Rattle.script_text.specs.Commands.{command_of};
 ghost use Rattle.script_text.specs.Decoded.{digits_of, SpellsNoNumber, IsDecoded, IsFieldBehind, BeginsPair};
@@ -152,17 +153,15 @@ fn before_other(piece: &[u8]) -> usize
     }
 }
 
-// The pairs of hex digits at the front of a piece, in no more than so many bytes.
-fn pairs_of(piece: &[u8], room: usize) -> &[u8]
+// The pairs of hex digits at the front of a piece.
+fn pairs_of(piece: &[u8]) -> &[u8]
     ensures front { result.now ≡ take (length result.now) piece.now }
     ensures within { length result.now ≤ length piece.now }
-    ensures few { length result.now ≤ room }
     ensures even { length result.now % 2 ≡ 0 }
     ensures digits { AllPass is_hex_digit result.now }
 {
-    let front = &piece[..room.min(piece.len())];
-    let count = before_other(front);
-    &front[..count - count % 2]
+    let count = before_other(piece);
+    &piece[..count - count % 2]
 }
 
 // Decodes pairs of hex digits into the bytes behind the first `held`, which are as many as the pairs.
@@ -242,8 +241,8 @@ impl Fields {
         })
     }
 
-    /// One more byte of the line, which isn't its end. Says whether the line may still be a request.
-    pub fn add(&mut self, byte: u8) -> Result<bool, NoMemory>
+    // One more byte of the line. Says whether the line may still be a request.
+    fn add(&mut self, byte: u8) -> Result<bool, NoMemory>
         ensures adds { IfOk result (λ goes. AddsByte self.old byte self.new goes) }
         ensures plain { IsPlain self.new }
     {
@@ -263,21 +262,36 @@ impl Fields {
         }
     }
 
-    /// Takes pairs of hex digits off the front of a piece, in no more than `room` bytes. Answers how many bytes they are: none
-    /// where the first byte isn't the first digit of a pair.
-    pub fn take_pairs(&mut self, piece: &[u8], room: usize) -> Result<usize, NoMemory>
-        ensures takes { IfOk result (λ count. TakesPairs self.old piece.now room self.new count) }
-        ensures same { OnErr result (self.new ≡ self.old) }
+    // Takes pairs of hex digits off the front of a piece. Answers how many bytes they are: none where the first byte isn't the
+    // first digit of a pair.
+    fn take_pairs(&mut self, piece: &[u8]) -> Result<usize, NoMemory>
+        ensures takes { IfOk result (λ count. TakesPairs self.old piece.now self.new count) }
         ensures plain { IsPlain self.new }
     {
         match self.part {
             Part::Digits(None) => {
-                let digits = pairs_of(piece, room);
+                let digits = pairs_of(piece);
                 push_pairs(&mut self.bytes, digits)?;
                 Ok(digits.len())
             }
             _ => Ok(0),
         }
+    }
+
+    /// Takes bytes of the line off the front of a piece: pairs of hex digits, or one byte. Answers how many, or none where the
+    /// line is no request, however it goes on.
+    pub fn take(&mut self, piece: &[u8]) -> Result<Option<usize>, NoMemory>
+        requires { 0 < length piece.now }
+        ensures { IfOk result (λ count. Takes script_lines self.old piece.now self.new count) }
+    {
+        let pairs = self.take_pairs(piece)?;
+        if pairs > 0 {
+            return Ok(Some(pairs));
+        }
+        if self.add(piece[0])? {
+            return Ok(Some(1));
+        }
+        Ok(None)
     }
 
     /// The request that the line spells, if it spells one, now that it has ended.

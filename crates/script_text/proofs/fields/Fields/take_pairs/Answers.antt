@@ -23,8 +23,7 @@ returns-in_ok-push_pairs-in-Digits-None-clause-takes c =
     let none = rw c.in-Digits-None.is at c.in-Digits-None.field-0-is in
     let is : f.part ≡ Digits None = c.in-Digits-None.is ∙ ap (λ (h : Option ℕ). Digits h) none in
     rw (sym c.self.view_is)
-    (pairs_taken f.operation f.numbers.items f.part f.bytes.items c.pairs_of-digits.result.now c.push_pairs.new.bytes.items c.args.piece.now c.args.room _ is c.self.invariant c.in_ok-push_pairs-in-Digits-None.ensures.ok d.front refl d.within
-    d.few)
+    (pairs_taken f.operation f.numbers.items f.part f.bytes.items c.pairs_of-digits.result.now c.push_pairs.new.bytes.items c.args.piece.now _ is c.self.invariant c.in_ok-push_pairs-in-Digits-None.ensures.ok d.front refl d.within)
 
 pub returns-in_ok-push_pairs-in-Digits-None-clause-plain : goal.returns-in_ok-push_pairs-in-Digits-None-clause-plain
 returns-in_ok-push_pairs-in-Digits-None-clause-plain c =
@@ -43,7 +42,6 @@ pub returns-in_default-2 : goal.returns-in_default-2
 returns-in_default-2 c =
     let f = c.self.inside in
     record {
-      takes = none_taken c.args.self.now c.args.piece.now c.args.self.now c.args.room refl;
-      same = tt;
+      takes = none_taken c.args.self.now c.args.piece.now c.args.self.now refl;
       plain = rw (sym c.self.view_is) (fields_plain f.operation f.numbers.items f.part f.bytes.items c.self.invariant);
     }
