@@ -1,6 +1,6 @@
 -- Bytes of a line that were taken off the front of a piece.
-use Rattle.std.proofs.Common.{◌≡◌, ◌∙◌, ℕ, ◌+◌, ◌<◌, ◌≤◌, Bool, true, false, List, [], ◌∷◌, ◌++◌, length, take, slice_index, Option, Some, None, refl, sym, ap, subst, arith, append_assoc, append-nil, length-append}
-use Rattle.text_lines.specs.Text.{IsText, EndsPlain, TakesText, Takes}
+use Rattle.std.proofs.Common.{◌≡◌, ◌∙◌, ℕ, ◌+◌, ◌<◌, ◌≤◌, true, false, List, [], ◌∷◌, ◌++◌, length, take, slice_index, Option, Some, None, sym, ap, subst, arith, append_assoc, append-nil, length-append}
+use Rattle.text_lines.specs.Text.{TakesText, Takes}
 use Rattle.text_lines.proofs.TextLemmas.{strip-plain}
 use Rattle.request_form.specs.declared.form.Request.{Request}
 use Rattle.script_text.specs.Requests.{request_of}

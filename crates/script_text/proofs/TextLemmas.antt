@@ -1,22 +1,17 @@
 -- What a text says as a line, however it goes on.
-use Rattle.std.proofs.Common.{◌≡◌, ◌≢◌, ◌∙◌, ◌⊎◌, inl, inr, ℕ, suc, ◌-◌, ◌<◌, ◌≤◌, ◌==◌, nat_lt, Bool, true, false, cond, List, [], ◌∷◌, ◌++◌, length, take, slice_index, Some, None, refl, sym, ap, subst, arith, append_assoc, append-nil, length-append}
+use Rattle.std.proofs.Common.{◌≡◌, ◌≢◌, ◌∙◌, ◌⊎◌, inl, inr, ℕ, ◌≤◌, ◌==◌, false, List, [], ◌∷◌, ◌++◌, length, None, refl, sym, ap, subst, arith, append_assoc, length-append}
 use Rattle.std.specs.List.{All}
-use Rattle.std.specs.Str.Lines.{strip_carriage_return}
-use Rattle.std.proofs.lemmas.Bool.{ne_eqb, le-ltb}
+use Rattle.std.proofs.lemmas.Bool.{ne_eqb}
 use Rattle.std.proofs.lemmas.List.Elements.{All-head, All-tail, All-push}
-use Rattle.request_form.specs.declared.form.Heard.{Heard}
-use Rattle.request_form.specs.declared.form.Heard.TheVariants.{Wrong}
-use Rattle.request_form.specs.declared.form.Fault.TheVariants as Faults
 use Rattle.request_form.specs.declared.operation.Operation.{Operation}
 use Rattle.request_form.specs.declared.operation.Operation.TheVariants as Operations
 use Rattle.script_text.specs.Requests.{forms, request_in, request_of}
-use Rattle.script_text.specs.Lines.{max_line, fields_of, heard_as, item_of_text, item_of}
+use Rattle.script_text.specs.Lines.{fields_of}
 use Rattle.script_text.specs.Begun.{IsWithout, IsLetter}
 use Rattle.script_text.specs.Commands.{command_of}
 use Rattle.script_text.specs.Decoded.{AsksNothing}
 use Rattle.text_lines.proofs.HeardLemmas.{slice_split_has, split_behind}
-use Rattle.script_text.proofs.FieldLemmas.{fields_of-cut, fields_of-one, letters_solid, letter_solid, solid_without, command_letters, no_command}
-use Rattle.script_text.proofs.DecodedLemmas.{letters_plain}
+use Rattle.script_text.proofs.FieldLemmas.{fields_of-cut, fields_of-one, letters_solid, solid_without, command_letters, no_command}
 
 -- ---- words
 

@@ -1,5 +1,5 @@
 -- A line that has begun, and the bytes in whose place stands what is kept of it.
-use Rattle.std.specs.Prelude.{◌≡◌, ◌≢◌, ◌⊎◌, ◌+◌, ◌≤◌, ℕ, List, [], ◌∷◌, ◌++◌, length, slice_index, Option, Some, None}
+use Rattle.std.specs.Prelude.{◌≡◌, ◌≢◌, ◌⊎◌, ◌≤◌, ℕ, List, length, slice_index, Option, Some, None}
 use Rattle.std.specs.List.{All}
 use Rattle.script_text.specs.declared.line.Begun.{Begun}
 use Rattle.script_text.specs.declared.line.Begun.TheVariants.{Word, Asked}

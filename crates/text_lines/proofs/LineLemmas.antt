@@ -1,10 +1,10 @@
 -- A line as its bytes come, a CR among them.
-use Rattle.std.proofs.Common.{◌≡◌, ◌≢◌, ◌∙◌, ℕ, ◌+◌, ◌-◌, ◌<◌, ◌≤◌, ◌==◌, Bool, true, false, List, [], ◌∷◌, ◌++◌, length, take, drop, slice_index, Option, Some, None, Result, Ok, Err, IfOk, OnOk, refl, sym, ap, subst, arith, append_assoc, append-nil, take-add, length-drop, length-append}
+use Rattle.std.proofs.Common.{◌≡◌, ◌≢◌, ◌∙◌, ℕ, ◌+◌, ◌-◌, ◌<◌, ◌≤◌, ◌==◌, Bool, true, false, List, [], ◌∷◌, ◌++◌, length, take, drop, Result, Ok, Err, OnOk, refl, sym, ap, subst, arith, append_assoc, append-nil, take-add, length-drop, length-append}
 use Rattle.std.specs.Str.Lines.{strip_carriage_return}
 use Rattle.std.proofs.lemmas.Bool.{ne_eqb}
 use Rattle.std.proofs.lemmas.List.{take_all}
-use Rattle.std.proofs.lemmas.List.Elements.{All-nil, All-cons, All-append, All-take, All-drop}
-use Rattle.text_lines.specs.Lines.{Lining, IsLining, item_of_text, item_of, lined}
+use Rattle.std.proofs.lemmas.List.Elements.{All-nil, All-cons, All-append, All-drop}
+use Rattle.text_lines.specs.Lines.{Lining, item_of_text, item_of, lined}
 use Rattle.text_lines.specs.Text.{IsWithout, EndsPlain}
 use Rattle.text_lines.specs.Begun.{GoesOnAs, SaysAs, begun_text, IsBegun, Pushes, PushesAll, return_text, IsLine, TakesSome}
 use Rattle.text_lines.specs.declared.begun.Begun.{Begun}

@@ -1,8 +1,8 @@
 -- A line that has begun, and the bytes in whose place stands what is kept of it.
-use Rattle.std.specs.Prelude.{◌≡◌, ◌≢◌, ◌+◌, ◌<◌, ◌≤◌, ℕ, Bool, true, false, List, [], ◌∷◌, ◌++◌, length, take, slice_index, Option, Some, None}
+use Rattle.std.specs.Prelude.{◌≡◌, ◌<◌, ◌≤◌, ℕ, Bool, true, false, List, [], ◌∷◌, ◌++◌, length, take, slice_index, Option, Some, None}
 use Rattle.item_stream.specs.Items.{after_item}
 use Rattle.text_lines.specs.Lines.{Lining, item_of_text, item_of, with_item, lined}
-use Rattle.text_lines.specs.Text.{IsWithout, EndsPlain, IsText, SpellsBad, TakesText}
+use Rattle.text_lines.specs.Text.{IsWithout, EndsPlain, IsText}
 use Rattle.text_lines.specs.declared.begun.Begun.{Begun}
 use Rattle.text_lines.specs.declared.begun.Begun.TheVariants.{Text, Comment, Bad}
 use Rattle.text_lines.specs.declared.begun.Added.{Added as Adding}

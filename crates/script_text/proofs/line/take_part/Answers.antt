@@ -3,7 +3,7 @@ use Rattle.arrayvec.specs.ArrayVec.{ArrayVec}
 use Rattle.script_text.specs.Begun.{begun_text}
 use Rattle.script_text.specs.Decoded.{AsksNothing}
 use Rattle.script_text.specs.declared.line.Begun.{Begun}
-use Rattle.script_text.proofs.TakenLemmas.{letter_takes, letter_stops}
+use Rattle.script_text.proofs.TakenLemmas.{letter_stops}
 use Rattle.script_text.proofs.line.take_part.Goals as goal
 
 pub returns-in-None-clause-takes : goal.returns-in-None-clause-takes

@@ -1,4 +1,4 @@
-use Rattle.std.proofs.Common.{◌≡◌, ◌≢◌, ◌<◌, ◌≤◌, length, slice_index, arith}
+use Rattle.std.proofs.Common.{◌≡◌, ◌≢◌, length, slice_index, arith}
 use Rattle.std.proofs.lemmas.List.{length-take-le}
 use Rattle.text_lines.proofs.TextLemmas.{took}
 use Rattle.text_lines.proofs.begun.add.Goals as goal

@@ -1,4 +1,3 @@
-use Rattle.std.proofs.Common.{arith}
 use Rattle.text_lines.specs.Begun.{begun_text}
 use Rattle.text_lines.proofs.LineLemmas.{pushes_on, tail_is}
 use Rattle.text_lines.proofs.begun.push_all.Goals as goal

@@ -1,5 +1,5 @@
 use Rattle.std.proofs.Common.{◌≡◌, arith}
-use Rattle.script_text.proofs.TakenLemmas.{pairs_take, byte_takes, byte_stops}
+use Rattle.script_text.proofs.TakenLemmas.{byte_stops}
 use Rattle.script_text.proofs.fields.Fields.take.Goals as goal
 
 pub returns : goal.returns

@@ -1,4 +1,4 @@
-use Rattle.std.proofs.Common.{ℕ, List, sym, ap, ◌∙◌}
+use Rattle.std.proofs.Common.{sym, ap, ◌∙◌}
 use Rattle.text_lines.specs.Lines.{item_of_text, item_of}
 use Rattle.text_lines.specs.Begun.{begun_text}
 use Rattle.text_lines.specs.declared.begun.Begun.{Begun}

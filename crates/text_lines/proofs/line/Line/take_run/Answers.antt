@@ -1,4 +1,4 @@
-use Rattle.std.proofs.Common.{◌∷◌, ℕ, List, [], subst}
+use Rattle.std.proofs.Common.{ℕ, List, subst}
 use Rattle.text_lines.specs.Begun.{begun_text, PushesAll}
 use Rattle.text_lines.proofs.LineLemmas.{run_comes_ok, run_comes_behind}
 use Rattle.text_lines.proofs.line.Line.take_run.Goals as goal

@@ -1,4 +1,4 @@
-use Rattle.std.proofs.Common.{sym, ◌∙◌}
+use Rattle.std.proofs.Common.{◌∙◌}
 use Rattle.text_lines.proofs.LinesLemmas.{ends_clean, ends_last}
 use Rattle.text_lines.proofs.lines.Lines.end.Goals as goal
 use Rattle.text_lines.proofs.lines.Lines.end.Goals.{in-None-end, in-Some-end}
