@@ -171,8 +171,8 @@ impl Body for Line {
         take_part(alloc, &mut self.begun, piece)
     }
 
-    fn into_item(self) -> Heard {
-        heard(request(self.begun))
+    fn into_item(self, _: Global) -> Result<Heard, NoMemory> {
+        Ok(heard(request(self.begun)))
     }
 
     fn bad() -> Heard {

@@ -1,5 +1,5 @@
 -- A line as its bytes come, a CR among them.
-use Rattle.std.proofs.Common.{◌≡◌, ◌≢◌, ◌∙◌, ℕ, ◌+◌, ◌-◌, ◌<◌, ◌≤◌, ◌==◌, Bool, true, false, List, [], ◌∷◌, ◌++◌, length, take, drop, Result, Ok, Err, OnOk, refl, sym, ap, subst, arith, append_assoc, append-nil, take-add, length-drop, length-append}
+use Rattle.std.proofs.Common.{IfOk, ◌≡◌, ◌≢◌, ◌∙◌, ℕ, ◌+◌, ◌-◌, ◌<◌, ◌≤◌, ◌==◌, Bool, true, false, List, [], ◌∷◌, ◌++◌, length, take, drop, Result, Ok, Err, OnOk, refl, sym, ap, subst, arith, append_assoc, append-nil, take-add, length-drop, length-append, Option}
 use Rattle.std.specs.Str.Lines.{strip_carriage_return}
 use Rattle.std.proofs.lemmas.Bool.{ne_eqb}
 use Rattle.std.proofs.lemmas.List.{take_all}
@@ -32,6 +32,11 @@ line_without limit text b n r h = All-append (λ x. (x == 10) ≡ false) (begun_
 pub item_whole : {A B : Type 0} (f : Lining A) (limit : ℕ) (text : B → List ℕ) (b : Begun B) (n : ℕ) (r : Bool) → IsLine limit text b n r → item_of f (begun_text text b ++ return_text r) ≡ item_of_text f (begun_text text b)
 item_whole f limit text b n true h = item_behind f (begun_text text b) (13 ∷ []) (omega arith) ∙ ap (λ (l : List ℕ). item_of_text f l) (append-nil (begun_text text b))
 item_whole f limit text b n false h = item_plain f (begun_text text b) [] (h.plain refl) ∙ ap (λ (l : List ℕ). item_of_text f l) (append-nil (begun_text text b))
+
+-- the same of what was said of it
+pub says_whole : {A E : Type 0} (f : Lining A) (r : Result (Option A) E) (line text : List ℕ) → item_of f line ≡ item_of_text f text → IfOk r (λ item. item_of_text f text ≡ item) → IfOk r (λ item. item_of f line ≡ item)
+says_whole f (Ok item) line text same h = same ∙ h
+says_whole f (Err e) line text same h = tt
 
 -- ---- runs
 

@@ -3,10 +3,11 @@ use Rattle.std.proofs.Common.{◌≡◌, ℕ, suc, add-one, ◌+◌, ◌<◌, �
 use Rattle.std.proofs.lemmas.Bool.{eqb-true}
 use Rattle.std.specs.Option.{option_to_list}
 use Rattle.item_stream.specs.Items.{ItemStream, after_item, IsNextItem, IsEndOf}
-use Rattle.item_stream.specs.declared.ending.Ending.TheVariants.{Clean, Last}
+use Rattle.item_stream.specs.declared.ending.Ending.{Ending}
+use Rattle.item_stream.specs.declared.ending.Ending.TheVariants.{Clean, Last, Cut}
 use Rattle.text_lines.specs.Lines.{Lining, item_of, with_item, lined}
 use Rattle.text_lines.specs.Text.{IsWithout}
-use Rattle.text_lines.specs.Begun.{GoesOnAs, TakesFront, TakesItem}
+use Rattle.text_lines.specs.Begun.{GoesOnAs, TakesFront, TakesItem, EndsLine}
 use Rattle.text_lines.proofs.HeardLemmas.{lined_line, lined_last}
 
 -- ---- bytes that are fed
@@ -111,3 +112,10 @@ ends_last {A = A} f Well line piece line' was item is goes without some well =
       ap (λ (s : ItemStream A). s.cut) e,
       well,
     )
+
+pub ends_by : {A E : Type 0} (f : Lining A) (Well : A → Type 0) (r : Result (Ending A) E) (line piece line' was : List ℕ) → line ++ piece ≡ was → GoesOnAs f (line ++ piece) line' → IsWithout 10 line' → IfOk r (EndsLine f Well line')
+    → IfOk r (λ ending. IsEndOf Well (λ more. lined f (was ++ more)) ending)
+ends_by f Well (Ok Clean) line piece line' was is goes without h = ends_clean f Well line piece line' was is goes without h
+ends_by f Well (Ok (Last item)) line piece line' was is goes without h = ends_last f Well line piece line' was item is goes without h.0 h.1
+ends_by f Well (Ok Cut) line piece line' was is goes without h = absurd h
+ends_by f Well (Err e) line piece line' was is goes without h = tt

@@ -1,6 +1,8 @@
 -- A line that has begun, and the bytes in whose place stands what is kept of it.
 use Rattle.std.specs.Prelude.{◌≡◌, ◌<◌, ◌≤◌, ℕ, Bool, true, false, List, [], ◌∷◌, ◌++◌, length, take, slice_index, Option, Some, None}
 use Rattle.item_stream.specs.Items.{after_item}
+use Rattle.item_stream.specs.declared.ending.Ending.{Ending}
+use Rattle.item_stream.specs.declared.ending.Ending.TheVariants.{Clean, Last, Cut}
 use Rattle.text_lines.specs.Lines.{Lining, item_of_text, item_of, with_item, lined}
 use Rattle.text_lines.specs.Text.{IsWithout, EndsPlain, IsText}
 use Rattle.text_lines.specs.declared.begun.Begun.{Begun}
@@ -78,3 +80,9 @@ TakesLine f line rest line' rest' false = (rest' ≡ []) × GoesOnAs f (line ++ 
 abbrev pub TakesItem : {A : Type 0} → Lining A → (A → Type 0) → List ℕ → List ℕ → List ℕ → List ℕ → Option A → Type 0
 TakesItem f Well line rest line' rest' (Some item) = ((more : List ℕ) → lined f (line ++ (rest ++ more)) ≡ after_item item (lined f (line' ++ (rest' ++ more)))) × Well item
 TakesItem f Well line rest line' rest' None = (rest' ≡ []) × GoesOnAs f (line ++ rest) line' × IsWithout 10 line'
+
+-- what a line leaves over that no line feed ends
+abbrev pub EndsLine : {A : Type 0} → Lining A → (A → Type 0) → List ℕ → Ending A → Type 0
+EndsLine f Well line Clean = item_of f line ≡ None
+EndsLine f Well line (Last item) = (item_of f line ≡ Some item) × Well item
+EndsLine f Well line Cut = ⊥

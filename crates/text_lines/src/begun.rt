@@ -122,19 +122,23 @@ pub fn push_all<B: Body>(
 }
 
 /// What a line of `len` bytes says, now that it has ended. An empty line and a comment say nothing.
-pub fn item<B: Body>(begun: Begun<B>, len: usize) -> Option<B::Item>
+pub fn item<B: Body>(
+    alloc: Global,
+    begun: Begun<B>,
+    len: usize,
+) -> Result<Option<B::Item>, NoMemory>
     requires { IsBegun B.lining.limit B.text begun len }
-    ensures says { item_of_text B.lining (begun_text B.text begun) ≡ result }
-    ensures well { IfSome result B.IsWell }
+    ensures says { IfOk result (λ item. item_of_text B.lining (begun_text B.text begun) ≡ item) }
+    ensures well { IfOk result (λ item. IfSome item B.IsWell) }
 {
     match begun {
         Begun::Text(body) => {
             if len == 0 {
-                return None;
+                return Ok(None);
             }
-            Some(body.into_item())
+            Ok(Some(body.into_item(alloc)?))
         }
-        Begun::Comment => None,
-        Begun::Bad => Some(B::bad()),
+        Begun::Comment => Ok(None),
+        Begun::Bad => Ok(Some(B::bad())),
     }
 }

@@ -39,10 +39,10 @@ pub trait Body: Drop {
         ensures { IfOk result (λ count. Takes lining (text self.old) piece.now (text self.new) count) };
 
     /// What the line says, now that it has ended. It isn't empty.
-    fn into_item(self) -> Self::Item
+    fn into_item(self, alloc: Global) -> Result<Self::Item, NoMemory>
         requires { 0 < length (text self) }
-        ensures item { lining.spelled (text self) ≡ result }
-        ensures well { IsWell result };
+        ensures item { IfOk result (λ item. lining.spelled (text self) ≡ item) }
+        ensures well { IfOk result IsWell };
 
     /// What a line says that is bad.
     fn bad() -> Self::Item

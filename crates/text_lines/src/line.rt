@@ -139,16 +139,16 @@ impl<B: Body> Line<B> {
         Ok(count)
     }
 
-    /// What the line says, now that it has ended; the next one begins then.
-    pub fn end(&mut self) -> Option<B::Item>
-        ensures says { item_of B.lining self.old ≡ result }
-        ensures well { IfSome result B.IsWell }
+    /// What the line says, now that it has ended; the next one begins then. Where memory is refused, nothing is left of it.
+    pub fn end(&mut self) -> Result<Option<B::Item>, NoMemory>
+        ensures says { IfOk result (λ item. item_of B.lining self.old ≡ item) }
+        ensures well { IfOk result (λ item. IfSome item B.IsWell) }
         ensures next { self.new ≡ [] }
     {
         let begun = mem::replace(&mut self.begun, nothing(self.alloc));
         let length = self.length;
         self.length = 0;
         self.returned = false;
-        item(begun, length)
+        item(self.alloc, begun, length)
     }
 }

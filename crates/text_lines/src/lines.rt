@@ -1,7 +1,7 @@
 ghost use Rattle.std.specs.Prelude.{◌≡◌, ◌<◌, ◌++◌, ℕ, List, [], length, Ok, true, IfOk, OnOk};
 ghost use Rattle.item_stream.specs.Items.{IsNextItem, IsEndOf};
 ghost use Rattle.text_lines.specs.Lines.{lined};
-ghost use Rattle.text_lines.specs.Begun.{TakesLine, TakesItem};
+ghost use Rattle.text_lines.specs.Begun.{TakesLine, TakesItem, EndsLine};
 
 use crate::body::Body;
 use crate::line::Line;
@@ -50,11 +50,21 @@ fn take_item<B: Body>(line: &mut Line<B>, rest: &mut Piece) -> Result<Option<B::
     ensures { IfOk result (TakesItem B.lining B.IsWell line.old rest.old line.new rest.new) }
 {
     'lines: while take_line(line, rest)? {
-        if let Some(item) = line.end() {
+        if let Some(item) = line.end()? {
             return Ok(Some(item));
         }
     }
     Ok(None)
+}
+
+// What a line leaves over that no line feed ends.
+fn last<B: Body>(line: &mut Line<B>) -> Result<Ending<B::Item>, NoMemory>
+    ensures { IfOk result (EndsLine B.lining B.IsWell line.old) }
+{
+    match line.end()? {
+        None => Ok(Ending::Clean),
+        Some(item) => Ok(Ending::Last(item)),
+    }
 }
 
 impl<B: Body> Lines<B> {
@@ -95,10 +105,7 @@ impl<B: Body> Lines<B> {
     {
         match take_item(&mut self.line, &mut self.rest)? {
             Some(_) => unreachable!(),
-            None => match self.line.end() {
-                None => Ok(Ending::Clean),
-                Some(item) => Ok(Ending::Last(item)),
-            },
+            None => last(&mut self.line),
         }
     }
 }
