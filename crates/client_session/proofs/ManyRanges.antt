@@ -281,10 +281,6 @@ module _ {D : Type 0} (s s1 : SessionState D) (blob version : ℕ) (ranges : Lis
       subst (λ (x : Session). NoStepIfOneRefused x blob version ranges before after) (sym now)
       (no_step_there f s.caller s.log s1.log o.gap o.others o.log s.held s.next s.limit blob version (size_now v) there ranges before after few none')
 
-  -- nor where the version wasn't opened
-  pub no_step_unopened : (n : ℕ) → NoStepIfOneRefused (session_of s1) blob version ranges n n
-  no_step_unopened n = record { refused = λ range r among e. refl; too_long = λ long. refl }
-
   -- how many nodes were met
   pub visits_opened : (s' : SessionState D) (v : Version) → Opening s blob version (Ok v) s1 → s' ≡ record s1 { doors = s'.doors } → (before after : ℕ)
       → ((us : List Update) → TellUpdates v.page_size us v.rows → after ≤ before + visits_of v.page_size (extents us) (length v.rows) ranges)

@@ -39,55 +39,8 @@ use Rattle.client_session.proofs.Gapped.{others_both, unnumbered_later}
 use Rattle.client_session.proofs.Opened.{new_ticket_here}
 use Rattle.client_session.proofs.Turns.{Took, NotDone, took, not_done, seen_gap}
 
--- ---- the first look
-module _ (f : DeskFixed) (caller : ℕ) (log log' : List (ℕ × Event)) (blob : ℕ) (place : Place) where
-  pub ahead_unlooked : (bytes : List ℕ) → LookedAhead f caller log blob place bytes None log
-  ahead_unlooked bytes = record { gap = []; others = tt; same = sym (append-nil log); refused = tt }
-
-  refused_in : (o : Outcome) (r : Refusal) → Some r ≡ refusal_in o → o ≡ Outcomes.Refused r
-  refused_in (Outcomes.Refused refusal) r e = cc
-  refused_in (Outcomes.Blob b) r e = let never : ⊥ = cc in absurd never
-  refused_in (Outcomes.Assigned version at size) r e = let never : ⊥ = cc in absurd never
-  refused_in (Outcomes.Published version) r e = let never : ⊥ = cc in absurd never
-  refused_in (Outcomes.Content bytes) r e = let never : ⊥ = cc in absurd never
-  refused_in (Outcomes.Recent version size) r e = let never : ⊥ = cc in absurd never
-  refused_in (Outcomes.Size size) r e = let never : ⊥ = cc in absurd never
-  refused_in (Outcomes.Synced version) r e = let never : ⊥ = cc in absurd never
-  refused_in (Outcomes.Status assigned published held) r e = let never : ⊥ = cc in absurd never
-
-  if_refused : (said : Option Refusal) (o : Outcome) → said ≡ refusal_in o → IfSome said (λ refusal. o ≡ Outcomes.Refused refusal)
-  if_refused None o e = tt
-  if_refused (Some r) o e = refused_in o r e
-
-  pub ahead_looked : (bytes : List ℕ) (len : ℕ) (said : Option Refusal) → length bytes ≡ len → Took caller log log' (λ before after. Foreseen f blob place len before caller said after)
-      → LookedAhead f caller log blob place bytes said log'
-  ahead_looked bytes len said is t = record {
-    gap = t.gap;
-    others = t.others;
-    same = t.gives.same;
-    refused = if_refused said (outcome_in f (log ++ t.gap) caller (Calls.Assign blob place bytes)) (t.gives.said_is bytes is);
-  }
-
-  pub went_ahead : (len : ℕ) (said : Option Refusal) → Took caller log log' (λ before after. Foreseen f blob place len before caller said after) → Went f log log'
-  went_ahead len said t = record { begins = (t.gap, t.gives.same); log_is = subst (IsLog f) (sym t.gives.same) t.gives.log }
-
-pub took_ahead : GapsAreOfOthers → (f : DeskFixed) (v w : PassView Event DeskFixed) (blob : ℕ) (place : Place) (len : ℕ) (said : Option Refusal) → v.fixed ≡ Some f
-    → Turned (λ before f after. Foreseen f blob place len before v.caller said after) v w → Took v.caller v.seen w.seen (λ before after. Foreseen f blob place len before v.caller said after)
-took_ahead law f v w blob place len said fixed turned = took law f v w (λ before g after. Foreseen g blob place len before v.caller said after) fixed (λ before after x. x.log) turned
-
 -- ---- what isn't prepared
 module _ (f : DeskFixed) (caller : ℕ) (log log' : List (ℕ × Event)) (blob : ℕ) (place : Place) (bytes : List ℕ) where
-  pub ahead_refused : (refusal : Refusal) → LookedAhead f caller log blob place bytes (Some refusal) log' → NotNumberedFor (bare f caller log) blob place bytes (fault_of refusal) (bare f caller log')
-  ahead_refused refusal look =
-      NotNumberedFor.refused record {
-        others = events look.gap;
-        is_gap = look.others;
-        refusal = refusal;
-        refused = outcome_of f caller log look.gap (Calls.Assign blob place bytes) ∙ look.refused;
-        said = refl;
-        seen = seen_gap f caller log log' look.gap [] 1 max_update look.same;
-      }
-
   -- a refusal is what others' events made of it, and so is none
   pub ahead_none : (said : Option Refusal) → LookedAhead f caller log blob place bytes said log' → LookedAhead f caller log blob place bytes None log'
   ahead_none said look = record { gap = look.gap; others = look.others; same = look.same; refused = tt }
@@ -145,9 +98,6 @@ module _ (f : DeskFixed) (caller : ℕ) (log mid log' : List (ℕ × Event)) (bl
       (subst (λ (s : Session). NotNumberedFor s blob place bytes fault (bare f caller log')) (seen_gap f caller log mid look.gap [] 1 max_update look.same) a)
 
   module _ (t : NumberedUpdate) (n : Numbering f caller mid blob place bytes t log') where
-    pub both_gaps : List Event
-    both_gaps = events look.gap ++ events n.gap
-
     events_both : events (mid ++ n.gap) ≡ events log ++ (events look.gap ++ events n.gap)
     events_both =
         map-append (λ (x : ℕ × Event). x.1) mid n.gap

@@ -94,6 +94,3 @@ waiting_ticket_here f log blob version t well w =
       below = omega (arith, well.version);
       bytes = w.hints.tells.leave v (omega arith) ∙ ap (λ (b : ℕ). content (updates_in (desk_at f log) b) v) (sym w.blob_is);
     }
-
-pub waiting_ticket_fresh : (f : DeskFixed) (log : List (ℕ × Event)) (blob version : ℕ) (t : NumberedUpdate) → IsWaitingTicket f log blob version t → IsFreshHere f t
-waiting_ticket_fresh f log blob version t w = record { snapshot = w.hints.here; pages = w.pages_here; page_size = w.ticket.page_size }

@@ -59,29 +59,6 @@ pub start_done : (s : Session) (blob : ℕ) (place : Place) (bytes : List ℕ) (
 start_done s blob Append bytes reply s' none answer = subst (λ (o : Option Fault). Unless o s reply s' (StartDone s blob Append bytes reply s')) (sym none) answer
 start_done s blob (WriteAt offset) bytes reply s' none answer = subst (λ (o : Option Fault). Unless o s reply s' (StartDone s blob (WriteAt offset) bytes reply s')) (sym none) answer
 
--- an update that wasn't numbered is none of any kind
-widen : (Does : Type 0) (s : Session) (blob : ℕ) (place : Place) (bytes : List ℕ) (reply : Reply) (s' : Session) → UpdateAnswer AllOther s blob place bytes ⊥ reply s' → UpdateAnswer AllOther s blob place bytes Does reply s'
-widen Does s blob place bytes reply s' (UpdateAnswer.does a) = absurd a
-widen Does s blob place bytes reply s' (UpdateAnswer.refused a) = UpdateAnswer.refused a
-widen Does s blob place bytes reply s' (UpdateAnswer.out_of_memory a) = UpdateAnswer.out_of_memory a
-widen Does s blob place bytes reply s' (UpdateAnswer.kept a) = UpdateAnswer.kept a
-widen Does s blob place bytes reply s' (UpdateAnswer.not_stored a) = UpdateAnswer.not_stored a
-
-unless_widen : (o : Option Fault) (Does : Type 0) (s : Session) (blob : ℕ) (place : Place) (bytes : List ℕ) (reply : Reply) (s' : Session)
-    → Unless o s reply s' (UpdateAnswer AllOther s blob place bytes ⊥ reply s') → Unless o s reply s' (UpdateAnswer AllOther s blob place bytes Does reply s')
-unless_widen None Does s blob place bytes reply s' a = widen Does s blob place bytes reply s' a
-unless_widen (Some fault) Does s blob place bytes reply s' a = a
-
-pub update_not_numbered : (s : Session) (blob : ℕ) (place : Place) (bytes : List ℕ) (reply : Reply) (s' : Session) → Unless (update_fault s bytes) s reply s' (UpdateAnswer AllOther s blob place bytes ⊥ reply s')
-    → Answers AllOther s (update_request blob place bytes) reply s'
-update_not_numbered s blob Append bytes reply s' a = unless_widen (update_fault s bytes) _ s blob Append bytes reply s' a
-update_not_numbered s blob (WriteAt offset) bytes reply s' a = unless_widen (update_fault s bytes) _ s blob (WriteAt offset) bytes reply s' a
-
-pub start_not_numbered : (s : Session) (blob : ℕ) (place : Place) (bytes : List ℕ) (reply : Reply) (s' : Session) → Unless (update_fault s bytes) s reply s' (UpdateAnswer AllOther s blob place bytes ⊥ reply s')
-    → Answers AllOther s (start_request blob place bytes) reply s'
-start_not_numbered s blob Append bytes reply s' a = unless_widen (update_fault s bytes) _ s blob Append bytes reply s' a
-start_not_numbered s blob (WriteAt offset) bytes reply s' a = unless_widen (update_fault s bytes) _ s blob (WriteAt offset) bytes reply s' a
-
 -- ---- an update that was numbered
 -- a blob is there still, with its versions, once more events have come
 pub there_later : (limits : Bounds) (h more : List Event) (blob version : ℕ) → IsThere (store_of limits h) blob (λ b. version ≤ assigned b) → IsThere (store_of limits (h ++ more)) blob (λ b. version ≤ assigned b)
@@ -121,10 +98,6 @@ held_faults : (s : Session) (blob : ℕ) (place : Place) (ticket version at size
 held_faults s blob Append ticket version at size a b r = r
 held_faults s blob (WriteAt offset) ticket version at size a b r = r
 
-pub done_faults : (s : Session) (blob : ℕ) (place : Place) (version at size : ℕ) (a b : ℕ) → a ≤ b → RoseBy (update_faults s blob (update_reply place version at size)) a b
-done_faults s blob Append version at size a b le = record { later = le; by = λ few. omega (arith, le) }
-done_faults s blob (WriteAt offset) version at size a b le = record { later = le; by = λ few. omega (arith, le) }
-
 module _ {D : Type 0} (s mid : SessionState D) (blob : ℕ) (place : Place) (bytes : List ℕ) (t : NumberedUpdate) (n : IsNumbered s blob place bytes t mid) where
   abbrev assigns : List Event
   assigns = n.others ++ Events.Assign s.caller blob place bytes ∷ []
@@ -136,19 +109,6 @@ module _ {D : Type 0} (s mid : SessionState D) (blob : ℕ) (place : Place) (byt
   holding_it : (s' : Session) → s' ≡ holds (session_of mid) t.blob t.version → s' ≡ holds (sees (session_of s) assigns) blob t.version
   holding_it s' is =
       is ∙ (ap (λ (x : Session). holds x t.blob t.version) n.seen ∙ ap (λ (b : ℕ). holds (sees (session_of s) assigns) b t.version) n.blob_is)
-
-  pub start_held : (s' : Session) → s' ≡ holds (session_of mid) t.blob t.version → StartDone (session_of s) blob place bytes (start_reply place s.next t.version t.at t.size) s'
-  start_held s' is =
-      UpdateAnswer.does record {
-        others = n.others;
-        is_gap = n.is_gap;
-        version = t.version;
-        at = t.at;
-        size = t.size;
-        numbered = n.outcome;
-        said = refl;
-        seen = holding_it s' is;
-      }
 
   pub start_kept : (s' : Session) → s' ≡ holds (session_of mid) t.blob t.version → StartDone (session_of s) blob place bytes (Replies.Refused (Faults.NoMemoryTicket s.next)) s'
   start_kept s' is =

@@ -26,9 +26,6 @@ use Rattle.client_session.specs.Sessions.{SessionState, StoreState}
 abbrev pub bare : DeskFixed → ℕ → List (ℕ × Event) → Session
 bare f caller log = record { fixed = record { limits = f.limits; page = f.page_size }; caller = caller; seen = events log; tickets = []; next = 1; limit = max_update }
 
-abbrev pub bare_of : {D : Type 0} → SessionState D → Session
-bare_of s = bare s.store.fixed s.caller s.log
-
 -- it finishes an update, whoever numbered it
 abbrev pub Finishing : DeskFixed → ℕ → List (ℕ × Event) → ℕ → ℕ → Result ℕ Fault → List (ℕ × Event) → Type 0
 Finishing f caller log blob version said log' = RepairAnswer AllOther (bare f caller log) blob version (repair_reply said) (bare f caller log')

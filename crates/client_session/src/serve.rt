@@ -190,7 +190,7 @@ impl<'a, D: BesideDoor, G: Gate> Session<'a, D, G> {
     }
 
     // The reply to an update at that place which is finished later.
-    fn answer_start<R: Threads + Wait + Sync>(
+    fn begin_at<R: Threads + Wait + Sync>(
         &mut self,
         rt: &R,
         blob: u64,
@@ -261,17 +261,12 @@ impl<'a, D: BesideDoor, G: Gate> Service for Session<'a, D, G> {
                 offset,
                 bytes,
             } => self.answer_update(rt, blob, Place::WriteAt(offset), bytes),
-            Request::StartAppend { blob, bytes } => self.answer_start(
-                rt,
-                blob,
-                Place::Append,
-                bytes,
-            ),
+            Request::StartAppend { blob, bytes } => self.begin_at(rt, blob, Place::Append, bytes),
             Request::StartWrite {
                 blob,
                 offset,
                 bytes,
-            } => self.answer_start(rt, blob, Place::WriteAt(offset), bytes),
+            } => self.begin_at(rt, blob, Place::WriteAt(offset), bytes),
             Request::Finish { ticket } => said_of_finish(self.finish(rt, ticket)),
             Request::Read {
                 blob,

@@ -18,6 +18,7 @@ ghost use Rattle.client_session.specs.Sessions.{IsPassOf, session_of, pass_of, C
 use crate::limit::UpdateLimit;
 use crate::shared::Shared;
 use blob_model::{Bytes, Outcome, Refusal};
+use node_store::NodeHouse;
 use page_fan::Doors;
 use page_store::Door;
 use ports::gate::Gate;
@@ -319,6 +320,14 @@ impl<'a, D: Door, G: Gate> Session<'a, D, G> {
         version_manager::laws::gaps_are_of_others();
         let shared = self.shared;
         opened(shared.desk().snapshot_of(rt, &mut self.pass, blob, version))
+    }
+
+    /// The house of the store's nodes. Those of each snapshot that this session opened lie there, so that the stored pages of such a
+    /// snapshot can be asked for (`range_reader::holder`). It takes no memory and no turn, and waits for nobody.
+    pub fn nodes(&self) -> &NodeHouse
+        ensures { result.now ≡ self.now.store.fixed.nodes }
+    {
+        self.shared.nodes()
     }
 
     /// `count` bytes of a snapshot of this store from byte `offset` on: those of its version, whatever has come since.
