@@ -1,9 +1,9 @@
 -- The ways in which an update is finished, or isn't, each told of the session without its tickets.
-use Rattle.std.proofs.Common.{◌≡◌, ◌≢◌, refl, sym, ◌∙◌, ap, subst, ℕ, ◌+◌, ◌-◌, ◌≤◌, false, List, [], ◌∷◌, ◌++◌, append-nil, length, Option, Some, None, Result, Ok, Err, arith}
+use Rattle.std.proofs.Common.{◌≡◌, ◌≢◌, refl, sym, ◌∙◌, ap, subst, ℕ, ◌+◌, ◌-◌, ◌≤◌, false, List, [], ◌++◌, append-nil, length, Option, Some, None, Result, Ok, Err, arith}
 use Rattle.std.specs.Prelude.{Contains}
 use Rattle.std.proofs.lemmas.List.{map-append}
 use Rattle.blob_model.specs.Store.{Store, Blob, blob_at, assigned, published, is_finished}
-use Rattle.blob_model.specs.Answer.{answer, first_refusal, not_numbered, already, repair_refusal}
+use Rattle.blob_model.specs.Answer.{answer, repair_refusal}
 use Rattle.blob_model.specs.History.{AllOther, is_refused, store_of}
 use Rattle.blob_model.specs.declared.call.Call.{Call}
 use Rattle.blob_model.specs.declared.call.Call.TheVariants as Calls

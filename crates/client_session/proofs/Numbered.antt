@@ -1,6 +1,6 @@
 -- Numbering an update: a first look, its pages stored, and its number; each told of the session without its tickets.
-use Rattle.std.proofs.Common.{◌≡◌, refl, sym, ◌∙◌, ap, subst, ℕ, ◌+◌, ◌*◌, ◌<◌, ◌≤◌, List, [], ◌∷◌, ◌++◌, append_assoc, append-nil, length, length-append, Option, Some, None, Ok, Err, arith}
-use Rattle.std.specs.Prelude.{IfOk, IfSome}
+use Rattle.std.proofs.Common.{◌≡◌, refl, sym, ◌∙◌, ap, subst, ℕ, ◌+◌, ◌*◌, ◌<◌, ◌≤◌, List, [], ◌∷◌, ◌++◌, append_assoc, length, length-append, Option, None, Ok, Err, arith}
+use Rattle.std.specs.Prelude.{IfOk}
 use Rattle.std.proofs.lemmas.List.{map-append}
 use Rattle.blob_model.specs.Answer.{answer}
 use Rattle.blob_model.specs.History.{AllOther, store_of}
@@ -17,24 +17,20 @@ use Rattle.page_fan.specs.declared.storing.StoreFault.{StoreFault}
 use Rattle.page_fan.specs.declared.storing.StoreFault.TheVariants as StoreFaults
 use Rattle.border_hints.specs.Numbered.{NumberedUpdate}
 use Rattle.border_hints.specs.Numbered.{IsNumbered as IsWellNumbered}
-use Rattle.turn_lock.specs.Shown.{PassView, Turned}
-use Rattle.version_manager.specs.Desks.{IsUnfinished, refusal_in}
-use Rattle.version_manager.specs.Laws.{GapsAreOfOthers}
-use Rattle.version_manager.specs.Log.{Changed, Foreseen, IsLog, IsNewTicket, tag, events, desk_at, outcome_in}
+use Rattle.version_manager.specs.Desks.{IsUnfinished}
+use Rattle.version_manager.specs.Log.{Changed, IsNewTicket, tag, events, desk_at}
 use Rattle.version_manager.specs.declared.journal.DeskFixed.{DeskFixed}
 use Rattle.version_manager.specs.declared.fault.DeskFault.{DeskFault}
 use Rattle.request_form.specs.Session.{Session, outcome_at, sees}
 use Rattle.request_form.specs.Answers.{max_update}
-use Rattle.request_form.specs.Replies.{fault_of}
 use Rattle.request_form.specs.declared.form.Reply.TheVariants as Replies
 use Rattle.request_form.specs.declared.form.Fault.{Fault}
 use Rattle.session_parts.specs.Tickets.{OpenUpdate}
 use Rattle.client_session.specs.Results.{desk_fault, store_fault}
-use Rattle.client_session.specs.Sessions.{Went, session_at}
+use Rattle.client_session.specs.Sessions.{session_at}
 use Rattle.client_session.specs.Finishing.{bare}
 use Rattle.client_session.specs.SessionInvariant.{IsTicketHere}
 use Rattle.client_session.specs.Numbering.{LookedAhead, NotNumberedFor, Numbering}
-use Rattle.client_session.proofs.Finished.{outcome_of}
 use Rattle.client_session.proofs.Gapped.{others_both, unnumbered_later}
 use Rattle.client_session.proofs.Opened.{new_ticket_here}
 use Rattle.client_session.proofs.Turns.{Took, NotDone, took, not_done, seen_gap}

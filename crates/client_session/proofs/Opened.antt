@@ -18,7 +18,7 @@ use Rattle.version_manager.specs.Desks.{updates_in, updates_or_none, published_o
 use Rattle.version_manager.specs.Log.{MayFinish, IsNewTicket, IsWaitingTicket, desk_at, events}
 use Rattle.version_manager.specs.Stays.{ticket_stays}
 use Rattle.version_manager.specs.declared.journal.DeskFixed.{DeskFixed}
-use Rattle.client_session.specs.Finishing.{IsFreshHere, TicketsStayHere}
+use Rattle.client_session.specs.Finishing.{TicketsStayHere}
 use Rattle.client_session.specs.SessionInvariant.{IsOpen, IsTicketHere}
 
 -- an open update with its row may be finished
