@@ -42,7 +42,13 @@ mod session;
 mod shared;
 mod updating;
 
+pub use blob_model::{Bytes, Limits, Outcome, Place};
 pub use done::{Done, HangUp, Started, Updated};
+pub use page_fan::Doors;
+pub use page_store::{PlainDoor, PlainMaker};
+pub use ports::gate::FreeGate;
+pub use request_form::{Fault, NoMemory, Reply, Request, Service};
 pub use session::Session;
 pub use shared::{Shared, SharedOut};
+pub use tree_geom::PageSize;
 pub use version_manager::{Owner, Pass};
