@@ -51,7 +51,7 @@ event_limits s (Events.Assign caller blob place bytes) = blob_limits s blob (blo
 event_limits s (Events.Finish caller blob version) = blob_limits s blob (blob_at s blob) _ (λ b. unless_limits s _ _ refl)
 event_limits s (Events.Branch caller blob version) = blob_limits s blob (blob_at s blob) _ (λ b. unless_limits s _ _ refl)
 
-limits_stay : (s : Store) (es : List Event) → (store_from s es).limits ≡ s.limits
+pub limits_stay : (s : Store) (es : List Event) → (store_from s es).limits ≡ s.limits
 limits_stay s [] = refl
 limits_stay s (e ∷ es) = limits_stay (answer s (caller_of e) (call_of e)).0 es ∙ event_limits s e
 
@@ -66,7 +66,7 @@ three_pass : (s : Store) (t u v w : Test) (done : Answered) → t.refuses ≡ fa
     → unless_refused s (t ∷ u ∷ v ∷ w ∷ []) done ≡ unless_refused s (w ∷ []) done
 three_pass s t u v w done first second third = rw (first, second, third) refl
 
-only_full : (s : Store) (id : ℕ) (b : Blob) (caller : ℕ) (place : Place) (bytes : List ℕ) → blob_at s id ≡ Some b → s.limits ≡ greatest
+pub only_full : (s : Store) (id : ℕ) (b : Blob) (caller : ℕ) (place : Place) (bytes : List ℕ) → blob_at s id ≡ Some b → s.limits ≡ greatest
     → offset_of place (size_now b) ≤ size_now b → size_with b place bytes ≤ greatest.max_size → assigned b < greatest.max_versions
     → (refusal : Refusal) → (answer s caller (Calls.Assign id place bytes)).1 ≡ Outcomes.Refused refusal → refusal ≡ Refusals.TooManyOpen greatest.max_open
 only_full s id b caller place bytes at limits within small few refusal refused =
