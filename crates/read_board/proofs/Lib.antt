@@ -1,0 +1,10 @@
+pub mod Adding
+pub mod Agreeing
+pub mod Boards
+pub mod Fronts
+pub mod Holding
+pub mod Kept
+pub mod Latest
+pub mod Reading
+pub mod Recent
+pub mod Refreshed

@@ -1,0 +1,16 @@
+use Rattle.std.proofs.Common.{◌≡◌, ◌∙◌, rules}
+use Rattle.read_board.specs.Boards.{front_of}
+use Rattle.read_board.proofs.Kept.{published, of_store_as}
+use Rattle.read_board.proofs.keeper.Keeper.publish.Goals as goal
+
+pub new-chart-requires-clause-of_store : goal.new-chart-requires-clause-of_store
+new-chart-requires-clause-of_store g c =
+    let i = c.self.inside in
+    of_store_as i.front c.again.result i.on.items c.in_ok-on.on.items c.again.ensures (c.in_ok-on.ensures ∙ c.as_slice.ensures.value) c.self.invariant.of_store
+
+pub invariant_of-self : goal.invariant_of-self
+invariant_of-self g c =
+    let i = c.self.inside in
+    let chart = front_of c.replace_with-shown.new.dest.desk.shown.value in
+    let chart_is : chart ≡ i.front = search rules in
+    published i.front i.shown c.again-then-shown.result (front_of i.writer.desk.shown.value) chart i.on.items i.head c.self.invariant c.again-then-shown.ensures chart_is

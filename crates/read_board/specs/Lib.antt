@@ -1,0 +1,9 @@
+pub mod Refreshes
+pub mod Fronts
+pub mod Boards
+pub mod Rules
+pub mod Keeping
+pub mod Refreshing
+pub mod Reads
+pub mod Laws
+pub mod Causes

@@ -1,0 +1,50 @@
+-- What a standing reader's read gives, by the board or by a turn.
+use Rattle.std.specs.Prelude.{◌≡◌, ℕ, ◌+◌, ◌≤◌, Bool, true, false, List, Option, Some, None, Result, Ok, Err, IfOk}
+use Rattle.blob_model.specs.History.{AllOther}
+use Rattle.range_log.specs.Updates.{extents}
+use Rattle.range_log.specs.Visits.{visits}
+use Rattle.request_form.specs.Answers.{Answers}
+use Rattle.request_form.specs.declared.form.Request.TheVariants as Requests
+use Rattle.request_form.specs.declared.form.Fault.{Fault}
+use Rattle.client_session.specs.Results.{read_reply}
+use Rattle.client_session.specs.Opening.{ReadsRange}
+use Rattle.client_session.specs.Sessions.{SessionState, session_of, Continues, visits_seen, NoStepIfRefused, AnswersAsPublished}
+use Rattle.read_board.specs.declared.refresh.Refresh.{Refresh}
+use Rattle.read_board.specs.declared.standing.Way.{Way}
+use Rattle.read_board.specs.declared.standing.Way.TheVariants as Ways
+use Rattle.read_board.specs.Refreshes.{covering, on_board, updates_of}
+
+-- the bytes alone
+abbrev pub bytes_said : Result (List ℕ × Way) Fault → Result (List ℕ) Fault
+bytes_said (Ok r) = Ok r.0
+bytes_said (Err fault) = Err fault
+
+-- what was read, with the way that it came
+abbrev pub said_by : Way → Result (List ℕ) Fault → Result (List ℕ × Way) Fault
+said_by way (Ok bytes) = Ok (bytes, way)
+said_by way (Err fault) = Err fault
+
+-- the refresh that a read goes by, where it goes by the board: there is a place, and the version is at most that of the blob's last refresh
+abbrev pub goes_by : Bool → List Refresh → ℕ → ℕ → Option Refresh
+goes_by true list blob version = covering (on_board blob list) version
+goes_by false list blob version = None
+
+-- By the board: no turn was taken, so what the session has seen stays, and the bytes are those of the refresh's updates, or the range isn't read for its cause.
+pub record ByBoard {D : Type 0} (on : Refresh) (s : SessionState D) (version offset count : ℕ) (said : Result (List ℕ × Way) Fault) (s' : SessionState D) (before after : ℕ) : Type 0 where
+  pub way : IfOk said (λ r. r.1 ≡ Ways.Board)
+  pub session : s' ≡ record s { doors = s'.doors }
+  pub reads : ReadsRange s.store.fixed.page_size (updates_of on) version offset count (bytes_said said)
+  pub steps : after ≤ before + visits s.store.fixed.page_size (extents (updates_of on)) version offset count
+
+-- By a turn: the session's own read.
+pub record ByTurn {D : Type 0} (s : SessionState D) (blob version offset count : ℕ) (said : Result (List ℕ × Way) Fault) (s' : SessionState D) (before after : ℕ) : Type 0 where
+  pub way : IfOk said (λ r. r.1 ≡ Ways.Turn)
+  pub answers : Answers AllOther (session_of s) (Requests.Read blob version offset count) (read_reply (bytes_said said)) (session_of s')
+  pub stays : AnswersAsPublished (session_of s') (record { blob = blob; version = version; offset = offset; count = count }) (read_reply (bytes_said said))
+  pub steps : after ≤ before + visits_seen (session_of s') blob version offset count
+  pub no_step : NoStepIfRefused (session_of s') blob version offset count before after
+
+-- a read goes by that refresh, or by a turn where there is none
+abbrev pub Goes : {D : Type 0} → Option Refresh → SessionState D → ℕ → ℕ → ℕ → ℕ → Result (List ℕ × Way) Fault → SessionState D → ℕ → ℕ → Type 0
+Goes (Some on) s blob version offset count said s' before after = ByBoard on s version offset count said s' before after
+Goes None s blob version offset count said s' before after = ByTurn s blob version offset count said s' before after
