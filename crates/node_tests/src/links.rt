@@ -1,10 +1,21 @@
-//! Doors to nodes over links in memory.
+//! Doors to nodes over links in memory: pages come back, room runs out, and doors put beside each other.
 
-use page_node::{LoopLink, Shelf, StreamDoor};
-use page_store::{Door, GetAnswer, MAX_PAGE, PageHouse, PutAnswer};
+ghost use Rattle.std.specs.Prelude.{◌≡◌, ◌<◌, ◌≤◌, All, length};
+ghost use Rattle.page_store.specs.Page.{IsIn};
+ghost use Rattle.page_fan.specs.Groups.{CanBePut};
+
+use crate::dice::Dice;
+use crate::gated::{GatedLink, Meeting};
+use node_door::{BYTES_A_THREAD, LoopLink, StreamDoor};
+use page_fan::{Put, Stand, put_all_groups};
+use page_node::Shelf;
+use page_store::{Door, GetAnswer, Houses, MAX_PAGE, PageHouse, PageRef, PutAnswer};
 use std::alloc::Global;
+use std::collections::VecDeque;
 use std::process::Abort;
 use std::sync::Wait;
+use std::sync::atomic::{AtomicBool, Ordering};
+use std::thread::Threads;
 use tree_geom::PageSize;
 
 // A door to a node with pages of 4 bytes, over a link with so much room.
@@ -33,26 +44,190 @@ fn comes_back<R: Abort + Wait>(
     }
 }
 
-#[test]
-fn pages_come_back_over_a_link_in_memory(rt: HostRuntime) {
-    let house = PageHouse::new(rt.alloc(), 1).expect(&rt, "memory");
-    let mut door = door_over(&rt, rt.alloc(), 4096);
-    assert!(rt; comes_back(&rt, &mut door, &house, b"abc"));
-    assert!(rt; comes_back(&rt, &mut door, &house, b"defg"));
-    assert!(rt; comes_back(&rt, &mut door, &house, b"h"));
-    assert!(rt; door.faults() == 0 && !door.is_spent(), "a fault");
-}
+// How much room a link has for the bytes of either kind, and whether a put of "abc" and a get of it go well: they write 8 bytes and 29
+// more, and the reply to the put has 13 bytes.
+static ROOMS: [(usize, bool); 4] = [(12, false), (36, false), (37, true), (4096, true)];
 
 #[test]
 fn a_link_without_room_spends_its_door(rt: HostRuntime) {
+    for (room, well) in ROOMS.as_slice() {
+        let house = PageHouse::new(rt.alloc(), 1).expect(&rt, "memory");
+        let mut door = door_over(&rt, rt.alloc(), *room);
+        assert!(rt;
+            comes_back(&rt, &mut door, &house, b"abc") == *well,
+            "a room of {room}"
+        );
+        assert!(rt; door.is_spent() != *well, "spent or not");
+        assert!(rt; door.faults() == u64::from(!*well), "another count");
+        let link = door.into_link();
+        assert!(rt;
+            link.faults() == u64::from(!*well),
+            "another count of the link"
+        );
+    }
+}
+
+// A page of 1 to 4 bytes.
+fn some_bytes<R: Abort>(rt: &R, alloc: Global, dice: &mut Dice) -> Vec<u8>
+    ensures some { 1 ≤ length result.items }
+    ensures few { length result.items ≤ 4 }
+{
+    let length = 1 + dice.below(4) as usize;
+    let mut bytes = vec![in alloc; 0u8; length].expect(rt, "memory");
+    for byte in bytes.as_mut_slice() {
+        *byte = dice.below(256) as u8;
+    }
+    bytes
+}
+
+// Puts a page.
+fn put<R: Abort + Wait>(
+    rt: &R,
+    door: &mut StreamDoor<LoopLink>,
+    house: &PageHouse,
+    bytes: &[u8],
+) -> PageRef
+    requires some { 1 ≤ length bytes.now }
+    requires few { length bytes.now ≤ 4 }
+    ensures here { IsIn house.now result.spot }
+    ensures bytes { result.bytes ≡ bytes.now }
+{
+    match door.put(rt, house, bytes) {
+        PutAnswer::Stored(page) => page,
+        _ => panic!(rt; "not stored"),
+    }
+}
+
+// Gets some bytes of a page, and checks that they are those that were put.
+fn check_part<R: Abort>(
+    rt: &R,
+    door: &mut StreamDoor<LoopLink>,
+    house: &PageHouse,
+    page: &PageRef,
+    bytes: &[u8],
+    dice: &mut Dice,
+)
+    requires here { IsIn house.now page.now.spot }
+    requires bytes { page.now.bytes ≡ bytes.now }
+    requires few { length bytes.now ≤ 4 }
+{
+    let from = dice.below(bytes.len() as u64 + 1) as usize;
+    let count = dice.below((bytes.len() - from) as u64 + 1) as usize;
+    let mut out = [0u8; 4];
+    let part = &mut out[..count];
+    let answer = door.get(house, page, from as u32, part);
+    assert!(rt; answer == GetAnswer::Got, "not got");
+    assert!(rt; &part[..] == &bytes[from..from + count], "other bytes");
+}
+
+// Puts two pages, of two doors to one house, and gets parts of both at each door.
+fn check_round<R: Abort + Wait>(
+    rt: &R,
+    alloc: Global,
+    doors: &mut [StreamDoor<LoopLink>; 2],
+    house: &PageHouse,
+    dice: &mut Dice,
+) {
+    let first = some_bytes(rt, alloc, dice);
+    let second = some_bytes(rt, alloc, dice);
+    let first_page = put(rt, &mut doors[0], house, first.as_slice());
+    let second_page = put(rt, &mut doors[1], house, second.as_slice());
+    for door in doors {
+        check_part(rt, door, house, &first_page, first.as_slice(), dice);
+        check_part(rt, door, house, &second_page, second.as_slice(), dice);
+    }
+}
+
+#[test]
+fn random_parts_of_random_pages_come_back(rt: HostRuntime) {
+    let mut dice = Dice::new(7);
     let house = PageHouse::new(rt.alloc(), 1).expect(&rt, "memory");
-    // A put of "abc" writes 8 bytes and its reply has 13; the get writes 29 more.
-    let mut door = door_over(&rt, rt.alloc(), 36);
-    assert!(rt; !comes_back(&rt, &mut door, &house, b"abc"));
-    assert!(rt; door.faults() == 1 && door.is_spent(), "no fault");
-    let mut door = door_over(&rt, rt.alloc(), 37);
-    assert!(rt; comes_back(&rt, &mut door, &house, b"abc"));
-    let mut door = door_over(&rt, rt.alloc(), 12);
-    assert!(rt; !comes_back(&rt, &mut door, &house, b"abc"));
-    assert!(rt; door.faults() == 1 && door.is_spent(), "no fault");
+    let room = 1 << 16;
+    let mut doors = [
+        door_over(&rt, rt.alloc(), room),
+        door_over(&rt, rt.alloc(), room),
+    ];
+    for _ in 0..200 {
+        check_round(&rt, rt.alloc(), &mut doors, &house, &mut dice);
+    }
+}
+
+// A door to a node over a link that raises its own flag when it is written to, and that is read once another link's flag is up.
+fn stand_of<'a, R: Abort>(
+    rt: &R,
+    alloc: Global,
+    provider: u32,
+    p: PageSize,
+    gate: Meeting<'a>,
+) -> Stand<StreamDoor<GatedLink<Meeting<'a>>>> {
+    let link = GatedLink::new(alloc, gate, p, 1 << 18).expect(rt, "memory");
+    Stand {
+        door: StreamDoor::new(alloc, provider, p, link).expect(rt, "memory"),
+        tray: VecDeque::new(alloc),
+    }
+}
+
+// Whether the one reply in the tray is that the page was stored.
+fn has_stored<D>(stand: &Stand<D>) -> bool {
+    match stand.tray.front() {
+        Some(reply) => matches!(&reply.answer, PutAnswer::Stored(_)) && stand.tray.len() == 1,
+        None => false,
+    }
+}
+
+// A page at each of three providers.
+fn three_puts<R: Abort>(rt: &R, alloc: Global, buffer: &[u8]) -> Vec<Put>
+    requires { 131072 < length buffer.now }
+    ensures { All (CanBePut 3 buffer.now) result.items }
+{
+    let first = Put { provider: 1, at: 0 };
+    let second = Put {
+        provider: 2,
+        at: 65_536,
+    };
+    let third = Put {
+        provider: 3,
+        at: 131_072,
+    };
+    let _length = buffer.len();
+    vec![in alloc; first, second, third].expect(rt, "memory")
+}
+
+// Puts a page at each of three doors, of which each has its reply only once the next one's link was written to.
+fn check_beside<R: Abort + Wait + Threads + Sync>(rt: &R, alloc: Global) {
+    let flags = [
+        AtomicBool::new(false),
+        AtomicBool::new(false),
+        AtomicBool::new(false),
+    ];
+    let p = PageSize::new(BYTES_A_THREAD as u64).expect(rt, "a page size");
+    let houses = Houses::new(alloc, 3).expect(rt, "memory");
+    let mut stands = Vec::new(alloc);
+    for i in 0..3u32 {
+        let gate = Meeting {
+            own: &flags[i as usize],
+            other: &flags[(i as usize + 1) % 3],
+        };
+        let stand = stand_of(rt, alloc, i + 1, p, gate);
+        stands.push(stand).expect(rt, "memory");
+    }
+    let buffer = vec![in alloc; 7u8; 3 * BYTES_A_THREAD].expect(rt, "memory");
+    let puts = three_puts(rt, alloc, buffer.as_slice());
+    put_all_groups(
+        rt,
+        stands.as_mut_slice(),
+        &houses,
+        p,
+        buffer.as_slice(),
+        puts.as_slice(),
+        BYTES_A_THREAD,
+    );
+    for stand in stands.as_slice() {
+        assert!(rt; has_stored(stand), "a door waited for one behind it");
+    }
+}
+
+#[test]
+fn doors_to_several_nodes_put_beside_each_other(rt: HostRuntime) {
+    check_beside(&rt, rt.alloc());
 }

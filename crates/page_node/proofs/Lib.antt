@@ -1,7 +1,3 @@
 mod Worked
-pub mod Framed
-pub mod Served
-pub mod Passing
-pub mod Replies
-pub mod Calls
-pub mod Looping
+mod Framed
+mod Served

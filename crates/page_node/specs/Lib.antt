@@ -4,8 +4,3 @@ pub mod Asking
 pub mod Said
 pub mod Transcript
 pub mod Grammar
-pub mod Link
-pub mod Door
-pub mod Own
-pub mod Loop
-pub mod FarKeeps

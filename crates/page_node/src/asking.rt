@@ -12,8 +12,8 @@ use framing::Body;
 use std::alloc::Global;
 use std::marker::Model;
 
-/// The most bytes that a frame's length may count.
-pub(crate) const MAX_FRAME: u32 = 2_097_152;
+/// The most bytes that the length of a frame may count, of a node's requests and of its replies.
+pub const MAX_FRAME: u32 = 2_097_152;
 
 /// What a frame asks for, by its first byte.
 #[derive(Clone, Copy, Debug, PartialEq, Eq)]
@@ -104,8 +104,8 @@ impl Asking {
     }
 }
 
-/// The number in the 8 bytes that start there.
-pub(crate) fn number_at(fields: &[u8], start: usize) -> u64
+/// The number in the 8 bytes of a frame's fields that start there, the most significant first.
+pub fn number_at(fields: &[u8], start: usize) -> u64
     requires { start + 8 ≤ length fields.now }
     ensures { result ≡ number_at start fields.now }
 {

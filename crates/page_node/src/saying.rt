@@ -1,4 +1,4 @@
-//! How replies are framed, and what a node is asked. All of it stands in place, and takes no memory.
+//! How what a node is asked is framed, and what it answers. The frames of this module stand in place, and take no memory.
 ghost use Rattle.std.specs.Prelude.{◌≡◌, ℕ, ◌+◌, ◌<◌, ◌≤◌, ◌^◌, ◌∷◌, ◌++◌, [], List, length, IfOk};
 ghost use Rattle.frame_wire.specs.Said.{field, wide_field, frame_of};
 ghost use Rattle.framing.specs.Begun.{frame_part};
@@ -15,11 +15,11 @@ use faults::NoMemory;
 use request_form::Said;
 use std::alloc::Global;
 
-/// The most bytes of a frame, but for those of a page.
-pub(crate) const MOST: usize = 37;
+/// The most bytes of a frame, but for those of a page: a refusal's with a number of 16 bytes.
+pub const MOST: usize = 37;
 
 /// A frame, or its front where a page's bytes come behind it.
-pub(crate) type Front = ArrayVec<u8, MOST>;
+pub type Front = ArrayVec<u8, MOST>;
 
 // Adds bytes for which there is room.
 fn extend(front: &mut Front, bytes: &[u8])
@@ -102,7 +102,7 @@ fn past_page_frame(end: u128, length: u64) -> Front
 }
 
 /// A refusal's frame.
-pub(crate) fn fault_frame(fault: &NodeFault) -> Front
+pub fn fault_frame(fault: &NodeFault) -> Front
     ensures { result.items ≡ said (Replies.Refused fault.now) }
 {
     match *fault {
@@ -117,15 +117,15 @@ pub(crate) fn fault_frame(fault: &NodeFault) -> Front
 }
 
 /// The frame of want of memory.
-pub(crate) fn memory_frame() -> Front
+pub fn memory_frame() -> Front
     ensures frame { result.items ≡ said (Replies.Refused Faults.NoMemory) }
     ensures length { length result.items ≡ 13 }
 {
     number_frame(255, 9)
 }
 
-/// The frame that tells a page's id.
-pub(crate) fn kept_frame(id: u64) -> Front
+/// The frame of the reply to a put whose page is kept: it tells the page's id.
+pub fn kept_frame(id: u64) -> Front
     ensures frame { result.items ≡ said (Replies.Kept id) }
     ensures length { length result.items ≡ 13 }
 {
@@ -133,30 +133,30 @@ pub(crate) fn kept_frame(id: u64) -> Front
 }
 
 /// The frame of the reply to the last request.
-pub(crate) fn bye_frame() -> Front
+pub fn bye_frame() -> Front
     ensures { result.items ≡ said Replies.Bye }
 {
     begin(1, 141)
 }
 
-/// What stands before so many bytes that are given.
-pub(crate) fn given_front(count: u32) -> Front
+/// The front of the reply that gives so many bytes, which stand behind it.
+pub fn given_front(count: u32) -> Front
     requires { count + 1 < 2 ^ 32 }
     ensures { (bytes : List ℕ) → length bytes ≡ count → result.items ++ bytes ≡ said (Replies.Given bytes) }
 {
     begin(1 + count, 161)
 }
 
-/// What stands before so many bytes that are put.
-pub(crate) fn put_front(count: u32) -> Front
+/// The front of the frame that puts a page of so many bytes, which stand behind it.
+pub fn put_front(count: u32) -> Front
     requires { count + 1 < 2 ^ 32 }
     ensures { (bytes : List ℕ) → length bytes ≡ count → result.items ++ bytes ≡ asked (Requests.Put bytes) }
 {
     begin(1 + count, 32)
 }
 
-/// The frame of a get.
-pub(crate) fn get_frame(id: u64, from: u64, length: u64) -> Front
+/// The frame that asks for `length` bytes of the page with that id, from byte `from` on.
+pub fn get_frame(id: u64, from: u64, length: u64) -> Front
     ensures { result.items ≡ asked (Requests.Get id from length) }
 {
     let mut front = begin(25, 33);

@@ -94,8 +94,8 @@ impl Shelf {
         self.pages.len() as u64
     }
 
-    /// The id of the next page, where a put of so many bytes isn't refused.
-    pub(crate) fn next_id(&self, count: usize) -> Result<u64, NodeFault>
+    /// The id that a put of so many bytes gets, or why it is refused, but for want of memory.
+    pub fn next_id(&self, count: usize) -> Result<u64, NodeFault>
         ensures id { (bytes : List ℕ) → length bytes ≡ count → put_result result ≡ put_reply self.now bytes }
         ensures few { IfOk result (λ id. count ≤ 1048576) }
     {

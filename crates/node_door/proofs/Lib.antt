@@ -1,0 +1,4 @@
+mod Passing
+mod Replies
+mod Calls
+mod Looping

@@ -1,0 +1,20 @@
+use Rattle.std.proofs.Common.{◌∙◌, ◌++◌, List, ℕ, length, take, ap, arith, length-drop}
+use Rattle.node_door.proofs.Looping.{takes_on}
+use Rattle.node_door.proofs.loop_link.LoopLink.take_all.Goals as goal
+
+pub parts-preserved : goal.parts-preserved
+parts-preserved c =
+    let t = c.in-Some.ensures in
+    let v = c.parts.invariant in
+    let long = ap (λ (l : List ℕ). length l) c.behind_slice.ensures in
+    let d = length-drop c.parts.taken c.args.bytes.now in
+    record {
+      within = omega (arith, t.within, v.within, long, d);
+      written =
+          takes_on c.args.self.now c.parts.self c.take_next.new.self c.args.bytes.now c.parts.taken c.in-Some.n v.written
+          (t.written ∙ ap (λ (l : List ℕ). c.parts.self.written ++ take c.in-Some.n l) c.behind_slice.ensures);
+      given = t.given ∙ v.given;
+      room = t.room ∙ v.room;
+      faults = t.faults ∙ v.faults;
+      ends = t.ends ∙ v.ends;
+    }

@@ -1,0 +1,5 @@
+pub mod Link
+pub mod Door
+pub mod Own
+pub mod Loop
+pub mod FarKeeps

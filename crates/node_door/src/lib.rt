@@ -1,0 +1,17 @@
+//! What speaks to a page node: the door of a session to a node at the other end of a stream, and such a stream in memory.
+//!
+//! - A [`StreamDoor`] is a session's way to a node: a `Door` over any stream that is a source and a sink.
+//! - A [`LoopLink`] is such a stream in memory, with a shelf of its own at the other end.
+#![tactic(auto)]
+
+ghost use Rattle.std.specs.Prelude.{◌≡◌};
+
+mod beside;
+mod door;
+mod loop_link;
+mod own;
+mod wire;
+
+pub use beside::BYTES_A_THREAD;
+pub use door::StreamDoor;
+pub use loop_link::LoopLink;

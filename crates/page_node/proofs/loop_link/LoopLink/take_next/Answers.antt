@@ -1,8 +1,0 @@
-use Rattle.std.proofs.Common.{List, ℕ, length, refl, ap, arith, inl}
-use Rattle.page_node.proofs.Looping.{not_read}
-use Rattle.page_node.proofs.loop_link.LoopLink.take_next.Goals as goal
-
-pub returns-then-self-replies : goal.returns-then-self-replies
-returns-then-self-replies c =
-    let long = ap (λ (l : List ℕ). length l) c.replies.ensures in
-    (refl, inl (not_read c.self.inside.far c.self.inside.at c.self.inside.faults c.self.inside.ends c.args.self.now c.self.view_is (omega (arith, c.if-self-replies.true, long))))

@@ -1,8 +1,0 @@
-use Rattle.std.proofs.Common.{arith, ap, ◌∙◌}
-use Rattle.frame_wire.specs.Said.{field}
-use Rattle.framing.proofs.Numbers.{bytes_again}
-use Rattle.page_node.proofs.wire.number.Goals as goal
-
-pub returns : goal.returns
-unfolding field
-returns c = ap field c.read_u64.ensures ∙ bytes_again 8 c.args.bytes.now c.requires (λ i. omega (arith, c.type_inv.bytes i))
