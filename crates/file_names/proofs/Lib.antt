@@ -1,0 +1,5 @@
+pub mod Splitting
+pub mod Children
+pub mod Maps
+pub mod Entering
+pub mod Listings

@@ -1,0 +1,4 @@
+pub mod Paths
+pub mod Tree
+pub mod Turns
+pub mod Folders
