@@ -13,3 +13,5 @@ mod links;
 mod random;
 #[cfg(test)]
 mod served;
+#[cfg(test)]
+mod stores;
