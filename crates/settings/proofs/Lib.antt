@@ -1,6 +1,7 @@
 mod Worked
 mod Walks
 pub mod Parses
+pub mod Taken
 pub mod RangeLemmas
 pub mod ReadingLemmas
 pub mod ChoiceLemmas

@@ -1,6 +1,6 @@
 -- Worked rows, computed from the definitions alone.
 use Rattle.std.proofs.Common.{◌≡◌, [], ◌∷◌, Some, None, codes, refl}
-use Rattle.settings.specs.declared.table.Command.TheVariants.{Run, Serve}
+use Rattle.settings.specs.declared.table.Command.TheVariants.{Run, Serve, Node}
 use Rattle.settings.specs.Values.{nothing}
 use Rattle.settings.specs.Words.{given_by_words}
 use Rattle.settings.specs.Merged.{merged}
@@ -39,6 +39,12 @@ value_that_is_an_option = refl
 
 option_of_another_command : given_by_words (codes "load" ∷ codes "--max-open" ∷ codes "1" ∷ []) ≡ None
 option_of_another_command = refl
+
+node_alone : given_by_words (codes "node" ∷ []) ≡ Some (Node, nothing)
+node_alone = refl
+
+node_without_a_file : given_by_words (codes "node" ∷ codes "--settings" ∷ codes "s" ∷ []) ≡ None
+node_without_a_file = refl
 
 -- ---- both
 

@@ -14,6 +14,8 @@ pub enum Command {
     Serve,
     /// Many writers of one shared log and one shared grid, as a measure of the store.
     Load,
+    /// A node that keeps pages, over the standard input and output, by frames.
+    Node,
 }
 
 /// A number that an option of the command line or a key of the settings file sets.
@@ -98,8 +100,10 @@ static LOAD: [Choice; 7] = [
     Choice::Number(Key::Ops),
 ];
 
+static NODE: [Choice; 1] = [Choice::Number(Key::Page)];
+
 /// Every command.
-pub static COMMANDS: [Command; 3] = [Command::Run, Command::Serve, Command::Load];
+pub static COMMANDS: [Command; 4] = [Command::Run, Command::Serve, Command::Load, Command::Node];
 
 /// Every key.
 pub static KEYS: [Key; 11] = [
@@ -125,6 +129,7 @@ impl Command {
             Command::Run => "run",
             Command::Serve => "serve",
             Command::Load => "load",
+            Command::Node => "node",
         }
     }
 
@@ -136,6 +141,7 @@ impl Command {
             Command::Run => RUN.as_slice(),
             Command::Serve => SERVE.as_slice(),
             Command::Load => LOAD.as_slice(),
+            Command::Node => NODE.as_slice(),
         }
     }
 

@@ -20,6 +20,7 @@ pub fn word_of(command: Command) -> &'static str {
         Command::Run => "run",
         Command::Serve => "serve",
         Command::Load => "load",
+        Command::Node => "node",
     }
 }
 

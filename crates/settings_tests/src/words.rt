@@ -6,9 +6,12 @@ use std::alloc::Global;
 use std::process::Abort;
 
 // Command lines, and what they give: the command and each setting.
-static ACCEPTED: [(&str, &str); 47] = [
+static ACCEPTED: [(&str, &str); 50] = [
     ("run", "run"),
     ("load", "load"),
+    ("node", "node"),
+    ("node --page 4", "node page=4"),
+    ("node --page=1048576", "node page=1048576"),
     ("serve --listen a:1", "serve listen=a:1"),
     ("serve --listen=127.0.0.1:9", "serve listen=127.0.0.1:9"),
     ("serve --listen nowhere", "serve listen=nowhere"),
@@ -84,11 +87,13 @@ static ACCEPTED: [(&str, &str); 47] = [
 ];
 
 // Lines whose first word isn't a command, or that ask for help.
-static NO_COMMANDS: [&str; 22] = [
+static NO_COMMANDS: [&str; 26] = [
     "",
     "Run",
     "RUN",
     "runs",
+    "Node",
+    "nodes",
     "watch",
     "-run",
     "--run",
@@ -102,6 +107,8 @@ static NO_COMMANDS: [&str; 22] = [
     " run",
     "--page 8 run",
     "help run",
+    "help node",
+    "node help",
     "run help",
     "run -h",
     "run --help",
@@ -110,7 +117,7 @@ static NO_COMMANDS: [&str; 22] = [
 ];
 
 // Words that are neither an option nor the value of one, and options that aren't given as they must be.
-static NO_OPTIONS: [&str; 46] = [
+static NO_OPTIONS: [&str; 52] = [
     "run --",
     "run -- --page 8",
     "run --page 8 --",
@@ -157,10 +164,16 @@ static NO_OPTIONS: [&str; 46] = [
     "serve --listen --workers 4",
     "serve --listen a:1 --listen a:1",
     "load --ops --seed 7",
+    "node x",
+    "node --",
+    "node 4",
+    "node --page",
+    "node --page=",
+    "node --page 4 --page=4",
 ];
 
 // Options of other commands, and of none.
-static OTHER_OPTIONS: [&str; 14] = [
+static OTHER_OPTIONS: [&str; 27] = [
     "run --listen a:1",
     "run --workers 4",
     "run --connections 1",
@@ -175,10 +188,23 @@ static OTHER_OPTIONS: [&str; 14] = [
     "load --listen a:1",
     "load --connections 1",
     "load --readers 2",
+    "node --providers 4",
+    "node --replicas 2",
+    "node --settings s",
+    "node --max-size 8",
+    "node --max-versions 8",
+    "node --max-open 8",
+    "node --max-blobs 8",
+    "node --listen a:1",
+    "node --workers 4",
+    "node --connections 1",
+    "node --seed 1",
+    "node --ops 1",
+    "node --readers 2",
 ];
 
 // Values that aren't numbers of their ranges.
-static NO_NUMBERS: [&str; 48] = [
+static NO_NUMBERS: [&str; 52] = [
     "run --page -8",
     "run --page=-8",
     "run --page +8",
@@ -227,6 +253,10 @@ static NO_NUMBERS: [&str; 48] = [
     "load --ops 4097",
     "load --ops 0100",
     "load --ops ١",
+    "node --page 2",
+    "node --page 12",
+    "node --page 2097152",
+    "node --page 04",
 ];
 
 fn given_by<R: Abort>(rt: &R, alloc: Global, line: &str) -> Result<(Command, Given), WordsFault> {
