@@ -1,10 +1,14 @@
 pub mod ErrorLines
 pub mod Scripts
 pub mod Legal
+pub mod Conversations
 pub mod Runs
+pub mod Nodes
 pub mod Alone
 pub mod Stores
 pub mod Settling
 pub mod Statuses
+pub mod Names
 pub mod PeersServed
+pub mod Measures
 pub mod Loads

@@ -1,27 +1,23 @@
 -- How a load ended, from what its parts did.
-use Rattle.std.proofs.Common.{◌≡◌, ℕ, List, [], refl, subst}
-use Rattle.std.specs.Prelude.{Option}
-use Rattle.std.proofs.KnownBytes.{Appends-nil}
+use Rattle.std.proofs.Common.{◌≡◌, ℕ, sym, subst}
 use Rattle.workload_law.specs.declared.plan.LoadPlan.{LoadPlan}
-use Rattle.workload_law.specs.declared.plan.Summary.{Summary}
-use Rattle.workload_law.specs.Said.{said}
-use Rattle.workload_law.specs.Summed.{summary_of}
 use Rattle.workload_run.specs.Loading.{EndsEarly}
 use Rattle.workload_run.specs.declared.loading.LoadFault.{LoadFault}
 use Rattle.workload_run.specs.declared.loading.LoadFault.TheVariants as Faults
-use Rattle.blobseer_run.specs.Loading.{Loaded, RanLoad, status_of}
-use Rattle.blobseer_run.specs.Writing.{WritesLine, ToldLine}
+use Rattle.blobseer_run.specs.declared.status.Status.{Status}
+use Rattle.blobseer_run.specs.Outside.{Outside, LeavesInput, LeavesNet}
+use Rattle.blobseer_run.specs.Loading.{DidLoad, load_lines, status_of}
 use Rattle.blobseer_run.specs.Status.{code_of}
+use Rattle.blobseer_run.proofs.Measures.{starved_there, early_there}
 
-module _ (plan : LoadPlan) (doors doors' : ℕ) where
-  pub whole_there : (summary : Summary) (written written' : Option (List ℕ)) (writes writes' status : ℕ) → summary ≡ summary_of plan → ToldLine (said plan summary) written written' writes writes' status
-      → RanLoad plan written written' doors doors' writes writes' status
-  whole_there summary written written' writes writes' status is told = record {
-    text = told.text;
-    adds = told.adds;
-    ended = Loaded.whole (subst (λ (s : Summary). WritesLine (said plan s) told.text writes writes' status) is told.is_line);
-  }
+module _ (plan : LoadPlan) (old new : Outside) (input : LeavesInput old new) (net : LeavesNet old new) (written : new.written ≡ old.written) where
+  early : (fault : LoadFault) → EndsEarly fault old.doors new.doors → DidLoad plan old new (code_of (status_of fault))
+  early (Faults.Refused fault) lost = early_there (load_lines plan) old new input net written lost.rose
+  early Faults.NoMemory ended = starved_there (load_lines plan) old new input net written
 
-  pub early_there : (fault : LoadFault) (written : Option (List ℕ)) (writes : ℕ) → EndsEarly fault doors doors' → RanLoad plan written written doors doors' writes writes (code_of (status_of fault))
-  early_there (Faults.Refused fault) written writes lost = record { text = []; adds = Appends-nil written; ended = Loaded.early refl lost.rose refl }
-  early_there Faults.NoMemory written writes early = record { text = []; adds = Appends-nil written; ended = Loaded.starved refl refl }
+  pub load_early : (fault : LoadFault) (status : Status) → status ≡ status_of fault → EndsEarly fault old.doors new.doors → DidLoad plan old new (code_of status)
+  load_early fault status is ended = subst (λ (s : Status). DidLoad plan old new (code_of s)) (sym is) (early fault ended)
+
+-- the same of the same plan
+pub at_plan : (plan plan' : LoadPlan) (old new : Outside) (status : ℕ) → plan ≡ plan' → DidLoad plan old new status → DidLoad plan' old new status
+at_plan plan plan' old new status is did = subst (λ (p : LoadPlan). DidLoad p old new status) is did

@@ -9,8 +9,10 @@ use Rattle.faults.proofs.Counts.{RoseBy-trans}
 use Rattle.blob_server.specs.Serving.{Handing, TookPeers, FailedAfter, EndsAs}
 use Rattle.blob_server.specs.declared.server.ServeFault.{ServeFault}
 use Rattle.blob_server.specs.declared.server.ServeFault.TheVariants as Faults
+use Rattle.blobseer_run.specs.declared.status.Status.{Status}
 use Rattle.blobseer_run.specs.Status.{code_of, write_fault, out_of_memory, listener_fault}
-use Rattle.blobseer_run.specs.Hosting.{Net, HandsOutNone, Hosted, ServedPeers, served_line, status_of}
+use Rattle.blobseer_run.specs.Outside.{Outside, LeavesInput}
+use Rattle.blobseer_run.specs.Hosting.{HandsOutNone, Hosted, DidServe, served_line, status_of}
 use Rattle.blobseer_run.specs.Writing.{WritesLine, ToldLine}
 
 -- a write that failed after so many bytes of a line
@@ -45,24 +47,35 @@ module _ (connections : ℕ) (old mid new : Handing) (handed : mid.handed ≡ ol
   pub none_since : new ≡ mid → HandsOutNone 0 old new
   none_since is = subst (HandsOutNone 0 old) (sym is) (record { handed = handed; done = done; rose = rose })
 
--- ---- how it ended
-module _ (connections : ℕ) (net net' : Net) where
-  pub served_there : (peers : ℕ) (written written' : Option (List ℕ)) (writes writes' status : ℕ) → net'.listens ≡ true → TookPeers connections peers net.handing net'.handing
-      → ToldLine (served_line peers) written written' writes writes' status → ServedPeers connections net net' written written' writes writes' status
-  served_there peers written written' writes writes' status listens took told = record { text = told.text; adds = told.adds; ended = Hosted.served peers listens took told.is_line }
+-- ---- how it ended, where the input was left alone
 
-  module _ (written : Option (List ℕ)) (writes : ℕ) where
-    pub deaf_there : net'.listens ≡ net.listens → HandsOutNone 1 net.handing net'.handing → ServedPeers connections net net' written written writes writes listener_fault
-    deaf_there listens none = record { text = []; adds = Appends-nil written; ended = Hosted.deaf refl listens none refl }
+module _ (connections : ℕ) (old new : Outside) (input : LeavesInput old new) where
+  pub served_there : (peers status : ℕ) → new.net.listens ≡ true → TookPeers connections peers old.net.handing new.net.handing
+      → ToldLine (served_line peers) old.written new.written old.writes new.writes status → DidServe connections old new status
+  served_there peers status listens took told = record { text = told.text; adds = told.adds; ended = Hosted.served peers listens took told.is_line; input = input }
 
-    pub unserved_there : net'.listens ≡ true → FailedAfter connections net.handing net'.handing → ServedPeers connections net net' written written writes writes listener_fault
-    unserved_there listens failed = record { text = []; adds = Appends-nil written; ended = Hosted.unserved refl listens failed refl }
+  module _ (written : new.written ≡ old.written) where
+    unwritten : (status : ℕ) → Hosted connections old.net new.net [] old.writes new.writes status → DidServe connections old new status
+    unwritten status hosted =
+        let P : Option (List ℕ) → Type 0 = λ o. Appends old.written o [] in
+        record { text = []; adds = subst P (sym written) (Appends-nil old.written); ended = hosted; input = input }
 
-    pub starved_there : (net'.listens ≡ net.listens) ⊎ (net'.listens ≡ true) → HandsOutNone 0 net.handing net'.handing → ServedPeers connections net net' written written writes writes out_of_memory
-    starved_there listens none = record { text = []; adds = Appends-nil written; ended = Hosted.starved refl listens none refl }
+    pub deaf_there : new.net.listens ≡ old.net.listens → HandsOutNone 1 old.net.handing new.net.handing → DidServe connections old new listener_fault
+    deaf_there listens none = unwritten listener_fault (Hosted.deaf refl listens none refl)
+
+    unserved_there : new.net.listens ≡ true → FailedAfter connections old.net.handing new.net.handing → DidServe connections old new listener_fault
+    unserved_there listens failed = unwritten listener_fault (Hosted.unserved refl listens failed refl)
+
+    pub starved_there : (new.net.listens ≡ old.net.listens) ⊎ (new.net.listens ≡ true) → HandsOutNone 0 old.net.handing new.net.handing → DidServe connections old new out_of_memory
+    starved_there listens none = unwritten out_of_memory (Hosted.starved refl listens none refl)
+
+    faulted : (mid : Handing) (fault : ServeFault) → new.net.listens ≡ true → mid.handed ≡ old.net.handing.handed → mid.is_done ≡ old.net.handing.is_done
+        → RoseBy 0 old.net.handing.faults mid.faults → EndsAs connections mid new.net.handing (Err fault) → DidServe connections old new (code_of (status_of fault))
+    faulted mid Faults.Listener listens handed done rose ended = unserved_there listens (failed_since connections old.net.handing mid new.net.handing handed done rose ended)
+    faulted mid Faults.NoMemory listens handed done rose ended = starved_there (inr listens) (none_since connections old.net.handing mid new.net.handing handed done rose ended)
 
     -- it was ended early, by what the listener did from before it listened
-    pub faulted_there : (mid : Handing) (fault : ServeFault) → net'.listens ≡ true → mid.handed ≡ net.handing.handed → mid.is_done ≡ net.handing.is_done
-        → RoseBy 0 net.handing.faults mid.faults → EndsAs connections mid net'.handing (Err fault) → ServedPeers connections net net' written written writes writes (code_of (status_of fault))
-    faulted_there mid Faults.Listener listens handed done rose ended = unserved_there listens (failed_since connections net.handing mid net'.handing handed done rose ended)
-    faulted_there mid Faults.NoMemory listens handed done rose ended = starved_there (inr listens) (none_since connections net.handing mid net'.handing handed done rose ended)
+    pub faulted_there : (mid : Handing) (fault : ServeFault) (status : Status) → status ≡ status_of fault → new.net.listens ≡ true → mid.handed ≡ old.net.handing.handed
+        → mid.is_done ≡ old.net.handing.is_done → RoseBy 0 old.net.handing.faults mid.faults → EndsAs connections mid new.net.handing (Err fault) → DidServe connections old new (code_of status)
+    faulted_there mid fault status is listens handed done rose ended =
+        subst (λ (s : Status). DidServe connections old new (code_of s)) (sym is) (faulted mid fault listens handed done rose ended)

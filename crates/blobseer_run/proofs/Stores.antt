@@ -18,7 +18,8 @@ use Rattle.version_manager.specs.Log.{tagged, events}
 use Rattle.version_manager.specs.declared.journal.DeskFixed.{DeskFixed}
 use Rattle.client_session.specs.Sessions.{StoreState, SessionState, session_at, session_of, pass_of}
 use Rattle.settings.specs.Values.{SettingsValues}
-use Rattle.blobseer_run.specs.Run.{input_limit, fixed_of}
+use Rattle.blobseer_run.specs.Conversation.{input_limit}
+use Rattle.blobseer_run.specs.Script.{fixed_of}
 use Rattle.blobseer_run.specs.Serving.{ServedLines}
 use Rattle.blobseer_run.proofs.Alone.{own_of}
 
@@ -72,5 +73,5 @@ own_there made history whole seen one lacks is begins tags =
     own_of seen begins.0 there tags
 
 -- what a new store keeps to is what its settings say
-pub fixed_there : (f : DeskFixed) (settings : SettingsValues) (page : ℕ) → f.limits ≡ settings.limits → f.page_size ≡ page → page ≡ settings.page → record { limits = f.limits; page = f.page_size } ≡ fixed_of settings
-fixed_there f settings page limits size is = rw (limits, size, is) refl
+pub fixed_there : (f : DeskFixed) (settings : SettingsValues) → f.limits ≡ settings.limits → f.page_size ≡ settings.page → record { limits = f.limits; page = f.page_size } ≡ fixed_of settings
+fixed_there f settings limits page = rw (limits, page) refl

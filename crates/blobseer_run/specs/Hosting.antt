@@ -1,4 +1,4 @@
--- What a server promises: what its listener did, and the line that tells how many connections were served.
+-- What the command `serve` promises: what its listener did, and the line that tells how many connections were served.
 use Rattle.std.specs.Prelude.{◌≡◌, ◌⊎◌, ℕ, Bool, true, List, [], ◌∷◌, ◌++◌, Option, codes}
 use Rattle.std.specs.Fmt.{decimal}
 use Rattle.std.specs.Io.KnownBytes.{Appends}
@@ -10,11 +10,7 @@ use Rattle.blobseer_run.specs.declared.status.Status.{Status}
 use Rattle.blobseer_run.specs.declared.status.Status.TheVariants as Statuses
 use Rattle.blobseer_run.specs.Status.{out_of_memory, listener_fault}
 use Rattle.blobseer_run.specs.Writing.{WritesLine}
-
--- a listener: whether it listens, and what it has handed out
-pub record Net : Type 0 where
-  pub listens : Bool
-  pub handing : Handing
+use Rattle.blobseer_run.specs.Outside.{Net, Outside, LeavesInput}
 
 -- the line that tells the number of the connections that were served
 abbrev pub served_line : ℕ → List ℕ
@@ -44,8 +40,9 @@ pub data Hosted (connections : ℕ) (net net' : Net) (text : List ℕ) (writes w
   starved : (status ≡ out_of_memory) → (net'.listens ≡ net.listens) ⊎ (net'.listens ≡ true) → HandsOutNone 0 net.handing net'.handing → (text ≡ []) →
       Hosted connections net net' text writes writes' status
 
--- The output got the text, and the server ended so.
-pub record ServedPeers (connections : ℕ) (net net' : Net) (written written' : Option (List ℕ)) (writes writes' status : ℕ) : Type 0 where
+-- Connections were served, as many as that unless the listener gave no more, the output got the text, and the input was left alone.
+pub record DidServe (connections : ℕ) (old new : Outside) (status : ℕ) : Type 0 where
   pub text : List ℕ
-  pub adds : Appends written written' text
-  pub ended : Hosted connections net net' text writes writes' status
+  pub adds : Appends old.written new.written text
+  pub ended : Hosted connections old.net new.net text old.writes new.writes status
+  pub input : LeavesInput old new

@@ -2,8 +2,13 @@ pub mod Status
 pub mod Told
 pub mod Telling
 pub mod Writing
+pub mod Outside
+pub mod Conversation
+pub mod Script
 pub mod Hosting
+pub mod Measuring
 pub mod Loading
+pub mod Node
 pub mod Run
 pub mod Legal
 pub mod Serving

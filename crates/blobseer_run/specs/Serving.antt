@@ -8,7 +8,7 @@ use Rattle.script_text.specs.Said.{said}
 use Rattle.server_core.specs.Progress.{Point}
 use Rattle.server_core.specs.Served.{Input, Served}
 use Rattle.server_core.specs.declared.flow.End.{End}
-use Rattle.blobseer_run.specs.Run.{input_limit}
+use Rattle.blobseer_run.specs.Conversation.{input_limit}
 
 -- The lines of a script were served from a point on, and in the end the session has seen these events.
 pub record ServedLines (old : Point) (before after : Input) (seen : List Event) (faults : ℕ) (written : Option (List ℕ)) (end : End) : Type 0 where

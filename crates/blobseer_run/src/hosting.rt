@@ -1,20 +1,21 @@
 // Connections are served over a new store.
-ghost use Rattle.std.specs.Prelude.{◌≡◌, ◌↔◌, ℕ, ◌-◌, ◌^◌, ◌<◌, ◌≤◌};
+ghost use Rattle.std.specs.Prelude.{◌≡◌, ◌↔◌};
 ghost use Rattle.faults.specs.Counts.{RoseBy};
-ghost use Rattle.blobseer_run.specs.Hosting.{served_line, status_of, ServedPeers};
+ghost use Rattle.blobseer_run.specs.Outside.{NoneFell};
+ghost use Rattle.blobseer_run.specs.Hosting.{served_line, status_of, DidServe};
 ghost use Rattle.blobseer_run.specs.Writing.{ToldLine};
 ghost use Rattle.blobseer_run.specs.Status.{code_of};
 
-use crate::serving::page_size;
+use crate::objects::{Objects, Standing};
 use crate::status::Status;
+use crate::store::new_store;
 use crate::writing::tell;
 use blob_server::{ServeFault, serve};
-use client_session::Shared;
 use page_fan::BesideDoor;
 use page_store::DoorMaker;
 use ports::gate::Gate;
 use ports::listener::Listener;
-use ports::stream::Sink;
+use ports::stream::{Sink, Source};
 use settings::Settings;
 use std::alloc::Global;
 use std::mem;
@@ -42,46 +43,36 @@ fn status_of(fault: ServeFault) -> Status
     }
 }
 
-/// Serves the connections of a listener over a new store of these settings, and writes how many they were. The store is closed
-/// before that, and the doors are with their maker again.
+/// The command `serve`: serves the connections of the listener over a new store of these settings, and writes how many they were.
+/// The store is closed before that, and the doors are with their maker again.
 pub(crate) fn serve_peers<
+    'a,
     R: Wait + Threads + Sync,
-    L: Listener,
+    S: Source,
     K: Sink,
+    L: Listener,
     M: DoorMaker,
     G: Gate + Sync,
 >(
     rt: &R,
     alloc: Global,
     settings: &Settings,
-    net: &mut L,
-    out: &mut K,
-    maker: &mut M,
+    objects: &mut Objects<'a, S, K, L, M>,
     gate: &G,
 ) -> Status
 where
     L::Peer: Drop + Send,
     M::Door: BesideDoor + Drop + Send,
-    requires true_doors { M.is_true maker.old }
-    ensures served { ServedPeers settings.now.connections
-        (record { listens = L.listens net.old; handing = record { handed = L.handed net.old; is_done = L.is_done net.old; faults = L.faults net.old } })
-        (record { listens = L.listens net.new; handing = record { handed = L.handed net.new; is_done = L.is_done net.new; faults = L.faults net.new } })
-        (K.written out.old) (K.written out.new) (K.write_faults out.old) (K.write_faults out.new) (code_of result) }
-    ensures write_faults { RoseBy 0 (K.write_faults out.old) (K.write_faults out.new) }
-    ensures listener_faults { RoseBy 0 (L.faults net.old) (L.faults net.new) }
-    ensures door_faults { M.faults maker.new < 2 ^ 64 - 1 → M.faults maker.old ≤ M.faults maker.new }
-    ensures truth_stays { M.is_true maker.old ↔ M.is_true maker.new }
+    requires true_doors { M.is_true objects.old.doors.now }
+    ensures did { DidServe settings.now.connections (⟦<Objects<'a, S, K, L, M> as Standing>⟧.stands objects.old) (⟦<Objects<'a, S, K, L, M> as Standing>⟧.stands objects.new) (code_of result) }
+    ensures none_fell { NoneFell (⟦<Objects<'a, S, K, L, M> as Standing>⟧.stands objects.old) (⟦<Objects<'a, S, K, L, M> as Standing>⟧.stands objects.new) }
+    ensures truth_stays { M.is_true objects.old.doors.now ↔ M.is_true objects.new.doors.now }
+    ensures names { ⟦<Objects<'a, S, K, L, M> as Standing>⟧.names objects.new ≡ ⟦<Objects<'a, S, K, L, M> as Standing>⟧.names objects.old }
 {
-    let Ok((shared, mut owner)) = Shared::new(
-        alloc,
-        settings.limits,
-        page_size(settings),
-        settings.providers,
-        settings.replicas,
-    ) else {
+    let Ok((shared, mut owner)) = new_store(alloc, settings, settings.limits) else {
         return Status::OutOfMemory;
     };
-    if !net.listen(settings.listen.as_str()) {
+    if !objects.net.listen(settings.listen.as_str()) {
         return Status::ListenerFault;
     }
     let served = serve(
@@ -89,8 +80,8 @@ where
         alloc,
         &shared,
         &mut owner,
-        net,
-        maker,
+        objects.net,
+        objects.doors,
         gate,
         settings.workers,
         settings.connections,
@@ -102,7 +93,7 @@ where
     // The process ends, and gives the memory of all pages and nodes back at once.
     mem::forget(desk);
     match served {
-        Ok(peers) => tell_served(alloc, peers, out),
+        Ok(peers) => tell_served(alloc, peers, objects.out),
         Err(fault) => status_of(fault),
     }
 }

@@ -1,7 +1,7 @@
 //! Laws of transcripts, and of the program's own doors.
 
 ghost use Rattle.blobseer_run.specs.Legal.{LegalAlone, AlwaysSays};
-ghost use Rattle.blobseer_run.specs.Run.{IsCalm};
+ghost use Rattle.blobseer_run.specs.Script.{IsCalm};
 
 use blob_model::laws::old_versions_stay;
 use page_store::{Door, PlainDoor};

@@ -8,11 +8,14 @@
 ghost use Rattle.std.specs.Prelude.{◌≡◌};
 
 mod hosting;
+mod keeping;
 pub mod laws;
 mod loading;
+mod objects;
 mod program;
 mod serving;
 mod status;
+mod store;
 mod told;
 mod writing;
 

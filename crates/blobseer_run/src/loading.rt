@@ -1,20 +1,22 @@
 // A load is run over a new store.
-ghost use Rattle.std.specs.Prelude.{◌≡◌, ◌↔◌, ◌-◌, ◌^◌, ◌<◌, ◌≤◌};
+ghost use Rattle.std.specs.Prelude.{◌≡◌, ◌↔◌};
 ghost use Rattle.faults.specs.Counts.{RoseBy};
 ghost use Rattle.workload_law.specs.Said.{said};
-ghost use Rattle.blobseer_run.specs.Loading.{plan_of, status_of, RanLoad};
+ghost use Rattle.blobseer_run.specs.Outside.{NoneFell};
+ghost use Rattle.blobseer_run.specs.Loading.{plan_of, status_of, DidLoad};
 ghost use Rattle.blobseer_run.specs.Writing.{ToldLine};
 ghost use Rattle.blobseer_run.specs.Status.{code_of};
 
-use crate::serving::page_size;
+use crate::objects::{Objects, Standing};
 use crate::status::Status;
+use crate::store::new_store;
 use crate::writing::tell;
 use blob_model::Limits;
-use client_session::Shared;
 use page_fan::BesideDoor;
 use page_store::DoorMaker;
 use ports::gate::Gate;
-use ports::stream::Sink;
+use ports::listener::Listener;
+use ports::stream::{Sink, Source};
 use settings::Settings;
 use std::alloc::Global;
 use std::mem;
@@ -44,32 +46,32 @@ fn status_of(fault: LoadFault) -> Status
     }
 }
 
-/// Runs the load of these settings over a new store with the greatest limits, and writes what it came to. The store is closed
-/// before that, and the doors are with their maker again.
-pub(crate) fn run_load<R: Wait + Threads + Sync, K: Sink, M: DoorMaker, G: Gate + Sync>(
+/// The command `load`: runs the load of these settings over a new store with the greatest limits, and writes what it came to.
+/// The store is closed before that, and the doors are with their maker again.
+pub(crate) fn run_load<
+    'a,
+    R: Wait + Threads + Sync,
+    S: Source,
+    K: Sink,
+    L: Listener,
+    M: DoorMaker,
+    G: Gate + Sync,
+>(
     rt: &R,
     alloc: Global,
     settings: &Settings,
-    out: &mut K,
-    maker: &mut M,
+    objects: &mut Objects<'a, S, K, L, M>,
     gate: &G,
 ) -> Status
 where
     M::Door: BesideDoor + Drop + Send,
-    requires true_doors { M.is_true maker.old }
-    ensures loaded { RanLoad (plan_of settings.now) (K.written out.old) (K.written out.new) (M.faults maker.old) (M.faults maker.new)
-        (K.write_faults out.old) (K.write_faults out.new) (code_of result) }
-    ensures write_faults { RoseBy 0 (K.write_faults out.old) (K.write_faults out.new) }
-    ensures door_faults { M.faults maker.new < 2 ^ 64 - 1 → M.faults maker.old ≤ M.faults maker.new }
-    ensures truth_stays { M.is_true maker.old ↔ M.is_true maker.new }
+    requires true_doors { M.is_true objects.old.doors.now }
+    ensures did { DidLoad (plan_of settings.now) (⟦<Objects<'a, S, K, L, M> as Standing>⟧.stands objects.old) (⟦<Objects<'a, S, K, L, M> as Standing>⟧.stands objects.new) (code_of result) }
+    ensures none_fell { NoneFell (⟦<Objects<'a, S, K, L, M> as Standing>⟧.stands objects.old) (⟦<Objects<'a, S, K, L, M> as Standing>⟧.stands objects.new) }
+    ensures truth_stays { M.is_true objects.old.doors.now ↔ M.is_true objects.new.doors.now }
+    ensures names { ⟦<Objects<'a, S, K, L, M> as Standing>⟧.names objects.new ≡ ⟦<Objects<'a, S, K, L, M> as Standing>⟧.names objects.old }
 {
-    let Ok((shared, owner)) = Shared::new(
-        alloc,
-        Limits::greatest(),
-        page_size(settings),
-        settings.providers,
-        settings.replicas,
-    ) else {
+    let Ok((shared, owner)) = new_store(alloc, settings, Limits::greatest()) else {
         return Status::OutOfMemory;
     };
     let plan = LoadPlan {
@@ -77,11 +79,11 @@ where
         workers: settings.workers,
         ops: settings.ops,
     };
-    match load(rt, alloc, shared, owner, maker, gate, plan) {
+    match load(rt, alloc, shared, owner, objects.doors, gate, plan) {
         Ok((summary, desk)) => {
             // The process ends, and gives the memory of all pages and nodes back at once.
             mem::forget(desk);
-            tell_load(alloc, &plan, &summary, out)
+            tell_load(alloc, &plan, &summary, objects.out)
         }
         Err(fault) => status_of(fault),
     }

@@ -1,11 +1,15 @@
 ghost use Rattle.std.specs.Prelude.{◌≡◌, ◌↔◌, ℕ, ◌-◌, ◌^◌, ◌<◌, ◌≤◌, List, map};
 ghost use Rattle.std.specs.String.{string_bytes};
 ghost use Rattle.faults.specs.Counts.{RoseBy};
-ghost use Rattle.blobseer_run.specs.Run.{Ran, Did, RefusesWords, RefusesSettings, IsTaken, IsComplete, IsCalm};
+ghost use Rattle.blobseer_run.specs.Outside.{NoneFell};
+ghost use Rattle.blobseer_run.specs.Script.{IsCalm};
+ghost use Rattle.blobseer_run.specs.Run.{Did, Ran, RefusesWords, RefusesSettings, IsTaken, IsComplete};
 ghost use Rattle.blobseer_run.specs.Status.{code_of, Tells};
 
 use crate::hosting::serve_peers;
+use crate::keeping::keep_pages;
 use crate::loading::run_load;
+use crate::objects::{Objects, Standing};
 use crate::serving::serve_script;
 use crate::status::Status;
 use crate::told::told;
@@ -20,56 +24,37 @@ use std::alloc::Global;
 use std::sync::Wait;
 use std::thread::Threads;
 
-// Does what a command does, with these settings.
-fn obey<R: Wait + Threads + Sync, S: Source, K: Sink, L: Listener, M: DoorMaker, G: Gate + Sync>(
+// Does what a command does, with these settings. Each command is a file of its own.
+fn obey<
+    'a,
+    R: Wait + Threads + Sync,
+    S: Source,
+    K: Sink,
+    L: Listener,
+    M: DoorMaker,
+    G: Gate + Sync,
+>(
     rt: &R,
     alloc: Global,
     command: Command,
     settings: &Settings,
-    script: &mut S,
-    out: &mut K,
-    net: &mut L,
-    doors: &mut M,
+    objects: &mut Objects<'a, S, K, L, M>,
     gate: &G,
 ) -> Status
 where
     L::Peer: Drop + Send,
     M::Door: BesideDoor + Drop + Send,
-    requires true_doors { M.is_true doors.old }
-    ensures did { (files files' : ℕ) → Did command settings.now (IsCalm M.Door.faults)
-        (record { listens = L.listens net.old; handing = record { handed = L.handed net.old; is_done = L.is_done net.old; faults = L.faults net.old } })
-        (record { listens = L.listens net.new; handing = record { handed = L.handed net.new; is_done = L.is_done net.new; faults = L.faults net.new } })
-        (record {
-          given = S.given script.old;
-          left = S.left script.old;
-          written = K.written out.old;
-          reads = S.read_faults script.old;
-          ends = S.ends script.old;
-          writes = K.write_faults out.old;
-          files = files;
-          doors = M.faults doors.old;
-        })
-        (record {
-          given = S.given script.new;
-          left = S.left script.new;
-          written = K.written out.new;
-          reads = S.read_faults script.new;
-          ends = S.ends script.new;
-          writes = K.write_faults out.new;
-          files = files';
-          doors = M.faults doors.new;
-        })
-        (code_of result) }
-    ensures read_faults { RoseBy 0 (S.read_faults script.old) (S.read_faults script.new) }
-    ensures write_faults { RoseBy 0 (K.write_faults out.old) (K.write_faults out.new) }
-    ensures listener_faults { RoseBy 0 (L.faults net.old) (L.faults net.new) }
-    ensures door_faults { M.faults doors.new < 2 ^ 64 - 1 → M.faults doors.old ≤ M.faults doors.new }
-    ensures truth_stays { M.is_true doors.old ↔ M.is_true doors.new }
+    requires true_doors { M.is_true objects.old.doors.now }
+    ensures did { Did command settings.now (IsCalm M.Door.faults) (⟦<Objects<'a, S, K, L, M> as Standing>⟧.stands objects.old) (⟦<Objects<'a, S, K, L, M> as Standing>⟧.stands objects.new) (code_of result) }
+    ensures none_fell { NoneFell (⟦<Objects<'a, S, K, L, M> as Standing>⟧.stands objects.old) (⟦<Objects<'a, S, K, L, M> as Standing>⟧.stands objects.new) }
+    ensures truth_stays { M.is_true objects.old.doors.now ↔ M.is_true objects.new.doors.now }
+    ensures names { ⟦<Objects<'a, S, K, L, M> as Standing>⟧.names objects.new ≡ ⟦<Objects<'a, S, K, L, M> as Standing>⟧.names objects.old }
 {
     match command {
-        Command::Run => serve_script(rt, alloc, settings, script, out, doors, gate),
-        Command::Serve => serve_peers(rt, alloc, settings, net, out, doors, gate),
-        Command::Load => run_load(rt, alloc, settings, out, doors, gate),
+        Command::Run => serve_script(rt, alloc, settings, objects, gate),
+        Command::Serve => serve_peers(rt, alloc, settings, objects, gate),
+        Command::Load => run_load(rt, alloc, settings, objects, gate),
+        Command::Node => keep_pages(rt, alloc, settings, objects),
     }
 }
 
@@ -124,30 +109,27 @@ where
     requires true_doors { M.is_true doors.old }
 
     // What it was told, what it took and wrote, and how it ended.
-    ensures ran { Ran (map string_bytes words.now) (F.known files.old) (IsCalm M.Door.faults)
-        (record { listens = L.listens net.old; handing = record { handed = L.handed net.old; is_done = L.is_done net.old; faults = L.faults net.old } })
-        (record { listens = L.listens net.new; handing = record { handed = L.handed net.new; is_done = L.is_done net.new; faults = L.faults net.new } })
+    ensures ran { Ran (map string_bytes words.now) (F.known files.old) (IsCalm M.Door.faults) (F.faults files.old) (F.faults files.new)
         (record {
           given = S.given script.old;
           left = S.left script.old;
-          written = K.written out.old;
           reads = S.read_faults script.old;
           ends = S.ends script.old;
+          written = K.written out.old;
           writes = K.write_faults out.old;
-          files = F.faults files.old;
           doors = M.faults doors.old;
+          net = record { listens = L.listens net.old; handing = record { handed = L.handed net.old; is_done = L.is_done net.old; faults = L.faults net.old } };
         })
         (record {
           given = S.given script.new;
           left = S.left script.new;
-          written = K.written out.new;
           reads = S.read_faults script.new;
           ends = S.ends script.new;
+          written = K.written out.new;
           writes = K.write_faults out.new;
-          files = F.faults files.new;
           doors = M.faults doors.new;
-        })
-        result }
+          net = record { listens = L.listens net.new; handing = record { handed = L.handed net.new; is_done = L.is_done net.new; faults = L.faults net.new } };
+        }) result }
 
     // When words and settings are refused.
     ensures words_refused { RefusesWords (map string_bytes words.now) result }
@@ -179,7 +161,8 @@ where
 {
     match told(alloc, words, files) {
         Ok((command, settings)) => {
-            obey(rt, alloc, command, &settings, script, out, net, doors, gate).end(err)
+            let mut objects = Objects::new(script, out, net, doors);
+            obey(rt, alloc, command, &settings, &mut objects, gate).end(err)
         }
         Err(status) => status.end(err),
     }

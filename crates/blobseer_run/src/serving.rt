@@ -5,16 +5,20 @@ ghost use Rattle.request_form.specs.Answers.{max_update};
 ghost use Rattle.client_session.specs.Sessions.{IsPassOf, IsOwnerOf, session_at};
 ghost use Rattle.version_manager.specs.Log.{events};
 ghost use Rattle.server_core.specs.Served.{end_read_faults, end_write_faults};
-ghost use Rattle.blobseer_run.specs.Run.{ServedScript, fixed_of, IsCalm};
+ghost use Rattle.blobseer_run.specs.Outside.{NoneFell};
+ghost use Rattle.blobseer_run.specs.Script.{DidRun, fixed_of, IsCalm};
 ghost use Rattle.blobseer_run.specs.Serving.{ServedLines, ServedByOne};
 ghost use Rattle.blobseer_run.specs.Status.{code_of};
 
 use crate::laws::transcripts_are_legal;
-use crate::status::Status;
+use crate::objects::{Objects, Standing};
+use crate::status::{INPUT_LIMIT, Status};
+use crate::store::new_store;
 use client_session::{Owner, Pass, Session, Shared};
 use page_fan::{BesideDoor, Doors};
 use page_store::DoorMaker;
 use ports::gate::Gate;
+use ports::listener::Listener;
 use ports::pair::Pair;
 use ports::stream::{Sink, Source};
 use script_text::ScriptDialect;
@@ -25,43 +29,29 @@ use std::alloc::Global;
 use std::mem;
 use std::sync::Wait;
 use std::thread::Threads;
-use tree_geom::PageSize;
-
-// The most bytes that a run takes of its input.
-const INPUT_LIMIT: u64 = 4_294_967_296;
-
-/// The page size of a store of these settings.
-pub(crate) fn page_size(settings: &Settings) -> PageSize
-    ensures { result ≡ settings.now.page }
-{
-    match PageSize::new(settings.page) {
-        Some(p) => p,
-        None => unreachable!(),
-    }
-}
 
 // Serves the lines of a script by a session that works with that pass and those doors, and gives them back.
-fn serve_session<R: Wait + Threads + Sync, S: Source, K: Sink, D: BesideDoor, G: Gate>(
+fn serve_session<R: Wait + Threads + Sync, I: Source + Sink, D: BesideDoor, G: Gate>(
     rt: &R,
     alloc: Global,
     shared: &Shared,
     gate: &G,
     pass: Pass,
     doors: Doors<D>,
-    script: &mut S,
-    out: &mut K,
+    io: &mut I,
 ) -> (End, Pass, Doors<D>)
     requires pass { IsPassOf shared.now pass }
     requires served { length doors ≡ shared.now.providers }
     requires true_doors { All D.is_true doors }
     ensures lines { ServedLines
-        (record { session = session_at shared.now.fixed pass.caller pass.seen [] 1 max_update; faults = sum_by D.faults doors; written = K.written out.old })
-        (record { given = S.given script.old; left = S.left script.old; ends = S.ends script.old })
-        (record { given = S.given script.new; left = S.left script.new; ends = S.ends script.new })
-        (events result.1.seen) (sum_by D.faults result.2) (K.written out.new) result.0 }
+        (record { session = session_at shared.now.fixed pass.caller pass.seen [] 1 max_update; faults = sum_by D.faults doors; written = I.written io.old })
+        (record { given = I.given io.old; left = I.left io.old; ends = I.ends io.old })
+        (record { given = I.given io.new; left = I.left io.new; ends = I.ends io.new })
+        (events result.1.seen) (sum_by D.faults result.2) (I.written io.new) result.0 }
     ensures pass { IsPassOf shared.now result.1 }
-    ensures read_faults { RoseBy (end_read_faults result.0) (S.read_faults script.old) (S.read_faults script.new) }
-    ensures write_faults { RoseBy (end_write_faults result.0) (K.write_faults out.old) (K.write_faults out.new) }
+    ensures read_faults { RoseBy (end_read_faults result.0) (I.read_faults io.old) (I.read_faults io.new) }
+    ensures write_faults { RoseBy (end_write_faults result.0) (I.write_faults io.old) (I.write_faults io.new) }
+    ensures objects { I.objects io.new ≡ I.objects io.old }
 {
     let Ok(mut dialect) = ScriptDialect::new(alloc) else {
         return (End::NoMemory, pass, doors);
@@ -70,25 +60,20 @@ fn serve_session<R: Wait + Threads + Sync, S: Source, K: Sink, D: BesideDoor, G:
         Ok(session) => session,
         Err((pass, doors)) => return (End::NoMemory, pass, doors),
     };
-    let mut io = Pair {
-        source: script,
-        sink: out,
-    };
-    let end = serve_stream(rt, alloc, &mut session, &mut dialect, &mut io, INPUT_LIMIT);
+    let end = serve_stream(rt, alloc, &mut session, &mut dialect, io, INPUT_LIMIT);
     let (pass, doors) = session.into_parts();
     (end, pass, doors)
 }
 
 // Serves the lines of a script by the first session of a new store, closes the store, and gives the doors back.
-fn serve_store<R: Wait + Threads + Sync, S: Source, K: Sink, D: BesideDoor, G: Gate>(
+fn serve_store<R: Wait + Threads + Sync, I: Source + Sink, D: BesideDoor, G: Gate>(
     rt: &R,
     alloc: Global,
     shared: Shared,
     owner: Owner,
     gate: &G,
     doors: Doors<D>,
-    script: &mut S,
-    out: &mut K,
+    io: &mut I,
 ) -> (End, Doors<D>)
     requires owner { IsOwnerOf shared owner }
     requires no_pass { owner.made ≡ 0 }
@@ -97,18 +82,19 @@ fn serve_store<R: Wait + Threads + Sync, S: Source, K: Sink, D: BesideDoor, G: G
     requires served { length doors ≡ shared.providers }
     requires true_doors { All D.is_true doors }
     ensures lines { ServedByOne (record { limits = shared.fixed.limits; page = shared.fixed.page_size })
-        (record { given = S.given script.old; left = S.left script.old; ends = S.ends script.old })
-        (record { given = S.given script.new; left = S.left script.new; ends = S.ends script.new })
-        (sum_by D.faults doors) (sum_by D.faults result.1) (K.written out.old) (K.written out.new) result.0 }
-    ensures read_faults { RoseBy (end_read_faults result.0) (S.read_faults script.old) (S.read_faults script.new) }
-    ensures write_faults { RoseBy (end_write_faults result.0) (K.write_faults out.old) (K.write_faults out.new) }
+        (record { given = I.given io.old; left = I.left io.old; ends = I.ends io.old })
+        (record { given = I.given io.new; left = I.left io.new; ends = I.ends io.new })
+        (sum_by D.faults doors) (sum_by D.faults result.1) (I.written io.old) (I.written io.new) result.0 }
+    ensures read_faults { RoseBy (end_read_faults result.0) (I.read_faults io.old) (I.read_faults io.new) }
+    ensures write_faults { RoseBy (end_write_faults result.0) (I.write_faults io.old) (I.write_faults io.new) }
+    ensures objects { I.objects io.new ≡ I.objects io.old }
 {
     let mut owner = owner;
     let Ok(pass) = shared.pass(&mut owner) else {
         // No pass was made yet.
         unreachable!()
     };
-    let (end, pass, doors) = serve_session(rt, alloc, &shared, gate, pass, doors, script, out);
+    let (end, pass, doors) = serve_session(rt, alloc, &shared, gate, pass, doors, io);
     shared.take_back(&mut owner, pass);
     let Ok(desk) = shared.close(owner) else {
         // No pass is out.
@@ -119,72 +105,47 @@ fn serve_store<R: Wait + Threads + Sync, S: Source, K: Sink, D: BesideDoor, G: G
     (end, doors)
 }
 
-/// Serves the lines of a script by the one session of a new store of these settings, and writes the replies. The session's
-/// doors are the maker's, and go back to it; its pass goes back to the store, which is closed.
-pub(crate) fn serve_script<R: Wait + Threads + Sync, S: Source, K: Sink, M: DoorMaker, G: Gate>(
+/// The command `run`: answers the lines of a script by the one session of a new store of these settings. The session's doors are
+/// the maker's, and go back to it; its pass goes back to the store, which is closed.
+pub(crate) fn serve_script<
+    'a,
+    R: Wait + Threads + Sync,
+    S: Source,
+    K: Sink,
+    L: Listener,
+    M: DoorMaker,
+    G: Gate,
+>(
     rt: &R,
     alloc: Global,
     settings: &Settings,
-    script: &mut S,
-    out: &mut K,
-    maker: &mut M,
+    objects: &mut Objects<'a, S, K, L, M>,
     gate: &G,
 ) -> Status
 where
     M::Door: BesideDoor,
-    requires true_doors { M.is_true maker.old }
-    ensures served { (files files' : ℕ) → ServedScript (fixed_of settings.now) (IsCalm M.Door.faults)
-        (record {
-          given = S.given script.old;
-          left = S.left script.old;
-          written = K.written out.old;
-          reads = S.read_faults script.old;
-          ends = S.ends script.old;
-          writes = K.write_faults out.old;
-          files = files;
-          doors = M.faults maker.old;
-        })
-        (record {
-          given = S.given script.new;
-          left = S.left script.new;
-          written = K.written out.new;
-          reads = S.read_faults script.new;
-          ends = S.ends script.new;
-          writes = K.write_faults out.new;
-          files = files';
-          doors = M.faults maker.new;
-        })
-        (code_of result) }
-    ensures read_faults { RoseBy 0 (S.read_faults script.old) (S.read_faults script.new) }
-    ensures write_faults { RoseBy 0 (K.write_faults out.old) (K.write_faults out.new) }
-    ensures door_faults { M.faults maker.new < 2 ^ 64 - 1 → M.faults maker.old ≤ M.faults maker.new }
-    ensures truth_stays { M.is_true maker.old ↔ M.is_true maker.new }
+    requires true_doors { M.is_true objects.old.doors.now }
+    ensures did { DidRun (fixed_of settings.now) (IsCalm M.Door.faults) (⟦<Objects<'a, S, K, L, M> as Standing>⟧.stands objects.old)
+        (⟦<Objects<'a, S, K, L, M> as Standing>⟧.stands objects.new) (code_of result) }
+    ensures none_fell { NoneFell (⟦<Objects<'a, S, K, L, M> as Standing>⟧.stands objects.old) (⟦<Objects<'a, S, K, L, M> as Standing>⟧.stands objects.new) }
+    ensures truth_stays { M.is_true objects.old.doors.now ↔ M.is_true objects.new.doors.now }
+    ensures names { ⟦<Objects<'a, S, K, L, M> as Standing>⟧.names objects.new ≡ ⟦<Objects<'a, S, K, L, M> as Standing>⟧.names objects.old }
 {
     // Laws that tell what was written, by the stream's end.
     transcripts_are_legal();
     endings_hold();
-    let Ok(doors) = Doors::new(alloc, maker, settings.providers) else {
+    let Ok(doors) = Doors::new(alloc, objects.doors, settings.providers) else {
         return Status::OutOfMemory;
     };
-    let Ok((shared, owner)) = Shared::new(
-        alloc,
-        settings.limits,
-        page_size(settings),
-        settings.providers,
-        settings.replicas,
-    ) else {
-        doors.back(maker);
+    let Ok((shared, owner)) = new_store(alloc, settings, settings.limits) else {
+        doors.back(objects.doors);
         return Status::OutOfMemory;
     };
-    let (end, doors) = serve_store(rt, alloc, shared, owner, gate, doors, script, out);
-    doors.back(maker);
-    match end {
-        End::InputEnd | End::Quit => Status::Done,
-        End::ReadFault => Status::ReadFault,
-        End::WriteFault => Status::WriteFault,
-        End::InputTooLong => Status::InputTooLong,
-        End::NoMemory => Status::OutOfMemory,
-        // A script isn't cut.
-        End::Cut => unreachable!(),
-    }
+    let mut io = Pair {
+        source: objects.script,
+        sink: objects.out,
+    };
+    let (end, doors) = serve_store(rt, alloc, shared, owner, gate, doors, &mut io);
+    doors.back(objects.doors);
+    Status::after(end)
 }

@@ -1,8 +1,13 @@
 ghost use Rattle.std.specs.Prelude.{◌≡◌};
 ghost use Rattle.faults.specs.Counts.{RoseBy};
+ghost use Rattle.blobseer_run.specs.Conversation.{status_after};
 ghost use Rattle.blobseer_run.specs.Status.{code_of, error_line, Tells};
 
 use ports::stream::Sink;
+use server_core::End;
+
+/// The most bytes that a command takes of its input.
+pub(crate) const INPUT_LIMIT: u64 = 4_294_967_296;
 
 /// How a run ended.
 #[derive(Clone, Copy, Debug, PartialEq, Eq)]
@@ -29,6 +34,19 @@ pub(crate) enum Status {
 
 impl Status {
     ghost use Rattle.blobseer_run.specs.Status.{code_of, error_line};
+
+    /// How a command ends whose conversation over the input and the output ended so.
+    pub(crate) fn after(end: End) -> Status
+        ensures { result ≡ status_after end }
+    {
+        match end {
+            End::InputEnd | End::Quit | End::Cut => Status::Done,
+            End::ReadFault => Status::ReadFault,
+            End::WriteFault => Status::WriteFault,
+            End::InputTooLong => Status::InputTooLong,
+            End::NoMemory => Status::OutOfMemory,
+        }
+    }
 
     /// The number that a process ends with.
     pub(crate) fn code(self) -> u8

@@ -20,11 +20,11 @@ returns-clause-lines g c =
     let one : c.take_back.new.owner.made ≡ 1 = ap (λ (o : OwnerView Event DeskFixed). o.made) c.take_back.ensures.counts.1 ∙ made in
     let caller : pass.caller ≡ 1 = ap (λ (p : PassView Event DeskFixed). p.caller) given.pass ∙ omega (arith, c.requires.no_pass) in
     let none : pass.seen ≡ [] = ap (λ (p : PassView Event DeskFixed). p.seen) given.pass ∙ c.requires.new in
-    let script = c.args.script.now in
-    let after = served.new.script in
-    let before : Input = record { given = g.S.Ends.given script; left = g.S.Ends.left script; ends = g.S.Ends.ends script } in
-    let later : Input = record { given = g.S.Ends.given after; left = g.S.Ends.left after; ends = g.S.Ends.ends after } in
-    let L : Session → Type 0 = λ s. ServedLines (record { session = s; faults = sum_by g.D.Door.faults c.args.doors; written = g.K.Ends.written c.args.out.now }) before later (events back.seen) (sum_by g.D.Door.faults served.result.2) (g.K.Ends.written served.new.out) served.result.0 in
+    let io = c.args.io.now in
+    let after = served.new.io in
+    let before : Input = record { given = g.I.Ends.given io; left = g.I.Ends.left io; ends = g.I.Ends.ends io } in
+    let later : Input = record { given = g.I.Ends.given after; left = g.I.Ends.left after; ends = g.I.Ends.ends after } in
+    let L : Session → Type 0 = λ s. ServedLines (record { session = s; faults = sum_by g.D.Door.faults c.args.doors; written = g.I.Ends.written io }) before later (events back.seen) (sum_by g.D.Door.faults served.result.2) (g.I.Ends.written after) served.result.0 in
     record {
       seen = events back.seen;
       own = own_there c.take_back.new.owner.made c.in-Ok-close.desk.history c.take_back.new.owner.seen back.seen one c.in-Ok-close.ensures.no_other c.in-Ok-close.ensures.history c.take_back.ensures.begins.1 served.ensures.pass.log.tags;

@@ -1,0 +1,31 @@
+-- How a measure ended, from what its parts did.
+use Rattle.std.proofs.Common.{◌≡◌, ℕ, List, [], refl, sym, subst}
+use Rattle.std.specs.Prelude.{Option}
+use Rattle.std.specs.Io.KnownBytes.{Appends}
+use Rattle.std.proofs.KnownBytes.{Appends-nil}
+use Rattle.blobseer_run.specs.Outside.{Outside, LeavesInput, LeavesNet, Rises}
+use Rattle.blobseer_run.specs.Measuring.{Measured, DidMeasure}
+use Rattle.blobseer_run.specs.Writing.{WritesLine, ToldLine}
+use Rattle.blobseer_run.specs.Status.{out_of_memory, load_ended_early}
+
+module _ (lines : List ℕ) (old new : Outside) (input : LeavesInput old new) (net : LeavesNet old new) where
+  pub whole_there : (told : List ℕ) (status : ℕ) → told ≡ lines → ToldLine told old.written new.written old.writes new.writes status → DidMeasure lines old new status
+  whole_there told status is t = record {
+    text = t.text;
+    adds = t.adds;
+    ended = Measured.whole (subst (λ (line : List ℕ). WritesLine line t.text old.writes new.writes status) is t.is_line);
+    input = input;
+    net = net;
+  }
+
+  module _ (written : new.written ≡ old.written) where
+    unwritten : (status : ℕ) → Measured lines [] old.doors new.doors old.writes new.writes status → DidMeasure lines old new status
+    unwritten status measured =
+        let P : Option (List ℕ) → Type 0 = λ o. Appends old.written o [] in
+        record { text = []; adds = subst P (sym written) (Appends-nil old.written); ended = measured; input = input; net = net }
+
+    pub starved_there : DidMeasure lines old new out_of_memory
+    starved_there = unwritten out_of_memory (Measured.starved refl refl)
+
+    pub early_there : Rises old.doors new.doors → DidMeasure lines old new load_ended_early
+    early_there rose = unwritten load_ended_early (Measured.early refl rose refl)

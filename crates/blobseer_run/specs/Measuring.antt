@@ -1,0 +1,23 @@
+-- What a command promises that measures the store: the lines that it comes to.
+use Rattle.std.specs.Prelude.{◌≡◌, ℕ, List, []}
+use Rattle.std.specs.Io.KnownBytes.{Appends}
+use Rattle.blobseer_run.specs.Status.{out_of_memory, load_ended_early}
+use Rattle.blobseer_run.specs.Writing.{WritesLine}
+use Rattle.blobseer_run.specs.Outside.{Outside, LeavesInput, LeavesNet, Rises}
+
+-- How a measure ended, by the status and by the text that was written.
+pub data Measured (lines text : List ℕ) (doors doors' writes writes' status : ℕ) : Type 0 where
+  -- all of its callers came to their ends, and the lines were told
+  whole : WritesLine lines text writes writes' status → Measured lines text doors doors' writes writes' status
+  -- a page was lost
+  early : (status ≡ load_ended_early) → Rises doors doors' → (text ≡ []) → Measured lines text doors doors' writes writes' status
+  -- no memory was found
+  starved : (status ≡ out_of_memory) → (text ≡ []) → Measured lines text doors doors' writes writes' status
+
+-- The store was measured, the output got the text, and the input and the listener were left alone.
+pub record DidMeasure (lines : List ℕ) (old new : Outside) (status : ℕ) : Type 0 where
+  pub text : List ℕ
+  pub adds : Appends old.written new.written text
+  pub ended : Measured lines text old.doors new.doors old.writes new.writes status
+  pub input : LeavesInput old new
+  pub net : LeavesNet old new
