@@ -13,3 +13,4 @@ mod line;
 mod reply;
 
 pub use dialect::ScriptDialect;
+pub use reply::reply_line;
