@@ -16,7 +16,7 @@ use node_store::{Folds, NodeHouse, Row};
 use page_store::{NoMemory, PageHouse, Pages};
 use publisher::{FinishFault, Window};
 use range_log::{OpenCopy, OpenList, OpenTouch};
-use range_reader::{ReadFault, stated};
+use range_reader::{ReadFault, holder, stated};
 use snapshot::Snapshot;
 use std::alloc::Global;
 use std::marker::{Brand, Model};
@@ -300,6 +300,26 @@ impl Blob {
         let snapshot = &ticket.hints().snapshot;
         let most = stated(snapshot, &self.nodes, offset, count, &mut steps)?;
         Ok((most, steps.taken()))
+    }
+
+    /// How many bytes the stored page has that holds byte `at` of the version that was published for the ticket. None past its
+    /// end.
+    pub fn holder_len(&self, ticket: &Ticket, at: u64) -> Option<u32>
+        requires { IsTicketOf self.now ticket.now }
+    {
+        self.holder_len_counted::<Brand>(ticket, at, Blank::new(1))
+    }
+
+    // The same, counted in the blank.
+    fn holder_len_counted<L: Ledger>(&self, ticket: &Ticket, at: u64, blank: Blank) -> Option<u32>
+        requires own { IsTicketOf self.now ticket.now }
+        requires name { blank.name ≡ L.name }
+        requires parts { blank.parts ≡ L.parts }
+        requires some { 0 < blank.parts }
+    {
+        let mut steps = Steps::<L>::open(blank);
+        let stored = holder(&ticket.hints().snapshot, &self.nodes, at, &mut steps)?;
+        Some(stored.len())
     }
 
     /// The visit bound of a read of a version, computed plainly from what all updates touch and write.
