@@ -21,6 +21,30 @@ pub record Outside : Type 0 where
   pub net : Net
   pub doors : ℕ
 
+-- an input, and an output
+pub record Incoming : Type 0 where
+  pub given : Option (List ℕ)
+  pub left : Option (List ℕ)
+  pub reads : ℕ
+  pub ends : ℕ
+
+pub record Outgoing : Type 0 where
+  pub written : Option (List ℕ)
+  pub writes : ℕ
+
+-- the objects, one by one
+abbrev pub outside : Incoming → Outgoing → Net → ℕ → Outside
+outside input output net doors = record {
+  given = input.given;
+  left = input.left;
+  reads = input.reads;
+  ends = input.ends;
+  written = output.written;
+  writes = output.writes;
+  net = net;
+  doors = doors;
+}
+
 -- these bytes came off the input, which gave them and has them no more
 pub record TakesOff (old new : Outside) (bytes : List ℕ) : Type 0 where
   pub gave : Appends old.given new.given bytes

@@ -64,7 +64,8 @@ where
     L::Peer: Drop + Send,
     M::Door: BesideDoor + Drop + Send,
     requires true_doors { M.is_true objects.old.doors.now }
-    ensures did { DidServe settings.now.connections (⟦<Objects<'a, S, K, L, M> as Standing>⟧.stands objects.old) (⟦<Objects<'a, S, K, L, M> as Standing>⟧.stands objects.new) (code_of result) }
+    ensures did { DidServe settings.now.connections (⟦<Objects<'a, S, K, L, M> as Standing>⟧.stands objects.old)
+        (⟦<Objects<'a, S, K, L, M> as Standing>⟧.stands objects.new) (code_of result) }
     ensures none_fell { NoneFell (⟦<Objects<'a, S, K, L, M> as Standing>⟧.stands objects.old) (⟦<Objects<'a, S, K, L, M> as Standing>⟧.stands objects.new) }
     ensures truth_stays { M.is_true objects.old.doors.now ↔ M.is_true objects.new.doors.now }
     ensures names { ⟦<Objects<'a, S, K, L, M> as Standing>⟧.names objects.new ≡ ⟦<Objects<'a, S, K, L, M> as Standing>⟧.names objects.old }

@@ -60,7 +60,10 @@ impl<'a, S: Source, K: Sink, L: Listener, M: DoorMaker> Standing for Objects<'a,
       ends = S.ends o.script.now;
       written = K.written o.out.now;
       writes = K.write_faults o.out.now;
-      net = record { listens = L.listens o.net.now; handing = record { handed = L.handed o.net.now; is_done = L.is_done o.net.now; faults = L.faults o.net.now } };
+      net = record {
+        listens = L.listens o.net.now;
+        handing = record { handed = L.handed o.net.now; is_done = L.is_done o.net.now; faults = L.faults o.net.now };
+      };
       doors = M.faults o.doors.now;
     } };
 

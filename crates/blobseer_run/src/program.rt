@@ -1,7 +1,7 @@
 ghost use Rattle.std.specs.Prelude.{◌≡◌, ◌↔◌, ℕ, ◌-◌, ◌^◌, ◌<◌, ◌≤◌, List, map};
 ghost use Rattle.std.specs.String.{string_bytes};
 ghost use Rattle.faults.specs.Counts.{RoseBy};
-ghost use Rattle.blobseer_run.specs.Outside.{NoneFell};
+ghost use Rattle.blobseer_run.specs.Outside.{outside, NoneFell};
 ghost use Rattle.blobseer_run.specs.Script.{IsCalm};
 ghost use Rattle.blobseer_run.specs.Run.{Did, Ran, RefusesWords, RefusesSettings, IsTaken, IsComplete};
 ghost use Rattle.blobseer_run.specs.Status.{code_of, Tells};
@@ -45,7 +45,8 @@ where
     L::Peer: Drop + Send,
     M::Door: BesideDoor + Drop + Send,
     requires true_doors { M.is_true objects.old.doors.now }
-    ensures did { Did command settings.now (IsCalm M.Door.faults) (⟦<Objects<'a, S, K, L, M> as Standing>⟧.stands objects.old) (⟦<Objects<'a, S, K, L, M> as Standing>⟧.stands objects.new) (code_of result) }
+    ensures did { Did command settings.now (IsCalm M.Door.faults) (⟦<Objects<'a, S, K, L, M> as Standing>⟧.stands objects.old)
+        (⟦<Objects<'a, S, K, L, M> as Standing>⟧.stands objects.new) (code_of result) }
     ensures none_fell { NoneFell (⟦<Objects<'a, S, K, L, M> as Standing>⟧.stands objects.old) (⟦<Objects<'a, S, K, L, M> as Standing>⟧.stands objects.new) }
     ensures truth_stays { M.is_true objects.old.doors.now ↔ M.is_true objects.new.doors.now }
     ensures names { ⟦<Objects<'a, S, K, L, M> as Standing>⟧.names objects.new ≡ ⟦<Objects<'a, S, K, L, M> as Standing>⟧.names objects.old }
@@ -63,18 +64,19 @@ where
 /// end or to a line that asks to end. The replies to what was read are written before more is read, and what was answered
 /// isn't kept. With the command `serve` it serves connections of `net`, each by one of many sessions of a new store, and then
 /// writes how many they were. With the command `load` it runs a load of many workers over a new store with the greatest limits,
-/// and writes its three lines, which are the same at every schedule. It answers the number that the process ends with.
+/// and writes its three lines, which are the same at every schedule. With the command `node` it answers frames as a new page node;
+/// a frame that the input ends in has no reply. It answers the number that the process ends with.
 ///
 /// | number | when |
 /// |---|---|
 /// | 0 | the input was answered, up to its end or to the first whole request to end; or, with `serve`, as many connections as were asked for; or the load did all its operations |
 /// | 1 | the words are refused |
 /// | 2 | the settings file is longer than 65,536 bytes or isn't one of settings, or the replicas are more than the providers |
-/// | 3 | a read of the settings file failed; or a read of `script`, and the lines before it that were ended are answered |
+/// | 3 | a read of the settings file failed; or a read of `script`, and the lines before it that were ended, or the whole frames, are answered |
 /// | 4 | a write on `out` failed |
 /// | 5 | no memory was found |
 /// | 6 | the listener failed, and the connections before were served |
-/// | 7 | 4,294,967,296 bytes were taken; the lines in them that were ended are answered |
+/// | 7 | 4,294,967,296 bytes were taken; the lines in them that were ended, or the whole frames, are answered |
 /// | 8 | the load ended early, as a page was lost |
 ///
 /// The first cause that comes decides: the words, the read of the file, its text, what both come to, and then the command.
@@ -110,33 +112,21 @@ where
 
     // What it was told, what it took and wrote, and how it ended.
     ensures ran { Ran (map string_bytes words.now) (F.known files.old) (IsCalm M.Door.faults) (F.faults files.old) (F.faults files.new)
-        (record {
-          given = S.given script.old;
-          left = S.left script.old;
-          reads = S.read_faults script.old;
-          ends = S.ends script.old;
-          written = K.written out.old;
-          writes = K.write_faults out.old;
-          doors = M.faults doors.old;
-          net = record { listens = L.listens net.old; handing = record { handed = L.handed net.old; is_done = L.is_done net.old; faults = L.faults net.old } };
-        })
-        (record {
-          given = S.given script.new;
-          left = S.left script.new;
-          reads = S.read_faults script.new;
-          ends = S.ends script.new;
-          written = K.written out.new;
-          writes = K.write_faults out.new;
-          doors = M.faults doors.new;
-          net = record { listens = L.listens net.new; handing = record { handed = L.handed net.new; is_done = L.is_done net.new; faults = L.faults net.new } };
-        }) result }
+        (outside (record { given = S.given script.old; left = S.left script.old; reads = S.read_faults script.old; ends = S.ends script.old })
+        (record { written = K.written out.old; writes = K.write_faults out.old })
+        (record { listens = L.listens net.old; handing = record { handed = L.handed net.old; is_done = L.is_done net.old; faults = L.faults net.old } })
+        (M.faults doors.old))
+        (outside (record { given = S.given script.new; left = S.left script.new; reads = S.read_faults script.new; ends = S.ends script.new })
+        (record { written = K.written out.new; writes = K.write_faults out.new })
+        (record { listens = L.listens net.new; handing = record { handed = L.handed net.new; is_done = L.is_done net.new; faults = L.faults net.new } })
+        (M.faults doors.new)) result }
 
     // When words and settings are refused.
     ensures words_refused { RefusesWords (map string_bytes words.now) result }
     ensures settings_refused { RefusesSettings (map string_bytes words.now) (F.known files.old) (F.faults files.old) (F.faults files.new) result }
 
-    // Where words and settings are taken and nothing outside fails, it comes to its end, unless no memory is found. With `run` the input may also be too
-    // long, and a load may end early where a door failed.
+    // Where words and settings are taken and nothing outside fails, it comes to its end, unless no memory is found. An input that is answered may also
+    // be too long, and a load may end early where a door failed.
     ensures complete { IsTaken (map string_bytes words.now) (F.known files.old)
         → ¬ RoseBy 1 (S.read_faults script.old) (S.read_faults script.new)
         → ¬ RoseBy 1 (K.write_faults out.old) (K.write_faults out.new)
