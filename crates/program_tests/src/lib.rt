@@ -1,5 +1,9 @@
-//! Tests of `run`: whole scripts with their replies, outputs and inputs that fail, and doors that do.
+//! Tests of `run`: whole scripts with their replies, frames to a node, outputs and inputs that fail, and doors that do.
 #![tactic(auto)]
 
+#[cfg(test)]
+mod nodes;
+#[cfg(test)]
+mod program;
 #[cfg(test)]
 mod run;

@@ -1,24 +1,14 @@
 //! Whole scripts with their replies, and how a run ends.
-ghost use Rattle.std.specs.Prelude.{◌≡◌, ◌≤◌, length};
+ghost use Rattle.std.specs.Prelude.{◌≤◌, length};
 
-use blobseer_run::run;
-use page_fan::BesideDoor;
-use page_store::{DoorMaker, FlakyMaker, PlainMaker};
-use ports::gate::FreeGate;
-use ports::mem_files::MemFiles;
-use ports::mem_listener::MemListener;
-use ports::memory::{MemSink, MemSource};
-use ports::pair::Pair;
+use crate::program::{ROOM, Ran, check_end, check_ran, memory_of, run_words};
+use page_store::{FlakyMaker, PlainMaker};
 use std::alloc::{AllocError, Global};
-use std::collections::{BTreeMap, VecDeque};
 use std::process::Abort;
 use std::sync::Wait;
 use std::thread::Threads;
 
 static PIECES: [usize; 4] = [1, 2, 7, 65536];
-
-// More than any transcript here has.
-const ROOM: usize = 4096;
 
 const FIRST: &str = "create\nappend 1 616263646566\nread 1 1 0 6\n";
 
@@ -156,105 +146,6 @@ static ROWS: [(&str, &str); 25] = [
     ),
 ];
 
-// What a run wrote, and how it ended.
-#[derive(Drop)]
-struct Ran {
-    out: MemSink,
-    err: MemSink,
-    status: u8,
-}
-
-// The run of a script wrote these replies and this error, and ended with that status.
-fn check_ran<R: Abort>(rt: &R, ran: &Ran, replies: &[u8], err: &str, status: u8, script: &str) {
-    assert_eq!(rt; ran.out.bytes(), replies, "{script}");
-    check_end(rt, ran, err, status, script);
-}
-
-fn check_end<R: Abort>(rt: &R, ran: &Ran, err: &str, status: u8, script: &str) {
-    assert_eq!(rt; ran.status, status, "{script}");
-    assert_eq!(rt; ran.err.bytes(), err.as_bytes(), "{script}");
-}
-
-// A listener to which nobody comes.
-fn nobody<'a>(alloc: Global) -> MemListener<Pair<'a, MemSource, MemSink>> {
-    MemListener::new(String::new(alloc), VecDeque::new(alloc), Vec::new(alloc))
-}
-
-// The status of a run with the words of a line. Nothing is said of it here, so that what `run` ensures stands in no goal of the
-// tests.
-fn status_of<R: Wait + Threads + Sync + Abort, M: DoorMaker>(
-    rt: &R,
-    alloc: Global,
-    line: &str,
-    source: MemSource,
-    out: &mut MemSink,
-    err: &mut MemSink,
-    doors: &mut M,
-) -> u8
-where
-    M::Door: BesideDoor + Drop + Send,
-    requires { M.is_true doors.old }
-{
-    let words = words_of(rt, alloc, line);
-    let mut source = source;
-    let mut files = MemFiles::new(alloc, BTreeMap::new(alloc));
-    let mut net = nobody(alloc);
-    run(
-        rt,
-        alloc,
-        words.as_slice(),
-        &mut source,
-        out,
-        err,
-        &mut net,
-        &mut files,
-        doors,
-        &FreeGate,
-    )
-}
-
-// A run with the words of a line, over an input, an output that takes so many bytes, and doors of that maker.
-fn run_words<R: Wait + Threads + Sync + Abort, M: DoorMaker>(
-    rt: &R,
-    alloc: Global,
-    line: &str,
-    source: MemSource,
-    room: usize,
-    doors: &mut M,
-) -> Ran
-where
-    M::Door: BesideDoor + Drop + Send,
-    requires { M.is_true doors.old }
-{
-    let mut out = MemSink::new(alloc, room).expect(rt, "memory");
-    let mut err = MemSink::new(alloc, ROOM).expect(rt, "memory");
-    let status = status_of(rt, alloc, line, source, &mut out, &mut err, doors);
-    Ran { out, err, status }
-}
-
-// An input in pieces of that length, whose reads fail as told.
-fn memory_of<R: Abort>(
-    rt: &R,
-    alloc: Global,
-    script: &str,
-    piece: usize,
-    failing: &[bool],
-) -> MemSource {
-    let bytes = script.as_bytes().to_vec(alloc).expect(rt, "memory");
-    let failing = failing.to_vec(alloc).expect(rt, "memory");
-    MemSource::new(bytes, piece.max(1), failing)
-}
-
-// The words of a line, which stand between single spaces.
-fn words_of<R: Abort>(rt: &R, alloc: Global, line: &str) -> Vec<String> {
-    let mut words = Vec::new(alloc);
-    for word in line.split(' ') {
-        let word = String::from_str(alloc, word).expect(rt, "memory");
-        words.push(word).expect(rt, "memory");
-    }
-    words
-}
-
 // A run of a script in pieces of that length, whose reads fail as told, over an output that takes so many bytes.
 fn run_script<R: Wait + Threads + Sync + Abort>(
     rt: &R,
@@ -264,7 +155,7 @@ fn run_script<R: Wait + Threads + Sync + Abort>(
     failing: &[bool],
     room: usize,
 ) -> Ran {
-    let source = memory_of(rt, alloc, script, piece, failing);
+    let source = memory_of(rt, alloc, script.as_bytes(), piece, failing);
     let mut doors = PlainMaker::new();
     run_words(rt, alloc, "run", source, room, &mut doors)
 }
@@ -276,7 +167,7 @@ fn check_script<R: Wait + Threads + Sync + Abort>(
     replies: &str,
     piece: usize,
 ) {
-    let source = memory_of(rt, alloc, script, piece, &[]);
+    let source = memory_of(rt, alloc, script.as_bytes(), piece, &[]);
     let mut doors = PlainMaker::new();
     let ran = run_words(rt, alloc, SMALL_PAGES, source, ROOM, &mut doors);
     assert_eq!(rt;
@@ -459,7 +350,7 @@ fn an_update_that_no_door_takes_is_a_reply_and_numbers_nothing(rt: HostRuntime) 
     let mut doors = failing_doors(&rt, rt.alloc());
     let script = "create\nappend 1 61\nstatus 1\n";
     let replies = "blob 1\nerror page-fault 0\nstatus assigned 0 published 0 held 0\n";
-    let source = memory_of(&rt, rt.alloc(), script, 64, &[]);
+    let source = memory_of(&rt, rt.alloc(), script.as_bytes(), 64, &[]);
     let ran = run_words(&rt, rt.alloc(), "run", source, ROOM, &mut doors);
     check_ran(&rt, &ran, replies.as_bytes(), "", 0, script);
     assert_eq!(rt; doors.faults(), 2, "a door for each of two replicas");
