@@ -1,2 +1,3 @@
+mod Worked
 mod FieldLemmas
 mod NumberLemmas

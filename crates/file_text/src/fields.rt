@@ -138,10 +138,7 @@ pub fn path_and_bytes(alloc: Global, text: &[u8]) -> Result<Option<(Path, Bytes)
 }
 
 /// The path and the three numbers that are the fields of a text.
-pub fn path_and_range(
-    alloc: Global,
-    text: &[u8],
-) -> Result<Option<(Path, u64, u64, u64)>, NoMemory>
+pub fn path_and_range(alloc: Global, text: &[u8]) -> Result<Option<(Path, u64, u64, u64)>, NoMemory>
     ensures { IfOk result (λ all. all ≡ path_and_range (fields_of text.now)) }
 {
     let (field, Some(rest)) = cut(text) else {

@@ -57,21 +57,13 @@ pub enum FileLine {
 #[derive(Drop)]
 pub enum FileFault {
     /// The path isn't there.
-    NoName {
-        path: Path,
-    },
+    NoName { path: Path },
     /// The path is there, or is `/`.
-    Exists {
-        path: Path,
-    },
+    Exists { path: Path },
     /// The path is a file.
-    NotFolder {
-        path: Path,
-    },
+    NotFolder { path: Path },
     /// The path is a folder.
-    NotFile {
-        path: Path,
-    },
+    NotFile { path: Path },
     /// There are 65,535 paths beside `/`, as many as there may be.
     TooManyNames,
     /// What the store's session refuses, and a line that is none.

@@ -56,11 +56,7 @@ fn where_line(alloc: Global, text: &[u8]) -> Result<Option<FileLine>, NoMemory>
 }
 
 // The line of a command with fields behind it, if they are those that it has.
-fn line_with(
-    alloc: Global,
-    command: FileCommand,
-    text: &[u8],
-) -> Result<Option<FileLine>, NoMemory>
+fn line_with(alloc: Global, command: FileCommand, text: &[u8]) -> Result<Option<FileLine>, NoMemory>
     ensures { IfOk result (λ line. line ≡ makes command (fields_of text.now)) }
 {
     match command {

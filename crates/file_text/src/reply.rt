@@ -66,12 +66,7 @@ fn entries_line(alloc: Global, entries: &[Listed]) -> Result<Vec<u8>, AllocError
 }
 
 // One number more, with a comma before it if it isn't the first.
-fn add_number(
-    alloc: Global,
-    line: &mut Vec<u8>,
-    first: bool,
-    number: u32,
-) -> Result<(), AllocError>
+fn add_number(alloc: Global, line: &mut Vec<u8>, first: bool, number: u32) -> Result<(), AllocError>
     ensures { OnOk result (line.new.items ≡ line.old.items ++ number_text first number) }
 {
     if !first {
