@@ -7,6 +7,7 @@ ghost use Rattle.text_lines.specs.Begun.{GoesOnAs, TakesSome, TakesFront};
 use crate::begun::{Begun, item, nothing, push_all};
 use crate::body::Body;
 use faults::NoMemory;
+use memchr::memchr;
 use std::alloc::Global;
 use std::marker::Model;
 use std::mem;
@@ -17,7 +18,7 @@ fn before(piece: &[u8], byte: u8) -> usize
     ensures without { IsWithout byte (take result piece.now) }
     ensures enough { result < length piece.now → slice_index piece.now result ≡ byte }
 {
-    match piece.iter().position(|b| *b == byte) {
+    match memchr(byte, piece) {
         Some(at) => at,
         None => piece.len(),
     }
