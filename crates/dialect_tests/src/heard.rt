@@ -7,11 +7,13 @@ use request_form::{Dialect, Ending, Fault, Heard, Request};
 use std::alloc::Global;
 use std::process::Abort;
 
-fn add<R: Abort>(rt: &R, told: &mut String, part: &str) {
+/// Adds a part to a text.
+pub fn add<R: Abort>(rt: &R, told: &mut String, part: &str) {
     told.push_str(part).expect(rt, "memory");
 }
 
-fn add_number<R: Abort>(rt: &R, alloc: Global, told: &mut String, number: u64) {
+/// Adds a number to a text, behind a space.
+pub fn add_number<R: Abort>(rt: &R, alloc: Global, told: &mut String, number: u64) {
     let part = format!(in alloc; " {number}").expect(rt, "memory");
     add(rt, told, part.as_str());
 }

@@ -1,6 +1,8 @@
-//! Tests of lines and of frames: what a stream says, in pieces of any length, and how replies are written.
+//! Tests of lines and of frames: what a stream says, in pieces of any length, and how replies are written. The same of lines of files.
 #![tactic(auto)]
 
+#[cfg(test)]
+mod files;
 #[cfg(test)]
 mod frames;
 #[cfg(test)]
