@@ -4,7 +4,6 @@ use Rattle.std.specs.Fmt.{digits}
 use Rattle.item_stream.specs.Items.{ItemStream}
 use Rattle.hex.specs.Hex.{decode_pairs, encode_with}
 use Rattle.request_form.specs.declared.form.Fault.TheVariants as StoreFaults
-use Rattle.file_text.specs.declared.form.FileLine.{FileLine}
 use Rattle.file_text.specs.declared.form.FileLine.TheVariants as Asks
 use Rattle.file_text.specs.declared.form.FileHeard.{FileHeard}
 use Rattle.file_text.specs.declared.form.FileHeard.TheVariants.{Asked, Wrong}
