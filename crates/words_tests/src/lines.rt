@@ -7,7 +7,7 @@ use std::sync::Wait;
 use std::thread::Threads;
 
 // Command lines that need no file, and their status.
-static LINES: [(&str, u8); 60] = [
+static LINES: [(&str, u8); 66] = [
     ("run", 0),
     ("run --page 4", 0),
     ("run --page=1048576", 0),
@@ -75,6 +75,12 @@ static LINES: [(&str, u8); 60] = [
     ("load --max-open 2", 1),
     ("load --listen 127.0.0.1:0", 1),
     ("load --providers 1", 2),
+    ("node --page 3", 1),
+    ("node --page 4 --page 4", 1),
+    ("node --replicas 5", 1),
+    ("node --settings s", 1),
+    ("node --seed 1", 1),
+    ("node node", 1),
 ];
 
 fn check_row<R: Wait + Threads + Sync + Abort>(rt: &R, alloc: Global, line: &str, status: u8) {
