@@ -1,0 +1,5 @@
+pub mod Recents
+pub mod Wheres
+pub mod Alone
+pub mod Lying
+pub mod StreamEnds

@@ -1,0 +1,6 @@
+pub mod Files
+pub mod Sessions
+pub mod Faults
+pub mod Laws
+pub mod Served
+pub mod Places

@@ -1,0 +1,11 @@
+//! Laws of what a file session is answered. A law is the contract of a function that does nothing.
+ghost use Rattle.file_layer.specs.Laws.{OwnFilesAreAlone};
+
+/// A file session that in the end has seen its own entries and its own events alone was alone all along: every gap in the store's
+/// history and in the names' was empty.
+pub fn own_files_are_alone()
+    ensures { OwnFilesAreAlone }
+{
+    request_form::laws::transcripts_hold();
+    request_form::laws::own_events_are_made();
+}
