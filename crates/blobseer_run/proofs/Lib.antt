@@ -4,6 +4,9 @@ pub mod Legal
 pub mod Conversations
 pub mod Runs
 pub mod Nodes
+pub mod FilesAnswered
+pub mod FilesServed
+pub mod FilesStored
 pub mod Alone
 pub mod Stores
 pub mod Settling

@@ -42,10 +42,10 @@ pub gave_back : {D : Type 0} (faults : D → ℕ) (old new : List D) (doors mid 
     GaveBack (IsCalm faults) (sum_by faults old) (sum_by faults new) doors doors'
 gave_back {D} faults old new doors mid doors' fresh same rises = record { fresh = fresh; rises = omega (arith, same, rises); quiet = λ calm. sum_none faults calm new }
 
-rose_within : (n before after doors doors' : ℕ) → before ≡ 0 → min (doors + after) (2 ^ 64 - 1) ≤ doors' → RoseBy n before after → doors' < 2 ^ 64 - 1 → doors + n ≤ doors'
+pub rose_within : (n before after doors doors' : ℕ) → before ≡ 0 → min (doors + after) (2 ^ 64 - 1) ≤ doors' → RoseBy n before after → doors' < 2 ^ 64 - 1 → doors + n ≤ doors'
 rose_within n before after doors doors' fresh rises rose less = omega (arith, rose.by)
 
-rose_none : (n before after : ℕ) → before ≡ 0 → after ≡ 0 → RoseBy n before after → n ≡ 0
+pub rose_none : (n before after : ℕ) → before ≡ 0 → after ≡ 0 → RoseBy n before after → n ≡ 0
 rose_none n before after fresh quiet rose = omega (arith, rose.by)
 
 -- ---- a script that was served

@@ -14,6 +14,7 @@ use Rattle.blobseer_run.specs.Outside.{Outside}
 use Rattle.blobseer_run.specs.Conversation.{Dialogue, Ended}
 use Rattle.blobseer_run.specs.Script.{fixed_of, script}
 use Rattle.blobseer_run.specs.Node.{frames}
+use Rattle.blobseer_run.specs.Filing.{lines}
 use Rattle.blobseer_run.specs.Hosting.{Hosted, served_line}
 use Rattle.blobseer_run.specs.Writing.{WritesLine}
 use Rattle.blobseer_run.specs.Measuring.{Measured}
@@ -59,6 +60,8 @@ module _ (old new : Outside) (status : ℕ) where
   did_own Commands.Serve settings calm d = hosted_own settings.connections d.text d.ended
   did_own Commands.Load settings calm d = measured_own (load_lines (plan_of settings)) d.text d.ended
   did_own Commands.Node settings calm d = ended_own (frames settings.page) d.served.taken d.served.text d.served.rest d.served.ended
+  did_own Commands.Files settings calm d =
+      ended_own (lines (fixed_of settings) settings.providers calm old.doors new.doors) d.served.taken d.served.text d.served.rest d.served.ended
 
   module _ (words : List Bytes) (writes : ¬ RoseBy 1 old.writes new.writes) where
     -- it came to its end, as far as the command's own work goes
@@ -98,6 +101,8 @@ module _ (old new : Outside) (status : ℕ) where
     did_complete Commands.Serve settings calm asks reads peers d = hosted_complete settings.connections d.text peers d.ended
     did_complete Commands.Load settings calm asks reads peers d = measured_complete (load_lines (plan_of settings)) d.text Commands.Load asks refl d.ended
     did_complete Commands.Node settings calm asks reads peers d = ended_complete (frames settings.page) d.served.taken d.served.text d.served.rest Commands.Node asks refl reads d.served.ended
+    did_complete Commands.Files settings calm asks reads peers d =
+        ended_complete (lines (fixed_of settings) settings.providers calm old.doors new.doors) d.served.taken d.served.text d.served.rest Commands.Files asks refl reads d.served.ended
 
 some_none : (o : Option Order) (order : Order) → o ≡ Some order → o ≡ None → ⊥
 some_none o order e f = none-some order (sym f ∙ e)

@@ -9,6 +9,7 @@ pub mod Hosting
 pub mod Measuring
 pub mod Loading
 pub mod Node
+pub mod Filing
 pub mod Run
 pub mod Legal
 pub mod Serving

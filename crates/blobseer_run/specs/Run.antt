@@ -9,6 +9,7 @@ use Rattle.settings.specs.Words.{Bytes}
 use Rattle.blobseer_run.specs.Outside.{Outside, Rises}
 use Rattle.blobseer_run.specs.Script.{fixed_of, DidRun}
 use Rattle.blobseer_run.specs.Node.{DidNode}
+use Rattle.blobseer_run.specs.Filing.{DidFiles}
 use Rattle.blobseer_run.specs.Hosting.{DidServe}
 use Rattle.blobseer_run.specs.Loading.{plan_of, DidLoad}
 use Rattle.blobseer_run.specs.Told.{order_of_words, AsksFor, Settled, SettingsRefused, IsFileKnown, Stopped}
@@ -20,6 +21,7 @@ Did Commands.Run settings calm old new status = DidRun (fixed_of settings) calm 
 Did Commands.Serve settings calm old new status = DidServe settings.connections old new status
 Did Commands.Load settings calm old new status = DidLoad (plan_of settings) old new status
 Did Commands.Node settings calm old new status = DidNode settings.page old new status
+Did Commands.Files settings calm old new status = DidFiles (fixed_of settings) settings.providers calm old new status
 
 -- the command answers what comes in
 abbrev pub answers_input : Command → Bool
@@ -27,6 +29,7 @@ answers_input Commands.Run = true
 answers_input Commands.Serve = false
 answers_input Commands.Load = false
 answers_input Commands.Node = true
+answers_input Commands.Files = true
 
 -- the command measures the store
 abbrev pub measures : Command → Bool
@@ -34,6 +37,7 @@ measures Commands.Run = false
 measures Commands.Serve = false
 measures Commands.Load = true
 measures Commands.Node = false
+measures Commands.Files = false
 
 -- A run was stopped before its command did anything, or the command did its work. The files are read before it.
 pub data Ran (words : List Bytes) (known : Files) (calm : Type 0) (files files' : ℕ) (old new : Outside) (status : ℕ) : Type 0 where

@@ -6,6 +6,7 @@ ghost use Rattle.blobseer_run.specs.Script.{IsCalm};
 ghost use Rattle.blobseer_run.specs.Run.{Did, Ran, RefusesWords, RefusesSettings, IsTaken, IsComplete};
 ghost use Rattle.blobseer_run.specs.Status.{code_of, Tells};
 
+use crate::filing::answer_files;
 use crate::hosting::serve_peers;
 use crate::keeping::keep_pages;
 use crate::loading::run_load;
@@ -56,6 +57,7 @@ where
         Command::Serve => serve_peers(rt, alloc, settings, objects, gate),
         Command::Load => run_load(rt, alloc, settings, objects, gate),
         Command::Node => keep_pages(rt, alloc, settings, objects),
+        Command::Files => answer_files(rt, alloc, settings, objects, gate),
     }
 }
 
@@ -65,7 +67,8 @@ where
 /// isn't kept. With the command `serve` it serves connections of `net`, each by one of many sessions of a new store, and then
 /// writes how many they were. With the command `load` it runs a load of many workers over a new store with the greatest limits,
 /// and writes its three lines, which are the same at every schedule. With the command `node` it answers frames as a new page node;
-/// a frame that the input ends in has no reply. It answers the number that the process ends with.
+/// a frame that the input ends in has no reply. With the command `files` it answers lines about folders and files as a script, by
+/// the one file session of a new store. It answers the number that the process ends with.
 ///
 /// | number | when |
 /// |---|---|

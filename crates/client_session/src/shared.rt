@@ -114,6 +114,13 @@ impl Shared {
         self.providers
     }
 
+    /// There are as many houses of pages as providers. For proofs: it does nothing.
+    pub fn is_housed(&self)
+        ensures { length self.now.fixed.houses ≡ self.now.providers }
+    {
+        let _houses = self.houses();
+    }
+
     /// The desk under its lock.
     pub(crate) fn desk(&self) -> &SharedDesk
         ensures { result.now ≡ self.now.lock }

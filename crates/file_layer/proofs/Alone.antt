@@ -2,7 +2,7 @@
 use Rattle.std.proofs.Common.{◌≡◌, ◌⊎◌, inl, inr, ℕ, ◌+◌, Bool, true, false, List, [], ◌∷◌, ◌++◌, Option, Some, None, Result, Ok, Err, refl, sym, ap, subst, ◌∙◌, append_assoc, append-nil, arith}
 use Rattle.std.specs.Prelude.{◌≢◌, ◌==◌, if◌then◌else◌}
 use Rattle.std.proofs.lemmas.Bool.{false≢true, eq-eqb}
-use Rattle.item_stream.specs.Rounds.{Rounds}
+use Rattle.item_stream.specs.Rounds.{Rounds, sum_rounds}
 use Rattle.turn_lock.specs.History.{entries_by}
 use Rattle.blob_model.specs.History.{AllOther}
 use Rattle.blob_model.specs.declared.call.Event.{Event}
@@ -29,6 +29,7 @@ use Rattle.file_text.specs.declared.form.FileReply.{FileReply}
 use Rattle.file_text.specs.declared.form.FileHeard.{FileHeard}
 use Rattle.file_text.specs.declared.form.FileHeard.TheVariants.{Asked, Wrong}
 use Rattle.file_layer.specs.Files.{Files, among_others, nobody, with_store, with_names, LooksAtNames, EntersNames, AsksStore, AsksOf, OnBlob, OnFile, MkdirAnswer, MakesFile, OnFree, MakeAnswer, OnRecent, OnStat, StatAnswer, ListAnswer, WhereAnswer, FileAnswers, FileItemReply}
+use Rattle.file_layer.specs.Faults.{file_item_faults}
 use Rattle.file_layer.specs.Laws.{AllBy, SeesOwn}
 
 -- ---- lists of one's own entries and events
@@ -264,3 +265,12 @@ module _ (law : OwnIsAlone) (made : OwnEventsAreMade) where
   rounds_alone f (item ∷ items) [] f' own run = absurd run
   rounds_alone f (item ∷ items) (reply ∷ replies) f' own run =
       (run.0, (item_of f run.0 item reply).alone run.1 (own_before run.0 f' (rounds_grow run.0 items replies f' run.2) own), rounds_alone run.0 items replies f' own run.2)
+
+  -- the outside failed as often
+  pub alone_count : (f : Files) (items : List FileHeard) (replies : List FileReply) (f' : Files) (own : SeesOwn f') (run : Rounds (FileItemReply among_others) f items replies f')
+      → sum_rounds file_item_faults (FileItemReply nobody) f items replies f' (rounds_alone f items replies f' own run) ≡ sum_rounds file_item_faults (FileItemReply among_others) f items replies f' run
+  unfolding rounds_alone
+  alone_count f [] [] f' own run = refl
+  alone_count f [] (reply ∷ replies) f' own run = absurd run
+  alone_count f (item ∷ items) [] f' own run = absurd run
+  alone_count f (item ∷ items) (reply ∷ replies) f' own (mid, answer, run) = ap (λ (n : ℕ). file_item_faults mid item reply + n) (alone_count mid items replies f' own run)

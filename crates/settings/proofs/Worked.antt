@@ -1,6 +1,6 @@
 -- Worked rows, computed from the definitions alone.
 use Rattle.std.proofs.Common.{◌≡◌, [], ◌∷◌, Some, None, codes, refl}
-use Rattle.settings.specs.declared.table.Command.TheVariants.{Run, Serve, Node}
+use Rattle.settings.specs.declared.table.Command.TheVariants.{Run, Serve, Node, Files}
 use Rattle.settings.specs.Values.{nothing}
 use Rattle.settings.specs.Words.{given_by_words}
 use Rattle.settings.specs.Merged.{merged}
@@ -42,6 +42,12 @@ option_of_another_command = refl
 
 node_alone : given_by_words (codes "node" ∷ []) ≡ Some (Node, nothing)
 node_alone = refl
+
+files_alone : given_by_words (codes "files" ∷ []) ≡ Some (Files, nothing)
+files_alone = refl
+
+files_without_a_seed : given_by_words (codes "files" ∷ codes "--seed" ∷ codes "1" ∷ []) ≡ None
+files_without_a_seed = refl
 
 node_without_a_file : given_by_words (codes "node" ∷ codes "--settings" ∷ codes "s" ∷ []) ≡ None
 node_without_a_file = refl

@@ -3,7 +3,7 @@ use Rattle.std.specs.Prelude.{ℕ, nat_le, Bool, true, false, not, ◌&&◌, ◌
 use Rattle.std.specs.Str.{bytes_eq}
 use Rattle.std.specs.Int.{is_power_of_two}
 use Rattle.settings.specs.declared.table.Command.{Command}
-use Rattle.settings.specs.declared.table.Command.TheVariants.{Run, Serve, Load, Node}
+use Rattle.settings.specs.declared.table.Command.TheVariants.{Run, Serve, Load, Node, Files}
 use Rattle.settings.specs.declared.table.Key.{Key}
 use Rattle.settings.specs.declared.table.Key.TheVariants.{Page, Providers, Replicas, MaxSize, MaxVersions, MaxOpen, MaxBlobs, Workers, Connections, Seed, Ops}
 use Rattle.settings.specs.declared.table.Choice.{Choice}
@@ -13,13 +13,14 @@ use Rattle.settings.specs.declared.table.Range.{Range}
 -- ---- commands and their options
 
 abbrev pub commands : List Command
-commands = Run ∷ Serve ∷ Load ∷ Node ∷ []
+commands = Run ∷ Serve ∷ Load ∷ Node ∷ Files ∷ []
 
 abbrev pub command_name : Command → List ℕ
 command_name Run = codes "run"
 command_name Serve = codes "serve"
 command_name Load = codes "load"
 command_name Node = codes "node"
+command_name Files = codes "files"
 
 abbrev pub command_named : List ℕ → Option Command
 command_named word = find (λ c. bytes_eq (command_name c) word) commands
@@ -32,6 +33,8 @@ options_of Serve =
     ∷ Listen ∷ Number Workers ∷ Number Connections ∷ []
 options_of Load = Number Page ∷ Number Providers ∷ Number Replicas ∷ Settings ∷ Number Workers ∷ Number Seed ∷ Number Ops ∷ []
 options_of Node = Number Page ∷ []
+options_of Files =
+    Number Page ∷ Number Providers ∷ Number Replicas ∷ Settings ∷ Number MaxSize ∷ Number MaxVersions ∷ Number MaxOpen ∷ Number MaxBlobs ∷ []
 
 -- ---- keys and their numbers
 

@@ -16,6 +16,8 @@ pub enum Command {
     Load,
     /// A node that keeps pages, over the standard input and output, by frames.
     Node,
+    /// Lines about folders and files, from the standard input.
+    Files,
 }
 
 /// A number that an option of the command line or a key of the settings file sets.
@@ -103,7 +105,13 @@ static LOAD: [Choice; 7] = [
 static NODE: [Choice; 1] = [Choice::Number(Key::Page)];
 
 /// Every command.
-pub static COMMANDS: [Command; 4] = [Command::Run, Command::Serve, Command::Load, Command::Node];
+pub static COMMANDS: [Command; 5] = [
+    Command::Run,
+    Command::Serve,
+    Command::Load,
+    Command::Node,
+    Command::Files,
+];
 
 /// Every key.
 pub static KEYS: [Key; 11] = [
@@ -130,6 +138,7 @@ impl Command {
             Command::Serve => "serve",
             Command::Load => "load",
             Command::Node => "node",
+            Command::Files => "files",
         }
     }
 
@@ -138,7 +147,7 @@ impl Command {
         ensures { result.now ≡ options_of self }
     {
         match self {
-            Command::Run => RUN.as_slice(),
+            Command::Run | Command::Files => RUN.as_slice(),
             Command::Serve => SERVE.as_slice(),
             Command::Load => LOAD.as_slice(),
             Command::Node => NODE.as_slice(),

@@ -21,6 +21,7 @@ pub fn word_of(command: Command) -> &'static str {
         Command::Serve => "serve",
         Command::Load => "load",
         Command::Node => "node",
+        Command::Files => "files",
     }
 }
 

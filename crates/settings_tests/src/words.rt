@@ -6,12 +6,21 @@ use std::alloc::Global;
 use std::process::Abort;
 
 // Command lines, and what they give: the command and each setting.
-static ACCEPTED: [(&str, &str); 50] = [
+static ACCEPTED: [(&str, &str); 53] = [
     ("run", "run"),
     ("load", "load"),
     ("node", "node"),
     ("node --page 4", "node page=4"),
     ("node --page=1048576", "node page=1048576"),
+    ("files", "files"),
+    (
+        "files --page 4 --providers 3 --replicas 2",
+        "files page=4 providers=3 replicas=2",
+    ),
+    (
+        "files --settings s --max-size=9 --max-open 3 --max-blobs 1 --max-versions 7",
+        "files max-size=9 max-versions=7 max-open=3 max-blobs=1 settings=s",
+    ),
     ("serve --listen a:1", "serve listen=a:1"),
     ("serve --listen=127.0.0.1:9", "serve listen=127.0.0.1:9"),
     ("serve --listen nowhere", "serve listen=nowhere"),
@@ -87,13 +96,16 @@ static ACCEPTED: [(&str, &str); 50] = [
 ];
 
 // Lines whose first word isn't a command, or that ask for help.
-static NO_COMMANDS: [&str; 26] = [
+static NO_COMMANDS: [&str; 29] = [
     "",
     "Run",
     "RUN",
     "runs",
     "Node",
     "nodes",
+    "Files",
+    "file",
+    "files files",
     "watch",
     "-run",
     "--run",
@@ -173,7 +185,7 @@ static NO_OPTIONS: [&str; 52] = [
 ];
 
 // Options of other commands, and of none.
-static OTHER_OPTIONS: [&str; 27] = [
+static OTHER_OPTIONS: [&str; 32] = [
     "run --listen a:1",
     "run --workers 4",
     "run --connections 1",
@@ -201,6 +213,11 @@ static OTHER_OPTIONS: [&str; 27] = [
     "node --seed 1",
     "node --ops 1",
     "node --readers 2",
+    "files --listen a:1",
+    "files --workers 4",
+    "files --connections 1",
+    "files --seed 1",
+    "files --ops 1",
 ];
 
 // Values that aren't numbers of their ranges.

@@ -8,6 +8,8 @@ mod lines;
 #[cfg(test)]
 mod loads;
 #[cfg(test)]
+mod names;
+#[cfg(test)]
 mod program;
 #[cfg(test)]
 mod stores;

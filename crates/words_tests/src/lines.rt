@@ -7,7 +7,7 @@ use std::sync::Wait;
 use std::thread::Threads;
 
 // Command lines that need no file, and their status.
-static LINES: [(&str, u8); 66] = [
+static LINES: [(&str, u8); 71] = [
     ("run", 0),
     ("run --page 4", 0),
     ("run --page=1048576", 0),
@@ -81,6 +81,11 @@ static LINES: [(&str, u8); 66] = [
     ("node --settings s", 1),
     ("node --seed 1", 1),
     ("node node", 1),
+    ("files --page 3", 1),
+    ("files --page 4 --page=4", 1),
+    ("files --replicas 5", 2),
+    ("files --seed 1", 1),
+    ("files files", 1),
 ];
 
 fn check_row<R: Wait + Threads + Sync + Abort>(rt: &R, alloc: Global, line: &str, status: u8) {
