@@ -14,3 +14,5 @@ mod waiting;
 mod working;
 
 pub use loading::{LoadFault, load};
+pub use opening::make_blob;
+pub use updating::update;

@@ -21,8 +21,8 @@ use std::thread::Threads;
 use workload_law::LoadPlan;
 use workload_law::laws::{calls_end, calls_leave};
 
-// Makes a blob, whatever its id is.
-fn make_blob<R: Wait, D: Door, G: Gate>(
+/// Makes a blob, whatever its id is. One turn. Where it isn't made nothing is entered.
+pub fn make_blob<R: Wait, D: Door, G: Gate>(
     rt: &R,
     session: &mut Session<'_, D, G>,
 ) -> Result<(), Fault>

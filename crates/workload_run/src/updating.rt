@@ -40,7 +40,7 @@ fn complete<R: Threads + Wait + Sync, D: BesideDoor, G: Gate>(
 
 /// Does an update, again and again while too many updates of its blob wait, and finishes it where it is held back. Where it is refused
 /// otherwise, or finds no memory, or a page is lost, the session finishes what it holds of it and hangs up.
-pub(crate) fn update<R: Threads + Wait + Sync, D: BesideDoor, G: Gate>(
+pub fn update<R: Threads + Wait + Sync, D: BesideDoor, G: Gate>(
     rt: &R,
     session: &mut Session<'_, D, G>,
     blob: u64,

@@ -1,0 +1,242 @@
+-- What a watch came to, and why it ended early, once its store is closed.
+use Rattle.std.proofs.Common.{◌≡◌, ◌≢◌, ◌⊎◌, inl, inr, ℕ, zero, suc, ◌+◌, ◌*◌, ◌-◌, ◌^◌, ◌<◌, ◌≤◌, ◌==◌, Bool, true, false, List, [], ◌∷◌, ◌++◌, length, refl, sym, ap, subst, ◌∙◌, append_assoc, append-nil, arith, Contains}
+use Rattle.std.specs.Prelude.{Option, Some, None, Result, Ok, Err}
+use Rattle.std.proofs.lemmas.Bool.{eq-eqb, eqb-true, true≢false}
+use Rattle.std.proofs.lemmas.List.{append_cancel_left}
+use Rattle.std.proofs.lemmas.List.Elements.{filter-append}
+use Rattle.blob_model.specs.Content.{Update, size_of}
+use Rattle.blob_model.specs.Limits.{Bounds, greatest}
+use Rattle.blob_model.specs.Store.{Blob, blob_at, published, empty_store}
+use Rattle.blob_model.specs.Answer.{answer}
+use Rattle.blob_model.specs.History.{store_of, caller_of, events_by, IsLegal, is_refused}
+use Rattle.blob_model.specs.declared.call.Call.TheVariants as Calls
+use Rattle.blob_model.specs.declared.call.Event.{Event}
+use Rattle.blob_model.specs.declared.call.Event.TheVariants as Events
+use Rattle.blob_model.specs.declared.call.Outcome.{Outcome}
+use Rattle.blob_model.specs.declared.call.Outcome.TheVariants as Outcomes
+use Rattle.blob_model.specs.declared.call.Place.TheVariants.{Append}
+use Rattle.turn_lock.specs.History.{entries_by, Begins, LacksUngiven}
+use Rattle.turn_lock.proofs.Histories.{begins_both}
+use Rattle.version_manager.specs.Desks.{updates_in, published_in, updates_or_none, published_or_none}
+use Rattle.version_manager.specs.Log.{tagged, events, desk_at}
+use Rattle.version_manager.specs.Laws.{EntriesAreEvents}
+use Rattle.version_manager.specs.declared.journal.DeskFixed.{DeskFixed}
+use Rattle.request_form.specs.Answers.{max_read}
+use Rattle.request_form.specs.Replies.{page_faults}
+use Rattle.request_form.specs.declared.form.Fault.{Fault}
+use Rattle.workload_law.specs.Ends.{IsOutside, UpdateHindered, CreateHindered, RefusedAt}
+use Rattle.workload_law.proofs.Closing.{nobodys_are_none}
+use Rattle.workload_law.proofs.OneCaller.{legal_front}
+use Rattle.workload_run.proofs.Returns.{none_by, events_append, no_front}
+use Rattle.watch_law.specs.declared.plan.WatchPlan.{WatchPlan}
+use Rattle.watch_law.specs.declared.plan.WatchSummary.{WatchSummary}
+use Rattle.watch_law.specs.Watch.{IsSized, piece_of, HasWritten, HaveCome, IsUnderway, IsWatch, summary_of}
+use Rattle.watch_law.specs.Laws.{ComeTogether, WatchesAreDone, BlobsAreThere, NothingElseHinders, IsDone}
+use Rattle.watch_run.specs.Stages.{Entries, Owner, IsUnopened, IsWatched}
+use Rattle.watch_run.specs.Ending.{IsSeenLast, HasWrittenAll, EndsBy, WatchEnds, TellsWatch, watch_fault, EndsEarly}
+
+-- two summaries that tell the same
+same_summary : (a b : WatchSummary) → a.size ≡ b.size → a.versions ≡ b.versions → a.agree ≡ b.agree → a ≡ b
+same_summary a b size versions agree = rw (size, versions, agree) refl
+
+-- a caller is none, or not given, or one that came back
+by_number : (made caller : ℕ) → (caller ≡ 0) ⊎ ((made < caller) ⊎ ((0 < caller) × (caller ≤ made)))
+by_number made zero = inl refl
+by_number zero (suc caller) = inr (inl (omega arith))
+by_number (suc made) (suc caller) = more (by_number made caller)
+  where
+    more : (caller ≡ 0) ⊎ ((made < caller) ⊎ ((0 < caller) × (caller ≤ made))) → (suc caller ≡ 0) ⊎ ((suc made < suc caller) ⊎ ((0 < suc caller) × (suc caller ≤ suc made)))
+    more (inl none) = inr (inr (omega arith, omega (arith, none)))
+    more (inr (inl past)) = inr (inl (omega (arith, past)))
+    more (inr (inr within)) = inr (inr (omega arith, omega (arith, within.1)))
+
+no_rest : (xs ys : List Event) → xs ++ ys ≡ [] → ys ≡ []
+no_rest [] ys e = e
+no_rest (x ∷ xs) ys e = absurd (let no : (x ∷ (xs ++ ys)) ≡ [] = e in cc)
+
+no_more : (xs ys : List Event) → xs ++ ys ≡ xs → ys ≡ []
+no_more xs ys e = append_cancel_left xs ys [] (e ∙ sym (append-nil xs))
+
+split_by : (caller : ℕ) (xs ys : List Event) → events_by caller (xs ++ ys) ≡ events_by caller xs ++ events_by caller ys
+split_by caller xs ys = filter-append (λ e. caller_of e == caller) xs ys
+
+begins_events : (xs ys : Entries) (b : Begins xs ys) → events ys ≡ events xs ++ events b.0
+begins_events xs ys b = ap (λ (l : Entries). events l) b.1 ∙ events_append xs b.0
+
+or_not : (n m : ℕ) (P : Type 0) → (n ≡ m → P) → (n ≢ m → P) → (t : Bool) → (n == m) ≡ t → P
+or_not n m P same apart true is = same (eqb-true n m is)
+or_not n m P same apart false is = apart (λ e. true≢false (sym (eq-eqb n m e) ∙ is))
+
+none_is_some : (b : Blob) (o : Option Blob) → o ≡ Some b → o ≡ None → ⊥
+none_is_some b o is none = (let no : Some b ≡ None = sym is ∙ none in cc)
+
+module _ (are : EntriesAreEvents) (plan : WatchPlan) (sized : IsSized plan) (f : DeskFixed) (limits : f.limits ≡ greatest) (owner : Owner) (tags : owner.seen ≡ tagged (events owner.seen)) (legal : IsLegal greatest (events owner.seen))
+    (kept : (c : ℕ) → 0 < c → c ≤ owner.made → Contains owner.kept c) (lacks : LacksUngiven owner.made owner.seen) where
+  history : List Event
+  history = events owner.seen
+
+  ungiven : (c : ℕ) → (c ≡ 0) ⊎ (owner.made < c) → events_by c history ≡ []
+  unfolding history
+  ungiven c not = none_by are owner.seen c tags (lacks c not)
+
+  -- ---- nothing was made
+  unopened_outside : (fault : Fault) → IsUnopened fault owner → IsOutside fault
+  unfolding history
+  unopened_outside fault u = by_cause u.hindered
+    where
+      none : (c : ℕ) → events_by c history ≡ []
+      none c = by_place (by_number owner.made c)
+        where
+          by_place : (c ≡ 0) ⊎ ((owner.made < c) ⊎ ((0 < c) × (c ≤ owner.made))) → events_by c history ≡ []
+          by_place (inl zero_is) = ungiven c (inl zero_is)
+          by_place (inr (inl past)) = ungiven c (inr past)
+          by_place (inr (inr within)) = let one : 1 ≡ c = omega (arith, within.0, within.1, u.made) in subst (λ (n : ℕ). events_by n history ≡ []) one u.none
+
+      empty : history ≡ []
+      empty = nobodys_are_none [] history none
+
+      by_cause : CreateHindered greatest 1 [] (events u.seen) fault → IsOutside fault
+      by_cause (CreateHindered.outside out) = out
+      by_cause (CreateHindered.refused r) =
+          let seen_none : events u.seen ≡ [] = no_front (events u.seen) (events u.begins.0) (sym (begins_events u.seen owner.seen u.begins) ∙ empty) in
+          let others : r.others ≡ [] = no_front r.others r.rest (sym r.split ∙ seen_none) in
+          let refused : (answer (empty_store greatest) 1 Calls.Create).1 ≡ Outcomes.Refused r.refusal = subst (λ (l : List Event). (answer (store_of greatest ([] ++ l)) 1 Calls.Create).1 ≡ Outcomes.Refused r.refusal) others r.refused in
+          absurd (true≢false (ap is_refused (sym refused)))
+
+  -- ---- the writer's pass came back
+  module _ (together : ComeTogether) (first : Entries) (w : IsWatched plan first owner) where
+    none_by_others : (c : ℕ) → c ≢ 1 → c ≢ 2 → events_by c history ≡ []
+    unfolding history
+    none_by_others c not_one not_two = by_place (by_number owner.made c)
+      where
+        third : (c : ℕ) → 0 < c → c ≢ 1 → c ≢ 2 → 3 ≤ c
+        third zero some one two = absurd (omega (arith, some))
+        third (suc zero) some one two = absurd (one refl)
+        third (suc (suc zero)) some one two = absurd (two refl)
+        third (suc (suc (suc n))) some one two = omega arith
+
+        by_place : (c ≡ 0) ⊎ ((owner.made < c) ⊎ ((0 < c) × (c ≤ owner.made))) → events_by c history ≡ []
+        by_place (inl zero_is) = ungiven c (inl zero_is)
+        by_place (inr (inl past)) = ungiven c (inr past)
+        by_place (inr (inr within)) = w.idle c (third c within.0 not_one not_two) (kept c within.0 within.1)
+
+    come : HaveCome (events first) history
+    unfolding history
+    come = record {
+      more = events w.begins.0;
+      begins = begins_events first owner.seen w.begins;
+      made_first = w.created_first;
+      made = w.created;
+      fresh = w.fresh;
+      none = none_by_others;
+    }
+
+    first_is : events first ≡ Events.Create 1 ∷ []
+    first_is = (together (events first) history come).0
+
+    history_is : history ≡ Events.Create 1 ∷ events_by 2 history
+    history_is = (together (events first) history come).1
+
+    under : IsUnderway plan history
+    unfolding history
+    under = record { written = events_by 2 history; is = history_is; begun = w.begun }
+
+    writer_outside : NothingElseHinders → (op : ℕ) (seen : Entries) (later : List Event) (fault : Fault) → Begins seen owner.seen
+        → UpdateHindered greatest 2 1 Append (piece_of plan op) (events first ++ later) (events seen) fault → IsOutside fault
+    unfolding history
+    writer_outside nothing op seen later fault begins hindered =
+        nothing plan history sized legal under w.own op (events seen) (events begins.0) later fault (begins_events seen owner.seen begins)
+        (subst (λ (l : List Event). UpdateHindered greatest 2 1 Append (piece_of plan op) (l ++ later) (events seen) fault) first_is hindered)
+
+    not_missing : BlobsAreThere → (seen : Entries) → Begins first seen → Begins seen owner.seen → blob_at (store_of greatest (events seen)) 1 ≡ None → ⊥
+    unfolding history
+    not_missing there seen from begins none =
+        let is : events seen ≡ Events.Create 1 ∷ events from.0 = begins_events first seen from ∙ ap (λ (l : List Event). l ++ events from.0) first_is in
+        let whole : history ≡ events seen ++ events begins.0 = begins_events seen owner.seen begins in
+        let front : IsLegal greatest (events seen) = legal_front (empty_store greatest) (events seen) (events begins.0) (subst (λ (h : List Event). IsLegal greatest h) whole legal) in
+        let b = there (events from.0) (subst (λ (h : List Event). IsLegal greatest h) is front) in
+        none_is_some b.0 (blob_at (store_of greatest (Events.Create 1 ∷ events from.0)) 1) b.1 (subst (λ (h : List Event). blob_at (store_of greatest h) 1 ≡ None) is none)
+
+    -- ---- the writer came to its end
+    module _ (dones : WatchesAreDone) (old new : Entries) (all : HasWrittenAll plan old owner) (begins : Begins new owner.seen) (version size : ℕ) (last : IsSeenLast f old new version size) where
+      whole_is : history ≡ events old ++ events all.begins.0
+      unfolding history
+      whole_is = begins_events old owner.seen all.begins
+
+      rest_none : (c : ℕ) → events_by c (events old ++ events all.begins.0) ≡ events_by c (events old)
+      unfolding history
+      rest_none c =
+          or_not c 1 (events_by c (events old ++ events all.begins.0) ≡ events_by c (events old))
+          (λ one. subst (λ (n : ℕ). events_by n (events old ++ events all.begins.0) ≡ events_by n (events old)) (sym one) (ap (λ (h : List Event). events_by 1 h) (sym whole_is) ∙ sym all.created))
+          (λ not_one.
+          or_not c 2 (events_by c (events old ++ events all.begins.0) ≡ events_by c (events old))
+          (λ two. subst (λ (n : ℕ). events_by n (events old ++ events all.begins.0) ≡ events_by n (events old)) (sym two) (ap (λ (h : List Event). events_by 2 h) (sym whole_is) ∙ sym all.same))
+          (λ not_two.
+          let none : events_by c (events old ++ events all.begins.0) ≡ [] = ap (λ (h : List Event). events_by c h) (sym whole_is) ∙ none_by_others c not_one not_two in
+          none ∙ sym (no_front (events_by c (events old)) (events_by c (events all.begins.0)) (sym (split_by c (events old) (events all.begins.0)) ∙ none))) (c == 2) refl) (c == 1) refl
+
+      old_is : history ≡ events old
+      old_is = whole_is ∙ (ap (λ (l : List Event). events old ++ l) (nobodys_are_none (events old) (events all.begins.0) rest_none) ∙ append-nil (events old))
+
+      -- whatever lies between is the whole
+      between : (xs : Entries) → Begins old xs → Begins xs owner.seen → events xs ≡ history
+      unfolding history
+      between xs from to =
+          let one = begins_events old xs from in
+          let two = begins_events xs owner.seen to in
+          let both : events old ++ (events from.0 ++ events to.0) ≡ events old =
+          sym (append_assoc (events old) (events from.0) (events to.0)) ∙ (ap (λ (l : List Event). l ++ events to.0) (sym one) ∙ (sym two ∙ old_is))
+          in
+          let none : events from.0 ≡ [] = no_front (events from.0) (events to.0) (no_more (events old) (events from.0 ++ events to.0) both) in
+          one ∙ (ap (λ (l : List Event). events old ++ l) none ∙ (append-nil (events old) ∙ sym old_is))
+
+      mid_is : events last.mid ≡ history
+      mid_is = between last.mid last.begins (begins_both last.mid new owner.seen last.goes_on begins)
+
+      new_is : events new ≡ history
+      new_is = between new (begins_both old last.mid new last.begins last.goes_on) begins
+
+      watch : IsWatch plan history
+      unfolding history
+      watch = record { written = events_by 2 history; is = history_is; all = all.written }
+
+      done_at : (log : Entries) → events log ≡ history → (b : Blob) × ((blob_at (store_of f.limits (events log)) 1 ≡ Some b) × IsDone plan b)
+      unfolding history
+      done_at log is =
+          let d = dones plan history legal watch in
+          (d.0, (ap (λ (l : Bounds). blob_at (store_of l (events log)) 1) limits ∙ (ap (λ (h : List Event). blob_at (store_of greatest h) 1) is ∙ d.1.0), d.1.1))
+
+      pub versions : version ≡ plan.ops
+      versions =
+          let d = done_at last.mid mid_is in
+          last.is ∙ (ap published_or_none d.1.0 ∙ d.1.1.published)
+
+      pub size_all : size ≡ 16 * plan.ops
+      size_all =
+          let d = done_at new new_is in
+          last.size_is ∙ (ap (λ (o : Option Blob). size_of (updates_or_none o) version) d.1.0 ∙ (ap (λ (n : ℕ). size_of d.0.updates n) versions ∙ d.1.1.size))
+
+      not_long : max_read < size → ⊥
+      not_long long = omega (arith, long, size_all, sized.ops)
+
+  -- ---- all ends
+  module _ (together : ComeTogether) (dones : WatchesAreDone) (there : BlobsAreThere) (nothing : NothingElseHinders) where
+    fault_outside : (fault : Fault) → EndsBy plan f owner fault → IsOutside fault
+    fault_outside fault (EndsBy.outside out) = out
+    fault_outside fault (EndsBy.unopened u) = unopened_outside fault u
+    fault_outside fault (EndsBy.writer first w op seen later begins hindered) = writer_outside together first w nothing op seen later fault begins hindered
+    fault_outside fault (EndsBy.missing first w seen from begins none) = absurd (not_missing together first w there seen from begins none)
+    fault_outside fault (EndsBy.too_long first old new w all begins version size last long) = absurd (not_long together first w dones old new all begins version size last long)
+
+    pub closed : (told : Result WatchSummary Fault) → WatchEnds plan f told owner → TellsWatch plan told
+    closed (Err fault) by = fault_outside fault by
+    closed (Ok summary) (first, (old, (new, (w, (all, (begins, (last, agree))))))) =
+        same_summary summary (summary_of plan) (size_all together first w dones old new all begins summary.versions summary.size last)
+        (versions together first w dones old new all begins summary.versions summary.size last) agree
+
+-- why a watch ended early, by what the doors counted
+pub early_of : (fault : Fault) → IsOutside fault → (before after : ℕ) → (after < 2 ^ 64 - 1 → before + page_faults fault ≤ after) → EndsEarly (watch_fault fault) before after
+early_of fault (IsOutside.lost page is) before after rose =
+    subst (λ (x : Fault). EndsEarly (watch_fault x) before after) (sym is) (record { page = page; lost = refl; rose = λ less. omega (arith, rose less, ap page_faults is) })
+early_of fault (IsOutside.starved is) before after rose = subst (λ (x : Fault). EndsEarly (watch_fault x) before after) (sym is) tt
+early_of fault (IsOutside.held ticket is) before after rose = subst (λ (x : Fault). EndsEarly (watch_fault x) before after) (sym is) tt

@@ -1,0 +1,12 @@
+pub mod Written
+pub mod Stages
+pub mod Idling
+pub mod Kept
+pub mod ReadOn
+pub mod Lasts
+pub mod Compared
+pub mod Ends
+pub mod Crews
+pub mod Finishing
+pub mod Works
+pub mod Closed

@@ -1,0 +1,25 @@
+use Rattle.std.proofs.Common.{◌≡◌, ℕ, ◌+◌, ◌-◌, ◌^◌, ◌<◌, ◌≤◌, vec_len, [], ◌∷◌}
+use Rattle.std.specs.Prelude.{vec_capacity, ◌↔◌, All}
+use Rattle.client_session.specs.Sessions.{IsOwnerOf}
+use Rattle.watch_run.specs.Crews.{IsReadyToWatch}
+use Rattle.watch_run.proofs.crew.watchers_of.Given as goal
+
+abbrev pub invariant-makes : goal.invariant-makes
+invariant-makes g l =
+    let is_true = g.M.DoorMaker.is_true in
+    let faults = g.M.DoorMaker.faults in
+    record {
+      few : vec_len l.watchers ≤ l.count;
+      room : l.count ≤ vec_capacity l.watchers;
+      ready : All (IsReadyToWatch g.M.Door.Door.faults l.shared l.fn.stand) l.watchers.items;
+      stand : l.stand ≡ l.fn.stand;
+      owner : IsOwnerOf l.shared l.owner;
+      given : l.owner ≡ record l.fn.owner { made = l.fn.owner.made + vec_len l.watchers; out = l.fn.owner.out + vec_len l.watchers };
+      maker_true : is_true l.maker;
+      doors : faults l.maker < 2 ^ 64 - 1 → faults l.fn.maker ≤ faults l.maker;
+      plan_stays : (n : ℕ) (door : _) → g.M.DoorMaker.makes l.fn.maker n door ↔ g.M.DoorMaker.makes l.maker n door;
+      truth_stays : is_true l.fn.maker ↔ is_true l.maker;
+    }
+
+abbrev pub decreases-makes : goal.decreases-makes
+decreases-makes g l = l.count - vec_len l.watchers

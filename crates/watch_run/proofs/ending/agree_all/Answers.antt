@@ -1,0 +1,64 @@
+use Rattle.std.proofs.Common.{◌≡◌, ◌∙◌, List, ℕ, Bool, ◌+◌, ◌-◌, ◌^◌, ◌<◌, ◌≤◌, vec_len, ap, subst, arith}
+use Rattle.std.specs.Prelude.{All, IfSome, Option}
+use mir.Val.{bool_byte}
+use Rattle.request_form.specs.declared.form.Fault.{Fault}
+use Rattle.workload_law.specs.Ends.{IsOutside}
+use Rattle.watch_run.specs.Readers.{WatcherState}
+use Rattle.watch_run.specs.Crews.{IsDoneWatching, stop_faults}
+use Rattle.watch_run.proofs.Ends.{all_front, all_last, agree_more, lower}
+use Rattle.watch_run.proofs.ending.agree_all.Goals as goal
+
+pub loop-watcher-preserved-in-Ok : goal.loop-watcher-preserved-in-Ok
+loop-watcher-preserved-in-Ok g c =
+    let e = c.in-Ok.ensures in
+    let counts = g.M.DoorMaker.faults in
+    let i = c.loop-watcher.invariant in
+    let done = IsDoneWatching g.M.Door.Door.faults c.args.shared.now c.args.keeper.now.board in
+    let all = subst (λ (l : List (WatcherState _)). All done l) c.in-Some.ensures.items i.done in
+    let len : vec_len c.loop-watcher.watchers ≡ vec_len c.pop.new.self + 1 = omega (arith, c.in-Some.ensures.cases) in
+    let one : c.from-agree.result ≡ 1 = c.from-agree.ensures ∙ ap (λ (b : Bool). bool_byte b) e.agrees in
+    record {
+      owner = e.owner;
+      agree = agree_more c.loop-watcher.stop c.args.owner.now c.loop-watcher.owner c.agree_with.new.owner c.loop-watcher.agree c.from-agree.result (vec_len c.loop-watcher.watchers) (vec_len c.pop.new.self) (vec_len c.args.watchers) i.agree e.leaves one len;
+      made = (omega (arith, i.made.0, e.made.0), omega (arith, i.made.1, e.made.1, len));
+      few = omega (arith, i.few, one, len);
+      stop = i.stop;
+      doors = λ less. (let low = e.doors less in omega (arith, i.doors (omega (arith, low, less)), low));
+      out = omega (arith, i.out, e.out, len);
+      done = all_front done c.pop.new.self.items c.in-Some.watcher all;
+      seen = e.seen;
+      plan_stays = λ n door. (λ h. (e.plan_stays n door).0 ((i.plan_stays n door).0 h), λ h. (i.plan_stays n door).1 ((e.plan_stays n door).1 h));
+      truth_stays = (λ t. e.truth_stays.0 (i.truth_stays.0 t), λ t. i.truth_stays.1 (e.truth_stays.1 t));
+      maker_true = e.truth_stays.0 i.maker_true;
+    }
+
+pub loop-watcher-preserved : goal.loop-watcher-preserved
+loop-watcher-preserved g c =
+    let e = c.in-Err.ensures in
+    let counts = g.M.DoorMaker.faults in
+    let i = c.loop-watcher.invariant in
+    let done = IsDoneWatching g.M.Door.Door.faults c.args.shared.now c.args.keeper.now.board in
+    let all = subst (λ (l : List (WatcherState _)). All done l) c.in-Some.ensures.items i.done in
+    let len : vec_len c.loop-watcher.watchers ≡ vec_len c.pop.new.self + 1 = omega (arith, c.in-Some.ensures.cases) in
+    record {
+      owner = e.owner;
+      agree = tt;
+      made = (omega (arith, i.made.0, e.made.0), omega (arith, i.made.1, e.made.1, len));
+      few = omega (arith, i.few, len);
+      stop = e.stop;
+      doors = λ less. (let low = e.doors less in omega (arith, i.doors (omega (arith, low, less)), low));
+      out = omega (arith, i.out, e.out, len);
+      done = all_front done c.pop.new.self.items c.in-Some.watcher all;
+      seen = e.seen;
+      plan_stays = λ n door. (λ h. (e.plan_stays n door).0 ((i.plan_stays n door).0 h), λ h. (i.plan_stays n door).1 ((e.plan_stays n door).1 h));
+      truth_stays = (λ t. e.truth_stays.0 (i.truth_stays.0 t), λ t. i.truth_stays.1 (e.truth_stays.1 t));
+      maker_true = e.truth_stays.0 i.maker_true;
+    }
+
+pub agree_with-requires-clause-done : goal.agree_with-requires-clause-done
+agree_with-requires-clause-done g c =
+    let done = IsDoneWatching g.M.Door.Door.faults c.args.shared.now c.args.keeper.now.board in
+    all_last done c.pop.new.self.items c.in-Some.watcher (subst (λ (l : List (WatcherState _)). All done l) c.in-Some.ensures.items c.loop-watcher.invariant.done)
+
+pub returns-in-Some-stop-clause-stop : goal.returns-in-Some-stop-clause-stop
+returns-in-Some-stop-clause-stop g c = subst (λ (o : Option Fault). IfSome o IsOutside) c.in-Some-stop.is c.loop-watcher.invariant.stop

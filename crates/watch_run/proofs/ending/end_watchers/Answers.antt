@@ -1,0 +1,61 @@
+use Rattle.std.proofs.Common.{◌≡◌, ◌∙◌, List, ℕ, [], ◌∷◌, ◌++◌, ◌+◌, ◌-◌, ◌^◌, ◌<◌, ◌≤◌, min, ap, subst, sym, arith}
+use Rattle.std.specs.Prelude.{sum_by, All, IfErr}
+use Rattle.request_form.specs.Replies.{page_faults}
+use Rattle.client_session.specs.Sessions.{SessionState}
+use Rattle.workload_law.specs.Ends.{IsOutside}
+use Rattle.workload_run.specs.Updates.{told_faults}
+use Rattle.workload_run.proofs.Stores.{rose_stop}
+use Rattle.watch_run.specs.Readers.{WatcherState}
+use Rattle.watch_run.specs.Writing.{Told}
+use Rattle.watch_run.specs.Crews.{IsEndable, stop_faults}
+use Rattle.watch_run.proofs.Ends.{all_front, all_last, rose_on, lower}
+use Rattle.watch_run.proofs.Stages.{leaves_both}
+use Rattle.watch_run.proofs.ending.end_watchers.Goals as goal
+
+pub loop-watcher-preserved-in-Err : goal.loop-watcher-preserved-in-Err
+loop-watcher-preserved-in-Err g c =
+    let counts = g.M.DoorMaker.faults in
+    let faults = g.M.Door.Door.faults in
+    let i = c.loop-watcher.invariant in
+    let e = c.end_idle.ensures in
+    let store = c.args.shared.now in
+    let one : WatcherState _ = record { reader = c.watcher.inside.reader; told = c.watcher.inside.told } in
+    let joined : c.loop-watcher.watchers.items ≡ c.pop.new.self.items ++ one ∷ [] = c.in-Some.ensures.items ∙ ap (λ (w : WatcherState _). c.pop.new.self.items ++ w ∷ []) (sym c.watcher.view_is) in
+    let all = subst (λ (l : List (WatcherState _)). All (IsEndable faults store) l) joined i.endable in
+    let last = all_last (IsEndable faults store) c.pop.new.self.items one all in
+    let told = c.in-Err.is in
+    let session = c.into_session.ensures in
+    let counted = subst (λ (t : Told). sum_by faults one.reader.session.doors < 2 ^ 64 - 1 → told_faults t ≤ sum_by faults one.reader.session.doors) told last.counted in
+    let back = subst (λ (s : SessionState _). min (counts c.loop-watcher.maker + sum_by faults s.doors) (2 ^ 64 - 1) ≤ counts c.end_idle.new.maker) session e.doors in
+    record {
+      owner = e.owner;
+      leaves = leaves_both _ _ _ i.leaves e.leaves;
+      out = omega (arith, i.out, e.out, c.in-Some.ensures.cases);
+      endable = all_front (IsEndable faults store) c.pop.new.self.items one all;
+      stop = subst (λ (t : Told). IfErr t IsOutside) told last.stop;
+      doors = rose_stop (page_faults c.in-Err.fault) (counts c.args.maker.now) (counts c.loop-watcher.maker) (sum_by faults one.reader.session.doors) (counts c.end_idle.new.maker)
+          (lower (stop_faults c.loop-watcher.stop) (counts c.args.maker.now) (counts c.loop-watcher.maker) i.doors) counted back;
+      plan_stays = λ n door. (λ h. (e.plan_stays n door).0 ((i.plan_stays n door).0 h), λ h. (i.plan_stays n door).1 ((e.plan_stays n door).1 h));
+      truth_stays = (λ t. e.truth_stays.0 (i.truth_stays.0 t), λ t. i.truth_stays.1 (e.truth_stays.1 t));
+    }
+
+pub loop-watcher-preserved : goal.loop-watcher-preserved
+loop-watcher-preserved g c =
+    let counts = g.M.DoorMaker.faults in
+    let faults = g.M.Door.Door.faults in
+    let i = c.loop-watcher.invariant in
+    let e = c.end_idle.ensures in
+    let store = c.args.shared.now in
+    let one : WatcherState _ = record { reader = c.watcher.inside.reader; told = c.watcher.inside.told } in
+    let joined : c.loop-watcher.watchers.items ≡ c.pop.new.self.items ++ one ∷ [] = c.in-Some.ensures.items ∙ ap (λ (w : WatcherState _). c.pop.new.self.items ++ w ∷ []) (sym c.watcher.view_is) in
+    let all = subst (λ (l : List (WatcherState _)). All (IsEndable faults store) l) joined i.endable in
+    record {
+      owner = e.owner;
+      leaves = leaves_both _ _ _ i.leaves e.leaves;
+      out = omega (arith, i.out, e.out, c.in-Some.ensures.cases);
+      endable = all_front (IsEndable faults store) c.pop.new.self.items one all;
+      stop = i.stop;
+      doors = rose_on (stop_faults c.loop-watcher.stop) (counts c.args.maker.now) (counts c.loop-watcher.maker) (sum_by faults c.into_session.result.doors) (counts c.end_idle.new.maker) i.doors e.doors;
+      plan_stays = λ n door. (λ h. (e.plan_stays n door).0 ((i.plan_stays n door).0 h), λ h. (i.plan_stays n door).1 ((e.plan_stays n door).1 h));
+      truth_stays = (λ t. e.truth_stays.0 (i.truth_stays.0 t), λ t. i.truth_stays.1 (e.truth_stays.1 t));
+    }

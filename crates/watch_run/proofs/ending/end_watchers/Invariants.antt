@@ -1,0 +1,25 @@
+use Rattle.std.proofs.Common.{◌≡◌, ℕ, ◌+◌, ◌-◌, ◌^◌, ◌<◌, ◌≤◌, vec_len}
+use Rattle.std.specs.Prelude.{◌↔◌, All, IfSome}
+use Rattle.client_session.specs.Sessions.{IsOwnerOf}
+use Rattle.workload_law.specs.Ends.{IsOutside}
+use Rattle.watch_run.specs.Stages.{LeavesWatch}
+use Rattle.watch_run.specs.Crews.{IsEndable, stop_faults}
+use Rattle.watch_run.proofs.ending.end_watchers.Given as goal
+
+abbrev pub invariant-loop-watcher : goal.invariant-loop-watcher
+invariant-loop-watcher g l =
+    let is_true = g.M.DoorMaker.is_true in
+    let faults = g.M.DoorMaker.faults in
+    record {
+      owner : IsOwnerOf l.shared l.owner;
+      leaves : LeavesWatch l.fn.owner l.owner;
+      out : l.fn.owner.out + vec_len l.watchers ≡ l.owner.out + vec_len l.fn.watchers;
+      endable : All (IsEndable g.M.Door.Door.faults l.shared) l.watchers.items;
+      stop : IfSome l.stop IsOutside;
+      doors : faults l.maker < 2 ^ 64 - 1 → faults l.fn.maker + stop_faults l.stop ≤ faults l.maker;
+      plan_stays : (n : ℕ) (door : _) → g.M.DoorMaker.makes l.fn.maker n door ↔ g.M.DoorMaker.makes l.maker n door;
+      truth_stays : is_true l.fn.maker ↔ is_true l.maker;
+    }
+
+abbrev pub decreases-loop-watcher : goal.decreases-loop-watcher
+decreases-loop-watcher g l = vec_len l.watchers

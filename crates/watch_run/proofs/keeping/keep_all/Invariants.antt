@@ -1,0 +1,5 @@
+use Rattle.watch_run.specs.Keeping.{Refreshes}
+use Rattle.watch_run.proofs.keeping.keep_all.Given as goal
+
+abbrev pub invariant-refreshes : goal.invariant-refreshes
+invariant-refreshes g l = Refreshes l.fn.keeper l.keeper l.fn.session l.session

@@ -1,0 +1,19 @@
+use Rattle.std.proofs.Common.{◌≡◌, ◌∙◌, ◌+◌, ℕ, ap, sym, arith}
+use Rattle.client_session.specs.Sessions.{StoreState}
+use Rattle.watch_run.specs.Stages.{Owner}
+use Rattle.watch_run.proofs.Stages.{took, opens_as}
+use Rattle.watch_run.proofs.making.open_store.Goals as goal
+
+pub returns-clause-opens : goal.returns-clause-opens
+returns-clause-opens g c =
+    let x = c.in-Ok.ensures in
+    let e = c.end_session.ensures in
+    let mid = c.open_session.new.owner in
+    let new = c.end_session.new.owner in
+    let s = c.in-Ok.session in
+    let s' = c.make_blob-made.new.session in
+    let first : s.caller ≡ 1 = omega (arith, x.session.caller, c.requires.no_pass) in
+    let made : new.made ≡ 1 = (let a = ap (λ (o : Owner). o.made) e.counts.1 in let b = ap (λ (o : Owner). o.made) x.given in omega (arith, a, b, c.requires.no_pass)) in
+    let out : new.out ≡ 0 = (let b = ap (λ (o : Owner). o.out) x.given in omega (arith, e.counts.0, b, c.requires.none_out)) in
+    opens_as c.entries_are_events.ensures s s' mid new (took c.args.shared.now s'.caller s'.log mid new e.counts e.begins e.own e.before e.owner) first (x.session.log ∙ c.requires.new)
+    (ap (λ (o : Owner). o.kept) x.given ∙ c.requires.none_kept) made out (ap (λ (t : StoreState). t.fixed.limits) x.session.of_store ∙ c.requires.limits) c.make_blob-made.result c.make_blob-made.ensures.ends

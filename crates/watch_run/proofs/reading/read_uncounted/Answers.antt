@@ -1,0 +1,17 @@
+use Rattle.std.proofs.Common.{◌≡◌, ◌+◌, ◌*◌, ℕ, Err, sym, subst}
+use Rattle.std.specs.Prelude.{sum_by}
+use Rattle.faults.specs.Counts.{RoseBy}
+use Rattle.read_board.specs.Reads.{goes_by}
+use Rattle.watch_run.proofs.Idling.{idles_goes}
+use Rattle.watch_run.proofs.reading.read_uncounted.Goals as goal
+
+pub returns-clause-read : goal.returns-clause-read
+returns-clause-read g c =
+    let x = c.in-Err.ensures in
+    let r = c.read.new.self in
+    record {
+      board = x.kept.0;
+      place = x.kept.1;
+      idles = idles_goes c.sessions_own.ensures.gaps c.args.reader.now.session r.session x.goes_on 1 (c.args.op + 1) (16 * c.args.op) 16 (goes_by r.has_place r.list 1 (c.args.op + 1)) (Err c.in-Err.fault) _ _ x.goes;
+      rose = subst (λ (n : ℕ). RoseBy n (sum_by g.D.Door.faults c.args.reader.now.session.doors) (sum_by g.D.Door.faults r.session.doors)) (sym c.stop_of.ensures.faults) x.faults;
+    }

@@ -1,0 +1,59 @@
+use Rattle.std.proofs.Common.{rules, ◌≡◌, ◌∙◌, ◌≤◌, ◌∷◌, [], Ok, Err, List, ℕ, ap, subst, sym, arith}
+use Rattle.std.specs.Prelude.{Result, IfOk, IfErr}
+use Rattle.client_session.specs.Sessions.{StoreState, SessionState}
+use Rattle.read_board.specs.Refreshing.{AllHold}
+use Rattle.request_form.specs.declared.form.Fault.{Fault}
+use Rattle.watch_run.specs.declared.last.Last.{Last}
+use Rattle.watch_run.specs.Stages.{Owner, Entries}
+use Rattle.watch_run.proofs.Crews.{idle_on, told_read, told_lost}
+use Rattle.watch_run.proofs.Finishing.{finish_hindered, read_back}
+use Rattle.watch_run.proofs.Stages.{new_idle, leaves_both, leaves_given}
+use Rattle.watch_run.proofs.watching.read_back.Goals as goal
+
+pub read_last-told-requires : goal.read_last-told-requires
+read_last-told-requires g c =
+    let x = c.in-Ok.ensures.session in
+    let s = c.in-Ok.session in
+    record {
+      may = record {
+        store = c.requires.store ∙ ap (λ (t : StoreState). t ∷ []) (sym x.of_store);
+        limits = ap (λ (t : StoreState). t.fixed.limits) x.of_store ∙ c.requires.limits;
+        hold = subst (λ (l : Entries). AllHold s.store.fixed l c.args.keeper.now.all) (sym x.log) (subst (λ (t : StoreState). AllHold t.fixed c.args.owner.now.seen c.args.keeper.now.all) (sym x.of_store) c.requires.hold);
+        of_one = c.requires.of_one;
+      };
+    }
+
+pub end_idle-requires-clause-idle : goal.end_idle-requires-clause-idle
+end_idle-requires-clause-idle g c =
+    idle_on c.args.shared.now c.in-Ok.session c.read_last-told.new.session
+    (new_idle g.M.Door.Door.faults c.entries_are_events.ensures c.args.shared.now c.args.owner.now c.in-Ok.session c.requires.owner.log.tags (omega (arith, c.requires.passes_left)) c.in-Ok.ensures.session)
+    c.read_last-told.ensures.idles
+
+pub returns-clause-read : goal.returns-clause-read
+returns-clause-read g c =
+    let x = c.in-Ok.ensures in
+    let r = c.read_last-told.ensures in
+    let e = c.end_idle.ensures in
+    let old = c.args.owner.now in
+    let new = c.end_idle.new.owner in
+    let leaves = leaves_both old c.open_session.new.owner new (leaves_given old c.open_session.new.owner (ap (λ (o : Owner). o.seen) x.given) (ap (λ (o : Owner). o.kept) x.given)) e.leaves in
+    told_read c.read_last-told.result
+    (λ last is. read_back c.read_last-told.new.keeper c.in-Ok.session c.read_last-told.new.session c.args.shared.now old new x.session.of_store (r.idles.goes_on.store ∙ x.session.of_store) x.session.log leaves e.begins last is) r.last
+
+pub returns-clause-hindered : goal.returns-clause-hindered
+returns-clause-hindered g c =
+    let x = c.in-Ok.ensures in
+    let r = c.read_last-told.ensures in
+    let e = c.end_idle.ensures in
+    let old = c.args.owner.now in
+    let new = c.end_idle.new.owner in
+    let leaves = leaves_both old c.open_session.new.owner new (leaves_given old c.open_session.new.owner (ap (λ (o : Owner). o.seen) x.given) (ap (λ (o : Owner). o.kept) x.given)) e.leaves in
+    told_lost c.read_last-told.result
+    (λ fault by. finish_hindered c.in-Ok.session c.read_last-told.new.session fault c.args.shared.now old new by x.session.of_store (r.idles.goes_on.store ∙ x.session.of_store) x.session.log r.idles.goes_on.begins leaves e.begins)
+    r.hindered
+
+pub returns-clause-plan_stays : goal.returns-clause-plan_stays
+returns-clause-plan_stays g c n door =
+    let i = c.open_session.ensures in
+    let e = c.end_idle.ensures in
+    (λ h. (e.plan_stays n door).0 ((i.plan_stays n door).0 h), λ h. (i.plan_stays n door).1 ((e.plan_stays n door).1 h))

@@ -1,0 +1,31 @@
+use Rattle.std.proofs.Common.{◌≡◌, ◌∙◌, List, ℕ, Ok, Err, ap, subst, sym}
+use Rattle.blob_model.specs.Limits.{Bounds}
+use Rattle.blob_model.specs.History.{IsLegal}
+use Rattle.blob_model.specs.declared.call.Event.{Event}
+use Rattle.turn_lock.specs.History.{LacksUngiven}
+use Rattle.version_manager.specs.Log.{events}
+use Rattle.watch_run.proofs.Closed.{closed, early_of}
+use Rattle.watch_run.specs.declared.watching.WatchFault.{WatchFault}
+use Rattle.watch_run.specs.Ending.{EndsEarly}
+use Rattle.watch_run.proofs.watching.watch.Goals as goal
+
+pub returns-in-Ok-told-clause-summary : goal.returns-in-Ok-told-clause-summary
+returns-in-Ok-told-clause-summary g c =
+    let owner = c.run_watch-told.new.owner in
+    let o = c.run_watch-told.ensures.owner in
+    let lacks = subst (λ (l : List (ℕ × Event)). LacksUngiven owner.made l) c.in-Ok.ensures.history c.in-Ok.ensures.no_other in
+    let legal = subst (λ (b : Bounds). IsLegal b (events owner.seen)) c.requires.limits o.log.legal in
+    let x = c.watches_close.ensures in
+    let tells = closed c.entries_are_events.ensures c.args.plan c.requires.sized c.args.shared.fixed c.requires.limits owner o.log.tags legal c.in-Ok.ensures.all_kept lacks x.together c.watches_are_done.ensures x.there x.writer in
+    tells (Ok c.in-Ok-told.summary) c.in-Ok-told.ensures.ends
+
+pub returns-in-Err-clause-early : goal.returns-in-Err-clause-early
+returns-in-Err-clause-early g c =
+    let owner = c.run_watch-told.new.owner in
+    let o = c.run_watch-told.ensures.owner in
+    let lacks = subst (λ (l : List (ℕ × Event)). LacksUngiven owner.made l) c.in-Ok.ensures.history c.in-Ok.ensures.no_other in
+    let legal = subst (λ (b : Bounds). IsLegal b (events owner.seen)) c.requires.limits o.log.legal in
+    let x = c.watches_close.ensures in
+    let tells = closed c.entries_are_events.ensures c.args.plan c.requires.sized c.args.shared.fixed c.requires.limits owner o.log.tags legal c.in-Ok.ensures.all_kept lacks x.together c.watches_are_done.ensures x.there x.writer in
+    let why = early_of c.in-Err.fault (tells (Err c.in-Err.fault) c.in-Err.ensures.ends) (g.M.DoorMaker.faults c.args.doors.now) (g.M.DoorMaker.faults c.run_watch-told.new.doors) c.in-Err.ensures.doors in
+    subst (λ (f : WatchFault). EndsEarly f (g.M.DoorMaker.faults c.args.doors.now) (g.M.DoorMaker.faults c.run_watch-told.new.doors)) (sym c.fault_of.ensures) why

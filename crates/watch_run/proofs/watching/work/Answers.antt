@@ -1,0 +1,117 @@
+use Rattle.std.proofs.Common.{◌≡◌, ◌∙◌, ◌+◌, ◌≤◌, List, [], ◌∷◌, ℕ, length, refl, sym, ap, subst, arith}
+use Rattle.std.specs.Prelude.{All}
+use Rattle.turn_lock.specs.History.{entries_by, Begins}
+use Rattle.turn_lock.proofs.Histories.{begins_both}
+use Rattle.version_manager.specs.Log.{tagged, events}
+use Rattle.client_session.specs.Sessions.{StoreState, SessionState}
+use Rattle.read_board.specs.Fronts.{BoardId}
+use Rattle.read_board.specs.Refreshing.{AllHold}
+use Rattle.workload_run.proofs.Returns.{none_by}
+use Rattle.workload_run.proofs.Stores.{fresh_at}
+use Rattle.watch_run.specs.Ending.{Finishes}
+use Rattle.watch_run.specs.Crews.{IsDoneWatching}
+use Rattle.watch_run.specs.Stages.{Entries, Owner}
+use Rattle.watch_run.proofs.Crews.{idle_on, all_done, all_done_end}
+use Rattle.watch_run.proofs.Stages.{TookBack, took, new_idle, leaves_both}
+use Rattle.watch_run.proofs.Works.{ends_by_finish, ends_early, both_done}
+use Rattle.watch_run.proofs.watching.work.Goals as goal
+
+pub work_beside-keeper-requires-clause-fresh : goal.work_beside-keeper-requires-clause-fresh
+work_beside-keeper-requires-clause-fresh g c κs within =
+    let s = c.args.crew.writer in
+    let new = c.requires.writer in
+    fresh_at s c.entries_are_events.ensures 1 new.caller (ap (λ (t : StoreState). t.fixed.limits) new.of_store ∙ c.requires.limits)
+    (subst (λ (l : Entries). l ≡ tagged (events l)) (sym new.log) c.requires.owner.log.tags) (subst (λ (n : ℕ). entries_by n s.log ≡ []) new.caller new.none) new.none_held new.limit
+
+pub end_idle-requires-clause-idle : goal.end_idle-requires-clause-idle
+end_idle-requires-clause-idle g c =
+    let owner : Owner = record c.args.owner.now { made = 2 } in
+    idle_on c.args.shared.now c.args.crew.keeping c.work_beside-keeper.result.1.keeping
+    (new_idle g.M.Door.Door.faults c.entries_are_events.ensures c.args.shared.now owner c.args.crew.keeping c.requires.owner.log.tags (omega arith) c.requires.keeping)
+    c.work_beside-keeper.ensures.kept.refreshes.idles
+
+pub finish-requires-clause-hold : goal.finish-requires-clause-hold
+finish-requires-clause-hold g c κs within =
+    let r = c.work_beside-keeper.result in
+    let kept = c.work_beside-keeper.ensures.kept.refreshes in
+    c.refreshes_stay.ensures c.args.shared.now.fixed r.1.keeping.log c.end_idle.new.owner.seen r.0.all c.end_idle.ensures.begins
+    (subst (λ (t : StoreState). AllHold t.fixed r.1.keeping.log r.0.all) (kept.idles.goes_on.store ∙ c.requires.keeping.of_store) kept.may.hold)
+
+pub finish-requires-clause-done : goal.finish-requires-clause-done
+finish-requires-clause-done g c κs within =
+    let faults = g.M.Door.Door.faults in
+    let store = c.args.shared.now in
+    let ws = c.args.crew.watchers in
+    let r = c.work_beside-keeper.result in
+    let x = c.work_beside-keeper.ensures in
+    let count : length r.1.watchers.items ≡ length ws.items = omega (arith, x.count, ws.ok.0, r.1.watchers.ok.0) in
+    subst (λ (b : BoardId). All (IsDoneWatching faults store b) r.1.watchers.items) (sym x.kept.refreshes.board) (all_done faults store c.args.keeper.board ws.items r.1.watchers.items count c.requires.ready x.watched)
+
+pub end_watchers-later-requires-clause-endable : goal.end_watchers-later-requires-clause-endable
+end_watchers-later-requires-clause-endable g c =
+    let faults = g.M.Door.Door.faults in
+    let store = c.args.shared.now in
+    let ws = c.args.crew.watchers in
+    let r = c.work_beside-keeper.result in
+    let x = c.work_beside-keeper.ensures in
+    let count : length r.1.watchers.items ≡ length ws.items = omega (arith, x.count, ws.ok.0, r.1.watchers.ok.0) in
+    all_done_end faults store c.args.keeper.board r.1.watchers.items (all_done faults store c.args.keeper.board ws.items r.1.watchers.items count c.requires.ready x.watched)
+
+pub returns-in-Ok-clause-ends : goal.returns-in-Ok-clause-ends
+returns-in-Ok-clause-ends g c =
+    let are = c.entries_are_events.ensures in
+    let stay = c.loads_close.ensures.own in
+    let plan = c.args.plan.now in
+    let f = c.args.shared.now.fixed in
+    let first = c.args.owner.now in
+    let one = c.end_session.new.owner in
+    let two = c.end_idle.new.owner in
+    let x = c.work_beside-keeper.ensures in
+    let r = c.work_beside-keeper.result in
+    let s = c.args.crew.writer in
+    let s' = r.1.writer in
+    let e = c.end_session.ensures in
+    let caller : s'.caller ≡ 2 = x.written.goes_on.caller ∙ c.requires.writer.caller in
+    let took = subst (λ (n : ℕ). TookBack n s'.log first one) caller (took c.args.shared.now s'.caller s'.log first one e.counts e.begins e.own e.before e.owner) in
+    let fresh = none_by are first.seen 2 c.requires.owner.log.tags (subst (λ (l : Entries). entries_by 2 l ≡ []) c.requires.writer.log (subst (λ (n : ℕ). entries_by n s.log ≡ []) c.requires.writer.caller c.requires.writer.none)) in
+    ends_by_finish are stay plan f s s' r.2 x.written.ends first one took c.requires.opened c.requires.writer.log fresh (both_done r.2 r.3 c.in-Ok.field-0 (sym c.and.ensures ∙ c.in-Ok.is)) two c.finish.new.owner c.end_idle.ensures.leaves
+    c.finish.result (subst (λ (n : ℕ). Finishes f n c.finish.result two c.finish.new.owner) (x.count ∙ c.requires.count) c.finish.ensures.finishes)
+
+pub returns-in-Err-clause-ends : goal.returns-in-Err-clause-ends
+returns-in-Err-clause-ends g c =
+    let are = c.entries_are_events.ensures in
+    let stay = c.loads_close.ensures.own in
+    let plan = c.args.plan.now in
+    let f = c.args.shared.now.fixed in
+    let first = c.args.owner.now in
+    let one = c.end_session.new.owner in
+    let two = c.end_idle.new.owner in
+    let x = c.work_beside-keeper.ensures in
+    let r = c.work_beside-keeper.result in
+    let s = c.args.crew.writer in
+    let s' = r.1.writer in
+    let e = c.end_session.ensures in
+    let caller : s'.caller ≡ 2 = x.written.goes_on.caller ∙ c.requires.writer.caller in
+    let took = subst (λ (n : ℕ). TookBack n s'.log first one) caller (took c.args.shared.now s'.caller s'.log first one e.counts e.begins e.own e.before e.owner) in
+    let fresh = none_by are first.seen 2 c.requires.owner.log.tags (subst (λ (l : Entries). entries_by 2 l ≡ []) c.requires.writer.log (subst (λ (n : ℕ). entries_by n s.log ≡ []) c.requires.writer.caller c.requires.writer.none)) in
+    let k = r.1.keeping in
+    let last = c.end_watchers-later.new.owner in
+    let later = c.end_watchers-later.ensures.leaves in
+    let from = subst (λ (l : Entries). Begins l k.log) c.requires.keeping.log x.kept.refreshes.idles.goes_on.begins in
+    let to = begins_both k.log two.seen last.seen c.end_idle.ensures.begins later.comes.begins in
+    ends_early are stay plan f s s' k r.2 r.3 x.written.ends first one last took c.requires.opened c.requires.writer.log fresh (leaves_both one two last c.end_idle.ensures.leaves later) from to x.kept.hindered
+    c.in-Err.fault (sym c.and.ensures ∙ c.in-Err.is)
+
+pub returns-in-Ok-clause-plan_stays : goal.returns-in-Ok-clause-plan_stays
+returns-in-Ok-clause-plan_stays g c n door =
+    let a = c.end_session.ensures in
+    let b = c.end_idle.ensures in
+    let e = c.finish.ensures in
+    (λ h. (e.plan_stays n door).0 ((b.plan_stays n door).0 ((a.plan_stays n door).0 h)), λ h. (a.plan_stays n door).1 ((b.plan_stays n door).1 ((e.plan_stays n door).1 h)))
+
+pub returns-in-Err-clause-plan_stays : goal.returns-in-Err-clause-plan_stays
+returns-in-Err-clause-plan_stays g c n door =
+    let a = c.end_session.ensures in
+    let b = c.end_idle.ensures in
+    let e = c.end_watchers-later.ensures in
+    (λ h. (e.plan_stays n door).0 ((b.plan_stays n door).0 ((a.plan_stays n door).0 h)), λ h. (a.plan_stays n door).1 ((b.plan_stays n door).1 ((e.plan_stays n door).1 h)))

@@ -1,0 +1,109 @@
+-- How a watch ends.
+use Rattle.std.specs.Prelude.{◌≡◌, ℕ, ◌+◌, ◌*◌, ◌<◌, ◌≤◌, ◌^◌, ◌-◌, List, ◌++◌, length, None, Contains, Result, Ok, Err}
+use Rattle.blob_model.specs.Content.{size_of}
+use Rattle.blob_model.specs.Limits.{greatest}
+use Rattle.blob_model.specs.Store.{blob_at}
+use Rattle.blob_model.specs.History.{store_of, IsLegal, events_by}
+use Rattle.blob_model.specs.declared.call.Event.{Event}
+use Rattle.blob_model.specs.declared.call.Place.TheVariants.{Append}
+use Rattle.turn_lock.specs.History.{Begins, LacksUngiven}
+use Rattle.version_manager.specs.Desks.{updates_in, published_in}
+use Rattle.version_manager.specs.Log.{events, tagged, desk_at}
+use Rattle.version_manager.specs.declared.journal.DeskFixed.{DeskFixed}
+use Rattle.request_form.specs.Answers.{max_read}
+use Rattle.request_form.specs.declared.form.Fault.{Fault}
+use Rattle.request_form.specs.declared.form.Fault.TheVariants as Faults
+use Rattle.workload_law.specs.Ends.{IsOutside, UpdateHindered, CreateHindered}
+use Rattle.read_board.specs.declared.refresh.Refresh.{Refresh}
+use Rattle.watch_law.specs.declared.plan.WatchPlan.{WatchPlan}
+use Rattle.watch_law.specs.declared.plan.WatchSummary.{WatchSummary}
+use Rattle.watch_law.specs.Watch.{piece_of, HasWritten, summary_of}
+use Rattle.watch_run.specs.declared.last.Last.{Last}
+use Rattle.watch_run.specs.declared.watching.WatchFault.{WatchFault}
+use Rattle.watch_run.specs.declared.watching.WatchFault.TheVariants as WatchFaults
+use Rattle.watch_run.specs.Agreeing.{IsToldBy, IsSeenIn}
+use Rattle.watch_run.specs.Stages.{Entries, Owner, IsUnopened, IsWatched, LeavesWatch}
+
+-- ---- the last version
+-- The version was the recent one in a history between the first and the last of these, and this is its size in the last.
+pub record IsSeenLast (f : DeskFixed) (old new : Entries) (version size : ℕ) : Type 0 where
+  pub mid : Entries
+  pub begins : Begins old mid
+  pub goes_on : Begins mid new
+  pub is : version ≡ published_in (desk_at f mid) 1
+  pub size_is : size ≡ size_of (updates_in (desk_at f new) 1) version
+
+-- ---- before the store is closed
+-- the writer came to its end, and what was seen by then has all events of the first two callers
+pub record HasWrittenAll (plan : WatchPlan) (seen : Entries) (owner : Owner) : Type 0 where
+  pub written : HasWritten plan plan.ops (events_by 2 (events owner.seen))
+  pub created : events_by 1 (events seen) ≡ events_by 1 (events owner.seen)
+  pub same : events_by 2 (events seen) ≡ events_by 2 (events owner.seen)
+  pub begins : Begins seen owner.seen
+
+-- why a watch ended early
+pub data EndsBy (plan : WatchPlan) (f : DeskFixed) (owner : Owner) (fault : Fault) : Type 0 where
+  outside : IsOutside fault → EndsBy plan f owner fault
+  unopened : IsUnopened fault owner → EndsBy plan f owner fault
+  writer : (first : Entries) → IsWatched plan first owner → (op : ℕ) (seen : Entries) (later : List Event) → Begins seen owner.seen
+      → UpdateHindered greatest 2 1 Append (piece_of plan op) (events first ++ later) (events seen) fault → EndsBy plan f owner fault
+  missing : (first : Entries) → IsWatched plan first owner → (seen : Entries) → Begins first seen → Begins seen owner.seen
+      → blob_at (store_of greatest (events seen)) 1 ≡ None → EndsBy plan f owner fault
+  too_long : (first old new : Entries) → IsWatched plan first owner → HasWrittenAll plan old owner → Begins new owner.seen → (version size : ℕ) → IsSeenLast f old new version size
+      → max_read < size → EndsBy plan f owner fault
+
+-- ---- after the writer and the keeper came to their ends
+-- One more session has read the last version, and ended: what the readers learn tells that version, and the owner has seen it.
+pub record HasReadBack (f : DeskFixed) (shown : List Refresh) (old new : Owner) (last : Last) : Type 0 where
+  pub leaves : LeavesWatch old new
+  pub told : IsToldBy shown last
+  pub known : IsSeenIn f new.seen last
+  pub seen : Entries
+  pub begins : Begins seen new.seen
+  pub seen_last : IsSeenLast f old.seen seen last.version (length last.bytes)
+
+-- The last session and all readers have ended: what the version came to, as the last session saw it.
+pub record HasFinished (f : DeskFixed) (readers : ℕ) (old new : Owner) (summary : WatchSummary) : Type 0 where
+  pub leaves : LeavesWatch old new
+  pub seen : Entries
+  pub begins : Begins seen new.seen
+  pub last : IsSeenLast f old.seen seen summary.versions summary.size
+  pub agree : summary.agree ≡ readers
+
+-- why they didn't come to it
+pub data FinishHindered (f : DeskFixed) (old new : Owner) (fault : Fault) : Type 0 where
+  outside : IsOutside fault → FinishHindered f old new fault
+  missing : LeavesWatch old new → (seen : Entries) → Begins old.seen seen → Begins seen new.seen → blob_at (store_of greatest (events seen)) 1 ≡ None → FinishHindered f old new fault
+  too_long : LeavesWatch old new → (seen : Entries) → Begins seen new.seen → (version size : ℕ) → IsSeenLast f old.seen seen version size → max_read < size → FinishHindered f old new fault
+
+abbrev pub Finishes : DeskFixed → ℕ → Result WatchSummary Fault → Owner → Owner → Type 0
+Finishes f readers (Ok summary) old new = HasFinished f readers old new summary
+Finishes f readers (Err fault) old new = FinishHindered f old new fault
+
+-- what a watch came to, or why it ended early
+abbrev pub WatchEnds : WatchPlan → DeskFixed → Result WatchSummary Fault → Owner → Type 0
+WatchEnds plan f (Ok summary) owner =
+    (first : Entries) × ((old : Entries) × ((new : Entries) × (IsWatched plan first owner × (HasWrittenAll plan old owner × (Begins new owner.seen × (IsSeenLast f old new summary.versions summary.size × (summary.agree ≡ plan.readers)))))))
+WatchEnds plan f (Err fault) owner = EndsBy plan f owner fault
+
+-- ---- once it is closed
+abbrev pub TellsWatch : WatchPlan → Result WatchSummary Fault → Type 0
+TellsWatch plan (Ok summary) = summary ≡ summary_of plan
+TellsWatch plan (Err fault) = IsOutside fault
+
+-- ---- what the watch says of a fault
+abbrev pub watch_fault : Fault → WatchFault
+watch_fault Faults.NoMemory = WatchFaults.NoMemory
+watch_fault (Faults.NoMemoryTicket ticket) = WatchFaults.NoMemory
+watch_fault fault = WatchFaults.Refused fault
+
+-- A page was lost, and the count rose, which stands still at the greatest u64.
+pub record LostPage (fault : Fault) (before after : ℕ) : Type 0 where
+  pub page : ℕ
+  pub lost : fault ≡ Faults.PageFault page
+  pub rose : after < 2 ^ 64 - 1 → before + 1 ≤ after
+
+-- it ends so only where a page was lost, or for want of memory
+abbrev pub EndsEarly : WatchFault → ℕ → ℕ → Type 0
+EndsEarly (WatchFaults.Refused fault) before after = LostPage fault before after
+EndsEarly WatchFaults.NoMemory before after = Unit {0}

@@ -1,0 +1,9 @@
+pub mod Idling
+pub mod Writing
+pub mod Keeping
+pub mod Readers
+pub mod Stages
+pub mod Crews
+pub mod Lasts
+pub mod Agreeing
+pub mod Ending

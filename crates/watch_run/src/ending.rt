@@ -1,0 +1,245 @@
+// The end of a watch: the readers are compared with the last session, one by one, and their sessions end.
+ghost use Rattle.std.specs.Prelude.{◌≡◌, ◌≤◌, ◌<◌, ◌+◌, ◌-◌, ◌^◌, ◌↔◌, ℕ, true, IfOk, IfErr, IfSome, vec_len, All};
+ghost use Rattle.client_session.specs.Sessions.{IsOwnerOf};
+ghost use Rattle.workload_law.specs.Ends.{IsOutside};
+ghost use Rattle.workload_run.specs.Updates.{told_faults};
+ghost use Rattle.watch_run.specs.Stages.{IsIdle, LeavesWatch};
+ghost use Rattle.watch_run.specs.Crews.{IsEndable, IsDoneWatching, stop_faults};
+ghost use Rattle.watch_run.specs.Agreeing.{IsToldBy, IsSeenIn};
+
+use crate::agreeing::{compare_by_place, compare_by_turn};
+use crate::last::Last;
+use crate::making::end_idle;
+use crate::reading::Watcher;
+use client_session::{Owner, Shared};
+use page_store::DoorMaker;
+use ports::gate::Gate;
+use read_board::{Keeper, StandingReader};
+use request_form::{Fault, NoMemory};
+use std::alloc::Global;
+use std::marker::Brand;
+use std::sync::Wait;
+use std::sync::ledger::Blank;
+use store_sessions::open_session;
+
+/// Ends all readers, whose passes and doors go back, and answers the fault of the lowest that didn't come to its end.
+pub(crate) fn end_watchers<M: DoorMaker, G: Gate>(
+    shared: &Shared,
+    owner: &mut Owner,
+    maker: &mut M,
+    mut watchers: Vec<Watcher<'_, M::Door, G>>,
+) -> Option<Fault>
+    requires owner { IsOwnerOf shared.now owner.old }
+    requires endable { All (IsEndable M.Door.faults shared.now) watchers.items }
+    ensures stop { IfSome result IsOutside }
+    ensures leaves { LeavesWatch owner.old owner.new }
+    ensures out { owner.old.out ≡ owner.new.out + vec_len watchers.entry }
+    ensures owner { IsOwnerOf shared.now owner.new }
+    ensures doors { M.faults maker.new < 2 ^ 64 - 1 → M.faults maker.old + stop_faults result ≤ M.faults maker.new }
+    ensures truth_stays { M.is_true maker.old ↔ M.is_true maker.new }
+    ensures plan_stays { (n : ℕ) (door : _) → M.makes maker.old n door ↔ M.makes maker.new n door }
+{
+    let mut stop = None;
+    while let Some(watcher) = watchers.pop() {
+        let Watcher { reader, told } = watcher;
+        end_idle(shared, owner, maker, reader.into_session());
+        if let Err(fault) = told {
+            stop = Some(fault);
+        }
+    }
+    watchers.destroy_empty();
+    stop
+}
+
+// Whether a reader with a place reads the last version's bytes, once it has learnt what the keeper published. Its session ends.
+fn agree_by_place<R: Wait, W: Wait + Drop, M: DoorMaker, G: Gate>(
+    rt: &R,
+    shared: &Shared,
+    owner: &mut Owner,
+    maker: &mut M,
+    keeper: &Keeper<W>,
+    last: &Last,
+    reader: StandingReader<'_, M::Door, G>,
+) -> Result<bool, Fault>
+    requires owner { IsOwnerOf shared.now owner.old }
+    requires idle { IsIdle shared.now reader.session }
+    requires board { reader.board ≡ keeper.now.board }
+    requires place { reader.has_place ≡ true }
+    requires told { IsToldBy keeper.now.shown last.now }
+    ensures agrees { IfOk result (λ same. same ≡ true) }
+    ensures stop { IfErr result IsOutside }
+    ensures leaves { LeavesWatch owner.old owner.new }
+    ensures out { owner.old.out ≡ owner.new.out + 1 }
+    ensures made { owner.new.made ≡ owner.old.made }
+    ensures owner { IsOwnerOf shared.now owner.new }
+    ensures doors { M.faults maker.new < 2 ^ 64 - 1 → M.faults maker.old + told_faults result ≤ M.faults maker.new }
+    ensures truth_stays { M.is_true maker.old ↔ M.is_true maker.new }
+    ensures plan_stays { (n : ℕ) (door : _) → M.makes maker.old n door ↔ M.makes maker.new n door }
+{
+    let mut reader = reader;
+    let told = match keeper.note() {
+        Ok(note) => compare_by_place::<R, M::Door, G, Brand>(
+            rt,
+            &mut reader,
+            note,
+            last,
+            Blank::new(1),
+        ),
+        Err(NoMemory) => Err(Fault::NoMemory),
+    };
+    end_idle(shared, owner, maker, reader.into_session());
+    told
+}
+
+// Whether one more session reads the last version's bytes, in place of a reader that has no place, whose session has ended.
+fn agree_by_turn<R: Wait, M: DoorMaker, G: Gate>(
+    rt: &R,
+    alloc: Global,
+    shared: &Shared,
+    owner: &mut Owner,
+    maker: &mut M,
+    gate: &G,
+    last: &Last,
+) -> Result<bool, Fault>
+    requires owner { IsOwnerOf shared.now owner.old }
+    requires passes_left { (3 ≤ owner.old.made) × (owner.old.made < 1024) }
+    requires true_doors { M.is_true maker.old }
+    requires seen { IsSeenIn shared.now.fixed owner.old.seen last.now }
+    ensures agrees { IfOk result (λ same. same ≡ true) }
+    ensures stop { IfErr result IsOutside }
+    ensures leaves { IfOk result (λ _. LeavesWatch owner.old owner.new) }
+    ensures out { owner.new.out ≡ owner.old.out }
+    ensures made { (owner.old.made ≤ owner.new.made) × (owner.new.made ≤ owner.old.made + 1) }
+    ensures seen { IsSeenIn shared.now.fixed owner.new.seen last.now }
+    ensures owner { IsOwnerOf shared.now owner.new }
+    ensures doors { M.faults maker.new < 2 ^ 64 - 1 → M.faults maker.old + told_faults result ≤ M.faults maker.new }
+    ensures truth_stays { M.is_true maker.old ↔ M.is_true maker.new }
+    ensures plan_stays { (n : ℕ) (door : _) → M.makes maker.old n door ↔ M.makes maker.new n door }
+{
+    version_manager::laws::entries_are_events();
+    let Ok(mut session) = open_session(alloc, shared, owner, maker, gate) else {
+        return Err(Fault::NoMemory);
+    };
+    let told = compare_by_turn::<R, M::Door, G, Brand>(rt, &mut session, last, Blank::new(1));
+    end_idle(shared, owner, maker, session);
+    told
+}
+
+// Whether a reader that came to its end reads the last version's bytes, by its place or by one more session. Its session ends.
+fn agree_one<R: Wait, W: Wait + Drop, M: DoorMaker, G: Gate>(
+    rt: &R,
+    alloc: Global,
+    shared: &Shared,
+    owner: &mut Owner,
+    maker: &mut M,
+    gate: &G,
+    keeper: &Keeper<W>,
+    last: &Last,
+    reader: StandingReader<'_, M::Door, G>,
+) -> Result<bool, Fault>
+    requires owner { IsOwnerOf shared.now owner.old }
+    requires passes_left { (3 ≤ owner.old.made) × (owner.old.made < 1024) }
+    requires true_doors { M.is_true maker.old }
+    requires idle { IsIdle shared.now reader.session }
+    requires board { reader.board ≡ keeper.now.board }
+    requires told { IsToldBy keeper.now.shown last.now }
+    requires seen { IsSeenIn shared.now.fixed owner.old.seen last.now }
+    ensures agrees { IfOk result (λ same. same ≡ true) }
+    ensures stop { IfErr result IsOutside }
+    ensures leaves { IfOk result (λ _. LeavesWatch owner.old owner.new) }
+    ensures seen { IsSeenIn shared.now.fixed owner.new.seen last.now }
+    ensures out { owner.old.out ≡ owner.new.out + 1 }
+    ensures made { (owner.old.made ≤ owner.new.made) × (owner.new.made ≤ owner.old.made + 1) }
+    ensures owner { IsOwnerOf shared.now owner.new }
+    ensures doors { M.faults maker.new < 2 ^ 64 - 1 → M.faults maker.old + told_faults result ≤ M.faults maker.new }
+    ensures truth_stays { M.is_true maker.old ↔ M.is_true maker.new }
+    ensures plan_stays { (n : ℕ) (door : _) → M.makes maker.old n door ↔ M.makes maker.new n door }
+{
+    if reader.has_place() {
+        return agree_by_place(rt, shared, owner, maker, keeper, last, reader);
+    }
+    end_idle(shared, owner, maker, reader.into_session());
+    agree_by_turn(rt, alloc, shared, owner, maker, gate, last)
+}
+
+// Whether a reader reads the last version's bytes, or why it didn't come to its end. Its session ends.
+fn agree_with<R: Wait, W: Wait + Drop, M: DoorMaker, G: Gate>(
+    rt: &R,
+    alloc: Global,
+    shared: &Shared,
+    owner: &mut Owner,
+    maker: &mut M,
+    gate: &G,
+    keeper: &Keeper<W>,
+    last: &Last,
+    watcher: Watcher<'_, M::Door, G>,
+) -> Result<bool, Fault>
+    requires owner { IsOwnerOf shared.now owner.old }
+    requires passes_left { (3 ≤ owner.old.made) × (owner.old.made < 1024) }
+    requires true_doors { M.is_true maker.old }
+    requires done { IsDoneWatching M.Door.faults shared.now keeper.now.board watcher }
+    requires told { IsToldBy keeper.now.shown last.now }
+    requires seen { IsSeenIn shared.now.fixed owner.old.seen last.now }
+    ensures agrees { IfOk result (λ same. same ≡ true) }
+    ensures stop { IfErr result IsOutside }
+    ensures leaves { IfOk result (λ _. LeavesWatch owner.old owner.new) }
+    ensures seen { IsSeenIn shared.now.fixed owner.new.seen last.now }
+    ensures out { owner.old.out ≡ owner.new.out + 1 }
+    ensures made { (owner.old.made ≤ owner.new.made) × (owner.new.made ≤ owner.old.made + 1) }
+    ensures owner { IsOwnerOf shared.now owner.new }
+    ensures doors { M.faults maker.new < 2 ^ 64 - 1 → M.faults maker.old + told_faults result ≤ M.faults maker.new }
+    ensures truth_stays { M.is_true maker.old ↔ M.is_true maker.new }
+    ensures plan_stays { (n : ℕ) (door : _) → M.makes maker.old n door ↔ M.makes maker.new n door }
+{
+    let Watcher { reader, told } = watcher;
+    match told {
+        Ok(()) => agree_one(rt, alloc, shared, owner, maker, gate, keeper, last, reader),
+        Err(fault) => {
+            end_idle(shared, owner, maker, reader.into_session());
+            Err(fault)
+        }
+    }
+}
+
+/// How many readers read the last version's bytes. All their sessions end. Where a reader didn't come to its end, or its last read failed,
+/// it answers why, of the lowest such reader.
+pub(crate) fn agree_all<R: Wait, W: Wait + Drop, M: DoorMaker, G: Gate>(
+    rt: &R,
+    alloc: Global,
+    shared: &Shared,
+    owner: &mut Owner,
+    maker: &mut M,
+    gate: &G,
+    keeper: &Keeper<W>,
+    last: &Last,
+    mut watchers: Vec<Watcher<'_, M::Door, G>>,
+) -> Result<u32, Fault>
+    requires owner { IsOwnerOf shared.now owner.old }
+    requires passes_left { (3 ≤ owner.old.made) × (owner.old.made + vec_len watchers < 1024) }
+    requires true_doors { M.is_true maker.old }
+    requires done { All (IsDoneWatching M.Door.faults shared.now keeper.now.board) watchers.items }
+    requires told { IsToldBy keeper.now.shown last.now }
+    requires seen { IsSeenIn shared.now.fixed owner.old.seen last.now }
+    ensures all { IfOk result (λ agree. agree ≡ vec_len watchers.entry) }
+    ensures stop { IfErr result IsOutside }
+    ensures leaves { IfOk result (λ _. LeavesWatch owner.old owner.new) }
+    ensures out { owner.old.out ≡ owner.new.out + vec_len watchers.entry }
+    ensures owner { IsOwnerOf shared.now owner.new }
+    ensures doors { M.faults maker.new < 2 ^ 64 - 1 → M.faults maker.old + told_faults result ≤ M.faults maker.new }
+    ensures truth_stays { M.is_true maker.old ↔ M.is_true maker.new }
+    ensures plan_stays { (n : ℕ) (door : _) → M.makes maker.old n door ↔ M.makes maker.new n door }
+{
+    let mut agree: u32 = 0;
+    let mut stop = None;
+    while let Some(watcher) = watchers.pop() {
+        match agree_with(rt, alloc, shared, owner, maker, gate, keeper, last, watcher) {
+            Ok(same) => agree += u32::from(same),
+            Err(fault) => stop = Some(fault),
+        }
+    }
+    watchers.destroy_empty();
+    match stop {
+        Some(fault) => Err(fault),
+        None => Ok(agree),
+    }
+}

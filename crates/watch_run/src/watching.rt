@@ -1,0 +1,294 @@
+// A watch, from a new store to its summary.
+ghost use Rattle.std.specs.Prelude.{◌≡◌, ◌≤◌, ◌<◌, ◌+◌, ◌-◌, ◌^◌, ◌↔◌, ◌∷◌, [], ℕ, IfOk, IfErr, All, vec_len};
+ghost use Rattle.blob_model.specs.Limits.{greatest};
+ghost use Rattle.blob_model.specs.History.{IsLegal};
+ghost use Rattle.client_session.specs.Sessions.{IsOwnerOf};
+ghost use Rattle.version_manager.specs.Log.{fixed_of};
+ghost use Rattle.watch_law.specs.Watch.{IsSized, summary_of};
+ghost use Rattle.workload_run.specs.Updates.{told_faults};
+ghost use Rattle.read_board.specs.Refreshing.{AllHold};
+ghost use Rattle.store_sessions.specs.Made.{IsNewSession};
+ghost use Rattle.watch_run.specs.Stages.{IsCalled};
+ghost use Rattle.watch_run.specs.Crews.{IsReadyToWatch, IsDoneWatching};
+ghost use Rattle.watch_run.specs.Ending.{HasReadBack, FinishHindered, Finishes, WatchEnds, watch_fault, EndsEarly};
+
+use crate::beside::work_beside;
+use crate::crew::{Crew, crew_of};
+use crate::ending::{agree_all, end_watchers};
+use crate::last::{Last, read_last};
+use crate::making::{end_idle, open_store};
+use crate::reading::Watcher;
+use client_session::{Owner, Shared};
+use page_fan::BesideDoor;
+use page_store::DoorMaker;
+use ports::gate::Gate;
+use read_board::laws::refreshes_stay;
+use read_board::{Board, Keeper};
+use request_form::{Fault, NoMemory};
+use std::alloc::Global;
+use std::sync::Wait;
+use std::thread::Threads;
+use store_sessions::{end_session, open_session};
+use version_manager::Desk;
+use watch_law::laws::{watches_are_done, watches_close};
+use watch_law::{WatchPlan, WatchSummary};
+use workload_law::laws::loads_close;
+
+/// Why a watch ended early.
+#[derive(Clone, Copy, Debug, PartialEq, Eq)]
+pub enum WatchFault {
+    /// A call of one of its sessions was refused with this fault.
+    Refused(Fault),
+    /// No memory was found.
+    NoMemory,
+}
+
+// How a watch ended that was ended by this fault of a call.
+fn fault_of(fault: Fault) -> WatchFault
+    ensures { result ≡ watch_fault fault }
+{
+    match fault {
+        Fault::NoMemory => WatchFault::NoMemory,
+        Fault::NoMemoryTicket { .. } => WatchFault::NoMemory,
+        refused => WatchFault::Refused(refused),
+    }
+}
+
+// One more session refreshes the blob, reads the whole of it, and ends.
+fn read_back<R: Threads + Wait + Sync, W: Wait + Drop, M: DoorMaker, G: Gate>(
+    rt: &R,
+    alloc: Global,
+    shared: &Shared,
+    owner: &mut Owner,
+    doors: &mut M,
+    gate: &G,
+    keeper: &mut Keeper<W>,
+) -> Result<Last, Fault>
+where
+    M::Door: BesideDoor + Drop,
+    requires owner { IsOwnerOf shared.now owner.old }
+    requires limits { shared.now.fixed.limits ≡ greatest }
+    requires store { keeper.old.board.store ≡ shared.now ∷ [] }
+    requires hold { AllHold shared.now.fixed owner.old.seen keeper.old.all }
+    requires of_one { All (λ r. r.blob ≡ 1) keeper.old.all }
+    requires passes_left { (3 ≤ owner.old.made) × (owner.old.made < 1024) }
+    requires true_doors { M.is_true doors.old }
+    ensures read { IfOk result (HasReadBack shared.now.fixed keeper.new.shown owner.old owner.new) }
+    ensures hindered { IfErr result (FinishHindered shared.now.fixed owner.old owner.new) }
+    ensures board { keeper.new.board ≡ keeper.old.board }
+    ensures out { owner.new.out ≡ owner.old.out }
+    ensures made { (owner.old.made ≤ owner.new.made) × (owner.new.made ≤ owner.old.made + 1) }
+    ensures owner { IsOwnerOf shared.now owner.new }
+    ensures doors { M.faults doors.new < 2 ^ 64 - 1 → M.faults doors.old + told_faults result ≤ M.faults doors.new }
+    ensures truth_stays { M.is_true doors.old ↔ M.is_true doors.new }
+    ensures plan_stays { (n : ℕ) (door : _) → M.makes doors.old n door ↔ M.makes doors.new n door }
+{
+    version_manager::laws::entries_are_events();
+    let Ok(mut session) = open_session(alloc, shared, owner, doors, gate) else {
+        return Err(Fault::NoMemory);
+    };
+    let told = read_last(rt, keeper, &mut session);
+    end_idle(shared, owner, doors, session);
+    told
+}
+
+// The last session reads the blob, and then each reader, once the writer and the keeper came to their ends.
+fn finish<R: Threads + Wait + Sync, W: Wait + Drop, M: DoorMaker, G: Gate>(
+    rt: &R,
+    alloc: Global,
+    shared: &Shared,
+    owner: &mut Owner,
+    doors: &mut M,
+    gate: &G,
+    keeper: Keeper<W>,
+    watchers: Vec<Watcher<'_, M::Door, G>>,
+) -> Result<WatchSummary, Fault>
+where
+    M::Door: BesideDoor + Drop,
+    requires owner { IsOwnerOf shared.now owner.old }
+    requires limits { shared.now.fixed.limits ≡ greatest }
+    requires store { keeper.board.store ≡ shared.now ∷ [] }
+    requires hold { AllHold shared.now.fixed owner.old.seen keeper.all }
+    requires of_one { All (λ r. r.blob ≡ 1) keeper.all }
+    requires passes_left { (3 ≤ owner.old.made) × (owner.old.made + vec_len watchers < 1000) }
+    requires true_doors { M.is_true doors.old }
+    requires done { All (IsDoneWatching M.Door.faults shared.now keeper.board) watchers.items }
+    ensures finishes { Finishes shared.now.fixed (vec_len watchers.entry) result owner.old owner.new }
+    ensures out { owner.old.out ≡ owner.new.out + vec_len watchers.entry }
+    ensures owner { IsOwnerOf shared.now owner.new }
+    ensures doors { M.faults doors.new < 2 ^ 64 - 1 → M.faults doors.old + told_faults result ≤ M.faults doors.new }
+    ensures truth_stays { M.is_true doors.old ↔ M.is_true doors.new }
+    ensures plan_stays { (n : ℕ) (door : _) → M.makes doors.old n door ↔ M.makes doors.new n door }
+{
+    let mut keeper = keeper;
+    match read_back(rt, alloc, shared, owner, doors, gate, &mut keeper) {
+        Ok(last) => {
+            match agree_all(
+                rt, alloc, shared, owner, doors, gate, &keeper, &last, watchers,
+            ) {
+                Ok(agree) => Ok(WatchSummary {
+                    size: last.bytes.len() as u64,
+                    versions: last.version,
+                    agree,
+                }),
+                Err(stopped) => Err(stopped),
+            }
+        }
+        Err(fault) => match end_watchers(shared, owner, doors, watchers) {
+            Some(stop) => Err(stop),
+            None => Err(fault),
+        },
+    }
+}
+
+// The crew works, and all that comes then. All its sessions end.
+fn work<R: Threads + Wait + Sync, W: Wait + Drop + Send, M: DoorMaker, G: Gate + Sync>(
+    rt: &R,
+    alloc: Global,
+    shared: &Shared,
+    owner: &mut Owner,
+    doors: &mut M,
+    gate: &G,
+    plan: &WatchPlan,
+    keeper: Keeper<W>,
+    crew: Crew<'_, M::Door, G>,
+) -> Result<WatchSummary, Fault>
+where
+    M::Door: BesideDoor + Drop + Send,
+    requires sized { IsSized plan.now }
+    requires owner { IsOwnerOf shared.now owner.old }
+    requires limits { shared.now.fixed.limits ≡ greatest }
+    requires opened { IsCalled owner.old plan.now.readers }
+    requires board { (keeper.board.store ≡ shared.now ∷ []) × (keeper.all ≡ []) }
+    requires writer { IsNewSession M.Door.faults shared.now (record owner.old { made = 1 }) crew.writer }
+    requires keeping { IsNewSession M.Door.faults shared.now (record owner.old { made = 2 }) crew.keeping }
+    requires ready { All (IsReadyToWatch M.Door.faults shared.now keeper.board) crew.watchers.items }
+    requires count { vec_len crew.watchers ≡ plan.now.readers }
+    requires true_doors { M.is_true doors.old }
+    ensures ends { WatchEnds plan.now shared.now.fixed result owner.new }
+    ensures none_out { owner.new.out ≡ 0 }
+    ensures owner { IsOwnerOf shared.now owner.new }
+    ensures doors { M.faults doors.new < 2 ^ 64 - 1 → M.faults doors.old + told_faults result ≤ M.faults doors.new }
+    ensures truth_stays { M.is_true doors.old ↔ M.is_true doors.new }
+    ensures plan_stays { (n : ℕ) (door : _) → M.makes doors.old n door ↔ M.makes doors.new n door }
+{
+    version_manager::laws::entries_are_events();
+    loads_close();
+    refreshes_stay();
+    let (keeper, crew, written, kept) = work_beside(rt, plan, keeper, crew);
+    let Crew {
+        writer,
+        keeping,
+        watchers,
+    } = crew;
+    end_session(shared, owner, doors, writer);
+    end_idle(shared, owner, doors, keeping);
+    match written.and(kept) {
+        Ok(()) => finish(rt, alloc, shared, owner, doors, gate, keeper, watchers),
+        Err(fault) => {
+            let _later = end_watchers(shared, owner, doors, watchers);
+            Err(fault)
+        }
+    }
+}
+
+// Opens the store, lets all callers do their work, and compares what they read.
+fn run_watch<R: Threads + Wait + Sync, M: DoorMaker, G: Gate + Sync>(
+    rt: &R,
+    alloc: Global,
+    shared: &Shared,
+    owner: &mut Owner,
+    doors: &mut M,
+    gate: &G,
+    plan: &WatchPlan,
+) -> Result<WatchSummary, Fault>
+where
+    M::Door: BesideDoor + Drop + Send,
+    requires sized { IsSized plan.now }
+    requires owner { IsOwnerOf shared.now owner.old }
+    requires limits { shared.now.fixed.limits ≡ greatest }
+    requires no_pass { owner.old.made ≡ 0 }
+    requires none_out { owner.old.out ≡ 0 }
+    requires new { owner.old.seen ≡ [] }
+    requires none_kept { owner.old.kept ≡ [] }
+    requires true_doors { M.is_true doors.old }
+    ensures ends { WatchEnds plan.now shared.now.fixed result owner.new }
+    ensures none_out { owner.new.out ≡ 0 }
+    ensures owner { IsOwnerOf shared.now owner.new }
+    ensures doors { M.faults doors.new < 2 ^ 64 - 1 → M.faults doors.old + told_faults result ≤ M.faults doors.new }
+    ensures truth_stays { M.is_true doors.old ↔ M.is_true doors.new }
+    ensures plan_stays { (n : ℕ) (door : _) → M.makes doors.old n door ↔ M.makes doors.new n door }
+{
+    match open_store(rt, alloc, shared, owner, doors, gate) {
+        Ok(()) => {}
+        Err(unopened) => return Err(unopened),
+    }
+    let Ok((keeper, mut stand)) = Board::new(rt, alloc, shared, plan.readers) else {
+        return Err(Fault::NoMemory);
+    };
+    match crew_of(alloc, shared, owner, doors, gate, &mut stand, plan.readers) {
+        Ok(crew) => work(rt, alloc, shared, owner, doors, gate, plan, keeper, crew),
+        Err(NoMemory) => Err(Fault::NoMemory),
+    }
+}
+
+/// Runs a watch on a new store with the greatest limits. Its first session makes blob 1. Then a writer appends the plan's updates to it,
+/// a keeper refreshes it as often on a board, and the plan's readers read each update's bytes in turn, each by a session of its own and
+/// in a thread of its own where one can be made; one after another where none can. The writer does an update again that is refused as
+/// too many wait, and finishes one that is held back; a reader passes over versions that aren't published yet. Who is refused otherwise,
+/// or finds no memory, or loses a page, stops, and the others go on to their ends. Then one more session refreshes the blob and reads it
+/// whole, and each reader learns what the keeper published and reads the same; a reader without a place does so by a new session.
+///
+/// It answers the last version with its size, and how many readers read the same bytes, which is the plan's summary at every schedule,
+/// and the desk of the closed store. Where the opening, the writer, the keeper, a reader or the last session didn't come to its end it
+/// answers why, of the lowest such caller: a page was lost, and then the count of `doors` rose, or no memory was found. When it
+/// answers, all passes and all doors have gone back. The gate is called between the acts of updates.
+pub fn watch<R: Threads + Wait + Sync, M: DoorMaker, G: Gate + Sync>(
+    rt: &R,
+    alloc: Global,
+    shared: Shared,
+    owner: Owner,
+    doors: &mut M,
+    gate: &G,
+    plan: WatchPlan,
+) -> Result<(WatchSummary, Desk), WatchFault>
+where
+    M::Door: BesideDoor + Drop + Send,
+    requires sized { IsSized plan }
+    requires owner { IsOwnerOf shared owner }
+    requires limits { shared.fixed.limits ≡ greatest }
+    requires no_pass { owner.made ≡ 0 }
+    requires none_out { owner.out ≡ 0 }
+    requires new { owner.seen ≡ [] }
+    requires none_kept { owner.kept ≡ [] }
+    requires true_doors { M.is_true doors.old }
+
+    // What the watch came to, and what its store holds then.
+    ensures summary { IfOk result (λ r. r.0 ≡ summary_of plan) }
+    ensures legal { IfOk result (λ r. IsLegal greatest r.1.history) }
+    ensures fixed { IfOk result (λ r. fixed_of r.1 ≡ shared.fixed) }
+
+    // Why it ended early.
+    ensures early { IfErr result (λ fault. EndsEarly fault (M.faults doors.old) (M.faults doors.new)) }
+
+    // What the doors counted went to the maker, which makes the doors that it made before.
+    ensures doors { M.faults doors.new < 2 ^ 64 - 1 → M.faults doors.old ≤ M.faults doors.new }
+    ensures truth_stays { M.is_true doors.old ↔ M.is_true doors.new }
+    ensures plan_stays { (n : ℕ) (door : _) → M.makes doors.old n door ↔ M.makes doors.new n door }
+{
+    watches_close();
+    watches_are_done();
+    version_manager::laws::entries_are_events();
+    let mut owner = owner;
+    let told = run_watch(rt, alloc, &shared, &mut owner, doors, gate, &plan);
+    let Ok(desk) = shared.close(owner) else {
+        // All passes came back.
+        unreachable!()
+    };
+    // The desk's history is legal.
+    desk.stands();
+    match told {
+        Ok(summary) => Ok((summary, desk)),
+        Err(fault) => Err(fault_of(fault)),
+    }
+}
