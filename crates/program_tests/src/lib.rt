@@ -2,6 +2,8 @@
 #![tactic(auto)]
 
 #[cfg(test)]
+mod node_doors;
+#[cfg(test)]
 mod nodes;
 #[cfg(test)]
 mod program;
