@@ -1,0 +1,5 @@
+//! Tests of the watch: what it comes to.
+#![tactic(auto)]
+
+#[cfg(test)]
+mod watching;
