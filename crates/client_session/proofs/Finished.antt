@@ -16,9 +16,9 @@ use Rattle.border_hints.specs.Numbered.{NumberedUpdate}
 use Rattle.border_hints.specs.Numbered.{IsNumbered as IsWellNumbered}
 use Rattle.faults.specs.Counts.{RoseBy}
 use Rattle.page_store.specs.Count.{HasRisen}
-use Rattle.session_parts.specs.Anew.{IsStoredAnew, OnLostFold}
-use Rattle.session_parts.specs.declared.folding.WeaveFault.{WeaveFault}
-use Rattle.session_parts.specs.declared.folding.WeaveFault.TheVariants as WeaveFaults
+use Rattle.tree_weaver.specs.Anew.{IsStoredAnew, OnLostFold}
+use Rattle.tree_weaver.specs.declared.folding.WeaveFault.{WeaveFault}
+use Rattle.tree_weaver.specs.declared.folding.WeaveFault.TheVariants as WeaveFaults
 use Rattle.version_manager.specs.Desks.{IsTicketOf, updates_in, updates_or_none, published_or_none, finished_or_not, OnRefused, store_now, ticket_refusal}
 use Rattle.turn_lock.specs.Shown.{PassView, Turned}
 use Rattle.version_manager.specs.Laws.{GapsAreOfOthers}

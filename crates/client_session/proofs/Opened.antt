@@ -13,7 +13,7 @@ use Rattle.node_store.specs.UpdateRows.{UpdateRow}
 use Rattle.border_hints.specs.Numbered.{NumberedUpdate}
 use Rattle.border_hints.specs.Numbered.{IsNumbered as IsWellNumbered}
 use Rattle.session_parts.specs.Tickets.{OpenUpdate}
-use Rattle.session_parts.specs.Woven.{IsWoven}
+use Rattle.tree_weaver.specs.Woven.{IsWoven}
 use Rattle.version_manager.specs.Desks.{updates_in, updates_or_none, published_or_none}
 use Rattle.version_manager.specs.Log.{MayFinish, IsNewTicket, IsWaitingTicket, desk_at, events}
 use Rattle.version_manager.specs.Stays.{ticket_stays}

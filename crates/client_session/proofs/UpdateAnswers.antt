@@ -26,7 +26,7 @@ use Rattle.request_form.specs.declared.form.Reply.{Reply}
 use Rattle.request_form.specs.declared.form.Reply.TheVariants as Replies
 use Rattle.request_form.specs.declared.form.Fault.{Fault}
 use Rattle.request_form.specs.declared.form.Fault.TheVariants as Faults
-use Rattle.session_parts.specs.Anew.{StoresSomeAnew}
+use Rattle.tree_weaver.specs.Anew.{StoresSomeAnew}
 use Rattle.session_parts.specs.Tickets.{OpenUpdate, HasRow, ticket_of}
 use Rattle.client_session.specs.declared.done.Updated.{Updated as Whole}
 use Rattle.client_session.specs.declared.done.Updated.TheVariants as WholeUpdates

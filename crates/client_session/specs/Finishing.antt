@@ -8,7 +8,7 @@ use Rattle.page_store.specs.Stored.{LieAmong}
 use Rattle.snapshot.specs.Versions.{IsVersionIn}
 use Rattle.turn_lock.specs.History.{Begins}
 use Rattle.request_form.specs.Replies.{page_faults}
-use Rattle.session_parts.specs.Anew.{StoresSomeAnew, IsStoredAnew}
+use Rattle.tree_weaver.specs.Anew.{StoresSomeAnew, IsStoredAnew}
 use Rattle.version_manager.specs.Desks.{OnRefused, store_now}
 use Rattle.version_manager.specs.Log.{IsWaitingTicket, desk_at, events}
 use Rattle.version_manager.specs.declared.journal.DeskFixed.{DeskFixed}

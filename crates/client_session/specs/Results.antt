@@ -4,8 +4,8 @@ use Rattle.blob_model.specs.declared.call.Place.{Place}
 use Rattle.snapshot.specs.Versions.{Version}
 use Rattle.page_fan.specs.declared.storing.StoreFault.{StoreFault}
 use Rattle.page_fan.specs.declared.storing.StoreFault.TheVariants as StoreFaults
-use Rattle.session_parts.specs.declared.folding.WeaveFault.{WeaveFault}
-use Rattle.session_parts.specs.declared.folding.WeaveFault.TheVariants as WeaveFaults
+use Rattle.tree_weaver.specs.declared.folding.WeaveFault.{WeaveFault}
+use Rattle.tree_weaver.specs.declared.folding.WeaveFault.TheVariants as WeaveFaults
 use Rattle.session_parts.specs.declared.reading.RangeFault.{RangeFault}
 use Rattle.session_parts.specs.declared.reading.RangeFault.TheVariants as RangeFaults
 use Rattle.version_manager.specs.declared.fault.DeskFault.{DeskFault}

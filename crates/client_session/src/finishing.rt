@@ -10,7 +10,7 @@ ghost use Rattle.request_form.specs.Answers.{Answers};
 ghost use Rattle.request_form.specs.declared.form.Request.TheVariants as Requests;
 ghost use Rattle.version_manager.specs.Log.{MayFinish, IsWaitingTicket};
 ghost use Rattle.session_parts.specs.Tickets.{OpenUpdate, tickets_of};
-ghost use Rattle.session_parts.specs.Woven.{IsWoven};
+ghost use Rattle.tree_weaver.specs.Woven.{IsWoven};
 ghost use Rattle.client_session.specs.Results.{weave_fault, finish_reply, repair_reply};
 ghost use Rattle.client_session.specs.Sessions.{IsPassOf, Went, session_of, Continues};
 ghost use Rattle.client_session.specs.SessionInvariant.{IsTicketHere};
@@ -25,10 +25,10 @@ use page_store::Door;
 use ports::gate::{Gate, Point};
 use range_reader::ReadRoom;
 use request_form::Fault;
-use session_parts::{WeaveFault, weave, weave_anew};
 use std::alloc::Global;
 use std::sync::{Arc, Wait};
 use std::thread::Threads;
+use tree_weaver::{WeaveFault, weave, weave_anew};
 use version_manager::{DeskFault, Pass};
 
 // Whether the update of a finish is finished, by the session or by others: no ticket of it is wanted any more.

@@ -11,7 +11,7 @@ ghost use Rattle.request_form.specs.Session.{Session as Seen, store_at};
 ghost use Rattle.request_form.specs.Replies.{page_faults, fault_count};
 ghost use Rattle.request_form.specs.Answers.{Answers, update_fault, folds_in, update_faults};
 ghost use Rattle.request_form.specs.declared.form.Request.TheVariants as Requests;
-ghost use Rattle.session_parts.specs.Anew.{StoresSomeAnew};
+ghost use Rattle.tree_weaver.specs.Anew.{StoresSomeAnew};
 ghost use Rattle.session_parts.specs.Tickets.{HasRow};
 ghost use Rattle.version_manager.specs.Log.{MayAssign, MayFinish};
 ghost use Rattle.client_session.specs.SessionInvariant.{IsOpen, IsTicketHere};
@@ -29,12 +29,14 @@ use border_hints::Ticket;
 use node_store::Row;
 use page_fan::{BesideDoor, Doors, StoreFault};
 use page_store::{Door, Pages};
+use page_writer::store_bytes;
 use ports::gate::{Gate, Point};
 use request_form::{Fault, NoMemory};
-use session_parts::{MAX_TICKETS, OpenTicket, store_bytes, weave};
+use session_parts::{MAX_TICKETS, OpenTicket};
 use std::alloc::Global;
 use std::sync::{Arc, Wait};
 use std::thread::Threads;
+use tree_weaver::weave;
 use version_manager::Pass;
 
 // Why the session itself refuses an update, where it takes at most `limit` bytes and holds so many tickets.

@@ -1,10 +1,4 @@
-pub mod Anew
-pub mod Filled
 pub mod Finding
 pub mod HeldRows
 pub mod ToldRanges
-pub mod Lost
-pub mod Placements
-pub mod StoredParts
-pub mod WovenRows
 pub mod JoinedRanges

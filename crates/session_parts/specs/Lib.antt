@@ -1,5 +1,2 @@
-pub mod Anew
-pub mod Lost
 pub mod Ranges
 pub mod Tickets
-pub mod Woven

@@ -12,10 +12,10 @@ use blob_model::{Limits, Place, Refusal};
 use border_hints::Ticket;
 use node_store::{NodeHouse, Row};
 use page_store::{Houses, Pages};
-use session_parts::weave;
 use std::alloc::Global;
 use std::process::Abort;
 use std::sync::{Arc, Wait};
+use tree_weaver::weave;
 use version_manager::{Desk, DeskFault};
 
 // Who finishes what `CALLER` numbered.

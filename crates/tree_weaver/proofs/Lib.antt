@@ -1,4 +1,9 @@
 pub mod Plans
 pub mod Shapes
-pub mod Folding
+pub mod FoldedPages
 pub mod Storing
+pub mod Anew
+pub mod Filled
+pub mod Lost
+pub mod StoredParts
+pub mod WovenRows

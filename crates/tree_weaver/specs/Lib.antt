@@ -1,2 +1,4 @@
 pub mod Planned
 pub mod Laws
+pub mod Anew
+pub mod Woven

@@ -152,7 +152,7 @@ fn back(ticket: &Ticket, borders: &Borders, page: u64) -> (u64, u32)
 }
 
 // Whether the update stores the page anew, which it touches.
-#[tactic(auto, using(crate::proofs::Folding::folded_is))]
+#[tactic(auto, using(crate::proofs::FoldedPages::folded_is))]
 fn folded(ticket: &Ticket, borders: &Borders, page: u64) -> bool
     requires page_size { borders.now.page_size ≡ ticket.now.snapshot.page_size }
     requires touch { borders.now.touch ≡ own_touch ticket.now }
@@ -207,7 +207,7 @@ fn place(ticket: &Ticket, borders: &Borders, page: u64) -> u32
 
 // The leaf of a page that the update stores anew, at that place among such pages: all valid bytes of the page, in the stored
 // page that comes after the update's own at that place.
-#[tactic(auto, using(crate::proofs::Shapes::page_low, crate::proofs::Shapes::page_high, crate::proofs::Folding::pages_counted))]
+#[tactic(auto, using(crate::proofs::Shapes::page_low, crate::proofs::Shapes::page_high, crate::proofs::FoldedPages::pages_counted))]
 fn whole(ticket: &Ticket, place: u32, page: u64) -> Node
     requires few { length ticket.now.pages.pages ≤ 4294967293 }
     requires place { place ≤ 1 }

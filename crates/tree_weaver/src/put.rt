@@ -5,7 +5,7 @@ ghost use Rattle.node_store.specs.House.{IsIn};
 ghost use Rattle.border_hints.specs.Numbered.{own_touch};
 ghost use Rattle.tree_weaver.specs.Planned.{own_ranges, ranges_of, nodes_of};
 
-use crate::weave::PlannedRow;
+use crate::planning::PlannedRow;
 use border_hints::Ticket;
 use node_store::{Folds, NoMemory, NodeHouse, Row, RowNodes};
 use std::alloc::Global;

@@ -1,7 +1,7 @@
 use Rattle.std.proofs.Common.{List, subst}
 use Rattle.std.specs.Arc.{arc_value}
 use Rattle.boxcar.specs.Table.{Shelves}
-use Rattle.session_parts.specs.Woven.{IsWoven}
+use Rattle.tree_weaver.specs.Woven.{IsWoven}
 use Rattle.client_session.proofs.Opened.{may_finish_woven}
 use Rattle.client_session.proofs.finishing.finish_by.Goals as goal
 

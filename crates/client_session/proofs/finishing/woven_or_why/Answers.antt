@@ -3,7 +3,7 @@ use Rattle.std.specs.Prelude.{sum_by}
 use Rattle.std.specs.Arc.{arc_value}
 use Rattle.boxcar.specs.Table.{Shelves}
 use Rattle.snapshot.specs.Versions.{Version}
-use Rattle.session_parts.specs.Woven.{IsWoven}
+use Rattle.tree_weaver.specs.Woven.{IsWoven}
 use Rattle.client_session.proofs.Finished.{not_woven_by, risen_by}
 use Rattle.client_session.proofs.finishing.woven_or_why.Goals as goal
 

@@ -2,7 +2,7 @@ use Rattle.std.proofs.Common.{◌≡◌, List, sym, subst}
 use Rattle.std.specs.Arc.{arc_value}
 use Rattle.boxcar.specs.Table.{Shelves}
 use Rattle.node_store.specs.UpdateRows.{IsRowIn}
-use Rattle.session_parts.specs.Woven.{IsAmong}
+use Rattle.tree_weaver.specs.Woven.{IsAmong}
 use Rattle.version_manager.specs.Desks.{updates_in}
 use Rattle.store_tests.proofs.repair.row_of.Goals as goal
 

@@ -1,5 +1,5 @@
 use Rattle.std.proofs.Common.{sym, true, false, ◌∙◌}
-use Rattle.tree_weaver.proofs.Folding.{place_other}
+use Rattle.tree_weaver.proofs.FoldedPages.{place_other}
 use Rattle.tree_weaver.proofs.node.place.Goals as goal
 
 pub returns-then-folded-clause-place : goal.returns-then-folded-clause-place

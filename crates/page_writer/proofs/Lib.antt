@@ -1,0 +1,2 @@
+pub mod OnePage
+pub mod Placements

@@ -1,0 +1,62 @@
+use Rattle.std.proofs.Common.{◌≡◌, ◌+◌, ◌-◌, ◌*◌, ◌/◌, ◌<◌, ◌≤◌, ◌++◌, length, map, arith, ap, ◌∙◌}
+use Rattle.std.specs.Prelude.{slice_range}
+use Rattle.page_store.specs.Stored.{bytes_of_pages}
+use Rattle.snapshot.specs.Versions.{Version}
+use Rattle.range_reader.proofs.Counting.{kept_twice, risen_since}
+use Rattle.range_reader.proofs.Parts.{range_join}
+use Rattle.range_reader.proofs.Walking.{down, up}
+use Rattle.tree_weaver.proofs.StoredParts.{own_since}
+use Rattle.tree_weaver.proofs.folding.fetch_own.Goals as goal
+
+pub returns-clause-bytes : goal.returns-clause-bytes
+returns-clause-bytes g c = λ all ok.
+    let t = c.args.ticket.now in
+    let p = c.bytes-p.result in
+    let q = t.snapshot.page_size in
+    let from = c.args.from in
+    let n = length c.args.out.now in
+    let front = length c.split_at_mut-front.result.0.now in
+    let back = length c.split_at_mut-front.result.1.now in
+    let cut = c.split_at_mut-front.ensures.front_len in
+    let rest = c.split_at_mut-front.ensures.back_len in
+    let same : p ≡ q = c.bytes-p.ensures.is ∙ c.page_size.ensures ∙ ap (λ (s : Version). s.page_size) c.hints.ensures.snapshot in
+    let bytes = bytes_of_pages t.pages.pages in
+    let low : from / p * p ≤ from = down from p in
+    let high : from < (from / p + 1) * p = up from p (omega (arith, c.bytes-p.ensures.bounds)) in
+    let own : from / p * q ≡ from / p * p = ap (λ x. from / p * x) (omega (arith, same)) in
+    let next : (from / p + 1) * q ≡ (from / p + 1) * p = ap (λ x. (from / p + 1) * x) (omega (arith, same)) in
+    let begin : from / p * q + (from - from / p * p) ≡ from = omega (arith, own, low) in
+    let middle : (from / p + 1) * q + 0 ≡ from + front = omega (arith, next, cut, low, high) in
+    let end : from + front + back ≡ from + n = omega (arith, cut, rest) in
+    let first = c.fetch_stored-2.ensures.bytes all c.if-not-fetch_stored.false ∙ ap (λ x. slice_range bytes x (x + front)) begin in
+    let second = c.fetch_stored-3.ensures.bytes (c.fetch_stored-2.ensures.truth_stays all) ok ∙ ap (λ x. slice_range bytes x (x + back)) middle ∙ ap (slice_range bytes (from + front)) end in
+    ap (λ l. l ++ c.fetch_stored-3.new.out) first ∙ ap (λ l. slice_range bytes from (from + front) ++ l) second
+    ∙ range_join bytes from (from + front) (from + n) (omega arith) (omega (arith, end))
+
+pub returns-clause-failed : goal.returns-clause-failed
+returns-clause-failed g c = λ lost.
+    let t = c.args.ticket.now in
+    let p = c.bytes-p.result in
+    let q = t.snapshot.page_size in
+    let from = c.args.from in
+    let counts = map g.D.Door.faults in
+    let same : p ≡ q = c.bytes-p.ensures.is ∙ c.page_size.ensures ∙ ap (λ (s : Version). s.page_size) c.hints.ensures.snapshot in
+    let low : from / p * p ≤ from = down from p in
+    let high : from < (from / p + 1) * p = up from p (omega (arith, c.bytes-p.ensures.bounds)) in
+    let next : (from / p + 1) * q ≡ (from / p + 1) * p = ap (λ x. (from / p + 1) * x) (omega (arith, same)) in
+    let more : (from / p + 1 + 1) * q ≡ (from / p + 1) * q + q = omega arith in
+    record {
+      number = from / p + 1;
+      begins = omega (arith, next, low, high, c.if-out-left.false);
+      ends = omega (arith, next, more, high);
+      lost = own_since t (counts c.args.doors.now) (counts c.fetch_stored-2.new.doors) (counts c.fetch_stored-3.new.doors) (from / p + 1)
+          c.fetch_stored-2.ensures.kept.none_fell (c.fetch_stored-3.ensures.failed lost);
+    }
+
+pub returns-clause-counted : goal.returns-clause-counted
+returns-clause-counted g c = λ lost.
+    risen_since _ _ _ c.fetch_stored-2.ensures.kept.total (c.fetch_stored-3.ensures.counted lost)
+
+pub returns-clause-kept : goal.returns-clause-kept
+returns-clause-kept g c =
+    kept_twice _ _ _ _ _ _ c.fetch_stored-2.ensures.kept c.fetch_stored-3.ensures.kept

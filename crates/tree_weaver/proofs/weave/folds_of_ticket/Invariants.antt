@@ -1,4 +1,0 @@
-use Rattle.tree_weaver.proofs.weave.folds_of_ticket.Given as goal
-
-abbrev pub ghosts-folds_by : goal.ghosts-folds_by
-ghosts-folds_by a = record { name = a.blank.name; parts = a.blank.parts }
