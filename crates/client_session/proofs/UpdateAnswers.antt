@@ -28,8 +28,8 @@ use Rattle.request_form.specs.declared.form.Fault.{Fault}
 use Rattle.request_form.specs.declared.form.Fault.TheVariants as Faults
 use Rattle.tree_weaver.specs.Anew.{StoresSomeAnew}
 use Rattle.session_parts.specs.Tickets.{OpenUpdate, HasRow, ticket_of}
-use Rattle.client_session.specs.declared.done.Updated.{Updated as Whole}
-use Rattle.client_session.specs.declared.done.Updated.TheVariants as WholeUpdates
+use Rattle.session_parts.specs.declared.done.Updated.{Updated as Whole}
+use Rattle.session_parts.specs.declared.done.Updated.TheVariants as WholeUpdates
 use Rattle.client_session.specs.Results.{repair_reply, updated_reply}
 use Rattle.client_session.specs.Sessions.{SessionState, session_of}
 use Rattle.client_session.specs.SessionInvariant.{IsTicketHere}

@@ -17,13 +17,12 @@ use Rattle.turn_lock.specs.Shown.{PassView, OwnerView}
 use Rattle.version_manager.specs.Desks.{updates_or_none}
 use Rattle.version_manager.specs.Log.{IsLog, events}
 use Rattle.version_manager.specs.declared.journal.DeskFixed.{DeskFixed}
-use Rattle.request_form.specs.Answers.{max_read, max_update, max_update_greater, ranges_fault}
+use Rattle.request_form.specs.Answers.{max_read, ranges_fault}
 use Rattle.request_form.specs.PublishedReads.{IsPublishedIn, Range, Tells, read_outcome}
 use Rattle.request_form.specs.Session.{Session, outcome_at}
 use Rattle.request_form.specs.declared.form.Reply.{Reply}
 use Rattle.session_parts.specs.Tickets.{OpenUpdate, tickets_of}
-use Rattle.client_session.specs.declared.limit.UpdateLimit.{UpdateLimit}
-use Rattle.client_session.specs.declared.limit.UpdateLimit.TheVariants as UpdateLimits
+pub use Rattle.session_parts.specs.Limits.{longest}
 
 -- a store that sessions share: the lock of its desk, what no act changes, and how many providers it has
 pub record StoreState : Type 0 where
@@ -58,11 +57,6 @@ pub record SessionState (D : Type 0) : Type 0 where
   pub next : ℕ
   pub doors : List D
   pub limit : ℕ
-
--- how many bytes the longest update has
-abbrev pub longest : UpdateLimit → ℕ
-longest UpdateLimits.AtFirst = max_update
-longest UpdateLimits.AfterHello = max_update_greater
 
 -- a session as the definition of its answers sees it
 abbrev pub session_at : DeskFixed → ℕ → List (ℕ × Event) → List OpenUpdate → ℕ → ℕ → Session

@@ -18,9 +18,10 @@ use Rattle.request_form.specs.declared.form.Reply.{Reply}
 use Rattle.request_form.specs.declared.form.Reply.TheVariants as Replies
 use Rattle.request_form.specs.declared.form.Fault.{Fault}
 use Rattle.request_form.specs.declared.form.Fault.TheVariants as Faults
-use Rattle.client_session.specs.declared.done.Started.{Started as HeldUpdate}
-use Rattle.client_session.specs.declared.done.Updated.{Updated}
-use Rattle.client_session.specs.declared.done.Updated.TheVariants as WholeUpdates
+pub use Rattle.session_parts.specs.Replies.{update_reply, start_reply}
+use Rattle.session_parts.specs.declared.done.Started.{Started as HeldUpdate}
+use Rattle.session_parts.specs.declared.done.Updated.{Updated}
+use Rattle.session_parts.specs.declared.done.Updated.TheVariants as WholeUpdates
 use Rattle.client_session.specs.Sessions.{SessionState, session_of}
 use Rattle.client_session.specs.SessionInvariant.{IsTicketHere}
 
@@ -33,16 +34,6 @@ update_request blob (WriteAt offset) bytes = Requests.Write blob offset bytes
 abbrev pub start_request : ℕ → Place → List ℕ → Request
 start_request blob Append bytes = Requests.StartAppend blob bytes
 start_request blob (WriteAt offset) bytes = Requests.StartWrite blob offset bytes
-
--- what is said of an update that was finished: its version, its offset and the blob's size
-abbrev pub update_reply : Place → ℕ → ℕ → ℕ → Reply
-update_reply Append version at size = Replies.Appended version at size
-update_reply (WriteAt offset) version at size = Replies.Wrote version at size
-
--- what is said of one that was started: its ticket, its version, its offset and the blob's size
-abbrev pub start_reply : Place → ℕ → ℕ → ℕ → ℕ → Reply
-start_reply Append ticket version at size = Replies.AppendStarted ticket version at size
-start_reply (WriteAt offset) ticket version at size = Replies.WriteStarted ticket version at size
 
 -- an update that is finished at once or held back, and that the session itself doesn't refuse
 abbrev pub UpdateDone : Session → ℕ → Place → List ℕ → Reply → Session → Type 0

@@ -7,125 +7,24 @@ ghost use Rattle.request_form.specs.Replies.{fault_count};
 ghost use Rattle.request_form.specs.Answers.{Answers, update_faults};
 ghost use Rattle.request_form.specs.declared.form.Request.TheVariants as Requests;
 ghost use Rattle.client_session.specs.Sessions.{StoreState, session_of};
-ghost use Rattle.client_session.specs.Results.{create_reply, branch_reply, finish_reply, read_reply, contents_reply, repair_reply, started_reply, updated_reply};
+ghost use Rattle.client_session.specs.Results.{read_reply, contents_reply};
 ghost use Rattle.client_session.specs.Updates.{update_request, start_request};
 
-use crate::done::{Done, Started, Updated};
 use crate::session::Session;
 use blob_model::{Bytes, Place};
 use page_fan::BesideDoor;
 use page_store::Door;
 use ports::gate::Gate;
 use request_form::{Fault, RangeList, Reply, Request, Service};
+use session_parts::{
+    said_of_branch, said_of_contents, said_of_create, said_of_finish, said_of_read, said_of_repair,
+    said_of_start, said_of_update,
+};
 use std::marker::Brand;
 use std::sync::Wait;
 use std::sync::ledger::{Blank, Ledger};
 use std::thread::Threads;
 use tree_geom::Steps;
-
-// What is said of a new blob.
-fn said_of_create(created: Result<u64, Fault>) -> Reply
-    ensures { result ≡ create_reply created }
-{
-    match created {
-        Ok(blob) => Reply::Created { blob },
-        Err(fault) => Reply::Refused(fault),
-    }
-}
-
-// What is said of a branch.
-fn said_of_branch(branched: Result<u64, Fault>) -> Reply
-    ensures { result ≡ branch_reply branched }
-{
-    match branched {
-        Ok(blob) => Reply::Branched { blob },
-        Err(fault) => Reply::Refused(fault),
-    }
-}
-
-// What is said of a finish.
-fn said_of_finish(finished: Result<u64, Fault>) -> Reply
-    ensures { result ≡ finish_reply finished }
-{
-    match finished {
-        Ok(published) => Reply::Finished { published },
-        Err(fault) => Reply::Refused(fault),
-    }
-}
-
-// What is said of a read.
-fn said_of_read(read: Result<Bytes, Fault>) -> Reply
-    ensures { result ≡ read_reply read }
-{
-    match read {
-        Ok(bytes) => Reply::Content { bytes },
-        Err(fault) => Reply::Refused(fault),
-    }
-}
-
-// What is said of an update at that place that waits for its finish.
-fn said_of_start(place: Place, started: Result<Started, Fault>) -> Reply
-    ensures { result ≡ started_reply place started }
-{
-    match started {
-        Ok(
-            Started {
-                ticket,
-                version,
-                at,
-                size,
-            },
-        ) => match place {
-            Place::Append => Reply::AppendStarted {
-                ticket,
-                version,
-                at,
-                size,
-            },
-            Place::WriteAt(_) => Reply::WriteStarted {
-                ticket,
-                version,
-                at,
-                size,
-            },
-        },
-        Err(fault) => Reply::Refused(fault),
-    }
-}
-
-// What is said of an update at that place that is finished, or held.
-fn said_of_update(place: Place, updated: Result<Updated, Fault>) -> Reply
-    ensures { result ≡ updated_reply place updated }
-{
-    match updated {
-        Ok(Updated::Done(Done { version, at, size })) => match place {
-            Place::Append => Reply::Appended { version, at, size },
-            Place::WriteAt(_) => Reply::Wrote { version, at, size },
-        },
-        Ok(Updated::Held(started)) => said_of_start(place, Ok(started)),
-        Err(fault) => Reply::Refused(fault),
-    }
-}
-
-// What is said of a read of many ranges.
-fn said_of_contents(read: Result<Bytes, Fault>) -> Reply
-    ensures { result ≡ contents_reply read }
-{
-    match read {
-        Ok(bytes) => Reply::Contents { bytes },
-        Err(fault) => Reply::Refused(fault),
-    }
-}
-
-// What is said of a repair.
-fn said_of_repair(repaired: Result<u64, Fault>) -> Reply
-    ensures { result ≡ repair_reply repaired }
-{
-    match repaired {
-        Ok(published) => Reply::Repaired { published },
-        Err(fault) => Reply::Refused(fault),
-    }
-}
 
 // A read whose node steps nobody counts.
 fn read_uncounted<D: Door, G: Gate, R: Wait, L: Ledger>(

@@ -15,7 +15,6 @@ ghost use Rattle.client_session.specs.Results.{desk_fault, told_of, opened_of, r
 ghost use Rattle.client_session.specs.Opening.{Opening, IsOfStore, ReadsRange};
 ghost use Rattle.client_session.specs.Sessions.{IsPassOf, session_of, pass_of, Continues, visits_seen, NoStepIfRefused, IsSettled, AnswersAsPublished};
 
-use crate::limit::UpdateLimit;
 use crate::shared::Shared;
 use blob_model::{Bytes, Outcome, Refusal};
 use node_store::NodeHouse;
@@ -24,7 +23,7 @@ use page_store::Door;
 use ports::gate::Gate;
 use range_reader::ReadRoom;
 use request_form::{Fault, NoMemory};
-use session_parts::{RangeFault, Tickets, read_range};
+use session_parts::{RangeFault, Tickets, UpdateLimit, read_range};
 use snapshot::Snapshot;
 use std::alloc::Global;
 use std::marker::Model;

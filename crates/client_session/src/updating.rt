@@ -21,7 +21,6 @@ ghost use Rattle.client_session.specs.Finishing.{bare};
 ghost use Rattle.client_session.specs.Numbering.{LookedAhead, NotNumberedFor, Numbering};
 ghost use Rattle.client_session.specs.Updates.{update_request, start_request, start_reply, IsNumbered, NotNumbered, IsKept};
 
-use crate::done::{Done, Started, Updated};
 use crate::session::{Session, fault_of};
 use crate::shared::Shared;
 use blob_model::{Place, Refusal};
@@ -32,7 +31,7 @@ use page_store::{Door, Pages};
 use page_writer::store_bytes;
 use ports::gate::{Gate, Point};
 use request_form::{Fault, NoMemory};
-use session_parts::{MAX_TICKETS, OpenTicket};
+use session_parts::{Done, MAX_TICKETS, OpenTicket, Started, Updated};
 use std::alloc::Global;
 use std::sync::{Arc, Wait};
 use std::thread::Threads;

@@ -1,2 +1,4 @@
+pub mod Limits
 pub mod Ranges
+pub mod Replies
 pub mod Tickets
