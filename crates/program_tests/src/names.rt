@@ -1,6 +1,6 @@
 //! Lines about folders and files, over the command `files`, and their replies.
 
-use crate::program::{ROOM, check_ran, run_line};
+use crate::words::{ROOM, check_ran, run_line};
 use std::alloc::Global;
 use std::process::Abort;
 use std::sync::Wait;

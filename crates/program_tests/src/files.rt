@@ -1,6 +1,6 @@
 //! Settings files, and the status and the error line that they come to.
 
-use crate::program::{ROOM, check_ran, run_line};
+use crate::words::{ROOM, check_ran, run_line};
 use std::alloc::Global;
 use std::process::Abort;
 use std::sync::Wait;

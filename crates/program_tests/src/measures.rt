@@ -1,6 +1,6 @@
 //! Loads: the three lines that each comes to, and how one ends whose pages are lost.
 
-use crate::program::{ROOM, Ran, check_ran, error_line, file_of, run_line, run_over};
+use crate::words::{ROOM, Ran, check_ran, error_line, file_of, run_line, run_over};
 use page_store::FlakyMaker;
 use std::alloc::Global;
 use std::process::Abort;
