@@ -1,7 +1,6 @@
 //! Tests of the book of loads that sessions share.
 
-ghost use Rattle.std.specs.Prelude.{◌≡◌, ◌<◌, length};
-
+use crate::placement::check_shared;
 use provider_manager::{LoadBook, Placements, SharedLoads};
 use std::alloc::Global;
 use std::process::Abort;
@@ -61,22 +60,10 @@ fn two_threads_leave_an_even_book(rt: HostRuntime) {
     assert_eq!(rt; place_beside(&rt, rt.alloc(), &loads), [1334, 1333, 1333]);
 }
 
-// The page has one replica, at this provider.
-fn check_place(rt: &impl Abort, placed: &Placements, page: u32, provider: u32)
-    requires { page < length placed.now }
-{
-    assert_eq!(rt; placed.of(page).chosen(), [provider].as_slice());
-}
-
 #[test]
 fn a_full_shared_book_goes_on(rt: HostRuntime) {
     let half = 1 << 61;
     let book = LoadBook::with_loads(rt.alloc(), &[half, half - 1], 1).expect(&rt, "memory");
     let loads = SharedLoads::new(book);
-    let placed = loads.place(&rt, rt.alloc(), 4).expect(&rt, "memory");
-    assert_eq!(rt; placed.count(), 4);
-    check_place(&rt, &placed, 0, 2);
-    check_place(&rt, &placed, 1, 1);
-    check_place(&rt, &placed, 2, 2);
-    check_place(&rt, &placed, 3, 1);
+    check_shared(&rt, &loads, 4, &[&[2], &[1], &[2], &[1]]);
 }

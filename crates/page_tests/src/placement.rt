@@ -85,8 +85,8 @@ fn no_pages_have_no_placements(rt: HostRuntime) {
     check_placed(&rt, &placed(&rt, &mut book, 0), &[]);
 }
 
-// Checks where a shared book places the next pages.
-fn check_shared<R: Abort + AllocGlobal + Wait>(
+/// Checks where a shared book places the next pages.
+pub(crate) fn check_shared<R: Abort + AllocGlobal + Wait>(
     rt: &R,
     loads: &SharedLoads,
     pages: u32,
