@@ -1,5 +1,5 @@
 //! Tests of a desk, in pages of four bytes. What it answers is spelled as a session would say it.
-ghost use Rattle.std.specs.Prelude.{◌≡◌, ◌≤◌, length, All};
+ghost use Rattle.std.specs.Prelude.{◌≡◌, ◌≤◌, [], length, All};
 ghost use Rattle.std.specs.Arc.{arc_value};
 ghost use Rattle.page_store.specs.House.{IsProvider};
 ghost use Rattle.page_store.specs.Stored.{bytes_of_pages, LieAmong};
@@ -78,7 +78,8 @@ pub(crate) fn four_bytes<R: Abort>(rt: &R) -> PageSize
 }
 
 // A desk with no blobs.
-fn desk_of<R: Abort>(rt: &R, alloc: Global, limits: Limits, houses: &Arc<Houses>) -> Desk
+pub(crate) fn desk_of<R: Abort>(rt: &R, alloc: Global, limits: Limits, houses: &Arc<Houses>) -> Desk
+    ensures new { result.history ≡ [] }
     ensures page_size { result.page_size ≡ 4 }
     ensures housed { result.houses ≡ arc_value houses.now }
 {

@@ -1,14 +1,12 @@
 //! A desk that two threads share.
 ghost use Rattle.std.specs.Prelude.{◌≡◌};
 
+use crate::desk::{desk_of, one_house};
 use blob_model::{Limits, Outcome};
-use node_store::NodeHouse;
-use page_store::Houses;
 use std::alloc::Global;
 use std::process::Abort;
-use std::sync::{Arc, Wait};
+use std::sync::Wait;
 use std::thread::{Threads, join};
-use tree_geom::PageSize;
 use version_manager::{Desk, Owner, Pass, SharedDesk};
 
 // Makes two blobs, and tells whether a look at the second finds it.
@@ -44,12 +42,8 @@ fn empty_desk<R: Abort>(rt: &R, alloc: Global) -> (SharedDesk, Owner)
     ensures made { result.1.made ≡ 0 }
     ensures out { result.1.out ≡ 0 }
 {
-    let houses = Houses::new(alloc, 1).expect(rt, "memory");
-    let houses = Arc::new(alloc, houses).expect(rt, "memory");
-    let nodes = NodeHouse::new(alloc).expect(rt, "memory");
-    let nodes = Arc::new(alloc, nodes).expect(rt, "memory");
-    let p = PageSize::new(4).expect(rt, "four bytes");
-    let desk = Desk::new(alloc, Limits::greatest(), p, &houses, &nodes).expect(rt, "memory");
+    let houses = one_house(rt, alloc);
+    let desk = desk_of(rt, alloc, Limits::greatest(), &houses);
     SharedDesk::new(alloc, desk).expect(rt, "memory")
 }
 
