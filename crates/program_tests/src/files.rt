@@ -1,6 +1,7 @@
 //! Settings files, and the status and the error line that they come to.
 
-use crate::words::{ROOM, check_ran, run_line};
+use crate::program::ROOM;
+use crate::words::{check_ran, run_line};
 use std::alloc::Global;
 use std::process::Abort;
 use std::sync::Wait;

@@ -1,6 +1,7 @@
 //! Loads: the three lines that each comes to, and how one ends whose pages are lost.
 
-use crate::words::{ROOM, Ran, check_ran, error_line, file_of, run_line, run_over};
+use crate::program::{ROOM, Ran};
+use crate::words::{check_ran, error_line, file_of, run_line, run_over};
 use page_store::FlakyMaker;
 use std::alloc::Global;
 use std::process::Abort;

@@ -1,6 +1,7 @@
 //! Lines about folders and files, over the command `files`, and their replies.
 
-use crate::words::{ROOM, check_ran, run_line};
+use crate::program::ROOM;
+use crate::words::{check_ran, run_line};
 use std::alloc::Global;
 use std::process::Abort;
 use std::sync::Wait;

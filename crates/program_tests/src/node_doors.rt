@@ -1,25 +1,16 @@
 //! The program over a maker of doors to page nodes, each at the other end of a link in memory.
 
-use blobseer_run::run;
+use crate::program::{ROOM, check_ran, memory_of, run_words};
+use crate::run::SMALL_PAGES;
 use faults::NoMemory;
 use node_door::{LoopLink, StreamDoor};
 use page_node::Shelf;
 use page_store::DoorMaker;
-use ports::gate::FreeGate;
-use ports::listener::Listener;
-use ports::mem_files::MemFiles;
-use ports::mem_listener::MemListener;
-use ports::memory::{MemSink, MemSource};
-use ports::pair::Pair;
 use std::alloc::Global;
-use std::collections::{BTreeMap, VecDeque};
 use std::process::Abort;
 use std::sync::Wait;
 use std::thread::Threads;
 use tree_geom::PageSize;
-
-// How many bytes of each kind a link has room for.
-const ROOM: usize = 4096;
 
 // Makes doors to nodes of their own, over links in memory.
 #[derive(Drop)]
@@ -56,9 +47,6 @@ impl DoorMaker for LoopMaker {
     }
 }
 
-// Pages of four bytes, so that updates lie on several.
-static WORDS: [&str; 7] = ["run", "--page", "4", "--providers", "3", "--replicas", "2"];
-
 // Scripts and their replies.
 static ROWS: [(&str, &str); 3] = [
     (
@@ -75,51 +63,6 @@ static ROWS: [(&str, &str); 3] = [
     ),
 ];
 
-// The words of the program.
-fn words<R: Abort>(rt: &R, alloc: Global) -> Vec<String> {
-    let mut words = Vec::new(alloc);
-    for word in WORDS.as_slice() {
-        let word = String::from_str(alloc, word).expect(rt, "memory");
-        words.push(word).expect(rt, "memory");
-    }
-    words
-}
-
-// The status with which the program ends over a script, an output, and a listener to which nobody comes.
-fn status_of<R: Wait + Threads + Sync + Abort, L: Listener>(
-    rt: &R,
-    alloc: Global,
-    source: MemSource,
-    out: &mut MemSink,
-    net: &mut L,
-    doors: &mut LoopMaker,
-) -> u8
-where
-    L::Peer: Drop + Send,
-{
-    let words = words(rt, alloc);
-    let mut source = source;
-    let mut err = MemSink::new(alloc, 64).expect(rt, "memory");
-    let mut files = MemFiles::new(alloc, BTreeMap::new(alloc));
-    run(
-        rt,
-        alloc,
-        words.as_slice(),
-        &mut source,
-        out,
-        &mut err,
-        net,
-        &mut files,
-        doors,
-        &FreeGate,
-    )
-}
-
-// A listener to which nobody comes.
-fn nobody<'a>(alloc: Global) -> MemListener<Pair<'a, MemSource, MemSink>> {
-    MemListener::new(String::new(alloc), VecDeque::new(alloc), Vec::new(alloc))
-}
-
 // Checks the replies to a script, and that no door failed.
 fn check_row<R: Wait + Threads + Sync + Abort>(rt: &R, alloc: Global, row: &(&str, &str)) {
     let (script, replies) = *row;
@@ -128,12 +71,10 @@ fn check_row<R: Wait + Threads + Sync + Abort>(rt: &R, alloc: Global, row: &(&st
         page_size: PageSize::new(4).expect(rt, "a page size"),
         faults: 0,
     };
-    let script = script.as_bytes().to_vec(alloc).expect(rt, "memory");
-    let source = MemSource::new(script, 7, Vec::new(alloc));
-    let mut out = MemSink::new(alloc, ROOM).expect(rt, "memory");
-    let status = status_of(rt, alloc, source, &mut out, &mut nobody(alloc), &mut doors);
-    assert!(rt; status == 0 && doors.faults == 0, "it ended with {status}");
-    assert!(rt; out.bytes() == replies.as_bytes(), "other replies");
+    let source = memory_of(rt, alloc, script.as_bytes(), 7, &[]);
+    let ran = run_words(rt, alloc, SMALL_PAGES, source, ROOM, &mut doors);
+    check_ran(rt, &ran, replies.as_bytes(), "", 0, script);
+    assert_eq!(rt; doors.faults, 0, "{script}");
 }
 
 #[test]

@@ -1,6 +1,7 @@
 //! Stores by their settings: limits, pages, providers and replicas.
 
-use crate::words::{ROOM, Ran, check_ran, file_of, run_line, run_over};
+use crate::program::{ROOM, Ran};
+use crate::words::{check_ran, file_of, run_line, run_over};
 use page_store::FlakyMaker;
 use std::alloc::Global;
 use std::process::Abort;
