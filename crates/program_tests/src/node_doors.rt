@@ -2,50 +2,12 @@
 
 use crate::program::{ROOM, check_ran, memory_of, run_words};
 use crate::run::SMALL_PAGES;
-use faults::NoMemory;
-use node_door::{LoopLink, StreamDoor};
-use page_node::Shelf;
-use page_store::DoorMaker;
+use node_door::LoopMaker;
 use std::alloc::Global;
 use std::process::Abort;
 use std::sync::Wait;
 use std::thread::Threads;
 use tree_geom::PageSize;
-
-// Makes doors to nodes of their own, over links in memory.
-#[derive(Drop)]
-struct LoopMaker {
-    alloc: Global,
-    page_size: PageSize,
-    faults: u64,
-}
-
-impl DoorMaker for LoopMaker {
-    ghost use Rattle.std.specs.Prelude.{⊤};
-
-    type Door = StreamDoor<LoopLink>;
-
-    ghost is_true = { λ _. ⊤ };
-
-    ghost faults = { λ m. m.faults };
-
-    ghost makes = { λ _ _ _. ⊤ };
-
-    ghost hands_out = { λ _ _. ⊤ };
-
-    ghost takes_back = { λ _ _. ⊤ };
-
-    fn make(&mut self, provider: u32) -> Result<StreamDoor<LoopLink>, NoMemory> {
-        let _faults = self.faults;
-        let shelf = Shelf::new(self.alloc, self.page_size)?;
-        let link = LoopLink::new(self.alloc, shelf, ROOM)?;
-        StreamDoor::new(self.alloc, provider, self.page_size, link)
-    }
-
-    fn back(&mut self, door: StreamDoor<LoopLink>) {
-        self.faults = self.faults.saturating_add(door.faults());
-    }
-}
 
 // Scripts and their replies.
 static ROWS: [(&str, &str); 3] = [
@@ -66,15 +28,12 @@ static ROWS: [(&str, &str); 3] = [
 // Checks the replies to a script, and that no door failed.
 fn check_row<R: Wait + Threads + Sync + Abort>(rt: &R, alloc: Global, row: &(&str, &str)) {
     let (script, replies) = *row;
-    let mut doors = LoopMaker {
-        alloc,
-        page_size: PageSize::new(4).expect(rt, "a page size"),
-        faults: 0,
-    };
+    let p = PageSize::new(4).expect(rt, "a page size");
+    let mut doors = LoopMaker::new(alloc, p, ROOM);
     let source = memory_of(rt, alloc, script.as_bytes(), 7, &[]);
     let ran = run_words(rt, alloc, SMALL_PAGES, source, ROOM, &mut doors);
     check_ran(rt, &ran, replies.as_bytes(), "", 0, script);
-    assert_eq!(rt; doors.faults, 0, "{script}");
+    assert_eq!(rt; doors.faults(), 0, "{script}");
 }
 
 #[test]
