@@ -11,6 +11,7 @@ use Rattle.page_node.specs.Node.{Node, NodeAnswers, is_quit, reply_to}
 use Rattle.page_node.specs.Frames.{heard}
 use Rattle.page_node.specs.Said.{said}
 use Rattle.page_node.specs.Transcript.{Says, NodeTranscript}
+use Rattle.node_door.specs.Door.{DoorAt}
 
 -- a link: what its node keeps, the bytes that were written to it, those of its replies that it gave and that are left, for how many bytes of each it
 -- has room, and its counts of faults of writes and of ends
@@ -26,6 +27,16 @@ pub record LoopAt : Type 0 where
 -- a node of that page size that keeps nothing
 abbrev pub new_node : ℕ → Node
 new_node p = record { page_size = p; pages = [] }
+
+-- a door to a provider over such a link, as it is made
+abbrev pub new_door : ℕ → DoorAt
+new_door provider = record {
+  provider = provider;
+  link = record { given = Some []; left = None; written = Some []; read_faults = 0; write_faults = 0; ends = 0 };
+  own = [];
+  spent = false;
+  faults = 0;
+}
 
 -- what the link gave, and then what is left, are the node's transcript of the whole frames that were written to it
 abbrev pub Loops : LoopAt → Type 0

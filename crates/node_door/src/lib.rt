@@ -2,6 +2,7 @@
 //!
 //! - A [`StreamDoor`] is a session's way to a node: a `Door` over any stream that is a source and a sink.
 //! - A [`LoopLink`] is such a stream in memory, with a shelf of its own at the other end.
+//! - A [`LoopMaker`] makes doors over such links.
 #![tactic(auto)]
 
 ghost use Rattle.std.specs.Prelude.{◌≡◌};
@@ -9,9 +10,11 @@ ghost use Rattle.std.specs.Prelude.{◌≡◌};
 mod beside;
 mod door;
 mod loop_link;
+mod loop_maker;
 mod own;
 mod wire;
 
 pub use beside::BYTES_A_THREAD;
 pub use door::StreamDoor;
 pub use loop_link::LoopLink;
+pub use loop_maker::LoopMaker;

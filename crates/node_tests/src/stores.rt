@@ -5,12 +5,9 @@ ghost use Rattle.client_session.specs.Sessions.{IsOwnerOf};
 use crate::served::bytes_of;
 use blob_model::Limits;
 use client_session::{Owner, Session, Shared};
-use faults::NoMemory;
 use frame_wire::FrameDialect;
-use node_door::{LoopLink, StreamDoor};
+use node_door::LoopMaker;
 use page_fan::Doors;
-use page_node::Shelf;
-use page_store::DoorMaker;
 use ports::gate::FreeGate;
 use ports::memory::{MemSink, MemSource};
 use ports::pair::Pair;
@@ -24,41 +21,6 @@ use tree_geom::PageSize;
 
 // How many bytes of each kind a link has room for, and the output.
 const ROOM: usize = 4096;
-
-// Makes doors to nodes of their own.
-#[derive(Drop)]
-struct LoopMaker {
-    alloc: Global,
-    page_size: PageSize,
-    faults: u64,
-}
-
-impl DoorMaker for LoopMaker {
-    ghost use Rattle.std.specs.Prelude.{⊤};
-
-    type Door = StreamDoor<LoopLink>;
-
-    ghost is_true = { λ _. ⊤ };
-
-    ghost faults = { λ m. m.faults };
-
-    ghost makes = { λ _ _ _. ⊤ };
-
-    ghost hands_out = { λ _ _. ⊤ };
-
-    ghost takes_back = { λ _ _. ⊤ };
-
-    fn make(&mut self, provider: u32) -> Result<StreamDoor<LoopLink>, NoMemory> {
-        let _faults = self.faults;
-        let shelf = Shelf::new(self.alloc, self.page_size)?;
-        let link = LoopLink::new(self.alloc, shelf, ROOM)?;
-        StreamDoor::new(self.alloc, provider, self.page_size, link)
-    }
-
-    fn back(&mut self, door: StreamDoor<LoopLink>) {
-        self.faults = self.faults.saturating_add(door.faults());
-    }
-}
 
 // Frames to a session, and its replies.
 static ROWS: [(&str, &str); 2] = [
@@ -109,11 +71,7 @@ fn replies_to<R: Abort + Wait + Threads + Sync, V: Service>(
 // What the only session of a new store answers to frames.
 fn said_to<R: Abort + Wait + Threads + Sync>(rt: &R, alloc: Global, frames: &str) -> Vec<u8> {
     let p = PageSize::new(4).expect(rt, "a page size");
-    let mut maker = LoopMaker {
-        alloc,
-        page_size: p,
-        faults: 0,
-    };
+    let mut maker = LoopMaker::new(alloc, p, ROOM);
     let (shared, mut owner) = store_of(rt, alloc, p);
     let doors = Doors::new(alloc, &mut maker, shared.providers()).expect(rt, "memory");
     let pass = shared.pass(&mut owner).expect(rt, "a pass");

@@ -1,6 +1,15 @@
-//! Tests of `run`: whole scripts with their replies, frames to a node, outputs and inputs that fail, and doors that do.
+//! Tests of `run`: what each command line, each settings file and each script come to, frames to a node, outputs and inputs that fail,
+//! and doors that do.
 #![tactic(auto)]
 
+#[cfg(test)]
+mod files;
+#[cfg(test)]
+mod lines;
+#[cfg(test)]
+mod measures;
+#[cfg(test)]
+mod names;
 #[cfg(test)]
 mod node_doors;
 #[cfg(test)]
@@ -9,3 +18,7 @@ mod nodes;
 mod program;
 #[cfg(test)]
 mod run;
+#[cfg(test)]
+mod stores;
+#[cfg(test)]
+mod words;

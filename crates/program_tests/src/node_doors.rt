@@ -1,63 +1,13 @@
 //! The program over a maker of doors to page nodes, each at the other end of a link in memory.
 
-use blobseer_run::run;
-use faults::NoMemory;
-use node_door::{LoopLink, StreamDoor};
-use page_node::Shelf;
-use page_store::DoorMaker;
-use ports::gate::FreeGate;
-use ports::listener::Listener;
-use ports::mem_files::MemFiles;
-use ports::mem_listener::MemListener;
-use ports::memory::{MemSink, MemSource};
-use ports::pair::Pair;
+use crate::program::{ROOM, check_ran, memory_of, run_words};
+use crate::run::SMALL_PAGES;
+use node_door::LoopMaker;
 use std::alloc::Global;
-use std::collections::{BTreeMap, VecDeque};
 use std::process::Abort;
 use std::sync::Wait;
 use std::thread::Threads;
 use tree_geom::PageSize;
-
-// How many bytes of each kind a link has room for.
-const ROOM: usize = 4096;
-
-// Makes doors to nodes of their own, over links in memory.
-#[derive(Drop)]
-struct LoopMaker {
-    alloc: Global,
-    page_size: PageSize,
-    faults: u64,
-}
-
-impl DoorMaker for LoopMaker {
-    ghost use Rattle.std.specs.Prelude.{⊤};
-
-    type Door = StreamDoor<LoopLink>;
-
-    ghost is_true = { λ _. ⊤ };
-
-    ghost faults = { λ m. m.faults };
-
-    ghost makes = { λ _ _ _. ⊤ };
-
-    ghost hands_out = { λ _ _. ⊤ };
-
-    ghost takes_back = { λ _ _. ⊤ };
-
-    fn make(&mut self, provider: u32) -> Result<StreamDoor<LoopLink>, NoMemory> {
-        let _faults = self.faults;
-        let shelf = Shelf::new(self.alloc, self.page_size)?;
-        let link = LoopLink::new(self.alloc, shelf, ROOM)?;
-        StreamDoor::new(self.alloc, provider, self.page_size, link)
-    }
-
-    fn back(&mut self, door: StreamDoor<LoopLink>) {
-        self.faults = self.faults.saturating_add(door.faults());
-    }
-}
-
-// Pages of four bytes, so that updates lie on several.
-static WORDS: [&str; 7] = ["run", "--page", "4", "--providers", "3", "--replicas", "2"];
 
 // Scripts and their replies.
 static ROWS: [(&str, &str); 3] = [
@@ -75,65 +25,15 @@ static ROWS: [(&str, &str); 3] = [
     ),
 ];
 
-// The words of the program.
-fn words<R: Abort>(rt: &R, alloc: Global) -> Vec<String> {
-    let mut words = Vec::new(alloc);
-    for word in WORDS.as_slice() {
-        let word = String::from_str(alloc, word).expect(rt, "memory");
-        words.push(word).expect(rt, "memory");
-    }
-    words
-}
-
-// The status with which the program ends over a script, an output, and a listener to which nobody comes.
-fn status_of<R: Wait + Threads + Sync + Abort, L: Listener>(
-    rt: &R,
-    alloc: Global,
-    source: MemSource,
-    out: &mut MemSink,
-    net: &mut L,
-    doors: &mut LoopMaker,
-) -> u8
-where
-    L::Peer: Drop + Send,
-{
-    let words = words(rt, alloc);
-    let mut source = source;
-    let mut err = MemSink::new(alloc, 64).expect(rt, "memory");
-    let mut files = MemFiles::new(alloc, BTreeMap::new(alloc));
-    run(
-        rt,
-        alloc,
-        words.as_slice(),
-        &mut source,
-        out,
-        &mut err,
-        net,
-        &mut files,
-        doors,
-        &FreeGate,
-    )
-}
-
-// A listener to which nobody comes.
-fn nobody<'a>(alloc: Global) -> MemListener<Pair<'a, MemSource, MemSink>> {
-    MemListener::new(String::new(alloc), VecDeque::new(alloc), Vec::new(alloc))
-}
-
 // Checks the replies to a script, and that no door failed.
 fn check_row<R: Wait + Threads + Sync + Abort>(rt: &R, alloc: Global, row: &(&str, &str)) {
     let (script, replies) = *row;
-    let mut doors = LoopMaker {
-        alloc,
-        page_size: PageSize::new(4).expect(rt, "a page size"),
-        faults: 0,
-    };
-    let script = script.as_bytes().to_vec(alloc).expect(rt, "memory");
-    let source = MemSource::new(script, 7, Vec::new(alloc));
-    let mut out = MemSink::new(alloc, ROOM).expect(rt, "memory");
-    let status = status_of(rt, alloc, source, &mut out, &mut nobody(alloc), &mut doors);
-    assert!(rt; status == 0 && doors.faults == 0, "it ended with {status}");
-    assert!(rt; out.bytes() == replies.as_bytes(), "other replies");
+    let p = PageSize::new(4).expect(rt, "a page size");
+    let mut doors = LoopMaker::new(alloc, p, ROOM);
+    let source = memory_of(rt, alloc, script.as_bytes(), 7, &[]);
+    let ran = run_words(rt, alloc, SMALL_PAGES, source, ROOM, &mut doors);
+    check_ran(rt, &ran, replies.as_bytes(), "", 0, script);
+    assert_eq!(rt; doors.faults(), 0, "{script}");
 }
 
 #[test]

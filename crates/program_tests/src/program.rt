@@ -16,7 +16,7 @@ use std::process::Abort;
 use std::sync::Wait;
 use std::thread::Threads;
 
-/// More than any transcript of the tables has.
+/// More than any output of the tables has.
 pub const ROOM: usize = 4096;
 
 /// What a run wrote, and how it ended.
@@ -44,12 +44,13 @@ fn nobody<'a>(alloc: Global) -> MemListener<Pair<'a, MemSource, MemSink>> {
     MemListener::new(String::new(alloc), VecDeque::new(alloc), Vec::new(alloc))
 }
 
-// The status of a run with the words of a line. Nothing is said of it here, so that what `run` ensures stands in no goal of the
-// tests.
-fn status_of<R: Wait + Threads + Sync + Abort, M: DoorMaker>(
+/// The status of a run with the words of a line. Nothing is said of it here, so that what `run` ensures stands in no goal of the
+/// tests.
+pub fn status_of<R: Wait + Threads + Sync + Abort, M: DoorMaker>(
     rt: &R,
     alloc: Global,
     line: &str,
+    files: &mut MemFiles,
     source: MemSource,
     out: &mut MemSink,
     err: &mut MemSink,
@@ -61,7 +62,6 @@ where
 {
     let words = words_of(rt, alloc, line);
     let mut source = source;
-    let mut files = MemFiles::new(alloc, BTreeMap::new(alloc));
     let mut net = nobody(alloc);
     run(
         rt,
@@ -71,7 +71,7 @@ where
         out,
         err,
         &mut net,
-        &mut files,
+        files,
         doors,
         &FreeGate,
     )
@@ -92,7 +92,10 @@ where
 {
     let mut out = MemSink::new(alloc, room).expect(rt, "memory");
     let mut err = MemSink::new(alloc, ROOM).expect(rt, "memory");
-    let status = status_of(rt, alloc, line, source, &mut out, &mut err, doors);
+    let mut files = MemFiles::new(alloc, BTreeMap::new(alloc));
+    let status = status_of(
+        rt, alloc, line, &mut files, source, &mut out, &mut err, doors,
+    );
     Ran { out, err, status }
 }
 
@@ -109,7 +112,7 @@ pub fn memory_of<R: Abort>(
     MemSource::new(bytes, piece.max(1), failing)
 }
 
-// The words of a line, which stand between single spaces.
+// The words of a line, which stand between single spaces: two spaces have an empty word between them.
 fn words_of<R: Abort>(rt: &R, alloc: Global, line: &str) -> Vec<String> {
     let mut words = Vec::new(alloc);
     for word in line.split(' ') {

@@ -14,8 +14,8 @@ const FIRST: &str = "create\nappend 1 616263646566\nread 1 1 0 6\n";
 
 const FIRST_REPLIES: &str = "blob 1\nversion 1 at 0 size 6\ndata 616263646566\n";
 
-// Pages of four bytes, so that updates lie on several.
-const SMALL_PAGES: &str = "run --page 4 --providers 3 --replicas 2";
+/// Pages of four bytes, so that updates lie on several.
+pub(crate) const SMALL_PAGES: &str = "run --page 4 --providers 3 --replicas 2";
 
 // Scripts and their replies.
 static ROWS: [(&str, &str); 25] = [

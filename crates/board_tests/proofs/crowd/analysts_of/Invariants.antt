@@ -1,6 +1,0 @@
-use Rattle.std.proofs.Common.{◌≡◌, [], ◌∷◌}
-use Rattle.client_session.specs.Sessions.{IsOwnerOf}
-use Rattle.board_tests.proofs.crowd.analysts_of.Given as goal
-
-abbrev pub invariant-loop-number : goal.invariant-loop-number
-invariant-loop-number g l = IsOwnerOf l.shared l.owner × (l.stand.store ≡ l.shared ∷ [])

@@ -1,0 +1,107 @@
+//! Tests of the choice of providers and of the book of loads.
+ghost use Rattle.std.specs.Prelude.{◌≤◌, length};
+ghost use Rattle.provider_manager.specs.Loads.{IsEven};
+
+use provider_manager::{LoadBook, PlaceFault, Placements, SharedLoads};
+use replica_place::choose;
+use std::process::Abort;
+use std::sync::Wait;
+
+fn check_chosen<R: Abort>(rt: &R, loads: &[u64], replicas: u32, want: &[u32])
+    requires some { 1 ≤ replicas }
+    requires room { replicas ≤ 8 }
+    requires enough { replicas ≤ length loads.now }
+    requires limit { length loads.now ≤ 64 }
+{
+    assert_eq!(rt; choose(loads, replicas).chosen(), want);
+}
+
+#[test]
+fn chooses_by_load_and_then_by_number(rt: HostRuntime) {
+    check_chosen(&rt, &[2, 1, 1], 2, &[2, 3]);
+    check_chosen(&rt, &[0, 0, 0], 2, &[1, 2]);
+    check_chosen(&rt, &[1, 1, 0], 2, &[3, 1]);
+    check_chosen(&rt, &[7], 1, &[1]);
+    check_chosen(
+        &rt,
+        &[9, 8, 7, 6, 5, 4, 3, 2, 1],
+        8,
+        &[9, 8, 7, 6, 5, 4, 3, 2],
+    );
+}
+
+#[test]
+fn a_full_book_places_nothing_more(rt: HostRuntime) {
+    let half = 1 << 61;
+    let mut book = LoadBook::with_loads(rt.alloc(), &[half, half], 1).expect(&rt, "memory");
+    assert_eq!(rt;
+        book.place(rt.alloc(), 1).err(),
+        Some(PlaceFault::PlacesSpent)
+    );
+}
+
+/// The placements of the next pages.
+fn placed<R: Abort + AllocGlobal>(rt: &R, book: &mut LoadBook, pages: u32) -> Placements
+    ensures { IsEven book.old.loads → IsEven book.new.loads }
+{
+    book.place(rt.alloc(), pages).expect(rt, "places")
+}
+
+/// Checks the providers of each page.
+fn check_placed<R: Abort>(rt: &R, placed: &Placements, want: &[&[u32]]) {
+    assert_eq!(rt; placed.count() as usize, want.len());
+    for page in 0..placed.count() {
+        assert_eq!(rt;
+            placed.of(page).chosen(),
+            want[page as usize],
+            "page {page}"
+        );
+    }
+}
+
+#[test]
+fn the_last_replica_is_placed_after_a_refusal(rt: HostRuntime) {
+    let half = 1 << 61;
+    let mut book = LoadBook::with_loads(rt.alloc(), &[half, half - 1], 1).expect(&rt, "memory");
+    assert_eq!(rt;
+        book.place(rt.alloc(), 2).err(),
+        Some(PlaceFault::PlacesSpent)
+    );
+    check_placed(&rt, &placed(&rt, &mut book, 1), &[&[2]]);
+}
+
+#[test]
+fn pages_take_turns(rt: HostRuntime) {
+    let mut book = LoadBook::new(rt.alloc(), 3, 2).expect(&rt, "memory");
+    let first = placed(&rt, &mut book, 3);
+    check_placed(&rt, &first, &[&[1, 2], &[3, 1], &[2, 3]]);
+    let more = placed(&rt, &mut book, 1);
+    check_placed(&rt, &more, &[&[1, 2]]);
+}
+
+#[test]
+fn no_pages_have_no_placements(rt: HostRuntime) {
+    let mut book = LoadBook::new(rt.alloc(), 64, 8).expect(&rt, "memory");
+    check_placed(&rt, &placed(&rt, &mut book, 0), &[]);
+}
+
+/// Checks where a shared book places the next pages.
+pub(crate) fn check_shared<R: Abort + AllocGlobal + Wait>(
+    rt: &R,
+    loads: &SharedLoads,
+    pages: u32,
+    want: &[&[u32]],
+) {
+    let placed = loads.place(rt, rt.alloc(), pages).expect(rt, "places");
+    check_placed(rt, &placed, want);
+}
+
+#[test]
+fn a_shared_book_goes_on_from_its_loads(rt: HostRuntime) {
+    let mut book = LoadBook::new(rt.alloc(), 3, 1).expect(&rt, "memory");
+    check_placed(&rt, &placed(&rt, &mut book, 1), &[&[1]]);
+    let loads = SharedLoads::new(book);
+    check_shared(&rt, &loads, 1, &[&[2]]);
+    check_shared(&rt, &loads, 3, &[&[3], &[1], &[2]]);
+    check_shared(&rt, &loads, 1, &[&[3]]);
+}

@@ -1,0 +1,2 @@
+pub mod ByHand
+pub mod TwoNodes

@@ -1,0 +1,163 @@
+//! Sixteen readers read a hundred thousand ranges beside one writer and its keeper, and each is compared with the blob's bytes.
+ghost use Rattle.std.specs.Prelude.{◌≡◌, ◌<◌, ◌≤◌, ◌∷◌, []};
+ghost use Rattle.standing_tests.specs.Boards.{MayRefresh};
+ghost use Rattle.client_session.specs.Sessions.{IsOwnerOf};
+
+use crate::calls::{PIECE, append_after, create, read, refresh};
+use crate::store::{Client, new_session, new_store};
+use client_session::{Owner, Shared};
+use page_store::{PlainDoor, PlainMaker};
+use ports::gate::FreeGate;
+use read_board::{Board, Keeper, Stand, StandingReader, Way};
+use std::alloc::Global;
+use std::process::Abort;
+use std::sync::Wait;
+use std::thread;
+use std::thread::{Threads, join};
+
+// How many readers there are, how many ranges each reads, and how many versions are written meanwhile.
+const READERS: u32 = 16;
+
+const READS: u32 = 6_250;
+
+const VERSIONS: u64 = 64;
+
+// A reader, with what it has read so far.
+#[derive(Drop)]
+struct Analyst<'a> {
+    reader: StandingReader<'a, PlainDoor, FreeGate>,
+    state: u64,
+    is_right: bool,
+    by_board: u32,
+}
+
+impl<'a> Analyst<'a> {
+    // A number below the bound, which is at least 1: the next of a row that depends on where it began.
+    fn draw(&mut self, bound: u64) -> u64
+        requires { 1 ≤ bound }
+        ensures { result < bound }
+    {
+        self.state = self
+            .state
+            .wrapping_mul(6_364_136_223_846_793_005)
+            .wrapping_add(1_442_695_040_888_963_407);
+        (self.state >> 33) % bound
+    }
+
+    // Reads a range of some version, which may not be published yet.
+    fn read_one<R: Wait>(&mut self, rt: &R) {
+        let version = 1 + self.draw(VERSIONS);
+        let offset = self.draw(version * PIECE);
+        let count = 1 + self.draw(version * PIECE - offset).min(31);
+        let told = read(rt, &mut self.reader, version, offset, count);
+        if let Some((is_right, way)) = told {
+            self.is_right = self.is_right && is_right;
+            if way == Way::Board {
+                self.by_board = self.by_board.saturating_add(1);
+            }
+        }
+    }
+
+    fn read_many<R: Wait>(&mut self, rt: &R) {
+        for _ in 0..READS {
+            self.read_one(rt);
+        }
+    }
+}
+
+// The readers of a stand, each with a session of its own.
+fn analysts_of<'a, R: Abort>(
+    rt: &R,
+    alloc: Global,
+    shared: &'a Shared,
+    owner: &mut Owner,
+    stand: &mut Stand,
+    gate: &'a FreeGate,
+) -> Vec<Analyst<'a>>
+    requires owner { IsOwnerOf shared.now owner.old }
+    requires stand { stand.old.store ≡ shared.now ∷ [] }
+    ensures { IsOwnerOf shared.now owner.new }
+{
+    let mut all = Vec::new(alloc);
+    for number in 0..READERS {
+        let session = new_session(rt, alloc, shared, owner, &mut PlainMaker::new(), gate);
+        let analyst = Analyst {
+            reader: stand.reader(session),
+            state: u64::from(number),
+            is_right: true,
+            by_board: 0,
+        };
+        all.push(analyst).expect(rt, "memory");
+    }
+    all
+}
+
+// All read, beside each other.
+fn read_all<R: Threads + Wait + Sync>(rt: &R, analysts: &mut [Analyst<'_>]) {
+    thread::for_each_mut(
+        rt,
+        analysts,
+        READERS as usize,
+        &|_, analyst| { analyst.read_many(rt) },
+    );
+}
+
+// Appends the versions one after another, and refreshes after each. Whether every refresh answered what was just written.
+fn write_all<R: Threads + Wait + Sync, W: Wait + Drop>(
+    rt: &R,
+    writer: &mut Client<'_>,
+    keeper: &mut Keeper<W>,
+    session: &mut Client<'_>,
+) -> bool
+    requires { MayRefresh keeper.old session.old }
+{
+    let mut is_recent = true;
+    for version in 0..VERSIONS {
+        let is_written = append_after(rt, writer, version);
+        let told = refresh(rt, keeper, session, 1);
+        is_recent = is_recent && is_written && told == Ok(version + 1);
+    }
+    is_recent
+}
+
+// The writer with its keeper, and the readers, beside each other.
+fn work<'a, R: Threads + Wait + Sync, W: Wait + Drop + Send>(
+    rt: &R,
+    writer: Client<'a>,
+    keeper: Keeper<W>,
+    session: Client<'a>,
+    analysts: &mut [Analyst<'a>],
+) -> bool
+    requires { MayRefresh keeper session }
+{
+    let (is_recent, ()) = join(
+        rt,
+        move || -> bool
+            requires { MayRefresh keeper session }
+        {
+            let mut writer = writer;
+            let mut keeper = keeper;
+            let mut session = session;
+            write_all(rt, &mut writer, &mut keeper, &mut session)
+        },
+        || read_all(rt, analysts),
+    );
+    is_recent
+}
+
+#[test]
+fn sixteen_readers_read_what_one_writer_wrote(rt: HostRuntime) {
+    let alloc = rt.alloc();
+    let gate = FreeGate;
+    let mut maker = PlainMaker::new();
+    let (shared, mut owner) = new_store(&rt, alloc);
+    let (keeper, mut stand) = Board::new(&rt, alloc, &shared, READERS).expect(&rt, "memory");
+    let mut session = new_session(&rt, alloc, &shared, &mut owner, &mut maker, &gate);
+    let writer = new_session(&rt, alloc, &shared, &mut owner, &mut maker, &gate);
+    let mut analysts = analysts_of(&rt, alloc, &shared, &mut owner, &mut stand, &gate);
+    assert_eq!(rt; create(&rt, &keeper, &mut session), Some(1));
+    let is_recent = work(&rt, writer, keeper, session, analysts.as_mut_slice());
+    assert!(rt; is_recent);
+    assert!(rt; analysts.iter().all(|analyst| analyst.is_right));
+    assert!(rt; analysts.iter().any(|analyst| analyst.by_board > 0));
+}

@@ -1,6 +1,0 @@
-use Rattle.std.specs.Prelude.{All}
-use Rattle.page_store.specs.Page.{IsIn}
-use Rattle.threads_tests.proofs.pages.put_thousand.Given as goal
-
-abbrev pub invariant-loop-i : goal.invariant-loop-i
-invariant-loop-i g l = All (λ page. IsIn l.house page.spot) l.pages.items

@@ -1,5 +1,0 @@
-use Rattle.std.proofs.Common.{◌≡◌}
-use Rattle.threads_tests.proofs.turn.writers.make_and_take_back.Given as goal
-
-abbrev pub invariant-loop : goal.invariant-loop
-invariant-loop l = l.owner.lock ≡ l.turn

@@ -1,4 +1,0 @@
-use Rattle.weaver_tests.proofs.row_list.row.Given as goal
-
-abbrev pub ghosts-told : goal.ghosts-told
-ghosts-told a = record { name = a.blank.name; parts = a.blank.parts }
