@@ -184,15 +184,18 @@ fn descend<L: Ledger>(ticket: &Ticket, nodes: &NodeHouse, page: u64, steps: &mut
 /// The newest lower versions over the borders of the row of the ticket's update, and how deep the newest lower leaves of its
 /// first and its last page lie.
 ///
-/// It goes down the snapshot's tree to a leaf once for each edge, and once where both are one page. It takes at most
-/// `4 h + 4` node steps, `h` the height of the tree after the update. It takes no memory, no lock, and waits for nobody.
+/// It goes down the snapshot's tree to a leaf once for each edge, and once where both are one page. So it takes at most
+/// `2 h + 2` node steps, `h` the height of the tree after the update, and `h + 1` where the update touches one page. It takes
+/// no memory, no lock, and waits for nobody.
 #[tactic(auto, using(crate::proofs::Turning::first_inside, crate::proofs::Turning::last_inside, crate::proofs::Turning::pages_ordered))]
 pub fn borders<L: Ledger>(ticket: &Ticket, nodes: &NodeHouse, steps: &mut Steps<L>) -> Borders
     requires here { NodesLieIn nodes.now ticket.now.snapshot }
     ensures page_size { result.page_size ≡ ticket.now.snapshot.page_size }
     ensures touch { result.touch ≡ own_touch ticket.now }
     ensures borders { AreBorders (log_upto ticket.now) (ticket.now.version - 1) result }
-    ensures steps { steps.new ≤ steps.old + 4 * height_of ticket.now.snapshot.page_size ticket.now.size + 4 }
+    ensures steps { steps.new ≤ steps.old + 2 * height_of ticket.now.snapshot.page_size ticket.now.size + 2 }
+    ensures one_page { let touch = own_touch ticket.now in
+        touch.first ≡ touch.last → steps.new ≤ steps.old + height_of ticket.now.snapshot.page_size ticket.now.size + 1 }
 {
     ticket.stands();
     let page_size = ticket.hints().snapshot.page_size();

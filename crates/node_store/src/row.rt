@@ -16,7 +16,8 @@ use range_log::index_in_row;
 use std::alloc::Global;
 use std::marker::Model;
 use std::sync::Arc;
-use tree_geom::{PageSize, Range, Touch};
+use std::sync::ledger::Ledger;
+use tree_geom::{PageSize, Range, Steps, Touch};
 
 /// All nodes of one update, where they lie in the house, the update's pages, and the pages of the blob that it stores anew.
 ///
@@ -133,10 +134,13 @@ impl Row {
     }
 
     #[inline(always)]
-    /// The node of that range, or None where the row has none. Its index is computed, and no node is looked at.
-    pub fn at(&self, range: Range) -> Option<NodeRef<'_>>
-        ensures { MatchOption result (HasNoNodeFor self.now range) (λ node. IsNodeFor self.now range node) }
+    /// The node of that range, or None where the row has none. In both cases it takes one node step, and there is no other way from
+    /// a row to a node. The node's index is computed, and no other node is looked at.
+    pub fn at<L: Ledger>(&self, range: Range, steps: &mut Steps<L>) -> Option<NodeRef<'_>>
+        ensures node { MatchOption result (HasNoNodeFor self.now range) (λ node. IsNodeFor self.now range node) }
+        ensures step { steps.new ≡ steps.old + 1 }
     {
+        steps.tick();
         let count = self.nodes.count();
         let (touch, height) = (self.shape.touch(), self.shape.height());
         match index_in_row(self.page_size, height, &touch, count, range) {

@@ -85,8 +85,9 @@ impl<T> RadixList<T> {
         ensures item { option_copied result ≡ slice_get self.now i }
         ensures few { steps.new ≤ steps.old + 4 }
         ensures counted { IfSome result (λ _. (steps.new ≡ steps.old + 4) ⊎ (steps.new ≡ steps.old + 1)) }
+        ensures none { length self.now ≤ i → steps.new ≡ steps.old }
     {
-        if i >= self.len {
+        if i >= self.len() {
             return None;
         }
         let body = self.body.len();

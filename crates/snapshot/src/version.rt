@@ -168,8 +168,8 @@ impl Snapshot {
         })
     }
 
-    /// The node that the row of update `j` has for the range, or None where it has none. In
-    /// both cases it takes one node step, and there is no other way from a lent snapshot to a node.
+    /// The node that the row of update `j` has for the range, or None where it has none. In both cases it takes one node step, the
+    /// row's own, and looks in no other row; and there is no other way from a lent snapshot to a node.
     #[inline(always)]
     pub fn find<'s, L: Ledger>(
         &'s self,
@@ -184,8 +184,7 @@ impl Snapshot {
     {
         laws::row_keys_exact();
         laws::page_bytes_stay();
-        steps.tick();
-        self.row(j).at(range)
+        self.row(j).at(range, steps)
     }
 
     /// The stored page of update `j` that the number `q` of a piece means. First come the update's pages, whose bytes are those

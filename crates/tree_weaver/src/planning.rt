@@ -119,9 +119,10 @@ fn expected(touch: Touch, height: u32) -> usize {
 /// Plans the row of the ticket's update. However far publication had come at the numbering, it is the row that its version has
 /// in the whole list of the blob's updates.
 ///
-/// It takes at most `4 h + 4` node steps, `h` the height of the tree after the update, and time linear in the nodes of the
-/// row, the waiting updates and the height. It takes no lock and waits for nobody. Fails for want of memory alone; an update of
-/// more pages than all but two of the numbers that there are for pages is taken for one that wants memory.
+/// It takes at most `2 h + 2` node steps, `h` the height of the tree after the update, and `h + 1` where the update touches one
+/// page, and time linear in the nodes of the row, the waiting updates and the height. It takes no lock and waits for nobody. Fails
+/// for want of memory alone; an update of more pages than all but two of the numbers that there are for pages is taken for one
+/// that wants memory.
 pub fn plan<L: Ledger>(
     alloc: Global,
     ticket: &Ticket,
@@ -132,7 +133,9 @@ pub fn plan<L: Ledger>(
     ensures row { IfOk result (λ row. (us : List Extent) → StandsFor ticket.now us → row.nodes ≡ row_of ticket.now.snapshot.page_size us ticket.now.version) }
     ensures ranges { IfOk result (λ row. ranges_of row.nodes ≡ own_ranges ticket.now) }
     ensures folded { IfOk result (λ row. (us : List Extent) → StandsFor ticket.now us → row.folded ≡ folds_of ticket.now.snapshot.page_size us ticket.now.version) }
-    ensures steps { steps.new ≤ steps.old + 4 * height_of ticket.now.snapshot.page_size ticket.now.size + 4 }
+    ensures steps { steps.new ≤ steps.old + 2 * height_of ticket.now.snapshot.page_size ticket.now.size + 2 }
+    ensures one_page { let touch = own_touch ticket.now in
+        touch.first ≡ touch.last → steps.new ≤ steps.old + height_of ticket.now.snapshot.page_size ticket.now.size + 1 }
 {
     range_log::laws::logs_are_grown();
     tree_geom::laws::spans_hold();

@@ -6,8 +6,8 @@ use Rattle.range_log.specs.Rows.{levels_of}
 use Rattle.node_store.proofs.Zipped.{contains_pair, contains_left}
 use Rattle.node_store.proofs.row.Row.at.Goals as goal
 
-pub returns-in-Some : goal.returns-in-Some
-returns-in-Some c =
+pub returns-in-Some-clause-node : goal.returns-in-Some-clause-node
+returns-in-Some-clause-node g c =
     let row = c.self.inside in
     let asked : List Range = levels_of row.page_size c.touch-touch.result (c.height-height.result + 1) in
     let kept : List Range = levels_of row.page_size row.shape.touch (row.shape.height + 1) in
@@ -18,8 +18,8 @@ returns-in-Some c =
       there = c.node.ensures.spot;
     })
 
-pub returns-in-None : goal.returns-in-None
-returns-in-None c =
+pub returns-in-None-clause-node : goal.returns-in-None-clause-node
+returns-in-None-clause-node g c =
     let row = c.self.inside in
     let asked : List Range = levels_of row.page_size c.touch-touch.result (c.height-height.result + 1) in
     let kept : List Range = levels_of row.page_size row.shape.touch (row.shape.height + 1) in

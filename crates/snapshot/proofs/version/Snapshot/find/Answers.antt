@@ -6,11 +6,11 @@ returns-clause-none g c =
     none_then c.at.result _ _ _
     (λ none has. version_finds_none c.row_keys_exact.ensures.exact c.page_bytes_stay.ensures.extents c.args.self.now c.args.j c.args.range c.row.result.now
     c.row.ensures.stands c.row.ensures.this c.requires.0 c.requires.1 none has)
-    c.at.ensures
+    c.at.ensures.node
 
 pub returns-clause-found : goal.returns-clause-found
 returns-clause-found g c =
     some_then c.at.result _ _ _
     (λ x is. version_finds c.row_keys_exact.ensures.exact c.page_bytes_stay.ensures.extents c.args.self.now c.args.j c.args.range c.row.result.now x
     c.row.ensures.stands c.row.ensures.this c.requires.0 c.requires.1 is)
-    c.at.ensures
+    c.at.ensures.node
