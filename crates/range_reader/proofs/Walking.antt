@@ -1,10 +1,10 @@
 -- Steps of the walk from a node to its halves, and at a page.
-use Rattle.std.proofs.Common.{◌≡◌, ◌≢◌, ◌⊎◌, ℕ, zero, suc, ◌+◌, ◌-◌, ◌*◌, ◌/◌, ◌%◌, ◌^◌, ◌<◌, ◌≤◌, List, [], ◌∷◌, ◌++◌, length, arith, refl, ap, sym, ◌∙◌, subst, inl, inr, false}
+use Rattle.std.proofs.Common.{◌≡◌, ◌≢◌, ◌⊎◌, ◌×◌, ℕ, zero, suc, ◌+◌, ◌-◌, ◌*◌, ◌/◌, ◌%◌, ◌^◌, ◌<◌, ◌≤◌, List, [], ◌∷◌, ◌++◌, length, arith, refl, ap, sym, ◌∙◌, subst, inl, inr, false}
 use Rattle.std.proofs.lemmas.Bool.Decides.{nat_tests}
 use Rattle.std.specs.Prelude.{◌==◌, Result, Ok, Err, IfErr, OnOk}
 use Rattle.std.specs.List.{range_with_len, sum_by}
 use Rattle.std.proofs.lemmas.Bool.{cases_lt}
-use Rattle.std.proofs.lemmas.Nat.{mul-le, pow_pos, le-div}
+use Rattle.std.proofs.lemmas.Nat.{mul-le, pow_pos, le-div, div-add-mod'}
 use Rattle.std.proofs.lemmas.List.Sums.{sum_by-append, sum_by-cons}
 use Rattle.std.proofs.Math.Nat.{pow-succ', div-mul-le_self, mul-div_cancel}
 use Rattle.tree_geom.specs.declared.range.Range.{Range}
@@ -109,6 +109,20 @@ page_step s r from n pos al whole le fits some =
           let next : (q + 1) * p ≡ q * p + p = omega arith in
           ap (λ k. nodes_visited k q first last) bottom ∙ leaf q first last (page_le p first q from pos before (omega arith)) (page_le p q last (from + n - 1) pos (omega arith) (omega arith));
     }
+
+-- the pages of bytes that lie in one page
+pub within_page : (s : Version) (from n : ℕ) → 1 ≤ s.page_size → 1 ≤ n → from % s.page_size + n ≤ s.page_size
+    → ((from + n - 1) / s.page_size ≡ from / s.page_size) × (backs_in s from n ≡ backs_of s.page_size (falls s) (length s.rows) (from / s.page_size))
+within_page s from n pos some fits =
+    let p : ℕ = s.page_size in
+    let i : ℕ = from / p in
+    let sum : i * p + from % p ≡ from = div-add-mod' from p in
+    let next : (i + 1) * p ≡ i * p + p = omega arith in
+    let e : (from + n - 1) / p ≡ i = div_is p i (from + n - 1) pos (omega arith) (omega arith) in
+    let f : ℕ → ℕ = λ k. backs_of p (falls s) (length s.rows) k in
+    let one : i + 1 - i ≡ 1 = omega arith in
+    let met : pages_met p from n ≡ i ∷ [] = ap (λ y. range_with_len i (y + 1 - i)) e ∙ ap (range_with_len i) one in
+    (e, ap (sum_by f) met ∙ sum_by-cons f i [] ∙ (let z : f i + sum_by f [] ≡ f i = omega arith in z))
 
 -- ---- at an inner node
 pub child : LinksStep → ExtentsStand → (s : Version) → IsVersion s → (at link : ℕ) (r half : Range) → at ≡ newest_in s r → HasNodeFor s at r → s.page_size < r.size

@@ -1,11 +1,11 @@
 -- What a read of a snapshot speaks of.
-use Rattle.std.specs.Prelude.{◌≡◌, ℕ, ◌+◌, ◌*◌, ◌==◌, List, [], length, slice_index_or, slice_range, if◌then◌else◌}
+use Rattle.std.specs.Prelude.{◌≡◌, ◌×◌, ℕ, ◌+◌, ◌*◌, ◌<◌, ◌==◌, List, [], length, slice_index_or, slice_range, if◌then◌else◌}
 use Rattle.std.specs.List.{sum_by}
 use Rattle.blob_model.specs.Content.{content}
 use Rattle.tree_geom.specs.declared.touch.Touch.{Touch}
 use Rattle.tree_geom.specs.declared.range.Range.{Range}
 use Rattle.tree_geom.specs.declared.node.Node.{Node}
-use Rattle.tree_geom.specs.Geometry.{height_of}
+use Rattle.tree_geom.specs.Geometry.{left_half, right_half, height_of}
 use Rattle.tree_geom.specs.Nodes.{start_of, first_of, second_of}
 use Rattle.range_log.specs.Log.{newest_of}
 use Rattle.range_log.specs.Extents.{Extent, touches}
@@ -17,6 +17,7 @@ use Rattle.page_store.specs.Stored.{Stored}
 use Rattle.node_store.specs.UpdateRows.{stored_of}
 use Rattle.snapshot.specs.Versions.{Version, row_at, updates_of, size_now}
 use Rattle.range_reader.specs.declared.source.LeafParts.{LeafParts}
+use Rattle.range_reader.specs.declared.known.KnownNode.{KnownNode}
 
 -- where the updates of the version fall
 abbrev pub falls : Version → List Extent
@@ -80,3 +81,9 @@ pub record IsLeafOf (s : Version) (j i : ℕ) (parts : LeafParts) : Type 0 where
   pub second : parts.second ≡ second_of (leaf_in s j i)
   pub back : parts.back ≡ back_of s.page_size (falls s) j i
   pub depth : parts.depth ≡ depth_of s.page_size (log_of s) j i
+
+-- these are the links of the version's newest node of their range, if that has any byte
+abbrev pub IsKnown : Version → KnownNode → Type 0
+IsKnown s node = 0 < node.range.size
+    → (node.left ≡ newest_of s.page_size (log_of s) (newest_in s node.range) (left_half node.range))
+    × (node.right ≡ newest_of s.page_size (log_of s) (newest_in s node.range) (right_half node.range))

@@ -7,6 +7,7 @@
 #![tactic(auto)]
 
 mod bound;
+mod known;
 mod locate;
 mod marks;
 mod page;
@@ -17,7 +18,8 @@ mod walk;
 mod whole;
 
 pub use bound::stated;
+pub use known::KnownNode;
 pub use locate::holder;
 pub use marks::ReadRoom;
 pub use node_store::NoMemory;
-pub use reader::{ReadFault, read};
+pub use reader::{ReadFault, read, read_knowing};

@@ -6,10 +6,11 @@ ghost use Rattle.tree_walk.specs.Walk.{nodes_visited};
 ghost use Rattle.page_store.specs.House.{House};
 ghost use Rattle.page_store.specs.Page.{IsAmong};
 ghost use Rattle.snapshot.specs.Versions.{size_now, HasNodeFor, NodesLieIn, PagesLieIn};
-ghost use Rattle.range_reader.specs.Reading.{falls, newest_in, bound, IsLeafOf};
+ghost use Rattle.range_reader.specs.Reading.{falls, newest_in, bound, IsLeafOf, IsKnown};
 ghost use Rattle.range_reader.specs.Holders.{HasByte, IsReached, IsHolder};
 
-use crate::source::{LeafParts, leaf, links};
+use crate::known::{KnownNode, known_links};
+use crate::source::{LeafParts, leaf};
 use node_store::NodeHouse;
 use page_store::StoredPage;
 use snapshot::Snapshot;
@@ -51,23 +52,27 @@ pub fn holder<'s, L: Ledger>(
     let version = snapshot.version();
     let bytes = snapshot.page_size().bytes();
     let byte = (at % bytes) as usize;
-    let newest = newest_leaf(snapshot, nodes, version, root.range, at, steps);
+    let newest = newest_leaf(snapshot, nodes, &mut [], 1, version, root.range, at, steps);
     let (first, parts) = first_with(snapshot, nodes, newest, at / bytes, byte, steps);
     let piece = parts.piece_with(byte);
     Some(snapshot.page(first, piece.page))
 }
 
 // The version of the newest leaf of the page of byte `at`, which lies in the range whose newest node is that of `version`. The
-// leaf itself isn't asked for.
-fn newest_leaf<L: Ledger>(
+// leaf itself isn't asked for, and of the inner nodes none that is known. The root's place among
+// those is 1, and the places of a node's halves are twice its own and the one after that.
+pub(crate) fn newest_leaf<L: Ledger>(
     snapshot: &Snapshot,
     nodes: &NodeHouse,
+    known: &mut [KnownNode],
+    place: u64,
     version: u64,
     range: Range,
     at: u64,
     steps: &mut Steps<L>,
 ) -> u64
     requires here { NodesLieIn nodes.now snapshot.now }
+    requires known { All (IsKnown snapshot.now) known.old }
     requires newest { version ≡ newest_in snapshot.now range }
     requires has { HasNodeFor snapshot.now version range }
     requires begins { range.offset ≤ at }
@@ -78,6 +83,8 @@ fn newest_leaf<L: Ledger>(
     ensures has { HasNodeFor snapshot.now result (page_range snapshot.now.page_size (at / snapshot.now.page_size)) }
     ensures steps { (h q : ℕ) → range ≡ tree_range snapshot.now.page_size h q
         → steps.new < steps.old + nodes_visited h q (at / snapshot.now.page_size) (at / snapshot.now.page_size) }
+    ensures known { All (IsKnown snapshot.now) known.new }
+    ensures room { length known.new ≡ length known.old }
 {
     tree_walk::laws::links_step();
     tree_walk::laws::visited_are_few();
@@ -86,12 +93,14 @@ fn newest_leaf<L: Ledger>(
     if range.size == snapshot.page_size().bytes() {
         return version;
     }
-    let (left, right) = links(snapshot, nodes, version, range, steps);
+    let (left, right) = known_links(snapshot, nodes, known, place, version, range, steps);
     let (low, high) = halves(range);
+    let below = place.saturating_add(place);
     if at < high.offset {
-        return newest_leaf(snapshot, nodes, left, low, at, steps);
+        return newest_leaf(snapshot, nodes, known, below, left, low, at, steps);
     }
-    newest_leaf(snapshot, nodes, right, high, at, steps)
+    let below = below.saturating_add(1);
+    newest_leaf(snapshot, nodes, known, below, right, high, at, steps)
 }
 
 // The first leaf that has this byte of the page, from its newest leaf along the backs, and that leaf's version. `newest` is the

@@ -6,6 +6,7 @@ ghost use Rattle.range_log.specs.Visits.{visits};
 ghost use Rattle.page_store.specs.Count.{HasRisen};
 ghost use Rattle.page_fan.specs.Counts.{NoneFell};
 ghost use Rattle.snapshot.specs.Versions.{IsVersionIn};
+ghost use Rattle.range_reader.specs.Reading.{IsKnown};
 ghost use Rattle.range_reader.specs.Faults.{PageFailedIn};
 ghost use Rattle.session_parts.specs.Ranges.{OverUpdates, IsMet, IsMetByOne, OnRangePast, OnPageLost, first_end_past, joined, bytes_in, visits_of};
 
@@ -13,12 +14,15 @@ use blob_model::Bytes;
 use node_store::NodeHouse;
 use page_fan::Doors;
 use page_store::{Door, Houses};
-use range_reader::{ReadFault, ReadRoom, read};
+use range_reader::{KnownNode, ReadFault, ReadRoom, read_knowing};
 use snapshot::Snapshot;
 use std::alloc::Global;
 use std::sync::ledger::Ledger;
 use thiserror::Error;
 use tree_geom::Steps;
+
+// How many nodes a read of many ranges remembers: those of the upper six levels of a tree have places among so many.
+const KNOWN: usize = 64;
 
 /// Why a range was not read.
 #[derive(Clone, Copy, Debug, PartialEq, Eq, Error)]
@@ -38,13 +42,15 @@ pub enum RangeFault {
 ///
 /// `RangePastSize` comes exactly where the range ends past the version's size. `PageFault` comes only where all doors of a stored
 /// page failed that a page of the range needs; the part then holds any bytes. It takes no memory and no lock and waits for nobody.
-/// The clause `steps` bounds its node steps; a range past the size takes none. `room` is one for pages of the snapshot's size.
+/// The clause `steps` bounds its node steps; a range past the size takes none. `room` is one for pages of the snapshot's size, and
+/// `known` has nodes of this version that earlier reads came past.
 fn read_into<D: Door, L: Ledger>(
     snapshot: &Snapshot,
     nodes: &NodeHouse,
     houses: &Houses,
     doors: &mut Doors<D>,
     room: &mut ReadRoom,
+    known: &mut [KnownNode],
     offset: u64,
     out: &mut [u8],
     steps: &mut Steps<L>,
@@ -52,6 +58,7 @@ fn read_into<D: Door, L: Ledger>(
     requires here { IsVersionIn nodes.now houses.now snapshot.now }
     requires doors { length doors.old ≡ length houses.now }
     requires room { length room.old ≡ snapshot.now.page_size }
+    requires known { All (IsKnown snapshot.now) known.old }
     requires true_doors { All D.is_true doors.old }
     ensures bytes { OverUpdates snapshot.now (λ us. OnOk result (out.new ≡ take (length out.old) (drop offset (content us (length snapshot.now.rows))))) }
     ensures within { OverUpdates snapshot.now (λ us. OnOk result (offset + length out.old ≤ size_of us (length snapshot.now.rows))) }
@@ -70,12 +77,15 @@ fn read_into<D: Door, L: Ledger>(
     ensures doors_stay { length doors.new ≡ length doors.old }
     ensures room_stays { length room.new ≡ length room.old }
     ensures truth_stays { All D.is_true doors.new }
+    ensures known { All (IsKnown snapshot.now) known.new }
 {
     range_log::laws::older_versions_stay();
     range_log::laws::page_bytes_stay();
     snapshot.page_size().stands();
     snapshot.stands();
-    match read(snapshot, nodes, houses, doors, room, offset, out, steps) {
+    match read_knowing(
+        snapshot, nodes, houses, doors, room, known, offset, out, steps,
+    ) {
         Ok(()) => Ok(()),
         Err(ReadFault::RangePastSize { end, size }) => Err(RangeFault::RangePastSize { end, size }),
         Err(ReadFault::PageFault(page)) => Err(RangeFault::PageFault(page)),
@@ -138,7 +148,17 @@ pub fn read_range<D: Door, L: Ledger>(
         return Err(RangeFault::NoMemory);
     };
     let buffer = out.as_mut_slice();
-    match read_into(snapshot, nodes, houses, doors, room, offset, buffer, steps) {
+    match read_into(
+        snapshot,
+        nodes,
+        houses,
+        doors,
+        room,
+        &mut [],
+        offset,
+        buffer,
+        steps,
+    ) {
         Ok(()) => Ok(Bytes::of(out)),
         Err(fault) => Err(fault),
     }
@@ -158,13 +178,15 @@ fn first_past(size: u64, ranges: &[(u64, u64)]) -> Option<u128>
     None
 }
 
-// Fills a buffer with the bytes of these ranges of the version, one behind the other.
+// Fills a buffer with the bytes of these ranges of the version, one behind the other. Of the inner nodes that
+// several of them lie below, those that `known` has places for are asked for once.
 fn fill_ranges<D: Door, L: Ledger>(
     snapshot: &Snapshot,
     nodes: &NodeHouse,
     houses: &Houses,
     doors: &mut Doors<D>,
     room: &mut ReadRoom,
+    known: &mut [KnownNode],
     ranges: &[(u64, u64)],
     out: &mut [u8],
     steps: &mut Steps<L>,
@@ -172,6 +194,7 @@ fn fill_ranges<D: Door, L: Ledger>(
     requires here { IsVersionIn nodes.now houses.now snapshot.now }
     requires doors { length doors.old ≡ length houses.now }
     requires room { length room.old ≡ snapshot.now.page_size }
+    requires known { All (IsKnown snapshot.now) known.old }
     requires true_doors { All D.is_true doors.old }
     requires whole { length out.old ≡ bytes_in ranges.now }
     ensures bytes { OverUpdates snapshot.now (λ us. OnOk result (out.new ≡ joined (content us (length snapshot.now.rows)) ranges.now)) }
@@ -190,7 +213,9 @@ fn fill_ranges<D: Door, L: Ledger>(
         let (offset, count) = *range;
         let end = filled + count as usize;
         let part = &mut out[filled..end];
-        match read_into(snapshot, nodes, houses, doors, room, offset, part, steps) {
+        match read_into(
+            snapshot, nodes, houses, doors, room, known, offset, part, steps,
+        ) {
             Ok(()) => filled = end,
             Err(fault) => return Err(fault),
         }
@@ -202,7 +227,8 @@ fn fill_ranges<D: Door, L: Ledger>(
 ///
 /// `RangePastSize` comes exactly where one of them ends past the version's size, and tells of the first such range. `PageFault`
 /// comes only where a door failed, and names a page that one of the ranges meets. Memory is taken once for all bytes, when all
-/// ranges are known to be within the size, and each range is read into its place there.
+/// ranges are known to be within the size, and each range is read into its place there. A little more is taken for the nodes near the
+/// tree's root, so that those that several ranges lie below are asked for once.
 ///
 /// It takes no lock and waits for nobody. The clause `steps` bounds its node steps; where a range ends past the size there are
 /// none. `room` is one for pages of the snapshot's size, and stays one.
@@ -251,8 +277,13 @@ pub fn read_ranges<D: Door, L: Ledger>(
     let Ok(mut out) = vec![in alloc; 0; count as usize] else {
         return Err(RangeFault::NoMemory);
     };
-    let buffer = out.as_mut_slice();
-    match fill_ranges(snapshot, nodes, houses, doors, room, ranges, buffer, steps) {
+    let Ok(mut known) = vec![in alloc; KnownNode::none(); KNOWN] else {
+        return Err(RangeFault::NoMemory);
+    };
+    let (buffer, known) = (out.as_mut_slice(), known.as_mut_slice());
+    match fill_ranges(
+        snapshot, nodes, houses, doors, room, known, ranges, buffer, steps,
+    ) {
         Ok(()) => Ok(Bytes::of(out)),
         Err(fault) => Err(fault),
     }

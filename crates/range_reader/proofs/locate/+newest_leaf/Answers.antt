@@ -51,10 +51,10 @@ newest_leaf-requires g t c κs within =
     let is = c.stands.ensures in
     let size = c.bytes.ensures.is ∙ c.page_size.ensures in
     let large : s.page_size < c.args.range.size = larger s.page_size c.args.range (page_pos s.page_size is.page_size) c.requires.has.aligned (λ e. c.if-range-bytes.false (e ∙ sym size)) in
-    let next = child c.links_step.ensures.step c.page_bytes_stay.ensures.extents s is c.args.version c.links-left.result.0 c.args.range c.halves.result.0 c.requires.newest c.requires.has large
+    let next = child c.links_step.ensures.step c.page_bytes_stay.ensures.extents s is c.args.version c.known_links-left.result.0 c.args.range c.halves.result.0 c.requires.newest c.requires.has large
     (inl c.halves.ensures.lower) (let o = ap (λ (x : Range). x.offset) c.halves.ensures.lower in omega (arith, o, c.requires.begins, c.requires.valid))
-    (c.links-left.ensures.left ∙ ap (newest_of s.page_size (log_of s) c.args.version) (sym c.halves.ensures.lower)) in
-    (search rules, (within, (c.requires.here, (next.0, (next.1, (search rules, (search rules, (search rules, search rules))))))))
+    (c.known_links-left.ensures.left ∙ ap (newest_of s.page_size (log_of s) c.args.version) (sym c.halves.ensures.lower)) in
+    (search rules, (within, (c.requires.here, (c.known_links-left.ensures.known, (next.0, (next.1, (search rules, (search rules, (search rules, search rules)))))))))
 
 pub returns-then-at-high-clause-steps : goal.returns-then-at-high-clause-steps
 returns-then-at-high-clause-steps g t c =
@@ -68,7 +68,7 @@ returns-then-at-high-clause-steps g t c =
     let end : c.args.at < (i + 1) * p = up c.args.at p pos in
     let inner = inner_step c.visited_are_few.ensures.inner p h q i i c.args.at 1 c.args.range pos e large (down c.args.at p) (omega (arith, end)) c.requires.begins (omega (arith, c.requires.ends)) (omega arith) in
     let f = c.newest_leaf.ensures.steps inner.below (2 * q) (c.halves.ensures.lower ∙ inner.left) in
-    omega (arith, f, inner.visits, c.links-left.ensures.step)
+    omega (arith, f, inner.visits, c.known_links-left.ensures.step)
 
 pub newest_leaf-requires-2 : goal.newest_leaf-requires-2
 newest_leaf-requires-2 g t c κs within =
@@ -76,13 +76,13 @@ newest_leaf-requires-2 g t c κs within =
     let is = c.stands.ensures in
     let size = c.bytes.ensures.is ∙ c.page_size.ensures in
     let large : s.page_size < c.args.range.size = larger s.page_size c.args.range (page_pos s.page_size is.page_size) c.requires.has.aligned (λ e. c.if-range-bytes.false (e ∙ sym size)) in
-    let next = child c.links_step.ensures.step c.page_bytes_stay.ensures.extents s is c.args.version c.links-left.result.1 c.args.range c.halves.result.1 c.requires.newest c.requires.has large
+    let next = child c.links_step.ensures.step c.page_bytes_stay.ensures.extents s is c.args.version c.known_links-left.result.1 c.args.range c.halves.result.1 c.requires.newest c.requires.has large
     (inr c.halves.ensures.upper) (omega (arith, c.requires.valid, c.if-at-high.false))
-    (c.links-left.ensures.right ∙ ap (newest_of s.page_size (log_of s) c.args.version) (sym c.halves.ensures.upper)) in
+    (c.known_links-left.ensures.right ∙ ap (newest_of s.page_size (log_of s) c.args.version) (sym c.halves.ensures.upper)) in
     let two = even s.page_size c.args.range c.requires.has.aligned large in
     let o = ap (λ (x : Range). x.offset) c.halves.ensures.upper in
     let half = ap (λ (x : Range). x.size) c.halves.ensures.upper in
-    (search rules, (within, (c.requires.here, (next.0, (next.1, (search rules, (omega (arith, o, half, two, c.requires.ends), (search rules, search rules))))))))
+    (search rules, (within, (c.requires.here, (c.known_links-left.ensures.known, (next.0, (next.1, (search rules, (omega (arith, o, half, two, c.requires.ends), (search rules, search rules)))))))))
 
 pub returns-clause-steps : goal.returns-clause-steps
 returns-clause-steps g t c =
@@ -96,4 +96,4 @@ returns-clause-steps g t c =
     let end : c.args.at < (i + 1) * p = up c.args.at p pos in
     let inner = inner_step c.visited_are_few.ensures.inner p h q i i c.args.at 1 c.args.range pos e large (down c.args.at p) (omega (arith, end)) c.requires.begins (omega (arith, c.requires.ends)) (omega arith) in
     let f = c.newest_leaf-2.ensures.steps inner.below (2 * q + 1) (c.halves.ensures.upper ∙ inner.right) in
-    omega (arith, f, inner.visits, c.links-left.ensures.step)
+    omega (arith, f, inner.visits, c.known_links-left.ensures.step)

@@ -109,5 +109,6 @@ loop-range-preserved g c =
       risen = omega (arith, c.loop-range.invariant.risen, c.read_into.ensures.sum_never_falls);
       doors = c.read_into.ensures.doors_stay ∙ c.loop-range.invariant.doors;
       room = c.read_into.ensures.room_stays ∙ c.loop-range.invariant.room;
+      known = c.read_into.ensures.known;
       truth = c.read_into.ensures.truth_stays;
     }

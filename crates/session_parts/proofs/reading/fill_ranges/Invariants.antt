@@ -3,6 +3,7 @@ use Rattle.std.specs.Prelude.{All, sum_by}
 use Rattle.blob_model.specs.Content.{Update, content}
 use Rattle.range_log.specs.Updates.{extents}
 use Rattle.snapshot.specs.Laws.{TellUpdates}
+use Rattle.range_reader.specs.Reading.{IsKnown}
 use Rattle.session_parts.specs.Ranges.{joined, bytes_in, visits_of}
 use Rattle.session_parts.proofs.reading.fill_ranges.Given as goal
 
@@ -16,5 +17,6 @@ invariant-loop-range g l = record {
   risen : sum_by g.D.Door.faults l.fn.doors ≤ sum_by g.D.Door.faults l.doors;
   doors : length l.doors ≡ length l.fn.doors;
   room : length l.room ≡ length l.fn.room;
+  known : All (IsKnown l.snapshot) l.known;
   truth : All g.D.Door.is_true l.doors;
 }

@@ -6,8 +6,8 @@ use Rattle.snapshot.specs.Versions.{size_now, HasNodeFor}
 use Rattle.tree_geom.proofs.Spans.{page_pos}
 use Rattle.range_reader.proofs.Walking.{down, up}
 use Rattle.range_reader.proofs.Rooted.{not_zero, root_stands, root_newest, root_tree, walk_bound}
-use Rattle.range_reader.proofs.reader.read.Goals as goal
-use Rattle.range_reader.proofs.reader.read.Goals.{in-Ok, in-Err}
+use Rattle.range_reader.proofs.reader.read_knowing.Goals as goal
+use Rattle.range_reader.proofs.reader.read_knowing.Goals.{in-Ok, in-Err}
 
 pub walk-requires-clause-newest : goal.walk-requires-clause-newest
 walk-requires-clause-newest g c =
@@ -30,6 +30,33 @@ pub walk-requires-clause-ends : goal.walk-requires-clause-ends
 walk-requires-clause-ends g c =
     let start = ap (λ (k : NodeKey). k.range.offset) c.in-Some.ensures.key in
     omega (arith, start, c.in-Some.ensures.holds)
+
+pub walk_to_page-requires-clause-newest : goal.walk_to_page-requires-clause-newest
+walk_to_page-requires-clause-newest g c =
+    let s = c.args.snapshot.now in
+    let is = c.version-version.ensures.stands in
+    let key = ap (λ (k : NodeKey). k.range) c.in-Some.ensures.key in
+    let some : 1 ≤ size_now s = not_zero (size_now s) (λ e. let w : true ≡ false = c.in-Some.ensures.none.1 e in cc) in
+    c.version-version.ensures.count ∙ root_newest c.page_bytes_stay.ensures.extents s is c.links_find.ensures.roots c.newest_is_greatest.ensures.greatest c.in-Some.root.range some key
+
+pub walk_to_page-requires-clause-has : goal.walk_to_page-requires-clause-has
+walk_to_page-requires-clause-has g c =
+    let s = c.args.snapshot.now in
+    let is = c.version-version.ensures.stands in
+    let key = ap (λ (k : NodeKey). k.range) c.in-Some.ensures.key in
+    let some : 1 ≤ size_now s = not_zero (size_now s) (λ e. let w : true ≡ false = c.in-Some.ensures.none.1 e in cc) in
+    let H : ℕ → Type 0 = λ j. HasNodeFor s j c.in-Some.root.range in
+    subst H (sym c.version-version.ensures.count) (root_stands c.page_bytes_stay.ensures.extents s is c.links_find.ensures.roots c.in-Some.root.range some key)
+
+pub walk_to_page-requires-clause-ends : goal.walk_to_page-requires-clause-ends
+walk_to_page-requires-clause-ends g c =
+    let start = ap (λ (k : NodeKey). k.range.offset) c.in-Some.ensures.key in
+    omega (arith, start, c.in-Some.ensures.holds)
+
+pub walk_to_page-requires-clause-one_page : goal.walk_to_page-requires-clause-one_page
+walk_to_page-requires-clause-one_page g c =
+    let size = c.bytes-bytes.ensures.is ∙ c.page_size.ensures in
+    omega (arith, ap (λ n. c.args.offset % n) size, size, c.if-offset-bytes.true)
 
 pub returns-clause-steps : goal.returns-clause-steps
 returns-clause-steps g c =
