@@ -17,3 +17,4 @@ pub mod Opened
 pub mod Waiting
 pub mod HangingUp
 pub mod ManyRanges
+pub mod Losses

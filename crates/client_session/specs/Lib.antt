@@ -8,3 +8,4 @@ pub mod Waiting
 pub mod Opening
 pub mod Finishing
 pub mod Numbering
+pub mod Losses

@@ -24,11 +24,12 @@ use Rattle.request_form.specs.declared.form.Reply.{Reply}
 use Rattle.session_parts.specs.Tickets.{OpenUpdate, tickets_of}
 pub use Rattle.session_parts.specs.Limits.{longest}
 
--- a store that sessions share: the lock of its desk, what no act changes, and how many providers it has
+-- a store that sessions share: the lock of its desk, what no act changes, how many providers it has, and how many replicas of a page
 pub record StoreState : Type 0 where
   pub lock : TableId
   pub fixed : DeskFixed
   pub providers : ℕ
+  pub replicas : ℕ
 
 -- The pass is of the store: of its lock, with its fixed data, and what it has seen is a history of it.
 pub record IsPassOf (store : StoreState) (pass : PassView Event DeskFixed) : Type 0 where

@@ -1,5 +1,5 @@
 // Numbered updates are finished: by the session that numbered them, or by another one.
-ghost use Rattle.std.specs.Prelude.{◌≡◌, ℕ, ◌+◌, ◌<◌, ◌≤◌, [], length, sum_by, All, Some, IfOk, IfErr, slice_get};
+ghost use Rattle.std.specs.Prelude.{◌≡◌, ℕ, ◌+◌, ◌<◌, ◌≤◌, [], length, map, sum_by, All, Some, IfOk, IfErr, slice_get};
 ghost use Rattle.std.specs.Arc.{arc_value};
 ghost use denote.Param.Send.{IsSync};
 ghost use Rattle.faults.specs.Counts.{RoseBy};
@@ -9,8 +9,10 @@ ghost use Rattle.request_form.specs.Session.{without_version};
 ghost use Rattle.request_form.specs.Answers.{Answers};
 ghost use Rattle.request_form.specs.declared.form.Request.TheVariants as Requests;
 ghost use Rattle.version_manager.specs.Log.{MayFinish, IsWaitingTicket};
+ghost use Rattle.tree_weaver.specs.Anew.{FoldFailed};
 ghost use Rattle.session_parts.specs.Tickets.{OpenUpdate, tickets_of};
 ghost use Rattle.tree_weaver.specs.Woven.{IsWoven};
+ghost use Rattle.client_session.specs.Losses.{IfPageLost, LostAnew, LostOfHeld};
 ghost use Rattle.client_session.specs.Results.{weave_fault, finish_reply, repair_reply};
 ghost use Rattle.client_session.specs.Sessions.{IsPassOf, Went, session_of, Continues};
 ghost use Rattle.client_session.specs.SessionInvariant.{IsTicketHere};
@@ -112,6 +114,8 @@ fn woven_or_why<D: BesideDoor, R: Threads + Wait + Sync>(
     requires here { IsFreshHere shared.now.fixed ticket.now }
     ensures woven { IfOk result (λ row. IsWoven shared.now.fixed.nodes shared.now.fixed.houses ticket.now (arc_value row)) }
     ensures why { IfErr result (NotWoven ticket.now) }
+    ensures failed { IfErr result (λ fault. IfPageLost fault
+        (FoldFailed ticket.now shared.now.providers shared.now.replicas (map D.faults doors.old) (map D.faults doors.new))) }
     ensures risen { RoseBy (weaving_faults result) (sum_by D.faults doors.old) (sum_by D.faults doors.new) }
     ensures ready { IsEquipped D.is_true shared.now doors.new room.new }
 {
@@ -160,6 +164,7 @@ fn finish_fresh<D: BesideDoor, G: Gate, R: Threads + Wait + Sync>(
     ensures pass { pass.new ≡ record pass.old { seen = pass.new.seen } }
     ensures went { Went shared.now.fixed pass.old.seen pass.new.seen }
     ensures finishing { Finishing shared.now.fixed pass.old.caller pass.old.seen blob version result pass.new.seen }
+    ensures failed { IfErr result (λ fault. IfPageLost fault (LostAnew shared.now pass.new.seen blob version (map D.faults doors.old) (map D.faults doors.new))) }
     ensures risen { RoseBy (fault_count (repair_reply result)) (sum_by D.faults doors.old) (sum_by D.faults doors.new) }
     ensures ready { IsEquipped D.is_true shared.now doors.new room.new }
 {
@@ -194,6 +199,8 @@ fn finish_by<D: BesideDoor, G: Gate, R: Threads + Wait + Sync>(
     ensures pass { pass.new ≡ record pass.old { seen = pass.new.seen } }
     ensures went { Went shared.now.fixed pass.old.seen pass.new.seen }
     ensures finishing { Finishing shared.now.fixed pass.old.caller pass.old.seen ticket.now.blob ticket.now.version result pass.new.seen }
+    ensures failed { IfErr result (λ fault. IfPageLost fault
+        (LostAnew shared.now pass.new.seen ticket.now.blob ticket.now.version (map D.faults doors.old) (map D.faults doors.new))) }
     ensures risen { RoseBy (fault_count (repair_reply result)) (sum_by D.faults doors.old) (sum_by D.faults doors.new) }
     ensures ready { IsEquipped D.is_true shared.now doors.new room.new }
 {
@@ -227,6 +234,8 @@ impl<'a, D: BesideDoor, G: Gate> Session<'a, D, G> {
     ) -> Result<u64, Fault>
         requires sync { IsSync R.row }
         ensures finishing { Finishing self.old.store.fixed self.old.caller self.old.log blob version result self.new.log }
+        ensures failed { IfErr result (λ fault. IfPageLost fault
+            (LostAnew self.old.store self.new.log blob version (map D.faults self.old.doors) (map D.faults self.new.doors))) }
         ensures faults { RoseBy (fault_count (repair_reply result)) (sum_by D.faults self.old.doors) (sum_by D.faults self.new.doors) }
         ensures goes_on { Continues self.old self.new }
         ensures rest { self.new ≡ record self.old { log = self.new.log; doors = self.new.doors } }
@@ -253,6 +262,8 @@ impl<'a, D: BesideDoor, G: Gate> Session<'a, D, G> {
         requires sync { IsSync R.row }
         requires ticket { IsTicketHere self.old.store.fixed self.old.log ticket.now }
         ensures finishing { Finishing self.old.store.fixed self.old.caller self.old.log ticket.now.blob ticket.now.version result self.new.log }
+        ensures failed { IfErr result (λ fault. IfPageLost fault
+            (LostAnew self.old.store self.new.log ticket.now.blob ticket.now.version (map D.faults self.old.doors) (map D.faults self.new.doors))) }
         ensures faults { RoseBy (fault_count (repair_reply result)) (sum_by D.faults self.old.doors) (sum_by D.faults self.new.doors) }
         ensures goes_on { Continues self.old self.new }
         ensures rest { self.new ≡ record self.old { log = self.new.log; doors = self.new.doors } }
@@ -275,6 +286,8 @@ impl<'a, D: BesideDoor, G: Gate> Session<'a, D, G> {
         requires within { index < length self.old.held }
         ensures finishing { (o : OpenUpdate) → slice_get self.old.held index ≡ Some o
             → Finishing self.old.store.fixed self.old.caller self.old.log o.ticket.blob o.ticket.version result self.new.log }
+        ensures failed { (o : OpenUpdate) → slice_get self.old.held index ≡ Some o → IfErr result (λ fault. IfPageLost fault
+            (LostAnew self.old.store self.new.log o.ticket.blob o.ticket.version (map D.faults self.old.doors) (map D.faults self.new.doors))) }
         ensures faults { RoseBy (fault_count (repair_reply result)) (sum_by D.faults self.old.doors) (sum_by D.faults self.new.doors) }
         ensures goes_on { Continues self.old self.new }
         ensures rest { self.new ≡ record self.old { log = self.new.log; doors = self.new.doors } }
@@ -300,6 +313,8 @@ impl<'a, D: BesideDoor, G: Gate> Session<'a, D, G> {
     pub fn finish<R: Threads + Wait + Sync>(&mut self, rt: &R, ticket: u64) -> Result<u64, Fault>
         requires sync { IsSync R.row }
         ensures answers { Answers AllOther (session_of self.old) (Requests.Finish ticket) (finish_reply result) (session_of self.new) }
+        ensures failed { IfErr result (λ fault. IfPageLost fault
+            (LostOfHeld self.old.store self.new.log self.old.held ticket (map D.faults self.old.doors) (map D.faults self.new.doors))) }
         ensures faults { RoseBy (fault_count (finish_reply result)) (sum_by D.faults self.old.doors) (sum_by D.faults self.new.doors) }
         ensures goes_on { Continues self.old self.new }
     {
@@ -325,6 +340,8 @@ impl<'a, D: BesideDoor, G: Gate> Session<'a, D, G> {
         requires sync { IsSync R.row }
         requires ticket { IsTicketHere self.old.store.fixed self.old.log ticket.now }
         ensures answers { Answers AllOther (session_of self.old) (Requests.Repair ticket.now.blob ticket.now.version) (repair_reply result) (session_of self.new) }
+        ensures failed { IfErr result (λ fault. IfPageLost fault
+            (LostAnew self.old.store self.new.log ticket.now.blob ticket.now.version (map D.faults self.old.doors) (map D.faults self.new.doors))) }
         ensures faults { RoseBy (fault_count (repair_reply result)) (sum_by D.faults self.old.doors) (sum_by D.faults self.new.doors) }
         ensures goes_on { Continues self.old self.new }
     {
@@ -349,6 +366,8 @@ impl<'a, D: BesideDoor, G: Gate> Session<'a, D, G> {
     ) -> Result<u64, Fault>
         requires sync { IsSync R.row }
         ensures answers { Answers AllOther (session_of self.old) (Requests.Repair blob version) (repair_reply result) (session_of self.new) }
+        ensures failed { IfErr result (λ fault. IfPageLost fault
+            (LostAnew self.old.store self.new.log blob version (map D.faults self.old.doors) (map D.faults self.new.doors))) }
         ensures faults { RoseBy (fault_count (repair_reply result)) (sum_by D.faults self.old.doors) (sum_by D.faults self.new.doors) }
         ensures goes_on { Continues self.old self.new }
     {

@@ -1,5 +1,5 @@
 // A session of a store.
-ghost use Rattle.std.specs.Prelude.{◌≡◌, ◌≢◌, ℕ, ◌+◌, ◌<◌, ◌≤◌, List, [], false, length, sum_by, Err, IfOk, IfErr, All};
+ghost use Rattle.std.specs.Prelude.{◌≡◌, ◌≢◌, ℕ, ◌+◌, ◌<◌, ◌≤◌, List, [], false, length, map, sum_by, Err, IfOk, IfErr, All};
 ghost use Rattle.faults.specs.Counts.{RoseBy};
 ghost use Rattle.blob_model.specs.History.{AllOther};
 ghost use Rattle.request_form.specs.Replies.{reply_of, page_faults, fault_count};
@@ -11,6 +11,8 @@ ghost use Rattle.blob_model.specs.Content.{size_of};
 ghost use Rattle.range_log.specs.Updates.{extents};
 ghost use Rattle.range_log.specs.Visits.{visits};
 ghost use Rattle.session_parts.specs.Ranges.{OverUpdates};
+ghost use Rattle.range_reader.specs.Faults.{PageFailedIn};
+ghost use Rattle.client_session.specs.Losses.{IfPageLost, LostInRead};
 ghost use Rattle.client_session.specs.Results.{desk_fault, told_of, opened_of, range_of, create_reply, branch_reply, read_reply};
 ghost use Rattle.client_session.specs.Opening.{Opening, IsOfStore, ReadsRange};
 ghost use Rattle.client_session.specs.Sessions.{IsPassOf, session_of, pass_of, Continues, visits_seen, NoStepIfRefused, IsSettled, AnswersAsPublished};
@@ -63,6 +65,7 @@ fn told(answer: Result<u64, DeskFault>) -> Result<u64, Fault>
 // The desk's snapshot as the session's.
 fn opened(answer: Result<Snapshot, DeskFault>) -> Result<Snapshot, Fault>
     ensures is { result ≡ opened_of answer }
+    ensures calm { IfErr result (λ fault. page_faults fault ≡ 0) }
 {
     match answer {
         Ok(snapshot) => Ok(snapshot),
@@ -276,7 +279,8 @@ impl<'a, D: Door, G: Gate> Session<'a, D, G> {
     /// `count` bytes of a published version from byte `offset` on.
     ///
     /// `ReadTooLong` comes first, exactly where more than 16,777,216 bytes are asked for, then the store's refusals, then
-    /// `PageFault`. It takes one turn, in which it gets the version's snapshot. From there it goes through the tree holding no lock,
+    /// `PageFault`, only where every door failed of a stored page that the named page of the range needs. It takes one turn, in
+    /// which it gets the version's snapshot. From there it goes through the tree holding no lock,
     /// and the clause `steps` bounds how many nodes it meets: none where it is refused. Where the version is published in any history that the session has
     /// seen, the reply is what the store of that history answers, whatever has come since.
     pub fn read<R: Wait, L: Ledger>(
@@ -293,6 +297,8 @@ impl<'a, D: Door, G: Gate> Session<'a, D, G> {
         ensures goes_on { Continues self.old self.new }
         ensures rest { self.new ≡ record self.old { log = self.new.log; doors = self.new.doors } }
         ensures steps { steps.new ≤ steps.old + visits_seen (session_of self.new) blob version offset count }
+        ensures failed { IfErr result (λ fault. IfPageLost fault
+            (LostInRead self.old.store self.new.log blob version offset count (map D.faults self.old.doors) (map D.faults self.new.doors))) }
         ensures stays { AnswersAsPublished (session_of self.new) (record { blob = blob; version = version; offset = offset; count = count }) (read_reply result) }
         ensures no_step { NoStepIfRefused (session_of self.new) blob version offset count steps.old steps.new }
     {
@@ -314,6 +320,7 @@ impl<'a, D: Door, G: Gate> Session<'a, D, G> {
     /// doors and the held tickets stay. A snapshot is good as long as it is kept, whatever comes later.
     pub fn open<R: Wait>(&mut self, rt: &R, blob: u64, version: u64) -> Result<Snapshot, Fault>
         ensures opening { Opening self.old blob version result self.new }
+        ensures calm { IfErr result (λ fault. page_faults fault ≡ 0) }
         ensures goes_on { Continues self.old self.new }
     {
         version_manager::laws::gaps_are_of_others();
@@ -333,7 +340,8 @@ impl<'a, D: Door, G: Gate> Session<'a, D, G> {
     ///
     /// `ReadTooLong` comes first, exactly where more than 16,777,216 bytes are asked for, then `RangePastSize`, exactly where the
     /// range ends past the snapshot's size, then `PageFault`, which names a page of the blob that the range meets, and only where
-    /// a door has counted a failure. It takes no turn and waits for nobody, and but for the doors the session stays as it is. The
+    /// every door failed of a stored page that it needs. It takes no turn and waits for nobody, and but for the doors the session stays
+    /// as it is. The
     /// clause `steps` bounds how many nodes it meets: none where the range is too long or past the size.
     pub fn read_at<L: Ledger>(
         &mut self,
@@ -351,6 +359,8 @@ impl<'a, D: Door, G: Gate> Session<'a, D, G> {
         ensures steps { OverUpdates snapshot.now (λ us. steps.new ≤ steps.old + visits snapshot.now.page_size (extents us) (length snapshot.now.rows) offset count) }
         ensures no_step { OverUpdates snapshot.now (λ us. size_of us (length snapshot.now.rows) < offset + count → steps.new ≡ steps.old) }
         ensures no_step_too_long { max_read < count → steps.new ≡ steps.old }
+        ensures failed { IfErr result (λ fault. IfPageLost fault
+            (PageFailedIn snapshot.now offset count (map D.faults self.old.doors) (map D.faults self.new.doors))) }
         ensures seen_stays { self.new ≡ record self.old { doors = self.new.doors } }
     {
         if count > MAX_READ {

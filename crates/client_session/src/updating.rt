@@ -1,5 +1,5 @@
 // The updates of a session: started, or finished at once.
-ghost use Rattle.std.specs.Prelude.{◌≡◌, ◌≢◌, ℕ, ◌+◌, ◌<◌, ◌≤◌, [], ◌∷◌, ◌++◌, length, sum_by, All};
+ghost use Rattle.std.specs.Prelude.{◌≡◌, ◌≢◌, ℕ, ◌+◌, ◌<◌, ◌≤◌, [], ◌∷◌, ◌++◌, length, map, sum_by, All};
 ghost use Rattle.std.specs.Prelude.{IfOk, IfErr, IfNone, IfSome, OnOk, option_map, None};
 ghost use Rattle.std.specs.Arc.{arc_value};
 ghost use denote.Param.Send.{IsSync};
@@ -18,6 +18,7 @@ ghost use Rattle.client_session.specs.SessionInvariant.{IsOpen, IsTicketHere};
 ghost use Rattle.client_session.specs.Results.{store_fault, started_reply, updated_reply};
 ghost use Rattle.client_session.specs.Sessions.{IsPassOf, Went, session_of, Continues};
 ghost use Rattle.client_session.specs.Finishing.{bare};
+ghost use Rattle.client_session.specs.Losses.{IfPageLost, LostFirst};
 ghost use Rattle.client_session.specs.Numbering.{LookedAhead, NotNumberedFor, Numbering};
 ghost use Rattle.client_session.specs.Updates.{update_request, start_request, start_reply, IsNumbered, NotNumbered, IsKept};
 
@@ -116,6 +117,7 @@ fn prepare<D: BesideDoor, R: Threads + Wait + Sync>(
     ensures bytes { IfOk result (λ pages. bytes_of_pages (arc_value pages).pages ≡ bytes.now) }
     ensures ready { IfOk result (λ pages. MayAssign (arc_value pages) shared.now.fixed) }
     ensures refused { IfErr result (λ fault. NotNumberedFor (bare shared.now.fixed pass.old.caller pass.old.seen) blob place bytes.now fault (bare shared.now.fixed pass.old.caller pass.new.seen)) }
+    ensures first_lost { IfErr result (λ fault. IfPageLost fault (LostFirst shared.now bytes.now (map D.faults doors.old) (map D.faults doors.new))) }
     ensures risen { IfErr result (λ fault. RoseBy (page_faults fault) (sum_by D.faults doors.old) (sum_by D.faults doors.new)) }
     ensures never_falls { sum_by D.faults doors.old ≤ sum_by D.faults doors.new }
     ensures count { length doors.new ≡ length doors.old }
@@ -178,6 +180,7 @@ impl<'a, D: BesideDoor, G: Gate> Session<'a, D, G> {
         requires sync { IsSync R.row }
         ensures numbered { IfOk result (λ t. IsNumbered self.old blob place bytes.now t self.new) }
         ensures refused { IfErr result (λ fault. NotNumbered self.old blob place bytes.now fault self.new) }
+        ensures first_lost { IfErr result (λ fault. IfPageLost fault (LostFirst self.old.store bytes.now (map D.faults self.old.doors) (map D.faults self.new.doors))) }
         ensures risen { IfErr result (λ fault. RoseBy (page_faults fault) (sum_by D.faults self.old.doors) (sum_by D.faults self.new.doors)) }
         ensures never_falls { sum_by D.faults self.old.doors ≤ sum_by D.faults self.new.doors }
         ensures goes_on { Continues self.old self.new }
@@ -226,7 +229,8 @@ impl<'a, D: BesideDoor, G: Gate> Session<'a, D, G> {
     /// woven too, unless it stores pages of the blob anew: `finish` weaves such an update, since it must read the version before.
     ///
     /// The refusals come in this order: no bytes, more than the session's limit, 64 tickets held; for an update of more than one page
-    /// then those that a first look at the store finds, and no page is stored; then a page that no provider took, or want of memory;
+    /// then those that a first look at the store finds, and no page is stored; then the first page that no door of its placement took, or
+    /// want of memory;
     /// then the store's refusals at the numbering. Want of memory once it is numbered is `NoMemoryTicket`: it is held all the same, and
     /// `finish` goes on with it. After any other refusal the store is as before, but for pages that may lie unused at providers.
     pub fn start<R: Threads + Wait + Sync>(
@@ -240,6 +244,7 @@ impl<'a, D: BesideDoor, G: Gate> Session<'a, D, G> {
         ensures answers { Answers AllOther (session_of self.old) (start_request blob place bytes.now) (started_reply place result) (session_of self.new) }
         ensures woven { IfOk result (λ started. folds_in self.new.store.fixed.page_size (store_at (session_of self.new) []) blob started.version ≡ []
             → HasRow self.new.held started.ticket) }
+        ensures first_lost { IfErr result (λ fault. IfPageLost fault (LostFirst self.old.store bytes.now (map D.faults self.old.doors) (map D.faults self.new.doors))) }
         ensures faults { RoseBy (fault_count (started_reply place result)) (sum_by D.faults self.old.doors) (sum_by D.faults self.new.doors) }
         ensures goes_on { Continues self.old self.new }
     {
@@ -274,6 +279,7 @@ impl<'a, D: BesideDoor, G: Gate> Session<'a, D, G> {
     ) -> Result<Updated, Fault>
         requires sync { IsSync R.row }
         ensures answers { Answers AllOther (session_of self.old) (Requests.Append blob bytes.now) (updated_reply Append result) (session_of self.new) }
+        ensures first_lost { IfErr result (λ fault. IfPageLost fault (LostFirst self.old.store bytes.now (map D.faults self.old.doors) (map D.faults self.new.doors))) }
         ensures faults { RoseBy (update_faults (session_of self.new) blob (updated_reply Append result)) (sum_by D.faults self.old.doors) (sum_by D.faults self.new.doors) }
         ensures goes_on { Continues self.old self.new }
     {
@@ -291,6 +297,7 @@ impl<'a, D: BesideDoor, G: Gate> Session<'a, D, G> {
     ) -> Result<Updated, Fault>
         requires sync { IsSync R.row }
         ensures answers { Answers AllOther (session_of self.old) (Requests.Write blob offset bytes.now) (updated_reply (WriteAt offset) result) (session_of self.new) }
+        ensures first_lost { IfErr result (λ fault. IfPageLost fault (LostFirst self.old.store bytes.now (map D.faults self.old.doors) (map D.faults self.new.doors))) }
         ensures faults { RoseBy (update_faults (session_of self.new) blob (updated_reply (WriteAt offset) result)) (sum_by D.faults self.old.doors) (sum_by D.faults self.new.doors) }
         ensures goes_on { Continues self.old self.new }
     {
@@ -307,6 +314,7 @@ impl<'a, D: BesideDoor, G: Gate> Session<'a, D, G> {
     ) -> Result<Updated, Fault>
         requires sync { IsSync R.row }
         ensures answers { Answers AllOther (session_of self.old) (update_request blob place bytes.now) (updated_reply place result) (session_of self.new) }
+        ensures first_lost { IfErr result (λ fault. IfPageLost fault (LostFirst self.old.store bytes.now (map D.faults self.old.doors) (map D.faults self.new.doors))) }
         ensures faults { RoseBy (update_faults (session_of self.new) blob (updated_reply place result)) (sum_by D.faults self.old.doors) (sum_by D.faults self.new.doors) }
         ensures goes_on { Continues self.old self.new }
     {
@@ -331,7 +339,8 @@ impl<'a, D: Door, G: Gate> Session<'a, D, G> {
         requires open_ { IsOpen self.old.store.fixed self.old.log record { number = self.old.next; ticket = ticket; row = None } }
         requires room { length self.old.held < 64 }
         requires drawn { self.old.next ≤ length self.old.log }
-        ensures { IsKept self.old ticket fault result self.new }
+        ensures kept { IsKept self.old ticket fault result self.new }
+        ensures calm { IfErr result (λ fault. page_faults fault ≡ 0) }
     {
         let (version, at, size) = (ticket.version(), ticket.at(), ticket.size());
         match fault {

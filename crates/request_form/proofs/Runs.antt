@@ -1,197 +1,22 @@
 -- How runs go on, that there is always one, and when a run is alone.
-use Rattle.std.proofs.Common.{◌≡◌, ℕ, ◌+◌, ◌==◌, nat_lt, Bool, true, false, if◌then◌else◌, List, [], ◌∷◌, ◌++◌, length, refl, sym, ◌∙◌, ap, subst, append_assoc, append-nil, zero-add}
-use Rattle.std.specs.Prelude.{Option, Some, None, IfSome}
+use Rattle.std.proofs.Common.{◌≡◌, ℕ, ◌+◌, Bool, true, false, if◌then◌else◌, List, [], ◌∷◌, ◌++◌, refl, sym, ◌∙◌, ap, subst, append_assoc, append-nil}
+use Rattle.std.specs.Prelude.{Option, Some, None}
 use Rattle.blob_model.specs.declared.call.Event.{Event}
 use Rattle.blob_model.specs.declared.call.Place.{Place}
 use Rattle.blob_model.specs.declared.call.Place.TheVariants.{WriteAt, Append}
 use Rattle.blob_model.specs.declared.call.Call.{Call}
 use Rattle.blob_model.specs.declared.call.Call.TheVariants as Calls
-use Rattle.blob_model.specs.declared.call.Outcome.{Outcome}
-use Rattle.blob_model.specs.declared.call.Outcome.TheVariants as Outcomes
-use Rattle.blob_model.specs.declared.call.Refusal.{Refusal}
-use Rattle.blob_model.specs.declared.call.Refusal.TheVariants as Refusals
 use Rattle.request_form.specs.declared.form.Request.{Request}
 use Rattle.request_form.specs.declared.form.Request.TheVariants as Requests
 use Rattle.request_form.specs.declared.form.Reply.{Reply}
-use Rattle.request_form.specs.declared.form.Reply.TheVariants as Replies
 use Rattle.request_form.specs.declared.form.Heard.{Heard}
 use Rattle.request_form.specs.declared.form.Heard.TheVariants.{Asked, Wrong}
 use Rattle.request_form.specs.declared.form.Fault.{Fault}
-use Rattle.request_form.specs.declared.form.Fault.TheVariants as Faults
 use Rattle.blob_model.specs.History.{AllOther}
 use Rattle.request_form.specs.Session.{Session, HeldTicket, sees, holds, ticket_at, drops, lets_go, takes_up_to, AllOwn, IsNobody}
-use Rattle.request_form.specs.Replies.{fault_of, reply_of, page_faults, fault_count}
-use Rattle.request_form.specs.Stream.{IsWellHeard, AllWellHeard}
-use Rattle.request_form.specs.Session.{outcome_at}
-use Rattle.request_form.specs.Answers.{Gap, Answers, Unless, Refused, OutOfMemory, Created, Updated, HeldBack, Started, TicketKept, PageNotStored, Reported, FoundFinished, FoldWaits, PageNotFolded, Branched, Content, PageNotRead, Contents, RangeRefused, PageOfRangeNotRead, Repaired, FoundRepaired, NoneToRepair, CreateAnswer, UpdateAnswer, WholeUpdate, FinishHindered, ReportAnswer, FinishAnswer, BranchAnswer, ReadAnswer, ReadManyAnswer, RepairAnswer, LookAnswer, update_fault, read_fault, ranges_fault, answer_faults, max_update_greater, max_read, max_tickets}
+use Rattle.request_form.specs.Stream.{AllWellHeard}
+use Rattle.request_form.specs.Answers.{Gap, Answers, Unless, Refused, OutOfMemory, Created, Updated, HeldBack, Started, TicketKept, PageNotStored, Reported, FoundFinished, FoldWaits, PageNotFolded, Branched, Content, PageNotRead, Contents, RangeRefused, PageOfRangeNotRead, Repaired, FoundRepaired, NoneToRepair, CreateAnswer, UpdateAnswer, WholeUpdate, FinishHindered, ReportAnswer, FinishAnswer, BranchAnswer, ReadAnswer, ReadManyAnswer, RepairAnswer, LookAnswer, update_fault, read_fault, ranges_fault, max_update_greater}
 use Rattle.request_form.specs.Transcript.{Run, ItemReply, is_last, until_quit, item_faults, faults_of}
-
--- some answer of a request, or of an item, for which the outside didn't fail
-record SomeReply (Answer : Reply → Session → Type 0) : Type 0 where
-  pub reply : Reply
-  pub next : Session
-  pub is : Answer reply next
-  pub calm : fault_count reply ≡ 0
-
--- some refusal of it
-record SomeRefusal (Answer : Reply → Session → Type 0) : Type 0 where
-  pub fault : Fault
-  pub next : Session
-  pub is : Answer (Replies.Refused fault) next
-  pub calm : page_faults fault ≡ 0
-
--- some answer of a request
-record SomeAnswer (s : Session) (request : Request) : Type 0 where
-  pub reply : Reply
-  pub next : Session
-  pub is : Answers IsNobody s request reply next
-  pub calm : answer_faults next request reply ≡ 0
-
--- that fault, where there is one, is none of the outside
-abbrev IsCalm : Option Fault → Type 0
-IsCalm o = IfSome o (λ fault. page_faults fault ≡ 0)
-
-calm_if : (b : Bool) (fault : Fault) (o : Option Fault) → page_faults fault ≡ 0 → IsCalm o → IsCalm (if b then Some fault else o)
-calm_if true fault o h k = h
-calm_if false fault o h k = k
-
-update_calm : (s : Session) (bytes : List ℕ) → IsCalm (update_fault s bytes)
-update_calm s bytes =
-    calm_if (length bytes == 0) _ _ refl (calm_if (nat_lt s.limit (length bytes)) _ _ refl (calm_if (length s.tickets == max_tickets) _ _ refl tt))
-
-read_calm : (count : ℕ) → IsCalm (read_fault count)
-read_calm count = calm_if (nat_lt max_read count) _ _ refl tt
-
-ranges_calm : (sum : ℕ) (ranges : List (ℕ × ℕ)) → IsCalm (ranges_fault sum ranges)
-ranges_calm sum [] = tt
-ranges_calm sum (range ∷ ranges) = calm_if (nat_lt max_read (sum + range.1)) _ _ refl (ranges_calm (sum + range.1) ranges)
-
-refusal_calm : (refusal : Refusal) → page_faults (fault_of refusal) ≡ 0
-refusal_calm (Refusals.NoBlob blob) = refl
-refusal_calm (Refusals.NotPublished version published) = refl
-refusal_calm (Refusals.OffsetPastSize offset size) = refl
-refusal_calm (Refusals.BlobTooBig end limit) = refl
-refusal_calm (Refusals.TooManyVersions limit) = refl
-refusal_calm (Refusals.TooManyOpen limit) = refl
-refusal_calm (Refusals.TooManyBlobs limit) = refl
-refusal_calm (Refusals.Already version) = refl
-refusal_calm (Refusals.RangePastSize end size) = refl
-refusal_calm (Refusals.Pending version held) = refl
-
-outcome_calm : (o : Outcome) → fault_count (reply_of o) ≡ 0
-outcome_calm (Outcomes.Blob blob) = refl
-outcome_calm (Outcomes.Assigned version at size) = refl
-outcome_calm (Outcomes.Published published) = refl
-outcome_calm (Outcomes.Content bytes) = refl
-outcome_calm (Outcomes.Recent version size) = refl
-outcome_calm (Outcomes.Size size) = refl
-outcome_calm (Outcomes.Synced version) = refl
-outcome_calm (Outcomes.Status assigned published held) = refl
-outcome_calm (Outcomes.Refused refusal) = refusal_calm refusal
-
-unless_possible : (o : Option Fault) (s : Session) (Answer : Reply → Session → Type 0) → IsCalm o →
-    SomeReply Answer → SomeReply (λ (r : Reply) (s' : Session). Unless o s r s' (Answer r s'))
-unless_possible (Some fault) s Answer calm p = record { reply = Replies.Refused fault; next = s; is = (refl, refl); calm = calm }
-unless_possible None s Answer calm p = p
-
-out_of_memory_here : (s : Session) → OutOfMemory IsNobody s (Replies.Refused Faults.NoMemory) (sees s [])
-out_of_memory_here s = record { others = []; is_gap = refl; said = refl; seen = refl }
-
-refusal_possible : (o : Option Fault) (s : Session) (Answer : Reply → Session → Type 0) → IsCalm o →
-    SomeRefusal Answer → SomeRefusal (λ (r : Reply) (s' : Session). Unless o s r s' (Answer r s'))
-refusal_possible (Some fault) s Answer calm p = record { fault = fault; next = s; is = (refl, refl); calm = calm }
-refusal_possible None s Answer calm p = p
-
--- an update for which no memory is found, whatever it would do
-update_possible : (s : Session) (blob : ℕ) (place : Place) (bytes : List ℕ) (Does : Reply → Session → Type 0) →
-    SomeRefusal (λ (r : Reply) (s' : Session). Unless (update_fault s bytes) s r s' (UpdateAnswer IsNobody s blob place bytes (Does r s') r s'))
-update_possible s blob place bytes Does =
-    refusal_possible (update_fault s bytes) s
-    (λ (r : Reply) (s' : Session). UpdateAnswer IsNobody s blob place bytes (Does r s') r s')
-    (update_calm s bytes)
-    (record { fault = Faults.NoMemory; next = sees s []; is = UpdateAnswer.out_of_memory (out_of_memory_here s); calm = refl })
-
-finish_possible : (s : Session) (number : ℕ) (ticket : Option HeldTicket) → SomeReply (λ (r : Reply) (s' : Session). FinishAnswer IsNobody s number ticket r s')
-finish_possible s number None = record { reply = Replies.Refused (Faults.NoTicket number); next = s; is = (refl, refl); calm = refl }
-finish_possible s number (Some ticket) =
-    record { reply = Replies.Refused Faults.NoMemory; next = sees s []; is = ReportAnswer.hindered (FinishHindered.out_of_memory (out_of_memory_here s)); calm = refl }
-
-look_possible : (s : Session) (call : Call) → SomeReply (λ (r : Reply) (s' : Session). LookAnswer IsNobody s call r s')
-look_possible s call =
-    record { reply = reply_of (outcome_at s [] call); next = sees s []; is = record { others = []; is_gap = refl; said = refl; seen = refl }; calm = outcome_calm (outcome_at s [] call) }
-
--- an answer of a request, whose reply tells how often the outside failed
-told_possible : (s : Session) (request : Request) → ((next : Session) (reply : Reply) → answer_faults next request reply ≡ fault_count reply)
-    → SomeReply (λ (r : Reply) (s' : Session). Answers IsNobody s request r s') → SomeAnswer s request
-told_possible s request told p = record { reply = p.reply; next = p.next; is = p.is; calm = told p.next p.reply ∙ p.calm }
-
--- and one that is refused
-refused_possible : (s : Session) (request : Request) → ((next : Session) (fault : Fault) → answer_faults next request (Replies.Refused fault) ≡ page_faults fault)
-    → SomeRefusal (λ (r : Reply) (s' : Session). Answers IsNobody s request r s') → SomeAnswer s request
-refused_possible s request told p = record { reply = Replies.Refused p.fault; next = p.next; is = p.is; calm = told p.next p.fault ∙ p.calm }
-
-answer_possible : (s : Session) (request : Request) → SomeAnswer s request
-answer_possible s Requests.Create =
-    record { reply = Replies.Refused Faults.NoMemory; next = sees s []; is = CreateAnswer.out_of_memory (out_of_memory_here s); calm = refl }
-answer_possible s (Requests.Append blob bytes) =
-    refused_possible s (Requests.Append blob bytes) (λ next fault. refl)
-    (update_possible s blob Append bytes
-    (λ (r : Reply) (s' : Session). WholeUpdate IsNobody s blob Append bytes (λ (v : ℕ) (a : ℕ) (z : ℕ). Replies.Appended v a z) (λ (t : ℕ) (v : ℕ) (a : ℕ) (z : ℕ). Replies.AppendStarted t v a z) r s'))
-answer_possible s (Requests.Write blob offset bytes) =
-    refused_possible s (Requests.Write blob offset bytes) (λ next fault. refl)
-    (update_possible s blob (WriteAt offset) bytes
-    (λ (r : Reply) (s' : Session). WholeUpdate IsNobody s blob (WriteAt offset) bytes (λ (v : ℕ) (a : ℕ) (z : ℕ). Replies.Wrote v a z) (λ (t : ℕ) (v : ℕ) (a : ℕ) (z : ℕ). Replies.WriteStarted t v a z) r s'))
-answer_possible s (Requests.StartAppend blob bytes) =
-    refused_possible s (Requests.StartAppend blob bytes) (λ next fault. refl)
-    (update_possible s blob Append bytes
-    (λ (r : Reply) (s' : Session). Started IsNobody s blob Append bytes (λ (t : ℕ) (v : ℕ) (a : ℕ) (z : ℕ). Replies.AppendStarted t v a z) r s'))
-answer_possible s (Requests.StartWrite blob offset bytes) =
-    refused_possible s (Requests.StartWrite blob offset bytes) (λ next fault. refl)
-    (update_possible s blob (WriteAt offset) bytes
-    (λ (r : Reply) (s' : Session). Started IsNobody s blob (WriteAt offset) bytes (λ (t : ℕ) (v : ℕ) (a : ℕ) (z : ℕ). Replies.WriteStarted t v a z) r s'))
-answer_possible s (Requests.Finish number) = told_possible s (Requests.Finish number) (λ next reply. refl) (finish_possible s number (ticket_at s.tickets number))
-answer_possible s (Requests.Read blob version offset count) =
-    told_possible s (Requests.Read blob version offset count) (λ next reply. refl)
-    (unless_possible (read_fault count) s
-    (λ (r : Reply) (s' : Session). ReadAnswer IsNobody s blob version offset count r s')
-    (read_calm count)
-    (record { reply = Replies.Refused Faults.NoMemory; next = sees s []; is = ReadAnswer.out_of_memory (out_of_memory_here s); calm = refl }))
-answer_possible s (Requests.Recent blob) = told_possible s (Requests.Recent blob) (λ next reply. refl) (look_possible s (Calls.Recent blob))
-answer_possible s (Requests.Size blob version) = told_possible s (Requests.Size blob version) (λ next reply. refl) (look_possible s (Calls.Size blob version))
-answer_possible s (Requests.Sync blob version) = told_possible s (Requests.Sync blob version) (λ next reply. refl) (look_possible s (Calls.Sync blob version))
-answer_possible s (Requests.Status blob) = told_possible s (Requests.Status blob) (λ next reply. refl) (look_possible s (Calls.Status blob))
-answer_possible s (Requests.Branch blob version) =
-    record { reply = Replies.Refused Faults.NoMemory; next = sees s []; is = BranchAnswer.out_of_memory (out_of_memory_here s); calm = refl }
-answer_possible s (Requests.Hello version) = record { reply = Replies.HelloIs 2; next = takes_up_to s max_update_greater; is = (refl, refl); calm = refl }
-answer_possible s (Requests.ReadMany blob version ranges) =
-    told_possible s (Requests.ReadMany blob version ranges) (λ next reply. refl)
-    (unless_possible (ranges_fault 0 ranges) s
-    (λ (r : Reply) (s' : Session). ReadManyAnswer IsNobody s blob version ranges r s')
-    (ranges_calm 0 ranges)
-    (record { reply = Replies.Refused Faults.NoMemory; next = sees s []; is = ReadManyAnswer.out_of_memory (out_of_memory_here s); calm = refl }))
-answer_possible s (Requests.Repair blob version) =
-    record { reply = Replies.Refused Faults.NoMemory; next = sees s []; is = RepairAnswer.hindered (FinishHindered.out_of_memory (out_of_memory_here s)); calm = refl }
-answer_possible s Requests.Quit = record { reply = Replies.Bye; next = s; is = (refl, refl); calm = refl }
-
--- some answer of an item, for which the outside didn't fail if the item is no fault of it
-record SomeItemReply (s : Session) (h : Heard) : Type 0 where
-  pub reply : Reply
-  pub next : Session
-  pub is : ItemReply IsNobody s h reply next
-  pub calm : IsWellHeard h → item_faults next h reply ≡ 0
-
-item_possible : (s : Session) (h : Heard) → SomeItemReply s h
-item_possible s (Asked request) = let p = answer_possible s request in record { reply = p.reply; next = p.next; is = p.is; calm = λ well. p.calm }
-item_possible s (Wrong fault) = record { reply = Replies.Refused fault; next = s; is = (refl, refl); calm = λ well. well }
-
--- Each list of items has a run with nobody else there, in which the outside failed for no request.
-pub run_possible : (s : Session) (hs : List Heard)
-    → (rs : List Reply) × ((s' : Session) × ((run : Run IsNobody s hs rs s') × (AllWellHeard hs → faults_of IsNobody s hs rs s' run ≡ 0)))
-run_possible s [] = ([], (s, (refl, λ well. refl)))
-run_possible s (h ∷ hs) =
-    let p = item_possible s h in
-    let q = run_possible p.next hs in
-    (p.reply ∷ q.0, (q.1.0, ((p.next, p.is, q.1.1.0), λ well. let first : item_faults p.next h p.reply ≡ 0 = p.calm well.0 in rw first (rw (zero-add (faults_of IsNobody p.next hs q.0 q.1.0 q.1.1.0)) (q.1.1.1 well.1)))))
 
 well_if : (b : Bool) (hs : List Heard) → AllWellHeard hs → AllWellHeard (if b then [] else hs)
 well_if true hs well = tt

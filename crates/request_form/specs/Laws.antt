@@ -6,7 +6,7 @@ use Rattle.blob_model.specs.declared.call.Call.{Call}
 use Rattle.request_form.specs.Session.{Session, HeldTicket, AllOwn, IsNobody}
 use Rattle.request_form.specs.Stream.{AllWellHeard}
 use Rattle.request_form.specs.Answers.{Answers, LookAnswer}
-use Rattle.request_form.specs.Transcript.{Run, Transcript, faults_in}
+use Rattle.request_form.specs.Transcript.{Run, Transcript, until_quit, faults_in, NoneStarves}
 use Rattle.request_form.specs.Own.{Makes, events_made, made_by}
 use Rattle.request_form.specs.PublishedReads.{IsPublishedIn, Range, ReadAfter, Tells, read_outcome}
 use Rattle.request_form.specs.HangUp.{GivenUp, GivesUp, GivenUpCounts, HungUp, LeavesNoTicket, AllNumbered, AllFinished}
@@ -24,6 +24,13 @@ OwnIsAlone = (s : Session) (heard : List Heard) (replies : List Reply) (s' : Ses
 abbrev pub AlwaysAnswered : Type 0
 AlwaysAnswered = (s : Session) (heard : List Heard)
     → (replies : List Reply) × ((s' : Session) × ((alone : Transcript IsNobody s heard replies s') × (AllWellHeard heard → faults_in IsNobody s heard replies s' alone ≡ 0)))
+
+-- Where the versions of the session's tickets are numbered, there is such a transcript in which no reply to a request tells that memory
+-- was wanting either.
+abbrev pub AlwaysFed : Type 0
+AlwaysFed = (s : Session) (heard : List Heard) → AllNumbered (store_of s.fixed.limits s.seen) s.tickets
+    → (replies : List Reply) × ((s' : Session) × ((alone : Transcript IsNobody s heard replies s')
+    × ((AllWellHeard heard → faults_in IsNobody s heard replies s' alone ≡ 0) × NoneStarves (until_quit heard) replies)))
 
 -- Each answer makes the session's own events that its request and reply tell, and a run those of its items in order.
 abbrev pub OwnEventsAreMade : Type 0

@@ -1,4 +1,4 @@
-use Rattle.std.specs.Prelude.{◌≡◌, ℕ, Bool, true, false, List, [], flat_map}
+use Rattle.std.specs.Prelude.{◌≡◌, ℕ, Bool, true, false, List, [], ◌∷◌, flat_map}
 use Rattle.item_stream.specs.Rounds.{until_last, has_last, Rounds, sum_rounds}
 use Rattle.request_form.specs.declared.form.Request.{Request}
 use Rattle.request_form.specs.declared.form.Request.TheVariants as Requests
@@ -6,6 +6,7 @@ use Rattle.request_form.specs.declared.form.Reply.{Reply}
 use Rattle.request_form.specs.declared.form.Reply.TheVariants as Replies
 use Rattle.request_form.specs.declared.form.Heard.{Heard}
 use Rattle.request_form.specs.declared.form.Heard.TheVariants.{Asked, Wrong}
+use Rattle.request_form.specs.declared.form.Fault.TheVariants as Faults
 use Rattle.request_form.specs.Replies.{fault_count}
 use Rattle.request_form.specs.Session.{Fixed, Session, IsNobody}
 use Rattle.request_form.specs.Answers.{Gap, Answers, max_update, answer_faults}
@@ -65,6 +66,19 @@ faults_of gap s items replies s' run = sum_rounds item_faults (ItemReply gap) s 
 -- and in a transcript
 abbrev pub faults_in : (gap : Gap) (s : Session) (items : List Heard) (replies : List Reply) (s' : Session) → Transcript gap s items replies s' → ℕ
 faults_in gap s items replies s' run = faults_of gap s (until_quit items) replies s' run
+
+-- whether a reply tells that memory was wanting
+abbrev pub starves : Reply → Bool
+starves (Replies.Refused Faults.NoMemory) = true
+starves (Replies.Refused (Faults.NoMemoryTicket ticket)) = true
+starves _ = false
+
+-- no reply to a request tells that
+abbrev pub NoneStarves : List Heard → List Reply → Type 0
+NoneStarves [] replies = Unit {0}
+NoneStarves (item ∷ items) [] = Unit {0}
+NoneStarves (Asked request ∷ items) (reply ∷ replies) = (starves reply ≡ false) × NoneStarves items replies
+NoneStarves (Wrong fault ∷ items) (reply ∷ replies) = NoneStarves items replies
 
 -- a session that has seen nothing and holds no ticket
 abbrev pub first_session : Fixed → ℕ → Session

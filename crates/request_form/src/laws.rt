@@ -1,15 +1,19 @@
 //! Laws of answers and transcripts. A law is the contract of a function that does nothing.
 
-ghost use Rattle.request_form.specs.Laws.{OwnIsAlone, AlwaysAnswered, OwnEventsAreMade, RunsMakeOwnEvents};
+ghost use Rattle.request_form.specs.Laws.{OwnIsAlone, AlwaysAnswered, AlwaysFed, OwnEventsAreMade, RunsMakeOwnEvents};
 ghost use Rattle.request_form.specs.Laws.{LooksJoin, PublishedReadsStay, PublishedReadsAgree};
 ghost use Rattle.request_form.specs.Laws.{GivingUpGoesOn, HangUpsHold, HungUpAreFinished};
 
 /// A session that in the end has seen its own events alone was alone all along, and each list of items has a transcript
-/// in which the outside failed for no request.
+/// in which the outside failed for no request. Where the session's tickets are numbered there is one in which no reply to a
+/// request tells that memory was wanting either.
 pub fn transcripts_hold()
     ensures alone { OwnIsAlone }
     ensures always { AlwaysAnswered }
-{}
+    ensures fed { AlwaysFed }
+{
+    blob_model::laws::old_versions_stay();
+}
 
 /// A session's own events after an answer are those before it and then the ones that the request made, as its reply tells.
 /// Its caller stays, and it has seen more.

@@ -2,6 +2,7 @@ use Rattle.std.proofs.Common.{List, subst}
 use Rattle.std.specs.Arc.{arc_value}
 use Rattle.boxcar.specs.Table.{Shelves}
 use Rattle.tree_weaver.specs.Woven.{IsWoven}
+use Rattle.client_session.proofs.Losses.{calm_repair}
 use Rattle.client_session.proofs.Opened.{may_finish_woven}
 use Rattle.client_session.proofs.finishing.finish_by.Goals as goal
 
@@ -11,3 +12,6 @@ report-requires-clause-may g c =
     may_finish_woven f c.args.pass.now.seen c.args.ticket.now (arc_value c.in-Ok-Some.row) c.requires.ticket
     (subst (λ (n : List Shelves). IsWoven n f.houses c.args.ticket.now (arc_value c.in-Ok-Some.row)) c.nodes.ensures
     ((rw c.in-Ok-Some.field-0-is at c.in-Ok-Some.ensures.woven) f.houses c.requires.ticket.here.pages))
+
+pub returns-in-Ok-Some-clause-failed : goal.returns-in-Ok-Some-clause-failed
+returns-in-Ok-Some-clause-failed g c = calm_repair c.report.result _ c.report.ensures.calm

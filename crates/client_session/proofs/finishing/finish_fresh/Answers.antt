@@ -6,6 +6,7 @@ use Rattle.version_manager.specs.declared.journal.DeskFixed.{DeskFixed}
 use Rattle.request_form.specs.declared.form.Fault.{Fault}
 use Rattle.client_session.specs.Finishing.{Finishing}
 use Rattle.client_session.proofs.Finished.{look_failed, after_look, not_woven}
+use Rattle.client_session.proofs.Losses.{anew_lost, calm_lost, calm_repair}
 use Rattle.client_session.proofs.Opened.{may_finish_woven}
 use Rattle.client_session.proofs.finishing.finish_fresh.Goals as goal
 
@@ -40,3 +41,14 @@ returns-clause-finishing g c =
     let b : Finishing f caller seen c.args.blob c.in-Ok.ticket.version said seen' = subst (λ (n : ℕ). Finishing f caller seen n c.in-Ok.ticket.version said seen') look.ticket.blob_is a in
     let d : Finishing f caller seen c.args.blob c.args.version said seen' = subst (λ (n : ℕ). Finishing f caller seen c.args.blob n said seen') look.ticket.version_is b in
     after_look f caller c.args.pass.now.seen seen c.args.blob c.args.version (Ok c.in-Ok.ticket) said seen' look d
+
+pub returns-in-Err-clause-failed : goal.returns-in-Err-clause-failed
+returns-in-Err-clause-failed g c = calm_lost _ _ c.fault_of.ensures.calm
+
+pub returns-in-Err-woven_or_why-clause-failed : goal.returns-in-Err-woven_or_why-clause-failed
+returns-in-Err-woven_or_why-clause-failed g c =
+    let w = c.in-Err-woven_or_why.ensures in
+    anew_lost c.args.shared.now c.fresh_ticket.new.pass.seen c.args.blob c.args.version c.in-Ok.ticket c.in-Ok.ensures.looked.ticket _ _ c.in-Err-woven_or_why.fault w.why w.failed
+
+pub returns-clause-failed : goal.returns-clause-failed
+returns-clause-failed g c = calm_repair c.report.result _ c.report.ensures.calm

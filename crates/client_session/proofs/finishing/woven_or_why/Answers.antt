@@ -5,6 +5,7 @@ use Rattle.boxcar.specs.Table.{Shelves}
 use Rattle.snapshot.specs.Versions.{Version}
 use Rattle.tree_weaver.specs.Woven.{IsWoven}
 use Rattle.client_session.proofs.Finished.{not_woven_by, risen_by}
+use Rattle.client_session.proofs.Losses.{weave_lost}
 use Rattle.client_session.proofs.finishing.woven_or_why.Goals as goal
 
 pub returns-in-Ok-Some-clause-woven : goal.returns-in-Ok-Some-clause-woven
@@ -24,3 +25,7 @@ pub returns-in-Err-woven-clause-risen : goal.returns-in-Err-woven-clause-risen
 returns-in-Err-woven-clause-risen g c =
     rw c.fault_of_weaving.ensures
     (risen_by c.in-Err-woven.fault (sum_by g.D.Door.faults c.args.doors.now) (sum_by g.D.Door.faults c.weave_anew-woven.new.doors) c.in-Err-woven.ensures.sum_never_falls c.in-Err-woven.ensures.counted)
+
+pub returns-in-Err-woven-clause-failed : goal.returns-in-Err-woven-clause-failed
+returns-in-Err-woven-clause-failed g c =
+    rw c.fault_of_weaving.ensures (weave_lost c.in-Err-woven.fault _ (rw (← c.loads.ensures.providers, ← c.loads.ensures.replicas) c.in-Err-woven.ensures.failed))

@@ -5,6 +5,7 @@ use Rattle.session_parts.proofs.HeldRows.{at_index}
 use Rattle.client_session.specs.SessionInvariant.{IsOpen, IsSession}
 use Rattle.client_session.specs.Sessions.{SessionState, longest}
 use Rattle.client_session.proofs.HeldFinishes.{finish_settled, finish_open}
+use Rattle.client_session.proofs.Losses.{settled_lost, held_lost}
 use Rattle.client_session.proofs.Holding.{holding_remove}
 use Rattle.client_session.proofs.session.Session.finish.Goals as goal
 
@@ -58,3 +59,12 @@ returns-else-is_settled-clause-answers g c =
     subst (λ (x : SessionState g.row.D.Denot). (k : IsHeldAt x.held c.args.ticket index) → IsOpen x.store.fixed x.log k.update) c.self.view_is all in
     let h : IsHeldAt v.held c.args.ticket index = subst (λ (x : SessionState g.row.D.Denot). IsHeldAt x.held c.args.ticket index) c.self.view_is c.in-Some.ensures in
     finish_open v m c.finish_at-finished.ensures.rest c.finish_at-finished.result c.args.ticket index h (all' h) (c.finish_at-finished.ensures.finishing h.update h.is) (sym c.if-is_settled.ensures)
+
+pub returns-then-is_settled-clause-failed : goal.returns-then-is_settled-clause-failed
+returns-then-is_settled-clause-failed g c = settled_lost c.finish_at-finished.result _ (sym c.if-is_settled.ensures)
+
+pub returns-else-is_settled-clause-failed : goal.returns-else-is_settled-clause-failed
+returns-else-is_settled-clause-failed g c =
+    let v = c.args.self.now in
+    let h : IsHeldAt v.held c.args.ticket c.in-Some.index = subst (λ (x : SessionState g.row.D.Denot). IsHeldAt x.held c.args.ticket c.in-Some.index) c.self.view_is c.in-Some.ensures in
+    held_lost v.store c.finish_at-finished.new.self.log v.held c.args.ticket c.in-Some.index h _ _ c.finish_at-finished.result (c.finish_at-finished.ensures.failed h.update h.is)

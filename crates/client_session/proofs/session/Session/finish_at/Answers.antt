@@ -1,3 +1,4 @@
+use Rattle.client_session.proofs.Losses.{calm_repair}
 use Rattle.client_session.proofs.Standing.{session_after}
 use Rattle.client_session.proofs.session.Session.finish_at.Goals as goal
 
@@ -5,3 +6,6 @@ pub invariant_of-self : goal.invariant_of-self
 invariant_of-self g c =
     let i = c.self.inside in
     session_after g.D.Door.is_true i.shared.now i.pass c.report.new.pass i.doors i.room i.held i.next c.self.invariant c.report.ensures.pass c.report.ensures.went
+
+pub returns-in-Ok-Some-clause-failed : goal.returns-in-Ok-Some-clause-failed
+returns-in-Ok-Some-clause-failed g c = λ o is. calm_repair c.report.result _ c.report.ensures.calm

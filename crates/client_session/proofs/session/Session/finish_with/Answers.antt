@@ -1,4 +1,5 @@
 use Rattle.std.proofs.Common.{sym, ◌∙◌}
+use Rattle.client_session.proofs.Losses.{settled_lost}
 use Rattle.client_session.proofs.HeldFinishes.{repair_settled, repair_open}
 use Rattle.client_session.proofs.session.Session.finish_with.Goals as goal
 
@@ -16,3 +17,6 @@ returns-else-is_settled-clause-answers g c =
     let m = c.finish_by-finished.new.self in
     let t = c.args.ticket.now in
     repair_open s m c.finish_by-finished.ensures.rest c.finish_by-finished.result t.blob t.version c.finish_by-finished.ensures.finishing (sym c.is_settled.ensures ∙ c.if-is_settled.false)
+
+pub returns-then-is_settled-clause-failed : goal.returns-then-is_settled-clause-failed
+returns-then-is_settled-clause-failed g c = settled_lost c.finish_by-finished.result _ (sym c.is_settled.ensures ∙ c.if-is_settled.true)

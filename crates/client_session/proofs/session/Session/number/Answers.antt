@@ -16,6 +16,7 @@ use Rattle.client_session.specs.Finishing.{bare}
 use Rattle.client_session.specs.Numbering.{LookedAhead, NotNumberedFor, Numbering}
 use Rattle.client_session.specs.Updates.{IsNumbered}
 use Rattle.client_session.proofs.Lifted.{unnumbered_lifts}
+use Rattle.client_session.proofs.Losses.{calm_lost}
 use Rattle.client_session.proofs.Numbered.{not_numbered_both, both_others, both_outcome, both_seen, both_longer}
 use Rattle.client_session.proofs.Standing.{session_after, session_doors}
 use Rattle.client_session.proofs.session.Session.number.Goals as goal
@@ -150,3 +151,9 @@ returns-in-Ok-number_stored-clause-numbered g c =
     }
     in
     rw (← c.self.view_is, same2) made
+
+pub returns-in-Some-clause-first_lost : goal.returns-in-Some-clause-first_lost
+returns-in-Some-clause-first_lost g c = calm_lost c.in-Some.fault _ c.in-Some.ensures.calm
+
+pub returns-clause-first_lost : goal.returns-clause-first_lost
+returns-clause-first_lost g c = calm_lost c.in-Err-number_stored.fault _ c.in-Err-number_stored.ensures.calm

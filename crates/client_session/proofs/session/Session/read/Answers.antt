@@ -1,6 +1,7 @@
 use Rattle.std.proofs.Common.{◌≡◌, ◌∙◌, sym, ap, refl, arith}
 use Rattle.request_form.specs.PublishedReads.{Tells, Range}
 use Rattle.client_session.specs.Sessions.{StoreState, session_of}
+use Rattle.client_session.proofs.Losses.{calm_lost, read_lost}
 use Rattle.client_session.proofs.RangeAnswers.{opened_read, unopened_read, no_step_opened}
 use Rattle.client_session.proofs.session.Session.read.Goals as goal
 
@@ -44,3 +45,11 @@ returns-clause-stays g c = λ history more seen published.
       seen = seen;
       answered = opened_read c.args.self.now c.open.new.self c.args.blob c.args.version c.args.offset c.args.count (omega (arith, c.if-count-gt-MAX_READ.false)) c.read_at.new.self c.in-Ok.snapshot c.read_at.result c.in-Ok.ensures.opening c.read_at.ensures.seen_stays c.read_at.ensures.reads;
     }
+
+pub returns-clause-failed : goal.returns-clause-failed
+returns-clause-failed g c =
+    read_lost g.D.Door.faults c.args.self.now c.open.new.self c.read_at.new.self c.args.blob c.args.version c.args.offset c.args.count c.in-Ok.snapshot c.in-Ok.ensures.opening c.read_at.ensures.seen_stays
+    c.read_at.result c.read_at.ensures.failed
+
+pub returns-in-Err-clause-failed : goal.returns-in-Err-clause-failed
+returns-in-Err-clause-failed g c = calm_lost c.in-Err.fault _ c.in-Err.ensures.calm

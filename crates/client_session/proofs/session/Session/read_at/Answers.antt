@@ -2,6 +2,7 @@ use Rattle.std.proofs.Common.{sym, subst, ℕ, List, length, Result, arith}
 use Rattle.request_form.specs.declared.form.Fault.{Fault}
 use Rattle.client_session.specs.Opening.{ReadsRange}
 use Rattle.client_session.proofs.RangeAnswers.{reads_range}
+use Rattle.client_session.proofs.Losses.{range_lost}
 use Rattle.client_session.proofs.session.Session.read_at.Goals as goal
 
 pub returns-clause-reads : goal.returns-clause-reads
@@ -10,3 +11,6 @@ returns-clause-reads g c = λ us tells.
     let x = c.read_range.ensures in
     subst (λ (said : Result (List ℕ) Fault). ReadsRange v.page_size us (length v.rows) c.args.offset c.args.count said) (sym c.range_told.ensures.is)
     (reads_range v.page_size (length v.rows) c.args.offset c.args.count us c.read_range.result (omega (arith, c.if-count-gt-MAX_READ.false)) (x.bytes us tells) (x.within us tells) (x.refused us tells) (x.past us tells) (x.lost_within us tells) x.page)
+
+pub returns-clause-failed : goal.returns-clause-failed
+returns-clause-failed g c = rw (c.range_told.ensures.is, ← c.self.view_is) (range_lost c.read_range.result _ c.read_range.ensures.failed)

@@ -8,6 +8,7 @@ use Rattle.client_session.specs.Updates.{update_reply}
 use Rattle.client_session.specs.Results.{updated_reply}
 use Rattle.client_session.proofs.Standing.{open_stays}
 use Rattle.client_session.proofs.UpdateAnswers.{update_done, update_finished, kept, rose_both}
+use Rattle.client_session.proofs.Losses.{calm_result}
 use Rattle.client_session.proofs.Waiting.{goes_both}
 use Rattle.client_session.proofs.session.Session.update.Goals as goal
 
@@ -39,7 +40,7 @@ returns-in-Err-finish_by-clause-answers g c =
     let s' = c.keep.new.self in
     let n = c.in-Ok.ensures.numbered in
     let t : NumberedUpdate = c.in-Ok.ticket in
-    let k = kept s mid c.args.blob c.args.place c.args.bytes.now t n m c.in-Err-finish_by.ensures.rest c.keep.result s' 0 0 c.in-Err-finish_by.fault c.in-Err-finish_by.ensures.finishing c.keep.ensures in
+    let k = kept s mid c.args.blob c.args.place c.args.bytes.now t n m c.in-Err-finish_by.ensures.rest c.keep.result s' 0 0 c.in-Err-finish_by.fault c.in-Err-finish_by.ensures.finishing c.keep.ensures.kept in
     update_done (session_of s) c.args.blob c.args.place c.args.bytes.now (updated_reply c.args.place c.keep.result) (session_of s') n.taken k.answer
 
 pub returns-in-Err-finish_by-clause-faults : goal.returns-in-Err-finish_by-clause-faults
@@ -52,7 +53,7 @@ returns-in-Err-finish_by-clause-faults g c =
     let t : NumberedUpdate = c.in-Ok.ticket in
     let k =
     kept s mid c.args.blob c.args.place c.args.bytes.now t n m c.in-Err-finish_by.ensures.rest c.keep.result s' (sum_by g.D.Door.faults s.doors) (sum_by g.D.Door.faults s'.doors) c.in-Err-finish_by.fault
-    c.in-Err-finish_by.ensures.finishing c.keep.ensures
+    c.in-Err-finish_by.ensures.finishing c.keep.ensures.kept
     in
     let doors : s'.doors ≡ m.doors = ap (λ (x : SessionState g.row.D.Denot). x.doors) k.same in
     k.faults (rw doors (rose_both _ (sum_by g.D.Door.faults s.doors) (sum_by g.D.Door.faults mid.doors) (sum_by g.D.Door.faults m.doors) c.in-Ok.ensures.never_falls c.in-Err-finish_by.ensures.faults))
@@ -65,7 +66,7 @@ returns-in-Err-finish_by-clause-goes_on g c =
     let s' = c.keep.new.self in
     let n = c.in-Ok.ensures.numbered in
     let t : NumberedUpdate = c.in-Ok.ticket in
-    let k = kept s mid c.args.blob c.args.place c.args.bytes.now t n m c.in-Err-finish_by.ensures.rest c.keep.result s' 0 0 c.in-Err-finish_by.fault c.in-Err-finish_by.ensures.finishing c.keep.ensures in
+    let k = kept s mid c.args.blob c.args.place c.args.bytes.now t n m c.in-Err-finish_by.ensures.rest c.keep.result s' 0 0 c.in-Err-finish_by.fault c.in-Err-finish_by.ensures.finishing c.keep.ensures.kept in
     let last : Continues m s' =
     record {
       store = ap (λ (x : SessionState g.row.D.Denot). x.store) k.same;
@@ -74,3 +75,6 @@ returns-in-Err-finish_by-clause-goes_on g c =
     }
     in
     goes_both s m s' (goes_both s mid m c.in-Ok.ensures.goes_on c.in-Err-finish_by.ensures.goes_on) last
+
+pub returns-in-Err-finish_by-clause-first_lost : goal.returns-in-Err-finish_by-clause-first_lost
+returns-in-Err-finish_by-clause-first_lost g c = calm_result c.keep.result _ c.keep.ensures.calm
