@@ -8,7 +8,7 @@ use Rattle.tree_geom.proofs.Spans.{page_pos}
 use Rattle.range_reader.proofs.Walking.{down, up, within_page}
 use Rattle.range_reader.proofs.Rooted.{not_zero, root_stands, root_newest, root_tree, walk_bound}
 use Rattle.range_reader.proofs.reader.read_knowing.Goals as goal
-use Rattle.range_reader.proofs.reader.read_knowing.Goals.{in-Ok-walk, in-Err-walk, in-Ok-walk_to_page, in-Err-walk_to_page}
+use Rattle.range_reader.proofs.reader.read_knowing.Goals.{in-Ok-walk, in-Err-walk, in-Ok, in-Err}
 
 pub walk-requires-clause-newest : goal.walk-requires-clause-newest
 walk-requires-clause-newest g c =
@@ -101,4 +101,4 @@ returns-then-offset-bytes-clause-steps g c =
 pub returns-then-offset-bytes-clause-some : goal.returns-then-offset-bytes-clause-some
 returns-then-offset-bytes-clause-some g c =
     let one : 1 ≤ length c.args.out.now = grind (arith, nat_tests) in
-    elim c.match-walk_to_page.branch [ in-Ok-walk_to_page w ↦ rw w.result-is tt | in-Err-walk_to_page w ↦ rw w.result-is one ]
+    elim c.match-walk_to_page.branch [ in-Ok w ↦ rw w.result-is tt | in-Err w ↦ rw w.result-is one ]
