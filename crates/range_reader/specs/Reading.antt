@@ -1,5 +1,5 @@
 -- What a read of a snapshot speaks of.
-use Rattle.std.specs.Prelude.{◌≡◌, ◌×◌, ℕ, ◌+◌, ◌*◌, ◌<◌, ◌==◌, List, [], length, slice_index_or, slice_range, if◌then◌else◌}
+use Rattle.std.specs.Prelude.{◌≡◌, ℕ, ◌+◌, ◌*◌, ◌<◌, ◌==◌, List, [], length, slice_index_or, slice_range, if◌then◌else◌}
 use Rattle.std.specs.List.{sum_by}
 use Rattle.blob_model.specs.Content.{content}
 use Rattle.tree_geom.specs.declared.touch.Touch.{Touch}
