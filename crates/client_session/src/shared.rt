@@ -41,7 +41,13 @@ impl Model for Shared {
 
     ghost Value = { StoreState };
 
-    ghost view = { λ s. record { lock = s.desk; fixed = record { limits = s.limits; page_size = s.page_size; houses = arc_value s.houses; nodes = arc_value s.nodes }; providers = s.providers; replicas = s.loads.replicas } };
+    ghost view = { λ s.
+        record {
+          lock = s.desk;
+          fixed = record { limits = s.limits; page_size = s.page_size; houses = arc_value s.houses; nodes = arc_value s.nodes };
+          providers = s.providers;
+          replicas = s.loads.replicas;
+        } };
 
     ghost invariant = { λ s. (length (arc_value s.houses) ≡ s.providers) × (s.loads.providers ≡ s.providers) };
 }
