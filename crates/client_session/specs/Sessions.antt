@@ -25,11 +25,13 @@ use Rattle.session_parts.specs.Tickets.{OpenUpdate, tickets_of}
 use Rattle.client_session.specs.declared.limit.UpdateLimit.{UpdateLimit}
 use Rattle.client_session.specs.declared.limit.UpdateLimit.TheVariants as UpdateLimits
 
--- a store that sessions share: the lock of its desk, what no act changes, and how many providers it has
+-- a store that sessions share: the lock of its desk, what no act changes, how many providers it has, and how many replicas each
+-- page is placed with
 pub record StoreState : Type 0 where
   pub lock : TableId
   pub fixed : DeskFixed
   pub providers : ℕ
+  pub replicas : ℕ
 
 -- The pass is of the store: of its lock, with its fixed data, and what it has seen is a history of it.
 pub record IsPassOf (store : StoreState) (pass : PassView Event DeskFixed) : Type 0 where

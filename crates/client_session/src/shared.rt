@@ -41,7 +41,7 @@ impl Model for Shared {
 
     ghost Value = { StoreState };
 
-    ghost view = { λ s. record { lock = s.desk; fixed = record { limits = s.limits; page_size = s.page_size; houses = arc_value s.houses; nodes = arc_value s.nodes }; providers = s.providers } };
+    ghost view = { λ s. record { lock = s.desk; fixed = record { limits = s.limits; page_size = s.page_size; houses = arc_value s.houses; nodes = arc_value s.nodes }; providers = s.providers; replicas = s.loads.replicas } };
 
     ghost invariant = { λ s. (length (arc_value s.houses) ≡ s.providers) × (s.loads.providers ≡ s.providers) };
 }
@@ -90,6 +90,7 @@ impl Shared {
         ensures limits { IfOk result (λ r. r.0.fixed.limits ≡ limits) }
         ensures page_size { IfOk result (λ r. r.0.fixed.page_size ≡ p) }
         ensures providers { IfOk result (λ r. r.0.providers ≡ providers) }
+        ensures replicas { IfOk result (λ r. r.0.replicas ≡ replicas) }
     {
         let (houses, nodes, desk) = housed_desk(alloc, limits, p, providers)?;
         let book = LoadBook::new(alloc, providers, replicas)?;
@@ -145,7 +146,8 @@ impl Shared {
 
     /// The loads of the providers.
     pub(crate) fn loads(&self) -> &SharedLoads
-        ensures { result.now.providers ≡ self.now.providers }
+        ensures providers { result.now.providers ≡ self.now.providers }
+        ensures replicas { result.now.replicas ≡ self.now.replicas }
     {
         &self.loads
     }

@@ -30,6 +30,7 @@ impl Naming for Brand {
       lock = record { words = 0; slots = 0; views_name = 0; atom = 0; block = 0; offset = 0; slot_names = [] };
       fixed = record { limits = greatest; page_size = 4; houses = []; nodes = [] };
       providers = 0;
+      replicas = 0;
     } };
 }
 
