@@ -169,6 +169,7 @@ impl<'a, D: Door, G: Gate> Session<'a, D, G> {
         ensures pass { result.0 ≡ pass_of self.entry }
         ensures pass_is { IsPassOf self.entry.store result.0 }
         ensures doors { result.1 ≡ self.entry.doors }
+        ensures count { length result.1 ≡ self.entry.store.providers }
     {
         let Session { pass, doors, .. } = self;
         (pass, doors)
