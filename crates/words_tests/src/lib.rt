@@ -6,7 +6,7 @@ mod files;
 #[cfg(test)]
 mod lines;
 #[cfg(test)]
-mod loads;
+mod measures;
 #[cfg(test)]
 mod names;
 #[cfg(test)]
