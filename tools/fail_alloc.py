@@ -27,6 +27,7 @@ MOST_WRONG = 20
 STARVED = "blobseer: out of memory\n"
 # Of 3 workers, 20 operations and the seed 7: no byte of a cell is past 255, and their mean is 7 + 2 + 9.5 + 7.5 = 26, of 960 bytes.
 LOADED = "load workers 3 ops 20 seed 7\nlog size 960 versions 60 in-order 3\ngrid size 960 versions 61 sum 24960\n"
+WATCHED = "watch readers 3 ops 20 seed 7\nblob size 320 versions 20 agree 3\n"
 WORDS = ["--page", "4", "--providers", "3", "--replicas", "2"]
 
 SCRIPTS = {
@@ -296,21 +297,21 @@ class Script:
         return judged(lambda: self.check(told, end), refused), was_refused
 
 
-class Load:
-    """A load of three workers."""
+class Measure:
+    """A load of three workers, or a watch of three readers."""
 
-    def __init__(self, tried):
-        self.tried = tried
+    def __init__(self, tried, words, lines):
+        self.tried, self.words, self.lines = tried, words, lines
 
     def check(self, end):
-        if end == (0, LOADED, ""):
+        if end == (0, self.lines, ""):
             return "unharmed"
-        if end[0] == 5 and end[2] == STARVED and LOADED.startswith(end[1]):
+        if end[0] == 5 and end[2] == STARVED and self.lines.startswith(end[1]):
             return "out of memory"
-        raise Wrong("%r in place of %r" % (end, LOADED))
+        raise Wrong("%r in place of %r" % (end, self.lines))
 
     def one(self, refused):
-        run = Run(self.tried, ["load", "--seed", "7", "--workers", "3", "--ops", "20"], refused)
+        run = Run(self.tried, self.words + ["--seed", "7", "--ops", "20"], refused)
         end = run.ends()
         return judged(lambda: self.check(end), refused), run.refused()
 
@@ -353,16 +354,18 @@ def main():
         at = words.index("--jobs")
         jobs = int(words[at + 1])
         del words[at:at + 2]
-    wanted = words or ["lines", "load", "frames"]
-    if not set(wanted) <= {"lines", "load", "frames"}:
-        sys.exit("fail_alloc: lines, load or frames, and --jobs N")
+    wanted = words or ["lines", "load", "watch", "frames"]
+    if not set(wanted) <= {"lines", "load", "watch", "frames"}:
+        sys.exit("fail_alloc: lines, load, watch or frames, and --jobs N")
     tried = Tried(program, work, jobs)
     for form, talk in (("lines", Lines), ("frames", Frames)):
         if form in wanted:
             for name, text in SCRIPTS.items():
                 tried.each("%s %s" % (form, name), Script(tried, talk, text))
     if "load" in wanted:
-        tried.each("load", Load(tried))
+        tried.each("load", Measure(tried, ["load", "--workers", "3"], LOADED))
+    if "watch" in wanted:
+        tried.each("watch", Measure(tried, ["watch", "--readers", "3"], WATCHED))
     if tried.wrong:
         sys.exit("fail_alloc: %d runs ended in no way that is allowed" % tried.wrong)
 

@@ -14,4 +14,3 @@ pub mod Statuses
 pub mod Names
 pub mod PeersServed
 pub mod Measures
-pub mod Loads

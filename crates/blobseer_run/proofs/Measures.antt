@@ -29,3 +29,7 @@ module _ (lines : List ℕ) (old new : Outside) (input : LeavesInput old new) (n
 
     pub early_there : Rises old.doors new.doors → DidMeasure lines old new load_ended_early
     early_there rose = unwritten load_ended_early (Measured.early refl rose refl)
+
+-- the same of the same lines
+pub at_lines : (lines lines' : List ℕ) (old new : Outside) (status : ℕ) → lines ≡ lines' → DidMeasure lines old new status → DidMeasure lines' old new status
+at_lines lines lines' old new status is did = subst (λ (l : List ℕ). DidMeasure l old new status) is did

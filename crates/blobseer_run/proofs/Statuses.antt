@@ -18,7 +18,8 @@ use Rattle.blobseer_run.specs.Filing.{lines}
 use Rattle.blobseer_run.specs.Hosting.{Hosted, served_line}
 use Rattle.blobseer_run.specs.Writing.{WritesLine}
 use Rattle.blobseer_run.specs.Measuring.{Measured}
-use Rattle.blobseer_run.specs.Loading.{load_lines, plan_of}
+use Rattle.blobseer_run.specs.Loading as loading
+use Rattle.blobseer_run.specs.Watching as watching
 use Rattle.blobseer_run.specs.Run.{Did, answers_input, measures, Ran, RefusesWords, RefusesSettings, IsTaken, IsComplete}
 use Rattle.blobseer_run.proofs.Settling.{settled_not_refused}
 
@@ -58,10 +59,11 @@ module _ (old new : Outside) (status : ℕ) where
   did_own : (command : Command) (settings : SettingsValues) (calm : Type 0) → Did command settings calm old new status → IsOwn status
   did_own Commands.Run settings calm d = ended_own (script (fixed_of settings) calm old.doors new.doors) d.served.taken d.served.text d.served.rest d.served.ended
   did_own Commands.Serve settings calm d = hosted_own settings.connections d.text d.ended
-  did_own Commands.Load settings calm d = measured_own (load_lines (plan_of settings)) d.text d.ended
+  did_own Commands.Load settings calm d = measured_own (loading.load_lines (loading.plan_of settings)) d.text d.ended
   did_own Commands.Node settings calm d = ended_own (frames settings.page) d.served.taken d.served.text d.served.rest d.served.ended
   did_own Commands.Files settings calm d =
       ended_own (lines (fixed_of settings) settings.providers calm old.doors new.doors) d.served.taken d.served.text d.served.rest d.served.ended
+  did_own Commands.Watch settings calm d = measured_own (watching.watch_lines (watching.plan_of settings)) d.text d.ended
 
   module _ (words : List Bytes) (writes : ¬ RoseBy 1 old.writes new.writes) where
     -- it came to its end, as far as the command's own work goes
@@ -99,10 +101,11 @@ module _ (old new : Outside) (status : ℕ) where
     did_complete Commands.Run settings calm asks reads peers d =
         ended_complete (script (fixed_of settings) calm old.doors new.doors) d.served.taken d.served.text d.served.rest Commands.Run asks refl reads d.served.ended
     did_complete Commands.Serve settings calm asks reads peers d = hosted_complete settings.connections d.text peers d.ended
-    did_complete Commands.Load settings calm asks reads peers d = measured_complete (load_lines (plan_of settings)) d.text Commands.Load asks refl d.ended
+    did_complete Commands.Load settings calm asks reads peers d = measured_complete (loading.load_lines (loading.plan_of settings)) d.text Commands.Load asks refl d.ended
     did_complete Commands.Node settings calm asks reads peers d = ended_complete (frames settings.page) d.served.taken d.served.text d.served.rest Commands.Node asks refl reads d.served.ended
     did_complete Commands.Files settings calm asks reads peers d =
         ended_complete (lines (fixed_of settings) settings.providers calm old.doors new.doors) d.served.taken d.served.text d.served.rest Commands.Files asks refl reads d.served.ended
+    did_complete Commands.Watch settings calm asks reads peers d = measured_complete (watching.watch_lines (watching.plan_of settings)) d.text Commands.Watch asks refl d.ended
 
 some_none : (o : Option Order) (order : Order) → o ≡ Some order → o ≡ None → ⊥
 some_none o order e f = none-some order (sym f ∙ e)

@@ -8,6 +8,7 @@ pub mod Script
 pub mod Hosting
 pub mod Measuring
 pub mod Loading
+pub mod Watching
 pub mod Node
 pub mod Filing
 pub mod Run

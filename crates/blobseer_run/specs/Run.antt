@@ -11,7 +11,8 @@ use Rattle.blobseer_run.specs.Script.{fixed_of, DidRun}
 use Rattle.blobseer_run.specs.Node.{DidNode}
 use Rattle.blobseer_run.specs.Filing.{DidFiles}
 use Rattle.blobseer_run.specs.Hosting.{DidServe}
-use Rattle.blobseer_run.specs.Loading.{plan_of, DidLoad}
+use Rattle.blobseer_run.specs.Loading as loading
+use Rattle.blobseer_run.specs.Watching as watching
 use Rattle.blobseer_run.specs.Told.{order_of_words, AsksFor, Settled, SettingsRefused, IsFileKnown, Stopped}
 use Rattle.blobseer_run.specs.Status.{done, words_refused, settings_refused, out_of_memory, input_too_long, load_ended_early}
 
@@ -19,9 +20,10 @@ use Rattle.blobseer_run.specs.Status.{done, words_refused, settings_refused, out
 abbrev pub Did : Command → SettingsValues → Type 0 → Outside → Outside → ℕ → Type 0
 Did Commands.Run settings calm old new status = DidRun (fixed_of settings) calm old new status
 Did Commands.Serve settings calm old new status = DidServe settings.connections old new status
-Did Commands.Load settings calm old new status = DidLoad (plan_of settings) old new status
+Did Commands.Load settings calm old new status = loading.DidLoad (loading.plan_of settings) old new status
 Did Commands.Node settings calm old new status = DidNode settings.page old new status
 Did Commands.Files settings calm old new status = DidFiles (fixed_of settings) settings.providers calm old new status
+Did Commands.Watch settings calm old new status = watching.DidWatch (watching.plan_of settings) old new status
 
 -- the command answers what comes in
 abbrev pub answers_input : Command → Bool
@@ -30,6 +32,7 @@ answers_input Commands.Serve = false
 answers_input Commands.Load = false
 answers_input Commands.Node = true
 answers_input Commands.Files = true
+answers_input Commands.Watch = false
 
 -- the command measures the store
 abbrev pub measures : Command → Bool
@@ -38,6 +41,7 @@ measures Commands.Serve = false
 measures Commands.Load = true
 measures Commands.Node = false
 measures Commands.Files = false
+measures Commands.Watch = true
 
 -- A run was stopped before its command did anything, or the command did its work. The files are read before it.
 pub data Ran (words : List Bytes) (known : Files) (calm : Type 0) (files files' : ℕ) (old new : Outside) (status : ℕ) : Type 0 where

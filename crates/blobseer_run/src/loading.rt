@@ -1,16 +1,13 @@
 // A load is run over a new store.
 ghost use Rattle.std.specs.Prelude.{◌≡◌, ◌↔◌};
-ghost use Rattle.faults.specs.Counts.{RoseBy};
-ghost use Rattle.workload_law.specs.Said.{said};
 ghost use Rattle.blobseer_run.specs.Outside.{NoneFell};
-ghost use Rattle.blobseer_run.specs.Loading.{plan_of, status_of, DidLoad};
-ghost use Rattle.blobseer_run.specs.Writing.{ToldLine};
+ghost use Rattle.blobseer_run.specs.Loading.{plan_of, DidLoad};
 ghost use Rattle.blobseer_run.specs.Status.{code_of};
 
 use crate::objects::{Objects, Standing};
 use crate::status::Status;
 use crate::store::new_store;
-use crate::writing::tell;
+use crate::writing::tell_lines;
 use blob_model::Limits;
 use page_fan::BesideDoor;
 use page_store::DoorMaker;
@@ -22,29 +19,8 @@ use std::alloc::Global;
 use std::mem;
 use std::sync::Wait;
 use std::thread::Threads;
-use workload_law::{LoadPlan, Summary, lines};
+use workload_law::{LoadPlan, lines};
 use workload_run::{LoadFault, load};
-
-// Writes what a load came to.
-fn tell_load<K: Sink>(alloc: Global, plan: &LoadPlan, summary: &Summary, out: &mut K) -> Status
-    ensures told { ToldLine (said plan.now summary.now) (K.written out.old) (K.written out.new) (K.write_faults out.old) (K.write_faults out.new) (code_of result) }
-    ensures write_faults { RoseBy 0 (K.write_faults out.old) (K.write_faults out.new) }
-{
-    let Ok(text) = lines(alloc, plan, summary) else {
-        return Status::OutOfMemory;
-    };
-    tell(text.as_str(), out)
-}
-
-// How a load ends that was ended early.
-fn status_of(fault: LoadFault) -> Status
-    ensures { result ≡ status_of fault }
-{
-    match fault {
-        LoadFault::Refused(_) => Status::LoadEndedEarly,
-        LoadFault::NoMemory => Status::OutOfMemory,
-    }
-}
 
 /// The command `load`: runs the load of these settings over a new store with the greatest limits, and writes what it came to.
 /// The store is closed before that, and the doors are with their maker again.
@@ -84,8 +60,9 @@ where
         Ok((summary, desk)) => {
             // The process ends, and gives the memory of all pages and nodes back at once.
             mem::forget(desk);
-            tell_load(alloc, &plan, &summary, objects.out)
+            tell_lines(lines(alloc, &plan, &summary), objects.out)
         }
-        Err(fault) => status_of(fault),
+        Err(LoadFault::Refused(_)) => Status::LoadEndedEarly,
+        Err(LoadFault::NoMemory) => Status::OutOfMemory,
     }
 }

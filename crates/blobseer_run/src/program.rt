@@ -14,6 +14,7 @@ use crate::objects::{Objects, Standing};
 use crate::serving::serve_script;
 use crate::status::Status;
 use crate::told::told;
+use crate::watching::run_watch;
 use page_fan::BesideDoor;
 use page_store::DoorMaker;
 use ports::files::Files;
@@ -58,6 +59,7 @@ where
         Command::Load => run_load(rt, alloc, settings, objects, gate),
         Command::Node => keep_pages(rt, alloc, settings, objects),
         Command::Files => answer_files(rt, alloc, settings, objects, gate),
+        Command::Watch => run_watch(rt, alloc, settings, objects, gate),
     }
 }
 
@@ -68,11 +70,13 @@ where
 /// writes how many they were. With the command `load` it runs a load of many workers over a new store with the greatest limits,
 /// and writes its three lines, which are the same at every schedule. With the command `node` it answers frames as a new page node;
 /// a frame that the input ends in has no reply. With the command `files` it answers lines about folders and files as a script, by
-/// the one file session of a new store. It answers the number that the process ends with.
+/// the one file session of a new store. With the command `watch` it runs a watch of a writer, a keeper and many standing readers
+/// over a new store with the greatest limits, and writes its two lines, which are the same at every schedule. It answers the number
+/// that the process ends with.
 ///
 /// | number | when |
 /// |---|---|
-/// | 0 | the input was answered, up to its end or to the first whole request to end; or, with `serve`, as many connections as were asked for; or the load did all its operations |
+/// | 0 | the input was answered, up to its end or to the first whole request to end; or, with `serve`, as many connections as were asked for; or the load or the watch did all its operations |
 /// | 1 | the words are refused |
 /// | 2 | the settings file is longer than 65,536 bytes or isn't one of settings, or the replicas are more than the providers |
 /// | 3 | a read of the settings file failed; or a read of `script`, and the lines before it that were ended, or the whole frames, are answered |
@@ -80,7 +84,7 @@ where
 /// | 5 | no memory was found |
 /// | 6 | the listener failed, and the connections before were served |
 /// | 7 | 4,294,967,296 bytes were taken; the lines in them that were ended, or the whole frames, are answered |
-/// | 8 | the load ended early, as a page was lost |
+/// | 8 | the load or the watch ended early, as a page was lost |
 ///
 /// The first cause that comes decides: the words, the read of the file, its text, what both come to, and then the command.
 /// Each number but 0 writes its line on `err`, where a fault changes nothing. The store's pages go through doors of the maker
@@ -129,7 +133,7 @@ where
     ensures settings_refused { RefusesSettings (map string_bytes words.now) (F.known files.old) (F.faults files.old) (F.faults files.new) result }
 
     // Where words and settings are taken and nothing outside fails, it comes to its end, unless no memory is found. An input that is answered may also
-    // be too long, and a load may end early where a door failed.
+    // be too long, and a load or a watch may end early where a door failed.
     ensures complete { IsTaken (map string_bytes words.now) (F.known files.old)
         → ¬ RoseBy 1 (S.read_faults script.old) (S.read_faults script.new)
         → ¬ RoseBy 1 (K.write_faults out.old) (K.write_faults out.new)

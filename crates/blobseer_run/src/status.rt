@@ -28,7 +28,7 @@ pub(crate) enum Status {
     ListenerFault,
     /// As much input as a run takes was taken.
     InputTooLong,
-    /// A load ended before its workers' ends.
+    /// A load or a watch ended before its callers' ends.
     LoadEndedEarly,
 }
 

@@ -8,7 +8,7 @@ use std::sync::Wait;
 use std::thread::Threads;
 
 // A command line, the text of the file `s`, and the status.
-static TEXTS: [(&str, &str, u8); 32] = [
+static TEXTS: [(&str, &str, u8); 33] = [
     ("run --settings s", "", 0),
     ("run --settings=s", "page = 4\n", 0),
     ("run --settings s", "page = 4\r\nproviders = 3\r\n", 0),
@@ -43,6 +43,7 @@ static TEXTS: [(&str, &str, u8); 32] = [
     ("load --settings s", "pages = 4", 2),
     ("load --settings s", "ops = 0", 2),
     ("load --settings s --ops 1", "workers = 17", 2),
+    ("watch --settings s", "readers = 2", 2),
     // There is no file of these names, and what it would have come to isn't asked.
     ("run --settings t", "page = 4", 3),
     ("run --settings ss --providers 1", "", 3),

@@ -8,7 +8,7 @@ use std::sync::Wait;
 use std::thread::Threads;
 
 // Command lines that need no file, and their status.
-static LINES: [(&str, u8); 71] = [
+static LINES: [(&str, u8); 79] = [
     ("run", 0),
     ("run --page 4", 0),
     ("run --page=1048576", 0),
@@ -55,7 +55,7 @@ static LINES: [(&str, u8); 71] = [
     ("-h", 1),
     ("", 1),
     ("Run", 1),
-    ("watch", 1),
+    ("Watch", 1),
     // Nobody listens at these addresses.
     ("serve --listen 127.0.0.1:0", 6),
     (
@@ -75,7 +75,15 @@ static LINES: [(&str, u8); 71] = [
     ("load --ops=", 1),
     ("load --max-open 2", 1),
     ("load --listen 127.0.0.1:0", 1),
+    ("load --readers 2", 1),
     ("load --providers 1", 2),
+    ("watch --readers 0", 1),
+    ("watch --readers 17", 1),
+    ("watch --workers 2", 1),
+    ("watch --ops 4097", 1),
+    ("watch --readers 2 --readers 2", 1),
+    ("watch --max-open 2", 1),
+    ("watch --providers 1", 2),
     ("node --page 3", 1),
     ("node --page 4 --page 4", 1),
     ("node --replicas 5", 1),

@@ -28,16 +28,6 @@ prefix_whole (x ∷ xs) [] p le = absurd (cc (p.1))
 prefix_whole (x ∷ xs) (y ∷ ys) p le =
     let rest = prefix_whole xs ys (p.0, cc (p.1)) (omega arith) in cc (p.1, rest)
 
-pub prefix_length : {A : Type 0} (xs ys : List A) → IsPrefix xs ys → length xs ≤ length ys
-prefix_length xs ys p = omega (arith, sym (ap length p.1) ∙ length-append xs p.0)
-
--- what stands in a beginning stands in the whole, at the same place
-pub prefix_get : {A : Type 0} (xs ys : List A) (k : ℕ) (x : A) → IsPrefix xs ys → slice_get xs k ≡ Some x → slice_get ys k ≡ Some x
-prefix_get [] ys k x p h = absurd cc
-prefix_get (y ∷ xs) [] k x p h = absurd (cc (p.1))
-prefix_get (y ∷ xs) (z ∷ ys) zero x p h = cc (p.1, h)
-prefix_get (y ∷ xs) (z ∷ ys) (suc k) x p h = prefix_get xs ys k x (p.0, cc (p.1)) h
-
 -- the same of equal lists
 pub prefix_as : {A : Type 0} → {xs xs' ys ys' : List A} → xs ≡ xs' → ys ≡ ys' → IsPrefix xs ys → IsPrefix xs' ys'
 prefix_as {A} {xs} {xs'} {ys} {ys'} e f p = subst (λ (l : List A). IsPrefix xs' l) f (subst (λ (l : List A). IsPrefix l ys) e p)

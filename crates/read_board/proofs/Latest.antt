@@ -43,10 +43,6 @@ empty_case : (blob : ℕ) (e : Refresh) (b : Bool) → (if b then Some e else No
 empty_case blob e true = refl
 empty_case blob e false = refl
 
-place_of_rest : (b : Bool) (es : List Refresh) (x : Refresh) (n : ℕ) → slice_get (x ∷ es) (if b then 0 else suc n) ≡ (if b then Some x else slice_get es n)
-place_of_rest true es x n = refl
-place_of_rest false es x n = refl
-
 get_case : (blob : ℕ) (x : Refresh) (xs : List Refresh) (e : Refresh) (xe eb xb : Bool) → (x.blob == e.blob) ≡ xe → (e.blob == blob) ≡ eb → (x.blob == blob) ≡ xb
     → (if eb then Some e else slice_get xs (place blob xs)) ≡ slice_get (put xs e) (place blob (put xs e))
     → (if eb then Some e else slice_get (x ∷ xs) (if xb then 0 else suc (place blob xs))) ≡ slice_get (if xe then e ∷ xs else x ∷ put xs e) (place blob (if xe then e ∷ xs else x ∷ put xs e))

@@ -63,12 +63,6 @@ passed : (s : Store) (x : Bool) (r r' : Refusal) (n : ℕ) → x ≡ false → (
 passed s true r r' n is e = absurd (cc (is))
 passed s false r r' n is e = absurd (cc (e))
 
-size_there : (o : Option Blob) (blob v n : ℕ) (s : Store) → (sized_of o blob v s).1 ≡ Outcomes.Size n → v ≤ published_or_none o
-size_there None blob v n s e = absurd (cc (e))
-size_there (Some b) blob v n s e =
-    let no : nat_lt (published b) v ≡ false = passes s (nat_lt (published b) v) (Refusals.NotPublished v (published b)) (size_of b.updates v) n e in
-    grind (arith, nat_tests, no)
-
 size_some : (o : Option Blob) (blob v n : ℕ) (s : Store) → (sized_of o blob v s).1 ≡ Outcomes.Size n → (b : Blob) × (o ≡ Some b)
 size_some None blob v n s e = absurd (cc (e))
 size_some (Some b) blob v n s e = (b, refl)
@@ -132,16 +126,3 @@ module _ {D : Type 0} (s s1 : SessionState D) (blob : ℕ) where
             ap (λ (g : DeskFixed). blob_at (store_of g.limits (events s2.log)) blob) fixed_is ∙ (ap (λ (h : List Event). blob_at (store_of f.limits h) blob) log_is ∙ now)
             in
             absurd (size_not_refused (blob_at (store_of s1.store.fixed.limits (events s2.log)) blob) new blob v r (store_of s1.store.fixed.limits (events s2.log)) at (omega (arith, v_is, stays.published)) e)
-
-  pub opened_holds : (v : ℕ) (on : Continues s s1) (s2 : SessionState D) (snapshot : Version) → Opening s1 blob v (Ok snapshot) s2 → Holds s.store.fixed s2.log (record { blob = blob; snapshot = snapshot })
-  opened_holds v on s2 snapshot o =
-      let snap = o.snapshot in
-      let below : v ≤ published_in (desk_at s1.store.fixed s2.log) blob =
-      size_there (blob_at (store_of s1.store.fixed.limits (events s2.log)) blob) blob v (size_now snapshot) (store_of s1.store.fixed.limits (events s2.log)) o.done
-      in
-      subst (λ (f : DeskFixed). Holds f s2.log (record { blob = blob; snapshot = snapshot })) (ap (λ (st : StoreState). st.fixed) on.store)
-      (record {
-        there = size_some (blob_at (store_of s1.store.fixed.limits (events s2.log)) blob) blob v (size_now snapshot) (store_of s1.store.fixed.limits (events s2.log)) o.done;
-        published = subst (λ (n : ℕ). n ≤ published_in (desk_at s1.store.fixed s2.log) blob) (sym snap.rows) below;
-        tells = snap.tells;
-      })

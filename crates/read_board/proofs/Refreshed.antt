@@ -32,6 +32,3 @@ module _ {D : Type 0} (stay : OldVersionsStay) (grow : ExtentsGrow) (are : Exten
   pub all_hold : (rs : List Refresh) (r : Refresh) → AllHold s.store.fixed s.log rs → Holds s.store.fixed s'.log r → AllHold s'.store.fixed s'.log (rs ++ r ∷ [])
   all_hold rs r all holds =
       All-push (Holds s'.store.fixed s'.log) rs r (still_hold rs all) (subst (λ (f : DeskFixed). Holds f s'.log r) (ap (λ (st : StoreState). st.fixed) (sym on.store)) holds)
-
-pub is_on : (store : StoreState) (stores : List StoreState) (r : Refresh) → stores ≡ store ∷ [] → IsOfStore store r.snapshot → IsOn stores r
-is_on store stores r is of_store = λ s e. subst (λ (x : StoreState). IsOfStore x r.snapshot) (cc (is, e)) of_store

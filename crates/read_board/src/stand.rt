@@ -2,7 +2,7 @@
 ghost use Rattle.std.specs.Prelude.{◌≡◌, ◌≤◌, ◌<◌, [], ◌∷◌, Some, IfSome, IfOk};
 ghost use Rattle.std.specs.List.{All};
 ghost use Rattle.left_right.specs.Sides.{view};
-ghost use Rattle.read_board.specs.Boards.{known};
+ghost use Rattle.read_board.specs.Boards.{front_of, known};
 
 use crate::book::Front;
 use crate::chart::Chart;
@@ -75,6 +75,46 @@ fn places_at(alloc: Global, writer: &mut BoardWriter, readers: u32) -> Vec<Place
     all
 }
 
+// What shows readers an empty chart, with room for so many places.
+fn writer_of<R: Wait>(
+    rt: &R,
+    alloc: Global,
+    front: &Front,
+    readers: u32,
+) -> Result<BoardWriter, NoMemory>
+    requires readers { (1 ≤ readers) × (readers ≤ 16) }
+    requires empty { front.now.list ≡ [] }
+    ensures shown { IfOk result (λ w. front_of w.desk.shown.value ≡ front.now) }
+    ensures known { IfOk result (λ w. view w.desk.place ≡ Some front.now) }
+{
+    let empty = Chart::new(front.again(), Vec::new(alloc));
+    let Ok(first) = Arc::new(alloc, empty) else {
+        return Err(NoMemory);
+    };
+    let Ok(second) = Arc::try_clone(&first) else {
+        return Err(NoMemory);
+    };
+    let Ok(third) = Arc::try_clone(&first) else {
+        return Err(NoMemory);
+    };
+    let made = BoardWriter::new(
+        alloc,
+        Shown { chart: first },
+        Shown { chart: second },
+        readers as usize,
+    );
+    let Ok(writer) = made else {
+        return Err(NoMemory);
+    };
+    let (writer, shown) = show(rt, writer, third);
+    if shown {
+        Ok(writer)
+    } else {
+        drop(writer.take(rt));
+        Err(NoMemory)
+    }
+}
+
 impl Board {
     /// A board of this store with nothing on it, its keeper, and the stand from which so many readers come, 1 to 16. Room for 64 blobs
     /// is reserved. The keeper works with this runtime at its end.
@@ -93,31 +133,7 @@ impl Board {
         let Ok(on) = Vec::with_capacity(alloc, MOST) else {
             return Err(NoMemory);
         };
-        let empty = Chart::new(front.again(), Vec::new(alloc));
-        let Ok(first) = Arc::new(alloc, empty) else {
-            return Err(NoMemory);
-        };
-        let Ok(second) = Arc::try_clone(&first) else {
-            return Err(NoMemory);
-        };
-        let Ok(third) = Arc::try_clone(&first) else {
-            return Err(NoMemory);
-        };
-        let made = BoardWriter::new(
-            alloc,
-            Shown { chart: first },
-            Shown { chart: second },
-            readers as usize,
-        );
-        let Ok(writer) = made else {
-            return Err(NoMemory);
-        };
-        let (writer, shown) = show(&rt, writer, third);
-        if !shown {
-            drop(writer.take(&rt));
-            return Err(NoMemory);
-        }
-        let mut writer = writer;
+        let mut writer = writer_of(&rt, alloc, &front, readers)?;
         let places = places_at(alloc, &mut writer, readers);
         let stand = Stand {
             places,

@@ -5,7 +5,7 @@ use lib.Count.{ones, ones_in, ones_cat}
 use Rattle.std.proofs.lemmas.Bool.{and_parts, eqb-true}
 use Rattle.blob_model.specs.Limits.{Bounds, IsWithin}
 use Rattle.settings.specs.declared.table.Key.{Key}
-use Rattle.settings.specs.declared.table.Key.TheVariants.{Page, Providers, Replicas, MaxSize, MaxVersions, MaxOpen, MaxBlobs, Workers, Connections, Seed, Ops}
+use Rattle.settings.specs.declared.table.Key.TheVariants.{Page, Providers, Replicas, MaxSize, MaxVersions, MaxOpen, MaxBlobs, Workers, Connections, Seed, Ops, Readers}
 use Rattle.settings.specs.declared.table.Range.{Range}
 use Rattle.settings.specs.Table.{range_of, fits}
 use Rattle.settings.specs.Values.{IsOf, SettingsValues, IsSettled}
@@ -30,6 +30,7 @@ default_fits Workers = refl
 default_fits Connections = refl
 default_fits Seed = refl
 default_fits Ops = refl
+default_fits Readers = refl
 
 chosen_fits : (key : Key) (words file : Option ℕ) → IsOf key words → IsOf key file → fits (range_of key) (chosen key words file) ≡ true
 chosen_fits key (Some n) file w f = w n refl
@@ -64,8 +65,8 @@ between key n h = (fits_least (range_of key) n h, fits_most (range_of key) n h)
 pub settled : (s : SettingsValues) → fits (range_of Page) s.page ≡ true → fits (range_of Providers) s.providers ≡ true → fits (range_of Replicas) s.replicas ≡ true
     → s.replicas ≤ s.providers → fits (range_of MaxSize) s.limits.max_size ≡ true → fits (range_of MaxVersions) s.limits.max_versions ≡ true
     → fits (range_of MaxOpen) s.limits.max_open ≡ true → fits (range_of MaxBlobs) s.limits.max_blobs ≡ true → fits (range_of Workers) s.workers ≡ true
-    → fits (range_of Connections) s.connections ≡ true → fits (range_of Ops) s.ops ≡ true → IsSettled s
-settled s page providers replicas replicas_fit size versions waiting blobs workers connections ops = record {
+    → fits (range_of Connections) s.connections ≡ true → fits (range_of Ops) s.ops ≡ true → fits (range_of Readers) s.readers ≡ true → IsSettled s
+settled s page providers replicas replicas_fit size versions waiting blobs workers connections ops readers = record {
   page = let at = between Page s.page page in page_power s.page at.0 at.1 (eqb-true _ _ (and_parts _ _ page).1);
   providers = between Providers s.providers providers;
   replicas = between Replicas s.replicas replicas;
@@ -74,4 +75,5 @@ settled s page providers replicas replicas_fit size versions waiting blobs worke
   workers = between Workers s.workers workers;
   connections = fits_least (range_of Connections) s.connections connections;
   ops = between Ops s.ops ops;
+  readers = between Readers s.readers readers;
 }

@@ -28,7 +28,7 @@ use Rattle.clap.proofs.WalkLemmas.{first_value-rows}
 use Rattle.std.proofs.lemmas.Bool.{and_parts}
 use Rattle.settings.specs.Parser.{program_app, pairs_in}
 use Rattle.settings.specs.declared.table.Command.{Command}
-use Rattle.settings.specs.declared.table.Command.TheVariants.{Run, Serve, Load, Node, Files}
+use Rattle.settings.specs.declared.table.Command.TheVariants.{Run, Serve, Load, Node, Files, Watch}
 use Rattle.settings.proofs.Walks.{option_rule, option_rules, leaf, row_of_pair, with_use, use_added, clear, clear-or_else, is_fresh, uses, over}
 
 -- ---- rows and pairs
@@ -113,6 +113,7 @@ no_empty_name Serve name h e = let bad : true ≡ false = sym h ∙ ap (is_liste
 no_empty_name Load name h e = let bad : true ≡ false = sym h ∙ ap (is_listed (names_of Load)) e in absurd (true≢false bad)
 no_empty_name Node name h e = let bad : true ≡ false = sym h ∙ ap (is_listed (names_of Node)) e in absurd (true≢false bad)
 no_empty_name Files name h e = let bad : true ≡ false = sym h ∙ ap (is_listed (names_of Files)) e in absurd (true≢false bad)
+no_empty_name Watch name h e = let bad : true ≡ false = sym h ∙ ap (is_listed (names_of Watch)) e in absurd (true≢false bad)
 
 abbrev sub_of : Command → Shape
 sub_of command = leaf (command_name command) (named_options command)
@@ -182,6 +183,7 @@ met Serve = (refl, refl)
 met Load = (refl, refl)
 met Node = (refl, refl)
 met Files = (refl, refl)
+met Watch = (refl, refl)
 
 abbrev stopped_walk : Command → List Bytes → Walk
 stopped_walk command words = record (walk_from nothing_held) { stopped = Some (command_name command, words) }
@@ -208,6 +210,7 @@ fault_here Serve words = clear-or_else (level_fault (sub_of Serve) [] nothing_he
 fault_here Load words = clear-or_else (level_fault (sub_of Load) [] nothing_held words false []) [] ∙ and-true _
 fault_here Node words = clear-or_else (level_fault (sub_of Node) [] nothing_held words false []) [] ∙ and-true _
 fault_here Files words = clear-or_else (level_fault (sub_of Files) [] nothing_held words false []) [] ∙ and-true _
+fault_here Watch words = clear-or_else (level_fault (sub_of Watch) [] nothing_held words false []) [] ∙ and-true _
 
 rows_here : (command : Command) (words : List Bytes) → entered (built program_app) (Some (command_name command, words))
     ≡ Some (command_name command, finished (sub_of command).rules (walk (sub_of command).rules [] nothing_held words).held)
@@ -216,6 +219,7 @@ rows_here Serve words = refl
 rows_here Load words = refl
 rows_here Node words = refl
 rows_here Files words = refl
+rows_here Watch words = refl
 
 module _ (command : Command) (words : List Bytes) (ps : List Pair) (spelled : pairs_of (names_of command) words None ≡ Some ps) where
   -- the parse has no fault just where no option is given twice and none that is needed is missing

@@ -1,6 +1,7 @@
 -- Worked rows, computed from the definitions alone.
 use Rattle.std.proofs.Common.{◌≡◌, [], ◌∷◌, Some, None, codes, refl}
-use Rattle.settings.specs.declared.table.Command.TheVariants.{Run, Serve, Node, Files}
+use Rattle.settings.specs.declared.table.Command.TheVariants.{Run, Serve, Node, Files, Watch}
+use Rattle.settings.specs.Table.{key_named}
 use Rattle.settings.specs.Values.{nothing}
 use Rattle.settings.specs.Words.{given_by_words}
 use Rattle.settings.specs.Merged.{merged}
@@ -49,6 +50,18 @@ files_alone = refl
 files_without_a_seed : given_by_words (codes "files" ∷ codes "--seed" ∷ codes "1" ∷ []) ≡ None
 files_without_a_seed = refl
 
+watch_with_readers : given_by_words (codes "watch" ∷ codes "--readers" ∷ codes "16" ∷ []) ≡ Some (Watch, record nothing { readers = Some 16 })
+watch_with_readers = refl
+
+watch_without_workers : given_by_words (codes "watch" ∷ codes "--workers" ∷ codes "2" ∷ []) ≡ None
+watch_without_workers = refl
+
+load_without_readers : given_by_words (codes "load" ∷ codes "--readers" ∷ codes "2" ∷ []) ≡ None
+load_without_readers = refl
+
+no_key_of_a_file : key_named (codes "readers") ≡ None
+no_key_of_a_file = refl
+
 node_without_a_file : given_by_words (codes "node" ∷ codes "--settings" ∷ codes "s" ∷ []) ≡ None
 node_without_a_file = refl
 
@@ -64,6 +77,7 @@ words_and_file : merged (record nothing { replicas = Some 1; ops = Some 7 }) (re
       connections = 4294967295;
       seed = 1;
       ops = 7;
+      readers = 2;
       listen = [];
       settings = [];
     }

@@ -1,7 +1,7 @@
 -- What the words and the file come to, together with the defaults.
 use Rattle.std.specs.Prelude.{ℕ, List, [], Option, unwrap_or}
 use Rattle.settings.specs.declared.table.Key.{Key}
-use Rattle.settings.specs.declared.table.Key.TheVariants.{Page, Providers, Replicas, MaxSize, MaxVersions, MaxOpen, MaxBlobs, Workers, Connections, Seed, Ops}
+use Rattle.settings.specs.declared.table.Key.TheVariants.{Page, Providers, Replicas, MaxSize, MaxVersions, MaxOpen, MaxBlobs, Workers, Connections, Seed, Ops, Readers}
 use Rattle.settings.specs.Table.{range_of}
 use Rattle.settings.specs.Values.{GivenValues, SettingsValues}
 
@@ -27,6 +27,7 @@ merged words file = record {
   connections = chosen Connections words.connections file.connections;
   seed = chosen Seed words.seed file.seed;
   ops = chosen Ops words.ops file.ops;
+  readers = chosen Readers words.readers file.readers;
   listen = chosen_text words.listen file.listen;
   settings = chosen_text words.settings file.settings;
 }

@@ -3,9 +3,9 @@ use Rattle.std.specs.Prelude.{ℕ, nat_le, Bool, true, false, not, ◌&&◌, ◌
 use Rattle.std.specs.Str.{bytes_eq}
 use Rattle.std.specs.Int.{is_power_of_two}
 use Rattle.settings.specs.declared.table.Command.{Command}
-use Rattle.settings.specs.declared.table.Command.TheVariants.{Run, Serve, Load, Node, Files}
+use Rattle.settings.specs.declared.table.Command.TheVariants.{Run, Serve, Load, Node, Files, Watch}
 use Rattle.settings.specs.declared.table.Key.{Key}
-use Rattle.settings.specs.declared.table.Key.TheVariants.{Page, Providers, Replicas, MaxSize, MaxVersions, MaxOpen, MaxBlobs, Workers, Connections, Seed, Ops}
+use Rattle.settings.specs.declared.table.Key.TheVariants.{Page, Providers, Replicas, MaxSize, MaxVersions, MaxOpen, MaxBlobs, Workers, Connections, Seed, Ops, Readers}
 use Rattle.settings.specs.declared.table.Choice.{Choice}
 use Rattle.settings.specs.declared.table.Choice.TheVariants.{Number, Settings, Listen}
 use Rattle.settings.specs.declared.table.Range.{Range}
@@ -13,7 +13,7 @@ use Rattle.settings.specs.declared.table.Range.{Range}
 -- ---- commands and their options
 
 abbrev pub commands : List Command
-commands = Run ∷ Serve ∷ Load ∷ Node ∷ Files ∷ []
+commands = Run ∷ Serve ∷ Load ∷ Node ∷ Files ∷ Watch ∷ []
 
 abbrev pub command_name : Command → List ℕ
 command_name Run = codes "run"
@@ -21,6 +21,7 @@ command_name Serve = codes "serve"
 command_name Load = codes "load"
 command_name Node = codes "node"
 command_name Files = codes "files"
+command_name Watch = codes "watch"
 
 abbrev pub command_named : List ℕ → Option Command
 command_named word = find (λ c. bytes_eq (command_name c) word) commands
@@ -35,11 +36,12 @@ options_of Load = Number Page ∷ Number Providers ∷ Number Replicas ∷ Setti
 options_of Node = Number Page ∷ []
 options_of Files =
     Number Page ∷ Number Providers ∷ Number Replicas ∷ Settings ∷ Number MaxSize ∷ Number MaxVersions ∷ Number MaxOpen ∷ Number MaxBlobs ∷ []
+options_of Watch = Number Page ∷ Number Providers ∷ Number Replicas ∷ Settings ∷ Number Seed ∷ Number Ops ∷ Number Readers ∷ []
 
 -- ---- keys and their numbers
 
 abbrev pub keys : List Key
-keys = Page ∷ Providers ∷ Replicas ∷ MaxSize ∷ MaxVersions ∷ MaxOpen ∷ MaxBlobs ∷ Workers ∷ Connections ∷ Seed ∷ Ops ∷ []
+keys = Page ∷ Providers ∷ Replicas ∷ MaxSize ∷ MaxVersions ∷ MaxOpen ∷ MaxBlobs ∷ Workers ∷ Connections ∷ Seed ∷ Ops ∷ Readers ∷ []
 
 abbrev pub key_name : Key → List ℕ
 key_name Page = codes "page"
@@ -53,9 +55,16 @@ key_name Workers = codes "workers"
 key_name Connections = codes "connections"
 key_name Seed = codes "seed"
 key_name Ops = codes "ops"
+key_name Readers = codes "readers"
 
+-- whether a settings file may set the number
+abbrev pub is_in_file : Key → Bool
+is_in_file Readers = false
+is_in_file key = true
+
+-- the key of a settings file that has this name
 abbrev pub key_named : List ℕ → Option Key
-key_named name = find (λ k. bytes_eq (key_name k) name) keys
+key_named name = find (λ k. is_in_file k && bytes_eq (key_name k) name) keys
 
 -- each number from the least to the most, in a file too
 abbrev pub plain : ℕ → ℕ → ℕ → Range
@@ -73,6 +82,7 @@ range_of Workers = plain 1 16 4
 range_of Connections = plain 1 4294967295 4294967295
 range_of Seed = record { least = 0; most = 18446744073709551615; most_in_file = 9223372036854775807; is_power = false; default = 1 }
 range_of Ops = plain 1 4096 100
+range_of Readers = plain 1 16 2
 
 -- the number is of the range
 abbrev pub fits : Range → ℕ → Bool

@@ -3,7 +3,7 @@ use Rattle.std.specs.Prelude.{◌≡◌, ℕ, ◌^◌, ◌≤◌, IsTrue, List, 
 use Rattle.std.specs.Option.{ForSome}
 use Rattle.blob_model.specs.Limits.{Bounds, IsWithin}
 use Rattle.settings.specs.declared.table.Key.{Key}
-use Rattle.settings.specs.declared.table.Key.TheVariants.{Page, Providers, Replicas, MaxSize, MaxVersions, MaxOpen, MaxBlobs, Workers, Connections, Seed, Ops}
+use Rattle.settings.specs.declared.table.Key.TheVariants.{Page, Providers, Replicas, MaxSize, MaxVersions, MaxOpen, MaxBlobs, Workers, Connections, Seed, Ops, Readers}
 use Rattle.settings.specs.Table.{range_of, fits}
 
 -- what the words or the file give, each setting or none
@@ -19,6 +19,7 @@ pub record GivenValues : Type 0 where
   pub connections : Option ℕ
   pub seed : Option ℕ
   pub ops : Option ℕ
+  pub readers : Option ℕ
   pub listen : Option (List ℕ)
   pub settings : Option (List ℕ)
 
@@ -35,6 +36,7 @@ nothing = record {
   connections = None;
   seed = None;
   ops = None;
+  readers = None;
   listen = None;
   settings = None;
 }
@@ -52,6 +54,7 @@ with_number Workers n given = record given { workers = n }
 with_number Connections n given = record given { connections = n }
 with_number Seed n given = record given { seed = n }
 with_number Ops n given = record given { ops = n }
+with_number Readers n given = record given { readers = n }
 
 -- where there is a number, it is one of the key's range
 abbrev pub IsOf : Key → Option ℕ → Type 0
@@ -70,6 +73,7 @@ pub record IsGiven (given : GivenValues) : Type 0 where
   pub connections : IsOf Connections given.connections
   pub seed : IsOf Seed given.seed
   pub ops : IsOf Ops given.ops
+  pub readers : IsOf Readers given.readers
 
 -- the settings of a program
 pub record SettingsValues : Type 0 where
@@ -81,6 +85,7 @@ pub record SettingsValues : Type 0 where
   pub connections : ℕ
   pub seed : ℕ
   pub ops : ℕ
+  pub readers : ℕ
   pub listen : List ℕ
   pub settings : List ℕ
 
@@ -94,3 +99,4 @@ pub record IsSettled (settings : SettingsValues) : Type 0 where
   pub workers : (1 ≤ settings.workers) × (settings.workers ≤ 16)
   pub connections : 1 ≤ settings.connections
   pub ops : (1 ≤ settings.ops) × (settings.ops ≤ 4096)
+  pub readers : (1 ≤ settings.readers) × (settings.readers ≤ 16)

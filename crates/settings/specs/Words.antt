@@ -5,7 +5,7 @@ use Rattle.std.specs.Option.{option_map_or}
 use Rattle.std.specs.Str.{bytes_eq}
 use Rattle.settings.specs.declared.table.Command.{Command}
 use Rattle.settings.specs.declared.table.Key.{Key}
-use Rattle.settings.specs.declared.table.Key.TheVariants.{Page, Providers, Replicas, MaxSize, MaxVersions, MaxOpen, MaxBlobs, Workers, Connections, Seed, Ops}
+use Rattle.settings.specs.declared.table.Key.TheVariants.{Page, Providers, Replicas, MaxSize, MaxVersions, MaxOpen, MaxBlobs, Workers, Connections, Seed, Ops, Readers}
 use Rattle.settings.specs.declared.table.Choice.{Choice}
 use Rattle.settings.specs.declared.table.Choice.TheVariants.{Settings, Listen}
 use Rattle.settings.specs.Table.{command_named, options_of, choice_name, is_needed, keys, key_name, range_of, fits}
@@ -123,6 +123,7 @@ numbers_said said = record {
   connections = number_said said Connections;
   seed = number_said said Seed;
   ops = number_said said Ops;
+  readers = number_said said Readers;
   listen = None;
   settings = None;
 }

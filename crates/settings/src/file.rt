@@ -62,7 +62,7 @@ fn with_all(table: &Table) -> Option<Given>
 
 /// What the text of a settings file gives.
 ///
-/// Refused exactly where it isn't UTF-8 or no TOML document, has a key that isn't a setting, or a value that isn't an
+/// Refused exactly where it isn't UTF-8 or no TOML document, has a key that no settings file has, or a value that isn't an
 /// integer of its key's range, whichever command is to use it.
 pub fn read_text(alloc: Global, text: &[u8]) -> Result<Given, TextFault>
     ensures { MatchResult result

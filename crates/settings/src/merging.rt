@@ -71,6 +71,7 @@ pub fn merge(words: Given, file: Given) -> Result<Settings, MergeRefused>
         connections: chosen_narrow(Key::Connections, words.connections, file.connections),
         seed: chosen_wide(Key::Seed, words.seed, file.seed),
         ops: chosen_narrow(Key::Ops, words.ops, file.ops),
+        readers: chosen_narrow(Key::Readers, words.readers, file.readers),
         listen: text_chosen(words.listen, file.listen),
         settings: text_chosen(words.settings, file.settings),
     })

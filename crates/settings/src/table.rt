@@ -3,7 +3,7 @@
 // This is the only place in the code that names them. A new command is a variant of `Command` with its row of options; a
 // new number is a variant of `Key` with its row.
 ghost use Rattle.std.specs.Prelude.{◌≡◌, map};
-ghost use Rattle.settings.specs.Table.{commands, keys, command_name, options_of, choice_name, is_needed, key_name, range_of, plain, fits, fits_in_file, command_named, key_named};
+ghost use Rattle.settings.specs.Table.{commands, keys, command_name, options_of, choice_name, is_needed, key_name, range_of, plain, fits, fits_in_file, command_named, key_named, is_in_file};
 
 /// What the program is to do.
 #[derive(Clone, Copy, Debug, PartialEq, Eq)]
@@ -18,9 +18,11 @@ pub enum Command {
     Node,
     /// Lines about folders and files, from the standard input.
     Files,
+    /// A writer, a keeper and standing readers of one blob, as a measure of the store.
+    Watch,
 }
 
-/// A number that an option of the command line or a key of the settings file sets.
+/// A number that an option of the command line sets, and a key of the settings file too, except for the readers.
 #[derive(Clone, Copy, Debug, PartialEq, Eq)]
 pub enum Key {
     Page,
@@ -34,6 +36,7 @@ pub enum Key {
     Connections,
     Seed,
     Ops,
+    Readers,
 }
 
 /// An option that a command may be given.
@@ -102,19 +105,30 @@ static LOAD: [Choice; 7] = [
     Choice::Number(Key::Ops),
 ];
 
+static WATCH: [Choice; 7] = [
+    Choice::Number(Key::Page),
+    Choice::Number(Key::Providers),
+    Choice::Number(Key::Replicas),
+    Choice::Settings,
+    Choice::Number(Key::Seed),
+    Choice::Number(Key::Ops),
+    Choice::Number(Key::Readers),
+];
+
 static NODE: [Choice; 1] = [Choice::Number(Key::Page)];
 
 /// Every command.
-pub static COMMANDS: [Command; 5] = [
+pub static COMMANDS: [Command; 6] = [
     Command::Run,
     Command::Serve,
     Command::Load,
     Command::Node,
     Command::Files,
+    Command::Watch,
 ];
 
 /// Every key.
-pub static KEYS: [Key; 11] = [
+pub static KEYS: [Key; 12] = [
     Key::Page,
     Key::Providers,
     Key::Replicas,
@@ -126,6 +140,7 @@ pub static KEYS: [Key; 11] = [
     Key::Connections,
     Key::Seed,
     Key::Ops,
+    Key::Readers,
 ];
 
 impl Command {
@@ -139,6 +154,7 @@ impl Command {
             Command::Load => "load",
             Command::Node => "node",
             Command::Files => "files",
+            Command::Watch => "watch",
         }
     }
 
@@ -151,6 +167,7 @@ impl Command {
             Command::Serve => SERVE.as_slice(),
             Command::Load => LOAD.as_slice(),
             Command::Node => NODE.as_slice(),
+            Command::Watch => WATCH.as_slice(),
         }
     }
 
@@ -263,13 +280,23 @@ impl Key {
             Key::Connections => plain_row("connections", 1, 4_294_967_295, 4_294_967_295),
             Key::Seed => seed_row(),
             Key::Ops => plain_row("ops", 1, 4096, 100),
+            Key::Readers => plain_row("readers", 1, 16, 2),
         }
     }
 
-    /// The key of that name.
+    // Whether a settings file may set the number.
+    fn is_in_file(self) -> bool
+        ensures { result ≡ is_in_file self }
+    {
+        !matches!(self, Key::Readers)
+    }
+
+    /// The key of a settings file that has that name.
     pub fn named(name: &str) -> Option<Key>
         ensures { result ≡ key_named name.now }
     {
-        KEYS.iter().copied().find(|key| key.row().name == name)
+        KEYS.iter()
+            .copied()
+            .find(|key| key.is_in_file() && key.row().name == name)
     }
 }

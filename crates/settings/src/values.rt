@@ -76,10 +76,12 @@ pub struct Given {
     pub workers: Option<u32>,
     /// The connections that a server takes before it ends.
     pub connections: Option<u32>,
-    /// The number that a load's bytes come of.
+    /// The number that the bytes of a load or a watch come of.
     pub seed: Option<u64>,
-    /// The operations of each worker of a load.
+    /// The operations of each worker of a load, or of a watch.
     pub ops: Option<u32>,
+    /// The readers of a watch.
+    pub readers: Option<u32>,
     /// The address that a server listens on.
     pub listen: Option<Text>,
     /// The name of the settings file.
@@ -103,6 +105,7 @@ impl Model for Given {
       connections = g.connections;
       seed = g.seed;
       ops = g.ops;
+      readers = g.readers;
       listen = g.listen;
       settings = g.settings;
     } };
@@ -119,6 +122,7 @@ impl Model for Given {
       connections = g.connections;
       seed = g.seed;
       ops = g.ops;
+      readers = g.readers;
       listen = g.listen;
       settings = g.settings;
     }) };
@@ -152,6 +156,7 @@ impl Given {
             connections: None,
             seed: None,
             ops: None,
+            readers: None,
             listen: None,
             settings: None,
         }
@@ -174,6 +179,7 @@ impl Given {
             Key::Connections => self.connections = narrow(number),
             Key::Seed => self.seed = number,
             Key::Ops => self.ops = narrow(number),
+            Key::Readers => self.readers = narrow(number),
         }
         self
     }
@@ -203,10 +209,12 @@ pub struct Settings {
     pub workers: u32,
     /// The connections that a server takes before it ends, at least 1.
     pub connections: u32,
-    /// The number that a load's bytes come of.
+    /// The number that the bytes of a load or a watch come of.
     pub seed: u64,
-    /// The operations of each worker of a load, 1 to 4,096.
+    /// The operations of each worker of a load, or of a watch, 1 to 4,096.
     pub ops: u32,
+    /// The readers of a watch, 1 to 16.
+    pub readers: u32,
     /// The address that a server listens on, or nothing.
     pub listen: Text,
     /// The name of the settings file, or nothing.
@@ -227,6 +235,7 @@ impl Model for Settings {
       connections = s.connections;
       seed = s.seed;
       ops = s.ops;
+      readers = s.readers;
       listen = s.listen;
       settings = s.settings;
     } };
@@ -240,6 +249,7 @@ impl Model for Settings {
       connections = s.connections;
       seed = s.seed;
       ops = s.ops;
+      readers = s.readers;
       listen = s.listen;
       settings = s.settings;
     }) };

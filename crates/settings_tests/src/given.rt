@@ -22,6 +22,7 @@ pub fn word_of(command: Command) -> &'static str {
         Command::Load => "load",
         Command::Node => "node",
         Command::Files => "files",
+        Command::Watch => "watch",
     }
 }
 
@@ -66,6 +67,7 @@ fn add_load<R: Abort>(rt: &R, alloc: Global, line: &mut String, given: &Given) {
     add_narrow(rt, alloc, line, "connections", given.connections);
     add_number(rt, alloc, line, "seed", given.seed);
     add_narrow(rt, alloc, line, "ops", given.ops);
+    add_narrow(rt, alloc, line, "readers", given.readers);
 }
 
 /// Each setting that was given, behind that beginning.

@@ -6,51 +6,56 @@ use std::alloc::Global;
 use std::process::Abort;
 
 // Words, a settings file, and the settings that they come to.
-static MERGED: [(&str, &str, &str); 9] = [
+static MERGED: [(&str, &str, &str); 10] = [
     (
         "run",
         "",
-        "4096 4 2 limits 1099511627776 1048576 64 65535 workers 4 4294967295 load 1 100 texts [] []",
+        "4096 4 2 limits 1099511627776 1048576 64 65535 workers 4 4294967295 load 1 100 readers 2 texts [] []",
     ),
     (
         "run --replicas 1",
         "page = 4",
-        "4 4 1 limits 1099511627776 1048576 64 65535 workers 4 4294967295 load 1 100 texts [] []",
+        "4 4 1 limits 1099511627776 1048576 64 65535 workers 4 4294967295 load 1 100 readers 2 texts [] []",
     ),
     (
         "run --page 8 --settings s",
         "page = 4\nproviders = 3",
-        "8 3 2 limits 1099511627776 1048576 64 65535 workers 4 4294967295 load 1 100 texts [] [s]",
+        "8 3 2 limits 1099511627776 1048576 64 65535 workers 4 4294967295 load 1 100 readers 2 texts [] [s]",
     ),
     (
         "run --replicas 4",
         "",
-        "4096 4 4 limits 1099511627776 1048576 64 65535 workers 4 4294967295 load 1 100 texts [] []",
+        "4096 4 4 limits 1099511627776 1048576 64 65535 workers 4 4294967295 load 1 100 readers 2 texts [] []",
     ),
     (
         "run --replicas 2",
         "providers = 2\nreplicas = 8",
-        "4096 2 2 limits 1099511627776 1048576 64 65535 workers 4 4294967295 load 1 100 texts [] []",
+        "4096 2 2 limits 1099511627776 1048576 64 65535 workers 4 4294967295 load 1 100 readers 2 texts [] []",
     ),
     (
         "run --replicas 1",
         "providers = 1",
-        "4096 1 1 limits 1099511627776 1048576 64 65535 workers 4 4294967295 load 1 100 texts [] []",
+        "4096 1 1 limits 1099511627776 1048576 64 65535 workers 4 4294967295 load 1 100 readers 2 texts [] []",
     ),
     (
         "load --seed 7",
         "seed = 8\nops = 9\nmax-size = 10\nconnections = 11",
-        "4096 4 2 limits 10 1048576 64 65535 workers 4 11 load 7 9 texts [] []",
+        "4096 4 2 limits 10 1048576 64 65535 workers 4 11 load 7 9 readers 2 texts [] []",
     ),
     (
         "serve --listen a:1 --page 8 --providers 6 --replicas 5 --max-size 2 --max-versions 3 --max-open 4 --max-blobs 5 --workers 6 --connections 7",
         "page = 16\nproviders = 16\nreplicas = 6\nmax-size = 12\nmax-versions = 13\nmax-open = 14\nmax-blobs = 15\nworkers = 16\nconnections = 17\nseed = 18\nops = 19",
-        "8 6 5 limits 2 3 4 5 workers 6 7 load 18 19 texts [a:1] []",
+        "8 6 5 limits 2 3 4 5 workers 6 7 load 18 19 readers 2 texts [a:1] []",
+    ),
+    (
+        "watch --readers 9 --ops 4",
+        "seed = 5\nworkers = 3\nops = 6",
+        "4096 4 2 limits 1099511627776 1048576 64 65535 workers 3 4294967295 load 5 4 readers 9 texts [] []",
     ),
     (
         "run",
         "page = 16\nproviders = 16\nreplicas = 6\nmax-size = 12\nmax-versions = 13\nmax-open = 14\nmax-blobs = 15\nworkers = 16\nconnections = 17\nseed = 18\nops = 19",
-        "16 16 6 limits 12 13 14 15 workers 16 17 load 18 19 texts [] []",
+        "16 16 6 limits 12 13 14 15 workers 16 17 load 18 19 readers 2 texts [] []",
     ),
 ];
 
@@ -85,7 +90,10 @@ fn load_of<R: Abort>(rt: &R, alloc: Global, settings: &Settings) -> String {
     let connections = settings.connections;
     let seed = settings.seed;
     let ops = settings.ops;
-    format!(in alloc; " workers {workers} {connections} load {seed} {ops}").expect(rt, "memory")
+    let readers = settings.readers;
+    format!(in alloc;
+        " workers {workers} {connections} load {seed} {ops} readers {readers}"
+    ).expect(rt, "memory")
 }
 
 fn texts_of<R: Abort>(rt: &R, alloc: Global, settings: &Settings) -> String {

@@ -6,7 +6,7 @@ use std::alloc::Global;
 use std::process::Abort;
 
 // Command lines, and what they give: the command and each setting.
-static ACCEPTED: [(&str, &str); 53] = [
+static ACCEPTED: [(&str, &str); 57] = [
     ("run", "run"),
     ("load", "load"),
     ("node", "node"),
@@ -93,10 +93,17 @@ static ACCEPTED: [(&str, &str); 53] = [
         "load --page 16 --providers=5 --replicas 3 --settings=t --workers 2 --seed 10 --ops 20",
         "load page=16 providers=5 replicas=3 workers=2 seed=10 ops=20 settings=t",
     ),
+    ("watch", "watch"),
+    ("watch --readers 1", "watch readers=1"),
+    ("watch --readers=16", "watch readers=16"),
+    (
+        "watch --readers 3 --seed=8 --settings u --ops 30 --replicas 1 --providers=6 --page 32",
+        "watch page=32 providers=6 replicas=1 seed=8 ops=30 readers=3 settings=u",
+    ),
 ];
 
 // Lines whose first word isn't a command, or that ask for help.
-static NO_COMMANDS: [&str; 29] = [
+static NO_COMMANDS: [&str; 30] = [
     "",
     "Run",
     "RUN",
@@ -106,7 +113,8 @@ static NO_COMMANDS: [&str; 29] = [
     "Files",
     "file",
     "files files",
-    "watch",
+    "Watch",
+    "watches",
     "-run",
     "--run",
     "help",
@@ -129,7 +137,7 @@ static NO_COMMANDS: [&str; 29] = [
 ];
 
 // Words that are neither an option nor the value of one, and options that aren't given as they must be.
-static NO_OPTIONS: [&str; 52] = [
+static NO_OPTIONS: [&str; 54] = [
     "run --",
     "run -- --page 8",
     "run --page 8 --",
@@ -182,10 +190,12 @@ static NO_OPTIONS: [&str; 52] = [
     "node --page",
     "node --page=",
     "node --page 4 --page=4",
+    "watch --readers",
+    "watch --readers 2 --readers=2",
 ];
 
 // Options of other commands, and of none.
-static OTHER_OPTIONS: [&str; 32] = [
+static OTHER_OPTIONS: [&str; 42] = [
     "run --listen a:1",
     "run --workers 4",
     "run --connections 1",
@@ -200,6 +210,15 @@ static OTHER_OPTIONS: [&str; 32] = [
     "load --listen a:1",
     "load --connections 1",
     "load --readers 2",
+    "run --readers 2",
+    "serve --listen a:1 --readers 2",
+    "watch --workers 4",
+    "watch --max-size 8",
+    "watch --max-versions 8",
+    "watch --max-open 8",
+    "watch --max-blobs 8",
+    "watch --listen a:1",
+    "watch --connections 1",
     "node --providers 4",
     "node --replicas 2",
     "node --settings s",
@@ -218,10 +237,11 @@ static OTHER_OPTIONS: [&str; 32] = [
     "files --connections 1",
     "files --seed 1",
     "files --ops 1",
+    "files --readers 2",
 ];
 
 // Values that aren't numbers of their ranges.
-static NO_NUMBERS: [&str; 52] = [
+static NO_NUMBERS: [&str; 57] = [
     "run --page -8",
     "run --page=-8",
     "run --page +8",
@@ -270,6 +290,11 @@ static NO_NUMBERS: [&str; 52] = [
     "load --ops 4097",
     "load --ops 0100",
     "load --ops ١",
+    "watch --readers 0",
+    "watch --readers 17",
+    "watch --readers 02",
+    "watch --readers two",
+    "watch --ops 4097",
     "node --page 2",
     "node --page 12",
     "node --page 2097152",

@@ -22,13 +22,6 @@ idle_on store s s' idle goes = record {
   none = subst (λ (c : ℕ). events_by c (events s'.log) ≡ []) (sym goes.goes_on.caller) (goes.none ∙ idle.none);
 }
 
-no_stop : (told : Told) → told ≡ Ok tt → IfErr told IsOutside
-no_stop (Ok done) is = tt
-no_stop (Err fault) is = absurd (let no : Err fault ≡ Ok tt = is in cc)
-
-no_count : (told : Told) → told ≡ Ok tt → told_faults told ≡ 0
-no_count told is = ap (λ (t : Told). told_faults t) is
-
 -- what holds anyway holds of an answer
 pub told_any : {T E : Type 0} (told : Result T E) {P : Type 0} → P → IfOk told (λ _. P)
 told_any (Ok done) p = p
@@ -47,17 +40,6 @@ told_lost (Ok done) f p = tt
 told_lost (Err fault) f p = f fault p
 
 module _ {D : Type 0} (faults : D → ℕ) (store : StoreState) where
-  -- a reader that hasn't read anything may end
-  pub ready_ends : (board : BoardId) (w : WatcherState D) → IsReadyToWatch faults store board w → IsEndable faults store w
-  ready_ends board w ready = record {
-    idle = ready.idle;
-    counted = λ less. omega (arith, no_count w.told ready.told);
-    stop = no_stop w.told ready.told;
-  }
-
-  pub all_ready_end : (board : BoardId) (ws : List (WatcherState D)) → All (IsReadyToWatch faults store board) ws → All (IsEndable faults store) ws
-  all_ready_end board ws all k d lt = ready_ends board (get_or ws k d) (all k d lt)
-
   -- one that has read is done
   pub done_of : (board : BoardId) (w w' : WatcherState D) → IsReadyToWatch faults store board w → HasWatched faults w w' → IsDoneWatching faults store board w'
   done_of board w w' ready has = record {

@@ -6,7 +6,7 @@ use Rattle.std.proofs.lemmas.List.Elements.{All-push}
 use Rattle.std.proofs.lemmas.List.{get_or_push, length-append}
 use Rattle.request_form.specs.declared.form.Fault.{Fault}
 use Rattle.watch_run.specs.Stages.{Owner, LeavesWatch}
-use Rattle.watch_run.proofs.Stages.{leaves_none, leaves_both}
+use Rattle.watch_run.proofs.Stages.{leaves_both}
 
 -- what is known as long as no reader stopped: all that ended agree
 pub record AllAgree (old new : Owner) (agree left all : ℕ) : Type 0 where
@@ -16,9 +16,6 @@ pub record AllAgree (old new : Owner) (agree left all : ℕ) : Type 0 where
 abbrev pub AgreeSoFar : Option Fault → Owner → Owner → ℕ → ℕ → ℕ → Type 0
 AgreeSoFar None old new agree left all = AllAgree old new agree left all
 AgreeSoFar (Some fault) old new agree left all = Unit {0}
-
-pub agree_none : (owner : Owner) (all : ℕ) → AllAgree owner owner 0 all all
-agree_none owner all = record { count = omega arith; leaves = leaves_none owner }
 
 -- one more reader agrees
 pub agree_more : (stop : Option Fault) (old mid new : Owner) (agree one left less all : ℕ) → AgreeSoFar stop old mid agree left all → LeavesWatch mid new → one ≡ 1 → left ≡ less + 1 → AgreeSoFar stop old new (agree + one) less all

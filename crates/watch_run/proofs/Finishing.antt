@@ -75,17 +75,6 @@ module _ {D : Type 0} (k : KeeperState) (s s' : SessionState D) (last : Last) (i
   }
 
 -- ---- what goes on from there
-pub seen_on : (f : DeskFixed) (one two : Entries) (last : Last) → Begins one two → IsSeenIn f one last → IsSeenIn f two last
-seen_on f one two last more seen = record { before = seen.before; begins = begins_both seen.before one two seen.begins more; published = seen.published; is_version = seen.is_version }
-
-pub seen_by : {D : Type 0} (s : SessionState D) (store : StoreState) (seen : Entries) (last : Last) → s.store ≡ store → s.log ≡ seen → IsSeenIn store.fixed seen last → IsSeenBy s last
-seen_by s store seen last of_store log known = record {
-  before = known.before;
-  begins = subst (λ (l : Entries). Begins known.before l) (sym log) known.begins;
-  published = subst (λ (x : StoreState). IsPublishedIn (store_of x.fixed.limits (events known.before)) 1 last.version) (sym of_store) known.published;
-  is_version = subst (λ (x : StoreState). IsVersionIn x.fixed known.before last) (sym of_store) known.is_version;
-}
-
 -- why nothing came of it
 pub finish_hindered : {D : Type 0} (s s' : SessionState D) (fault : Fault) (store : StoreState) (old new : Owner) → LastHindered s s' fault → s.store ≡ store → s'.store ≡ store → s.log ≡ old.seen → Begins s.log s'.log
     → LeavesWatch old new → Begins s'.log new.seen → FinishHindered store.fixed old new fault

@@ -70,9 +70,6 @@ of_one_pending k k' left of_one =
     (λ (more : (r : Refresh) × (r.blob ≡ 1) × (k'.all ≡ k.all ++ r ∷ [])).
     subst (λ (l : List Refresh). All (λ (r : Refresh). r.blob ≡ 1) l) (sym more.2) (All-push (λ (r : Refresh). r.blob ≡ 1) k.all more.0 of_one more.1)) left.all
 
-of_one_done : (k k' : KeeperState) (version : ℕ) → Refreshed k k' 1 version → All (λ (r : Refresh). r.blob ≡ 1) k.all → All (λ (r : Refresh). r.blob ≡ 1) k'.all
-of_one_done k k' version done of_one = subst (λ (l : List Refresh). All (λ (r : Refresh). r.blob ≡ 1) l) (sym done.all) (All-push (λ (r : Refresh). r.blob ≡ 1) k.all done.refresh of_one done.blob_is)
-
 module _ {D : Type 0} where
   module _ (gaps : GapsHaveNoOwn) (k k' : KeeperState) (s s' : SessionState D) (may : MayRefresh k s) (hold : AllHold s'.store.fixed s'.log k'.all) (looked : HasLooked s s') (on : Continues s s') (board : k'.board ≡ k.board) where
     refreshes_of : All (λ (r : Refresh). r.blob ≡ 1) k'.all → Refreshes k k' s s'
@@ -87,9 +84,6 @@ module _ {D : Type 0} where
       idles = idles_looked gaps s s' on looked;
       rest = looked.rest;
     }
-
-    pub refreshed : (version : ℕ) → Refreshed k k' 1 version → Refreshes k k' s s'
-    refreshed version done = refreshes_of (of_one_done k k' version done may.of_one)
 
     pub left_pending : LeftPending k k' 1 → Refreshes k k' s s'
     left_pending left = refreshes_of (of_one_pending k k' left may.of_one)

@@ -164,18 +164,12 @@ module _ {D : Type 0} (are : EntriesAreEvents) (s s' : SessionState D) (old new 
   opens_as limits (Err fault) ends = (out, inr (unopened limits fault ends))
 
 -- ---- one after another
-pub comes_none : (owner : Owner) → ComesBack owner owner
-comes_none owner = record { begins = ([], sym (append-nil owner.seen)); keeps = λ c k. k; stays = λ c k. refl }
-
 pub comes_both : (old mid new : Owner) → ComesBack old mid → ComesBack mid new → ComesBack old new
 comes_both old mid new one two = record {
   begins = begins_both old.seen mid.seen new.seen one.begins two.begins;
   keeps = λ c k. two.keeps c (one.keeps c k);
   stays = λ c k. two.stays c (one.keeps c k) ∙ one.stays c k;
 }
-
-pub leaves_none : (owner : Owner) → LeavesWatch owner owner
-leaves_none owner = record { comes = comes_none owner; watched = λ plan first w. w }
 
 pub leaves_both : (old mid new : Owner) → LeavesWatch old mid → LeavesWatch mid new → LeavesWatch old new
 leaves_both old mid new one two = record { comes = comes_both old mid new one.comes two.comes; watched = λ plan first w. two.watched plan first (one.watched plan first w) }
@@ -207,19 +201,6 @@ new_idle faults are store owner s tags two new = record {
   of_store = new.of_store;
   caller = omega (arith, new.caller, two);
   none = none_by are s.log s.caller (subst (λ (l : Entries). l ≡ tagged (events l)) (sym new.log) tags) new.none;
-}
-
--- a session that was made new stays one, whatever passes are made later
-pub new_for : {D : Type 0} (faults : D → ℕ) (store : StoreState) (one two : Owner) (s : SessionState D) → two.made ≡ one.made → two.seen ≡ one.seen → IsNewSession faults store one s → IsNewSession faults store two s
-new_for faults store one two s made seen new = record {
-  of_store = new.of_store;
-  caller = new.caller ∙ ap (λ (n : ℕ). n + 1) (sym made);
-  log = new.log ∙ sym seen;
-  none = new.none;
-  none_held = new.none_held;
-  first_next = new.first_next;
-  limit = new.limit;
-  no_fault = new.no_fault;
 }
 
 -- the other callers' passes were made once the blob was

@@ -113,10 +113,3 @@ module _ {D : Type 0} (are : EntriesAreEvents) (stay : OwnsStay) (plan : WatchPl
 pub both_done : (written kept : Told) (done : Unit {0}) → result_and written kept ≡ Ok done → written ≡ Ok tt
 both_done (Ok done) kept one which = refl
 both_done (Err fault) kept one which = absurd (let no : Err fault ≡ Ok one = which in cc)
-
--- what the doors counted: of what stopped the writer or the keeper, the writer's count it
-pub early_counts : {D : Type 0} (k : SessionState D) (written kept : Told) (fault : Fault) → IfErr kept (RefreshHindered k) → result_and written kept ≡ Err fault → page_faults fault ≤ told_faults written
-early_counts k (Err stop) kept fault hindered which = (let same : page_faults stop ≡ page_faults fault = same_count (Err stop) (Err fault) which in omega (arith, same))
-early_counts k (Ok done) kept fault hindered which =
-    let none : page_faults fault ≡ 0 = no_page k fault (subst (λ (t : Told). IfErr t (RefreshHindered k)) which hindered) in
-    omega (arith, none)

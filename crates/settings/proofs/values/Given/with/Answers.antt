@@ -1,6 +1,6 @@
 use Rattle.std.proofs.Common.{subst, lit<}
 use Rattle.settings.specs.declared.table.Key.{Key}
-use Rattle.settings.specs.declared.table.Key.TheVariants.{Providers, Replicas, Workers, Connections, Ops}
+use Rattle.settings.specs.declared.table.Key.TheVariants.{Providers, Replicas, Workers, Connections, Ops, Readers}
 use Rattle.settings.specs.Table.{range_of}
 use Rattle.settings.specs.Values.{IsOf}
 use Rattle.settings.proofs.RangeLemmas.{narrow_fits}
@@ -25,3 +25,7 @@ narrow-self-inside-requires-in-Connections c =
 pub narrow-self-inside-requires-in-Ops : goal.narrow-self-inside-requires-in-Ops
 narrow-self-inside-requires-in-Ops c =
     narrow_fits (range_of Ops) c.args.number (lit< tt) (subst (λ (k : Key). IsOf k c.args.number) c.in-Ops.is c.requires)
+
+pub narrow-self-inside-requires-in-Readers : goal.narrow-self-inside-requires-in-Readers
+narrow-self-inside-requires-in-Readers c =
+    narrow_fits (range_of Readers) c.args.number (lit< tt) (subst (λ (k : Key). IsOf k c.args.number) c.in-Readers.is c.requires)

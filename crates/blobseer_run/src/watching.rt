@@ -1,0 +1,68 @@
+// A watch is run over a new store.
+ghost use Rattle.std.specs.Prelude.{◌≡◌, ◌↔◌};
+ghost use Rattle.blobseer_run.specs.Outside.{NoneFell};
+ghost use Rattle.blobseer_run.specs.Watching.{plan_of, DidWatch};
+ghost use Rattle.blobseer_run.specs.Status.{code_of};
+
+use crate::objects::{Objects, Standing};
+use crate::status::Status;
+use crate::store::new_store;
+use crate::writing::tell_lines;
+use blob_model::Limits;
+use page_fan::BesideDoor;
+use page_store::DoorMaker;
+use ports::gate::Gate;
+use ports::listener::Listener;
+use ports::stream::{Sink, Source};
+use settings::Settings;
+use std::alloc::Global;
+use std::mem;
+use std::sync::Wait;
+use std::thread::Threads;
+use watch_law::{WatchPlan, lines};
+use watch_run::{WatchFault, watch};
+
+/// The command `watch`: runs the watch of these settings over a new store with the greatest limits, and writes what it came to.
+/// The store is closed before that, and the doors are with their maker again.
+pub(crate) fn run_watch<
+    'a,
+    R: Wait + Threads + Sync,
+    S: Source,
+    K: Sink,
+    L: Listener,
+    M: DoorMaker,
+    G: Gate + Sync,
+>(
+    rt: &R,
+    alloc: Global,
+    settings: &Settings,
+    objects: &mut Objects<'a, S, K, L, M>,
+    gate: &G,
+) -> Status
+where
+    M::Door: BesideDoor + Drop + Send,
+    requires true_doors { M.is_true objects.old.doors.now }
+    ensures did { DidWatch (plan_of settings.now) (⟦<Objects<'a, S, K, L, M> as Standing>⟧.stands objects.old)
+        (⟦<Objects<'a, S, K, L, M> as Standing>⟧.stands objects.new) (code_of result) }
+    ensures none_fell { NoneFell (⟦<Objects<'a, S, K, L, M> as Standing>⟧.stands objects.old) (⟦<Objects<'a, S, K, L, M> as Standing>⟧.stands objects.new) }
+    ensures truth_stays { M.is_true objects.old.doors.now ↔ M.is_true objects.new.doors.now }
+    ensures names { ⟦<Objects<'a, S, K, L, M> as Standing>⟧.names objects.new ≡ ⟦<Objects<'a, S, K, L, M> as Standing>⟧.names objects.old }
+{
+    let Ok((shared, owner)) = new_store(alloc, settings, Limits::greatest()) else {
+        return Status::OutOfMemory;
+    };
+    let plan = WatchPlan {
+        seed: settings.seed,
+        readers: settings.readers,
+        ops: settings.ops,
+    };
+    match watch(rt, alloc, shared, owner, objects.doors, gate, plan) {
+        Ok((summary, desk)) => {
+            // The process ends, and gives the memory of all pages and nodes back at once.
+            mem::forget(desk);
+            tell_lines(lines(alloc, &plan, &summary), objects.out)
+        }
+        Err(WatchFault::Refused(_)) => Status::LoadEndedEarly,
+        Err(WatchFault::NoMemory) => Status::OutOfMemory,
+    }
+}
