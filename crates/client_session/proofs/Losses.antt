@@ -17,8 +17,8 @@ use Rattle.tree_weaver.specs.Anew.{IsStoredAnew, FoldFailed, OnLostFold}
 use Rattle.page_writer.specs.Lost.{IsFirstLost}
 use Rattle.session_parts.specs.Ranges.{OnPageLost}
 use Rattle.session_parts.specs.Tickets.{OpenUpdate, IsHeldAt}
-use Rattle.session_parts.specs.declared.folding.WeaveFault.{WeaveFault}
-use Rattle.session_parts.specs.declared.folding.WeaveFault.TheVariants as WeaveFaults
+use Rattle.tree_weaver.specs.declared.folding.WeaveFault.{WeaveFault}
+use Rattle.tree_weaver.specs.declared.folding.WeaveFault.TheVariants as WeaveFaults
 use Rattle.session_parts.specs.declared.reading.RangeFault.{RangeFault}
 use Rattle.session_parts.specs.declared.reading.RangeFault.TheVariants as RangeFaults
 use Rattle.client_session.specs.Results.{store_fault, weave_fault, range_of, repair_reply}
