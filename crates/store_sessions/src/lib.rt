@@ -5,6 +5,7 @@
 ghost use Rattle.std.specs.Prelude.{◌≡◌, ◌≤◌, ◌<◌, ◌+◌, ◌-◌, ◌^◌, ◌↔◌, ◌++◌, [], ◌∷◌, ℕ, min, length, IfOk, OnOk, OnErr, sum_by, Contains};
 ghost use Rattle.turn_lock.specs.History.{entries_by, Begins, longer};
 ghost use Rattle.client_session.specs.Sessions.{IsOwnerOf, IsPassOf};
+ghost use Rattle.page_store.specs.Calls.{Traffic, AllCameBack};
 ghost use Rattle.store_sessions.specs.Made.{IsNewSession};
 
 use client_session::{Owner, Pass, Session, Shared};
@@ -31,6 +32,8 @@ fn give_back<M: DoorMaker>(
     ensures before { (c : ℕ) → Contains owner.old.kept c → entries_by c owner.new.seen ≡ entries_by c owner.old.seen }
     ensures owner { IsOwnerOf shared.now owner.new }
     ensures doors { min (M.faults maker.old + sum_by M.Door.faults doors) (2 ^ 64 - 1) ≤ M.faults maker.new }
+    ensures adds { M.faults maker.old ≤ 2 ^ 64 - 1 → M.faults maker.new ≡ min (M.faults maker.old + sum_by M.Door.faults doors) (2 ^ 64 - 1) }
+    ensures taken_back { Traffic M.hands_out M.takes_back 0 (length doors) maker.old maker.new }
     ensures truth_stays { M.is_true maker.old ↔ M.is_true maker.new }
     ensures plan_stays { (n : ℕ) (door : _) → M.makes maker.old n door ↔ M.makes maker.new n door }
 {
@@ -39,7 +42,8 @@ fn give_back<M: DoorMaker>(
 }
 
 /// A session with a new pass, which has seen what the store's owner has, and with new doors of the maker. It holds no ticket,
-/// its first one will be number 1, and its updates have at most 1,048,576 bytes. Where no memory is found the pass, if one was made, and the doors have gone back.
+/// its first one will be number 1, and its updates have at most 1,048,576 bytes. The maker has made one door to each provider,
+/// and its count of faults is as before. Where no memory is found the pass, if one was made, and the doors have gone back.
 pub fn open_session<'a, M: DoorMaker, G: Gate>(
     alloc: Global,
     shared: &'a Shared,
@@ -57,6 +61,9 @@ pub fn open_session<'a, M: DoorMaker, G: Gate>(
     ensures seen { owner.new.seen ≡ owner.old.seen }
     ensures owner { IsOwnerOf shared.now owner.new }
     ensures doors { M.faults maker.new < 2 ^ 64 - 1 → M.faults maker.old ≤ M.faults maker.new }
+    ensures count_stays { M.faults maker.old ≤ 2 ^ 64 - 1 → M.faults maker.new ≡ M.faults maker.old }
+    ensures handed_out { OnOk result (Traffic M.hands_out M.takes_back shared.now.providers 0 maker.old maker.new) }
+    ensures all_back { OnErr result (AllCameBack M.hands_out M.takes_back maker.old maker.new) }
     ensures truth_stays { M.is_true maker.old ↔ M.is_true maker.new }
     ensures plan_stays { (n : ℕ) (door : _) → M.makes maker.old n door ↔ M.makes maker.new n door }
 {
@@ -77,7 +84,8 @@ pub fn open_session<'a, M: DoorMaker, G: Gate>(
 }
 
 /// Ends a session of the store: its pass goes back to the store's owner, which has then seen what the session has, and of its
-/// caller exactly the events that the session has seen; its doors go back to the maker, which adds up what they counted.
+/// caller exactly the events that the session has seen; its doors, one to each provider, go back to the maker, which adds up what
+/// they counted.
 /// Tickets that it holds are dropped: hang up first.
 pub fn end_session<M: DoorMaker, G: Gate>(
     shared: &Shared,
@@ -93,6 +101,9 @@ pub fn end_session<M: DoorMaker, G: Gate>(
     ensures before { (c : ℕ) → Contains owner.old.kept c → entries_by c owner.new.seen ≡ entries_by c owner.old.seen }
     ensures owner { IsOwnerOf shared.now owner.new }
     ensures doors { min (M.faults maker.old + sum_by M.Door.faults session.entry.doors) (2 ^ 64 - 1) ≤ M.faults maker.new }
+    ensures adds { M.faults maker.old ≤ 2 ^ 64 - 1
+        → M.faults maker.new ≡ min (M.faults maker.old + sum_by M.Door.faults session.entry.doors) (2 ^ 64 - 1) }
+    ensures taken_back { Traffic M.hands_out M.takes_back 0 shared.now.providers maker.old maker.new }
     ensures truth_stays { M.is_true maker.old ↔ M.is_true maker.new }
     ensures plan_stays { (n : ℕ) (door : _) → M.makes maker.old n door ↔ M.makes maker.new n door }
 {

@@ -1,10 +1,12 @@
-use Rattle.std.proofs.Common.{◌≡◌, ℕ, List, [], ◌∙◌, ap, subst, sym, sum_by}
+use Rattle.std.proofs.Common.{◌≡◌, ℕ, List, [], length, ◌∙◌, ap, subst, sym, sum_by, arith}
 use Rattle.blob_model.specs.declared.call.Event.{Event}
 use Rattle.turn_lock.specs.History.{entries_by}
 use Rattle.turn_lock.specs.Shown.{PassView}
 use Rattle.version_manager.specs.declared.journal.DeskFixed.{DeskFixed}
 use Rattle.client_session.specs.Sessions.{SessionState}
+use Rattle.page_store.specs.Calls.{Traffic}
 use Rattle.store_sessions.proofs.Fresh.{fresh_doors}
+use Rattle.store_sessions.proofs.Traffics.{went_back}
 use Rattle.store_sessions.proofs.open_session.Goals as goal
 
 pub returns-in-Ok-new-clause-session : goal.returns-in-Ok-new-clause-session
@@ -26,3 +28,26 @@ returns-in-Ok-new-clause-session g c =
       limit = ap (λ (s : SessionState _). s.limit) is;
       no_fault = ap (λ (s : SessionState _). sum_by faults s.doors) is ∙ fresh_doors faults c.in-Ok.doors c.in-Ok.ensures.fresh;
     }
+
+pub returns-in-Ok-new-clause-handed_out : goal.returns-in-Ok-new-clause-handed_out
+returns-in-Ok-new-clause-handed_out g c =
+    let m = g.M.DoorMaker in
+    subst (λ (n : ℕ). Traffic m.hands_out m.takes_back n 0 c.args.maker.now c.new.new.maker) c.providers.ensures c.in-Ok.ensures.handed_out
+
+pub returns-in-Err-clause-count_stays : goal.returns-in-Err-clause-count_stays
+returns-in-Err-clause-count_stays g c few =
+    let faults = g.M.Door.Door.faults in
+    let none = ap (sum_by faults) c.in-Err.ensures.doors_back ∙ fresh_doors faults c.in-Ok.doors c.in-Ok.ensures.fresh in
+    let stays = c.new.ensures.count_stays in
+    let adds = c.give_back.ensures.adds (omega (arith, few, stays)) in
+    omega (arith, few, stays, none, adds)
+
+pub returns-in-Err-clause-all_back : goal.returns-in-Err-clause-all_back
+returns-in-Err-clause-all_back g c =
+    let m = g.M.DoorMaker in
+    let p = c.providers.result in
+    let all = ap length c.in-Err.ensures.doors_back ∙ c.in-Ok.ensures.count in (
+      p,
+      went_back m.hands_out m.takes_back p c.args.maker.now c.new.new.maker c.give_back.new.maker c.in-Ok.ensures.handed_out
+          (subst (λ (n : ℕ). Traffic m.hands_out m.takes_back 0 n c.new.new.maker c.give_back.new.maker) all c.give_back.ensures.taken_back),
+    )
