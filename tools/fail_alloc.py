@@ -47,6 +47,15 @@ SCRIPTS = {
     "repair 1 4; repair 2 1; repair 1 0; read 1 3 0 3",
 }
 
+FILE_SCRIPTS = {
+    "names": "make /a; append /a 616263646566; where /a 1 0 6; mkdir /d; make /d/b; list /; stat /a; make /a; append /d 00; read /x 0 0 0; "
+    "list /a",
+    "logs": "mkdir /logs; make /logs/one; make /logs/two; append /logs/one aa; append /logs/two bbcc; append /logs/one dd; "
+    "read /logs/one 2 0 2; read /logs/two 1 1 1; stat /logs/one; stat /logs; list /logs; where /logs/one 2 0 2",
+    "bytes": "make /a; %s; read /a 17 0 17; where /a 17 3 9; stat /a" % "; ".join("append /a %02x" % at for at in range(17)),
+    "refused": "mkdir /x/y; make /x/y; mkdir /; append /a -; make /a; append /a -; read /a 1 0 1; finish 1; mkdir /..; list /",
+}
+
 
 # ---- requests and replies as lines and as frames
 
@@ -115,8 +124,10 @@ class Run:
 class Lines:
     """A script of lines: each line is sent once the reply to the one before has come."""
 
+    command = "run"
+
     def __init__(self, tried, refused):
-        self.run = Run(tried, ["run", "--settings", tried.settings], refused)
+        self.run = Run(tried, [self.command, "--settings", tried.settings], refused)
         self.rest = b""
 
     def ask(self, line):
@@ -137,6 +148,12 @@ class Lines:
         return status, self.rest.decode() + out, err
 
     right_end = ""
+
+
+class Files(Lines):
+    """A script of lines about folders and files."""
+
+    command = "files"
 
 
 def free_port():
@@ -249,7 +266,7 @@ class Script:
         right = self.right(self.lines)
         begins = replies == right[:len(replies)]
         if status == 5:
-            rest = "".join(reply + "\n" for reply in right[len(replies):]) if self.talk is Lines else self.talk.right_end
+            rest = self.talk.right_end if self.talk is Frames else "".join(reply + "\n" for reply in right[len(replies):])
             if begins and err == STARVED and rest.startswith(out):
                 return "out of memory"
         elif end == (0, self.talk.right_end, ""):
@@ -295,6 +312,20 @@ class Script:
     def one(self, refused):
         told, end, was_refused = self.talked(refused, self.lines)
         return judged(lambda: self.check(told, end), refused), was_refused
+
+
+class FileScript(Script):
+    """A script about files. An append has no form in which it is started: one that is held, and finished at once, leaves what the append
+    itself would have left."""
+
+    def check_reply(self, replies, right):
+        at = next(i for i in range(len(replies)) if i == len(right) or replies[i] != right[i])
+        if not replies[at].startswith("error no-memory ticket "):
+            return super().check_reply(replies, right)
+        version = right[at].split(" ")[1] if right[at].startswith("version ") else "of no append"
+        if replies != right[:at] + ["error no-memory ticket 1", "published " + version] + right[at + 1:]:
+            raise Wrong("%s, where %s is right" % (replies, right))
+        return "no-memory ticket"
 
 
 class Measure:
@@ -354,14 +385,15 @@ def main():
         at = words.index("--jobs")
         jobs = int(words[at + 1])
         del words[at:at + 2]
-    wanted = words or ["lines", "load", "watch", "frames"]
-    if not set(wanted) <= {"lines", "load", "watch", "frames"}:
-        sys.exit("fail_alloc: lines, load, watch or frames, and --jobs N")
+    forms = {"lines": (Script, Lines, SCRIPTS), "frames": (Script, Frames, SCRIPTS), "files": (FileScript, Files, FILE_SCRIPTS)}
+    wanted = words or ["load", "watch", *forms]
+    if not set(wanted) <= {"load", "watch", *forms}:
+        sys.exit("fail_alloc: lines, files, load, watch or frames, and --jobs N")
     tried = Tried(program, work, jobs)
-    for form, talk in (("lines", Lines), ("frames", Frames)):
+    for form, (script, talk, texts) in forms.items():
         if form in wanted:
-            for name, text in SCRIPTS.items():
-                tried.each("%s %s" % (form, name), Script(tried, talk, text))
+            for name, text in texts.items():
+                tried.each("%s %s" % (form, name), script(tried, talk, text))
     if "load" in wanted:
         tried.each("load", Measure(tried, ["load", "--workers", "3"], LOADED))
     if "watch" in wanted:

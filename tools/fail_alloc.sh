@@ -1,11 +1,12 @@
 #!/bin/sh
 # Refuses each single allocation of the built program in turn, and checks how every run ends.
 #
-#     tools/fail_alloc.sh PROGRAM [lines|load|watch|frames ..] [--jobs N]
+#     tools/fail_alloc.sh PROGRAM [lines|files|load|watch|frames ..] [--jobs N]
 #
-# PROGRAM is the built program, as crates/blobseer/out/blobseer. Without a further word all are tried: scripts of lines, a load of
-# three workers, a watch of three readers, and streams of frames to a server over the loopback. It prints how many runs there were and how many ended in each way,
-# and ends with 1 where a run ended in no way that is allowed. tools/fail_alloc.py says which ways these are.
+# PROGRAM is the built program, as crates/blobseer/out/blobseer. Without a further word all are tried: scripts of lines, scripts of
+# lines about files, a load of three workers, a watch of three readers, and streams of frames to a server over the loopback. It prints how
+# many runs there were and how many ended in each way, and ends with 1 where a run ended in no way that is allowed. tools/fail_alloc.py
+# says which ways these are.
 #
 # It needs a C compiler (cc, gcc or clang), python3, glibc, and a program that is linked dynamically, so that a library can be loaded
 # before it that stands in place of malloc. Where one of these is missing it says so and ends with 2.
@@ -17,7 +18,7 @@ lacks() {
     exit 2
 }
 
-[ $# -ge 1 ] || lacks "no program: tools/fail_alloc.sh PROGRAM [lines|load|watch|frames ..] [--jobs N]"
+[ $# -ge 1 ] || lacks "no program: tools/fail_alloc.sh PROGRAM [lines|files|load|watch|frames ..] [--jobs N]"
 program=$1
 shift
 [ -x "$program" ] || lacks "$program is no program that can be run"

@@ -2,12 +2,7 @@
 use Rattle.std.proofs.Common.{◌≡◌, ℕ, ◌+◌, ◌==◌, Bool, true, false, if◌then◌else◌, List, [], ◌∷◌, ◌++◌, length, Option, Some, None, Result, Ok, Err, refl, sym, ap, subst, ◌∙◌, append-nil, arith}
 use Rattle.std.specs.Prelude.{nat_lt}
 use Rattle.std.proofs.lemmas.Option.{none-some}
-use Rattle.std.specs.List.{slice_split}
-use Rattle.std.specs.Option.{option_to_list}
-use Rattle.std.specs.Str.Lines.{strip_carriage_return}
-use Rattle.item_stream.specs.Items.{ItemStream}
-use Rattle.item_stream.specs.Rounds.{until_last, Rounds, sum_rounds}
-use Rattle.text_lines.specs.Lines.{item_of_text, item_of, with_item, stream_of}
+use Rattle.item_stream.specs.Rounds.{Rounds, sum_rounds}
 use Rattle.blob_model.specs.Content.{size_of}
 use Rattle.blob_model.specs.Store.{published}
 use Rattle.blob_model.specs.declared.call.Call.TheVariants as Calls
@@ -31,8 +26,7 @@ use Rattle.file_names.specs.declared.tree.EnterFault.TheVariants as EnterFaults
 use Rattle.file_names.specs.declared.tree.FindFault.{FindFault}
 use Rattle.file_names.specs.declared.tree.FindFault.TheVariants as FindFaults
 use Rattle.file_names.specs.declared.tree.ListFault.TheVariants as ListFaults
-use Rattle.file_text.specs.Lines.{file_lines, heard_as, line_of, heard, IsWellHeard}
-use Rattle.script_text.specs.Lines.{max_line, fields_of}
+use Rattle.file_text.specs.Lines.{IsWellHeard, AllWellHeard}
 use Rattle.file_text.specs.declared.form.FileLine.{FileLine}
 use Rattle.file_text.specs.declared.form.FileLine.TheVariants as Lines
 use Rattle.file_text.specs.declared.form.FileReply.{FileReply}
@@ -143,7 +137,11 @@ read_part f version offset count blob =
     record { reply = store_fault i.fault; answer = record { told = Replies.Refused i.fault; asks = asks f (Requests.Read blob version offset count) (Replies.Refused i.fault) i.answer; says = refl }; calm = i.calm }
 
 where_part : (f : Files) (version offset count blob : ℕ) → Part (λ reply. WhereAnswer nobody f blob version offset count reply f) file_fault_count
-where_part f version offset count blob = record { reply = store_fault Faults.NoMemory; answer = WhereAnswer.no_memory [] refl (same_store f) refl; calm = refl }
+where_part f version offset count blob = at (read_fault count) refl
+  where
+    at : (o : Option Fault) → read_fault count ≡ o → Part (λ reply. WhereAnswer nobody f blob version offset count reply f) file_fault_count
+    at None short = record { reply = store_fault Faults.NoMemory; answer = WhereAnswer.no_memory [] refl short (same_store f) refl; calm = refl }
+    at (Some fault) long = record { reply = store_fault fault; answer = WhereAnswer.too_long fault long refl refl; calm = calm_at (read_fault count) (read_calm count) fault long }
 
 enter_calm : (path : List ℕ) (fault : EnterFault) → file_fault_count (enter_refused path fault) ≡ 0
 enter_calm path EnterFaults.NoParent = refl
@@ -218,21 +216,16 @@ line_idle f Lines.Quit = record { reply = Says.Bye; answers = (refl, refl); calm
 
 item_idle : (f : Files) (item : FileHeard) → IsWellHeard item → IdleReply f item
 item_idle f (Asked line) well = line_idle f line
-item_idle f (Wrong fault) well = record { reply = store_fault fault; answers = (refl, refl); calm = well }
+item_idle f (Wrong fault) well = record { reply = store_fault fault; answers = (refl, refl); calm = ap page_faults well }
 
 -- ---- rounds
-
-pub AllWell : List FileHeard → Type 0
-AllWell [] = Unit {0}
-AllWell (item ∷ items) = IsWellHeard item × AllWell items
 
 -- all the items are answered, and the outside fails so often
 pub record Answered (f : Files) (items : List FileHeard) (last : Files) (replies : List FileReply) (count : ℕ) : Type 0 where
   pub rounds : Rounds (FileItemReply nobody) f items replies last
   pub counts : sum_rounds file_item_faults (FileItemReply nobody) f items replies last rounds ≡ count
 
-pub idle_rounds : (f : Files) (items : List FileHeard) → AllWell items → (replies : List FileReply) × Answered f items f replies 0
-unfolding AllWell
+pub idle_rounds : (f : Files) (items : List FileHeard) → AllWellHeard items → (replies : List FileReply) × Answered f items f replies 0
 idle_rounds f [] well = ([], record { rounds = refl; counts = refl })
 idle_rounds f (item ∷ items) well =
     let i = item_idle f item well.0 in
@@ -247,76 +240,3 @@ joined f mid last (item ∷ first) later [] more none next = absurd none
 joined f mid last (item ∷ first) later (reply ∷ replies) more (after, answer, run) next =
     let r = joined after mid last first later replies more run next in
     record { rounds = (after, answer, r.rounds); counts = ap (λ (n : ℕ). file_item_faults after item reply + n) r.counts }
-
--- ---- lines aren't cut, and a wrong one is no fault of the outside
-
-with_item-cut : (item : Option FileHeard) (s : ItemStream FileHeard) → s.cut ≡ false → (with_item item s).cut ≡ false
-with_item-cut None s h = h
-with_item-cut (Some heard) s h = h
-
-not_cut : (lines : List (List ℕ)) → (stream_of file_lines lines).cut ≡ false
-not_cut [] = refl
-not_cut (line ∷ []) = refl
-not_cut (line ∷ next ∷ lines) = with_item-cut (item_of file_lines line) (stream_of file_lines (next ∷ lines)) (not_cut (next ∷ lines))
-
-pub files_not_cut : (bytes : List ℕ) → (heard bytes).cut ≡ false
-files_not_cut bytes = not_cut (slice_split (λ b. b == 10) bytes)
-
-heard_well : (o : Option FileLine) → IsWellHeard (heard_as o)
-heard_well (Some line) = tt
-heard_well None = refl
-
-WellItem : Option FileHeard → Type 0
-WellItem o = AllWell (option_to_list o)
-
-text_well : (text : List ℕ) → WellItem (item_of_text file_lines text)
-unfolding AllWell WellItem
-text_well [] = tt
-text_well (b ∷ bs) =
-    let long : IsWellHeard (Wrong Faults.Malformed) = refl in
-    let one : IsWellHeard (if nat_lt max_line (length (b ∷ bs)) then Wrong Faults.Malformed else heard_as (line_of (fields_of (b ∷ bs)))) =
-    either (nat_lt max_line (length (b ∷ bs))) IsWellHeard (Wrong Faults.Malformed) (heard_as (line_of (fields_of (b ∷ bs)))) long (heard_well (line_of (fields_of (b ∷ bs)))) in
-    either (b == 35) WellItem None (Some (if nat_lt max_line (length (b ∷ bs)) then Wrong Faults.Malformed else heard_as (line_of (fields_of (b ∷ bs))))) tt (one, tt)
-
-with_items-well : (o : Option FileHeard) (s : ItemStream FileHeard) → WellItem o → AllWell s.items → AllWell (with_item o s).items
-unfolding AllWell WellItem
-with_items-well None s h k = k
-with_items-well (Some heard) s h k = (h.0, k)
-
-with_whole-well : (o : Option FileHeard) (s : ItemStream FileHeard) → WellItem o → AllWell s.whole → AllWell (with_item o s).whole
-unfolding AllWell WellItem
-with_whole-well None s h k = k
-with_whole-well (Some heard) s h k = (h.0, k)
-
-lines_well : (lines : List (List ℕ)) → AllWell (stream_of file_lines lines).items
-unfolding AllWell WellItem
-lines_well [] = tt
-lines_well (line ∷ []) = text_well (strip_carriage_return line)
-lines_well (line ∷ next ∷ lines) = with_items-well (item_of file_lines line) (stream_of file_lines (next ∷ lines)) (text_well (strip_carriage_return line)) (lines_well (next ∷ lines))
-
-whole_lines_well : (lines : List (List ℕ)) → AllWell (stream_of file_lines lines).whole
-unfolding AllWell WellItem
-whole_lines_well [] = tt
-whole_lines_well (line ∷ []) = tt
-whole_lines_well (line ∷ next ∷ lines) = with_whole-well (item_of file_lines line) (stream_of file_lines (next ∷ lines)) (text_well (strip_carriage_return line)) (whole_lines_well (next ∷ lines))
-
-pub files_well : (bytes : List ℕ) → AllWell (heard bytes).items
-files_well bytes = lines_well (slice_split (λ b. b == 10) bytes)
-
-pub whole_files_well : (bytes : List ℕ) → AllWell (heard bytes).whole
-whole_files_well bytes = whole_lines_well (slice_split (λ b. b == 10) bytes)
-
--- ---- the items that are left to be answered
-
-until_well : (is_last : FileHeard → Bool) (items : List FileHeard) → AllWell items → AllWell (until_last is_last items)
-unfolding AllWell
-until_well is_last [] well = tt
-until_well is_last (item ∷ items) well = (well.0, either (is_last item) AllWell [] (until_last is_last items) tt (until_well is_last items well.1))
-
-rest_well : (first later : List FileHeard) → AllWell (first ++ later) → AllWell later
-unfolding AllWell
-rest_well [] later well = well
-rest_well (item ∷ first) later well = rest_well first later well.1
-
-pub later_well : (is_last : FileHeard → Bool) (due first later : List FileHeard) → until_last is_last due ≡ first ++ later → AllWell due → AllWell later
-later_well is_last due first later is well = rest_well first later (subst AllWell is (until_well is_last due well))

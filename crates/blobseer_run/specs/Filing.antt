@@ -14,7 +14,7 @@ use Rattle.file_text.specs.declared.form.FileHeard.{FileHeard}
 use Rattle.file_text.specs.declared.form.FileReply.{FileReply}
 use Rattle.file_layer.specs.Files.{Files, nobody, FileItemReply}
 use Rattle.file_layer.specs.Faults.{file_item_faults}
-use Rattle.file_layer.specs.Laws.{AllBy}
+use Rattle.file_layer.specs.Laws.{AllBy, AnsweredByMap}
 use Rattle.file_layer.specs.Served.{FilePoint, ServedFiles, is_last}
 use Rattle.blobseer_run.specs.Outside.{Outside, LeavesNet}
 use Rattle.blobseer_run.specs.Conversation.{input_limit, Dialogue, Conversed}
@@ -23,11 +23,12 @@ use Rattle.blobseer_run.specs.Conversation.{input_limit, Dialogue, Conversed}
 abbrev pub first_files : Fixed → ℕ → Files
 first_files fixed providers = record { store = first_session fixed 1; providers = providers; by = 1; names = [] }
 
--- A file session alone answered the items so, up to a last one, from the first one on. The histories of the store and of the names that it has seen in the
--- end are legal.
+-- A file session alone answered the items so, up to a last one, from the first one on: as a map from paths to folders and to lists of updates does. The histories
+-- of the store and of the names that it has seen in the end are legal.
 pub record AnsweredAlone (fixed : Fixed) (providers : ℕ) (items : List FileHeard) (replies : List FileReply) : Type 0 where
   pub last : Files
   pub rounds : Rounds (FileItemReply nobody) (first_files fixed providers) (until_last is_last items) replies last
+  pub by_map : AnsweredByMap (first_files fixed providers) (until_last is_last items) replies
   pub store_legal : IsLegal fixed.limits last.store.seen
   pub names_legal : Names.IsLegal last.names
 

@@ -518,6 +518,11 @@ fn refusals_name_the_path_that_they_speak_of(rt: HostRuntime) {
         FileFault::NotFile { path: d },
         "error not-file /d\n",
     );
+}
+
+#[test]
+fn other_refusals_name_no_path(rt: HostRuntime) {
+    let alloc = rt.alloc();
     check_fault(
         &rt,
         alloc,

@@ -1,5 +1,13 @@
-pub mod Recents
-pub mod Wheres
+mod Recents
+mod Wheres
 pub mod Alone
-pub mod Lying
+mod Lying
+mod PathMaps
+mod Standing
+mod StoreTells
+mod MapSteps
+mod NoBlob
+pub mod Mapped
+mod Entries
 pub mod StreamEnds
+mod Worked

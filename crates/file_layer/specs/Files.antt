@@ -217,10 +217,13 @@ pub record LieAt (providers : ℕ) (place : PageHolders) : Type 0 where
   pub few : length place.providers ≤ 8
   pub ours : All (λ number. (1 ≤ number) × (number ≤ providers)) place.providers
 
--- each page of the range in order, and where it lies
-pub record ArePlaces (f : Files) (offset count : ℕ) (places : List PageHolders) : Type 0 where
-  pub which : map (λ (p : PageHolders). p.page) places ≡ pages_of f.store.fixed.page offset count
-  pub lie : All (LieAt f.providers) places
+-- each page of the range in order, and where it lies, of pages of that size and so many providers
+pub record ArePlacesOf (page providers offset count : ℕ) (places : List PageHolders) : Type 0 where
+  pub which : map (λ (p : PageHolders). p.page) places ≡ pages_of page offset count
+  pub lie : All (LieAt providers) places
+
+abbrev pub ArePlaces : Files → ℕ → ℕ → List PageHolders → Type 0
+ArePlaces f offset count places = ArePlacesOf f.store.fixed.page f.providers offset count places
 
 -- what is said of where a range lies, whose read the store would answer so
 abbrev pub TellsWhere : Files → ℕ → ℕ → Outcome → FileReply → Type 0
@@ -248,7 +251,7 @@ pub data WhereAnswer (gaps : Gaps) (seen : Files) (blob version offset count : �
   too_long : (fault : Fault) → read_fault count ≡ Some fault → reply ≡ store_fault fault → f' ≡ seen → WhereAnswer gaps seen blob version offset count reply f'
   told : (others : List Event) → gaps.store seen.store.caller others → read_fault count ≡ None → f' ≡ with_store seen (sees seen.store others)
       → TellsWhere seen offset count (outcome_at seen.store others (Calls.Read blob version offset count)) reply → WhereAnswer gaps seen blob version offset count reply f'
-  no_memory : (others : List Event) → gaps.store seen.store.caller others → f' ≡ with_store seen (sees seen.store others) → reply ≡ store_fault Faults.NoMemory
+  no_memory : (others : List Event) → gaps.store seen.store.caller others → read_fault count ≡ None → f' ≡ with_store seen (sees seen.store others) → reply ≡ store_fault Faults.NoMemory
       → WhereAnswer gaps seen blob version offset count reply f'
 
 -- ---- all lines

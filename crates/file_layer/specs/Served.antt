@@ -1,9 +1,10 @@
 -- How a stream of lines about files was served.
-use Rattle.std.specs.Prelude.{ℕ, Bool, true, false, List, Option}
+use Rattle.std.specs.Prelude.{◌≢◌, ℕ, Bool, true, false, List, length, Option}
 use Rattle.atomic_table.specs.Seated.{TableId}
 use Rattle.server_core.specs.Talk.{Talk, PointOf}
-use Rattle.server_core.specs.Conversed.{Input, Conversed}
+use Rattle.server_core.specs.Conversed.{Input, Conversed, EndsExactly}
 use Rattle.server_core.specs.declared.flow.End.{End}
+use Rattle.server_core.specs.declared.flow.End.TheVariants as Ends
 use Rattle.client_session.specs.Sessions.{StoreState}
 use Rattle.file_text.specs.Lines.{heard, IsWellHeard}
 use Rattle.file_text.specs.Said.{said}
@@ -14,6 +15,7 @@ use Rattle.file_text.specs.declared.form.FileHeard.{FileHeard}
 use Rattle.file_text.specs.declared.form.FileHeard.TheVariants.{Asked, Wrong}
 use Rattle.file_layer.specs.Files.{Files, among_others, FileItemReply}
 use Rattle.file_layer.specs.Faults.{file_item_faults}
+use Rattle.file_layer.specs.Laws.{SeesOwn, IsFirst, AnsweredByMap, Enters, all_made}
 use Rattle.file_layer.specs.Sessions.{FileState}
 
 abbrev pub is_quit : FileLine → Bool
@@ -48,9 +50,15 @@ abbrev pub FilePoint : Type 0
 FilePoint = PointOf Files
 
 -- What a stream of lines was answered: the bytes that were taken, the items in them that were answered, one reply each by the
--- definition, what of their replies wasn't written, and what the end says of them.
-abbrev pub ServedFiles : FilePoint → Input → Input → ℕ → FilePoint → End → Type 0
-ServedFiles old before after limit new end = Conversed file_talk old heard before after limit new end
+-- definition, what of their replies wasn't written, and what the end says of them. Each end but Cut, which never comes, comes
+-- exactly in its case. Of the names the session entered what its replies tell. And where it had seen nothing before, and nothing
+-- but its own then, the replies are those of a map from paths to folders and lists of updates.
+pub record ServedFiles (old : FilePoint) (before after : Input) (limit : ℕ) (new : FilePoint) (end : End) : Type 0 where
+  pub conversed : Conversed file_talk old heard before after limit new end
+  pub exactly : EndsExactly is_last (heard conversed.taken) (length conversed.taken) limit conversed.items conversed.rest before.ends after.ends end
+  pub uncut : end ≢ Ends.Cut
+  pub enters : Enters old.session (all_made conversed.items conversed.progress.replies) new.session
+  pub alone : IsFirst old.session → SeesOwn new.session → AnsweredByMap old.session conversed.items conversed.progress.replies
 
 -- what no line changes: the store and the names, and who asks them
 pub record FileKept : Type 0 where

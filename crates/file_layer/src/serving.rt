@@ -261,6 +261,8 @@ fn serve_lines<R: Wait + Threads + Sync, V: FileService, I: Source + Sink>(
 ///
 /// It reads and writes as every stream is served: in pieces of up to 65,536 bytes, whose replies are written at the latest before
 /// the next read. It never ends by `Cut`. After want of memory for the names, or for a line that comes or a reply, the stream ends.
+/// A session that had seen nothing before, and that in the end has seen nothing but its own, was answered as a map from paths to
+/// folders and to lists of updates answers.
 pub fn serve_files<'a, R: Wait + Threads + Sync, D: BesideDoor, G: Gate, S: Source, K: Sink>(
     rt: &R,
     alloc: Global,

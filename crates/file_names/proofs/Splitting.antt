@@ -68,9 +68,6 @@ cut rest = elim (last_cut (47 ∷ rest)) [
 
 -- ---- the parts of a text
 
-onto_first-append : (x : ℕ) (p : List ℕ) (ps qs : List (List ℕ)) → onto_first x ((p ∷ ps) ++ qs) ≡ onto_first x (p ∷ ps) ++ qs
-onto_first-append x p ps qs = refl
-
 onto_parts : (x : ℕ) (ps qs : List (List ℕ)) → 0 < length ps → onto_first x (ps ++ qs) ≡ onto_first x ps ++ qs
 onto_parts x [] qs some = absurd (omega arith)
 onto_parts x (p ∷ ps) qs some = refl

@@ -1,13 +1,9 @@
 //! Streams of lines about files, and their replies.
-ghost use Rattle.std.specs.Prelude.{◌≡◌};
-ghost use Rattle.client_session.specs.Sessions.{IsOwnerOf};
 
-use blob_model::Limits;
-use client_session::{Owner, Session, Shared};
+use crate::store::{new_session, new_store};
 use file_layer::{FileSession, serve_files};
 use file_names::Names;
-use page_fan::Doors;
-use page_store::{PlainDoor, PlainMaker};
+use page_store::PlainDoor;
 use ports::gate::FreeGate;
 use ports::memory::{MemSink, MemSource};
 use server_core::End;
@@ -15,7 +11,6 @@ use std::alloc::Global;
 use std::process::Abort;
 use std::sync::Wait;
 use std::thread::Threads;
-use tree_geom::PageSize;
 use turn_lock::Turn;
 
 // More bytes than any script here and its replies have.
@@ -28,19 +23,21 @@ struct Row<'a> {
     replies: &'a str,
 }
 
-static ROWS: [Row; 9] = [
+static ROWS: [Row; 11] = [
     Row {
         script: "",
         replies: "",
     },
     Row {
         script: "make /a;append /a 616263646566;where /a 1 0 6;mkdir /d;make /d/b;list /;stat /a;make /a;append /d 00;read /x 0 0 0;list /a;",
-        replies: "file /a blob 1;version 1 at 0 size 6;where 0:1,2 1:3,1;folder /d;file /d/b blob 2;list a d/;file blob 1 version 1 size 6;error exists /a;error not-file /d;error no-name /x;error not-folder /a;",
+        replies: "file /a blob 1;version 1 at 0 size 6;where 0:1,2 1:3,1;folder /d;file /d/b blob 2;list a d/;\
+            file blob 1 version 1 size 6;error exists /a;error not-file /d;error no-name /x;error not-folder /a;",
     },
     // The parent is named where it is at fault.
     Row {
         script: "mkdir /x/y;make /x/y;mkdir /;make /;mkdir /x;mkdir /x;make /x/f;mkdir /x/f/g;stat /x/f/g;stat /;stat /x;list /x;",
-        replies: "error no-name /x;error no-name /x;error exists /;error exists /;folder /x;error exists /x;file /x/f blob 1;error not-folder /x/f;error no-name /x/f/g;folder 1;folder 1;list f;",
+        replies: "error no-name /x;error no-name /x;error exists /;error exists /;folder /x;error exists /x;\
+            file /x/f blob 1;error not-folder /x/f;error no-name /x/f/g;folder 1;folder 1;list f;",
     },
     // Names are listed by their bytes, a folder's with a slash.
     Row {
@@ -50,12 +47,15 @@ static ROWS: [Row; 9] = [
     // Old versions stay; the file grows at its end.
     Row {
         script: "make /l;append /l 6161;append /l 6262;read /l 1 0 2;read /l 2 0 4;read /l 2 0 5;read /l 3 0 1;stat /l;append /l -;",
-        replies: "file /l blob 1;version 1 at 0 size 2;version 2 at 2 size 4;data 6161;data 61616262;error range-past-size 5 4;error not-published 3 2;file blob 1 version 2 size 4;error empty-update;",
+        replies: "file /l blob 1;version 1 at 0 size 2;version 2 at 2 size 4;data 6161;data 61616262;\
+            error range-past-size 5 4;error not-published 3 2;file blob 1 version 2 size 4;error empty-update;",
     },
     // Where each page lies, or why that isn't told: as a read is refused.
     Row {
-        script: "make /a;append /a 616263646566;where /a 1 0 0;where /a 1 4 2;where /a 1 0 7;where /a 2 0 1;where / 0 0 0;where /b 0 0 0;where /a 1 0 16777217;",
-        replies: "file /a blob 1;version 1 at 0 size 6;where -;where 1:3,1;error range-past-size 7 6;error not-published 2 1;error not-file /;error no-name /b;error read-too-long 16777217;",
+        script: "make /a;append /a 616263646566;where /a 1 0 0;where /a 1 4 2;where /a 1 0 7;where /a 2 0 1;\
+            where / 0 0 0;where /b 0 0 0;where /a 1 0 16777217;",
+        replies: "file /a blob 1;version 1 at 0 size 6;where -;where 1:3,1;error range-past-size 7 6;\
+            error not-published 2 1;error not-file /;error no-name /b;error read-too-long 16777217;",
     },
     // The first byte of the range in a page tells which stored page holds it.
     Row {
@@ -66,9 +66,19 @@ static ROWS: [Row; 9] = [
         script: "mkdir a;mkdir /..;mkdir;# note;finish 1;finish 0;quit;mkdir /a;",
         replies: "error malformed;error malformed;error malformed;error no-ticket 1;error no-ticket 0;bye;",
     },
+    // One CR before a line's end isn't part of it, and a comment and an empty line say nothing.
+    Row {
+        script: "mkdir /a\r;# mkdir /b\r;\r;;mkdir /c\r\r;mkdir /d\re;list /\r;",
+        replies: "folder /a;error malformed;error malformed;list a/;",
+    },
+    // A last line without a line feed is one.
     Row {
         script: "mkdir /a",
         replies: "folder /a;",
+    },
+    Row {
+        script: "mkdir /a;list /\r",
+        replies: "folder /a;list a/;",
     },
 ];
 
@@ -81,30 +91,6 @@ fn lines_of<R: Abort>(rt: &R, alloc: Global, text: &str) -> Vec<u8> {
         }
     }
     lines
-}
-
-// A store with no blobs, and its owner: pages of four bytes, three providers, two replicas of each page.
-fn new_store<R: Abort>(rt: &R, alloc: Global) -> (Shared, Owner)
-    ensures { IsOwnerOf result.0 result.1 }
-{
-    let p = PageSize::new(4).expect(rt, "four bytes");
-    Shared::new(alloc, Limits::greatest(), p, 3, 2).expect(rt, "memory")
-}
-
-// The first session of a store.
-fn new_session<'a, R: Abort>(
-    rt: &R,
-    alloc: Global,
-    shared: &'a Shared,
-    owner: &mut Owner,
-    gate: &'a FreeGate,
-) -> Session<'a, PlainDoor, FreeGate>
-    requires { IsOwnerOf shared.now owner.old }
-{
-    let doors = Doors::new(alloc, &mut PlainMaker::new(), shared.providers()).expect(rt, "memory");
-    let pass = shared.pass(owner).expect(rt, "a pass");
-    let made = Session::new(alloc, shared, gate, pass, doors);
-    made.ok().expect(rt, "memory")
 }
 
 // The replies of a file session to a script, which is to be read to its end or to its quit.

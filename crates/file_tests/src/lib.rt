@@ -2,8 +2,12 @@
 #![tactic(auto)]
 
 #[cfg(test)]
+mod crowd;
+#[cfg(test)]
 mod files;
 #[cfg(test)]
 mod names;
 #[cfg(test)]
 mod paths;
+#[cfg(test)]
+mod store;

@@ -9,9 +9,8 @@ use Rattle.text_lines.specs.Text.{IsWithout}
 use Rattle.text_lines.proofs.HeardLemmas.{HasFirst, slice_split_has}
 use Rattle.script_text.specs.Lines.{fields_of}
 use Rattle.file_text.specs.declared.command.FileCommand.{FileCommand}
-use Rattle.file_text.specs.declared.command.FileCommand.TheVariants as Commands
 use Rattle.file_text.specs.declared.form.FileLine.{FileLine}
-use Rattle.file_text.specs.Lines.{only, alone, command_of, makes, commands, line_in, line_of}
+use Rattle.file_text.specs.Lines.{only, alone, command_of, commands, line_in, line_of}
 
 -- ---- the first field
 
@@ -64,22 +63,6 @@ none_of (command ∷ others) word fields h = rw (differs word (command_of comman
 pub no_command : (word : List ℕ) (fields : List (List ℕ)) → ((command : FileCommand) → word ≢ command_of command) → line_in commands word fields ≡ None
 no_command word fields h = none_of commands word fields h
 
-pub command_makes : (command : FileCommand) (fields : List (List ℕ)) → line_in commands (command_of command) fields ≡ makes command fields
-command_makes Commands.Mkdir fields = refl
-command_makes Commands.Make fields = refl
-command_makes Commands.Append fields = refl
-command_makes Commands.Read fields = refl
-command_makes Commands.Stat fields = refl
-command_makes Commands.List fields = refl
-command_makes Commands.Where fields = refl
-command_makes Commands.Finish fields = refl
-command_makes Commands.Quit fields = refl
-
 -- a text whose first field is no command
 pub no_line : (text word : List ℕ) → StartsWith text word → ((command : FileCommand) → word ≢ command_of command) → None ≡ line_of (fields_of text)
 no_line text word s h = sym (ap (λ (fs : List (List ℕ)). line_of fs) s.is ∙ no_command word s.fields h)
-
--- and one whose first field is one
-pub line_is : (text word : List ℕ) (command : FileCommand) (fields : List (List ℕ)) → fields_of text ≡ word ∷ fields → word ≡ command_of command → line_of (fields_of text) ≡ makes command fields
-line_is text word command fields is named =
-    ap (λ (fs : List (List ℕ)). line_of fs) is ∙ ap (λ (w : List ℕ). line_in commands w fields) named ∙ command_makes command fields

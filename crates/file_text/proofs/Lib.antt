@@ -1,3 +1,4 @@
+pub mod Hearing
 mod Worked
 mod FieldLemmas
 mod NumberLemmas

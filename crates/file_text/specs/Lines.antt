@@ -15,7 +15,6 @@ use Rattle.file_text.specs.declared.form.FileLine.TheVariants as Asks
 use Rattle.file_text.specs.declared.form.FileHeard.{FileHeard}
 use Rattle.file_text.specs.declared.form.FileHeard.TheVariants.{Asked, Wrong}
 use Rattle.request_form.specs.declared.form.Fault.TheVariants.{Malformed}
-use Rattle.request_form.specs.Replies.{page_faults}
 
 -- ---- what stands behind a command
 
@@ -130,7 +129,11 @@ file_lines_hold = record { some = lit≤ tt; space = λ text. refl }
 abbrev pub heard : List ℕ → ItemStream FileHeard
 heard bytes = lined file_lines bytes
 
--- a wrong line is no fault of the outside
+-- a wrong line is malformed
 abbrev pub IsWellHeard : FileHeard → Type 0
 IsWellHeard (Asked line) = Unit {0}
-IsWellHeard (Wrong fault) = page_faults fault ≡ 0
+IsWellHeard (Wrong fault) = fault ≡ Malformed
+
+abbrev pub AllWellHeard : List FileHeard → Type 0
+AllWellHeard [] = Unit {0}
+AllWellHeard (item ∷ items) = IsWellHeard item × AllWellHeard items

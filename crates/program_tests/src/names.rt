@@ -12,8 +12,10 @@ static ROWS: [(&str, &str, &str); 6] = [
     ("files --page 4 --providers 3 --replicas 2", "", ""),
     (
         "files --page 4 --providers 3 --replicas 2",
-        "make /a\nappend /a 616263646566\nwhere /a 1 0 6\nmkdir /d\nmake /d/b\nlist /\nstat /a\nmake /a\nappend /d 00\nread /x 0 0 0\nlist /a\n",
-        "file /a blob 1\nversion 1 at 0 size 6\nwhere 0:1,2 1:3,1\nfolder /d\nfile /d/b blob 2\nlist a d/\nfile blob 1 version 1 size 6\nerror exists /a\nerror not-file /d\nerror no-name /x\nerror not-folder /a\n",
+        "make /a\nappend /a 616263646566\nwhere /a 1 0 6\nmkdir /d\nmake /d/b\nlist /\nstat /a\nmake /a\nappend /d 00\nread /x 0 0 0\n\
+            list /a\n",
+        "file /a blob 1\nversion 1 at 0 size 6\nwhere 0:1,2 1:3,1\nfolder /d\nfile /d/b blob 2\nlist a d/\n\
+            file blob 1 version 1 size 6\nerror exists /a\nerror not-file /d\nerror no-name /x\nerror not-folder /a\n",
     ),
     // A last line without a line feed is one, and a line behind `quit` isn't answered.
     ("files", "mkdir /a", "folder /a\n"),

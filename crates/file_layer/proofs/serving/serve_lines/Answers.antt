@@ -11,4 +11,4 @@ pub returns-in-Err-clause-served : goal.returns-in-Err-clause-served
 returns-in-Err-clause-served g c = unserved _ _ _
 
 pub returns-in-Ok-clause-served : goal.returns-in-Ok-clause-served
-returns-in-Ok-clause-served g c = served_from _ c.in-Ok.ensures _ _ _ _ _ _ c.serve_asked.ensures.served
+returns-in-Ok-clause-served g c = served_from _ _ _ _ _ _ _ c.in-Ok.ensures c.serve_asked.ensures.served
