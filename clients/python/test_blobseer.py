@@ -6,6 +6,7 @@ import contextlib
 import io
 import os
 import pathlib
+import re
 import shlex
 import socket
 import struct
@@ -47,6 +48,11 @@ class Server:
     def __exit__(self, *_):
         self.process.kill()
         self.process.wait()
+
+    def memory(self):
+        """The bytes of memory that the server has now."""
+        status = pathlib.Path("/proc/%d/status" % self.process.pid).read_text()
+        return 1024 * int(re.search(r"^VmRSS:\s*(\d+) kB$", status, re.MULTILINE).group(1))
 
 
 @contextlib.contextmanager
@@ -308,6 +314,58 @@ class Limits(unittest.TestCase):
                     with self.assertRaises(kind) as caught:
                         call()
                     self.assertEqual(caught.exception.numbers, numbers)
+
+
+class Settings(unittest.TestCase):
+    def test_as_many_blobs_as_were_allowed(self):
+        with Server("--max-blobs", "1") as server, blobseer.connect(server.address) as store:
+            self.assertEqual(store.create(), 1)
+            self.assertRaises(blobseer.TooManyBlobs, store.create)
+
+    def test_as_many_workers_as_were_asked_for(self):
+        for workers in (2, 3, 5):
+            with self.subTest(workers=workers), contextlib.ExitStack() as open_peers, Server("--workers", str(workers)) as server:
+                host, port = server.address.split(":")
+                peers = [open_peers.enter_context(socket.create_connection((host, int(port)))) for _ in range(workers)]
+                for peer in peers:
+                    peer.sendall(frame(1))
+                for peer in peers[:-1]:
+                    peer.settimeout(60)
+                    self.assertTrue(peer.recv(64))
+                peers[-1].settimeout(1)
+                self.assertRaises(TimeoutError, peers[-1].recv, 64)
+                peers[0].close()
+                peers[-1].settimeout(60)
+                self.assertTrue(peers[-1].recv(64))
+
+    def test_as_many_connections_as_were_asked_for(self):
+        address = "127.0.0.1:%d" % free_port()
+        words = ["serve", "--listen", address, "--connections", "2"]
+        with subprocess.Popen([*PROGRAM, *words], stdout=subprocess.PIPE) as served:
+            for _ in range(2):
+                for _ in range(600):
+                    with contextlib.suppress(ConnectionRefusedError):
+                        blobseer.connect(address).close()
+                        break
+                    time.sleep(0.05)
+            self.assertEqual(served.communicate(timeout=60)[0], b"served 2\n")
+        self.assertEqual(served.returncode, 0)
+
+    @unittest.skipUnless(os.path.exists("/proc/self/status"), "the memory of a process is read in /proc")
+    def test_pages_and_replicas_by_the_memory_that_they_take(self):
+        def held(count, size, *words):
+            with Server("--providers", "4", *words) as server, blobseer.connect(server.address) as store:
+                store.create()
+                before = server.memory()
+                for _ in range(count):
+                    store.append(1, os.urandom(size))
+                return server.memory() - before
+
+        one, two, four = (held(32, 1048576, "--replicas", replicas) for replicas in ("1", "2", "4"))
+        self.assertGreater(two, 1.5 * one)
+        self.assertGreater(four, 1.5 * two)
+        small, large = (held(1024, 1024, "--replicas", "1", "--page", page) for page in ("1024", "1048576"))
+        self.assertGreater(large, 4 * small)
 
 
 class WrongServers(unittest.TestCase):
