@@ -1,6 +1,6 @@
 -- Where a file session sees its own alone, each gap was empty.
-use Rattle.std.proofs.Common.{◌≡◌, ◌⊎◌, inl, inr, ℕ, ◌+◌, Bool, true, false, List, [], ◌∷◌, ◌++◌, Option, Some, None, Result, Ok, Err, refl, sym, ap, subst, ◌∙◌, append_assoc, append-nil, arith}
-use Rattle.std.specs.Prelude.{◌≢◌, ◌==◌, if◌then◌else◌}
+use Rattle.std.proofs.Common.{◌≡◌, ℕ, ◌+◌, Bool, true, false, List, [], ◌∷◌, ◌++◌, Option, Some, None, Result, Ok, Err, refl, sym, ap, subst, ◌∙◌, append_assoc, append-nil}
+use Rattle.std.specs.Prelude.{◌==◌, if◌then◌else◌}
 use Rattle.std.proofs.lemmas.Bool.{false≢true, eq-eqb}
 use Rattle.item_stream.specs.Rounds.{Rounds, sum_rounds}
 use Rattle.turn_lock.specs.History.{entries_by}
@@ -8,9 +8,8 @@ use Rattle.blob_model.specs.History.{AllOther}
 use Rattle.blob_model.specs.declared.call.Event.{Event}
 use Rattle.request_form.specs.Session.{Session, AllOwn, IsNobody, sees}
 use Rattle.request_form.specs.Answers.{Answers}
-use Rattle.request_form.specs.Transcript.{is_quit, ItemReply, until_quit}
+use Rattle.request_form.specs.Transcript.{is_quit, ItemReply}
 use Rattle.request_form.specs.Laws.{OwnIsAlone, OwnEventsAreMade}
-use Rattle.request_form.specs.Own.{Makes, events_made}
 use Rattle.request_form.specs.declared.form.Request.{Request}
 use Rattle.request_form.specs.declared.form.Request.TheVariants as Requests
 use Rattle.request_form.specs.declared.form.Reply.{Reply}
@@ -28,7 +27,7 @@ use Rattle.file_text.specs.declared.form.FileLine.TheVariants as Lines
 use Rattle.file_text.specs.declared.form.FileReply.{FileReply}
 use Rattle.file_text.specs.declared.form.FileHeard.{FileHeard}
 use Rattle.file_text.specs.declared.form.FileHeard.TheVariants.{Asked, Wrong}
-use Rattle.file_layer.specs.Files.{Files, among_others, nobody, with_store, with_names, LooksAtNames, EntersNames, AsksStore, AsksOf, OnBlob, OnFile, MkdirAnswer, MakesFile, OnFree, MakeAnswer, OnRecent, OnStat, StatAnswer, ListAnswer, WhereAnswer, FileAnswers, FileItemReply}
+use Rattle.file_layer.specs.Files.{Files, among_others, nobody, with_store, LooksAtNames, EntersNames, AsksStore, AsksOf, OnBlob, OnFile, MakesFile, OnFree, OnRecent, OnStat, WhereAnswer, FileAnswers, FileItemReply}
 use Rattle.file_layer.specs.Faults.{file_item_faults}
 use Rattle.file_layer.specs.Laws.{AllBy, SeesOwn}
 

@@ -1,7 +1,6 @@
 -- What a session of files answers where nobody else is there is what a map of paths answers.
-use Rattle.std.proofs.Common.{◌≡◌, ◌⊎◌, inl, inr, ℕ, ◌+◌, ◌≤◌, ◌<◌, Bool, true, false, List, [], ◌∷◌, ◌++◌, length, Option, Some, None, Result, Ok, Err, All, refl, sym, ap, subst, ◌∙◌, append-nil, append_assoc, length-append, arith}
-use Rattle.std.specs.Prelude.{◌≢◌, ◌-◌, ◌*◌, ◌==◌, nat_lt, if◌then◌else◌, max, Contains}
-use Rattle.std.proofs.Math.Nat.{max-eq_right}
+use Rattle.std.proofs.Common.{◌≡◌, ◌⊎◌, inl, inr, ℕ, ◌+◌, ◌≤◌, ◌<◌, Bool, true, false, List, [], ◌∷◌, ◌++◌, length, Option, Some, None, Result, Ok, Err, refl, sym, ap, subst, ◌∙◌, append-nil, length-append, arith}
+use Rattle.std.specs.Prelude.{◌≢◌, ◌-◌, ◌==◌, nat_lt, if◌then◌else◌, Contains}
 use Rattle.std.proofs.lemmas.Bool.{false≢true, eq-eqb}
 use Rattle.std.proofs.lemmas.Bool.Decides.{nat_tests}
 use Rattle.std.proofs.lemmas.Option.{none-some, same_Some}
@@ -11,7 +10,7 @@ use Rattle.range_log.specs.Rows.{folds_of}
 use Rattle.blob_model.specs.Content.{Update, size_of}
 use Rattle.blob_model.specs.Limits.{Bounds}
 use Rattle.blob_model.specs.Store.{Store, Blob, empty_store, blob_at, with_blob, and_blob, and_update, assigned, published, held, size_now, size_with, is_finished, finish}
-use Rattle.blob_model.specs.Answer.{Answered, Test, answer, refuse, first_refusal, unless_refused, in_blob, too_many_blobs, not_published, not_numbered, pending, already, range_past_size, offset_past_size, blob_too_big, too_many_versions, too_many_open, bytes_of}
+use Rattle.blob_model.specs.Answer.{Answered, answer, refuse, first_refusal, unless_refused, in_blob, too_many_blobs, not_published, not_numbered, pending, already, range_past_size, offset_past_size, blob_too_big, too_many_versions, too_many_open, bytes_of}
 use Rattle.blob_model.specs.History.{store_from, store_of, is_refused, finishes}
 use Rattle.blob_model.specs.declared.call.Place.TheVariants.{Append}
 use Rattle.blob_model.specs.declared.call.Call.{Call}
@@ -24,9 +23,8 @@ use Rattle.blob_model.specs.declared.call.Refusal.{Refusal}
 use Rattle.blob_model.specs.declared.call.Refusal.TheVariants as Refusals
 use Rattle.version_manager.proofs.Stores.{store_from-append, in_blob_here, store_limits}
 use Rattle.request_form.specs.Session.{Session, HeldTicket, IsNobody, sees, holds, drops, ticket_at, without_ticket, store_at, outcome_at}
-use Rattle.request_form.specs.Answers.{Unless, CreateAnswer, UpdateAnswer, WholeUpdate, ReadAnswer, FinishAnswer, ReportAnswer, FinishHindered, LookAnswer, Answers, update_fault, read_fault, folds_in, max_update, max_tickets}
+use Rattle.request_form.specs.Answers.{Unless, CreateAnswer, UpdateAnswer, WholeUpdate, ReadAnswer, FinishAnswer, ReportAnswer, FinishHindered, update_fault, read_fault, folds_in, max_update, max_tickets}
 use Rattle.request_form.specs.Replies.{fault_of, reply_of}
-use Rattle.request_form.specs.declared.form.Request.{Request}
 use Rattle.request_form.specs.declared.form.Request.TheVariants as Requests
 use Rattle.request_form.specs.declared.form.Reply.{Reply}
 use Rattle.request_form.specs.declared.form.Reply.TheVariants as Replies
@@ -37,7 +35,6 @@ use Rattle.file_names.specs.Tree as Tree
 use Rattle.file_names.specs.declared.tree.Named.{Named}
 use Rattle.file_names.specs.declared.tree.Named.TheVariants as Nameds
 use Rattle.file_names.specs.declared.tree.Stat.{Stat}
-use Rattle.file_names.specs.declared.tree.Stat.TheVariants as Stats
 use Rattle.file_names.specs.declared.tree.EnterFault.{EnterFault}
 use Rattle.file_names.specs.declared.tree.EnterFault.TheVariants as EnterFaults
 use Rattle.file_names.specs.declared.tree.FindFault.{FindFault}
@@ -45,14 +42,13 @@ use Rattle.file_text.specs.declared.form.FileLine.{FileLine}
 use Rattle.file_text.specs.declared.form.FileLine.TheVariants as Lines
 use Rattle.file_text.specs.declared.form.FileReply.{FileReply}
 use Rattle.file_text.specs.declared.form.FileReply.TheVariants as Says
-use Rattle.file_text.specs.declared.form.PageHolders.{PageHolders}
 use Rattle.file_text.specs.declared.form.FileHeard.{FileHeard}
 use Rattle.file_text.specs.declared.form.FileHeard.TheVariants.{Asked, Wrong}
 use Rattle.file_text.specs.Lines.{IsWellHeard, AllWellHeard}
-use Rattle.file_layer.specs.Files.{Files, nobody, with_store, with_names, LooksAtNames, EntersNames, AsksStore, AsksOf, OnBlob, OnFile, MkdirAnswer, MakesFile, OnFree, OnRecent, OnStat, ListAnswer, WhereAnswer, TellsWhere, ArePlaces, FileAnswers, FileItemReply, file_reply, recent_reply, store_fault, enter_refused, entered_reply, list_reply, find_refused}
+use Rattle.file_layer.specs.Files.{Files, nobody, with_store, with_names, LooksAtNames, EntersNames, AsksOf, OnBlob, OnFile, MkdirAnswer, MakesFile, OnFree, OnRecent, OnStat, WhereAnswer, TellsWhere, FileAnswers, FileItemReply, file_reply, recent_reply, store_fault, enter_refused, entered_reply, list_reply}
 use Rattle.file_layer.specs.PathMap.{Thing, HeldAppend, PathMap, thing_in, thing_at, put_in, held_in, without_held, and_thing, and_held, and_dropped, puts, new_file, new_fault, bytes_fault, append_refusal, read_refusal, folds_at, appended, SaysFault, UnlessFault, FolderSays, FileSays, MakeSays, AppendSays, ReadSays, WhereSays, FinishSays, HeldSays, TicketSays, AtFile, MapAnswers, MapItemReply}
 use Rattle.file_layer.specs.PathMap as Maps
-use Rattle.file_layer.proofs.PathMaps.{Things, named_of, names_of, Keeps, found, looked, blob_is, fault_is, stat_is, list_is, put_names, in_things, puts_keep, pushes_keep, push_names}
+use Rattle.file_layer.proofs.PathMaps.{Things, names_of, Keeps, found, looked, blob_is, fault_is, stat_is, list_is, put_names, in_things, puts_keep}
 use Rattle.file_layer.proofs.StoreTells.{goes, stops, not_past, offset_first, size_sum}
 use Rattle.file_layer.proofs.Standing.{Stepped, also, seeing, counting, Changes, with_changes, then_changes, finish_changes, Once, AreFiles, file_there, files_put, files_push, files_more, more_last, once_folder, once_file, IsHeld, AreHeld, SameTicket, held_kept, held_push, held_count, held_without, ticket_found, store_now, map_of, Stands, pushed}
 

@@ -1,10 +1,10 @@
 -- No answer of a map of paths is that a blob isn't there.
-use Rattle.std.proofs.Common.{◌≡◌, ◌⊎◌, inl, inr, ℕ, ◌+◌, Bool, true, false, List, [], ◌∷◌, length, Option, Some, None, All, refl, sym, ap, subst, ◌∙◌, arith}
-use Rattle.std.specs.Prelude.{◌≢◌, ◌==◌, nat_lt, if◌then◌else◌}
+use Rattle.std.proofs.Common.{◌≡◌, inl, inr, ℕ, ◌+◌, Bool, true, false, List, [], ◌∷◌, length, Option, Some, None, All, sym, subst, ◌∙◌}
+use Rattle.std.specs.Prelude.{◌==◌, nat_lt, if◌then◌else◌}
 use Rattle.std.proofs.lemmas.Option.{none-some, same_Some}
 use Rattle.std.proofs.lemmas.List.Elements.{All-cons, All-nil}
 use Rattle.item_stream.specs.Rounds.{Rounds}
-use Rattle.blob_model.specs.Store.{Blob, empty_store, assigned, published, size_now, size_with, waiting}
+use Rattle.blob_model.specs.Store.{Blob, assigned, published, size_with, waiting}
 use Rattle.blob_model.specs.Content.{size_of}
 use Rattle.blob_model.specs.declared.call.Place.TheVariants.{Append}
 use Rattle.blob_model.specs.declared.call.Refusal.{Refusal}
@@ -21,7 +21,7 @@ use Rattle.file_text.specs.declared.form.FileReply.{FileReply}
 use Rattle.file_text.specs.declared.form.FileHeard.{FileHeard}
 use Rattle.file_text.specs.declared.form.FileHeard.TheVariants.{Asked, Wrong}
 use Rattle.file_layer.specs.Files.{store_fault, enter_refused}
-use Rattle.file_layer.specs.PathMap.{Thing, HeldAppend, PathMap, thing_at, held_in, new_fault, bytes_fault, append_refusal, read_refusal, SaysFault, UnlessFault, FolderSays, FileSays, MakeSays, AppendSays, ReadSays, WhereSays, FinishSays, HeldSays, TicketSays, AtFile, stat_reply, ListSays, MapAnswers, MapItemReply}
+use Rattle.file_layer.specs.PathMap.{Thing, HeldAppend, PathMap, thing_at, held_in, new_fault, bytes_fault, append_refusal, read_refusal, UnlessFault, FolderSays, FileSays, MakeSays, AppendSays, ReadSays, WhereSays, FinishSays, HeldSays, TicketSays, AtFile, stat_reply, ListSays, MapAnswers, MapItemReply}
 use Rattle.file_layer.specs.Laws.{NamesNoBlob}
 
 -- where the reply is such a one

@@ -1,6 +1,6 @@
 -- The names of a map of paths, what is told of them, and what a change leaves of the map.
-use Rattle.std.proofs.Common.{◌≡◌, ◌⊎◌, inl, inr, ℕ, ◌+◌, ◌≤◌, ◌<◌, zero, suc, Bool, true, false, cond, List, [], ◌∷◌, ◌++◌, length, map, Option, Some, None, Result, Ok, Err, All, sum_by, refl, sym, ap, subst, ◌∙◌, arith}
-use Rattle.std.specs.Prelude.{◌≢◌, ◌-◌, ◌==◌, if◌then◌else◌, nat_le, slice_get}
+use Rattle.std.proofs.Common.{◌≡◌, ◌⊎◌, inl, inr, ℕ, ◌+◌, Bool, true, false, cond, List, [], ◌∷◌, ◌++◌, length, map, Option, Some, None, Result, Ok, Err, refl, sym, ap, subst, ◌∙◌}
+use Rattle.std.specs.Prelude.{if◌then◌else◌, nat_le}
 use Rattle.std.specs.List.{count_by}
 use Rattle.std.specs.Option.{option_map}
 use Rattle.std.specs.Str.{bytes_eq}
@@ -8,7 +8,7 @@ use Rattle.std.proofs.lemmas.List.{length-map, map-append}
 use Rattle.std.proofs.lemmas.List.Sums.{sum_by-cons}
 use Rattle.std.proofs.lemmas.Option.{none-some, same_Some}
 use Rattle.blob_model.specs.Store.{Blob}
-use Rattle.file_names.specs.Paths.{is_root, is_name, parent_of, child_of}
+use Rattle.file_names.specs.Paths.{is_root, parent_of, child_of}
 use Rattle.file_names.specs.Tree as Tree
 use Rattle.file_names.specs.Tree.{NameLog, IsListing, ListsNamed, entered_at, named_at, fault_under, enter_fault, blob_at, blob_named, stat_at, stat_of, entries_in, listed_as, most_names}
 use Rattle.file_names.specs.declared.tree.Named.{Named}
@@ -24,7 +24,6 @@ use Rattle.file_names.specs.declared.tree.FindFault.TheVariants as FindFaults
 use Rattle.file_names.specs.declared.tree.ListFault.{ListFault}
 use Rattle.file_names.specs.declared.tree.ListFault.TheVariants as ListFaults
 use Rattle.request_form.specs.declared.form.Fault.TheVariants as Faults
-use Rattle.file_text.specs.declared.form.FileReply.{FileReply}
 use Rattle.file_layer.specs.Files.{list_reply, store_fault}
 use Rattle.file_layer.specs.PathMap.{Thing, PathMap, AreIn, thing_in, thing_at, entries_of, is_folder, with_content, put_in, fault_below, new_fault, ListSays}
 

@@ -5,7 +5,6 @@ use Rattle.blob_model.specs.Content.{size_of}
 use Rattle.blob_model.specs.Answer.{Answered, refuse, in_blob}
 use Rattle.blob_model.specs.declared.call.Call.TheVariants as Calls
 use Rattle.blob_model.specs.declared.call.Event.{Event}
-use Rattle.blob_model.specs.declared.call.Outcome.{Outcome}
 use Rattle.blob_model.specs.declared.call.Outcome.TheVariants as Outcomes
 use Rattle.blob_model.specs.declared.call.Refusal.TheVariants as Refusals
 use Rattle.request_form.specs.Session.{Session, store_at, outcome_at}

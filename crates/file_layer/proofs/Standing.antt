@@ -1,13 +1,11 @@
 -- What a session of files that is alone has seen, as a map of paths: each of its files is a blob of the store, no two are the same blob, and each ticket is one
 -- of a file.
-use Rattle.std.proofs.Common.{◌≡◌, ℕ, ◌+◌, ◌≤◌, ◌<◌, zero, suc, Bool, true, false, List, [], ◌∷◌, ◌++◌, length, set, map, Option, Some, None, refl, sym, ap, subst, ◌∙◌, append-nil, arith, length-append}
+use Rattle.std.proofs.Common.{◌≡◌, ℕ, ◌+◌, ◌≤◌, suc, Bool, true, false, List, [], ◌∷◌, ◌++◌, length, Option, Some, None, refl, sym, ap, subst, ◌∙◌, arith}
 use Rattle.std.specs.Prelude.{◌≢◌, ◌-◌, ◌==◌, if◌then◌else◌, slice_get, slice_set, slice_index_or}
 use Rattle.std.specs.Str.{bytes_eq}
-use Rattle.std.proofs.lemmas.Bool.{false≢true}
 use Rattle.std.proofs.lemmas.Bool.Decides.{nat_tests}
 use Rattle.std.proofs.lemmas.List.{length-set, set-get_or}
 use Rattle.std.proofs.lemmas.Option.{none-some, same_Some, slice_get_within}
-use Rattle.blob_model.specs.Content.{Update}
 use Rattle.blob_model.specs.Store.{Store, Blob, blob_at, with_blob, and_blob, is_finished, finish, published}
 use Rattle.blob_model.specs.Answer.{Answered, answer, refuse, unless_refused, already}
 use Rattle.blob_model.specs.History.{store_of}
@@ -24,7 +22,7 @@ use Rattle.file_names.specs.declared.tree.Named.TheVariants as Nameds
 use Rattle.file_names.specs.declared.tree.Entered.{Entered}
 use Rattle.file_layer.specs.Files.{Files, with_names}
 use Rattle.file_layer.specs.PathMap.{Thing, HeldAppend, PathMap, thing_in, thing_at, with_content, put_in, held_in, without_held}
-use Rattle.file_layer.proofs.PathMaps.{Things, named_of, names_of, Keeps, put_names, in_things, pushes_keep, push_names}
+use Rattle.file_layer.proofs.PathMaps.{Things, named_of, names_of, Keeps, pushes_keep, push_names}
 
 -- ---- a store in which one blob changed
 

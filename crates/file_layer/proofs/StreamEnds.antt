@@ -1,5 +1,5 @@
 -- A stream of lines that was served in a dialect that was fed nothing, and one that wasn't served.
-use Rattle.std.proofs.Common.{◌≡◌, ℕ, true, false, List, [], ◌++◌, length, refl, sym, subst, ◌∙◌}
+use Rattle.std.proofs.Common.{◌≡◌, ℕ, List, [], ◌++◌, length, refl, sym, subst, ◌∙◌}
 use Rattle.std.specs.Prelude.{◌≢◌, Option}
 use Rattle.std.proofs.lemmas.Bool.{false≢true}
 use Rattle.item_stream.specs.Rounds.{until_last}

@@ -1,7 +1,7 @@
 -- A question of where a range lies is refused as a read of the range is.
-use Rattle.std.proofs.Common.{◌≡◌, ◌⊎◌, inl, inr, ℕ, ◌+◌, ◌<◌, ◌≤◌, Bool, true, false, List, [], ◌∷◌, Option, Some, None, Result, Ok, Err, refl, sym, ap, subst, ◌∙◌, arith}
+use Rattle.std.proofs.Common.{◌≡◌, ◌⊎◌, inl, inr, ℕ, ◌+◌, ◌<◌, ◌≤◌, Bool, true, false, List, [], ◌∷◌, Option, Some, None, Result, Ok, Err, refl, sym, ap, subst, arith}
 use Rattle.std.specs.Prelude.{nat_lt, if◌then◌else◌}
-use Rattle.std.proofs.lemmas.Bool.{false≢true, lt-ltb}
+use Rattle.std.proofs.lemmas.Bool.{lt-ltb}
 use Rattle.std.proofs.lemmas.Bool.Decides.{nat_tests}
 use Rattle.blob_model.specs.Content.{size_of}
 use Rattle.blob_model.specs.Store.{Store, Blob, blob_at, published}
@@ -14,13 +14,12 @@ use Rattle.blob_model.specs.declared.call.Refusal.{Refusal}
 use Rattle.blob_model.specs.declared.call.Refusal.TheVariants as Refusals
 use Rattle.snapshot.specs.Versions.{Version, size_now}
 use Rattle.faults.specs.declared.no_memory.NoMemory.{NoMemory}
-use Rattle.request_form.specs.Session.{Session, sees, store_at, outcome_at}
+use Rattle.request_form.specs.Session.{sees, store_at, outcome_at}
 use Rattle.request_form.specs.Answers.{read_fault, max_read}
 use Rattle.request_form.specs.Replies.{fault_of}
 use Rattle.request_form.specs.declared.form.Fault.{Fault}
 use Rattle.request_form.specs.declared.form.Fault.TheVariants as Faults
 use Rattle.file_text.specs.declared.form.FileReply.{FileReply}
-use Rattle.file_text.specs.declared.form.FileReply.TheVariants as Says
 use Rattle.file_text.specs.declared.form.PageHolders.{PageHolders}
 use Rattle.file_layer.specs.Files.{Gaps, Files, with_store, store_fault, ArePlaces, TellsWhere, WhereAnswer, Opens, PlacesSaid}
 use Rattle.file_layer.specs.Sessions.{said_of}

@@ -1,20 +1,17 @@
 -- Worked rows of one stream alone, by computation.
-use Rattle.std.specs.Prelude.{◌≡◌, ◌≢◌, ℕ, ◌≤◌, List, [], ◌∷◌, ◌++◌, codes}
-use Rattle.std.specs.List.{All}
+use Rattle.std.specs.Prelude.{◌≢◌, ℕ, ◌≤◌, List, [], ◌∷◌, codes}
 use Rattle.std.proofs.Common.{inl, refl, lit≤, arith}
 use Rattle.std.proofs.lemmas.List.Elements.{All-cons, All-nil}
 use Rattle.item_stream.specs.Rounds.{Rounds}
-use Rattle.blob_model.specs.Limits.{Bounds, greatest}
-use Rattle.blob_model.specs.Store.{Blob, finish, and_update}
-use Rattle.request_form.specs.declared.form.Fault.TheVariants as Faults
+use Rattle.blob_model.specs.Limits.{greatest}
+use Rattle.blob_model.specs.Store.{Blob, finish}
 use Rattle.file_text.specs.declared.form.FileLine.TheVariants as Lines
-use Rattle.file_text.specs.declared.form.FileReply.{FileReply}
 use Rattle.file_text.specs.declared.form.FileReply.TheVariants as Says
 use Rattle.file_text.specs.declared.form.FileFault.TheVariants as FileFaults
-use Rattle.file_text.specs.declared.form.FileHeard.TheVariants.{Asked, Wrong}
+use Rattle.file_text.specs.declared.form.FileHeard.TheVariants.{Asked}
 use Rattle.file_text.specs.declared.form.PageHolders.{PageHolders}
-use Rattle.file_layer.specs.Files.{LieAt, ArePlacesOf, refused, store_fault}
-use Rattle.file_layer.specs.PathMap.{Thing, PathMap, new_map, new_file, and_thing, and_blob, and_held, and_dropped, puts, appended, FileSays, AppendSays, ReadSays, WhereSays, FinishSays, MapItemReply}
+use Rattle.file_layer.specs.Files.{LieAt, ArePlacesOf, refused}
+use Rattle.file_layer.specs.PathMap.{Thing, PathMap, new_map, new_file, and_thing, and_blob, puts, appended, FileSays, AppendSays, WhereSays, MapItemReply}
 
 abbrev a : List ℕ
 a = codes "/a"
@@ -65,10 +62,10 @@ both_lie = record {
       (All-cons (LieAt 3) (record { page = 1; providers = 3 ∷ 1 ∷ [] }) [] (lies 1 3 1 (lit≤ tt) (lit≤ tt) (lit≤ tt) (lit≤ tt)) (All-nil (LieAt 3)));
 }
 
-none_full : 0 ≢ 65535
+none_full : ◌≢◌ {A = ℕ} 0 65535
 none_full e = omega (arith, e)
 
-one_not_full : 1 ≢ 65535
+one_not_full : ◌≢◌ {A = ℕ} 1 65535
 one_not_full e = omega (arith, e)
 
 -- files, folders, and what is refused of them

@@ -8,7 +8,6 @@ use Rattle.file_text.specs.declared.form.FileLine.{FileLine}
 use Rattle.file_text.specs.declared.form.FileLine.TheVariants as Lines
 use Rattle.file_text.specs.declared.form.FileReply.{FileReply}
 use Rattle.file_text.specs.declared.form.FileReply.TheVariants as Says
-use Rattle.file_text.specs.declared.form.FileFault.{FileFault}
 use Rattle.file_text.specs.declared.form.FileFault.TheVariants as FileFaults
 use Rattle.file_text.specs.declared.form.FileHeard.{FileHeard}
 use Rattle.file_text.specs.declared.form.FileHeard.TheVariants.{Asked, Wrong}

@@ -13,7 +13,6 @@ use Rattle.blob_model.specs.Store.{Store, Blob, empty_store, assigned, published
 use Rattle.blob_model.specs.Answer.{first_refusal, not_published, range_past_size, blob_too_big, too_many_versions, too_many_open, bytes_of}
 use Rattle.blob_model.specs.declared.call.Place.TheVariants.{Append}
 use Rattle.blob_model.specs.declared.call.Refusal.{Refusal}
-use Rattle.blob_model.specs.declared.call.Refusal.TheVariants as Refusals
 use Rattle.request_form.specs.Session.{Fixed}
 use Rattle.request_form.specs.Answers.{read_fault, max_update, max_tickets}
 use Rattle.request_form.specs.Replies.{fault_of}

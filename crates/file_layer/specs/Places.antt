@@ -1,6 +1,5 @@
 -- One page more of those of which it is told where they lie.
 use Rattle.std.specs.Prelude.{◌≡◌, ℕ, List, [], ◌∷◌, ◌++◌, length}
-use Rattle.std.specs.List.{All}
 use Rattle.page_store.specs.House.{House}
 use Rattle.snapshot.specs.Versions.{Version, PagesLieIn}
 use Rattle.file_text.specs.declared.form.PageHolders.{PageHolders}

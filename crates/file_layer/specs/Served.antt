@@ -1,5 +1,5 @@
 -- How a stream of lines about files was served.
-use Rattle.std.specs.Prelude.{◌≢◌, ℕ, Bool, true, false, List, length, Option}
+use Rattle.std.specs.Prelude.{◌≢◌, ℕ, Bool, true, false, length, Option}
 use Rattle.atomic_table.specs.Seated.{TableId}
 use Rattle.server_core.specs.Talk.{Talk, PointOf}
 use Rattle.server_core.specs.Conversed.{Input, Conversed, EndsExactly}

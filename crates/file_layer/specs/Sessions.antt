@@ -1,5 +1,5 @@
 -- A file session as its clauses see it.
-use Rattle.std.specs.Prelude.{◌≡◌, ℕ, List, length, Result, Ok, Err}
+use Rattle.std.specs.Prelude.{◌≡◌, length, Result, Ok, Err}
 use Rattle.turn_lock.specs.Shown.{PassView}
 use Rattle.faults.specs.declared.no_memory.NoMemory.{NoMemory}
 use Rattle.client_session.specs.Sessions.{SessionState, session_of, Continues}

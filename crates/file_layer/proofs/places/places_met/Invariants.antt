@@ -1,4 +1,4 @@
-use Rattle.std.proofs.Common.{◌≡◌, ◌-◌, ◌≤◌, List, length, map, All}
+use Rattle.std.proofs.Common.{◌≡◌, ◌-◌, List, length, map, All}
 use Rattle.std.specs.List.{range_with_len}
 use Rattle.page_store.specs.House.{House}
 use Rattle.snapshot.specs.Versions.{PagesLieIn}

@@ -1,5 +1,5 @@
-use Rattle.std.proofs.Common.{◌≡◌, sym, ◌∙◌, subst, None}
-use Rattle.file_layer.specs.Files.{OnFree, MakeAnswer, among_others}
+use Rattle.std.proofs.Common.{sym, ◌∙◌, subst}
+use Rattle.file_layer.specs.Files.{OnFree, among_others}
 use Rattle.file_layer.specs.Sessions.{files_of, said_of}
 use Rattle.file_layer.proofs.session.FileSession.make.Goals as goal
 

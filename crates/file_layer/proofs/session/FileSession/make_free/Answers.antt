@@ -1,9 +1,5 @@
-use Rattle.std.proofs.Common.{◌≡◌, ap, sym, ◌∙◌, subst, refl, Ok, Err, rules}
-use Rattle.request_form.specs.declared.form.Request.TheVariants as Requests
-use Rattle.request_form.specs.declared.form.Reply.{Reply}
-use Rattle.client_session.specs.Results.{create_reply}
-use Rattle.file_names.specs.declared.tree.Named.TheVariants as Nameds
-use Rattle.file_layer.specs.Files.{MakesFile, among_others, AsksStore, EntersNames}
+use Rattle.std.proofs.Common.{refl, Ok, Err}
+use Rattle.file_layer.specs.Files.{MakesFile}
 use Rattle.file_layer.specs.Sessions.{files_of}
 use Rattle.file_layer.proofs.session.FileSession.make_free.Goals as goal
 

@@ -1,4 +1,4 @@
-use Rattle.std.proofs.Common.{◌≡◌, sym, subst}
+use Rattle.std.proofs.Common.{sym, subst}
 use Rattle.client_session.specs.Sessions.{session_of}
 use Rattle.file_layer.specs.Files.{IsRecent}
 use Rattle.file_layer.proofs.Recents.{recent_ok}

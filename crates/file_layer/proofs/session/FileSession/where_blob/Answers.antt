@@ -1,4 +1,4 @@
-use Rattle.std.proofs.Common.{◌≡◌, sym, ◌∙◌, subst, refl, Some, None}
+use Rattle.std.proofs.Common.{sym, subst, refl}
 use Rattle.request_form.specs.declared.form.Fault.TheVariants as Faults
 use Rattle.file_layer.specs.Files.{WhereAnswer, among_others}
 use Rattle.file_layer.specs.Sessions.{files_of}

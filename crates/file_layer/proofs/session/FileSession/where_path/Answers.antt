@@ -1,5 +1,5 @@
-use Rattle.std.proofs.Common.{◌≡◌, sym, ◌∙◌, subst, Ok}
-use Rattle.file_layer.specs.Files.{OnBlob, OnFile, WhereAnswer, among_others}
+use Rattle.std.proofs.Common.{sym, ◌∙◌, subst}
+use Rattle.file_layer.specs.Files.{OnBlob, WhereAnswer, among_others}
 use Rattle.file_layer.specs.Sessions.{files_of, said_of}
 use Rattle.file_layer.proofs.session.FileSession.where_path.Goals as goal
 
