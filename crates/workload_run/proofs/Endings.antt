@@ -19,7 +19,7 @@ use Rattle.workload_law.specs.Laws.{LoadsReadBack}
 use Rattle.workload_law.specs.Sessions.{FinishesItsOwn}
 use Rattle.workload_law.specs.Ends.{IsOutside}
 use Rattle.workload_law.specs.Closing.{SeenAlone, NobodysAreNone, OpeningsAreFirst, OwnsStay, IdleOwnsAll, NothingElseHindersOpenings, NothingElseHinders, OperationHindered}
-use Rattle.workload_run.specs.Stages.{IsOpened, IsHalfOpened, HaveCome, HaveDone, HaveStopped, HasLooked, TellsSummary, ClosesAs}
+use Rattle.workload_run.specs.Stages.{IsOpened, IsHalfOpened, HaveCome, HaveDone, HaveStopped, HasLooked, TellsSummary, ClosesAs, AreFinishedByOwn}
 use Rattle.workload_run.proofs.Returns.{no_front, none_by, owns_back}
 
 -- ---- callers
@@ -176,6 +176,12 @@ module _ (plan : LoadPlan) (first : List Event) (old new : OwnerView Event DeskF
       pub loaded : IsLoad plan new_history
       loaded = subst (λ (h : List Event). IsLoad plan h) (sym (same_history no_others)) loaded_old
 
+      -- each had finished its own alone
+      pub finished : OwnsStay → IdleOwnsAll → FinishesItsOwn greatest first 1 → AreFinishedByOwn plan new_history
+      finished stay idle own caller some last =
+          subst (λ (h : List Event). FinishesItsOwn greatest h caller) (sym (same_history no_others))
+          (owns plan first old all.come alone first_is only_old legal_old version opened stay idle own caller (whose plan.workers caller))
+
       pub told_of : TellsSummary plan told
       told_of = look.tells (none_later no_others) (read_back plan old_history (omega (arith, sized.workers)) legal_old loaded_old (old.made + 1))
 
@@ -194,11 +200,12 @@ module _ (are : EntriesAreEvents) (plan : LoadPlan) (sized : IsSized plan) where
         stopped plan (events mid.seen) owner stop.come alone first_is (only_theirs are plan owner stop.come.made lacks tags) legal opened.version opened.opened nothing stay idle sized opened.own fault stop
 
     module _ (no_others : NobodysAreNone) (read_back : LoadsReadBack) (old new : OwnerView Event DeskFixed) (all : HaveDone plan (events mid.seen) old) where
-      pub closes_looked : (summary : Summary) → HasLooked plan old (Ok summary) new → ClosesAs plan (Ok summary) new
-      closes_looked summary look lacks legal tags =
+      pub closes_looked : OwnsStay → IdleOwnsAll → (summary : Summary) → HasLooked plan old (Ok summary) new → ClosesAs plan (Ok summary) new
+      closes_looked stay idle summary look lacks legal tags =
           let first : List Event = events mid.seen in (
             told_of plan first old new (Ok summary) all look are lacks tags no_others alone first_is read_back sized legal opened.version opened.opened,
             loaded plan first old new (Ok summary) all look are lacks tags no_others alone first_is read_back sized legal opened.version opened.opened,
+            finished plan first old new (Ok summary) all look are lacks tags no_others alone first_is read_back sized legal opened.version opened.opened stay idle opened.own,
           )
 
       pub closes_unseen : (fault : Fault) → IsOutside fault ⊎ HasLooked plan old (Err fault) new → ClosesAs plan (Err fault) new

@@ -4,6 +4,7 @@ pub mod Operations
 pub mod Openings
 pub mod Returns
 pub mod Endings
+pub mod Lents
 pub mod Looks
 pub mod Summaries
 pub mod Stores

@@ -110,9 +110,13 @@ LooksAs plan old (Err fault) new = (new.out ≡ old.out) × (IsOutside fault ⊎
 
 -- ---- all of them
 
+-- Each worker finished its own updates alone, and so did the first session.
+abbrev pub AreFinishedByOwn : LoadPlan → List Event → Type 0
+AreFinishedByOwn plan history = (caller : ℕ) → 1 ≤ caller → caller ≤ plan.workers + 1 → FinishesItsOwn greatest history caller
+
 -- A load came to its plan's summary; or it ended early, and the outside was the cause.
 abbrev pub TellsLoad : LoadPlan → Result Summary Fault → List Event → Type 0
-TellsLoad plan (Ok summary) history = (summary ≡ summary_of plan) × IsLoad plan history
+TellsLoad plan (Ok summary) history = (summary ≡ summary_of plan) × IsLoad plan history × AreFinishedByOwn plan history
 TellsLoad plan (Err fault) history = IsOutside fault
 
 -- so it is once the store is closed: then its history is legal, and has no events of callers that weren't given

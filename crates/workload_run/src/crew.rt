@@ -1,9 +1,11 @@
 // The workers of a load, side by side.
-ghost use Rattle.std.specs.Prelude.{◌≡◌, ◌≤◌, ◌<◌, ◌+◌, ◌-◌, ◌^◌, ◌↔◌, ℕ, min, sum_by, vec_len, IfOk, OnOk, OnErr, Contains};
+ghost use Rattle.std.specs.Prelude.{◌≡◌, ◌≤◌, ◌<◌, ◌+◌, ◌-◌, ◌*◌, ◌^◌, ◌↔◌, ℕ, min, sum_by, vec_len, IfOk, OnOk, OnErr, Contains};
 ghost use denote.Param.Send.{IsSync};
 ghost use Rattle.blob_model.specs.Limits.{greatest};
 ghost use Rattle.turn_lock.specs.History.{Begins, entries_by};
+ghost use Rattle.page_store.specs.Calls.{Traffic, AllCameBack};
 ghost use Rattle.client_session.specs.Sessions.{IsOwnerOf};
+ghost use Rattle.store_sessions.specs.Lent.{LentDoors};
 ghost use Rattle.version_manager.specs.Log.{events};
 ghost use Rattle.workload_law.specs.Load.{IsSized};
 ghost use Rattle.workload_run.specs.Updates.{told_faults};
@@ -109,6 +111,8 @@ fn workers_of<'a, M: DoorMaker, G: Gate>(
     ensures none_out { OnErr result (owner.new.out ≡ owner.old.out) }
     ensures owner { IsOwnerOf shared.now owner.new }
     ensures doors { M.faults maker.new < 2 ^ 64 - 1 → M.faults maker.old ≤ M.faults maker.new }
+    ensures handed_out { OnOk result (Traffic M.hands_out M.takes_back (count * shared.now.providers) 0 maker.old maker.new) }
+    ensures all_back { OnErr result (AllCameBack M.hands_out M.takes_back maker.old maker.new) }
     ensures truth_stays { M.is_true maker.old ↔ M.is_true maker.new }
     ensures plan_stays { (n : ℕ) (door : _) → M.makes maker.old n door ↔ M.makes maker.new n door }
 {
@@ -151,6 +155,7 @@ fn end_workers<M: DoorMaker, G: Gate>(
     ensures owner { IsOwnerOf shared.now owner.new }
     ensures stop { result ≡ first_stop workers.entry.items }
     ensures doors { min (M.faults maker.old + sum_by (counted_by M.Door.faults) workers.entry.items) (2 ^ 64 - 1) ≤ M.faults maker.new }
+    ensures taken_back { Traffic M.hands_out M.takes_back 0 (vec_len workers.entry * shared.now.providers) maker.old maker.new }
     ensures truth_stays { M.is_true maker.old ↔ M.is_true maker.new }
     ensures plan_stays { (n : ℕ) (door : _) → M.makes maker.old n door ↔ M.makes maker.new n door }
 {
@@ -188,6 +193,7 @@ where
     ensures works { WorksAs plan.now (events owner.old.seen) result owner.new }
     ensures owner { IsOwnerOf shared.now owner.new }
     ensures doors { M.faults maker.new < 2 ^ 64 - 1 → M.faults maker.old + told_faults result ≤ M.faults maker.new }
+    ensures lent { LentDoors M.hands_out M.takes_back (plan.now.workers * shared.now.providers) maker.old maker.new result }
     ensures truth_stays { M.is_true maker.old ↔ M.is_true maker.new }
     ensures plan_stays { (n : ℕ) (door : _) → M.makes maker.old n door ↔ M.makes maker.new n door }
 {

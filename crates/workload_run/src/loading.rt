@@ -1,14 +1,15 @@
 // A load, from a new store to its summary.
-ghost use Rattle.std.specs.Prelude.{◌≡◌, ◌≤◌, ◌<◌, ◌+◌, ◌-◌, ◌^◌, ◌↔◌, [], ℕ, IfOk, IfErr};
+ghost use Rattle.std.specs.Prelude.{◌≡◌, ◌≤◌, ◌<◌, ◌+◌, ◌-◌, ◌*◌, ◌^◌, ◌↔◌, [], ℕ, IfOk, IfErr};
 ghost use denote.Param.Send.{IsSync};
 ghost use Rattle.blob_model.specs.Limits.{greatest};
 ghost use Rattle.blob_model.specs.History.{IsLegal};
 ghost use Rattle.client_session.specs.Sessions.{IsOwnerOf};
+ghost use Rattle.store_sessions.specs.Lent.{LentDoors};
 ghost use Rattle.version_manager.specs.Log.{fixed_of};
 ghost use Rattle.workload_law.specs.Load.{IsSized, IsLoad};
 ghost use Rattle.workload_law.specs.Summed.{summary_of};
 ghost use Rattle.workload_run.specs.Updates.{told_faults};
-ghost use Rattle.workload_run.specs.Stages.{ClosesAs};
+ghost use Rattle.workload_run.specs.Stages.{ClosesAs, AreFinishedByOwn};
 ghost use Rattle.workload_run.specs.Loading.{load_fault, EndsEarly};
 
 use crate::crew::work_all;
@@ -69,6 +70,7 @@ where
     ensures none_out { owner.new.out ≡ 0 }
     ensures owner { IsOwnerOf shared.now owner.new }
     ensures doors { M.faults doors.new < 2 ^ 64 - 1 → M.faults doors.old + told_faults result ≤ M.faults doors.new }
+    ensures lent { LentDoors M.hands_out M.takes_back ((plan.now.workers + 2) * shared.now.providers) doors.old doors.new result }
     ensures truth_stays { M.is_true doors.old ↔ M.is_true doors.new }
     ensures plan_stays { (n : ℕ) (door : _) → M.makes doors.old n door ↔ M.makes doors.new n door }
 {
@@ -124,12 +126,15 @@ where
     ensures summary { IfOk result (λ r. r.0 ≡ summary_of plan) }
     ensures legal { IfOk result (λ r. IsLegal greatest r.1.history) }
     ensures loaded { IfOk result (λ r. IsLoad plan r.1.history) }
+    ensures finishes { IfOk result (λ r. AreFinishedByOwn plan r.1.history) }
     ensures fixed { IfOk result (λ r. fixed_of r.1 ≡ shared.fixed) }
 
     // Why it ended early.
     ensures early { IfErr result (λ fault. EndsEarly fault (M.faults doors.old) (M.faults doors.new)) }
 
-    // What the doors counted went to the maker, which makes the doors that it made before.
+    // The first session, each worker and the last session had a door to each provider, and all doors came back. What they counted
+    // went to the maker, which makes the doors that it made before.
+    ensures lent { LentDoors M.hands_out M.takes_back ((plan.workers + 2) * shared.providers) doors.old doors.new result }
     ensures doors { M.faults doors.new < 2 ^ 64 - 1 → M.faults doors.old ≤ M.faults doors.new }
     ensures truth_stays { M.is_true doors.old ↔ M.is_true doors.new }
     ensures plan_stays { (n : ℕ) (door : _) → M.makes doors.old n door ↔ M.makes doors.new n door }

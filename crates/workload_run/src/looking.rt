@@ -6,6 +6,7 @@ ghost use Rattle.blob_model.specs.Limits.{greatest};
 ghost use Rattle.request_form.specs.Answers.{max_read};
 ghost use Rattle.client_session.specs.Results.{read_reply};
 ghost use Rattle.client_session.specs.Sessions.{IsOwnerOf, session_of};
+ghost use Rattle.store_sessions.specs.Lent.{LentDoors};
 ghost use Rattle.workload_law.specs.Load.{IsSized};
 ghost use Rattle.workload_run.specs.Updates.{told_faults};
 ghost use Rattle.workload_run.specs.Stages.{LooksAs};
@@ -151,6 +152,7 @@ where
     ensures looks { LooksAs plan.now owner.old result owner.new }
     ensures owner { IsOwnerOf shared.now owner.new }
     ensures doors { M.faults maker.new < 2 ^ 64 - 1 → M.faults maker.old + told_faults result ≤ M.faults maker.new }
+    ensures lent { LentDoors M.hands_out M.takes_back shared.now.providers maker.old maker.new result }
     ensures truth_stays { M.is_true maker.old ↔ M.is_true maker.new }
     ensures plan_stays { (n : ℕ) (door : _) → M.makes maker.old n door ↔ M.makes maker.new n door }
 {

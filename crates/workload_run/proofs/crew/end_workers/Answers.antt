@@ -1,5 +1,6 @@
 use Rattle.std.proofs.Common.{◌≡◌, ◌∙◌, List, [], ◌∷◌, ◌++◌, ap, subst, sym, length, arith}
 use Rattle.std.specs.Prelude.{Some}
+use Rattle.store_sessions.proofs.Traffics.{none_gone, gone_more, all_gone}
 use Rattle.workload_run.specs.Workers.{WorkerState, IsOfStore, AreOfStore}
 use Rattle.workload_run.proofs.Crews.{Ending, none_ended, one_ended, each_last, stopped_by, goes_on_with, all_back, all_kept}
 use Rattle.workload_run.proofs.crew.end_workers.Goals as goal
@@ -8,6 +9,7 @@ pub loop-worker-init : goal.loop-worker-init
 loop-worker-init g c = record {
   ending = none_ended g.M.Door.Door.faults c.args.shared.now c.args.owner.now (g.M.DoorMaker.faults c.args.maker.now) c.args.workers.items c.requires.of_store;
   owner = c.requires.owner;
+  gone = none_gone g.M.DoorMaker.hands_out g.M.DoorMaker.takes_back c.args.shared.now.providers c.args.workers.len c.args.maker.now;
   plan_stays = λ n door. (λ h. h, λ h. h);
   truth_stays = (λ t. t, λ t. t);
 }
@@ -34,6 +36,8 @@ loop-worker-preserved-in-Err g c =
           one_ended g.M.Door.Door.faults c.args.shared.now c.args.owner.now c.loop-worker.owner c.end_session.new.owner (faults c.args.maker.now) (faults c.loop-worker.maker) (faults c.end_session.new.maker)
           c.args.workers.items c.pop.new.self.items one c.loop-worker.stop ending e.counts e.begins e.own e.before e.doors (Some c.in-Err.fault) (stopped_by one.told c.in-Err.fault c.loop-worker.stop c.in-Err.is);
       owner = e.owner;
+      gone = gone_more g.M.DoorMaker.hands_out g.M.DoorMaker.takes_back c.args.shared.now.providers c.args.workers.len c.loop-worker.workers.len c.pop.new.self.len c.args.maker.now c.loop-worker.maker
+          c.end_session.new.maker (sym c.in-Some.ensures.cases) i.gone e.taken_back;
       plan_stays = λ n door. (λ h. (e.plan_stays n door).0 ((i.plan_stays n door).0 h), λ h. (i.plan_stays n door).1 ((e.plan_stays n door).1 h));
       truth_stays = (λ t. e.truth_stays.0 (i.truth_stays.0 t), λ t. i.truth_stays.1 (e.truth_stays.1 t));
     }
@@ -54,6 +58,8 @@ loop-worker-preserved g c =
           c.args.workers.items c.pop.new.self.items one c.loop-worker.stop ending e.counts e.begins e.own e.before e.doors c.loop-worker.stop
           (goes_on_with one.told c.in_default-told.field-0 c.loop-worker.stop c.in_default-told.is);
       owner = e.owner;
+      gone = gone_more g.M.DoorMaker.hands_out g.M.DoorMaker.takes_back c.args.shared.now.providers c.args.workers.len c.loop-worker.workers.len c.pop.new.self.len c.args.maker.now c.loop-worker.maker
+          c.end_session.new.maker (sym c.in-Some.ensures.cases) i.gone e.taken_back;
       plan_stays = λ n door. (λ h. (e.plan_stays n door).0 ((i.plan_stays n door).0 h), λ h. (i.plan_stays n door).1 ((e.plan_stays n door).1 h));
       truth_stays = (λ t. e.truth_stays.0 (i.truth_stays.0 t), λ t. i.truth_stays.1 (e.truth_stays.1 t));
     }
@@ -67,3 +73,8 @@ pub returns-clause-kept : goal.returns-clause-kept
 returns-clause-kept g c =
     let none : length c.loop-worker.workers.items ≡ 0 = omega (arith, c.in_default.ensures.cases, c.loop-worker.workers.ok.0) in
     all_kept g.M.Door.Door.faults c.args.shared.now c.args.owner.now c.loop-worker.owner _ _ c.args.workers.items c.loop-worker.workers.items c.loop-worker.stop c.loop-worker.invariant.ending none
+
+pub returns-clause-taken_back : goal.returns-clause-taken_back
+returns-clause-taken_back g c =
+    all_gone g.M.DoorMaker.hands_out g.M.DoorMaker.takes_back c.args.shared.now.providers c.args.workers.len c.loop-worker.workers.len c.args.maker.now c.loop-worker.maker c.in_default.ensures.cases.0
+    c.loop-worker.invariant.gone

@@ -1,6 +1,8 @@
-use Rattle.std.proofs.Common.{◌≡◌, length, sym, arith}
+use Rattle.std.proofs.Common.{◌≡◌, ℕ, ◌*◌, length, sym, subst, arith}
 use Rattle.std.specs.Prelude.{sum_by}
+use Rattle.page_store.specs.Calls.{Traffic}
 use Rattle.request_form.specs.Replies.{page_faults}
+use Rattle.store_sessions.proofs.Traffics.{went_back}
 use Rattle.workload_run.specs.Workers.{counted_by}
 use Rattle.workload_run.proofs.Stores.{workable, crew_done, crew_stopped, counted_stop, rose_stop}
 use Rattle.workload_run.proofs.crew.work_all.Goals as goal
@@ -46,3 +48,25 @@ returns-in-None-clause-works g c =
     crew_done c.entries_are_events.ensures c.loads_close.ensures.own c.args.plan.now c.requires.sized g.M.Door.Door.faults c.args.shared.now c.requires.limits c.args.owner.now c.workers_of.new.owner
     c.end_workers.new.owner c.requires.opened c.in-Ok.ensures.given old.items new.items count same c.in-Ok.ensures.ready c.run_all-workers.ensures.run e.owner.log.tags e.back e.before e.kept_before e.kept
     e.made (omega (arith, e.out, count, same, new.ok.0)) e.seen (sym c.in-None.ensures.stop)
+
+pub returns-in-Some-clause-lent : goal.returns-in-Some-clause-lent
+returns-in-Some-clause-lent g c =
+    let hands_out = g.M.DoorMaker.hands_out in
+    let takes_back = g.M.DoorMaker.takes_back in
+    let p = c.args.shared.now.providers in
+    let all = c.args.plan.now.workers in
+    let same : c.run_all-workers.result.len ≡ all = omega (arith, c.run_all-workers.ensures.count, c.in-Ok.ensures.count) in
+    let taken : Traffic hands_out takes_back 0 (all * p) c.workers_of.new.maker c.end_workers.new.maker =
+    subst (λ (n : ℕ). Traffic hands_out takes_back 0 (n * p) c.workers_of.new.maker c.end_workers.new.maker) same c.end_workers.ensures.taken_back in
+    (all * p, went_back hands_out takes_back (all * p) c.args.maker.now c.workers_of.new.maker c.end_workers.new.maker c.in-Ok.ensures.handed_out taken)
+
+pub returns-in-None-clause-lent : goal.returns-in-None-clause-lent
+returns-in-None-clause-lent g c =
+    let hands_out = g.M.DoorMaker.hands_out in
+    let takes_back = g.M.DoorMaker.takes_back in
+    let p = c.args.shared.now.providers in
+    let all = c.args.plan.now.workers in
+    let same : c.run_all-workers.result.len ≡ all = omega (arith, c.run_all-workers.ensures.count, c.in-Ok.ensures.count) in
+    let taken : Traffic hands_out takes_back 0 (all * p) c.workers_of.new.maker c.end_workers.new.maker =
+    subst (λ (n : ℕ). Traffic hands_out takes_back 0 (n * p) c.workers_of.new.maker c.end_workers.new.maker) same c.end_workers.ensures.taken_back in
+    went_back hands_out takes_back (all * p) c.args.maker.now c.workers_of.new.maker c.end_workers.new.maker c.in-Ok.ensures.handed_out taken

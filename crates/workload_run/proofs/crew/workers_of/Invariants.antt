@@ -1,5 +1,6 @@
-use Rattle.std.proofs.Common.{◌≡◌, ℕ, ◌+◌, ◌-◌, ◌^◌, ◌<◌, ◌≤◌, vec_len}
+use Rattle.std.proofs.Common.{◌≡◌, ℕ, ◌+◌, ◌-◌, ◌*◌, ◌^◌, ◌<◌, ◌≤◌, vec_len}
 use Rattle.std.specs.Prelude.{vec_capacity, ◌↔◌}
+use Rattle.page_store.specs.Calls.{Traffic}
 use Rattle.client_session.specs.Sessions.{IsOwnerOf}
 use Rattle.workload_run.specs.Workers.{AreReady}
 use Rattle.workload_run.proofs.crew.workers_of.Given as goal
@@ -17,6 +18,7 @@ invariant-makes g l =
       few : l.count ≤ 16;
       given : l.owner ≡ record l.fn.owner { made = l.fn.owner.made + l.before; out = l.fn.owner.out + l.before };
       maker_true : is_true l.maker;
+      handed : Traffic g.M.DoorMaker.hands_out g.M.DoorMaker.takes_back (l.before * l.shared.providers) 0 l.fn.maker l.maker;
       doors : faults l.maker < 2 ^ 64 - 1 → faults l.fn.maker ≤ faults l.maker;
       plan_stays : (n : ℕ) (door : _) → g.M.DoorMaker.makes l.fn.maker n door ↔ g.M.DoorMaker.makes l.maker n door;
       truth_stays : is_true l.fn.maker ↔ is_true l.maker;

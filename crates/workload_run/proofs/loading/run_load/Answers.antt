@@ -1,3 +1,6 @@
+use Rattle.std.proofs.Common.{◌+◌, ◌*◌}
+use Rattle.page_store.proofs.CallsLemmas.{all_came_back_join}
+use Rattle.workload_run.proofs.Lents.{three_lent}
 use Rattle.workload_run.proofs.Endings.{closes_unopened, closes_stopped, closes_looked, closes_unseen}
 use Rattle.workload_run.proofs.loading.run_load.Goals as goal
 
@@ -15,10 +18,28 @@ pub returns-in-Ok-look_back-clause-closes : goal.returns-in-Ok-look_back-clause-
 returns-in-Ok-look_back-clause-closes g c =
     let x = c.loads_close.ensures in
     closes_looked c.entries_are_events.ensures c.args.plan.now c.requires.sized x.alone x.first c.open_store.new.owner c.in-Ok.ensures.opens x.none c.loads_read_back.ensures c.work_all.new.owner
-    c.look_back.new.owner c.in-Ok-work_all.ensures.works c.in-Ok-look_back.summary c.in-Ok-look_back.ensures.looks
+    c.look_back.new.owner c.in-Ok-work_all.ensures.works x.own x.idle c.in-Ok-look_back.summary c.in-Ok-look_back.ensures.looks
 
 pub returns-in-Err-look_back-clause-closes : goal.returns-in-Err-look_back-clause-closes
 returns-in-Err-look_back-clause-closes g c =
     let x = c.loads_close.ensures in
     closes_unseen c.entries_are_events.ensures c.args.plan.now c.requires.sized x.alone x.first c.open_store.new.owner c.in-Ok.ensures.opens x.none c.loads_read_back.ensures c.work_all.new.owner
     c.look_back.new.owner c.in-Ok-work_all.ensures.works c.in-Err-look_back.unseen c.in-Err-look_back.ensures.looks.1
+
+pub returns-in-Err-work_all-clause-lent : goal.returns-in-Err-work_all-clause-lent
+returns-in-Err-work_all-clause-lent g c =
+    all_came_back_join g.M.DoorMaker.hands_out g.M.DoorMaker.takes_back c.args.doors.now c.open_store.new.maker c.work_all.new.maker (c.args.shared.now.providers, c.in-Ok.ensures.lent) c.in-Err-work_all.ensures.lent
+
+pub returns-in-Ok-look_back-clause-lent : goal.returns-in-Ok-look_back-clause-lent
+returns-in-Ok-look_back-clause-lent g c =
+    three_lent g.M.DoorMaker.hands_out g.M.DoorMaker.takes_back c.args.shared.now.providers c.args.plan.now.workers c.args.doors.now c.open_store.new.maker c.work_all.new.maker c.look_back.new.maker
+    c.in-Ok.ensures.lent c.in-Ok-work_all.ensures.lent c.in-Ok-look_back.ensures.lent
+
+pub returns-in-Err-look_back-clause-lent : goal.returns-in-Err-look_back-clause-lent
+returns-in-Err-look_back-clause-lent g c =
+    let hands_out = g.M.DoorMaker.hands_out in
+    let takes_back = g.M.DoorMaker.takes_back in
+    let p = c.args.shared.now.providers in
+    all_came_back_join hands_out takes_back c.args.doors.now c.work_all.new.maker c.look_back.new.maker
+    (all_came_back_join hands_out takes_back c.args.doors.now c.open_store.new.maker c.work_all.new.maker (p, c.in-Ok.ensures.lent) (c.args.plan.now.workers * p, c.in-Ok-work_all.ensures.lent))
+    c.in-Err-look_back.ensures.lent
