@@ -1,4 +1,4 @@
-use Rattle.std.proofs.Common.{◌+◌, ◌*◌}
+use Rattle.std.proofs.Common.{◌*◌}
 use Rattle.page_store.proofs.CallsLemmas.{all_came_back_join}
 use Rattle.workload_run.proofs.Lents.{three_lent}
 use Rattle.workload_run.proofs.Endings.{closes_unopened, closes_stopped, closes_looked, closes_unseen}
