@@ -24,7 +24,8 @@ loop-session-preserved g c =
     record {
       idle = all_front (IsIdle c.args.shared.now) front one all;
       owner = e.owner;
-      gone = gone_more g.M.DoorMaker.hands_out g.M.DoorMaker.takes_back c.args.shared.now.providers c.args.sessions.len c.loop-session.sessions.len c.pop.new.self.len c.args.maker.now c.loop-session.maker
+      gone = gone_more g.M.DoorMaker.hands_out g.M.DoorMaker.takes_back c.args.shared.now.providers c.args.sessions.len c.loop-session.sessions.len c.pop.new.self.len
+          c.args.maker.now c.loop-session.maker
           c.end_session.new.maker (sym c.in-Some.ensures.cases) i.gone e.taken_back;
       made = ap (λ (o : OwnerView _ _). o.made) e.counts.1 ∙ i.made;
       out = omega (arith, e.counts.0, i.out, c.in-Some.ensures.cases);
@@ -36,7 +37,8 @@ loop-session-preserved g c =
 
 pub returns-clause-taken_back : goal.returns-clause-taken_back
 returns-clause-taken_back g c =
-    all_gone g.M.DoorMaker.hands_out g.M.DoorMaker.takes_back c.args.shared.now.providers c.args.sessions.len c.loop-session.sessions.len c.args.maker.now c.loop-session.maker c.in_default.ensures.cases.0
+    all_gone g.M.DoorMaker.hands_out g.M.DoorMaker.takes_back c.args.shared.now.providers c.args.sessions.len c.loop-session.sessions.len c.args.maker.now
+    c.loop-session.maker c.in_default.ensures.cases.0
     c.loop-session.invariant.gone
 
 pub loop-session-init : goal.loop-session-init

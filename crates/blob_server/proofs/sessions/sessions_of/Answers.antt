@@ -41,7 +41,8 @@ returns-in-Err-clause-all_back g c =
     let m = g.M.DoorMaker in
     let p = c.args.shared.now.providers in
     let back = subst (λ (n : ℕ). Traffic m.hands_out m.takes_back 0 (n * p) c.open_session.new.maker c.end_sessions.new.maker) c.loop.invariant.count c.end_sessions.ensures.taken_back in
-    came_back_around m.hands_out m.takes_back (c.loop.counter * p) c.args.maker.now c.loop.maker c.open_session.new.maker c.end_sessions.new.maker c.loop.invariant.handed c.in-Err.ensures.all_back back
+    came_back_around m.hands_out m.takes_back (c.loop.counter * p) c.args.maker.now c.loop.maker c.open_session.new.maker c.end_sessions.new.maker
+    c.loop.invariant.handed c.in-Err.ensures.all_back back
 
 pub loop-init : goal.loop-init
 loop-init g c = record {
