@@ -1,3 +1,4 @@
 pub mod Frames
 pub mod Idling
+pub mod Lents
 pub mod Taking

@@ -1,6 +1,7 @@
 -- How serving ends, by what the listener did in the call.
 use Rattle.std.specs.Prelude.{◌≡◌, ℕ, ◌+◌, ◌<◌, ◌≤◌, Bool, true, Option, Some, None, Result, Ok, Err}
 use Rattle.faults.specs.Counts.{RoseBy, count_after}
+use Rattle.page_store.specs.Calls.{Traffic, AllCameBack}
 use Rattle.blob_server.specs.declared.server.ServeFault.{ServeFault}
 use Rattle.blob_server.specs.declared.server.ServeFault.TheVariants as Faults
 
@@ -42,3 +43,9 @@ abbrev pub MakesPasses : ℕ → ℕ → ℕ → Result ℕ ServeFault → Type 
 MakesPasses workers old new (Ok peers) = new ≡ old + workers
 MakesPasses workers old new (Err Faults.Listener) = new ≡ old + workers
 MakesPasses workers old new (Err Faults.NoMemory) = (old ≤ new) × (new ≤ old + workers)
+
+-- So many doors were made and came back. Where no memory was found they may be fewer, and as many came back as were made.
+abbrev pub LendsDoors : {M : Type 0} → (hands_out takes_back : M → M → Type 0) → ℕ → M → M → Result ℕ ServeFault → Type 0
+LendsDoors hands_out takes_back doors first last (Ok peers) = Traffic hands_out takes_back doors doors first last
+LendsDoors hands_out takes_back doors first last (Err Faults.Listener) = Traffic hands_out takes_back doors doors first last
+LendsDoors hands_out takes_back doors first last (Err Faults.NoMemory) = AllCameBack hands_out takes_back first last

@@ -1,8 +1,8 @@
 // The server.
-ghost use Rattle.std.specs.Prelude.{◌≡◌, ◌≤◌, ◌<◌, ◌+◌, ◌-◌, ◌^◌, ◌↔◌, ℕ, true, IfErr};
+ghost use Rattle.std.specs.Prelude.{◌≡◌, ◌≤◌, ◌<◌, ◌+◌, ◌-◌, ◌*◌, ◌^◌, ◌↔◌, ℕ, true, IfErr};
 ghost use Rattle.turn_lock.specs.History.{Begins};
 ghost use Rattle.client_session.specs.Sessions.{IsOwnerOf};
-ghost use Rattle.blob_server.specs.Serving.{EndsAs, MakesPasses};
+ghost use Rattle.blob_server.specs.Serving.{EndsAs, MakesPasses, LendsDoors};
 ghost use Rattle.blob_server.specs.declared.server.ServeFault.TheVariants as Faults;
 
 use crate::desk::Desk;
@@ -75,7 +75,9 @@ where
     ensures seen { Begins owner.old.seen owner.new.seen }
     ensures owner { IsOwnerOf shared.now owner.new }
 
-    // What the doors counted went to the maker, which makes the doors that it made before.
+    // Each worker had a door to each provider, and all doors came back. What they counted went to the maker, which makes the doors that
+    // it made before.
+    ensures lent { LendsDoors M.hands_out M.takes_back (workers * shared.now.providers) doors.old doors.new result }
     ensures doors { M.faults doors.new < 2 ^ 64 - 1 → M.faults doors.old ≤ M.faults doors.new }
     ensures truth_stays { M.is_true doors.old ↔ M.is_true doors.new }
     ensures plan_stays { (n : ℕ) (door : _) → M.makes doors.old n door ↔ M.makes doors.new n door }

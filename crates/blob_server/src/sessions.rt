@@ -1,5 +1,6 @@
 // The sessions of the workers: made before the first peer is taken, and ended after the last one.
-ghost use Rattle.std.specs.Prelude.{◌≡◌, ◌≤◌, ◌<◌, ◌+◌, ◌-◌, ◌^◌, ◌↔◌, ℕ, min, length, All, IfOk, OnOk, OnErr, IfErr, sum_by, vec_len};
+ghost use Rattle.std.specs.Prelude.{◌≡◌, ◌≤◌, ◌<◌, ◌+◌, ◌-◌, ◌*◌, ◌^◌, ◌↔◌, ℕ, min, length, All, IfOk, OnOk, OnErr, IfErr, sum_by, vec_len};
+ghost use Rattle.page_store.specs.Calls.{Traffic, AllCameBack};
 ghost use Rattle.turn_lock.specs.History.{Begins};
 ghost use Rattle.client_session.specs.Sessions.{IsOwnerOf};
 ghost use Rattle.blob_server.specs.Peers.{IsIdle, faults_of_doors};
@@ -32,6 +33,8 @@ pub(crate) fn sessions_of<'a, M: DoorMaker, G: Gate>(
     ensures seen { Begins owner.old.seen owner.new.seen }
     ensures owner { IsOwnerOf shared.now owner.new }
     ensures doors { M.faults maker.new < 2 ^ 64 - 1 → M.faults maker.old ≤ M.faults maker.new }
+    ensures handed_out { OnOk result (Traffic M.hands_out M.takes_back (workers * shared.now.providers) 0 maker.old maker.new) }
+    ensures all_back { OnErr result (AllCameBack M.hands_out M.takes_back maker.old maker.new) }
     ensures truth_stays { M.is_true maker.old ↔ M.is_true maker.new }
     ensures plan_stays { (n : ℕ) (door : _) → M.makes maker.old n door ↔ M.makes maker.new n door }
 {
@@ -64,6 +67,7 @@ pub(crate) fn end_sessions<M: DoorMaker, G: Gate>(
     ensures seen { Begins owner.old.seen owner.new.seen }
     ensures owner { IsOwnerOf shared.now owner.new }
     ensures doors { min (M.faults maker.old + sum_by (faults_of_doors M.Door.faults) sessions.entry.items) (2 ^ 64 - 1) ≤ M.faults maker.new }
+    ensures taken_back { Traffic M.hands_out M.takes_back 0 (vec_len sessions.entry * shared.now.providers) maker.old maker.new }
     ensures truth_stays { M.is_true maker.old ↔ M.is_true maker.new }
     ensures plan_stays { (n : ℕ) (door : _) → M.makes maker.old n door ↔ M.makes maker.new n door }
 {

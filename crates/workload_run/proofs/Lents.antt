@@ -1,5 +1,5 @@
 -- The doors of a load's three stages.
-use Rattle.std.proofs.Common.{◌≡◌, ℕ, zero, suc, ◌+◌, ◌*◌, arith}
+use Rattle.std.proofs.Common.{◌≡◌, ℕ, suc, ◌+◌, ◌*◌, arith}
 use Rattle.std.proofs.Math.Nat.{suc-mul}
 use Rattle.page_store.specs.Calls.{Traffic}
 use Rattle.store_sessions.proofs.Traffics.{traffic_both}

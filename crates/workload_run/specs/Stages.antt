@@ -110,7 +110,7 @@ LooksAs plan old (Err fault) new = (new.out ≡ old.out) × (IsOutside fault ⊎
 
 -- ---- all of them
 
--- Each worker finished its own updates alone, and so did the first session.
+-- The first session and each worker finished only what they had numbered themselves.
 abbrev pub AreFinishedByOwn : LoadPlan → List Event → Type 0
 AreFinishedByOwn plan history = (caller : ℕ) → 1 ≤ caller → caller ≤ plan.workers + 1 → FinishesItsOwn greatest history caller
 

@@ -1,9 +1,18 @@
-use Rattle.std.proofs.Common.{◌≡◌, ◌∙◌, List, length, subst, arith}
+use Rattle.std.proofs.Common.{◌≡◌, ◌∙◌, List, length, refl, subst, arith}
 use Rattle.std.specs.List.{All}
+use Rattle.page_store.specs.Calls.{no_door}
 use Rattle.client_session.specs.Sessions.{SessionState}
 use Rattle.blob_server.specs.Peers.{IsIdle}
 use Rattle.blob_server.proofs.Idling.{all_front, last_of, own_store, idle_still}
+use Rattle.blob_server.proofs.Lents.{all_lent}
 use Rattle.blob_server.proofs.server.serve.Goals as goal
+
+pub work_all-taken-requires-clause-first : goal.work_all-taken-requires-clause-first
+work_all-taken-requires-clause-first g c κs within =
+    let store = c.args.shared.now in
+    let all = subst (λ (l : List (SessionState _)). All (IsIdle store) l) c.in-Some.ensures.items c.in-Ok-sessions_of.ensures.idle in
+    let i = last_of (IsIdle store) c.pop.new.self.items c.in-Some.first all in
+    record { of_store = refl; none_held = i.none_held; first_next = i.first_next; first_limit = i.first_limit }
 
 pub work_all-taken-requires-clause-others : goal.work_all-taken-requires-clause-others
 work_all-taken-requires-clause-others g c κs within =
@@ -40,3 +49,20 @@ returns-clause-plan_stays g c n door =
     let one = c.end_session.ensures.plan_stays n door in
     let all = c.end_sessions.ensures.plan_stays n door in
     (λ h. all.0 (one.0 (made.0 h)), λ h. made.1 (one.1 (all.1 h)))
+
+pub returns-in_default-clause-lent : goal.returns-in_default-clause-lent
+returns-in_default-clause-lent g c = (0, no_door)
+
+pub returns-in-Some-taken-clause-lent : goal.returns-in-Some-taken-clause-lent
+returns-in-Some-taken-clause-lent g c =
+    let w = c.work_all-taken.ensures in
+    all_lent g.M.DoorMaker.hands_out g.M.DoorMaker.takes_back c.args.shared.now.providers c.args.workers c.work_all-taken.result.2.len c.args.doors.now c.sessions_of.new.maker c.end_session.new.maker
+    c.end_sessions.new.maker (omega (arith, w.count, c.in-Some.ensures.cases, c.in-Ok-sessions_of.ensures.count)) c.in-Ok-sessions_of.ensures.handed_out c.end_session.ensures.taken_back
+    c.end_sessions.ensures.taken_back
+
+pub returns-clause-lent : goal.returns-clause-lent
+returns-clause-lent g c =
+    let w = c.work_all-taken.ensures in
+    all_lent g.M.DoorMaker.hands_out g.M.DoorMaker.takes_back c.args.shared.now.providers c.args.workers c.work_all-taken.result.2.len c.args.doors.now c.sessions_of.new.maker c.end_session.new.maker
+    c.end_sessions.new.maker (omega (arith, w.count, c.in-Some.ensures.cases, c.in-Ok-sessions_of.ensures.count)) c.in-Ok-sessions_of.ensures.handed_out c.end_session.ensures.taken_back
+    c.end_sessions.ensures.taken_back

@@ -2,6 +2,7 @@ use Rattle.std.proofs.Common.{◌≡◌, ℕ, ◌+◌, ◌-◌, ◌^◌, ◌≤�
 use Rattle.std.specs.Prelude.{All, sum_by, ◌↔◌}
 use Rattle.turn_lock.specs.History.{Begins}
 use Rattle.client_session.specs.Sessions.{IsOwnerOf}
+use Rattle.store_sessions.proofs.Traffics.{HaveGone}
 use Rattle.blob_server.specs.Peers.{IsIdle, faults_of_doors}
 use Rattle.blob_server.proofs.sessions.end_sessions.Given as goal
 
@@ -13,6 +14,7 @@ invariant-loop-session g l =
     record {
       idle : All (IsIdle l.shared) l.sessions.items;
       owner : IsOwnerOf l.shared l.owner;
+      gone : HaveGone g.M.DoorMaker.hands_out g.M.DoorMaker.takes_back l.shared.providers (vec_len l.fn.sessions) (vec_len l.sessions) l.fn.maker l.maker;
       made : l.owner.made ≡ l.fn.owner.made;
       out : l.fn.owner.out + vec_len l.sessions ≡ l.owner.out + vec_len l.fn.sessions;
       seen : Begins l.fn.owner.seen l.owner.seen;

@@ -1,5 +1,6 @@
-use Rattle.std.proofs.Common.{◌≡◌, ℕ, ◌+◌, ◌-◌, ◌^◌, ◌<◌, ◌≤◌, vec_len}
+use Rattle.std.proofs.Common.{◌≡◌, ℕ, ◌+◌, ◌-◌, ◌*◌, ◌^◌, ◌<◌, ◌≤◌, vec_len}
 use Rattle.std.specs.Prelude.{All, vec_capacity, ◌↔◌}
+use Rattle.page_store.specs.Calls.{Traffic}
 use Rattle.turn_lock.specs.History.{Begins}
 use Rattle.client_session.specs.Sessions.{IsOwnerOf}
 use Rattle.blob_server.specs.Peers.{IsIdle}
@@ -19,6 +20,7 @@ invariant-loop g l =
       out : l.owner.out ≡ l.fn.owner.out + l.counter;
       seen : Begins l.fn.owner.seen l.owner.seen;
       maker_true : is_true l.maker;
+      handed : Traffic g.M.DoorMaker.hands_out g.M.DoorMaker.takes_back (l.counter * l.shared.providers) 0 l.fn.maker l.maker;
       doors : faults l.maker < 2 ^ 64 - 1 → faults l.fn.maker ≤ faults l.maker;
       plan_stays : (n : ℕ) (door : _) → g.M.DoorMaker.makes l.fn.maker n door ↔ g.M.DoorMaker.makes l.maker n door;
       truth_stays : is_true l.fn.maker ↔ is_true l.maker;

@@ -44,7 +44,8 @@ returns-in-Err-clause-all_back g c =
     let m = g.M.DoorMaker in
     let p = c.args.shared.now.providers in
     let back = subst (λ (n : ℕ). Traffic m.hands_out m.takes_back 0 (n * p) c.open_session.new.maker c.end_workers.new.maker) c.makes.invariant.made c.end_workers.ensures.taken_back in
-    came_back_around m.hands_out m.takes_back (c.makes.before * p) c.args.maker.now c.makes.maker c.open_session.new.maker c.end_workers.new.maker c.makes.invariant.handed c.in-Err.ensures.all_back back
+    came_back_around m.hands_out m.takes_back (c.makes.before * p) c.args.maker.now c.makes.maker c.open_session.new.maker c.end_workers.new.maker
+    c.makes.invariant.handed c.in-Err.ensures.all_back back
 
 pub makes-init : goal.makes-init
 makes-init g c = record {

@@ -1,4 +1,4 @@
-use Rattle.std.proofs.Common.{◌+◌, ◌*◌}
+use Rattle.std.proofs.Common.{◌*◌}
 use Rattle.page_store.proofs.CallsLemmas.{all_came_back_join}
 use Rattle.workload_run.proofs.Lents.{three_lent}
 use Rattle.workload_run.proofs.Endings.{closes_unopened, closes_stopped, closes_looked, closes_unseen}
@@ -28,7 +28,8 @@ returns-in-Err-look_back-clause-closes g c =
 
 pub returns-in-Err-work_all-clause-lent : goal.returns-in-Err-work_all-clause-lent
 returns-in-Err-work_all-clause-lent g c =
-    all_came_back_join g.M.DoorMaker.hands_out g.M.DoorMaker.takes_back c.args.doors.now c.open_store.new.maker c.work_all.new.maker (c.args.shared.now.providers, c.in-Ok.ensures.lent) c.in-Err-work_all.ensures.lent
+    all_came_back_join g.M.DoorMaker.hands_out g.M.DoorMaker.takes_back c.args.doors.now c.open_store.new.maker c.work_all.new.maker
+    (c.args.shared.now.providers, c.in-Ok.ensures.lent) c.in-Err-work_all.ensures.lent
 
 pub returns-in-Ok-look_back-clause-lent : goal.returns-in-Ok-look_back-clause-lent
 returns-in-Ok-look_back-clause-lent g c =
