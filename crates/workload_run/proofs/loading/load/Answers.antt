@@ -24,12 +24,12 @@ pub returns-in-Ok-told-clause-loaded : goal.returns-in-Ok-told-clause-loaded
 returns-in-Ok-told-clause-loaded g c =
     let x = c.in-Ok.ensures in
     let told = told_of c.args.shared.fixed c.args.plan c.in-Ok-told.summary c.run_load-told.new.owner c.in-Ok.desk.history c.requires.limits
-        c.run_load-told.ensures.owner.log c.in-Ok-told.ensures.closes x.history x.no_other in
+    c.run_load-told.ensures.owner.log c.in-Ok-told.ensures.closes x.history x.no_other in
     told.1
 
 pub returns-in-Ok-told-clause-finishes : goal.returns-in-Ok-told-clause-finishes
 returns-in-Ok-told-clause-finishes g c =
     let x = c.in-Ok.ensures in
     let told = told_of c.args.shared.fixed c.args.plan c.in-Ok-told.summary c.run_load-told.new.owner c.in-Ok.desk.history c.requires.limits
-        c.run_load-told.ensures.owner.log c.in-Ok-told.ensures.closes x.history x.no_other in
+    c.run_load-told.ensures.owner.log c.in-Ok-told.ensures.closes x.history x.no_other in
     told.2
