@@ -4,9 +4,13 @@ use Rattle.std.specs.Prelude.{nat_lt}
 use Rattle.std.proofs.lemmas.Option.{none-some}
 use Rattle.item_stream.specs.Rounds.{Rounds, sum_rounds}
 use Rattle.blob_model.specs.Content.{size_of}
-use Rattle.blob_model.specs.Store.{published}
+use Rattle.blob_model.specs.Store as Stores
+use Rattle.blob_model.specs.Store.{Blob, published}
+use Rattle.blob_model.specs.Answer as Answer
+use Rattle.blob_model.specs.Answer.{refuse}
 use Rattle.blob_model.specs.declared.call.Call.TheVariants as Calls
 use Rattle.blob_model.specs.declared.call.Outcome.TheVariants as Outcomes
+use Rattle.blob_model.specs.declared.call.Refusal.TheVariants as Refusals
 use Rattle.request_form.specs.Session.{Session, HeldTicket, IsNobody, sees, store_at, outcome_at, ticket_at}
 use Rattle.request_form.specs.Answers.{Unless, OutOfMemory, CreateAnswer, UpdateAnswer, ReadAnswer, FinishHindered, ReportAnswer, FinishAnswer, Answers, update_fault, read_fault, max_read, max_tickets}
 use Rattle.request_form.specs.Replies.{reply_of, page_faults}
@@ -36,7 +40,6 @@ use Rattle.file_text.specs.declared.form.FileHeard.{FileHeard}
 use Rattle.file_text.specs.declared.form.FileHeard.TheVariants.{Asked, Wrong}
 use Rattle.file_layer.specs.Files.{Files, nobody, with_names, with_store, LooksAtNames, AsksStore, AsksOf, OnBlob, MakesFile, OnFree, OnRecent, OnStat, WhereAnswer, FileItemReply, enter_refused, find_refused, recent_reply, store_fault}
 use Rattle.file_layer.specs.Faults.{file_fault_count, found_faults, file_item_faults}
-use Rattle.file_layer.proofs.Recents.{by_blob}
 
 -- ---- a line and a reply that changes nothing
 
@@ -160,10 +163,14 @@ on_free f path (Some fault) = record { reply = enter_refused path fault; answer 
 
 -- what is told of a last version is no fault of the outside
 recent_part : (f : Files) (blob : ℕ) → Part (λ reply. recent_reply blob (reply_of (outcome_at f.store [] (Calls.Recent blob))) ≡ Some reply) file_fault_count
-recent_part f blob =
-    by_blob (λ a. Part (λ reply. recent_reply blob (reply_of a.1) ≡ Some reply) file_fault_count) (store_at f.store []) blob
-    (λ b. (store_at f.store [], Outcomes.Recent (published b) (size_of b.updates (published b)))) (record { reply = store_fault (Faults.NoBlob blob); answer = refl; calm = refl })
-    (λ b. record { reply = Says.FileIs blob (published b) (size_of b.updates (published b)); answer = refl; calm = refl })
+recent_part f blob = found (Stores.blob_at (store_at f.store []) blob)
+  where
+    found : (o : Option Blob) → (λ (a : Answer.Answered). Part (λ reply. recent_reply blob (reply_of a.1) ≡ Some reply) file_fault_count) (elim o [
+      | None ↦ refuse (store_at f.store []) (Refusals.NoBlob blob)
+      | Some b ↦ (store_at f.store [], Outcomes.Recent (published b) (size_of b.updates (published b)))
+    ])
+    found None = record { reply = store_fault (Faults.NoBlob blob); answer = refl; calm = refl }
+    found (Some b) = record { reply = Says.FileIs blob (published b) (size_of b.updates (published b)); answer = refl; calm = refl }
 
 on_stat : (f : Files) (path : List ℕ) (o : Option Stat) → Part (λ reply. OnStat nobody path f o reply f) file_fault_count
 on_stat f path None = record { reply = Says.Refused (FileFaults.NoName path); answer = (refl, refl); calm = refl }

@@ -154,20 +154,20 @@ module _ (law : OwnIsAlone) (made : OwnEventsAreMade) (fixed : Fixed) (providers
       did_with Ends.Quit s [] Statuses.Done net (quit Ends.Quit s s.named.lines.served.conversed.reaches e.0.0 e.1 e.0.1)
   did Ends.InputEnd s r w net =
       let e = s.named.lines.served.conversed.ended in
-      did_with Ends.InputEnd s [] Statuses.Done net (Ended.finished refl e.3 s.named.lines.served.conversed.closing e.2 refl (says_all Ends.InputEnd s _ (files_well _) e.0.0 e.0.1))
+      did_with Ends.InputEnd s [] Statuses.Done net (Ended.finished refl e.3 s.named.lines.served.conversed.closing e.2 refl (says_all Ends.InputEnd s _ (files_well s.named.lines.served.conversed.taken) e.0.0 e.0.1))
   did Ends.Cut s r w net =
       let no : true ≡ false = sym s.named.lines.served.conversed.ended.2 ∙ files_not_cut s.named.lines.served.conversed.taken in
       absurd (false≢true (sym no))
   did Ends.ReadFault s r w net =
       let e = s.named.lines.served.conversed.ended in
-      did_with Ends.ReadFault s [] Statuses.ReadFault net (Ended.unread refl e.2 r e.1 refl (says_all Ends.ReadFault s _ (whole_files_well _) e.0.0 e.0.1))
+      did_with Ends.ReadFault s [] Statuses.ReadFault net (Ended.unread refl e.2 r e.1 refl (says_all Ends.ReadFault s _ (whole_files_well s.named.lines.served.conversed.taken) e.0.0 e.0.1))
   did Ends.WriteFault s r w net =
       let e = s.named.lines.served.conversed.ended in
       let u = unwritten Ends.WriteFault s (front_of Ends.WriteFault s s.named.lines.served.conversed.reaches e.0) w e.1 in
       did_with Ends.WriteFault s u.0 Statuses.WriteFault net u.1
   did Ends.InputTooLong s r w net =
       let e = s.named.lines.served.conversed.ended in
-      did_with Ends.InputTooLong s [] Statuses.InputTooLong net (Ended.too_long refl e.2 e.1 refl (says_all Ends.InputTooLong s _ (whole_files_well _) e.0.0 e.0.1))
+      did_with Ends.InputTooLong s [] Statuses.InputTooLong net (Ended.too_long refl e.2 e.1 refl (says_all Ends.InputTooLong s _ (whole_files_well s.named.lines.served.conversed.taken) e.0.0 e.0.1))
   did Ends.NoMemory s r w net =
       let u = starved Ends.NoMemory s (front_of Ends.NoMemory s s.named.lines.served.conversed.reaches s.named.lines.served.conversed.ended) in
       did_with Ends.NoMemory s u.0 Statuses.OutOfMemory net u.1

@@ -14,3 +14,5 @@ pub mod Statuses
 pub mod Names
 pub mod PeersServed
 pub mod Measures
+pub mod Loads
+pub mod Watches

@@ -1,7 +1,7 @@
 // A load is run over a new store.
 ghost use Rattle.std.specs.Prelude.{◌≡◌, ◌↔◌};
 ghost use Rattle.blobseer_run.specs.Outside.{NoneFell};
-ghost use Rattle.blobseer_run.specs.Loading.{plan_of, DidLoad};
+ghost use Rattle.blobseer_run.specs.Loading.{plan_of, status_of, DidLoad};
 ghost use Rattle.blobseer_run.specs.Status.{code_of};
 
 use crate::objects::{Objects, Standing};
@@ -21,6 +21,16 @@ use std::sync::Wait;
 use std::thread::Threads;
 use workload_law::{LoadPlan, lines};
 use workload_run::{LoadFault, load};
+
+// How a load ends that was ended early.
+fn status_of(fault: LoadFault) -> Status
+    ensures { result ≡ status_of fault }
+{
+    match fault {
+        LoadFault::Refused(_) => Status::LoadEndedEarly,
+        LoadFault::NoMemory => Status::OutOfMemory,
+    }
+}
 
 /// The command `load`: runs the load of these settings over a new store with the greatest limits, and writes what it came to.
 /// The store is closed before that, and the doors are with their maker again.
@@ -62,7 +72,6 @@ where
             mem::forget(desk);
             tell_lines(lines(alloc, &plan, &summary), objects.out)
         }
-        Err(LoadFault::Refused(_)) => Status::LoadEndedEarly,
-        Err(LoadFault::NoMemory) => Status::OutOfMemory,
+        Err(fault) => status_of(fault),
     }
 }

@@ -1,7 +1,7 @@
 // A watch is run over a new store.
 ghost use Rattle.std.specs.Prelude.{◌≡◌, ◌↔◌};
 ghost use Rattle.blobseer_run.specs.Outside.{NoneFell};
-ghost use Rattle.blobseer_run.specs.Watching.{plan_of, DidWatch};
+ghost use Rattle.blobseer_run.specs.Watching.{plan_of, status_of, DidWatch};
 ghost use Rattle.blobseer_run.specs.Status.{code_of};
 
 use crate::objects::{Objects, Standing};
@@ -21,6 +21,16 @@ use std::sync::Wait;
 use std::thread::Threads;
 use watch_law::{WatchPlan, lines};
 use watch_run::{WatchFault, watch};
+
+// How a watch ends that was ended early.
+fn status_of(fault: WatchFault) -> Status
+    ensures { result ≡ status_of fault }
+{
+    match fault {
+        WatchFault::Refused(_) => Status::LoadEndedEarly,
+        WatchFault::NoMemory => Status::OutOfMemory,
+    }
+}
 
 /// The command `watch`: runs the watch of these settings over a new store with the greatest limits, and writes what it came to.
 /// The store is closed before that, and the doors are with their maker again.
@@ -62,7 +72,6 @@ where
             mem::forget(desk);
             tell_lines(lines(alloc, &plan, &summary), objects.out)
         }
-        Err(WatchFault::Refused(_)) => Status::LoadEndedEarly,
-        Err(WatchFault::NoMemory) => Status::OutOfMemory,
+        Err(fault) => status_of(fault),
     }
 }

@@ -2,7 +2,8 @@ use Rattle.std.proofs.Common.{refl, ap}
 use Rattle.settings.specs.Values.{SettingsValues}
 use Rattle.workload_law.specs.Said.{said}
 use Rattle.blobseer_run.specs.Loading.{plan_of, load_lines}
-use Rattle.blobseer_run.proofs.Measures.{whole_there, starved_there, early_there, at_lines}
+use Rattle.blobseer_run.proofs.Measures.{whole_there, starved_there, at_lines}
+use Rattle.blobseer_run.proofs.Loads.{load_early}
 use Rattle.blobseer_run.proofs.loading.run_load.Goals as goal
 
 pub returns-in_default-clause-did : goal.returns-in_default-clause-did
@@ -15,8 +16,5 @@ returns-in-Ok-load-clause-did g c =
     at_lines _ _ _ _ _ (ap (λ (s : SettingsValues). load_lines (plan_of s)) c.settings.view_is)
     (whole_there _ _ _ (record { given = refl; left = refl; reads = refl; ends = refl }) refl _ _ lines told)
 
-pub returns-in-Refused-clause-did : goal.returns-in-Refused-clause-did
-returns-in-Refused-clause-did g c = early_there _ _ _ (record { given = refl; left = refl; reads = refl; ends = refl }) refl refl c.in-Refused.ensures.early.rose
-
-pub returns-in-NoMemory-clause-did : goal.returns-in-NoMemory-clause-did
-returns-in-NoMemory-clause-did g c = starved_there _ _ _ (record { given = refl; left = refl; reads = refl; ends = refl }) refl refl
+pub returns-in-Err-clause-did : goal.returns-in-Err-clause-did
+returns-in-Err-clause-did g c = load_early _ _ _ (record { given = refl; left = refl; reads = refl; ends = refl }) refl refl c.in-Err.fault _ c.status_of.ensures c.in-Err.ensures.early
