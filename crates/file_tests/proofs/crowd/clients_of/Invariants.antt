@@ -1,0 +1,6 @@
+use Rattle.std.proofs.Common.{◌≡◌}
+use Rattle.client_session.specs.Sessions.{IsOwnerOf}
+use Rattle.file_tests.proofs.crowd.clients_of.Given as goal
+
+abbrev pub invariant-loop-number : goal.invariant-loop-number
+invariant-loop-number g l = IsOwnerOf l.shared l.owner × (l.names.lock ≡ l.turn)
