@@ -6,7 +6,7 @@ use crate::store::{new_session, new_store};
 use blob_model::Bytes;
 use client_session::{Owner, Shared};
 use file_layer::FileSession;
-use file_names::{Names, Path};
+use file_names::{Entered, Named, Names, Path};
 use file_text::{FileFault, FileLine, FileReply};
 use page_store::PlainDoor;
 use ports::gate::FreeGate;
@@ -15,7 +15,7 @@ use std::process::Abort;
 use std::sync::Wait;
 use std::thread;
 use std::thread::Threads;
-use turn_lock::Turn;
+use turn_lock::{Act, Turn};
 
 // How many sessions there are, how many lines each says, and how many files they know.
 const CLIENTS: u8 = 16;
@@ -306,6 +306,47 @@ fn check_file<R: Threads + Wait + Sync + Abort>(
     assert_eq!(rt; size, content.len() as u64);
 }
 
+// Whether an entry of the names is that of the file that was made.
+fn tells(entered: &Entered, made: Option<&Made>) -> bool {
+    let Some(made) = made else {
+        return false;
+    };
+    let digit = entered.path.as_slice().get(2);
+    entered.named == Named::File(made.blob) && digit == Some(&(b'0' + (made.file % FILES) as u8))
+}
+
+// Whether what a session was told that it made stands in the names' history, each once, in that order, and nothing else of its own.
+fn stands_once(history: &[(u32, Entered)], client: &Client<'_>) -> bool {
+    let mut made = client.made.iter();
+    for (caller, entered) in history {
+        if *caller == u32::from(client.number) + 1 && !tells(entered, made.next()) {
+            return false;
+        }
+    }
+    made.next().is_none()
+}
+
+// Plays what the sessions were told against the names' history.
+struct Told<'a> {
+    clients: &'a [Client<'a>],
+}
+
+impl Act<Names> for Told<'_> {
+    type Answer = bool;
+
+    ghost ready = { λ _ _ _. Unit {0} };
+
+    ghost gives = { λ _ _ _ _ _ _. Unit {0} };
+
+    fn act(self, state: &mut Names, _caller: u32) -> bool {
+        let Told { clients } = self;
+        let history = state.history();
+        clients.iter().all(|client| stands_once(history, client))
+    }
+
+    ghost stays_ready = { λ _ _ _ _ _. tt };
+}
+
 #[test]
 fn sixteen_file_sessions_make_files_and_append(rt: HostRuntime) {
     let alloc = rt.alloc();
@@ -320,4 +361,7 @@ fn sixteen_file_sessions_make_files_and_append(rt: HostRuntime) {
     for file in 0..FILES {
         check_file(&rt, alloc, &mut reader, clients.as_slice(), file);
     }
+    let mut pass = names.pass(&turn).expect(&rt, "a pass");
+    let clients = clients.as_slice();
+    assert!(rt; turn.with_turn(&rt, &mut pass, Told { clients }));
 }
