@@ -12,5 +12,6 @@ pub mod Counts
 pub mod Depths
 pub mod Folds
 pub mod Growth
+pub mod Doublings
 pub mod Positions
 pub mod Opens

@@ -3,13 +3,13 @@ use Rattle.std.proofs.Common.{◌≡◌, ◌⊎◌, ℕ, ◌+◌, ◌-◌, ◌*�
 use Rattle.std.specs.List.{Contains}
 use Rattle.std.specs.Prelude.{Some, slice_get}
 use Rattle.std.proofs.lemmas.Bool.{cases_lt}
-use Rattle.std.proofs.lemmas.Nat.{mul-le, pow_pos}
+use Rattle.std.proofs.lemmas.Nat.{mul-le, pow_pos, pow-add, shr-shr}
 use Rattle.std.proofs.lemmas.Option.{slice_get-get_or}
 use Rattle.std.proofs.lemmas.List.{get_or_append_left, get_or-append-add}
 use Rattle.std.proofs.lemmas.List.FromFn.{length-map-range_with_len, get_or-map-range_with_len}
 use Rattle.tree_geom.specs.declared.range.Range.{Range}
 use Rattle.tree_geom.specs.declared.touch.Touch.{Touch}
-use Rattle.tree_geom.specs.Geometry.{tree_range}
+use Rattle.tree_geom.specs.Geometry.{tree_range, IsPageSize}
 use Rattle.range_log.specs.Rows.{level_of, levels_of}
 use Rattle.range_log.specs.Positions.{IsLevelOf, NoLevelHas}
 use Rattle.range_log.proofs.Exact.{from_levels, met_by_pages, powers}
@@ -199,29 +199,60 @@ reached_fits p t height bytes level wide from to upto pos page few ordered fits 
       rw (r.first, r.width) begin,
     )
 
-pub reached_level : (p : ℕ) (t : Touch) (height bytes level wide from to upto : ℕ) → Reached p t height bytes level wide from to upto → wide ≡ bytes
-    → IsLevelOf p t height level bytes from to upto
-reached_level p t height bytes level wide from to upto r same = record {
-  low = r.low;
-  size = sym same ∙ r.width;
-  first = r.first;
-  last = r.last;
-  count = r.count;
-}
+-- from a level on where the touched pages lie in one range, each level has one range more
+count-alone : (p : ℕ) (t : Touch) (level rest : ℕ) → t.first / 2 ^ level ≡ t.last / 2 ^ level
+    → length (levels_of p t (level + rest + 1)) ≡ length (levels_of p t (level + 1)) + rest
+count-alone p t level zero one = let e : level + 0 + 1 ≡ level + 1 = omega arith in rw e (omega arith)
+count-alone p t level (suc rest) one =
+    let n : ℕ = level + suc rest in
+    let same : t.first / 2 ^ n ≡ t.last / 2 ^ n = sym (shr-shr t.first level (suc rest)) ∙ ap (λ x. x / 2 ^ suc rest) one ∙ shr-shr t.last level (suc rest) in
+    let below : length (levels_of p t n) ≡ length (levels_of p t (level + rest + 1)) = ap (λ k. length (levels_of p t k)) (let e : n ≡ level + rest + 1 = omega arith in e) in
+    ap (λ k. length (levels_of p t k)) (one_more n) ∙ omega (arith, count-suc p t n, same, below, count-alone p t level rest one)
 
-pub reached_none : (p : ℕ) (t : Touch) (height bytes level wide from to upto : ℕ) → 1 ≤ p → Reached p t height bytes level wide from to upto → ¬ (wide ≡ bytes)
-    → (bytes ≤ wide) ⊎ (height ≤ level) → NoLevelHas p height bytes
-reached_none p t height bytes level wide from to upto pos r other end h low size =
-    let up : level ≤ h = elim (cases_lt h level) [
+wider : (p level n : ℕ) → p * 2 ^ level * 2 ^ n ≡ p * 2 ^ (level + n)
+wider p level n = omega (arith, ap (λ k. p * k) (pow-add 2 level n))
+
+-- the level that is `rest` above one that the code has come to, where there are no more levels between or each of them has one range
+pub reached_level : (p : ℕ) (t : Touch) (height bytes level wide from to upto rest : ℕ) → 1 ≤ p → Reached p t height bytes level wide from to upto
+    → bytes ≡ wide * 2 ^ rest → level + rest ≤ height → (from ≡ to) ⊎ (bytes ≤ wide) ⊎ (height ≤ level)
+    → IsLevelOf p t height (level + rest) bytes (from / 2 ^ rest) (to / 2 ^ rest) (upto + rest)
+reached_level p t height bytes level wide from to upto rest pos r is low end =
+    let size : bytes ≡ p * 2 ^ (level + rest) = is ∙ ap (λ n. n * 2 ^ rest) r.width ∙ wider p level rest in
+    let none : rest ≡ 0 → upto + rest ≡ length (levels_of p t (level + rest + 1)) =
+    λ z. rw z (omega (arith, r.count, ap (λ k. length (levels_of p t k)) (let e : level + 0 + 1 ≡ level + 1 = omega arith in e))) in
+    record {
+      low = low;
+      size = size;
+      first = ap (λ n. n / 2 ^ rest) r.first ∙ shr-shr t.first level rest;
+      last = ap (λ n. n / 2 ^ rest) r.last ∙ shr-shr t.last level rest;
+      count = elim end [
+        | inl one ↦ omega (arith, r.count, count-alone p t level rest (sym r.first ∙ one ∙ r.last))
+        | inr (inl narrow) ↦ none (let e : level + rest ≤ level = powers p (level + rest) level pos (omega (arith, r.width)) in omega arith)
+        | inr (inr top) ↦ none (omega arith)
+      ];
+    }
+
+-- no width above leads to so many bytes
+pub reached_none : (p : ℕ) (t : Touch) (height bytes level wide from to upto : ℕ) → Reached p t height bytes level wide from to upto
+    → ((n : ℕ) → ¬ (bytes ≡ wide * 2 ^ n)) → NoLevelHas p height bytes
+reached_none p t height bytes level wide from to upto r other h low size =
+    elim (cases_lt h level) [
       | inl below ↦ absurd (omega (arith, r.narrower h below))
-      | inr ge ↦ ge
-    ] in
-    let down : h ≤ level = elim end [
-      | inl narrow ↦ powers p h level pos (omega (arith, r.width))
-      | inr top ↦ omega arith
-    ] in
-    let same : level ≡ h = omega arith in
-    other (r.width ∙ ap (λ n. p * 2 ^ n) same ∙ sym size)
+      | inr ge ↦
+          let e : level + (h - level) ≡ h = omega arith in
+          other (h - level) (size ∙ ap (λ n. p * 2 ^ n) (sym e) ∙ sym (wider p level (h - level)) ∙ ap (λ n. n * 2 ^ (h - level)) (sym r.width))
+    ]
+
+-- only a height above the tree's has so many bytes
+pub reached_past : (p : ℕ) (t : Touch) (height bytes level wide from to upto rest : ℕ) → 1 ≤ p → Reached p t height bytes level wide from to upto
+    → bytes ≡ wide * 2 ^ rest → height < level + rest → NoLevelHas p height bytes
+reached_past p t height bytes level wide from to upto rest pos r is past h low size =
+    let same : p * 2 ^ (level + rest) ≡ p * 2 ^ h = sym (wider p level rest) ∙ ap (λ n. n * 2 ^ rest) (sym r.width) ∙ sym is ∙ size in
+    absurd (let e : level + rest ≤ h = powers p (level + rest) h pos (omega arith) in omega arith)
+
+-- a level's ranges are of a power of two of bytes
+pub level_power : (p : ℕ) (t : Touch) (height h bytes from to upto : ℕ) → IsPageSize p → IsLevelOf p t height h bytes from to upto → (i : ℕ) × (bytes ≡ 2 ^ i)
+level_power p t height h bytes from to upto page is = (page.0 + h, is.size ∙ ap (λ n. n * 2 ^ h) page.1 ∙ sym (pow-add 2 page.0 h))
 
 pub level_fits : (p : ℕ) (t : Touch) (height h bytes from to upto : ℕ) → 1 ≤ p → t.first ≤ t.last → t.last * p ≤ 2 ^ 40 → IsLevelOf p t height h bytes from to upto
     → (from * bytes ≤ 2 ^ 40) × (upto ≤ length (levels_of p t (height + 1))) × (to + 1 - from ≤ upto)

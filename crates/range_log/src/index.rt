@@ -1,5 +1,5 @@
 // Where a range stands in a row.
-ghost use Rattle.std.specs.Prelude.{◌≡◌, ℕ, ◌+◌, ◌*◌, ◌/◌, ◌^◌, ◌<◌, ◌≤◌, length, MatchOption, Some, slice_get};
+ghost use Rattle.std.specs.Prelude.{◌≡◌, ◌≢◌, ℕ, ◌+◌, ◌*◌, ◌/◌, ◌^◌, ◌<◌, ◌≤◌, length, IfSome, MatchOption, Some, slice_get};
 ghost use Rattle.std.specs.List.{Contains};
 ghost use Rattle.range_log.specs.Rows.{levels_of};
 ghost use Rattle.range_log.specs.Positions.{IsLevelOf, NoLevelHas};
@@ -15,7 +15,26 @@ pub(crate) struct Level {
     pub count: u64,
 }
 
-// The ranges of so many bytes in the row of an update with that touch, in a tree of that height.
+// How many times a width doubles until it is that size. None where it never is.
+#[inline(always)]
+fn doublings(width: u64, size: u64) -> Option<u32>
+    requires { 1 ≤ width }
+    ensures times { MatchOption result ((n : ℕ) → size ≢ width * 2 ^ n) (λ n. size ≡ width * 2 ^ n) }
+    ensures few { IfSome result (λ n. n < 64) }
+{
+    if size < width {
+        return None;
+    }
+    let times = size.ilog2() - width.ilog2();
+    if width << times == size {
+        Some(times)
+    } else {
+        None
+    }
+}
+
+// The ranges of so many bytes in the row of an update with that touch, in a tree of that height. Once the touched pages lie in one
+// range, each level above has one range more, so these levels are counted and not walked.
 #[inline(always)]
 fn level_of_size(p: PageSize, height: u32, touch: &Touch, size: u64) -> Option<Level>
     requires height { height ≤ 38 }
@@ -28,38 +47,39 @@ fn level_of_size(p: PageSize, height: u32, touch: &Touch, size: u64) -> Option<L
     let mut last = touch.last;
     let mut count = last - first + 1;
     let mut level = 0;
-    while width < size && level < height {
+    while first != last && width < size && level < height {
         width *= 2;
         first /= 2;
         last /= 2;
         count += last - first + 1;
         level += 1;
     }
-    if width == size {
-        Some(Level { first, last, count })
-    } else {
-        None
+    let Some(rest) = doublings(width, size) else {
+        return None;
+    };
+    if height - level < rest {
+        return None;
     }
+    Some(Level {
+        first: first >> rest,
+        last: last >> rest,
+        count: count + rest as u64,
+    })
 }
 
-// Which range of `size` bytes begins at `offset`, or before it. Mostly it is the first of its level, and then nothing is divided.
+// Which range of `size` bytes begins at `offset`, or before it. The size is a power of two, so nothing is divided.
 #[inline(always)]
-fn number_of(first: u64, size: u64, offset: u64) -> u64
-    requires some { 1 ≤ size }
-    requires fits { first * size ≤ 2 ^ 40 }
+fn number_of(size: u64, offset: u64) -> u64
+    requires { (i : ℕ) × (size ≡ 2 ^ i) }
     ensures { result ≡ offset / size }
 {
-    if offset == first * size {
-        first
-    } else {
-        offset / size
-    }
+    offset >> size.ilog2()
 }
 
 /// Where the range stands among the ranges of a row, counted from 0. None exactly where it is none of them.
 ///
-/// The row is that of an update with that touch, in a tree of that height, and has `count` ranges. The time is constant for a
-/// page, and else linear in the height of the range.
+/// The row is that of an update with that touch, in a tree of that height, and has `count` ranges. The time is that of the levels up
+/// to the one at which a single range holds all touched pages: constant for an update of one page, and for a range that is a page.
 #[inline(always)]
 pub fn index_in_row(
     p: PageSize,
@@ -79,7 +99,7 @@ pub fn index_in_row(
     let Some(level) = level_of_size(p, height, touch, range.size) else {
         return None;
     };
-    let number = number_of(level.first, range.size, range.offset);
+    let number = number_of(range.size, range.offset);
     if number * range.size != range.offset || number < level.first || level.last < number {
         return None;
     }
