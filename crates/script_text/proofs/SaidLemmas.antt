@@ -6,9 +6,6 @@ use Rattle.std.specs.String.{string_bytes}
 pub two_numbers : (a b c d e : List ℕ) → a ++ (b ++ (c ++ (d ++ e))) ≡ (((a ++ b) ++ c) ++ d) ++ e
 two_numbers a b c d e = simp append_assoc
 
-pub three_numbers : (a b c d e f g : List ℕ) → a ++ (b ++ (c ++ (d ++ (e ++ (f ++ g))))) ≡ (((((a ++ b) ++ c) ++ d) ++ e) ++ f) ++ g
-three_numbers a b c d e f g = simp append_assoc
-
 -- the same of a line that was printed
 pub prints_two : {E : Type 0} (r : Result (String Global) E) (a b c d : List ℕ) → IfOk r (λ s. string_bytes s ≡ a ++ (b ++ (c ++ (d ++ 10 ∷ [])))) →
     IfOk r (λ s. string_bytes s ≡ (((a ++ b) ++ c) ++ d) ++ 10 ∷ [])

@@ -1,8 +1,10 @@
-ghost use Rattle.std.specs.Prelude.{◌≡◌, ◌++◌, ◌∷◌, [], IfOk, codes};
+ghost use Rattle.std.specs.Prelude.{◌≡◌, ◌++◌, ◌∷◌, [], IfOk, OnOk, codes};
+ghost use Rattle.std.specs.Fmt.{decimal};
 ghost use Rattle.std.specs.String.{string_bytes};
 ghost use Rattle.script_text.specs.Said.{fault_text, hex_text, update_text, started_text, status_text, said};
 
 use hex::encode_to_slice;
+use itoa::Buffer;
 use request_form::{Fault, Reply};
 use std::alloc::{AllocError, Global};
 
@@ -63,11 +65,35 @@ fn data_line(alloc: Global, bytes: &[u8]) -> Result<Vec<u8>, AllocError>
     Ok(line)
 }
 
+// Adds words and a number behind them.
+fn push_number(line: &mut Vec<u8>, words: &[u8], number: u64) -> Result<(), AllocError>
+    ensures { OnOk result (line.new.items ≡ line.old.items ++ words.now ++ decimal number) }
+{
+    let mut digits = Buffer::new();
+    line.extend_from_slice(words)?;
+    line.extend_from_slice(digits.format(number).as_bytes())
+}
+
+// A line of up to four words with a number of up to twenty digits behind each fits without being moved.
+const ROOM: usize = 120;
+
+// Adds what is said of an update, and the line's end.
+fn push_update(line: &mut Vec<u8>, version: u64, at: u64, size: u64) -> Result<(), AllocError>
+    ensures { OnOk result (line.new.items ≡ line.old.items ++ update_text version at size ++ 10 ∷ []) }
+{
+    push_number(line, b"version ", version)?;
+    push_number(line, b" at ", at)?;
+    push_number(line, b" size ", size)?;
+    line.extend_from_slice(b"\n")
+}
+
 // What is said of an update.
 fn update_line(alloc: Global, version: u64, at: u64, size: u64) -> Result<Vec<u8>, AllocError>
     ensures { IfOk result (λ line. line.items ≡ update_text version at size ++ 10 ∷ []) }
 {
-    Ok(format!(in alloc; "version {version} at {at} size {size}\n")?.into_bytes())
+    let mut line = Vec::with_capacity(alloc, ROOM)?;
+    push_update(&mut line, version, at, size)?;
+    Ok(line)
 }
 
 // What is said of an update that is only started.
@@ -80,7 +106,11 @@ fn started_line(
 ) -> Result<Vec<u8>, AllocError>
     ensures { IfOk result (λ line. line.items ≡ started_text ticket version at size ++ 10 ∷ []) }
 {
-    Ok(format!(in alloc; "ticket {ticket} version {version} at {at} size {size}\n")?.into_bytes())
+    let mut line = Vec::with_capacity(alloc, ROOM)?;
+    push_number(&mut line, b"ticket ", ticket)?;
+    line.extend_from_slice(b" ")?;
+    push_update(&mut line, version, at, size)?;
+    Ok(line)
 }
 
 // What is said of how far a blob's updates are.
@@ -92,9 +122,33 @@ fn status_line(
 ) -> Result<Vec<u8>, AllocError>
     ensures { IfOk result (λ line. line.items ≡ status_text assigned published held ++ 10 ∷ []) }
 {
-    Ok(format!(in alloc;
-        "status assigned {assigned} published {published} held {held}\n"
-    )?.into_bytes())
+    let mut line = Vec::with_capacity(alloc, ROOM)?;
+    push_number(&mut line, b"status assigned ", assigned)?;
+    push_number(&mut line, b" published ", published)?;
+    push_number(&mut line, b" held ", held)?;
+    line.extend_from_slice(b"\n")?;
+    Ok(line)
+}
+
+// A line of words and a number.
+fn number_line(alloc: Global, words: &[u8], number: u64) -> Result<Vec<u8>, AllocError>
+    ensures { IfOk result (λ line. line.items ≡ words.now ++ decimal number ++ 10 ∷ []) }
+{
+    let mut line = Vec::with_capacity(alloc, ROOM)?;
+    push_number(&mut line, words, number)?;
+    line.extend_from_slice(b"\n")?;
+    Ok(line)
+}
+
+// What is said of the last version that is published.
+fn recent_line(alloc: Global, version: u64, size: u64) -> Result<Vec<u8>, AllocError>
+    ensures { IfOk result (λ line. line.items ≡ codes "recent " ++ decimal version ++ codes " size " ++ decimal size ++ 10 ∷ []) }
+{
+    let mut line = Vec::with_capacity(alloc, ROOM)?;
+    push_number(&mut line, b"recent ", version)?;
+    push_number(&mut line, b" size ", size)?;
+    line.extend_from_slice(b"\n")?;
+    Ok(line)
 }
 
 /// A reply's line, with its end.
@@ -103,7 +157,7 @@ pub fn reply_line(alloc: Global, reply: &Reply) -> Result<Vec<u8>, AllocError>
 {
     match reply {
         Reply::Created { blob } | Reply::Branched { blob } => {
-            Ok(format!(in alloc; "blob {blob}\n")?.into_bytes())
+            number_line(alloc, b"blob ", *blob)
         }
         Reply::Appended { version, at, size } | Reply::Wrote { version, at, size } => {
             update_line(alloc, *version, *at, *size)
@@ -121,22 +175,20 @@ pub fn reply_line(alloc: Global, reply: &Reply) -> Result<Vec<u8>, AllocError>
             size,
         } => { started_line(alloc, *ticket, *version, *at, *size) }
         Reply::Finished { published } | Reply::Repaired { published } => {
-            Ok(format!(in alloc; "published {published}\n")?.into_bytes())
+            number_line(alloc, b"published ", *published)
         }
         Reply::Content { bytes } | Reply::Contents { bytes } => {
             data_line(alloc, bytes.as_slice())
         }
-        Reply::RecentIs { version, size } => {
-            Ok(format!(in alloc; "recent {version} size {size}\n")?.into_bytes())
-        }
-        Reply::SizeIs { size } => Ok(format!(in alloc; "size {size}\n")?.into_bytes()),
-        Reply::Synced { version } => Ok(format!(in alloc; "synced {version}\n")?.into_bytes()),
+        Reply::RecentIs { version, size } => { recent_line(alloc, *version, *size) }
+        Reply::SizeIs { size } => number_line(alloc, b"size ", *size),
+        Reply::Synced { version } => number_line(alloc, b"synced ", *version),
         Reply::StatusIs {
             assigned,
             published,
             held,
         } => { status_line(alloc, *assigned, *published, *held) }
-        Reply::HelloIs { version } => Ok(format!(in alloc; "hello {version}\n")?.into_bytes()),
+        Reply::HelloIs { version } => number_line(alloc, b"hello ", *version),
         Reply::Refused(fault) => Ok(fault_line(alloc, fault)?.into_bytes()),
         Reply::Bye => b"bye\n".to_vec(alloc),
     }
