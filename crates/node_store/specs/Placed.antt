@@ -1,5 +1,6 @@
 -- What lies in a house, and where.
-use Rattle.std.specs.Prelude.{ℕ, List, map}
+use Rattle.std.specs.Prelude.{ℕ, ◌%◌, List, map}
+use Rattle.boxcar.specs.Table.{first, others}
 use Rattle.tree_geom.specs.declared.node.Node.{Node}
 use Rattle.tree_geom.specs.declared.node.Node.TheVariants.{Inner}
 
@@ -8,6 +9,10 @@ pub record Spot : Type 0 where
   pub shard : ℕ
   pub shelf : ℕ
   pub mark : ℕ
+
+-- of a version, whose tag tells a shelf and its mark
+abbrev pub spot_of : ℕ → List ℕ → Spot
+spot_of version place = record { shard = version % 16; shelf = first place; mark = first (others place) }
 
 -- the nodes of a row of that version that were put so far, and how many slots there are for them
 pub record PlacedNodes : Type 0 where

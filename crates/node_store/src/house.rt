@@ -1,16 +1,17 @@
 // The house of all nodes, and references to them.
 ghost use Rattle.std.specs.Prelude.{◌≡◌, ◌+◌, ◌%◌, ◌<◌, ◌≤◌, [], ◌∷◌, ◌++◌, length, IfOk, OnOk, OnErr, IfSome, Some, slice_get, IsTrue};
+ghost use Rattle.std.specs.Arc.{arc_value};
 ghost use Rattle.boxcar.specs.Table.{Shows};
 ghost use Rattle.node_store.specs.House.{IsIn};
 
 use crate::NoMemory;
 use boxcar::Pushed;
 use boxcar::slot::{OnceSlot, SlotRule, Written};
-use boxcar::tag::Tag;
+use boxcar::tag::{Names, Tag};
 use std::alloc::Global;
 use std::marker::Model;
-use std::sync::Wait;
 use std::sync::atomic::{AtomicUsize, Ordering};
+use std::sync::{Arc, Wait};
 use tree_geom::Node;
 
 /// Any node may lie in a slot.
@@ -32,15 +33,19 @@ const BLOCK: usize = 256;
 // of a shared block are left unused where the next row needs more than there are.
 const SHARED: usize = 32;
 
-// Slots that lie side by side, and how many of them were given out, from the first on. Each is set once at most.
+// Slots that lie side by side. Each is set once at most.
+type Slots = Vec<OnceSlot<Node, AnyNode>>;
+
+// Slots that the house and the rows that got some of them hold in common, and how many were given out, from the first on.
 #[derive(Drop)]
 struct Block {
     taken: AtomicUsize,
-    slots: Vec<OnceSlot<Node, AnyNode>>,
+    slots: Arc<Slots>,
 }
 
 impl Model for Block {
     ghost use Rattle.std.specs.Prelude.{List};
+    ghost use Rattle.std.specs.Arc.{arc_value};
     ghost use Rattle.std.specs.Coded.{coded_list};
     ghost use Rattle.boxcar.specs.Slot.{Named, named_coded};
 
@@ -48,7 +53,7 @@ impl Model for Block {
 
     ghost coded = { coded_list named_coded };
 
-    ghost view = { λ b. b.slots.items };
+    ghost view = { λ b. (arc_value b.slots).items };
 }
 
 impl Block {
@@ -63,7 +68,7 @@ impl Block {
         }
         Ok(Block {
             taken: AtomicUsize::new(taken),
-            slots,
+            slots: Arc::new(alloc, slots)?,
         })
     }
 
@@ -110,10 +115,20 @@ impl Model for Shard {
     ghost view = { λ s. s.blocks };
 }
 
-// Slots for the nodes of one row: a block, and the number of the first of them there.
+// Slots for the nodes of one row: those of a block, and the number of the first of them there.
 struct Room {
     block: Pushed<Block>,
+    slots: Arc<Slots>,
     first: usize,
+}
+
+// Where a block stands in its shard, for proofs alone: the tag of a row has no bytes.
+struct Place;
+
+impl Names<Pushed<Block>> for Place {
+    ghost use Rattle.std.specs.Prelude.{[], ◌∷◌};
+
+    ghost numbers = { λ block. block.bucket ∷ block.row ∷ [] };
 }
 
 impl Shard {
@@ -128,6 +143,7 @@ impl Shard {
     // `count` slots that nobody else gets.
     fn take<R: Wait>(&self, rt: &R, alloc: Global, count: usize) -> Result<Room, NoMemory>
         ensures here { IfOk result (λ room. Shows self.now room.block) }
+        ensures its { IfOk result (λ room. (arc_value room.slots).items ≡ room.block.value) }
         ensures within { IfOk result (λ room. room.first + count ≤ length room.block.value) }
     {
         if count > SHARED {
@@ -144,20 +160,33 @@ impl Shard {
     // `count` slots of the block that rows share.
     fn take_open(&self, count: usize) -> Option<Room>
         ensures here { IfSome result (λ room. Shows self.now room.block) }
+        ensures its { IfSome result (λ room. (arc_value room.slots).items ≡ room.block.value) }
         ensures within { IfSome result (λ room. room.first + count ≤ length room.block.value) }
     {
         let block = self.blocks.witness(self.open.load(Ordering::SeqCst))?;
-        let first = self.blocks.value(&block).take(count)?;
-        Some(Room { block, first })
+        let open = self.blocks.value(&block);
+        let slots = Arc::try_clone(&open.slots).ok()?;
+        let first = open.take(count)?;
+        Some(Room {
+            block,
+            slots,
+            first,
+        })
     }
 
     // A new block, from its first slot on.
     fn push<R: Wait>(&self, rt: &R, block: Block) -> Result<Room, NoMemory>
         ensures here { IfOk result (λ room. Shows self.now room.block) }
+        ensures its { IfOk result (λ room. (arc_value room.slots).items ≡ room.block.value) }
         ensures whole { IfOk result (λ room. (room.block.value ≡ block) × (room.first ≡ 0)) }
     {
+        let slots = Arc::try_clone(&block.slots)?;
         match self.blocks.push_shown(rt, block) {
-            Ok(block) => Ok(Room { block, first: 0 }),
+            Ok(block) => Ok(Room {
+                block,
+                slots,
+                first: 0,
+            }),
             Err(_) => Err(NoMemory),
         }
     }
@@ -202,15 +231,17 @@ impl Model for Put {
 /// side by side, each in a slot of its own that is set once, and there are slots for all nodes of the row from the start.
 #[derive(Drop)]
 pub struct RowNodes {
-    puts: Vec<Put>,
+    // the row holds the slots itself, so that a look at a node goes there at once
+    slots: Arc<Slots>,
     first: usize,
+    puts: Vec<Put>,
     version: u64,
-    block: Pushed<Block>,
+    place: Tag,
 }
 
 impl Model for RowNodes {
-    ghost use Rattle.std.specs.Prelude.{◌≡◌, ◌%◌, vec_capacity};
-    ghost use Rattle.node_store.specs.Placed.{PlacedNodes, nodes_put};
+    ghost use Rattle.std.specs.Prelude.{◌≡◌, vec_capacity};
+    ghost use Rattle.node_store.specs.Placed.{PlacedNodes, nodes_put, spot_of};
     ghost use Rattle.node_store.specs.NodesKept.{KeepsPuts};
 
     ghost Value = { PlacedNodes };
@@ -220,7 +251,7 @@ impl Model for RowNodes {
           version = r.version;
           room = vec_capacity r.puts;
           nodes = nodes_put r.puts.items;
-          spot = record { shard = r.version % 16; shelf = r.block.bucket; mark = r.block.row };
+          spot = spot_of r.version r.place.numbers;
         } };
 
     ghost invariant = { KeepsPuts };
@@ -271,12 +302,17 @@ impl NodeHouse {
         ensures none { IfOk result (λ row. row.nodes ≡ []) }
     {
         let puts = Vec::with_capacity(alloc, count)?;
-        let Room { block, first } = self.shards[shard_of(version)].take(rt, alloc, count)?;
-        Ok(RowNodes {
-            version,
+        let Room {
             block,
+            slots,
+            first,
+        } = self.shards[shard_of(version)].take(rt, alloc, count)?;
+        Ok(RowNodes {
+            slots,
             first,
             puts,
+            version,
+            place: Tag::of::<Pushed<Block>, Place>(&block),
         })
     }
 
@@ -288,8 +324,7 @@ impl NodeHouse {
         ensures put { OnOk result (row.new ≡ record row.old { nodes = row.old.nodes ++ node ∷ [] }) }
         ensures same { OnErr result (row.new ≡ row.old) }
     {
-        let block = self.block(row.version, &row.block);
-        match block.slots[row.first + row.puts.len()].set_written(node) {
+        match row.slots[row.first + row.puts.len()].set_written(node) {
             Ok(written) => {
                 row.puts.push_reserved(Put { written });
                 Ok(())
@@ -306,18 +341,7 @@ impl NodeHouse {
     {
         let row = node.nodes;
         let index = node.index as usize;
-        let put = &row.puts[index];
-        let block = self.block(row.version, &row.block);
-        *block.slots[row.first + index].value(&put.written)
-    }
-
-    // The block that was pushed for a row of that version.
-    #[inline(always)]
-    fn block(&self, version: u64, pushed: &Pushed<Block>) -> &Block
-        requires { IsIn self.now record { shard = version % 16; shelf = pushed.now.bucket; mark = pushed.now.row } }
-        ensures { result.now ≡ pushed.now.value }
-    {
-        self.shards[shard_of(version)].blocks.value(pushed)
+        *row.slots[row.first + index].value(&row.puts[index].written)
     }
 }
 

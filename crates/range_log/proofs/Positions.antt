@@ -232,6 +232,17 @@ reached_level p t height bytes level wide from to upto rest pos r is low end =
       ];
     }
 
+-- the level itself
+pub reached_itself : (p : ℕ) (t : Touch) (height bytes level wide from to upto : ℕ) → Reached p t height bytes level wide from to upto → wide ≡ bytes
+    → IsLevelOf p t height level bytes from to upto
+reached_itself p t height bytes level wide from to upto r same = record {
+  low = r.low;
+  size = sym same ∙ r.width;
+  first = r.first;
+  last = r.last;
+  count = r.count;
+}
+
 -- no width above leads to so many bytes
 pub reached_none : (p : ℕ) (t : Touch) (height bytes level wide from to upto : ℕ) → Reached p t height bytes level wide from to upto
     → ((n : ℕ) → ¬ (bytes ≡ wide * 2 ^ n)) → NoLevelHas p height bytes
@@ -249,6 +260,15 @@ pub reached_past : (p : ℕ) (t : Touch) (height bytes level wide from to upto r
 reached_past p t height bytes level wide from to upto rest pos r is past h low size =
     let same : p * 2 ^ (level + rest) ≡ p * 2 ^ h = sym (wider p level rest) ∙ ap (λ n. n * 2 ^ rest) (sym r.width) ∙ sym is ∙ size in
     absurd (let e : level + rest ≤ h = powers p (level + rest) h pos (omega arith) in omega arith)
+
+-- the first range of a level comes after those of the levels above
+pub first_found : (p : ℕ) (t : Touch) (height h from to upto all : ℕ) (r : Range) → t.first ≤ t.last → IsLevelOf p t height h r.size from to upto
+    → all ≡ length (levels_of p t (height + 1)) → from * r.size ≡ r.offset → slice_get (levels_of p t (height + 1)) (all - upto) ≡ Some r
+first_found p t height h from to upto all r ordered is count begin =
+    let pages : 0 < 2 ^ h = pow_pos h in
+    let rise : from ≤ to = omega (arith, is.first, is.last, pages_rise (2 ^ h) t.first t.last pages ordered) in
+    let same : all - upto ≡ length (levels_of p t (height + 1)) - upto + (from - from) = omega (arith, count) in
+    ap (slice_get (levels_of p t (height + 1))) same ∙ found_at p t height h from to upto from r is begin (omega arith) rise
 
 -- a level's ranges are of a power of two of bytes
 pub level_power : (p : ℕ) (t : Touch) (height h bytes from to upto : ℕ) → IsPageSize p → IsLevelOf p t height h bytes from to upto → (i : ℕ) × (bytes ≡ 2 ^ i)

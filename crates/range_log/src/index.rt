@@ -35,8 +35,8 @@ fn doublings(width: u64, size: u64) -> Option<u32>
 
 // The ranges of so many bytes in the row of an update with that touch, in a tree of that height. Once the touched pages lie in one
 // range, each level above has one range more, so these levels are counted and not walked.
-#[inline(always)]
-fn level_of_size(p: PageSize, height: u32, touch: &Touch, size: u64) -> Option<Level>
+#[inline(never)]
+fn level_above(p: PageSize, height: u32, touch: &Touch, size: u64) -> Option<Level>
     requires height { height ≤ 38 }
     requires ordered { touch.now.first ≤ touch.now.last }
     requires fits { touch.now.last * p ≤ 2 ^ 40 }
@@ -64,6 +64,24 @@ fn level_of_size(p: PageSize, height: u32, touch: &Touch, size: u64) -> Option<L
         first: first >> rest,
         last: last >> rest,
         count: count + rest as u64,
+    })
+}
+
+// The same. For a page, as in most looks, no other level is asked for.
+#[inline(always)]
+fn level_of_size(p: PageSize, height: u32, touch: &Touch, size: u64) -> Option<Level>
+    requires height { height ≤ 38 }
+    requires ordered { touch.now.first ≤ touch.now.last }
+    requires fits { touch.now.last * p ≤ 2 ^ 40 }
+    ensures { MatchOption result (NoLevelHas p height size) (λ level. (h : ℕ) × IsLevelOf p touch.now height h size level.first level.last level.count) }
+{
+    if size != p.bytes() {
+        return level_above(p, height, touch, size);
+    }
+    Some(Level {
+        first: touch.first,
+        last: touch.last,
+        count: touch.last - touch.first + 1,
     })
 }
 
@@ -99,6 +117,10 @@ pub fn index_in_row(
     let Some(level) = level_of_size(p, height, touch, range.size) else {
         return None;
     };
+    // mostly it is the first of its level
+    if level.first * range.size == range.offset {
+        return Some(count - level.count);
+    }
     let number = number_of(range.size, range.offset);
     if number * range.size != range.offset || number < level.first || level.last < number {
         return None;

@@ -1,12 +1,31 @@
 use Rattle.std.proofs.Common.{◌+◌, ◌-◌, arith, ap, ◌∙◌}
 use Rattle.std.specs.Prelude.{slice_get}
 use Rattle.range_log.specs.Rows.{levels_of}
-use Rattle.range_log.proofs.Positions.{none_of_size, none_at, level_fits, level_power, found_at}
+use Rattle.range_log.proofs.Positions.{none_of_size, none_at, level_fits, level_power, first_found, found_at}
 use Rattle.range_log.proofs.index.index_in_row.Goals as goal
 use Rattle.range_log.proofs.index.index_in_row.Goals.{then-number-range-via-then-number-range, then-number-range-via-else-number-range+then-number-level, then-number-range-via-else-number-range+else-number-level+then-level-number}
 
 pub returns-in_default : goal.returns-in_default
 returns-in_default c = none_of_size c.args.p c.args.touch.now c.args.height c.args.range (omega (arith, c.stands.ensures.bounds)) c.in_default.ensures
+
+pub overflow_mul-level : goal.overflow_mul-level
+overflow_mul-level c =
+    let f =
+    level_fits c.args.p c.args.touch.now c.args.height c.in-Some.ensures.0 c.args.range.size c.in-Some.level.first c.in-Some.level.last c.in-Some.level.count
+    (omega (arith, c.stands.ensures.bounds)) c.requires.ordered c.requires.fits c.in-Some.ensures.1 in
+    omega (arith, f.0)
+
+pub overflow_sub-result-2 : goal.overflow_sub-result-2
+overflow_sub-result-2 c =
+    let f =
+    level_fits c.args.p c.args.touch.now c.args.height c.in-Some.ensures.0 c.args.range.size c.in-Some.level.first c.in-Some.level.last c.in-Some.level.count
+    (omega (arith, c.stands.ensures.bounds)) c.requires.ordered c.requires.fits c.in-Some.ensures.1 in
+    omega (arith, f.1, c.requires.count)
+
+pub returns-then-level-range : goal.returns-then-level-range
+returns-then-level-range c =
+    first_found c.args.p c.args.touch.now c.args.height c.in-Some.ensures.0 c.in-Some.level.first c.in-Some.level.last c.in-Some.level.count c.args.count c.args.range
+    c.requires.ordered c.in-Some.ensures.1 c.requires.count c.if-level-range.true
 
 pub number_of-number-requires : goal.number_of-number-requires
 number_of-number-requires c =
