@@ -15,7 +15,7 @@ use tree_geom::{Steps, range_of_page};
 
 /// The version that is read, and the houses of its nodes and pages.
 #[derive(Drop)]
-pub(crate) struct Source<'a> {
+pub(crate) struct ReadSource<'a> {
     pub snapshot: &'a View<'a>,
     pub nodes: &'a NodeHouse,
     pub houses: &'a Houses,
