@@ -15,14 +15,14 @@ use Rattle.request_form.specs.declared.form.Fault.{Fault}
 use Rattle.request_form.specs.declared.form.Fault.TheVariants as Faults
 use Rattle.tree_weaver.specs.Anew.{IsStoredAnew, FoldFailed, OnLostFold}
 use Rattle.page_writer.specs.Lost.{IsFirstLost}
-use Rattle.session_parts.specs.Ranges.{OnPageLost}
+use Rattle.session_parts.specs.Ranges.{OnPageLost, PageFailedInOne}
 use Rattle.session_parts.specs.Tickets.{OpenUpdate, IsHeldAt}
 use Rattle.tree_weaver.specs.declared.folding.WeaveFault.{WeaveFault}
 use Rattle.tree_weaver.specs.declared.folding.WeaveFault.TheVariants as WeaveFaults
 use Rattle.session_parts.specs.declared.reading.RangeFault.{RangeFault}
 use Rattle.session_parts.specs.declared.reading.RangeFault.TheVariants as RangeFaults
 use Rattle.client_session.specs.Results.{store_fault, weave_fault, range_of, repair_reply}
-use Rattle.client_session.specs.Losses.{IfPageLost, LostFirst, LostInRead, LostAnew, LostOfHeld}
+use Rattle.client_session.specs.Losses.{IfPageLost, LostFirst, LostInRead, LostInRanges, LostAnew, LostOfHeld}
 use Rattle.client_session.specs.Finishing.{NotWoven, settles}
 use Rattle.client_session.specs.Opening.{Opening}
 use Rattle.client_session.specs.Sessions.{SessionState, StoreState}
@@ -58,16 +58,28 @@ range_lost (Err (RangeFaults.RangePastSize end size)) P lost = λ page is. let n
 range_lost (Err (RangeFaults.PageFault at)) P lost = λ page is. subst P (other_page at page is) lost
 range_lost (Err RangeFaults.NoMemory) P lost = λ page is. let never : ⊥ = cc in absurd never
 
-module _ {D : Type 0} (faults : D → ℕ) (s m s' : SessionState D) (blob version offset count : ℕ) (v : Version) (o : Opening s blob version (Ok v) m) (same : s' ≡ record m { doors = s'.doors }) where
-  pub read_lost : (said : Result (List ℕ) Fault) → IfErr said (λ fault. IfPageLost fault (PageFailedIn v offset count (map faults m.doors) (map faults s'.doors)))
+module _ {D : Type 0} (faults : D → ℕ) (s m s' : SessionState D) (blob version : ℕ) (v : Version) (o : Opening s blob version (Ok v) m) (same : s' ≡ record m { doors = s'.doors }) where
+  pub read_lost : (offset count : ℕ) (said : Result (List ℕ) Fault) → IfErr said (λ fault. IfPageLost fault (PageFailedIn v offset count (map faults m.doors) (map faults s'.doors)))
       → IfErr said (λ fault. IfPageLost fault (LostInRead s.store s'.log blob version offset count (map faults s.doors) (map faults s'.doors)))
-  read_lost (Ok bytes) lost = tt
-  read_lost (Err fault) lost = λ page is.
+  read_lost offset count (Ok bytes) lost = tt
+  read_lost offset count (Err fault) lost = λ page is.
       let doors : m.doors ≡ s.doors = ap (λ (x : SessionState D). x.doors) o.same in
       record {
         snapshot = v;
         is = subst (λ (l : List (ℕ × Event)). IsSnapshotOf s.store.fixed l blob version v) (sym (ap (λ (x : SessionState D). x.log) same)) o.snapshot;
         lost = subst (λ (ds : List D). PageFailedIn v offset count (map faults ds) (map faults s'.doors) page) doors (lost page is);
+      }
+
+  -- the same of many ranges
+  pub ranges_lost : (ranges : List (ℕ × ℕ)) (said : Result (List ℕ) Fault) → IfErr said (λ fault. IfPageLost fault (PageFailedInOne v ranges (map faults m.doors) (map faults s'.doors)))
+      → IfErr said (λ fault. IfPageLost fault (LostInRanges s.store s'.log blob version ranges (map faults s.doors) (map faults s'.doors)))
+  ranges_lost ranges (Ok bytes) lost = tt
+  ranges_lost ranges (Err fault) lost = λ page is.
+      let doors : m.doors ≡ s.doors = ap (λ (x : SessionState D). x.doors) o.same in
+      record {
+        snapshot = v;
+        is = subst (λ (l : List (ℕ × Event)). IsSnapshotOf s.store.fixed l blob version v) (sym (ap (λ (x : SessionState D). x.log) same)) o.snapshot;
+        lost = subst (λ (ds : List D). PageFailedInOne v ranges (map faults ds) (map faults s'.doors) page) doors (lost page is);
       }
 
 -- ---- of a page that is stored anew

@@ -10,6 +10,7 @@ use Rattle.request_form.specs.declared.form.Fault.{Fault}
 use Rattle.request_form.specs.declared.form.Fault.TheVariants as Faults
 use Rattle.tree_weaver.specs.Anew.{IsStoredAnew, FoldFailed}
 use Rattle.page_writer.specs.Lost.{IsFirstLost}
+use Rattle.session_parts.specs.Ranges.{PageFailedInOne}
 use Rattle.session_parts.specs.Tickets.{OpenUpdate, IsHeldAt}
 use Rattle.client_session.specs.Sessions.{StoreState}
 
@@ -28,6 +29,12 @@ pub record LostInRead (store : StoreState) (log : List (ℕ × Event)) (blob ver
   pub snapshot : Version
   pub is : IsSnapshotOf store.fixed log blob version snapshot
   pub lost : PageFailedIn snapshot offset count before now page
+
+-- The same of a page that is one of those of one of these ranges.
+pub record LostInRanges (store : StoreState) (log : List (ℕ × Event)) (blob version : ℕ) (ranges : List (ℕ × ℕ)) (before now : List ℕ) (page : ℕ) : Type 0 where
+  pub snapshot : Version
+  pub is : IsSnapshotOf store.fixed log blob version snapshot
+  pub lost : PageFailedInOne snapshot ranges before now page
 
 -- The waiting version stores this page of the blob anew, by a ticket of that history whose snapshot is the version before it. Every door
 -- failed of a stored page that is read for it, or every door of its placement.

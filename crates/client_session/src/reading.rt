@@ -1,5 +1,5 @@
 // Many ranges of a version, read in one turn.
-ghost use Rattle.std.specs.Prelude.{◌≡◌, ◌≢◌, ℕ, ◌+◌, ◌<◌, ◌≤◌, length, sum_by, IfOk, OnOk, IfErr, None, Some};
+ghost use Rattle.std.specs.Prelude.{◌≡◌, ◌≢◌, ℕ, ◌+◌, ◌<◌, ◌≤◌, length, map, sum_by, IfOk, OnOk, IfErr, None, Some};
 ghost use Rattle.faults.specs.Counts.{RoseBy};
 ghost use Rattle.blob_model.specs.Content.{size_of};
 ghost use Rattle.blob_model.specs.History.{AllOther};
@@ -8,7 +8,8 @@ ghost use Rattle.request_form.specs.Replies.{fault_count};
 ghost use Rattle.request_form.specs.Answers.{Answers, ranges_fault};
 ghost use Rattle.request_form.specs.declared.form.Request.TheVariants as Requests;
 ghost use Rattle.request_form.specs.declared.form.Fault.TheVariants as Faults;
-ghost use Rattle.session_parts.specs.Ranges.{OverUpdates, bytes_in, first_end_past, visits_of};
+ghost use Rattle.session_parts.specs.Ranges.{OverUpdates, bytes_in, first_end_past, visits_of, PageFailedInOne};
+ghost use Rattle.client_session.specs.Losses.{IfPageLost, LostInRanges};
 ghost use Rattle.client_session.specs.Results.{contents_reply};
 ghost use Rattle.client_session.specs.Opening.{IsOfStore, ReadsRanges};
 ghost use Rattle.client_session.specs.Sessions.{session_of, Continues, all_visits_seen, NoStepIfOneRefused};
@@ -47,8 +48,9 @@ impl<'a, D: Door, G: Gate> Session<'a, D, G> {
     ///
     /// `ReadTooLong` comes first, exactly where the ranges have more than 16,777,216 bytes together, with the length of the first
     /// range at which the running sum is past that. Then come the store's refusals, of a range that ends past the version's size the
-    /// first one's, and then `PageFault`. It takes one turn for all ranges. From there it goes through the tree holding no lock, and
-    /// the clause `steps` bounds how many nodes it meets: none where it is refused.
+    /// first one's, and then `PageFault`, only where every door failed of a stored page that the named page of one of the ranges
+    /// needs. It takes one turn for all ranges. From there it goes through the tree holding no lock, and the clause `steps` bounds
+    /// how many nodes it meets: none where it is refused.
     pub fn read_many<R: Wait, L: Ledger>(
         &mut self,
         rt: &R,
@@ -62,6 +64,8 @@ impl<'a, D: Door, G: Gate> Session<'a, D, G> {
         ensures goes_on { Continues self.old self.new }
         ensures rest { self.new ≡ record self.old { log = self.new.log; doors = self.new.doors } }
         ensures steps { steps.new ≤ steps.old + all_visits_seen (session_of self.new) blob version ranges.now }
+        ensures failed { IfErr result (λ fault. IfPageLost fault
+            (LostInRanges self.old.store self.new.log blob version ranges.now (map D.faults self.old.doors) (map D.faults self.new.doors))) }
         ensures no_step { NoStepIfOneRefused (session_of self.new) blob version ranges.now steps.old steps.new }
     {
         let pairs = ranges.as_slice();
@@ -89,13 +93,15 @@ impl<'a, D: Door, G: Gate> Session<'a, D, G> {
         ensures reads { OverUpdates snapshot.now (λ us. ReadsRanges snapshot.now.page_size us (length snapshot.now.rows) pairs.now result) }
         ensures faults { RoseBy (fault_count (contents_reply result)) (sum_by D.faults self.old.doors) (sum_by D.faults self.new.doors) }
         ensures steps { OverUpdates snapshot.now (λ us. steps.new ≤ steps.old + visits_of snapshot.now.page_size (extents us) (length snapshot.now.rows) pairs.now) }
+        ensures failed { IfErr result (λ fault. IfPageLost fault
+            (PageFailedInOne snapshot.now pairs.now (map D.faults self.old.doors) (map D.faults self.new.doors))) }
         ensures no_step { OverUpdates snapshot.now (λ us. first_end_past (size_of us (length snapshot.now.rows)) pairs.now ≢ None → steps.new ≡ steps.old) }
         ensures seen_stays { self.new ≡ record self.old { doors = self.new.doors } }
     {
         let shared = self.shared;
         range_told(read_ranges(
             self.alloc,
-            snapshot,
+            &snapshot.view(),
             shared.nodes(),
             shared.houses(),
             &mut self.doors,

@@ -26,7 +26,7 @@ use ports::gate::Gate;
 use range_reader::ReadRoom;
 use request_form::{Fault, NoMemory};
 use session_parts::{RangeFault, Tickets, UpdateLimit, read_range};
-use snapshot::Snapshot;
+use snapshot::{Snapshot, View};
 use std::alloc::Global;
 use std::marker::Model;
 use std::sync::Wait;
@@ -364,13 +364,37 @@ impl<'a, D: Door, G: Gate> Session<'a, D, G> {
             (PageFailedIn snapshot.now offset count (map D.faults self.old.doors) (map D.faults self.new.doors))) }
         ensures seen_stays { self.new ≡ record self.old { doors = self.new.doors } }
     {
+        self.read_view(&snapshot.view(), offset, count, steps)
+    }
+
+    /// Reads as `read_at` does, by the view of a version of this store. It shares nothing with other readers of the version.
+    pub fn read_view<L: Ledger>(
+        &mut self,
+        view: &View,
+        offset: u64,
+        count: u64,
+        steps: &mut Steps<L>,
+    ) -> Result<Bytes, Fault>
+        requires of_store { IsOfStore self.old.store view.now }
+        ensures reads { OverUpdates view.now (λ us. ReadsRange view.now.page_size us (length view.now.rows) offset count result) }
+        ensures too_long { max_read < count → result ≡ Err (Faults.ReadTooLong count) }
+        ensures past { OverUpdates view.now (λ us. count ≤ max_read → size_of us (length view.now.rows) < offset + count
+            → result ≡ Err (Faults.RangePastSize (offset + count) (size_of us (length view.now.rows)))) }
+        ensures faults { RoseBy (fault_count (read_reply result)) (sum_by D.faults self.old.doors) (sum_by D.faults self.new.doors) }
+        ensures steps { OverUpdates view.now (λ us. steps.new ≤ steps.old + visits view.now.page_size (extents us) (length view.now.rows) offset count) }
+        ensures no_step { OverUpdates view.now (λ us. size_of us (length view.now.rows) < offset + count → steps.new ≡ steps.old) }
+        ensures no_step_too_long { max_read < count → steps.new ≡ steps.old }
+        ensures failed { IfErr result (λ fault. IfPageLost fault
+            (PageFailedIn view.now offset count (map D.faults self.old.doors) (map D.faults self.new.doors))) }
+        ensures seen_stays { self.new ≡ record self.old { doors = self.new.doors } }
+    {
         if count > MAX_READ {
             return Err(Fault::ReadTooLong { length: count });
         }
         let shared = self.shared;
         range_told(read_range(
             self.alloc,
-            snapshot,
+            view,
             shared.nodes(),
             shared.houses(),
             &mut self.doors,

@@ -9,7 +9,7 @@ ghost use Rattle.range_reader.specs.Answers.{OnPastSize, OnPageFault};
 use crate::reader::ReadFault;
 use crate::source::{leaf, links};
 use node_store::NodeHouse;
-use snapshot::Snapshot;
+use snapshot::{Snapshot, View};
 use std::sync::ledger::Ledger;
 use tree_geom::{Range, Steps, halves, height};
 
@@ -57,14 +57,15 @@ pub fn stated<L: Ledger>(
     let bytes = page_size.bytes();
     let pages = (offset + length - 1) / bytes + 1 - offset / bytes;
     let levels = u64::from(height(page_size, size));
-    let backs = depths(snapshot, nodes, version, root.range, offset, length, steps);
+    let view = snapshot.view();
+    let backs = depths(&view, nodes, version, root.range, offset, length, steps);
     Ok(2 * pages + 2 * levels + backs)
 }
 
 // The sum of the depths of the newest leaves of the pages that `count` bytes from byte `from` on meet. The bytes lie in
 // the range whose newest node is that of version `at`.
 fn depths<L: Ledger>(
-    snapshot: &Snapshot,
+    snapshot: &View,
     nodes: &NodeHouse,
     at: u64,
     range: Range,

@@ -7,7 +7,7 @@ ghost use Rattle.range_reader.specs.Reading.{log_of, newest_in, IsKnown};
 
 use crate::source::links;
 use node_store::{NoMemory, NodeHouse, Range};
-use snapshot::Snapshot;
+use snapshot::View;
 use std::alloc::Global;
 use std::sync::ledger::Ledger;
 use tree_geom::Steps;
@@ -37,7 +37,7 @@ impl KnownNode {
 // As `links` tells them, of the newest node of the range. It isn't asked for where it is known, and else it is known from then on, if
 // there is that place among them.
 pub(crate) fn known_links<L: Ledger>(
-    snapshot: &Snapshot,
+    snapshot: &View,
     nodes: &NodeHouse,
     known: &mut [KnownNode],
     place: u64,

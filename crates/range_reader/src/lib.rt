@@ -22,4 +22,4 @@ pub use known::KnownNode;
 pub use locate::holder;
 pub use marks::ReadRoom;
 pub use node_store::NoMemory;
-pub use reader::{ReadFault, read, read_knowing};
+pub use reader::{ReadFault, read, read_knowing, read_version};

@@ -13,7 +13,7 @@ use crate::known::{KnownNode, known_links};
 use crate::source::{LeafParts, leaf};
 use node_store::NodeHouse;
 use page_store::StoredPage;
-use snapshot::Snapshot;
+use snapshot::{Snapshot, View};
 use std::sync::ledger::Ledger;
 use tree_geom::{Range, Steps, halves};
 
@@ -52,8 +52,9 @@ pub fn holder<'s, L: Ledger>(
     let version = snapshot.version();
     let bytes = snapshot.page_size().bytes();
     let byte = (at % bytes) as usize;
-    let newest = newest_leaf(snapshot, nodes, &mut [], 1, version, root.range, at, steps);
-    let (first, parts) = first_with(snapshot, nodes, newest, at / bytes, byte, steps);
+    let view = snapshot.view();
+    let newest = newest_leaf(&view, nodes, &mut [], 1, version, root.range, at, steps);
+    let (first, parts) = first_with(&view, nodes, newest, at / bytes, byte, steps);
     let piece = parts.piece_with(byte);
     Some(snapshot.page(first, piece.page))
 }
@@ -62,7 +63,7 @@ pub fn holder<'s, L: Ledger>(
 // leaf itself isn't asked for, and of the inner nodes none that is known. The root's place among
 // those is 1, and the places of a node's halves are twice its own and the one after that.
 pub(crate) fn newest_leaf<L: Ledger>(
-    snapshot: &Snapshot,
+    snapshot: &View,
     nodes: &NodeHouse,
     known: &mut [KnownNode],
     place: u64,
@@ -106,7 +107,7 @@ pub(crate) fn newest_leaf<L: Ledger>(
 // The first leaf that has this byte of the page, from its newest leaf along the backs, and that leaf's version. `newest` is the
 // version of the newest leaf.
 fn first_with<L: Ledger>(
-    snapshot: &Snapshot,
+    snapshot: &View,
     nodes: &NodeHouse,
     newest: u64,
     page: u64,

@@ -14,7 +14,7 @@ use crate::walk::{walk, walk_to_page};
 use node_store::NodeHouse;
 use page_fan::Doors;
 use page_store::{Door, Houses};
-use snapshot::Snapshot;
+use snapshot::{Snapshot, View};
 use std::sync::ledger::Ledger;
 use thiserror::Error;
 use tree_geom::Steps;
@@ -113,11 +113,57 @@ pub fn read_knowing<D: Door, L: Ledger>(
     ensures known { All (IsKnown snapshot.now) known.new }
     ensures known_stays { length known.new ≡ length known.old }
 {
+    read_version(
+        &snapshot.view(),
+        nodes,
+        houses,
+        doors,
+        room,
+        known,
+        offset,
+        out,
+        steps,
+    )
+}
+
+/// Reads as `read_knowing` does, by the view of a version.
+pub fn read_version<D: Door, L: Ledger>(
+    view: &View,
+    nodes: &NodeHouse,
+    houses: &Houses,
+    doors: &mut Doors<D>,
+    room: &mut ReadRoom,
+    known: &mut [KnownNode],
+    offset: u64,
+    out: &mut [u8],
+    steps: &mut Steps<L>,
+) -> Result<(), ReadFault>
+    requires here { IsVersionIn nodes.now houses.now view.now }
+    requires doors { length doors.old ≡ length houses.now }
+    requires room { length room.old ≡ view.now.page_size }
+    requires known { All (IsKnown view.now) known.old }
+    ensures bytes { All D.is_true doors.old → OnOk result (out.new ≡ bytes_at view.now offset (length out.old)) }
+    ensures refused { size_now view.now < offset + length out.old → result ≡ Err (ReadFault.RangePastSize (offset + length out.old) (size_now view.now)) }
+    ensures past { IfErr result (λ fault. OnPastSize fault (size_now view.now < offset + length out.old)) }
+    ensures no_steps { size_now view.now < offset + length out.old → steps.new ≡ steps.old }
+    ensures steps { steps.new ≤ steps.old + bound view.now offset (length out.old) }
+    ensures some { IfErr result (λ fault. OnPageFault fault (λ _. 1 ≤ length out.old)) }
+    ensures failed { IfErr result (λ fault. OnPageFault fault
+        (PageFailedIn view.now offset (length out.old) (map D.faults doors.old) (map D.faults doors.new))) }
+    ensures counted { IfErr result (λ fault. OnPageFault fault (λ _. HasRisen (sum_by D.faults doors.old) (sum_by D.faults doors.new))) }
+    ensures none_fell { NoneFell (map D.faults doors.old) (map D.faults doors.new) }
+    ensures sum_never_falls { sum_by D.faults doors.old ≤ sum_by D.faults doors.new }
+    ensures count { length doors.new ≡ length doors.old }
+    ensures room_stays { length room.new ≡ length room.old }
+    ensures truth_stays { All D.is_true doors.old → All D.is_true doors.new }
+    ensures known { All (IsKnown view.now) known.new }
+    ensures known_stays { length known.new ≡ length known.old }
+{
     range_log::laws::page_bytes_stay();
     range_log::laws::newest_is_greatest();
     tree_walk::laws::links_find();
     tree_walk::laws::visited_are_few();
-    let size = snapshot.size();
+    let size = view.size();
     let end = u128::from(offset) + out.len() as u128;
     if end > u128::from(size) {
         return Err(ReadFault::RangePastSize { end, size });
@@ -125,17 +171,17 @@ pub fn read_knowing<D: Door, L: Ledger>(
     if out.is_empty() {
         return Ok(());
     }
-    let Some(root) = snapshot.root() else {
+    let Some(root) = view.root() else {
         return Ok(());
     };
     let source = ReadSource {
-        snapshot,
+        snapshot: view,
         nodes,
         houses,
     };
     let marks = room.wanted.as_mut_slice();
-    let version = snapshot.version();
-    let bytes = snapshot.page_size().bytes();
+    let version = view.version();
+    let bytes = view.page_size().bytes();
     if offset % bytes + out.len() as u64 <= bytes {
         return match walk_to_page(
             &source, doors, steps, marks, known, version, root.range, offset, out,

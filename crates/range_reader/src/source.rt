@@ -9,14 +9,14 @@ ghost use Rattle.range_reader.specs.Holders.{piece_with};
 
 use node_store::{Node, NodeHouse, Piece, Range};
 use page_store::Houses;
-use snapshot::Snapshot;
+use snapshot::View;
 use std::sync::ledger::Ledger;
 use tree_geom::{Steps, range_of_page};
 
-/// The snapshot of a read, and the houses of its nodes and pages.
+/// The version that is read, and the houses of its nodes and pages.
 #[derive(Drop)]
 pub(crate) struct ReadSource<'a> {
-    pub snapshot: &'a Snapshot,
+    pub snapshot: &'a View<'a>,
     pub nodes: &'a NodeHouse,
     pub houses: &'a Houses,
 }
@@ -69,7 +69,7 @@ impl LeafParts {
 // The node that the row of update `j` has for the range.
 #[inline(always)]
 fn node<L: Ledger>(
-    snapshot: &Snapshot,
+    snapshot: &View,
     nodes: &NodeHouse,
     j: u64,
     range: Range,
@@ -88,7 +88,7 @@ fn node<L: Ledger>(
 
 // The versions whose rows have the nodes of the halves of the range, by its node in the row of update `j`.
 pub(crate) fn links<L: Ledger>(
-    snapshot: &Snapshot,
+    snapshot: &View,
     nodes: &NodeHouse,
     j: u64,
     range: Range,
@@ -110,7 +110,7 @@ pub(crate) fn links<L: Ledger>(
 // The leaf of the page in the row of update `j`.
 #[inline(always)]
 pub(crate) fn leaf<L: Ledger>(
-    snapshot: &Snapshot,
+    snapshot: &View,
     nodes: &NodeHouse,
     j: u64,
     page: u64,

@@ -10,7 +10,7 @@ use Rattle.node_store.specs.House.{IsIn}
 use Rattle.node_store.specs.UpdateRows.{UpdateRow, stored_of}
 use Rattle.snapshot.specs.Versions.{Version, IsVersion, IsRowOf, row_at, no_row, updates, older_version}
 use Rattle.snapshot.specs.Laws.{AreRowsOf, TellUpdates, RowsTell}
-use Rattle.snapshot.proofs.Lists.{length-updates}
+use Rattle.snapshot.proofs.Lists.{length-updates, row_at_taken}
 use Rattle.request_form.specs.declared.form.Fault.{Fault}
 use Rattle.request_form.specs.declared.form.Fault.TheVariants as Faults
 use Rattle.client_session.specs.Opening.{IsOfStore, RangeCause, ReadsRange}
@@ -26,10 +26,6 @@ use Rattle.read_board.specs.declared.standing.Way.{Way}
 use Rattle.read_board.specs.declared.standing.Way.TheVariants as Ways
 use Rattle.read_board.proofs.Holding.{get_taken}
 
-row_at_taken : (rows : List UpdateRow) (n k : ℕ) → k ≤ n → row_at (take n rows) k ≡ row_at rows k
-row_at_taken rows n zero le = refl
-row_at_taken rows n (suc k) le = get_taken n k rows no_row (omega arith)
-
 pow_some : (i : ℕ) → 1 ≤ 2 ^ i
 pow_some zero = omega arith
 pow_some (suc i) = let rest = pow_some i in omega (arith, rest)
@@ -44,7 +40,7 @@ tells_older tell v n some is le =
     tell v.page_size (updates v.rows) (take n v.rows) some is.replayable (record {
       few = omega (arith, count, length-updates v.rows);
       each = λ k from to.
-          subst (λ (row : UpdateRow). IsRowOf v.page_size (updates v.rows) k row) (sym (row_at_taken v.rows n k (omega (arith, count)))) (is.rows k from (omega (arith, count)));
+          subst (λ (row : UpdateRow). IsRowOf v.page_size (updates v.rows) k row) (sym (row_at_taken v.rows n k to)) (is.rows k from (omega (arith, count)));
     })
 
 pub of_store_older : (store : StoreState) (v : Version) (n : ℕ) → IsOfStore store v → IsOfStore store (older_version v n)
@@ -54,14 +50,6 @@ of_store_older store v n is = record {
 }
 
 module _ {D : Type 0} (on : Refresh) (s s' : SessionState D) (version offset count : ℕ) where
-  pub no_memory : (before : ℕ) → ByBoard on s version offset count (Err Faults.NoMemory) s before before
-  no_memory before = record {
-    way = tt;
-    session = refl;
-    reads = record { bytes = tt; few = tt; within = tt; cause = RangeCause.no_memory refl };
-    steps = omega arith;
-  }
-
   module _ (tell : RowsTell) (some : 1 ≤ on.snapshot.page_size) (is : IsVersion on.snapshot) (of_store : IsOfStore s.store on.snapshot) (le : version ≤ version_of on) where
     -- what a read of the older version gives is what a read by the board gives
     board_reads : (said : Result (List ℕ) Fault)

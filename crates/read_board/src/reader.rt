@@ -1,5 +1,5 @@
 // A reader's place and what it has seen and learnt.
-ghost use Rattle.std.specs.Prelude.{◌≡◌, ◌<◌, [], Some, IsSome, IfSome, is_some, option_copied};
+ghost use Rattle.std.specs.Prelude.{◌≡◌, ◌<◌, [], length, Some, IsSome, IfSome, is_some, option_copied};
 ghost use Rattle.std.specs.Arc.{arc_value};
 ghost use mathlib.Core.List.{IsPrefix};
 ghost use Rattle.left_right.specs.Sides.{view};
@@ -38,15 +38,27 @@ impl Model for Reader {
     ghost invariant = { λ r. ShowsFront (option_map arc_value r.chart) r.front × IfSome r.place (λ p. known (seen_there p.place) ≡ Some r.front.board) };
 }
 
-// The place, and the chart that is published there.
-fn looked(place: Place) -> (Place, Option<Arc<Chart>>)
+// The chart that is shown, if it has more than so many refreshes. Any other is left alone: to share it at each read, all readers would
+// write the one count of its owners all the time.
+fn newer(shown: &Arc<Chart>, seen: u64) -> Option<Arc<Chart>>
+    ensures { IfSome result (λ c. (arc_value c ≡ arc_value shown.now) × (seen < length (arc_value c).list)) }
+{
+    if seen < shown.front().len() {
+        Arc::try_clone(shown).ok()
+    } else {
+        None
+    }
+}
+
+// The place, and the chart that is published there, if it has more than so many refreshes.
+fn looked(place: Place, seen: u64) -> (Place, Option<Arc<Chart>>)
     requires { IsSome (known (view place.place)) }
     ensures place { known (view result.0.place) ≡ known (view place.place) }
     ensures board { IfSome result.1 (λ c. known (view place.place) ≡ Some (arc_value c).board) }
 {
     match place.enter_as::<Sees>() {
         Ok(reading) => {
-            let chart = Arc::try_clone(&reading.get().chart).ok();
+            let chart = newer(&reading.get().chart, seen);
             (reading.leave(), chart)
         }
         Err(place) => (place, None),
@@ -113,7 +125,7 @@ impl Reader {
         let Some(place) = self.place.take() else {
             return;
         };
-        let (place, chart) = looked(place);
+        let (place, chart) = looked(place, self.front.len());
         self.place = Some(place);
         if let Some(chart) = chart {
             self.take_in(chart);

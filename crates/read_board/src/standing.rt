@@ -77,10 +77,8 @@ fn read_refresh<'a, D: Door, G: Gate, L: Ledger>(
 {
     snapshot::laws::rows_tell();
     on.snapshot.stands();
-    let Ok(older) = on.snapshot.at(version) else {
-        return Err(Fault::NoMemory);
-    };
-    by(Way::Board, session.read_at(&older, offset, count, steps))
+    let older = on.snapshot.view_at(version);
+    by(Way::Board, session.read_view(&older, offset, count, steps))
 }
 
 // The session's own read.

@@ -3,6 +3,10 @@ use Rattle.std.proofs.Common.{◌≡◌, refl, sym, ◌∙◌, ap, ℕ, zero, su
 use Rattle.std.proofs.Math.Seq.{drop-cons}
 use Rattle.std.proofs.lemmas.Bool.{lt-ltb, false≢true}
 use Rattle.std.proofs.lemmas.List.Elements.{All-contains_itself}
+use Rattle.page_fan.specs.Counts.{NoneFell}
+use Rattle.snapshot.specs.Versions.{Version}
+use Rattle.range_reader.specs.Faults.{PageFailedIn}
+use Rattle.range_reader.proofs.Counting.{page_since}
 use Rattle.session_parts.specs.Ranges.{OnRangePast, OnPageLost, first_end_past}
 use Rattle.session_parts.specs.declared.reading.RangeFault.{RangeFault}
 use Rattle.session_parts.specs.declared.reading.RangeFault.TheVariants.{RangePastSize, PageFault, NoMemory}
@@ -36,6 +40,15 @@ pub on_past : (fault : RangeFault) (A B : Type 0) → (A → B) → OnRangePast 
 on_past (RangePastSize end size) A B f a = f a
 on_past (PageFault page) A B f a = tt
 on_past NoMemory A B f a = tt
+
+pub on_both : (fault : RangeFault) (P Q R : ℕ → Type 0) → ((page : ℕ) → P page → Q page → R page) → OnPageLost fault P → OnPageLost fault Q → OnPageLost fault R
+on_both (RangePastSize end size) P Q R f a b = tt
+on_both (PageFault page) P Q R f a b = f page a b
+on_both NoMemory P Q R f a b = tt
+
+-- doors that failed since then failed since an earlier moment
+pub failed_since : (s : Version) (o n : ℕ) (before mid now : List ℕ) (i : ℕ) → NoneFell before mid → PageFailedIn s o n mid now i → PageFailedIn s o n before now i
+failed_since s o n before mid now i kept f = record { from = f.from; upto = f.upto; failed = page_since s before mid now i kept f.failed }
 
 pub on_lost : (fault : RangeFault) (P Q : ℕ → Type 0) → ((page : ℕ) → P page → Q page) → OnPageLost fault P → OnPageLost fault Q
 on_lost (RangePastSize end size) P Q f a = tt

@@ -5,6 +5,7 @@ use Rattle.range_log.specs.Extents.{Extent}
 use Rattle.range_log.specs.Visits.{visits}
 use Rattle.snapshot.specs.Versions.{Version}
 use Rattle.snapshot.specs.Laws.{TellUpdates}
+use Rattle.range_reader.specs.Faults.{PageFailedIn}
 use Rattle.session_parts.specs.declared.reading.RangeFault.{RangeFault}
 use Rattle.session_parts.specs.declared.reading.RangeFault.TheVariants.{RangePastSize, PageFault, NoMemory}
 
@@ -42,6 +43,13 @@ pub record IsMetByOne (p : ℕ) (ranges : List (ℕ × ℕ)) (i : ℕ) : Type 0 
   pub range : ℕ × ℕ
   pub among : Contains ranges range
   pub met : IsMet p range.0 range.1 i
+
+-- the same, and all doors failed of a stored page that page i needs
+pub record PageFailedInOne (s : Version) (ranges : List (ℕ × ℕ)) (before now : List ℕ) (i : ℕ) : Type 0 where
+  pub range : ℕ × ℕ
+  pub among : Contains ranges range
+  pub some : 1 ≤ range.1
+  pub failed : PageFailedIn s range.0 range.1 before now i
 
 -- a fact, where the range ends past the size
 abbrev pub OnRangePast : RangeFault → Type 0 → Type 0

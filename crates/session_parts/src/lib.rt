@@ -1,6 +1,6 @@
 //! What a session reads, holds, waits for and says: none of it numbers an update or takes a turn.
 //!
-//! - [`read_range`] reads bytes of a version, by its snapshot, into a buffer of their own, and [`read_ranges`] those of many ranges.
+//! - [`read_range`] reads bytes of a version into a buffer of their own, and [`read_ranges`] those of many ranges.
 //! - [`Tickets`] are the updates that a session holds: numbered, and not yet finished.
 //! - [`Notices`] wake those that wait for a publication.
 //! - [`Started`], [`Done`], [`Updated`] and [`HangUp`] are what became of updates, and `said_of_read` and its like are the replies to

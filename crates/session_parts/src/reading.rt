@@ -8,14 +8,14 @@ ghost use Rattle.page_fan.specs.Counts.{NoneFell};
 ghost use Rattle.snapshot.specs.Versions.{IsVersionIn};
 ghost use Rattle.range_reader.specs.Reading.{IsKnown};
 ghost use Rattle.range_reader.specs.Faults.{PageFailedIn};
-ghost use Rattle.session_parts.specs.Ranges.{OverUpdates, IsMet, IsMetByOne, OnRangePast, OnPageLost, first_end_past, joined, bytes_in, visits_of};
+ghost use Rattle.session_parts.specs.Ranges.{OverUpdates, IsMet, IsMetByOne, PageFailedInOne, OnRangePast, OnPageLost, first_end_past, joined, bytes_in, visits_of};
 
 use blob_model::Bytes;
 use node_store::NodeHouse;
 use page_fan::Doors;
 use page_store::{Door, Houses};
-use range_reader::{KnownNode, ReadFault, ReadRoom, read_knowing};
-use snapshot::Snapshot;
+use range_reader::{KnownNode, ReadFault, ReadRoom, read_version};
+use snapshot::View;
 use std::alloc::Global;
 use std::sync::ledger::Ledger;
 use thiserror::Error;
@@ -45,7 +45,7 @@ pub enum RangeFault {
 /// The clause `steps` bounds its node steps; a range past the size takes none. `room` is one for pages of the snapshot's size, and
 /// `known` has nodes of this version that earlier reads came past.
 fn read_into<D: Door, L: Ledger>(
-    snapshot: &Snapshot,
+    snapshot: &View,
     nodes: &NodeHouse,
     houses: &Houses,
     doors: &mut Doors<D>,
@@ -83,7 +83,7 @@ fn read_into<D: Door, L: Ledger>(
     range_log::laws::page_bytes_stay();
     snapshot.page_size().stands();
     snapshot.stands();
-    match read_knowing(
+    match read_version(
         snapshot, nodes, houses, doors, room, known, offset, out, steps,
     ) {
         Ok(()) => Ok(()),
@@ -101,7 +101,7 @@ fn read_into<D: Door, L: Ledger>(
 /// for pages of the snapshot's size, and stays one.
 pub fn read_range<D: Door, L: Ledger>(
     alloc: Global,
-    snapshot: &Snapshot,
+    snapshot: &View,
     nodes: &NodeHouse,
     houses: &Houses,
     doors: &mut Doors<D>,
@@ -181,7 +181,7 @@ fn first_past(size: u64, ranges: &[(u64, u64)]) -> Option<u128>
 // Fills a buffer with the bytes of these ranges of the version, one behind the other. Of the inner nodes that
 // several of them lie below, those that `known` has places for are asked for once.
 fn fill_ranges<D: Door, L: Ledger>(
-    snapshot: &Snapshot,
+    snapshot: &View,
     nodes: &NodeHouse,
     houses: &Houses,
     doors: &mut Doors<D>,
@@ -200,6 +200,7 @@ fn fill_ranges<D: Door, L: Ledger>(
     ensures bytes { OverUpdates snapshot.now (λ us. OnOk result (out.new ≡ joined (content us (length snapshot.now.rows)) ranges.now)) }
     ensures past { OverUpdates snapshot.now (λ us. IfErr result (λ fault. OnRangePast fault (first_end_past (size_of us (length snapshot.now.rows)) ranges.now ≢ None))) }
     ensures page { IfErr result (λ fault. OnPageLost fault (IsMetByOne snapshot.now.page_size ranges.now)) }
+    ensures failed { IfErr result (λ fault. OnPageLost fault (PageFailedInOne snapshot.now ranges.now (map D.faults doors.old) (map D.faults doors.new))) }
     ensures counted { IfErr result (λ fault. OnPageLost fault (λ _. HasRisen (sum_by D.faults doors.old) (sum_by D.faults doors.new))) }
     ensures memory { IfErr result (λ fault. fault ≢ RangeFault.NoMemory) }
     ensures steps { OverUpdates snapshot.now (λ us. steps.new ≤ steps.old + visits_of snapshot.now.page_size (extents us) (length snapshot.now.rows) ranges.now) }
@@ -226,7 +227,7 @@ fn fill_ranges<D: Door, L: Ledger>(
 /// The bytes of these ranges of the version, one behind the other. They have `count` bytes together.
 ///
 /// `RangePastSize` comes exactly where one of them ends past the version's size, and tells of the first such range. `PageFault`
-/// comes only where a door failed, and names a page that one of the ranges meets. Memory is taken once for all bytes, when all
+/// names a page that one of the ranges meets, and comes only where all doors of a stored page failed that it needs. Memory is taken once for all bytes, when all
 /// ranges are known to be within the size, and each range is read into its place there. A little more is taken for the nodes near the
 /// tree's root, so that those that several ranges lie below are asked for once.
 ///
@@ -234,7 +235,7 @@ fn fill_ranges<D: Door, L: Ledger>(
 /// none. `room` is one for pages of the snapshot's size, and stays one.
 pub fn read_ranges<D: Door, L: Ledger>(
     alloc: Global,
-    snapshot: &Snapshot,
+    snapshot: &View,
     nodes: &NodeHouse,
     houses: &Houses,
     doors: &mut Doors<D>,
@@ -257,6 +258,7 @@ pub fn read_ranges<D: Door, L: Ledger>(
         → result ≡ Err (RangeFault.RangePastSize end (size_of us (length snapshot.now.rows)))) }
     ensures past { OverUpdates snapshot.now (λ us. IfErr result (λ fault. OnRangePast fault (first_end_past (size_of us (length snapshot.now.rows)) ranges.now ≢ None))) }
     ensures page { IfErr result (λ fault. OnPageLost fault (IsMetByOne snapshot.now.page_size ranges.now)) }
+    ensures failed { IfErr result (λ fault. OnPageLost fault (PageFailedInOne snapshot.now ranges.now (map D.faults doors.old) (map D.faults doors.new))) }
     ensures counted { IfErr result (λ fault. OnPageLost fault (λ _. HasRisen (sum_by D.faults doors.old) (sum_by D.faults doors.new))) }
 
     // What it costs.

@@ -2,7 +2,7 @@
 use Rattle.std.proofs.Common.{◌≡◌, ℕ, zero, suc, ◌+◌, ◌-◌, ◌*◌, ◌/◌, ◌^◌, ◌<◌, ◌≤◌, List, [], ◌∷◌, ◌++◌, length, take, drop, map, arith, refl, ap, sym, ◌∙◌, subst, inl, inr, length-append}
 use Rattle.std.proofs.Math.Nat.{div-eq_of_lt, add-div_right}
 use Rattle.std.proofs.lemmas.Bool.{cases_lt}
-use Rattle.std.proofs.lemmas.List.{map-append, take-append-le}
+use Rattle.std.proofs.lemmas.List.{map-append, take-append-le, take-append-drop}
 use Rattle.blob_model.specs.Content.{Update, content, content_from, size_of}
 use Rattle.tree_geom.specs.declared.range.Range.{Range}
 use Rattle.tree_geom.specs.declared.node.Node.{Node}
@@ -15,7 +15,7 @@ use Rattle.page_store.specs.Stored.{Cut, Stored, IsCut, bytes_of_pages}
 use Rattle.node_store.specs.UpdateRows.{UpdateRow}
 use Rattle.range_log.proofs.Bytes.{length-extents, extent_is}
 use Rattle.range_log.proofs.Growth.{size_front, extent_of_front}
-use Rattle.snapshot.specs.Versions.{Version, row_at, update_of_row, updates, fold_bytes, IsRowOf, IsVersion}
+use Rattle.snapshot.specs.Versions.{Version, row_at, update_of_row, updates, fold_bytes, older_version, IsRowOf, IsVersion}
 use Rattle.snapshot.proofs.Lists.{row_at_front, row_at_new, length-updates, update_at_front, map_same}
 
 -- a row stays that of its update in a longer list
@@ -126,6 +126,12 @@ IsVersion-front stay grow blob p rows more is =
           let f : size_of (us ++ rest) v ≤ 2 ^ 40 = subst P join (is.fits v long) in
           omega (arith, size_front us rest v (omega arith));
     }
+
+-- so is an older version
+pub IsVersion-older : RowsStay → ExtentsGrow → (s : Version) (v : ℕ) → IsVersion s → IsVersion (older_version s v)
+IsVersion-older stay grow s v is =
+    let P : List UpdateRow → Type 0 = λ l. IsVersion (of_rows s.blob s.page_size l) in
+    IsVersion-front stay grow s.blob s.page_size (take v s.rows) (drop v s.rows) (subst P (sym (take-append-drop v s.rows)) is)
 
 pub IsVersion-push : RowsStay → ExtentsGrow → (blob p : ℕ) (rows : List UpdateRow) (row : UpdateRow) → IsVersion (of_rows blob p rows) → length rows < 1048576
     → IsRowOf p (updates (rows ++ row ∷ [])) (length rows + 1) row → Replayable (updates (rows ++ row ∷ []))

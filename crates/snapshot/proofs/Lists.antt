@@ -1,7 +1,7 @@
 -- Lists of rows, of updates and of where these fall.
-use Rattle.std.proofs.Common.{◌≡◌, ℕ, zero, suc, ◌+◌, ◌<◌, ◌≤◌, List, [], ◌∷◌, ◌++◌, length, map, arith, refl, ap, ◌∙◌}
+use Rattle.std.proofs.Common.{◌≡◌, ℕ, zero, suc, ◌+◌, ◌<◌, ◌≤◌, List, [], ◌∷◌, ◌++◌, length, take, drop, map, arith, refl, sym, ap, ◌∙◌}
 use Rattle.std.specs.List.{range_with_len}
-use Rattle.std.proofs.lemmas.List.{length-map, get_or-map, get_or_append_left}
+use Rattle.std.proofs.lemmas.List.{length-map, get_or-map, get_or_append_left, take-append-drop}
 use Rattle.std.proofs.Math.Seq.{get_or-append_seam}
 use Rattle.blob_model.specs.Content.{Update}
 use Rattle.range_log.specs.Updates.{update_at, no_update}
@@ -11,6 +11,9 @@ use Rattle.snapshot.specs.Versions.{no_row, row_at, update_of_row, updates}
 pub row_at_front : (rows more : List UpdateRow) (k : ℕ) → k ≤ length rows → row_at (rows ++ more) k ≡ row_at rows k
 row_at_front rows more zero le = refl
 row_at_front rows more (suc k) le = get_or_append_left rows more no_row k le
+
+pub row_at_taken : (rows : List UpdateRow) (n k : ℕ) → k ≤ length (take n rows) → row_at (take n rows) k ≡ row_at rows k
+row_at_taken rows n k le = sym (row_at_front (take n rows) (drop n rows) k le) ∙ ap (λ (all : List UpdateRow). row_at all k) (take-append-drop n rows)
 
 pub row_at_new : (rows : List UpdateRow) (row : UpdateRow) → row_at (rows ++ row ∷ []) (suc (length rows)) ≡ row
 row_at_new rows row = get_or-append_seam rows row [] no_row

@@ -6,6 +6,8 @@
 
 pub mod laws;
 mod version;
+mod views;
 
 pub use node_store::NoMemory;
 pub use version::Snapshot;
+pub use views::View;

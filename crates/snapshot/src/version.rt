@@ -8,6 +8,7 @@ ghost use Rattle.snapshot.specs.Versions.{row_at, bytes_of, updates_of, next_ver
 ghost use Rattle.snapshot.specs.Versions.{under_blob, size_now, HasNodeFor, IsFound, root_key, IsRowOf};
 ghost use Rattle.snapshot.specs.Versions.{IsVersion};
 
+use crate::views::View;
 use node_store::{NoMemory, NodeRef, Row};
 use page_store::StoredPage;
 use radix_list::RadixList;
@@ -16,7 +17,7 @@ use std::alloc::Global;
 use std::marker::{Brand, Model};
 use std::sync::Arc;
 use std::sync::ledger::{Blank, Ledger};
-use tree_geom::{NodeKey, PageSize, Range, Steps, span};
+use tree_geom::{NodeKey, PageSize, Range, Steps};
 
 /// A published version of a blob, and what is needed to read it: the rows of updates 1 to the version.
 ///
@@ -84,6 +85,23 @@ impl Snapshot {
         })
     }
 
+    /// The snapshot's version, to be read.
+    #[inline(always)]
+    pub fn view(&self) -> View<'_>
+        ensures { result ≡ self.now }
+    {
+        View::of(self, self.version())
+    }
+
+    /// An older version, or the snapshot's own, to be read as long as the snapshot is lent. It takes no memory and shares nothing.
+    #[inline(always)]
+    pub fn view_at(&self, version: u64) -> View<'_>
+        requires { version ≤ length self.now.rows }
+        ensures { result ≡ older_version self.now version }
+    {
+        View::of(self, version)
+    }
+
     /// The same version with the same rows under another blob's id. The rows keep the blob under which they were made.
     pub fn under(&self, blob: u64) -> Result<Snapshot, NoMemory>
         ensures { IfOk result (λ s. s ≡ under_blob self.now blob) }
@@ -123,7 +141,7 @@ impl Snapshot {
         ensures size { result ≡ size_now self.now }
         ensures fits { result ≤ 2 ^ 40 }
     {
-        self.size_at(self.version())
+        self.view().size()
     }
 
     /// The page size of the blob.
@@ -139,11 +157,7 @@ impl Snapshot {
         ensures size { result ≡ size_of (updates_of self.now) j }
         ensures fits { result ≤ 2 ^ 40 }
     {
-        laws::page_bytes_stay();
-        if j == 0 {
-            return 0;
-        }
-        self.row(j).touch().size
+        self.view().size_at(j)
     }
 
     /// The key of the version's root, under the blob that it was put under. None exactly where the size is 0.
@@ -153,19 +167,7 @@ impl Snapshot {
         ensures holds { IfSome result (λ key. size_now self.now ≤ key.range.size) }
         ensures fits { IfSome result (λ key. key.range.size ≤ 2 ^ 40) }
     {
-        laws::page_bytes_stay();
-        let version = self.version();
-        if version == 0 {
-            return None;
-        }
-        Some(NodeKey {
-            blob: self.row(version).blob(),
-            version,
-            range: Range {
-                offset: 0,
-                size: span(self.page_size, self.size()),
-            },
-        })
+        self.view().root()
     }
 
     /// The node that the row of update `j` has for the range, or None where it has none. In both cases it takes one node step, the
@@ -182,9 +184,7 @@ impl Snapshot {
         ensures found { IfSome result (λ node. IsFound self.now j range node) }
         ensures step { steps.new ≡ steps.old + 1 }
     {
-        laws::row_keys_exact();
-        laws::page_bytes_stay();
-        self.row(j).at(range, steps)
+        self.view().find(j, range, steps)
     }
 
     /// The stored page of update `j` that the number `q` of a piece means. First come the update's pages, whose bytes are those
@@ -196,7 +196,7 @@ impl Snapshot {
         ensures bytes { q < length (row_at self.now.rows j).pages.pages
             → result.now.bytes ≡ bytes_of_page self.now.page_size (bytes_of (row_at self.now.rows j)) q }
     {
-        self.row(j).page(q)
+        self.view().page(j, q)
     }
 
     /// The rows of updates 1 to the version, in the list that the snapshot keeps: item `j - 1` is the row of update `j`. It copies
@@ -208,7 +208,7 @@ impl Snapshot {
     }
 
     // The row of update `j`.
-    fn row(&self, j: u64) -> &Row
+    pub(crate) fn row(&self, j: u64) -> &Row
         requires { (1 ≤ j) × (j ≤ length self.now.rows) }
         ensures this { result.now ≡ row_at self.now.rows j }
         ensures stands { IsVersion self.now }

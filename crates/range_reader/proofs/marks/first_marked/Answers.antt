@@ -1,4 +1,4 @@
-use Rattle.std.proofs.Common.{◌+◌, ◌-◌, arith, false}
+use Rattle.std.proofs.Common.{◌+◌, ◌-◌, arith}
 use Rattle.range_reader.proofs.Blocks.{none_further}
 use Rattle.range_reader.proofs.marks.first_marked.Goals as goal
 

@@ -1,4 +1,4 @@
-use Rattle.std.proofs.Common.{arith, false, get_or}
+use Rattle.std.proofs.Common.{arith}
 use Rattle.range_reader.proofs.Blocks.{none_with}
 use Rattle.range_reader.proofs.marks.has_mark.Goals as goal
 

@@ -11,23 +11,23 @@ use Rattle.read_board.specs.Reads.{ByBoard, bytes_said}
 use Rattle.read_board.proofs.Reading.{board_read, of_store_older, same_bytes, stays_on, page_some}
 use Rattle.read_board.proofs.standing.read_refresh.Goals as goal
 
-pub read_at-requires : goal.read_at-requires
-read_at-requires g c = record {
-  of_store = subst (λ (v : Version). IsOfStore c.args.session.now.store v) (sym c.in-Ok.ensures) (of_store_older c.args.session.now.store c.args.on.now.snapshot c.args.version c.requires.of_store);
+pub read_view-requires : goal.read_view-requires
+read_view-requires g c = record {
+  of_store = subst (λ (v : Version). IsOfStore c.args.session.now.store v) (sym c.view_at-older.ensures) (of_store_older c.args.session.now.store c.args.on.now.snapshot c.args.version c.requires.of_store);
 }
 
 pub returns-clause-board : goal.returns-clause-board
 returns-clause-board g c =
     let on = c.args.on.now in
-    let x = c.read_at.ensures in
+    let x = c.read_view.ensures in
     let some = page_some on.snapshot.page_size c.stands.ensures.page_size in
-    subst (λ (said : Result (List ℕ × Way) Fault). ByBoard on c.args.session.now c.args.version c.args.offset c.args.count said c.read_at.new.self c.args.steps.now c.read_at.new.steps) (sym c.by.ensures)
-    (board_read on c.args.session.now c.read_at.new.self c.args.version c.args.offset c.args.count c.rows_tell.ensures some c.stands.ensures c.requires.of_store c.requires.within c.in-Ok.older c.in-Ok.ensures c.read_at.result c.args.steps.now c.read_at.new.steps x.seen_stays x.reads x.steps)
+    subst (λ (said : Result (List ℕ × Way) Fault). ByBoard on c.args.session.now c.args.version c.args.offset c.args.count said c.read_view.new.self c.args.steps.now c.read_view.new.steps) (sym c.by.ensures)
+    (board_read on c.args.session.now c.read_view.new.self c.args.version c.args.offset c.args.count c.rows_tell.ensures some c.stands.ensures c.requires.of_store c.requires.within c.view_at-older.result c.view_at-older.ensures c.read_view.result c.args.steps.now c.read_view.new.steps x.seen_stays x.reads x.steps)
 
 pub returns-clause-faults : goal.returns-clause-faults
 returns-clause-faults g c =
-    let same : bytes_said c.by.result ≡ c.read_at.result = ap bytes_said c.by.ensures ∙ same_bytes Ways.Board c.read_at.result in
-    subst (λ (said : Result (List ℕ) Fault). RoseBy (fault_count (read_reply said)) (sum_by g.D.Door.faults c.args.session.now.doors) (sum_by g.D.Door.faults c.read_at.new.self.doors)) (sym same) c.read_at.ensures.faults
+    let same : bytes_said c.by.result ≡ c.read_view.result = ap bytes_said c.by.ensures ∙ same_bytes Ways.Board c.read_view.result in
+    subst (λ (said : Result (List ℕ) Fault). RoseBy (fault_count (read_reply said)) (sum_by g.D.Door.faults c.args.session.now.doors) (sum_by g.D.Door.faults c.read_view.new.self.doors)) (sym same) c.read_view.ensures.faults
 
 pub returns-clause-goes_on : goal.returns-clause-goes_on
-returns-clause-goes_on g c = stays_on c.args.session.now c.read_at.new.self c.read_at.ensures.seen_stays
+returns-clause-goes_on g c = stays_on c.args.session.now c.read_view.new.self c.read_view.ensures.seen_stays

@@ -1,4 +1,4 @@
-use Rattle.std.proofs.Common.{◌≡◌, ◌≢◌, sym, ◌∙◌, ap, subst, ℕ, ◌+◌, ◌-◌, ◌<◌, ◌≤◌, List, ◌∷◌, ◌++◌, append_assoc, length, length-drop, take, drop, None, slice_index_or, arith}
+use Rattle.std.proofs.Common.{◌≡◌, ◌≢◌, sym, ◌∙◌, ap, subst, ℕ, ◌+◌, ◌-◌, ◌<◌, ◌≤◌, List, ◌∷◌, ◌++◌, append_assoc, map, length, length-drop, take, drop, None, slice_index_or, arith}
 use Rattle.std.proofs.lemmas.List.{length-take-le}
 use Rattle.std.proofs.lemmas.List.Sums.{sum_by-cons}
 use Rattle.std.proofs.lemmas.Slice.{take-put_mid}
@@ -6,8 +6,10 @@ use borrow.Rule.Slice.PartMut.{put_mid}
 use Rattle.blob_model.specs.Content.{content, size_of}
 use Rattle.range_log.specs.Updates.{extents}
 use Rattle.range_log.specs.Visits.{visits}
-use Rattle.session_parts.specs.Ranges.{IsMet, IsMetByOne, first_end_past, joined, bytes_in, visits_of}
-use Rattle.session_parts.proofs.JoinedRanges.{at_drop, one_of_them, some_past, on_past, on_lost}
+use Rattle.range_reader.specs.Faults.{PageFailedIn}
+use Rattle.range_reader.proofs.Counting.{kept_twice}
+use Rattle.session_parts.specs.Ranges.{IsMet, IsMetByOne, PageFailedInOne, first_end_past, joined, bytes_in, visits_of}
+use Rattle.session_parts.proofs.JoinedRanges.{at_drop, one_of_them, some_past, on_past, on_lost, on_both, failed_since}
 use Rattle.session_parts.proofs.reading.fill_ranges.Goals as goal
 
 pub returns-in-Err-clause-past : goal.returns-in-Err-clause-past
@@ -41,6 +43,32 @@ returns-in-Err-clause-page g c =
     let whole : length (take (filled + r.1 - filled) (drop filled out)) ≡ r.1 = ap (λ (n : ℕ). length (take n (drop filled out))) count ∙ length-take-le r.1 (drop filled out) room in
     let p = c.args.snapshot.now.page_size in
     on_lost c.in-Err.fault _ (IsMetByOne p ranges) (λ page met. record { range = r; among = one_of_them ranges k within; met = subst (λ (n : ℕ). IsMet p r.0 n page) whole met }) c.in-Err.ensures.page
+
+pub returns-in-Err-clause-failed : goal.returns-in-Err-clause-failed
+returns-in-Err-clause-failed g c =
+    let ranges = c.args.ranges.now in
+    let k = c.loop-range.range-index in
+    let filled = c.loop-range.filled in
+    let out = c.loop-range.out in
+    let r : ℕ × ℕ = slice_index_or ranges k (0, 0) in
+    let within : k < length ranges = c.loop-range-test.true in
+    let tail : drop k ranges ≡ r ∷ drop (k + 1) ranges = at_drop ranges k within in
+    let bytes : bytes_in (drop k ranges) ≡ r.1 + bytes_in (drop (k + 1) ranges) = ap bytes_in tail ∙ sum_by-cons (λ (x : ℕ × ℕ). x.1) r (drop (k + 1) ranges) in
+    let room : r.1 ≤ length (drop filled out) = omega (arith, length-drop filled out, c.loop-range.auto.out, c.loop-range.invariant.left, bytes) in
+    let count : filled + r.1 - filled ≡ r.1 = omega arith in
+    let whole : length (take (filled + r.1 - filled) (drop filled out)) ≡ r.1 = ap (λ (n : ℕ). length (take n (drop filled out))) count ∙ length-take-le r.1 (drop filled out) room in
+    let s = c.args.snapshot.now in
+    let counts = map g.D.Door.faults in
+    on_both c.in-Err.fault _ _ (PageFailedInOne s ranges (counts c.args.doors.now) (counts c.read_into.new.doors))
+    (λ page met lost. record {
+      range = r;
+      among = one_of_them ranges k within;
+      some = subst (λ (n : ℕ). 1 ≤ n) whole met.some;
+      failed =
+          failed_since s r.0 r.1 _ _ _ page c.loop-range.invariant.kept.none_fell
+          (subst (λ (n : ℕ). PageFailedIn s r.0 n (counts c.loop-range.doors) (counts c.read_into.new.doors) page) whole lost);
+    })
+    c.in-Err.ensures.page c.in-Err.ensures.failed
 
 pub returns-in-Err-clause-steps : goal.returns-in-Err-clause-steps
 returns-in-Err-clause-steps g c us tell =
@@ -106,7 +134,7 @@ loop-range-preserved g c =
           subst (λ (n : ℕ). c.read_into.new.steps ≤ c.loop-range.steps + visits p (extents us) v r.0 n) whole (c.read_into.ensures.steps us tell)
           in
           omega (arith, here, visited, c.loop-range.invariant.steps us tell);
-      risen = omega (arith, c.loop-range.invariant.risen, c.read_into.ensures.sum_never_falls);
+      kept = kept_twice _ _ _ _ _ _ c.loop-range.invariant.kept (record { none_fell = c.read_into.ensures.none_fell; total = c.read_into.ensures.sum_never_falls });
       doors = c.read_into.ensures.doors_stay ∙ c.loop-range.invariant.doors;
       room = c.read_into.ensures.room_stays ∙ c.loop-range.invariant.room;
       known = c.read_into.ensures.known;

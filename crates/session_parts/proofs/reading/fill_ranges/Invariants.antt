@@ -1,9 +1,10 @@
-use Rattle.std.proofs.Common.{◌≡◌, ◌+◌, ◌≤◌, ◌++◌, List, length, take, drop}
+use Rattle.std.proofs.Common.{◌≡◌, ◌+◌, ◌≤◌, ◌++◌, List, length, map, take, drop}
 use Rattle.std.specs.Prelude.{All, sum_by}
 use Rattle.blob_model.specs.Content.{Update, content}
 use Rattle.range_log.specs.Updates.{extents}
 use Rattle.snapshot.specs.Laws.{TellUpdates}
 use Rattle.range_reader.specs.Reading.{IsKnown}
+use Rattle.range_reader.specs.Faults.{CountsKept}
 use Rattle.session_parts.specs.Ranges.{joined, bytes_in, visits_of}
 use Rattle.session_parts.proofs.reading.fill_ranges.Given as goal
 
@@ -14,7 +15,7 @@ invariant-loop-range g l = record {
       → take l.filled l.out ++ joined (content us (length l.snapshot.rows)) (drop l.range-index l.ranges) ≡ joined (content us (length l.snapshot.rows)) l.ranges;
   steps : (us : List Update) → TellUpdates l.snapshot.page_size us l.snapshot.rows
       → l.steps + visits_of l.snapshot.page_size (extents us) (length l.snapshot.rows) (drop l.range-index l.ranges) ≤ l.fn.steps + visits_of l.snapshot.page_size (extents us) (length l.snapshot.rows) l.ranges;
-  risen : sum_by g.D.Door.faults l.fn.doors ≤ sum_by g.D.Door.faults l.doors;
+  kept : CountsKept (map g.D.Door.faults l.fn.doors) (map g.D.Door.faults l.doors) (sum_by g.D.Door.faults l.fn.doors) (sum_by g.D.Door.faults l.doors);
   doors : length l.doors ≡ length l.fn.doors;
   room : length l.room ≡ length l.fn.room;
   known : All (IsKnown l.snapshot) l.known;

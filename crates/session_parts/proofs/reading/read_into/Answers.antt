@@ -4,7 +4,7 @@ use Rattle.session_parts.proofs.reading.read_into.Goals as goal
 
 pub returns-in-Ok-clause-steps : goal.returns-in-Ok-clause-steps
 returns-in-Ok-clause-steps g c us tell =
-    omega (arith, bound_told c.older_versions_stay.ensures.rows c.page_bytes_stay.ensures.extents c.args.snapshot.now us c.args.offset (length c.args.out.now) tell, c.read_knowing.ensures.steps)
+    omega (arith, bound_told c.older_versions_stay.ensures.rows c.page_bytes_stay.ensures.extents c.args.snapshot.now us c.args.offset (length c.args.out.now) tell, c.read_version.ensures.steps)
 
 pub returns-in-Err-PageFault-clause-page : goal.returns-in-Err-PageFault-clause-page
 returns-in-Err-PageFault-clause-page g c =
@@ -15,4 +15,4 @@ returns-in-Err-PageFault-clause-page g c =
 
 pub returns-in-Err-PageFault-clause-steps : goal.returns-in-Err-PageFault-clause-steps
 returns-in-Err-PageFault-clause-steps g c us tell =
-    omega (arith, bound_told c.older_versions_stay.ensures.rows c.page_bytes_stay.ensures.extents c.args.snapshot.now us c.args.offset (length c.args.out.now) tell, c.read_knowing.ensures.steps)
+    omega (arith, bound_told c.older_versions_stay.ensures.rows c.page_bytes_stay.ensures.extents c.args.snapshot.now us c.args.offset (length c.args.out.now) tell, c.read_version.ensures.steps)

@@ -48,8 +48,8 @@ returns-clause-stays g c = λ history more seen published.
 
 pub returns-clause-failed : goal.returns-clause-failed
 returns-clause-failed g c =
-    read_lost g.D.Door.faults c.args.self.now c.open.new.self c.read_at.new.self c.args.blob c.args.version c.args.offset c.args.count c.in-Ok.snapshot c.in-Ok.ensures.opening c.read_at.ensures.seen_stays
-    c.read_at.result c.read_at.ensures.failed
+    read_lost g.D.Door.faults c.args.self.now c.open.new.self c.read_at.new.self c.args.blob c.args.version c.in-Ok.snapshot c.in-Ok.ensures.opening c.read_at.ensures.seen_stays
+    c.args.offset c.args.count c.read_at.result c.read_at.ensures.failed
 
 pub returns-in-Err-clause-failed : goal.returns-in-Err-clause-failed
 returns-in-Err-clause-failed g c = calm_lost c.in-Err.fault _ c.in-Err.ensures.calm

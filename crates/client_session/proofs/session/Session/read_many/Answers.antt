@@ -1,6 +1,7 @@
 use Rattle.std.proofs.Common.{◌≡◌, refl, subst, ℕ, ◌≤◌, List, length, None, Some}
 use Rattle.request_form.specs.Answers.{ranges_fault}
 use Rattle.request_form.specs.declared.form.Fault.TheVariants as Faults
+use Rattle.client_session.proofs.Losses.{calm_lost, ranges_lost}
 use Rattle.client_session.proofs.ManyRanges.{opened_ranges, unopened_ranges, no_step_opened, visits_opened, too_long_together}
 use Rattle.client_session.proofs.session.Session.read_many.Goals as goal
 
@@ -26,6 +27,14 @@ returns-clause-answers g c =
     let few : ranges_fault 0 c.args.ranges.now ≡ None = subst (λ (rs : List (ℕ × ℕ)). ranges_fault 0 rs ≡ None) c.as_slice-pairs.ensures.is c.in-Ok.ensures.few in
     opened_ranges c.args.self.now c.open.new.self c.args.blob c.args.version c.args.ranges.now few c.read_pairs.new.self c.in-Ok-open.snapshot c.read_pairs.result c.in-Ok-open.ensures.opening c.read_pairs.ensures.seen_stays
     (rw (← c.as_slice-pairs.ensures.is) c.read_pairs.ensures.reads)
+
+pub returns-in-Err-open-clause-failed : goal.returns-in-Err-open-clause-failed
+returns-in-Err-open-clause-failed g c = calm_lost c.in-Err-open.fault _ c.in-Err-open.ensures.calm
+
+pub returns-clause-failed : goal.returns-clause-failed
+returns-clause-failed g c =
+    ranges_lost g.D.Door.faults c.args.self.now c.open.new.self c.read_pairs.new.self c.args.blob c.args.version c.in-Ok-open.snapshot c.in-Ok-open.ensures.opening c.read_pairs.ensures.seen_stays
+    c.args.ranges.now c.read_pairs.result (rw (← c.as_slice-pairs.ensures.is) c.read_pairs.ensures.failed)
 
 pub returns-clause-steps : goal.returns-clause-steps
 returns-clause-steps g c =

@@ -2,7 +2,11 @@ use Rattle.std.proofs.Common.{sym, subst, ℕ, List, length, Result}
 use Rattle.request_form.specs.declared.form.Fault.{Fault}
 use Rattle.client_session.specs.Opening.{ReadsRanges}
 use Rattle.client_session.proofs.ManyRanges.{reads_ranges}
+use Rattle.client_session.proofs.Losses.{range_lost}
 use Rattle.client_session.proofs.session.Session.read_pairs.Goals as goal
+
+pub returns-clause-failed : goal.returns-clause-failed
+returns-clause-failed g c = rw (c.range_told.ensures.is, ← c.self.view_is) (range_lost c.read_ranges.result _ c.read_ranges.ensures.failed)
 
 pub returns-clause-reads : goal.returns-clause-reads
 returns-clause-reads g c = λ us tells.

@@ -1,5 +1,5 @@
 use Rattle.snapshot.proofs.Finding.{version_finds, version_finds_none, none_then, some_then}
-use Rattle.snapshot.proofs.version.Snapshot.find.Goals as goal
+use Rattle.snapshot.proofs.views.View.find.Goals as goal
 
 pub returns-clause-none : goal.returns-clause-none
 returns-clause-none g c =

@@ -7,12 +7,12 @@ use Rattle.snapshot.specs.Versions.{size_now, HasNodeFor}
 use Rattle.tree_geom.proofs.Spans.{page_pos}
 use Rattle.range_reader.proofs.Walking.{down, up, within_page}
 use Rattle.range_reader.proofs.Rooted.{not_zero, root_stands, root_newest, root_tree, walk_bound}
-use Rattle.range_reader.proofs.reader.read_knowing.Goals as goal
-use Rattle.range_reader.proofs.reader.read_knowing.Goals.{in-Ok-walk, in-Err-walk, in-Ok, in-Err}
+use Rattle.range_reader.proofs.reader.read_version.Goals as goal
+use Rattle.range_reader.proofs.reader.read_version.Goals.{in-Ok-walk, in-Err-walk, in-Ok, in-Err}
 
 pub walk-requires-clause-newest : goal.walk-requires-clause-newest
 walk-requires-clause-newest g c =
-    let s = c.args.snapshot.now in
+    let s = c.args.view.now in
     let is = c.version-version.ensures.stands in
     let key = ap (λ (k : NodeKey). k.range) c.in-Some.ensures.key in
     let some : 1 ≤ size_now s = not_zero (size_now s) (λ e. let w : true ≡ false = c.in-Some.ensures.none.1 e in cc) in
@@ -20,7 +20,7 @@ walk-requires-clause-newest g c =
 
 pub walk-requires-clause-has : goal.walk-requires-clause-has
 walk-requires-clause-has g c =
-    let s = c.args.snapshot.now in
+    let s = c.args.view.now in
     let is = c.version-version.ensures.stands in
     let key = ap (λ (k : NodeKey). k.range) c.in-Some.ensures.key in
     let some : 1 ≤ size_now s = not_zero (size_now s) (λ e. let w : true ≡ false = c.in-Some.ensures.none.1 e in cc) in
@@ -34,7 +34,7 @@ walk-requires-clause-ends g c =
 
 pub walk_to_page-requires-clause-newest : goal.walk_to_page-requires-clause-newest
 walk_to_page-requires-clause-newest g c =
-    let s = c.args.snapshot.now in
+    let s = c.args.view.now in
     let is = c.version-version.ensures.stands in
     let key = ap (λ (k : NodeKey). k.range) c.in-Some.ensures.key in
     let some : 1 ≤ size_now s = not_zero (size_now s) (λ e. let w : true ≡ false = c.in-Some.ensures.none.1 e in cc) in
@@ -42,7 +42,7 @@ walk_to_page-requires-clause-newest g c =
 
 pub walk_to_page-requires-clause-has : goal.walk_to_page-requires-clause-has
 walk_to_page-requires-clause-has g c =
-    let s = c.args.snapshot.now in
+    let s = c.args.view.now in
     let is = c.version-version.ensures.stands in
     let key = ap (λ (k : NodeKey). k.range) c.in-Some.ensures.key in
     let some : 1 ≤ size_now s = not_zero (size_now s) (λ e. let w : true ≡ false = c.in-Some.ensures.none.1 e in cc) in
@@ -61,7 +61,7 @@ walk_to_page-requires-clause-one_page g c =
 
 pub returns-clause-steps : goal.returns-clause-steps
 returns-clause-steps g c =
-    let s = c.args.snapshot.now in
+    let s = c.args.view.now in
     let p = s.page_size in
     let n = length c.args.out.now in
     let o = c.args.offset in
@@ -83,7 +83,7 @@ returns-clause-some g c =
 
 pub returns-then-offset-bytes-clause-steps : goal.returns-then-offset-bytes-clause-steps
 returns-then-offset-bytes-clause-steps g c =
-    let s = c.args.snapshot.now in
+    let s = c.args.view.now in
     let p = s.page_size in
     let n = length c.args.out.now in
     let o = c.args.offset in

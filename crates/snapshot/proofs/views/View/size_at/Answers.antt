@@ -4,7 +4,7 @@ use Rattle.node_store.specs.UpdateRows.{UpdateRow}
 use Rattle.snapshot.specs.Versions.{updates_of, row_at}
 use Rattle.snapshot.proofs.Lists.{length-updates}
 use Rattle.snapshot.proofs.Finding.{touch_size}
-use Rattle.snapshot.proofs.version.Snapshot.size_at.Goals as goal
+use Rattle.snapshot.proofs.views.View.size_at.Goals as goal
 
 pub returns-clause-size : goal.returns-clause-size
 returns-clause-size c =

@@ -3,11 +3,11 @@ use Rattle.request_form.specs.declared.form.Fault.{Fault}
 use Rattle.client_session.specs.Opening.{ReadsRange}
 use Rattle.client_session.proofs.RangeAnswers.{reads_range}
 use Rattle.client_session.proofs.Losses.{range_lost}
-use Rattle.client_session.proofs.session.Session.read_at.Goals as goal
+use Rattle.client_session.proofs.session.Session.read_view.Goals as goal
 
 pub returns-clause-reads : goal.returns-clause-reads
 returns-clause-reads g c = λ us tells.
-    let v = c.args.snapshot.now in
+    let v = c.args.view.now in
     let x = c.read_range.ensures in
     subst (λ (said : Result (List ℕ) Fault). ReadsRange v.page_size us (length v.rows) c.args.offset c.args.count said) (sym c.range_told.ensures.is)
     (reads_range v.page_size (length v.rows) c.args.offset c.args.count us c.read_range.result (omega (arith, c.if-count-gt-MAX_READ.false)) (x.bytes us tells) (x.within us tells) (x.refused us tells) (x.past us tells) (x.lost_within us tells) x.page)

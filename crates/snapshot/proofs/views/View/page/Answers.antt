@@ -1,7 +1,7 @@
 use Rattle.std.proofs.Common.{ap, ◌∙◌}
 use Rattle.node_store.specs.UpdateRows.{UpdateRow, bytes_of_page}
 use Rattle.snapshot.specs.Versions.{row_at, bytes_of}
-use Rattle.snapshot.proofs.version.Snapshot.page.Goals as goal
+use Rattle.snapshot.proofs.views.View.page.Goals as goal
 
 pub returns-clause-bytes : goal.returns-clause-bytes
 returns-clause-bytes c below =

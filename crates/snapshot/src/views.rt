@@ -1,0 +1,148 @@
+// A version as it is read.
+ghost use Rattle.std.specs.Prelude.{◌≡◌, ◌+◌, ◌^◌, ◌<◌, ◌≤◌, ◌↔◌, length, IfNone, IfSome, IsNone, Some, slice_get};
+ghost use Rattle.blob_model.specs.Content.{size_of};
+ghost use Rattle.node_store.specs.UpdateRows.{bytes_of_page, stored_of};
+ghost use Rattle.snapshot.specs.Versions.{row_at, bytes_of, updates_of, older_version};
+ghost use Rattle.snapshot.specs.Versions.{size_now, HasNodeFor, IsFound, root_key, IsVersion};
+
+use crate::version::Snapshot;
+use node_store::{NodeRef, Row};
+use page_store::StoredPage;
+use range_log::laws;
+use std::marker::Model;
+use std::sync::ledger::Ledger;
+use tree_geom::{NodeKey, PageSize, Range, Steps, span};
+
+/// A version of a blob as it is read: that of a snapshot, or an older one. It borrows the rows of the snapshot. So it takes no memory, and
+/// whoever makes or drops one writes nothing that other threads read.
+#[derive(Drop)]
+pub struct View<'a> {
+    snapshot: &'a Snapshot,
+    version: u64,
+}
+
+impl<'a> Model for View<'a> {
+    ghost use Rattle.std.specs.Prelude.{◌≤◌, length};
+    ghost use Rattle.snapshot.specs.Versions.{Version, older_version};
+
+    ghost Value = { Version };
+
+    ghost view = { λ v. older_version v.snapshot.now v.version };
+
+    ghost invariant = { λ v. v.version ≤ length v.snapshot.now.rows };
+}
+
+impl<'a> View<'a> {
+    // That version of the snapshot.
+    #[inline(always)]
+    pub(crate) fn of(snapshot: &'a Snapshot, version: u64) -> View<'a>
+        requires { version ≤ length snapshot.now.rows }
+        ensures { result ≡ older_version snapshot.now version }
+    {
+        View { snapshot, version }
+    }
+
+    /// The version, which is the number of its updates.
+    pub fn version(&self) -> u64
+        ensures count { result ≡ length self.now.rows }
+        ensures stands { IsVersion self.now }
+    {
+        laws::older_versions_stay();
+        self.snapshot.stands();
+        self.version
+    }
+
+    /// The rows are those of some updates within bounds, as a version keeps them. For proofs: it does nothing.
+    pub fn stands(&self)
+        ensures { IsVersion self.now }
+    {
+        let _version = self.version();
+    }
+
+    /// The size of the version, in bytes.
+    pub fn size(&self) -> u64
+        ensures size { result ≡ size_now self.now }
+        ensures fits { result ≤ 2 ^ 40 }
+    {
+        self.size_at(self.version())
+    }
+
+    /// The page size of the blob.
+    pub fn page_size(&self) -> PageSize
+        ensures { result ≡ self.now.page_size }
+    {
+        self.snapshot.page_size()
+    }
+
+    /// The size of version `j`, in bytes.
+    pub fn size_at(&self, j: u64) -> u64
+        requires { j ≤ length self.now.rows }
+        ensures size { result ≡ size_of (updates_of self.now) j }
+        ensures fits { result ≤ 2 ^ 40 }
+    {
+        laws::page_bytes_stay();
+        if j == 0 {
+            return 0;
+        }
+        self.row(j).touch().size
+    }
+
+    /// The key of the version's root, under the blob that it was put under. None exactly where the size is 0.
+    pub fn root(&self) -> Option<NodeKey>
+        ensures none { IsNone result ↔ (size_now self.now ≡ 0) }
+        ensures key { IfSome result (λ key. key ≡ root_key self.now) }
+        ensures holds { IfSome result (λ key. size_now self.now ≤ key.range.size) }
+        ensures fits { IfSome result (λ key. key.range.size ≤ 2 ^ 40) }
+    {
+        laws::page_bytes_stay();
+        let version = self.version();
+        if version == 0 {
+            return None;
+        }
+        Some(NodeKey {
+            blob: self.row(version).blob(),
+            version,
+            range: Range {
+                offset: 0,
+                size: span(self.page_size(), self.size()),
+            },
+        })
+    }
+
+    /// The node that the row of update `j` has for the range, or None where it has none. In both cases it takes one node step, the
+    /// row's own, and looks in no other row; and there is no other way from a view to a node.
+    #[inline(always)]
+    pub fn find<L: Ledger>(&self, j: u64, range: Range, steps: &mut Steps<L>) -> Option<NodeRef<'a>>
+        requires { (1 ≤ j) × (j ≤ length self.now.rows) }
+        ensures none { IfNone result (¬ HasNodeFor self.now j range) }
+        ensures found { IfSome result (λ node. IsFound self.now j range node) }
+        ensures step { steps.new ≡ steps.old + 1 }
+    {
+        laws::row_keys_exact();
+        laws::page_bytes_stay();
+        self.row(j).at(range, steps)
+    }
+
+    /// The stored page of update `j` that the number `q` of a piece means. First come the update's pages, whose bytes are those
+    /// of the update from `q` times the page size on, and then those of the blob that it stores anew.
+    pub fn page(&self, j: u64, q: u32) -> &'a StoredPage
+        requires version { (1 ≤ j) × (j ≤ length self.now.rows) }
+        requires number { q < length (stored_of (row_at self.now.rows j)) }
+        ensures this { slice_get (stored_of (row_at self.now.rows j)) q ≡ Some result.now }
+        ensures bytes { q < length (row_at self.now.rows j).pages.pages
+            → result.now.bytes ≡ bytes_of_page self.now.page_size (bytes_of (row_at self.now.rows j)) q }
+    {
+        self.row(j).page(q)
+    }
+
+    // The row of update `j`.
+    #[inline(always)]
+    fn row(&self, j: u64) -> &'a Row
+        requires { (1 ≤ j) × (j ≤ length self.now.rows) }
+        ensures this { result.now ≡ row_at self.now.rows j }
+        ensures stands { IsVersion self.now }
+    {
+        self.stands();
+        self.snapshot.row(j)
+    }
+}
