@@ -10,7 +10,7 @@ pub record Spot : Type 0 where
   pub shelf : ℕ
   pub mark : ℕ
 
--- of a version, whose tag tells a shelf and its mark
+-- where the nodes of a version lie, whose tag tells their shelf and its mark
 abbrev pub spot_of : ℕ → List ℕ → Spot
 spot_of version place = record { shard = version % 16; shelf = first place; mark = first (others place) }
 

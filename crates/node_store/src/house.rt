@@ -36,7 +36,7 @@ const SHARED: usize = 32;
 // Slots that lie side by side. Each is set once at most.
 type Slots = Vec<OnceSlot<Node, AnyNode>>;
 
-// Slots that the house and the rows that got some of them hold in common, and how many were given out, from the first on.
+// Slots that the house and the rows that got some of them hold in common, and how many of them were given out, from the first on.
 #[derive(Drop)]
 struct Block {
     taken: AtomicUsize,
@@ -122,7 +122,7 @@ struct Room {
     first: usize,
 }
 
-// Where a block stands in its shard, for proofs alone: the tag of a row has no bytes.
+// A row's tag tells where a block was pushed in its shard: the number of its bucket, and the name of the slot that holds the bucket.
 struct Place;
 
 impl Names<Pushed<Block>> for Place {
@@ -236,6 +236,7 @@ pub struct RowNodes {
     first: usize,
     puts: Vec<Put>,
     version: u64,
+    // where the block of the slots stands in its shard, which proofs alone ask for; it has no bytes
     place: Tag,
 }
 

@@ -35,7 +35,7 @@ fn doublings(width: u64, size: u64) -> Option<u32>
 
 // The ranges of so many bytes in the row of an update with that touch, in a tree of that height. Once the touched pages lie in one
 // range, each level above has one range more, so these levels are counted and not walked.
-#[inline(never)]
+#[inline(always)]
 fn level_above(p: PageSize, height: u32, touch: &Touch, size: u64) -> Option<Level>
     requires height { height ≤ 38 }
     requires ordered { touch.now.first ≤ touch.now.last }
