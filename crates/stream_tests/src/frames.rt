@@ -146,13 +146,18 @@ fn a_frame_that_is_too_long_is_answered_behind_its_last_byte(rt: HostRuntime) {
     check_stream(&rt, alloc, front, "cut;", 65_536);
 }
 
-// How many bytes the next item appends to blob 1, where a piece of a stream ends one.
-fn appended<R: Abort>(rt: &R, dialect: &mut FrameDialect, piece: &[u8]) -> Option<usize> {
-    dialect.feed(piece).expect(rt, "memory");
-    match dialect.next().expect(rt, "memory") {
+/// How many bytes an item appends to blob 1.
+pub fn appended(item: Option<Heard>) -> Option<usize> {
+    match item {
         Some(Heard::Asked(Request::Append { blob: 1, bytes })) => Some(bytes.len()),
         _ => None,
     }
+}
+
+// How many bytes the next item appends to blob 1, where a piece of a stream ends one.
+fn next_appended<R: Abort>(rt: &R, dialect: &mut FrameDialect, piece: &[u8]) -> Option<usize> {
+    dialect.feed(piece).expect(rt, "memory");
+    appended(dialect.next().expect(rt, "memory"))
 }
 
 #[test]
@@ -162,7 +167,7 @@ fn an_update_of_the_longest_frame_is_heard_whole(rt: HostRuntime) {
     let mut dialect = FrameDialect::new(rt.alloc()).expect(&rt, "memory");
     let mut count = 0;
     for part in stream.as_slice().chunks(1000) {
-        if let Some(length) = appended(&rt, &mut dialect, part) {
+        if let Some(length) = next_appended(&rt, &mut dialect, part) {
             count = length;
         }
     }

@@ -1,6 +1,6 @@
 //! Tests of what streams of frames of version 2 say, and of those that aren't of it.
 
-use crate::frames::{check_cut, check_cuts, check_stream, check_streams, decoded};
+use crate::frames::{appended, check_cut, check_cuts, check_stream, check_streams, decoded};
 use frame_wire::FrameDialect;
 use request_form::{Dialect, Fault, Heard, Request};
 use std::alloc::Global;
@@ -179,7 +179,7 @@ fn feed_pieces<R: Abort>(rt: &R, alloc: Global, dialect: &mut FrameDialect, coun
 }
 
 #[test]
-fn a_frame_that_is_too_long_is_answered_behind_its_last_byte(rt: HostRuntime) {
+fn a_frame_of_version_2_that_is_too_long_is_answered_behind_its_last_byte(rt: HostRuntime) {
     let alloc = rt.alloc();
     let mut dialect = greeted(&rt, alloc, &[1, 0x10, 0, 1]);
     feed_pieces(&rt, alloc, &mut dialect, 272);
@@ -195,16 +195,8 @@ fn a_frame_that_is_too_long_is_answered_behind_its_last_byte(rt: HostRuntime) {
     assert!(rt; matches!(next, Some(Heard::Asked(Request::Create))));
 }
 
-// How many bytes an item appends to blob 1.
-fn appended(item: Option<Heard>) -> usize {
-    match item {
-        Some(Heard::Asked(Request::Append { blob: 1, bytes })) => bytes.len(),
-        _ => 0,
-    }
-}
-
 #[test]
-fn an_update_of_the_longest_frame_is_heard_whole(rt: HostRuntime) {
+fn an_update_of_the_longest_frame_of_version_2_is_heard_whole(rt: HostRuntime) {
     let alloc = rt.alloc();
     let head = [1, 0x10, 0, 0, 2, 0, 0, 0, 0, 0, 0, 0, 1];
     let mut dialect = greeted(&rt, alloc, &head);
@@ -212,5 +204,5 @@ fn an_update_of_the_longest_frame_is_heard_whole(rt: HostRuntime) {
     let rest = vec![in alloc; 7u8; 65_527].expect(&rt, "memory");
     dialect.feed(rest.as_slice()).expect(&rt, "memory");
     let item = dialect.next().expect(&rt, "memory");
-    assert_eq!(rt; appended(item), 17_825_783);
+    assert_eq!(rt; appended(item), Some(17_825_783));
 }
