@@ -75,11 +75,6 @@ before_goes f text text' run without without' run_without some_run says =
     behind : (t zs : List ℕ) → item_of f ((t ++ run) ++ zs) ≡ item_of_text f (t ++ strip_carriage_return (run ++ zs))
     behind t zs = ap (λ (l : List ℕ). item_of f l) (append_assoc t run zs) ∙ item_behind f t (run ++ zs) (let l = length-append run zs in omega arith)
 
--- a CR where none waits
-pub return_comes : {B A : Type 0} (f : Lining A) (text : B → List ℕ) (b : Begun B) (r : Bool) (line : List ℕ) → begun_text text b ++ return_text r ≡ line → r ≡ false → GoesOnAs f (line ++ 13 ∷ []) (begun_text text b ++ return_text true)
-return_comes f text b r line seen none more =
-    ap (λ (l : List ℕ). lined f ((l ++ 13 ∷ []) ++ more)) (sym seen ∙ ap (λ (t : Bool). begun_text text b ++ return_text t) none ∙ append-nil (begun_text text b))
-
 -- a CR behind one: the first was not the line's end
 pub return_again : {B A : Type 0} (f : Lining A) (limit : ℕ) (text : B → List ℕ) (b b' : Begun B) (n n' : ℕ) (r : Bool) (line : List ℕ) → begun_text text b ++ return_text r ≡ line → r ≡ true → IsBegun limit text b n → IsBegun limit text b' n'
     → PushesAll f (begun_text text b) (13 ∷ []) (begun_text text b') → GoesOnAs f (line ++ 13 ∷ []) (begun_text text b' ++ return_text true)

@@ -1,12 +1,11 @@
 -- What a text says as a line, however it goes on.
-use Rattle.std.proofs.Common.{◌≡◌, ◌≢◌, ◌∙◌, ℕ, zero, suc, ◌-◌, ◌<◌, ◌≤◌, ◌==◌, nat_lt, Bool, true, false, cond, List, [], ◌∷◌, ◌++◌, length, take, drop, slice_index, Some, None, refl, sym, ap, subst, arith, append_assoc, append-nil, length-append, take-append-drop}
+use Rattle.std.proofs.Common.{◌≡◌, ◌≢◌, ◌∙◌, ℕ, zero, suc, ◌-◌, ◌<◌, ◌≤◌, ◌==◌, nat_lt, Bool, true, false, cond, List, [], ◌∷◌, ◌++◌, length, take, slice_index, Some, refl, sym, ap, arith, append-nil, length-append}
 use Rattle.std.specs.Str.Lines.{strip_carriage_return}
 use Rattle.std.proofs.lemmas.Bool.{ne_eqb, le-ltb}
-use Rattle.std.proofs.lemmas.Bool.Decides.{nat_tests}
-use Rattle.std.proofs.lemmas.List.{length-take-le, take_all, take-take}
-use Rattle.std.proofs.lemmas.List.Elements.{All-nil, All-cons, All-append, All-take}
-use Rattle.text_lines.specs.Lines.{Lining, IsLining, item_of_text, item_of}
-use Rattle.text_lines.specs.Text.{IsWithout, EndsPlain, IsText, SpellsBad, TakesText}
+use Rattle.std.proofs.lemmas.List.{length-take-le, take-take}
+use Rattle.std.proofs.lemmas.List.Elements.{All-take}
+use Rattle.text_lines.specs.Lines.{Lining, item_of_text, item_of}
+use Rattle.text_lines.specs.Text.{IsWithout, EndsPlain, IsText, TakesText}
 use Rattle.text_lines.specs.Begun.{SaysAs, Pushes}
 
 -- ---- CRs
@@ -71,18 +70,6 @@ says_on f text more some_text first =
 pub says_whole : {A : Type 0} (f : Lining A) (text : List ℕ) → 0 < length text → slice_index text 0 ≢ 35 → length text ≤ f.limit → item_of_text f text ≡ Some (f.spelled text)
 says_whole f text some_text first short = says f text some_text first ∙ rw (le-ltb f.limit (length text) short) refl
 
-both_bad : {A : Type 0} (b : Bool) (bad item : A) → item ≡ bad → cond b bad item ≡ bad
-both_bad true bad item e = refl
-both_bad false bad item e = e
-
--- a text that is bad, however it goes on
-bad_on : {A : Type 0} (f : Lining A) (text more : List ℕ) → 0 < length text → slice_index text 0 ≢ 35 → f.spelled (text ++ more) ≡ f.bad → item_of_text f (text ++ more) ≡ Some f.bad
-bad_on {A = A} f text more some_text first bad =
-    says_on f text more some_text first ∙ ap (λ (item : A). Some item) (both_bad (nat_lt f.limit (length (text ++ more))) f.bad (f.spelled (text ++ more)) bad)
-
-pub space_on : {A : Type 0} (f : Lining A) → IsLining f → (more : List ℕ) → item_of_text f (32 ∷ more) ≡ Some f.bad
-space_on f is more = bad_on f (32 ∷ []) more (omega arith) (λ e. omega arith) (is.space more)
-
 -- two texts as long that spell the same however they go on
 says_same : {A : Type 0} (f : Lining A) (text other : List ℕ) → 0 < length text → length other ≡ length text → slice_index text 0 ≢ 35 → slice_index other 0 ≢ 35
     → ((more : List ℕ) → f.spelled (text ++ more) ≡ f.spelled (other ++ more)) → SaysAs f text other
@@ -104,12 +91,6 @@ no_mark_behind [] run zero first next some_run = absurd (omega arith)
 no_mark_behind [] [] (suc k) first next some_run = first
 no_mark_behind [] (b ∷ run) (suc k) first next some_run = next refl
 
-pub text_behind : (text run : List ℕ) (k : ℕ) → IsText text → IsWithout 10 run → (length text ≡ 0 → slice_index run 0 ≢ 35) → 0 < k → IsText (text ++ take k run)
-text_behind text run k is without next some_run = record {
-  no_feed = All-append (λ x. (x == 10) ≡ false) text (take k run) is.no_feed (All-take (λ x. (x == 10) ≡ false) k run without);
-  no_mark = no_mark_behind text run k is.no_mark next some_run;
-}
-
 -- so many bytes of the front of a run
 pub took : {A : Type 0} (f : Lining A) (text run text' : List ℕ) (count k : ℕ) → IsText text → (length text ≡ 0 → slice_index run 0 ≢ 35) → k ≤ length run → TakesText f text (take k run) text' count → Pushes f text run text' count
 took f text run text' count k is next within t =
@@ -126,56 +107,3 @@ took f text run text' count k is next within t =
           (λ more. ap (λ (l : List ℕ). f.spelled ((text ++ l) ++ more)) (sym twice) ∙ t.spells more);
       ends = λ out. t.ends (All-take (λ x. (x == 13) ≡ false) k run out);
     }
-
--- a text of which nothing is kept, since it is bad with the front of a run
-pub bad_says : {A : Type 0} (f : Lining A) → IsLining f → (text run : List ℕ) (k : ℕ) → slice_index text 0 ≢ 35 → (length text ≡ 0 → slice_index run 0 ≢ 35) → 0 < k → 0 < length run → SpellsBad f (text ++ take k run)
-    → SaysAs f (text ++ run) (32 ∷ [])
-bad_says f is text run k first next some_k some_run bad more =
-    let l = length-append text run in
-    let whole : take (length run) run ≡ run = take_all (length run) run (omega arith) in
-    let mark : slice_index (text ++ run) 0 ≢ 35 = subst (λ (r : List ℕ). slice_index (text ++ r) 0 ≢ 35) whole (no_mark_behind text run (length run) first next some_run) in
-    let parts : (text ++ run) ++ more ≡ (text ++ take k run) ++ (drop k run ++ more) =
-    ap (λ (r : List ℕ). (text ++ r) ++ more) (sym (take-append-drop k run)) ∙ ap (λ (r : List ℕ). r ++ more) (sym (append_assoc text (take k run) (drop k run))) ∙ append_assoc (text ++ take k run) (drop k run) more in
-    bad_on f (text ++ run) more (omega arith) mark (ap f.spelled parts ∙ bad (drop k run ++ more)) ∙ sym (space_on f is more)
-
--- a text with too many bytes
-pub long_says : {A : Type 0} (f : Lining A) → IsLining f → (text run : List ℕ) → slice_index text 0 ≢ 35 → f.limit ≤ length text → 0 < length run → SaysAs f (text ++ run) (32 ∷ [])
-long_says {A = A} f is text run first full some_run more =
-    let least = is.some in
-    let l = length-append text run in
-    let k = length-append (text ++ run) more in
-    let long : nat_lt f.limit (length ((text ++ run) ++ more)) ≡ true = grind (arith, nat_tests, l, k, full, some_run) in
-    says_on f (text ++ run) more (omega arith) (λ e. first (sym (first_of text run (omega arith)) ∙ e))
-    ∙ ap (λ (b : Bool). Some (cond b f.bad (f.spelled ((text ++ run) ++ more)))) long
-    ∙ sym (space_on f is more)
-
-comment_on : {A : Type 0} (f : Lining A) (run more : List ℕ) → 0 < length run → slice_index run 0 ≡ 35 → item_of_text f (run ++ more) ≡ None
-comment_on f [] more some_run first = absurd (omega arith)
-comment_on f (b ∷ run) more some_run first = ap (λ (x : ℕ). item_of_text f (x ∷ (run ++ more))) first
-
--- a line that begins with `#`
-pub comment_says : {A : Type 0} (f : Lining A) (text run : List ℕ) → length text ≡ 0 → 0 < length run → slice_index run 0 ≡ 35 → SaysAs f (text ++ run) (35 ∷ [])
-comment_says f [] run none some_run first more = comment_on f run more some_run first
-comment_says f (b ∷ bs) run none some_run first more = absurd (omega arith)
-
--- ---- lines of which nothing is kept
-
-pub comment_pushes : {A : Type 0} (f : Lining A) (run : List ℕ) → 0 < length run → Pushes f (35 ∷ []) run (35 ∷ []) (length run)
-comment_pushes f run some_run = record { some = some_run; within = omega arith; says = λ more. refl; ends = λ _. refl }
-
-pub bad_pushes : {A : Type 0} (f : Lining A) → IsLining f → (run : List ℕ) → 0 < length run → Pushes f (32 ∷ []) run (32 ∷ []) (length run)
-bad_pushes f is run some_run = record {
-  some = some_run;
-  within = omega arith;
-  says = λ more. space_on f is (take (length run) run ++ more) ∙ sym (space_on f is more);
-  ends = λ _. refl;
-}
-
--- all of a run makes a text a line of which nothing is kept
-pub all_pushes : {A : Type 0} (f : Lining A) (text run : List ℕ) (b : ℕ) → b ≢ 13 → 0 < length run → SaysAs f (text ++ run) (b ∷ []) → Pushes f text run (b ∷ []) (length run)
-all_pushes f text run b other some_run says = record {
-  some = some_run;
-  within = omega arith;
-  says = subst (λ (r : List ℕ). SaysAs f (text ++ r) (b ∷ [])) (sym (take_all (length run) run (omega arith))) says;
-  ends = λ _. strip-plain (b ∷ []) (All-cons (λ x. (x == 13) ≡ false) b [] (ne_eqb b 13 other) (All-nil (λ x. (x == 13) ≡ false)));
-}
