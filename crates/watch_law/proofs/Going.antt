@@ -1,13 +1,12 @@
 -- Nothing but the outside hinders the writer.
-use Rattle.std.proofs.Common.{◌≡◌, ℕ, zero, suc, ◌+◌, ◌*◌, ◌<◌, ◌≤◌, true, false, List, [], ◌∷◌, ◌++◌, length, refl, sym, ap, subst, ◌∙◌, arith, append_assoc}
-use Rattle.std.specs.Prelude.{Some}
+use Rattle.std.proofs.Common.{◌≡◌, ℕ, zero, suc, ◌*◌, ◌≤◌, List, [], ◌∷◌, ◌++◌, length, refl, sym, ap, subst, ◌∙◌, arith, append_assoc}
 use Rattle.std.specs.List.{All, Contains}
 use Rattle.std.proofs.lemmas.Bool.{true≢false}
 use Rattle.std.proofs.lemmas.List.{take_at}
 use Rattle.std.proofs.lemmas.List.Elements.{All-nil, All-push, All-append, All-take, All-contains}
 use Rattle.blob_model.specs.Content.{Update}
 use Rattle.blob_model.specs.Limits.{greatest}
-use Rattle.blob_model.specs.Store.{Blob, blob_at, assigned, size_now, empty_store}
+use Rattle.blob_model.specs.Store.{size_now, empty_store}
 use Rattle.blob_model.specs.Answer.{answer}
 use Rattle.blob_model.specs.History.{store_of, IsLegal}
 use Rattle.blob_model.specs.declared.call.Call.TheVariants as Calls
@@ -21,7 +20,7 @@ use Rattle.request_form.specs.Replies.{fault_of}
 use Rattle.request_form.specs.declared.form.Fault.{Fault}
 use Rattle.workload_law.specs.Numbered.{IsNumberedBy}
 use Rattle.workload_law.specs.Sessions.{FinishesItsOwn}
-use Rattle.workload_law.specs.Ends.{RefusedAt, UpdateHindered, IsOutside}
+use Rattle.workload_law.specs.Ends.{UpdateHindered, IsOutside}
 use Rattle.workload_law.proofs.Appends.{Appends}
 use Rattle.workload_law.proofs.GoingOn.{limits_stay, only_full}
 use Rattle.workload_law.proofs.Grid.{cell_length}

@@ -1,4 +1,4 @@
 pub mod Written
 pub mod Together
 pub mod Going
-mod WatchRows
+mod Worked

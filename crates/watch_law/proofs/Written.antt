@@ -1,13 +1,13 @@
 -- What the writer's events make of the blob.
-use Rattle.std.proofs.Common.{◌≡◌, ℕ, zero, suc, ◌+◌, ◌*◌, ◌≤◌, List, [], ◌∷◌, ◌++◌, length, refl, sym, ap, subst, ◌∙◌, arith}
+use Rattle.std.proofs.Common.{◌≡◌, ℕ, zero, suc, ◌*◌, ◌≤◌, List, [], ◌∷◌, ◌++◌, length, refl, sym, ap, subst, ◌∙◌, arith}
 use Rattle.std.specs.Prelude.{Some}
-use Rattle.std.specs.List.{All, flat_map}
+use Rattle.std.specs.List.{All}
 use Rattle.std.proofs.lemmas.List.{length-append, take_at}
 use Rattle.std.proofs.lemmas.List.Concat.{flat_map-append}
 use Rattle.std.proofs.lemmas.List.Elements.{All-nil, All-push, All-take}
-use Rattle.blob_model.specs.Content.{Update, content, content_from, size_of}
+use Rattle.blob_model.specs.Content.{Update, size_of}
 use Rattle.blob_model.specs.Limits.{greatest}
-use Rattle.blob_model.specs.Store.{Store, Blob, blob_at, published, assigned, empty_store}
+use Rattle.blob_model.specs.Store.{Store, Blob, blob_at, empty_store}
 use Rattle.blob_model.specs.History.{store_of, IsLegal}
 use Rattle.blob_model.specs.Answer.{answer}
 use Rattle.blob_model.specs.declared.call.Call.TheVariants as Calls

@@ -1,5 +1,5 @@
 -- What holds of every legal history of a watch.
-use Rattle.std.specs.Prelude.{◌≡◌, ℕ, ◌*◌, ◌<◌, List, [], ◌∷◌, ◌++◌, Some}
+use Rattle.std.specs.Prelude.{◌≡◌, ℕ, ◌*◌, List, [], ◌∷◌, ◌++◌, Some}
 use Rattle.blob_model.specs.Content.{size_of}
 use Rattle.blob_model.specs.Limits.{greatest}
 use Rattle.blob_model.specs.Store.{Blob, blob_at, published}
