@@ -1,25 +1,19 @@
 -- Pairs of numbers as fields, and what they ask for.
-use Rattle.std.proofs.Common.{◌≡◌, ◌≢◌, ◌∙◌, ℕ, zero, suc, ◌+◌, ◌-◌, ◌*◌, ◌/◌, ◌%◌, ◌^◌, ◌<◌, ◌≤◌, ◌==◌, nat_le, true, false, List, [], ◌∷◌, ◌++◌, length, drop, Option, Some, None, refl, sym, ap, subst, arith, append_assoc, append-nil, length-append}
+use Rattle.std.proofs.Common.{◌≡◌, ◌≢◌, ◌∙◌, ℕ, zero, suc, ◌+◌, ◌-◌, ◌*◌, ◌/◌, ◌%◌, ◌^◌, ◌<◌, ◌≤◌, ◌==◌, nat_le, true, false, List, [], ◌∷◌, ◌++◌, length, drop, Option, Some, refl, sym, ap, subst, arith, append_assoc, append-nil, length-append}
 use Rattle.std.specs.List.{All}
 use Rattle.std.proofs.lemmas.List.{drop_at}
 use Rattle.std.proofs.lemmas.List.Elements.{All-nil, All-cons, All-head, All-tail}
 use Rattle.std.proofs.lemmas.Bool.{and_parts}
 use Rattle.std.proofs.lemmas.Bool.Decides.{nat_tests}
 use Rattle.byteorder.specs.Endian.{big_number}
-use Rattle.request_form.specs.declared.form.Request.{Request}
 use Rattle.request_form.specs.declared.form.Request.TheVariants as Requests
 use Rattle.frame_wire.specs.Requests.{number_at, pairs_of, holds_ranges, request_of, second_request_of}
-use Rattle.frame_wire.specs.Operations.{paired_number, pairs_fit}
+use Rattle.frame_wire.specs.Operations.{pairs_fit}
 use Rattle.frame_wire.specs.Said.{field, pair_fields}
 use Rattle.frame_wire.specs.Decoded.{IsSmallPair, IsPaired}
 use Rattle.frame_wire.specs.declared.pairs.Paired.{Paired}
 use Rattle.frame_wire.specs.declared.pairs.Paired.TheVariants as Paireds
 use Rattle.frame_wire.proofs.RequestLemmas.{field-length, field-number}
-
-pub pair_fields-append : (ps qs : List (ℕ × ℕ)) → pair_fields (ps ++ qs) ≡ pair_fields ps ++ pair_fields qs
-pair_fields-append [] qs = refl
-pair_fields-append (p ∷ ps) qs =
-    ap (λ (l : List ℕ). (field p.0 ++ field p.1) ++ l) (pair_fields-append ps qs) ∙ sym (append_assoc (field p.0 ++ field p.1) (pair_fields ps) (pair_fields qs))
 
 pub pair_fields-length : (ps : List (ℕ × ℕ)) → length (pair_fields ps) ≡ 16 * length ps
 pair_fields-length [] = refl
@@ -68,11 +62,6 @@ pairs_back (p ∷ ps) (suc count) e small =
     rw (first_at p (pair_fields ps) fits.0, second_at p (pair_fields ps) fits.1, behind_pair p (pair_fields ps)) (ap (λ (l : List (ℕ × ℕ)). p ∷ l) (pairs_back ps count (omega arith) (small_others p ps small)))
 
 -- ---- the two operations
-
--- one whose fields are cut short, or too many, asks for nothing
-pub pairs_misfit : (operation : Paired) (bytes : List ℕ) → pairs_fit operation (length bytes) ≡ false → second_request_of (paired_number operation ∷ bytes) ≡ None
-pairs_misfit Paireds.ReadMany bytes h = rw h refl
-pairs_misfit Paireds.Repair bytes h = rw h refl
 
 ranges_ask : (target : ℕ × ℕ) (ranges : List (ℕ × ℕ)) → holds_ranges (16 * length (target ∷ ranges)) ≡ true → AllSmallPairs (target ∷ ranges)
     → second_request_of (15 ∷ pair_fields (target ∷ ranges)) ≡ Some (Requests.ReadMany target.0 target.1 ranges)
@@ -124,24 +113,6 @@ whole_pairs operation target ranges part left d none =
     let few = d.part_fits in
     no_bytes part (omega (arith, fit.0))
 
-pub has_target : (operation : Paired) (target : Option (ℕ × ℕ)) (ranges : List (ℕ × ℕ)) (part : List ℕ) (left : ℕ) → IsPaired operation target ranges part left → left ≡ 0 → target ≢ None
-has_target operation None ranges part left d none e =
-    let fit = fit_pairs operation _ d.fits in
-    let few = d.part_fits in
-    let nothing : length ranges ≡ 0 = ap (λ (l : List (ℕ × ℕ)). length l) (d.ranges_wait refl) in
-    omega (arith, fit.1)
-has_target operation (Some t) ranges part left d none e = cc
-
--- from 1 to 64 ranges
-pub ranges_fit : (target : ℕ × ℕ) (ranges : List (ℕ × ℕ)) (part : List ℕ) (left : ℕ) → IsPaired Paireds.ReadMany (Some target) ranges part left → left ≡ 0 → (1 ≤ length ranges) × (length ranges ≤ 64)
-ranges_fit target ranges part left d none =
-    let no_part : length part ≡ 0 = ap (λ (l : List ℕ). length l) (whole_pairs Paireds.ReadMany (Some target) ranges part left d none) in
-    let whole = and_parts ((16 * length (target ∷ ranges) + length part + left) % 16 == 0) _ d.fits in
-    let range = and_parts (nat_le 32 (16 * length (target ∷ ranges) + length part + left)) _ whole.1 in
-    let low = is_at_most 32 _ range.0 in
-    let high = is_at_most _ 1040 range.1 in
-    (omega arith, omega arith)
-
 module _ (target : ℕ × ℕ) (ranges : List (ℕ × ℕ)) (part : List ℕ) (left : ℕ) (none : left ≡ 0) where
   pub ranges_asked : IsPaired Paireds.ReadMany (Some target) ranges part left
       → second_request_of (15 ∷ (pair_fields (target ∷ ranges) ++ part)) ≡ Some (Requests.ReadMany target.0 target.1 ranges)
@@ -179,11 +150,3 @@ differs a b h = grind (arith, nat_tests, h)
 -- an operation that isn't one of the two asks for the same in both versions
 pub second_as_first : (first : ℕ) (bytes : List ℕ) → first ≢ 15 → first ≢ 16 → second_request_of (first ∷ bytes) ≡ request_of (first ∷ bytes)
 second_as_first first bytes h k = rw (differs first 15 h, differs first 16 k) refl
-
--- what is asked for in version 1 is asked for in version 2
-pub asked_in_both : (bytes : List ℕ) (request : Request) → request_of bytes ≡ Some request → second_request_of bytes ≡ Some request
-asked_in_both [] request e = absurd (cc)
-asked_in_both (first ∷ bytes) request e = second_as_first first bytes (λ same. no 15 same refl) (λ same. no 16 same refl) ∙ e
-  where
-    no : (n : ℕ) → first ≡ n → request_of (n ∷ bytes) ≡ None → ⊥
-    no n same nothing = let none : request_of (first ∷ bytes) ≡ None = ap (λ (m : ℕ). request_of (m ∷ bytes)) same ∙ nothing in cc

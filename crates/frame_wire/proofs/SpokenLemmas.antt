@@ -48,10 +48,6 @@ not_back true false e = sym e
 not_back false true e = sym e
 not_back false false e = refl
 
--- behind a hello come frames of version 2
-pub behind_hello : (bytes : List ℕ) → heard (hello ++ bytes) ≡ after_item (Asked (Hello 2)) (framed second_frames bytes)
-behind_hello bytes = refl
-
 module _ (count next : ℕ) (piece : List ℕ) (front : count < 13) (most : next ≡ min (length piece) (13 - count)) where
   -- ---- other bytes than those of a hello
 
