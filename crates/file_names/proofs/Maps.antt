@@ -71,17 +71,6 @@ module _ (old new : Folders) (path : List ℕ) (empty : Entries) (none : empty.e
 
 -- ---- folders with the same entries
 
-pub keeps_same : (old new : Folders) → new.entries ≡ old.entries → Keeps old new
-keeps_same old new e =
-    let at : (f : List ℕ) → entries_at new f ≡ entries_at old f = λ f. ap (λ es. lookup (is_at (λ (k : Vec ℕ Global). slice_cmp nat_cmp f k.items)) es) e in record {
-      kept = λ f name. ap (λ o. entry_in o name) (at f);
-      counts = λ f. ap count_of (at f);
-      others = λ f some. subst IsSome (sym (at f)) some;
-    }
-
-pub opened_same : (folders : Folders) (path : List ℕ) → IsSome (entries_at folders path) → IsOpened folders path folders
-opened_same folders path some = record { opened = some; keeps = keeps_same folders folders refl }
-
 module _ (old new : Folders) (path : List ℕ) (e e' : Entries) (was : entries_at old path ≡ Some e) (same : e'.entries ≡ e.entries) (made : (f : List ℕ) → entries_at new f ≡ cond (bytes_eq path f) (Some e') (entries_at old f)) where
   pub keeps_by : Keeps old new
   keeps_by =
