@@ -9,7 +9,7 @@ use Rattle.tree_geom.specs.declared.range.Range.{Range}
 use Rattle.tree_geom.specs.declared.touch.Touch.{Touch}
 use Rattle.tree_geom.specs.declared.node.Node.{Node}
 use Rattle.tree_geom.specs.Geometry.{Aligned, page_range, left_half, right_half}
-use Rattle.tree_geom.specs.Nodes.{left_link, right_link, back_link, depth_in, is_leaf}
+use Rattle.tree_geom.specs.Nodes.{left_link, right_link, back_link, depth_in}
 use Rattle.tree_geom.proofs.Spans.{page_aligned}
 use Rattle.range_log.specs.Log.{HasNode}
 use Rattle.range_log.specs.Extents.{Extent, extent_at, touches, size_after, InBounds}
@@ -69,9 +69,6 @@ leaf_back p k i us =
     leaf_cases (λ n. back_link n ≡ back_of p us k i) p k i us
     (λ anew. sym (back_anew p us k i anew))
     (λ kept. refl)
-
-pub leaf_is_leaf : (p k i : ℕ) (us : List Extent) → is_leaf (leaf_of p us k i) ≡ true
-leaf_is_leaf p k i us = leaf_cases (λ n. is_leaf n ≡ true) p k i us (λ anew. refl) (λ kept. refl)
 
 not_both : (b : Bool) → b ≡ true → b ≡ false → ⊥
 not_both b e f = grind (arith, e, f)
