@@ -23,11 +23,6 @@ abbrev pub depth_in : Node → ℕ
 depth_in (Inner left right) = 0
 depth_in (Leaf start count first second depth back) = depth
 
--- the node with another depth, which an inner node has none of
-abbrev pub with_depth : ℕ → Node → Node
-with_depth d (Inner left right) = Inner left right
-with_depth d (Leaf start count first second depth back) = Leaf start count first second d back
-
 -- whether a node is a leaf
 abbrev pub is_leaf : Node → Bool
 is_leaf (Inner left right) = false
