@@ -4,7 +4,7 @@
 ghost use Rattle.std.specs.Prelude.{◌≡◌};
 
 mod ending;
-mod piece;
+mod chunk;
 
 pub use ending::Ending;
-pub use piece::Piece;
+pub use chunk::Chunk;
