@@ -1,21 +1,20 @@
 -- What stays true of the folders of a history as a path is entered.
-use Rattle.std.proofs.Common.{◌≡◌, ℕ, ◌+◌, ◌<◌, ◌≤◌, ◌⊎◌, inl, inr, Bool, true, false, not, cond, ◌&&◌, List, [], ◌∷◌, ◌++◌, length, Option, Some, None, refl, sym, ap, subst, ◌∙◌, append_assoc, append-nil, arith, rules, ⊎_elim}
+use Rattle.std.proofs.Common.{◌≡◌, ℕ, ◌+◌, ◌<◌, Bool, true, false, cond, ◌&&◌, List, [], ◌∷◌, ◌++◌, length, Option, Some, None, refl, sym, ap, subst, ◌∙◌, append_assoc, append-nil, arith}
 use Rattle.std.specs.Prelude.{if◌then◌else◌, nat_le, IsSome, is_some}
-use Rattle.std.specs.List.{count_by, sum_by}
 use Rattle.std.specs.Str.{bytes_eq}
 use Rattle.std.specs.Cmp.Lexicographic.{bytes_decides}
-use Rattle.std.proofs.lemmas.Bool.{cases_Bool, cond-true, cond-false, leb-true, false≢true}
+use Rattle.std.proofs.lemmas.Bool.{cond-true, cond-false, false≢true}
 use Rattle.std.proofs.lemmas.List.{length_push}
 use Rattle.std.proofs.lemmas.List.Sums.{sum_by-append}
 use Rattle.file_names.specs.Paths.{is_name, is_path, is_root, parent_of, name_of, child_of}
-use Rattle.file_names.specs.Tree.{NameLog, most_names, entered_at, named_at, fault_under, enter_fault, IsLegal, IsLegalBehind, entries_in}
-use Rattle.file_names.specs.Folders.{Folders, entries_at, kept_at, count_at, named_in, Keeps, IsPut, HasPath, AreOf}
+use Rattle.file_names.specs.Tree.{NameLog, most_names, entered_at, named_at, fault_under, enter_fault, IsLegalBehind, entries_in}
+use Rattle.file_names.specs.Folders.{Folders, entries_at, kept_at, count_at, named_in, Keeps, HasPath, AreOf}
 use Rattle.file_names.specs.declared.tree.Named.{Named}
 use Rattle.file_names.specs.declared.tree.Named.TheVariants.{Folder, File}
 use Rattle.file_names.specs.declared.tree.Entered.{Entered}
 use Rattle.file_names.specs.declared.tree.EnterFault.TheVariants as EnterFaults
 use Rattle.file_names.proofs.Splitting.{path_cut, parent_ok, and_both}
-use Rattle.file_names.proofs.Children.{child_cut, same_child}
+use Rattle.file_names.proofs.Children.{same_child}
 
 -- ---- what a history has behind one more entry
 

@@ -2,11 +2,11 @@
 use Rattle.std.specs.Prelude.{if◌then◌else◌, is_some, IsSome}
 use Rattle.std.specs.BTreeMap.{btree_map_len}
 use Rattle.std.proofs.Common.{◌+◌, ◌&&◌, [], length, add-zero, arith, ◌≡◌, ℕ, Bool, true, false, cond, List, Option, Some, None, refl, sym, ap, subst, ◌∙◌, ⊎_elim}
-use Rattle.std.specs.Ordering.{nat_cmp, eq_by_cmp, is_eq}
+use Rattle.std.specs.Ordering.{nat_cmp, is_eq}
 use Rattle.std.specs.Cmp.{eq_by_cmp_equiv}
 use Rattle.std.specs.Cmp.Lexicographic.{slice_cmp, bytes_decides, nat_list_cmp_total, nat_list_eq_equiv}
 use Rattle.std.specs.Str.{bytes_eq}
-use Rattle.std.specs.BTreeMap.{BTreeMap, UpdatesBy, is_at, get_by}
+use Rattle.std.specs.BTreeMap.{BTreeMap, UpdatesBy, is_at}
 use Rattle.std.specs.Map.{lookup, IsKeyTest, AreApart, KeepsOthers}
 use Rattle.std.specs.declared.vec.Vec.{Vec}
 use Rattle.std.specs.declared.alloc.Global.{Global}
@@ -70,17 +70,6 @@ module _ (old new : Folders) (path : List ℕ) (empty : Entries) (none : empty.e
   }
 
 -- ---- folders with the same entries
-
-pub keeps_same : (old new : Folders) → new.entries ≡ old.entries → Keeps old new
-keeps_same old new e =
-    let at : (f : List ℕ) → entries_at new f ≡ entries_at old f = λ f. ap (λ es. lookup (is_at (λ (k : Vec ℕ Global). slice_cmp nat_cmp f k.items)) es) e in record {
-      kept = λ f name. ap (λ o. entry_in o name) (at f);
-      counts = λ f. ap count_of (at f);
-      others = λ f some. subst IsSome (sym (at f)) some;
-    }
-
-pub opened_same : (folders : Folders) (path : List ℕ) → IsSome (entries_at folders path) → IsOpened folders path folders
-opened_same folders path some = record { opened = some; keeps = keeps_same folders folders refl }
 
 module _ (old new : Folders) (path : List ℕ) (e e' : Entries) (was : entries_at old path ≡ Some e) (same : e'.entries ≡ e.entries) (made : (f : List ℕ) → entries_at new f ≡ cond (bytes_eq path f) (Some e') (entries_at old f)) where
   pub keeps_by : Keeps old new

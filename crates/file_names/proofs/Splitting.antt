@@ -1,13 +1,12 @@
 -- A path is cut at its last slash, and put together again.
-use Rattle.std.specs.Prelude.{nat_le, ◌==◌, if◌then◌else◌, codes}
-use Rattle.std.proofs.Common.{◌≡◌, ℕ, ◌+◌, ◌-◌, ◌<◌, ◌≤◌, ◌⊎◌, inl, inr, Bool, true, false, not, cond, ◌&&◌, ◌||◌, List, [], ◌∷◌, ◌++◌, reverse, length, take, drop, All, refl, sym, ap, subst, ◌∙◌, append_assoc, append-nil, length-append, take_at, drop_at, zero-add, arith, rules}
-use Rattle.std.specs.List.{prefix_len, suffix_len, before_last, after_last, slice_split, onto_first, list_all}
-use Rattle.std.proofs.lemmas.Bool.{cond-true, cond-false, eqb-true, false≢true}
+use Rattle.std.specs.Prelude.{nat_le, if◌then◌else◌, codes}
+use Rattle.std.proofs.Common.{◌≡◌, ℕ, ◌+◌, ◌-◌, ◌<◌, ◌⊎◌, inl, inr, Bool, true, false, not, ◌&&◌, List, [], ◌∷◌, ◌++◌, reverse, length, drop, All, refl, sym, ap, subst, ◌∙◌, append_assoc, length-append, take_at, drop_at, zero-add, arith}
+use Rattle.std.specs.List.{prefix_len, before_last, slice_split, onto_first, list_all}
+use Rattle.std.proofs.lemmas.Bool.{cond-true, eqb-true, false≢true}
 use Rattle.std.proofs.lemmas.List.{length_push, reverse-append, length-reverse}
 use Rattle.std.proofs.lemmas.List.Elements.{All-nil, All-cons, All-head, All-tail, All-append}
 use Rattle.std.proofs.lemmas.List.Splits.{slice_split_none, slice_split-cons_yes, slice_split-cons_no, length-slice_split}
-use Rattle.std.proofs.lemmas.Grind.{common_steps}
-use Rattle.file_names.specs.Paths.{is_slash, is_name_byte, is_name, are_names, is_path, is_root, parent_of, name_of, behind_slash, child_of, or_root}
+use Rattle.file_names.specs.Paths.{is_slash, is_name, are_names, is_path, is_root, parent_of, name_of, behind_slash, child_of, or_root}
 
 abbrev pub NoSlash : List ℕ → Type 0
 NoSlash name = All (λ x. not (is_slash x) ≡ true) name

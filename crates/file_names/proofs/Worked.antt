@@ -1,8 +1,8 @@
 -- Paths and small trees, by computation.
-use Rattle.std.specs.Prelude.{◌≡◌, ℕ, true, false, List, [], ◌∷◌, Some, None, Ok, Err, codes}
+use Rattle.std.specs.Prelude.{◌≡◌, true, false, [], ◌∷◌, Some, None, Ok, Err, codes}
 use Rattle.std.proofs.Common.{refl}
 use Rattle.file_names.specs.Paths.{is_path, parent_of, name_of, child_of}
-use Rattle.file_names.specs.Tree.{NameLog, named_at, enter_fault, blob_at, stat_at, entries_in}
+use Rattle.file_names.specs.Tree.{NameLog, named_at, enter_fault, blob_at, stat_at}
 use Rattle.file_names.specs.declared.tree.Named.TheVariants.{Folder, File}
 use Rattle.file_names.specs.declared.tree.Stat.TheVariants as Stats
 use Rattle.file_names.specs.declared.tree.EnterFault.TheVariants as EnterFaults

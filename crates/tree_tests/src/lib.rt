@@ -1,5 +1,5 @@
 //! Tests of trees: pages and ranges, shared lists, whole plans, visit bounds told before a read, which stored page holds a byte, and
-//! the order of publication.
+//! the order of publication; reads over nodes and rows that are built by hand, and by several threads.
 #![tactic(auto)]
 
 #[cfg(test)]
@@ -13,11 +13,15 @@ mod holders;
 #[cfg(test)]
 mod lists;
 #[cfg(test)]
+mod nodes;
+#[cfg(test)]
 mod pages;
 #[cfg(test)]
 mod plain;
 #[cfg(test)]
 mod plans;
+#[cfg(test)]
+mod reader;
 #[cfg(test)]
 mod row_list;
 #[cfg(test)]

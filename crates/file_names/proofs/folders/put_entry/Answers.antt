@@ -1,8 +1,7 @@
-use Rattle.std.proofs.Common.{◌≡◌, ap, sym, ◌∙◌, subst, cond, Ok, Some, None, Option, arith, List, ℕ, rules}
-use Rattle.std.specs.Prelude.{IsSome, OnOk, OnErr}
+use Rattle.std.proofs.Common.{◌≡◌, cond, Some, List, ℕ, rules}
 use Rattle.std.specs.Str.{bytes_eq}
 use Rattle.std.proofs.lemmas.Result.{on_ok_weaker, on_err_weaker}
-use Rattle.file_names.specs.Folders.{entries_at, at_bytes, IsPut, Folders, Entries, HasPut}
+use Rattle.file_names.specs.Folders.{entries_at, Entries, HasPut}
 use Rattle.file_names.proofs.Maps.{updates_bytes, put_by, keeps_by}
 use Rattle.file_names.proofs.folders.put_entry.Goals as goal
 

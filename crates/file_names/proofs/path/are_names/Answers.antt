@@ -1,6 +1,5 @@
 use Rattle.std.proofs.Common.{arith}
 use Rattle.std.proofs.lemmas.List.Splits.{length-slice_split}
-use Rattle.std.proofs.lemmas.Grind.{common_steps}
 use Rattle.file_names.specs.Paths.{is_slash}
 use Rattle.file_names.proofs.path.are_names.Goals as goal
 

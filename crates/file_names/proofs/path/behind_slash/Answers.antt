@@ -1,11 +1,11 @@
-use Rattle.std.proofs.Common.{◌≡◌, ◌≤◌, ℕ, Bool, Option, Some, None, List, cond, ltb, length, reverse, rules, arith, not}
+use Rattle.std.proofs.Common.{◌≡◌, ◌≤◌, ℕ, Some, None, cond, ltb, length, reverse, rules, arith, not}
 use borrow.Author.Tests.{tests}
 use Rattle.std.specs.List.{position_or_len}
 use Rattle.std.proofs.lemmas.List.{length-reverse}
 use Rattle.std.proofs.lemmas.List.Sums.{prefix_len-le-length}
 use Rattle.std.proofs.lemmas.Iterator.Search.{position_from_yields_List}
 use Rattle.std.proofs.lemmas.Iterator.Adapters.{YieldsList-from_rev_slice}
-use Rattle.file_names.specs.Paths.{is_slash, behind_slash}
+use Rattle.file_names.specs.Paths.{is_slash}
 use Rattle.file_names.proofs.path.behind_slash.Goals as goal
 
 some_at : (n m k : ℕ) → Some k ≡ cond (ltb n m) (Some n) None → k ≡ n

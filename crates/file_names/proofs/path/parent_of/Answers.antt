@@ -1,5 +1,5 @@
-use Rattle.std.proofs.Common.{◌≡◌, ap, ◌∙◌, true}
-use Rattle.file_names.specs.Paths.{is_path, parent_of}
+use Rattle.std.proofs.Common.{ap, ◌∙◌}
+use Rattle.file_names.specs.Paths.{is_path}
 use Rattle.file_names.proofs.Splitting.{parent_ok}
 use Rattle.file_names.proofs.path.parent_of.Goals as goal
 

@@ -1,4 +1,4 @@
-use Rattle.std.proofs.Common.{◌≡◌, ◌++◌, ◌∷◌, [], ◌∙◌, ap, subst, sym, rules, arith, None}
+use Rattle.std.proofs.Common.{◌≡◌, ◌++◌, ◌∷◌, [], ◌∙◌, ap, subst, sym, None}
 use Rattle.file_names.specs.Tree.{enter_fault}
 use Rattle.file_names.specs.Folders.{HasPath}
 use Rattle.file_names.proofs.Entering.{parent_open, entered_ok}

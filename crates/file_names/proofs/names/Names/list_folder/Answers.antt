@@ -1,4 +1,4 @@
-use Rattle.std.proofs.Common.{◌≡◌, ap, subst, sym, ◌∙◌, Some, rules}
+use Rattle.std.proofs.Common.{◌≡◌, subst, sym, Some, rules}
 use Rattle.file_names.specs.Tree.{IsListing}
 use Rattle.file_names.specs.Folders.{entries_at}
 use Rattle.file_names.proofs.Listings.{listing_ok}

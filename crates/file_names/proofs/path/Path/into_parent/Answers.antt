@@ -1,4 +1,4 @@
-use Rattle.std.proofs.Common.{◌≡◌, ap, ◌∙◌, true, arith}
+use Rattle.std.proofs.Common.{◌≡◌, ap, ◌∙◌}
 use Rattle.file_names.specs.Paths.{is_path, parent_of}
 use Rattle.file_names.proofs.Splitting.{parent_ok}
 use Rattle.file_names.proofs.path.Path.into_parent.Goals as goal

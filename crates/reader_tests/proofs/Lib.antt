@@ -1,2 +1,0 @@
-pub mod ByHandRows
-pub mod HandMade
