@@ -1,9 +1,9 @@
 -- How a load ended that was ended early.
 use Rattle.std.proofs.Common.{◌≡◌, ℕ, sym, subst}
 use Rattle.workload_law.specs.declared.plan.LoadPlan.{LoadPlan}
-use Rattle.workload_run.specs.Loading.{EndsEarly}
-use Rattle.workload_run.specs.declared.loading.LoadFault.{LoadFault}
-use Rattle.workload_run.specs.declared.loading.LoadFault.TheVariants as Faults
+use Rattle.update_work.specs.Ending.{EndsEarly}
+use Rattle.update_work.specs.declared.ending.EarlyEnd.{EarlyEnd as LoadFault}
+use Rattle.update_work.specs.declared.ending.EarlyEnd.TheVariants as Faults
 use Rattle.blobseer_run.specs.declared.status.Status.{Status}
 use Rattle.blobseer_run.specs.Outside.{Outside, LeavesInput, LeavesNet}
 use Rattle.blobseer_run.specs.Loading.{DidLoad, load_lines, status_of}

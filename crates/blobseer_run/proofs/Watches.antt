@@ -1,9 +1,9 @@
 -- How a watch ended that was ended early.
 use Rattle.std.proofs.Common.{◌≡◌, ℕ, sym, subst}
 use Rattle.watch_law.specs.declared.plan.WatchPlan.{WatchPlan}
-use Rattle.watch_run.specs.Ending.{EndsEarly}
-use Rattle.watch_run.specs.declared.watching.WatchFault.{WatchFault}
-use Rattle.watch_run.specs.declared.watching.WatchFault.TheVariants as Faults
+use Rattle.update_work.specs.Ending.{EndsEarly}
+use Rattle.update_work.specs.declared.ending.EarlyEnd.{EarlyEnd as WatchFault}
+use Rattle.update_work.specs.declared.ending.EarlyEnd.TheVariants as Faults
 use Rattle.blobseer_run.specs.declared.status.Status.{Status}
 use Rattle.blobseer_run.specs.Outside.{Outside, LeavesInput, LeavesNet}
 use Rattle.blobseer_run.specs.Watching.{DidWatch, watch_lines, status_of}

@@ -4,8 +4,8 @@ use Rattle.settings.specs.Values.{SettingsValues}
 use Rattle.workload_law.specs.declared.plan.LoadPlan.{LoadPlan}
 use Rattle.workload_law.specs.Said.{said}
 use Rattle.workload_law.specs.Summed.{summary_of}
-use Rattle.workload_run.specs.declared.loading.LoadFault.{LoadFault}
-use Rattle.workload_run.specs.declared.loading.LoadFault.TheVariants as Faults
+use Rattle.update_work.specs.declared.ending.EarlyEnd.{EarlyEnd as LoadFault}
+use Rattle.update_work.specs.declared.ending.EarlyEnd.TheVariants as Faults
 use Rattle.blobseer_run.specs.declared.status.Status.{Status}
 use Rattle.blobseer_run.specs.declared.status.Status.TheVariants as Statuses
 use Rattle.blobseer_run.specs.Outside.{Outside}

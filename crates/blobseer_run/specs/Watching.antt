@@ -4,8 +4,8 @@ use Rattle.settings.specs.Values.{SettingsValues}
 use Rattle.watch_law.specs.declared.plan.WatchPlan.{WatchPlan}
 use Rattle.watch_law.specs.Said.{said}
 use Rattle.watch_law.specs.Watch.{summary_of}
-use Rattle.watch_run.specs.declared.watching.WatchFault.{WatchFault}
-use Rattle.watch_run.specs.declared.watching.WatchFault.TheVariants as Faults
+use Rattle.update_work.specs.declared.ending.EarlyEnd.{EarlyEnd as WatchFault}
+use Rattle.update_work.specs.declared.ending.EarlyEnd.TheVariants as Faults
 use Rattle.blobseer_run.specs.declared.status.Status.{Status}
 use Rattle.blobseer_run.specs.declared.status.Status.TheVariants as Statuses
 use Rattle.blobseer_run.specs.Outside.{Outside}
