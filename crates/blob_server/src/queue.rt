@@ -25,7 +25,7 @@ const OFFERS: u32 = 100_000;
 
 /// The peers that wait, and the bell that tells of them. It is shared by the workers.
 #[derive(Drop)]
-pub(crate) struct Desk<P> {
+pub(crate) struct PeerQueue<P> {
     queue: ArrayQueue<P>,
     bell: Bell,
     // How many workers are to take peers from here, and how many of them serve one now.
@@ -33,13 +33,13 @@ pub(crate) struct Desk<P> {
     serving: AtomicU32,
 }
 
-impl<P: Source + Sink + Drop> Desk<P> {
+impl<P: Source + Sink + Drop> PeerQueue<P> {
     /// No peer waits. So many workers are to take peers from here.
-    pub(crate) fn new(alloc: Global, takers: u32) -> Result<Desk<P>, NoMemory> {
+    pub(crate) fn new(alloc: Global, takers: u32) -> Result<PeerQueue<P>, NoMemory> {
         let Ok(queue) = ArrayQueue::new(alloc, PLACES) else {
             return Err(NoMemory);
         };
-        Ok(Desk {
+        Ok(PeerQueue {
             queue,
             bell: Bell::new(),
             takers,

@@ -1,5 +1,5 @@
 use Rattle.std.proofs.Common.{◌≡◌}
-use Rattle.blob_server.proofs.desk.Desk.put.Given as goal
+use Rattle.blob_server.proofs.queue.PeerQueue.put.Given as goal
 
 -- it is the same peer
 abbrev pub invariant-loop : goal.invariant-loop
