@@ -13,7 +13,7 @@ use Rattle.range_log.specs.Open.{open_at, Rises}
 use Rattle.range_log.specs.Laws.{TouchesAre, EachTouchIs, SizesAre, RowsStay}
 use Rattle.page_store.specs.Stored.{bytes_of_pages}
 use Rattle.snapshot.specs.Versions.{Version, update_of_row, updates_of, IsVersion}
-use Rattle.border_hints.specs.Numbered.{NumberedUpdate, log_of, log_with, own_touch, log_upto, IsNumbered}
+use Rattle.border_hints.specs.Numbered.{NumberedUpdate, log_of, log_with, own_touch, log_upto, IsValidTicket}
 use Rattle.range_log.proofs.Bytes.{length-extents}
 
 pub length-log_of : TouchesAre → (s : Version) → length (log_of s) ≡ length s.rows
@@ -100,7 +100,7 @@ module _ (are : TouchesAre) (each : EachTouchIs) (sizes : SizesAre) (stay : Rows
       → t.len ≡ length (bytes_of_pages t.pages.pages) → 1 ≤ t.len → t.pages.page_size ≡ t.snapshot.page_size
       → t.at ≤ size_at (log_with t.snapshot t.waiting) (t.version - 1)
       → t.size ≡ max (size_at (log_with t.snapshot t.waiting) (t.version - 1)) (t.at + t.len)
-      → t.size ≤ 2 ^ 40 → IsNumbered t
+      → t.size ≤ 2 ^ 40 → IsValidTicket t
   ticket_stands t is rises first next log len some page_size at size fits =
       let p : ℕ = t.snapshot.page_size in
       let below : List Touch = log_with t.snapshot t.waiting in

@@ -16,7 +16,7 @@ use Rattle.range_log.specs.Log.{newest_of, touch_at, size_at}
 use Rattle.range_log.specs.Depths.{depth_of}
 use Rattle.range_log.specs.Laws.{TouchesAre, LogsGrow}
 use Rattle.range_log.specs.Open.{no_open, open_at}
-use Rattle.border_hints.specs.Numbered.{NumberedUpdate, log_of, log_with, own_touch, log_upto, StandsFor, IsNumbered}
+use Rattle.border_hints.specs.Numbered.{NumberedUpdate, log_of, log_with, own_touch, log_upto, IsTicketAmong, IsValidTicket}
 use Rattle.border_hints.specs.Borders.{beside, newest_known, KnowsEdge, edge_links}
 use Rattle.border_hints.proofs.Tickets.{length-log_of, length-log_with}
 use Rattle.border_hints.proofs.Published.{double, holds_root}
@@ -51,7 +51,7 @@ newest_stays are grow t range =
     sym (grow p v (s ++ w) (own_touch t ∷ []) range (omega arith) ∙ grow p v s w range (omega arith))
 
 -- a waiting update that touches the range is the newest up to itself, and one that doesn't leaves the newest
-pub waiting_hit : TouchesAre → (t : NumberedUpdate) → IsNumbered t → (range : Range) (i k : ℕ) → i < length t.waiting → k ≡ i + 1 → meets_of t.snapshot.page_size (open_at t.waiting i).touch range ≡ true
+pub waiting_hit : TouchesAre → (t : NumberedUpdate) → IsValidTicket t → (range : Range) (i k : ℕ) → i < length t.waiting → k ≡ i + 1 → meets_of t.snapshot.page_size (open_at t.waiting i).touch range ≡ true
     → newest_of t.snapshot.page_size (log_upto t) (length t.snapshot.rows + k) range ≡ (open_at t.waiting i).version
 unfolding newest_of
 waiting_hit are t is range i k lt next met =
@@ -137,7 +137,7 @@ size_front s more zero le = refl
 size_front s more (suc v) le = ap (λ (u : Touch). u.size) (get_or_append_left s more no_touch v le)
 
 -- the snapshot has no more bytes than the new version
-pub size_before : TouchesAre → LogsAreGrown → (t : NumberedUpdate) → IsNumbered t → 1 ≤ t.snapshot.page_size → size_at (log_of t.snapshot) (length t.snapshot.rows) ≤ t.size
+pub size_before : TouchesAre → LogsAreGrown → (t : NumberedUpdate) → IsValidTicket t → 1 ≤ t.snapshot.page_size → size_at (log_of t.snapshot) (length t.snapshot.rows) ≤ t.size
 size_before are grown t is pos =
     let p : ℕ = t.snapshot.page_size in
     let s : List Touch = log_of t.snapshot in
@@ -146,7 +146,7 @@ size_before are grown t is pos =
     let v : ℕ = length t.snapshot.rows in
     let n : ℕ = length t.waiting in
     let us = is.stands.0 in
-    let st : StandsFor t us = is.stands.1 in
+    let st : IsTicketAmong t us = is.stands.1 in
     let P : List Touch → Type 0 = λ l. Grown p l in
     let g : Grown p all = subst P st.touches (grown p us pos st.in_bounds) in
     let count : length s ≡ v = length-log_of are t.snapshot in
@@ -158,7 +158,7 @@ size_before are grown t is pos =
     let low : size_at all v ≡ size_at s v = size_front (s ++ w) (own_touch t ∷ []) v (omega arith) ∙ size_front s w v (omega arith) in
     omega (arith, is.size, up, top, low)
 
-down_start : NewestHits → NewestOfNone → HeightsHold → TouchesAre → LogsAreGrown → (log : List Touch) (t : NumberedUpdate) (k page : ℕ) (besides : List ℕ) → length besides ≡ 39 → IsNumbered t → 1 ≤ t.snapshot.page_size
+down_start : NewestHits → NewestOfNone → HeightsHold → TouchesAre → LogsAreGrown → (log : List Touch) (t : NumberedUpdate) (k page : ℕ) (besides : List ℕ) → length besides ≡ 39 → IsValidTicket t → 1 ≤ t.snapshot.page_size
     → Grown t.snapshot.page_size (log_of t.snapshot) → page * t.snapshot.page_size < t.size
     → Down t.snapshot.page_size log (log_of t.snapshot) (length t.snapshot.rows) k (height_of t.snapshot.page_size t.size) page (height_of t.snapshot.page_size t.size) (length t.snapshot.rows) besides
 down_start hits none heights are grown log t k page besides room is pos g inside =
@@ -181,7 +181,7 @@ down_start hits none heights are grown log t k page besides room is pos g inside
       sides = λ j from to. absurd (omega arith);
     }
 
-pub down_started : NewestHits → NewestOfNone → HeightsHold → TouchesAre → LogsAreGrown → (log : List Touch) (t : NumberedUpdate) (k page h at : ℕ) (besides : List ℕ) → length besides ≡ 39 → IsNumbered t → 1 ≤ t.snapshot.page_size
+pub down_started : NewestHits → NewestOfNone → HeightsHold → TouchesAre → LogsAreGrown → (log : List Touch) (t : NumberedUpdate) (k page h at : ℕ) (besides : List ℕ) → length besides ≡ 39 → IsValidTicket t → 1 ≤ t.snapshot.page_size
     → Grown t.snapshot.page_size (log_of t.snapshot) → page * t.snapshot.page_size < t.size → h ≡ height_of t.snapshot.page_size t.size → at ≡ length t.snapshot.rows
     → Down t.snapshot.page_size log (log_of t.snapshot) (length t.snapshot.rows) k (height_of t.snapshot.page_size t.size) page h at besides
 down_started hits none heights are grown log t k page h at besides room is pos g inside high v =

@@ -54,18 +54,18 @@ log_upto t = log_with t.snapshot t.waiting ++ own_touch t ∷ []
 
 -- the numbered update stands for updates that fall so: each begins at the size before it at the latest, they touch what the
 -- ticket tells, and the last is its own
-pub record StandsFor (t : NumberedUpdate) (us : List Extent) : Type 0 where
+pub record IsTicketAmong (t : NumberedUpdate) (us : List Extent) : Type 0 where
   pub in_bounds : InBounds us
   pub touches : touches t.snapshot.page_size us ≡ log_upto t
   pub own : extent_at us t.version ≡ record { at = t.at; len = t.len }
 
 -- what holds of each ticket: the waiting versions follow the snapshot's and its own follows them, it stands for some
 -- updates, its pages are those of its bytes, and the blob has at most 2^40 bytes after it
-pub record IsNumbered (t : NumberedUpdate) : Type 0 where
+pub record IsValidTicket (t : NumberedUpdate) : Type 0 where
   pub published : IsVersion t.snapshot
   pub waiting : (i : ℕ) → i < length t.waiting → (open_at t.waiting i).version ≡ length t.snapshot.rows + i + 1
   pub version : t.version ≡ length t.snapshot.rows + length t.waiting + 1
-  pub stands : (us : List Extent) × StandsFor t us
+  pub stands : (us : List Extent) × IsTicketAmong t us
   pub len : t.len ≡ length (bytes_of_pages t.pages.pages)
   pub some : 1 ≤ t.len
   pub page_size : t.pages.page_size ≡ t.snapshot.page_size

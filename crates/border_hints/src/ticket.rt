@@ -5,7 +5,7 @@ ghost use Rattle.page_store.specs.Stored.{bytes_of_pages};
 ghost use Rattle.range_log.specs.Log.{size_at};
 ghost use Rattle.range_log.specs.Extents.{IsLog};
 ghost use Rattle.range_log.specs.Open.{open_at};
-ghost use Rattle.border_hints.specs.Numbered.{log_with, numbered_update, own_touch, IsNumbered};
+ghost use Rattle.border_hints.specs.Numbered.{log_with, numbered_update, own_touch, IsValidTicket};
 
 use page_store::Pages;
 use range_log::{OpenCopy, laws};
@@ -130,14 +130,14 @@ impl Ticket {
     /// The update's version.
     pub fn version(&self) -> u64
         ensures version { result ≡ self.now.version }
-        ensures stands { IsNumbered self.now }
+        ensures stands { IsValidTicket self.now }
     {
         self.version
     }
 
     /// A ticket's parts fit together, as those of a numbered update. For proofs: it does nothing.
     pub fn stands(&self)
-        ensures { IsNumbered self.now }
+        ensures { IsValidTicket self.now }
     {
         let _version = self.version;
     }

@@ -13,7 +13,7 @@ use Rattle.blob_model.specs.declared.call.Outcome.TheVariants as Outcomes
 use Rattle.blob_model.specs.declared.call.Refusal.{Refusal}
 use Rattle.blob_model.specs.declared.call.Refusal.TheVariants as Refusals
 use Rattle.border_hints.specs.Numbered.{NumberedUpdate}
-use Rattle.border_hints.specs.Numbered.{IsNumbered as IsWellNumbered}
+use Rattle.border_hints.specs.Numbered.{IsValidTicket as IsWellNumbered}
 use Rattle.faults.specs.Counts.{RoseBy}
 use Rattle.page_store.specs.Count.{HasRisen}
 use Rattle.tree_weaver.specs.Anew.{IsStoredAnew, OnLostFold}

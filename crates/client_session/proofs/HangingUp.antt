@@ -10,7 +10,7 @@ use Rattle.blob_model.specs.Content.{Update}
 use Rattle.blob_model.specs.Store.{Store, Blob, blob_at}
 use Rattle.range_log.specs.Updates.{extents}
 use Rattle.range_log.specs.Laws.{TouchesAre, ExtentsAre}
-use Rattle.border_hints.specs.Numbered.{NumberedUpdate, StandsFor, own_touch, log_with}
+use Rattle.border_hints.specs.Numbered.{NumberedUpdate, IsTicketAmong, own_touch, log_with}
 use Rattle.version_manager.specs.Desks.{finished_or_not, updates_or_none, updates_in}
 use Rattle.version_manager.specs.Log.{desk_at, events}
 use Rattle.version_manager.specs.declared.journal.DeskFixed.{DeskFixed}
@@ -150,7 +150,7 @@ few_finished s [] (r ∷ rs) s' store none all = absurd none
 few_finished s (t ∷ ts) [] s' store none all = absurd none
 
 -- a ticket's version isn't 0, since the ticket stands for the updates up to it
-some_version : TouchesAre → ExtentsAre → (t : NumberedUpdate) (us : List Update) → t.version ≤ length us → StandsFor t (extents (take t.version us)) → 1 ≤ t.version
+some_version : TouchesAre → ExtentsAre → (t : NumberedUpdate) (us : List Update) → t.version ≤ length us → IsTicketAmong t (extents (take t.version us)) → 1 ≤ t.version
 some_version touched counted t us numbered stands =
     omega (
       arith,

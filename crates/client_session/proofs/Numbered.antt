@@ -16,7 +16,7 @@ use Rattle.page_fan.specs.Fault.{OnPageFault}
 use Rattle.page_fan.specs.declared.storing.StoreFault.{StoreFault}
 use Rattle.page_fan.specs.declared.storing.StoreFault.TheVariants as StoreFaults
 use Rattle.border_hints.specs.Numbered.{NumberedUpdate}
-use Rattle.border_hints.specs.Numbered.{IsNumbered as IsWellNumbered}
+use Rattle.border_hints.specs.Numbered.{IsValidTicket as IsWellNumbered}
 use Rattle.version_manager.specs.Desks.{IsUnfinished}
 use Rattle.version_manager.specs.Log.{Changed, IsNewTicket, tag, events, desk_at}
 use Rattle.version_manager.specs.declared.journal.DeskFixed.{DeskFixed}

@@ -11,7 +11,7 @@ use Rattle.blob_model.proofs.Stays.{store_kept, store_from-append}
 use Rattle.page_store.specs.Stored.{Cut, LieAmong}
 use Rattle.node_store.specs.UpdateRows.{UpdateRow}
 use Rattle.border_hints.specs.Numbered.{NumberedUpdate}
-use Rattle.border_hints.specs.Numbered.{IsNumbered as IsWellNumbered}
+use Rattle.border_hints.specs.Numbered.{IsValidTicket as IsWellNumbered}
 use Rattle.session_parts.specs.Tickets.{OpenUpdate}
 use Rattle.tree_weaver.specs.Woven.{IsWoven}
 use Rattle.version_manager.specs.Desks.{updates_in, updates_or_none, published_or_none}

@@ -34,7 +34,7 @@ use Rattle.client_session.specs.Results.{repair_reply, updated_reply}
 use Rattle.client_session.specs.Sessions.{SessionState, session_of}
 use Rattle.client_session.specs.SessionInvariant.{IsTicketHere}
 use Rattle.client_session.specs.Finishing.{bare, Finishing}
-use Rattle.client_session.specs.Updates.{UpdateDone, StartDone, IsNumbered, IsHeldNext, IsKept, held_next, update_request, start_request, update_reply, start_reply}
+use Rattle.client_session.specs.Updates.{UpdateDone, StartDone, WasNumbered, IsHeldNext, IsKept, held_next, update_request, start_request, update_reply, start_reply}
 use Rattle.client_session.proofs.StoreAnswers.{IsThere, only_already, pending_waits}
 use Rattle.client_session.proofs.Lifted.{unheld, then_holds, OnlyAlready}
 use Rattle.client_session.proofs.Ended.{IsOpenIn, NotFinished, ends_done, ends_not}
@@ -98,7 +98,7 @@ held_faults : (s : Session) (blob : ℕ) (place : Place) (ticket version at size
 held_faults s blob Append ticket version at size a b r = r
 held_faults s blob (WriteAt offset) ticket version at size a b r = r
 
-module _ {D : Type 0} (s mid : SessionState D) (blob : ℕ) (place : Place) (bytes : List ℕ) (t : NumberedUpdate) (n : IsNumbered s blob place bytes t mid) where
+module _ {D : Type 0} (s mid : SessionState D) (blob : ℕ) (place : Place) (bytes : List ℕ) (t : NumberedUpdate) (n : WasNumbered s blob place bytes t mid) where
   abbrev assigns : List Event
   assigns = n.others ++ Events.Assign s.caller blob place bytes ∷ []
 

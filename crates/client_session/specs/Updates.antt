@@ -52,7 +52,7 @@ NotNumbered s blob place bytes fault s' =
     (UpdateAnswer AllOther (session_of s) blob place bytes ⊥ (Replies.Refused fault) (session_of s'))
 
 -- An update was numbered after others' events, and nothing else has changed but the doors' counts. It may be held next.
-pub record IsNumbered {D : Type 0} (s : SessionState D) (blob : ℕ) (place : Place) (bytes : List ℕ) (t : NumberedUpdate) (s' : SessionState D) : Type 0 where
+pub record WasNumbered {D : Type 0} (s : SessionState D) (blob : ℕ) (place : Place) (bytes : List ℕ) (t : NumberedUpdate) (s' : SessionState D) : Type 0 where
   pub others : List Event
   pub is_gap : AllOther s.caller others
   pub taken : update_fault (session_of s) bytes ≡ None

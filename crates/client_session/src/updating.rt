@@ -20,7 +20,7 @@ ghost use Rattle.client_session.specs.Sessions.{IsPassOf, Went, session_of, Cont
 ghost use Rattle.client_session.specs.Finishing.{bare};
 ghost use Rattle.client_session.specs.Losses.{IfPageLost, LostFirst};
 ghost use Rattle.client_session.specs.Numbering.{LookedAhead, NotNumberedFor, Numbering};
-ghost use Rattle.client_session.specs.Updates.{update_request, start_request, start_reply, IsNumbered, NotNumbered, IsKept};
+ghost use Rattle.client_session.specs.Updates.{update_request, start_request, start_reply, WasNumbered, NotNumbered, IsKept};
 
 use crate::session::{Session, fault_of};
 use crate::shared::Shared;
@@ -178,7 +178,7 @@ impl<'a, D: BesideDoor, G: Gate> Session<'a, D, G> {
         bytes: &[u8],
     ) -> Result<Ticket, Fault>
         requires sync { IsSync R.row }
-        ensures numbered { IfOk result (λ t. IsNumbered self.old blob place bytes.now t self.new) }
+        ensures numbered { IfOk result (λ t. WasNumbered self.old blob place bytes.now t self.new) }
         ensures refused { IfErr result (λ fault. NotNumbered self.old blob place bytes.now fault self.new) }
         ensures first_lost { IfErr result (λ fault. IfPageLost fault (LostFirst self.old.store bytes.now (map D.faults self.old.doors) (map D.faults self.new.doors))) }
         ensures risen { IfErr result (λ fault. RoseBy (page_faults fault) (sum_by D.faults self.old.doors) (sum_by D.faults self.new.doors)) }

@@ -5,7 +5,7 @@ ghost use Rattle.framing.specs.Framing.{framed};
 use crate::body::Body;
 use crate::frame::Frame;
 use faults::NoMemory;
-use item_stream::{Ending, Piece};
+use item_stream::{Chunk, Ending};
 use std::alloc::Global;
 use std::marker::Model;
 
@@ -20,7 +20,7 @@ const ROOM: usize = 65_536;
 pub struct Frames<B: Body> {
     alloc: Global,
     frame: Frame<B>,
-    rest: Piece,
+    rest: Chunk,
 }
 
 impl<B: Body> Model for Frames<B> {
@@ -39,7 +39,7 @@ impl<B: Body> Frames<B> {
         Ok(Frames {
             alloc,
             frame: Frame::new(),
-            rest: Piece::with_room(alloc, ROOM)?,
+            rest: Chunk::with_room(alloc, ROOM)?,
         })
     }
 

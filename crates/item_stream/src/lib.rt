@@ -3,8 +3,8 @@
 
 ghost use Rattle.std.specs.Prelude.{◌≡◌};
 
+mod chunk;
 mod ending;
-mod piece;
 
+pub use chunk::Chunk;
 pub use ending::Ending;
-pub use piece::Piece;

@@ -6,7 +6,7 @@ use Rattle.std.proofs.lemmas.List.{map-append, length-map, take-append-drop}
 use Rattle.std.proofs.lemmas.List.Elements.{filter_more, filter-append}
 use Rattle.std.proofs.Math.Seq.{take-append_seam}
 use Rattle.page_fan.specs.declared.stand.Put.{Put}
-use Rattle.page_fan.specs.declared.stand.Reply.{Reply}
+use Rattle.page_fan.specs.declared.stand.PutReply.{PutReply}
 use Rattle.page_fan.specs.Stands.{group_of}
 
 -- the first put is one of the group
@@ -40,19 +40,19 @@ group_same provider puts i d l other =
     ap (map (λ (p : Put). p.at)) (rw (no, append-nil (filter test (take i puts))) at (filter_more test puts i d l))
 
 -- replies to the group of the first puts are the first replies to the group of all
-pub group_first : (provider : ℕ) (puts : List Put) (i : ℕ) (tray : List Reply) → map (λ (r : Reply). r.at) tray ≡ group_of provider (take i puts)
-    → map (λ (r : Reply). r.at) tray ≡ take (length tray) (group_of provider puts)
+pub group_first : (provider : ℕ) (puts : List Put) (i : ℕ) (tray : List PutReply) → map (λ (r : PutReply). r.at) tray ≡ group_of provider (take i puts)
+    → map (λ (r : PutReply). r.at) tray ≡ take (length tray) (group_of provider puts)
 group_first provider puts i tray is =
     let mine = group_of provider (take i puts) in
     let rest = group_of provider (drop i puts) in
     let whole : group_of provider puts ≡ mine ++ rest = ap (λ ps. group_of provider ps) (sym (take-append-drop i puts)) ∙ group_append provider (take i puts) (drop i puts) in
-    let long : length tray ≡ length mine = sym (length-map tray (λ (r : Reply). r.at)) ∙ ap length is in
+    let long : length tray ≡ length mine = sym (length-map tray (λ (r : PutReply). r.at)) ∙ ap length is in
     rw (whole, long, take-append_seam mine rest) is
 
 -- one reply more, to the next put
-pub reply_next : (provider : ℕ) (puts : List Put) (i : ℕ) (d : Put) (tray new : List Reply) (reply : Reply) → i < length puts → (get_or puts i d).provider ≡ provider
-    → map (λ (r : Reply). r.at) tray ≡ group_of provider (take i puts) → new ≡ tray ++ reply ∷ [] → reply.at ≡ (get_or puts i d).at
-    → map (λ (r : Reply). r.at) new ≡ group_of provider (take (i + 1) puts)
+pub reply_next : (provider : ℕ) (puts : List Put) (i : ℕ) (d : Put) (tray new : List PutReply) (reply : PutReply) → i < length puts → (get_or puts i d).provider ≡ provider
+    → map (λ (r : PutReply). r.at) tray ≡ group_of provider (take i puts) → new ≡ tray ++ reply ∷ [] → reply.at ≡ (get_or puts i d).at
+    → map (λ (r : PutReply). r.at) new ≡ group_of provider (take (i + 1) puts)
 reply_next provider puts i d tray new reply l own so_far pushed at =
-    ap (map (λ (r : Reply). r.at)) pushed ∙ (map-append (λ (r : Reply). r.at) tray (reply ∷ [])
+    ap (map (λ (r : PutReply). r.at)) pushed ∙ (map-append (λ (r : PutReply). r.at) tray (reply ∷ [])
     ∙ (ap (λ xs. xs ++ reply.at ∷ []) so_far ∙ (ap (λ n. group_of provider (take i puts) ++ n ∷ []) at ∙ sym (group_next provider puts i d l own))))

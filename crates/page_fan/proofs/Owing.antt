@@ -4,7 +4,7 @@ use Rattle.std.proofs.lemmas.Bool.{cases_eq}
 use Rattle.std.proofs.lemmas.List.{length-map, get_or-map, get_or-set_same, get_or-set_other, get_or_default, take_more, drop_more}
 use Rattle.page_store.specs.Calls.{Calls, call_more}
 use Rattle.page_fan.specs.declared.stand.Put.{Put}
-use Rattle.page_fan.specs.declared.stand.Reply.{Reply}
+use Rattle.page_fan.specs.declared.stand.PutReply.{PutReply}
 use Rattle.page_fan.specs.declared.stand.Stand.{Stand}
 use Rattle.page_fan.specs.Stands.{group_of, IsOwed, EachOwed, EachPut, EachCalled, EachHasReplies}
 use Rattle.page_fan.specs.Listed.{puts_at, puts_from}
@@ -22,15 +22,15 @@ group_other_last : (provider : ℕ) (done : List Put) (put : Put) → put.provid
 group_other_last provider done put other = group_append provider done (put ∷ []) ∙ (ap (λ ps. group_of provider done ++ ps) (group_other provider put [] other) ∙ append-nil (group_of provider done))
 
 -- the first reply in the tray is the one that is asked for
-pub owed_head : (at : ℕ) (rest : List ℕ) (reply : Reply) (tray left : List Reply) → tray ≡ reply ∷ left → map (λ (r : Reply). r.at) tray ≡ take (length tray) (at ∷ rest)
-    → (reply.at ≡ at) × (map (λ (r : Reply). r.at) left ≡ take (length left) rest)
+pub owed_head : (at : ℕ) (rest : List ℕ) (reply : PutReply) (tray left : List PutReply) → tray ≡ reply ∷ left → map (λ (r : PutReply). r.at) tray ≡ take (length tray) (at ∷ rest)
+    → (reply.at ≡ at) × (map (λ (r : PutReply). r.at) left ≡ take (length left) rest)
 owed_head at rest reply tray left is in_order =
-    let whole : map (λ (r : Reply). r.at) (reply ∷ left) ≡ take (length (reply ∷ left)) (at ∷ rest) = rw is at in_order in
+    let whole : map (λ (r : PutReply). r.at) (reply ∷ left) ≡ take (length (reply ∷ left)) (at ∷ rest) = rw is at in_order in
     (ap (λ xs. get_or xs 0 0) whole, ap (λ xs. drop 1 xs) whole)
 
 -- the tray is empty, and the door is called
-pub owed_none : {D : Type 0} (called : D → D → Type 0) (done : ℕ) (rest : List ℕ) (first door last : D) (tray left : List Reply) → length tray ≡ 0 → length left ≡ 0
-    → Calls called (done + length tray) first door → called door last → (map (λ (r : Reply). r.at) left ≡ take (length left) rest) × Calls called (done + 1 + length left) first last
+pub owed_none : {D : Type 0} (called : D → D → Type 0) (done : ℕ) (rest : List ℕ) (first door last : D) (tray left : List PutReply) → length tray ≡ 0 → length left ≡ 0
+    → Calls called (done + length tray) first door → called door last → (map (λ (r : PutReply). r.at) left ≡ take (length left) rest) × Calls called (done + 1 + length left) first last
 owed_none called done rest first door last tray [] none e calls call =
     let before : done + length tray ≡ done = omega (arith, none) in
     let now : done + 1 + 0 ≡ suc done = omega arith in
@@ -67,7 +67,7 @@ module _ {D : Type 0} where
   all_put called puts first stands owed = λ k d l.
       let last = owed k d l in
       let tray = (get_or stands k d).tray.items in
-      let short : length tray ≡ 0 = let counted = ap length last.in_order in omega (arith, counted, length-map tray (λ (r : Reply). r.at), length-take (length tray) (group_of (k + 1) [])) in
+      let short : length tray ≡ 0 = let counted = ap length last.in_order in omega (arith, counted, length-map tray (λ (r : PutReply). r.at), length-take (length tray) (group_of (k + 1) [])) in
       let whole : length (group_of (k + 1) puts) + length tray ≡ length (group_of (k + 1) puts) = omega (arith, short) in
       rw whole at last.calls
 

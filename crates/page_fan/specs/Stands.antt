@@ -5,7 +5,7 @@ use Rattle.page_store.specs.Calls.{Calls}
 use Rattle.page_store.specs.House.{House}
 use Rattle.page_fan.specs.Groups.{HasReplies, AllReplied}
 use Rattle.page_fan.specs.declared.stand.Put.{Put}
-use Rattle.page_fan.specs.declared.stand.Reply.{Reply}
+use Rattle.page_fan.specs.declared.stand.PutReply.{PutReply}
 use Rattle.page_fan.specs.declared.stand.Stand.{Stand}
 
 -- where the pages begin that are to be put at this provider: its group, in order
@@ -16,14 +16,14 @@ group_of provider puts = map (λ (put : Put). put.at) (filter (λ (put : Put). p
 -- ones may be missing for want of memory alone: then the tray has as many as it had room for before, or more.
 pub record HasReplyToEach {D : Type 0} (puts : List Put) (provider : ℕ) (old new : Stand D) : Type 0 where
   pub in_order :
-      map (λ (reply : Reply). reply.at) new.tray.items ≡ take (length new.tray.items) (group_of provider puts)
+      map (λ (reply : PutReply). reply.at) new.tray.items ≡ take (length new.tray.items) (group_of provider puts)
   pub missing :
       length new.tray.items < length (group_of provider puts) → deque_capacity old.tray ≤ length new.tray.items
 
 -- Where the pages begin whose puts at this stand are still to be answered, `rest`, in order. The tray has the replies to the first
 -- of them, which were put already. The door was called once for each of these, and for each of the `done` that were answered.
 pub record IsOwed {D : Type 0} (called : D → D → Type 0) (done : ℕ) (rest : List ℕ) (first : D) (stand : Stand D) : Type 0 where
-  pub in_order : map (λ (reply : Reply). reply.at) stand.tray.items ≡ take (length stand.tray.items) rest
+  pub in_order : map (λ (reply : PutReply). reply.at) stand.tray.items ≡ take (length stand.tray.items) rest
   pub calls : Calls called (done + length stand.tray.items) first stand.door
 
 module _ {D : Type 0} where

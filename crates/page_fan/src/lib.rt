@@ -13,5 +13,5 @@ mod storing;
 pub use beside::{BesideDoor, put_all_groups};
 pub use doors::Doors;
 pub use fetching::fetch;
-pub use stand::{Put, Reply, Stand};
+pub use stand::{Put, PutReply, Stand};
 pub use storing::{StoreFault, store};

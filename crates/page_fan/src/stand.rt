@@ -24,7 +24,7 @@ pub struct Put {
 
 /// What a door answered to the put of the page that begins at byte `at` of the buffer.
 #[derive(Drop)]
-pub struct Reply {
+pub struct PutReply {
     pub at: usize,
     pub answer: PutAnswer,
 }
@@ -33,7 +33,7 @@ pub struct Reply {
 #[derive(Drop)]
 pub struct Stand<D> {
     pub door: D,
-    pub tray: VecDeque<Reply>,
+    pub tray: VecDeque<PutReply>,
 }
 
 impl<D: Door> Stand<D> {
@@ -80,7 +80,8 @@ impl<D: Door> Stand<D> {
                 }
                 let bytes = page_bytes(buffer, put.at, p.bytes() as usize);
                 let answer = self.put(rt, houses, put.provider, bytes);
-                self.tray.push_back_reserved(Reply { at: put.at, answer });
+                self.tray
+                    .push_back_reserved(PutReply { at: put.at, answer });
             }
         }
     }

@@ -13,7 +13,7 @@ use Rattle.range_log.specs.Laws.{RowsStay, ExtentsGrow}
 use Rattle.node_store.specs.UpdateRows.{UpdateRow}
 use Rattle.snapshot.specs.Versions.{no_row, IsRowOf}
 use Rattle.snapshot.specs.Laws.{OwnRowsStay, RowsTell}
-use Rattle.publisher.specs.Windows.{Numbered, leading, StandsFor}
+use Rattle.publisher.specs.Windows.{Numbered, leading, WindowHolds}
 use Rattle.publisher.specs.WindowInvariant.{row_touches, present}
 use Rattle.publisher.specs.Laws.{IsNext, NewStands, NumberedStands, PublishedLogIs}
 use Rattle.publisher.proofs.Leading.{touches_match, leading_few}
@@ -63,7 +63,7 @@ module _ (stay : RowsStay) (grow : ExtentsGrow) (own : OwnRowsStay) where
       let rest = grow us more in
       ap (λ xs. touch_at (touches p xs) (suc i)) rest.1 ∙ (stay p (suc i) (extents us) rest.0 (omega (arith, length-extents us))).0
 
-  module _ (us : List Update) (u : Update) (w : Numbered) (touch : Touch) (even : length w.rows ≡ length w.log) (s : StandsFor us w) (next : IsNext w.page_size us u touch) where
+  module _ (us : List Update) (u : Update) (w : Numbered) (touch : Touch) (even : length w.rows ≡ length w.log) (s : WindowHolds us w) (next : IsNext w.page_size us u touch) where
     abbrev all : List Update
     all = us ++ u ∷ []
 

@@ -9,7 +9,7 @@ use Rattle.range_log.specs.Updates.{Replayable}
 use Rattle.node_store.specs.UpdateRows.{UpdateRow}
 use Rattle.snapshot.specs.Versions.{Version, no_row, row_at, updates, IsRowOf, IsVersion}
 use Rattle.snapshot.specs.Laws.{AreRowsOf, RowsTell}
-use Rattle.publisher.specs.Windows.{Numbered, leading, with_finished, StandsFor}
+use Rattle.publisher.specs.Windows.{Numbered, leading, with_finished, WindowHolds}
 use Rattle.publisher.specs.WindowInvariant.{Ready}
 use Rattle.publisher.specs.Laws.{PublishedRowsAre}
 use Rattle.publisher.proofs.Leading.{leading_at, leading_few}
@@ -19,7 +19,7 @@ pub some_is : (a b : UpdateRow) (x : Option UpdateRow) → x ≡ Some a → x �
 some_is a b x e f = ap (λ (o : Option UpdateRow). unwrap_or o a) (sym e ∙ f)
 
 -- a window stands for the same updates once one of them is finished by its row
-pub stands_finished : (us : List Update) (w : Numbered) (version : ℕ) (row : UpdateRow) → 1 ≤ version → version ≤ length w.rows → StandsFor us w → IsRowOf w.page_size us version row → StandsFor us (with_finished w version row)
+pub stands_finished : (us : List Update) (w : Numbered) (version : ℕ) (row : UpdateRow) → 1 ≤ version → version ≤ length w.rows → WindowHolds us w → IsRowOf w.page_size us version row → WindowHolds us (with_finished w version row)
 stands_finished us w version row some le s own = record {
   replayable = s.replayable;
   fits = s.fits;
@@ -44,7 +44,7 @@ stands_finished us w version row some le s own = record {
 }
 
 -- the rows before the first missing one are those of the first updates
-pub are_rows : (us : List Update) (w : Numbered) → length (leading w.rows) ≤ length w.log → StandsFor us w → AreRowsOf w.page_size us (leading w.rows)
+pub are_rows : (us : List Update) (w : Numbered) → length (leading w.rows) ≤ length w.log → WindowHolds us w → AreRowsOf w.page_size us (leading w.rows)
 are_rows us w le s = record { few = omega (arith, s.counted); each = each }
   where
     each : (k : ℕ) → 1 ≤ k → k ≤ length (leading w.rows) → IsRowOf w.page_size us k (row_at (leading w.rows) k)

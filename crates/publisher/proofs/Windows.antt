@@ -11,7 +11,7 @@ use Rattle.range_log.specs.Log.{touch_at}
 use Rattle.node_store.specs.UpdateRows.{UpdateRow}
 use Rattle.snapshot.specs.Versions.{Version, no_row, IsRowOf}
 use Rattle.snapshot.specs.Laws.{AreRowsOf}
-use Rattle.publisher.specs.Windows.{Numbered, leading, is_finished, published_of, version_of, waiting_of, opens_from, with_finished, StandsFor, IsRowIn}
+use Rattle.publisher.specs.Windows.{Numbered, leading, is_finished, published_of, version_of, waiting_of, opens_from, with_finished, WindowHolds, IsRowIn}
 use Rattle.publisher.specs.WindowInvariant.{present, row_touches, open_touches, over, KeepsWindow, Ready}
 use Rattle.publisher.proofs.Leading.{leading_over, published_counts, present_drop, leading_rest, leading_set, leading_more, first_missing, touches_match}
 use Rattle.publisher.proofs.Opens.{open_as, opens_drop, opens_push, opens_at}
@@ -108,7 +108,7 @@ module _ (s : Version) (opens : List OpenTouch) (above : List (Option UpdateRow)
     leading_moved : leading (with_finished (over s opens above) version row).rows ≡ s.rows ++ moved
     leading_moved = ap leading rows_set ∙ leading_over s.rows (Some row ∷ drop 1 above)
 
-    module _ (us : List Update) (stands : StandsFor us (over s opens above)) (own : IsRowOf s.page_size us version row) where
+    module _ (us : List Update) (stands : WindowHolds us (over s opens above)) (own : IsRowOf s.page_size us version row) where
       pub few_moved : passed ≤ length above
       few_moved =
           let tail : List (Option UpdateRow) = drop 1 above in
@@ -128,7 +128,7 @@ module _ (s : Version) (opens : List OpenTouch) (above : List (Option UpdateRow)
       own_rows : AreRowsOf s.page_size us (s.rows ++ moved)
       own_rows =
           let w : Numbered = with_finished (over s opens above) version row in
-          let st : StandsFor us w = stands_finished us (over s opens above) version row (omega arith) (omega (arith, rows_length)) stands own in
+          let st : WindowHolds us w = stands_finished us (over s opens above) version row (omega arith) (omega (arith, rows_length)) stands own in
           let P : List UpdateRow → Type 0 = λ l. AreRowsOf s.page_size us l in
           let few : length (leading w.rows) ≤ length w.log = omega (arith, ap length leading_moved, all_length, few_moved, log_length, kept.paired) in
           subst P leading_moved (are_rows us w few st)

@@ -63,7 +63,7 @@ with_finished w version row = record w { rows = slice_set w.rows (version - 1) (
 
 -- ---- the updates that a window stands for
 -- the log is what these updates touch, and each row is that of its update; the sizes are within bounds
-pub record StandsFor (us : List Update) (w : Numbered) : Type 0 where
+pub record WindowHolds (us : List Update) (w : Numbered) : Type 0 where
   pub replayable : Replayable us
   pub fits : (v : ℕ) → v ≤ length us → size_of us v ≤ 2 ^ 40
   pub counted : length us ≡ length w.log
@@ -72,4 +72,4 @@ pub record StandsFor (us : List Update) (w : Numbered) : Type 0 where
 
 -- the row is that of the version, in some updates that the window stands for
 abbrev pub IsRowIn : Numbered → ℕ → UpdateRow → Type 0
-IsRowIn w version row = (us : List Update) × StandsFor us w × IsRowOf w.page_size us version row
+IsRowIn w version row = (us : List Update) × WindowHolds us w × IsRowOf w.page_size us version row

@@ -10,7 +10,7 @@ ghost use Rattle.range_reader.specs.Faults.{CountsKept, PieceFailed, PageFailed}
 
 use crate::marks::{first_marked, mark_all};
 use crate::piece::fill_piece;
-use crate::source::{LeafParts, Source, leaf};
+use crate::source::{LeafParts, ReadSource, leaf};
 use crate::whole::take_leaf;
 use page_fan::Doors;
 use page_store::Door;
@@ -19,7 +19,7 @@ use tree_geom::Steps;
 
 // Fetches the wanted bytes of a leaf of the page, that of update `j`. The buffer begins at byte `begin` of the page.
 fn fill_leaf<D: Door>(
-    source: &Source,
+    source: &ReadSource,
     doors: &mut Doors<D>,
     j: u64,
     page: u64,
@@ -64,7 +64,7 @@ fn fill_leaf<D: Door>(
 // the buffer's length. Byte `first` is wanted. A leaf that has none of the buffer's bytes is passed over, and no mark is
 // looked at. None where all doors of one stored page failed.
 fn fill_wanted<D: Door>(
-    source: &Source,
+    source: &ReadSource,
     doors: &mut Doors<D>,
     j: u64,
     page: u64,
@@ -106,7 +106,7 @@ fn fill_wanted<D: Door>(
 
 // Fills `out` as `fill_page` does, byte by byte as the marks say. `newest_parts` are those of the newest leaf.
 fn fill_along<D: Door, L: Ledger>(
-    source: &Source,
+    source: &ReadSource,
     doors: &mut Doors<D>,
     steps: &mut Steps<L>,
     newest: u64,
@@ -165,7 +165,7 @@ fn fill_along<D: Door, L: Ledger>(
 // the bytes that it lacks. A byte that a newer leaf has is never written again, and where the newest leaf has them all, no
 // mark is looked at. False where all doors of one stored page failed. `newest` is the version of the newest leaf.
 pub(crate) fn fill_page<D: Door, L: Ledger>(
-    source: &Source,
+    source: &ReadSource,
     doors: &mut Doors<D>,
     steps: &mut Steps<L>,
     newest: u64,

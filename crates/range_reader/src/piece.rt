@@ -10,7 +10,7 @@ ghost use Rattle.range_reader.specs.Filling.{Filled, Overlaid, Taken};
 ghost use Rattle.range_reader.specs.Faults.{CountsKept, AllRose, StoredFailed};
 
 use crate::marks::{first_marked, mark_all};
-use crate::source::Source;
+use crate::source::ReadSource;
 use node_store::Piece;
 use page_fan::{Doors, fetch};
 use page_store::{Door, Houses, StoredPage};
@@ -59,7 +59,7 @@ pub(crate) fn fill_marked<D: Door>(
 // Fetches the wanted bytes of a piece of update `j`, whose bytes stand in the blob's page from byte `start` on. The buffer
 // begins at byte `begin` of the page.
 pub(crate) fn fill_piece<D: Door>(
-    source: &Source,
+    source: &ReadSource,
     doors: &mut Doors<D>,
     j: u64,
     piece: Piece,

@@ -9,7 +9,7 @@ ghost use Rattle.range_reader.specs.Answers.{OnPastSize, OnPageFault};
 
 use crate::known::KnownNode;
 use crate::marks::ReadRoom;
-use crate::source::Source;
+use crate::source::ReadSource;
 use crate::walk::{walk, walk_to_page};
 use node_store::NodeHouse;
 use page_fan::Doors;
@@ -128,7 +128,7 @@ pub fn read_knowing<D: Door, L: Ledger>(
     let Some(root) = snapshot.root() else {
         return Ok(());
     };
-    let source = Source {
+    let source = ReadSource {
         snapshot,
         nodes,
         houses,

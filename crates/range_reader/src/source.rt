@@ -15,7 +15,7 @@ use tree_geom::{Steps, range_of_page};
 
 /// The snapshot of a read, and the houses of its nodes and pages.
 #[derive(Drop)]
-pub(crate) struct Source<'a> {
+pub(crate) struct ReadSource<'a> {
     pub snapshot: &'a Snapshot,
     pub nodes: &'a NodeHouse,
     pub houses: &'a Houses,

@@ -10,7 +10,7 @@ ghost use Rattle.range_reader.specs.Faults.{CountsKept, PageFailedIn};
 use crate::known::KnownNode;
 use crate::locate::newest_leaf;
 use crate::page::fill_page;
-use crate::source::{Source, links};
+use crate::source::{ReadSource, links};
 use page_fan::Doors;
 use page_store::Door;
 use std::sync::ledger::Ledger;
@@ -19,7 +19,7 @@ use tree_geom::{Range, Steps, halves};
 // Fills `out` with bytes of the version from byte `from` on, which lie in the range whose newest node is that of version
 // `at`. Fails with the number of a page all of whose doors failed, of one of its stored pages.
 pub(crate) fn walk<D: Door, L: Ledger>(
-    source: &Source,
+    source: &ReadSource,
     doors: &mut Doors<D>,
     steps: &mut Steps<L>,
     marks: &mut [bool],
@@ -80,7 +80,7 @@ pub(crate) fn walk<D: Door, L: Ledger>(
 // Does what `walk` does from the root, where all of `out` lies in one page. Of the inner nodes above it those that are
 // known aren't asked for, and some of the others are known from then on.
 pub(crate) fn walk_to_page<D: Door, L: Ledger>(
-    source: &Source,
+    source: &ReadSource,
     doors: &mut Doors<D>,
     steps: &mut Steps<L>,
     marks: &mut [bool],

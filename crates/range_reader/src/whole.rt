@@ -7,7 +7,7 @@ ghost use Rattle.snapshot.specs.Versions.{row_at, HasNodeFor, IsVersionIn};
 ghost use Rattle.range_reader.specs.Reading.{page_in, stored_bytes, IsLeafOf};
 ghost use Rattle.range_reader.specs.Faults.{CountsKept, PieceFailed, StoredFailed};
 
-use crate::source::{LeafParts, Source};
+use crate::source::{LeafParts, ReadSource};
 use node_store::Piece;
 use page_fan::{Doors, fetch};
 use page_store::Door;
@@ -15,7 +15,7 @@ use page_store::Door;
 // Fills the buffer with bytes of a piece of update `j`, from byte `skip` of the piece on. False where all doors of the
 // stored page failed.
 fn take_piece<D: Door>(
-    source: &Source,
+    source: &ReadSource,
     doors: &mut Doors<D>,
     j: u64,
     piece: Piece,
@@ -48,7 +48,7 @@ fn take_piece<D: Door>(
 // Fills the buffer with bytes of the leaf of the page, that of update `j`, which has them all. The buffer begins at byte
 // `begin` of the page. False where all doors of one stored page failed.
 pub(crate) fn take_leaf<D: Door>(
-    source: &Source,
+    source: &ReadSource,
     doors: &mut Doors<D>,
     j: u64,
     page: u64,

@@ -32,9 +32,9 @@ pub record ReaderState : Type 0 where
   pub has_place : Bool
 
 -- the chart that it keeps stands for all that it has seen
-abbrev pub StandsFor : Option FrontState → FrontState → Type 0
-StandsFor None front = front.list ≡ []
-StandsFor (Some chart) front = chart ≡ front
+abbrev pub ShowsFront : Option FrontState → FrontState → Type 0
+ShowsFront None front = front.list ≡ []
+ShowsFront (Some chart) front = chart ≡ front
 
 -- a reader with its session
 pub record StandingState (D : Type 0) : Type 0 where

@@ -29,13 +29,13 @@ impl Model for Reader {
     ghost use Rattle.std.specs.Arc.{arc_value};
     ghost use Rattle.left_right.specs.Sides.{view as seen_there};
     ghost use Rattle.read_board.specs.Boards.{known};
-    ghost use Rattle.read_board.specs.Keeping.{ReaderState, StandsFor};
+    ghost use Rattle.read_board.specs.Keeping.{ReaderState, ShowsFront};
 
     ghost Value = { ReaderState };
 
     ghost view = { λ r. record { board = r.front.board; list = r.front.list; has_place = is_some r.place } };
 
-    ghost invariant = { λ r. StandsFor (option_map arc_value r.chart) r.front × IfSome r.place (λ p. known (seen_there p.place) ≡ Some r.front.board) };
+    ghost invariant = { λ r. ShowsFront (option_map arc_value r.chart) r.front × IfSome r.place (λ p. known (seen_there p.place) ≡ Some r.front.board) };
 }
 
 // The place, and the chart that is published there.

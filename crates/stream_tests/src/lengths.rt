@@ -4,7 +4,7 @@ ghost use Rattle.std.specs.Prelude.{IfOk, ◌≡◌, []};
 ghost use Rattle.stream_tests.specs.Lengths.{heard_behind};
 
 use blob_model::Bytes;
-use item_stream::{Ending, Piece};
+use item_stream::{Chunk, Ending};
 use ports::memory::{MemSink, MemSource};
 use ports::pair::Pair;
 use request_form::{NoMemory, Said};
@@ -25,7 +25,7 @@ struct Lengths {
     greatest: u64,
     // How many bytes of a line were read.
     count: u64,
-    rest: Piece,
+    rest: Chunk,
 }
 
 impl Lengths {
@@ -36,7 +36,7 @@ impl Lengths {
             alloc,
             greatest: 0,
             count: 0,
-            rest: Piece::with_room(alloc, ROOM)?,
+            rest: Chunk::with_room(alloc, ROOM)?,
         })
     }
 }

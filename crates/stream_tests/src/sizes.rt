@@ -4,7 +4,7 @@ ghost use Rattle.std.specs.Prelude.{◌≡◌, [], IfOk};
 ghost use Rattle.stream_tests.specs.Sizes.{said_length};
 
 use blob_model::Bytes;
-use request_form::{Dialect, Ending, Fault, Heard, NoMemory, Piece, Reply, Said};
+use request_form::{Chunk, Dialect, Ending, Fault, Heard, NoMemory, Reply, Said};
 use std::alloc::Global;
 use std::marker::Model;
 
@@ -17,7 +17,7 @@ const ROOM: usize = 64;
 pub(crate) struct Sizes {
     alloc: Global,
     in_bodies: bool,
-    rest: Piece,
+    rest: Chunk,
 }
 
 impl Model for Sizes {
@@ -36,7 +36,7 @@ impl Sizes {
         Ok(Sizes {
             alloc,
             in_bodies,
-            rest: Piece::with_room(alloc, ROOM)?,
+            rest: Chunk::with_room(alloc, ROOM)?,
         })
     }
 }

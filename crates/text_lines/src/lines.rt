@@ -6,7 +6,7 @@ ghost use Rattle.text_lines.specs.Begun.{TakesLine, TakesItem, EndsLine};
 use crate::body::Body;
 use crate::line::Line;
 use faults::NoMemory;
-use item_stream::{Ending, Piece};
+use item_stream::{Chunk, Ending};
 use std::alloc::Global;
 use std::marker::Model;
 
@@ -20,7 +20,7 @@ const ROOM: usize = 65_536;
 #[derive(Drop)]
 pub struct Lines<B: Body> {
     line: Line<B>,
-    rest: Piece,
+    rest: Chunk,
 }
 
 impl<B: Body> Model for Lines<B> {
@@ -32,7 +32,7 @@ impl<B: Body> Model for Lines<B> {
 }
 
 // Moves bytes of the rest to the line, up to the line feed that ends it, and says whether there was one.
-fn take_line<B: Body>(line: &mut Line<B>, rest: &mut Piece) -> Result<bool, NoMemory>
+fn take_line<B: Body>(line: &mut Line<B>, rest: &mut Chunk) -> Result<bool, NoMemory>
     ensures taken { IfOk result (TakesLine B.lining line.old rest.old line.new rest.new) }
     ensures less { result ≡ Ok true → length rest.new < length rest.old }
 {
@@ -46,7 +46,7 @@ fn take_line<B: Body>(line: &mut Line<B>, rest: &mut Piece) -> Result<bool, NoMe
 }
 
 // Takes the next item off, and passes over the lines that have none.
-fn take_item<B: Body>(line: &mut Line<B>, rest: &mut Piece) -> Result<Option<B::Item>, NoMemory>
+fn take_item<B: Body>(line: &mut Line<B>, rest: &mut Chunk) -> Result<Option<B::Item>, NoMemory>
     ensures { IfOk result (TakesItem B.lining B.IsWell line.old rest.old line.new rest.new) }
 {
     'lines: while take_line(line, rest)? {
@@ -74,7 +74,7 @@ impl<B: Body> Lines<B> {
     {
         Ok(Lines {
             line: Line::new(alloc),
-            rest: Piece::with_room(alloc, ROOM)?,
+            rest: Chunk::with_room(alloc, ROOM)?,
         })
     }
 

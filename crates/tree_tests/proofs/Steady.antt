@@ -16,9 +16,9 @@ use Rattle.node_store.specs.House.{IsIn}
 use Rattle.node_store.specs.UpdateRows.{UpdateRow}
 use Rattle.snapshot.specs.Versions.{IsRowOf}
 use Rattle.snapshot.specs.Laws.{OwnRowsStay}
-use Rattle.border_hints.specs.Numbered.{NumberedUpdate, own_touch, IsNumbered}
+use Rattle.border_hints.specs.Numbered.{NumberedUpdate, own_touch, IsValidTicket}
 use Rattle.tree_weaver.specs.Laws.{StoredRowsAreRows}
-use Rattle.publisher.specs.Windows.{Numbered, with_numbered, with_finished, StandsFor}
+use Rattle.publisher.specs.Windows.{Numbered, with_numbered, with_finished, WindowHolds}
 use Rattle.publisher.specs.Laws.{NumberedStands, FinishedStands}
 use Rattle.tree_tests.specs.Blobs.{OneBlob, IsOneBlob, IsRowIfAnyIn, Start, update_of, updates_in, IsTicketOf}
 use Rattle.tree_tests.proofs.Updates.{is_next, size_told}
@@ -47,7 +47,7 @@ module _ (are : TouchesAre) (each : EachTouchIs) (sizes : SizesAre) (stand : Ext
       let T : List Touch → Type 0 = λ l. IsOneBlob (blob_of b.nodes w l starts) in
       let S : List Start → Type 0 = λ l. IsOneBlob (blob_of b.nodes w (b.touches ++ touch ∷ []) l) in
       let W : Numbered → Type 0 = λ x. IsOneBlob (blob_of b.nodes x (b.touches ++ touch ∷ []) (b.starts ++ s ∷ [])) in
-      let U : List Update → Type 0 = λ l. StandsFor l (with_numbered b.window touch) in
+      let U : List Update → Type 0 = λ l. WindowHolds l (with_numbered b.window touch) in
       subst T (sym touches_are) (subst S (sym starts_are) (subst W (sym w_is) record {
         page_size = is.page_size;
         stands = subst U (sym (map-append update_of b.starts (s ∷ []))) (law us (update_of s) b.window touch is.paired is.stands next);
@@ -65,7 +65,7 @@ row_in_all stay p v us row le is =
     subst U (take-append-drop v us) (stay p v (take v us) (drop v us) row le is)
 
 -- a row that was stored by the plan of a ticket is that of the ticket's update
-pub own_row : StoredRowsAreRows → OwnRowsStay → (b : OneBlob) (t : NumberedUpdate) (row : UpdateRow) → IsTicketOf b t → IsNumbered t
+pub own_row : StoredRowsAreRows → OwnRowsStay → (b : OneBlob) (t : NumberedUpdate) (row : UpdateRow) → IsTicketOf b t → IsValidTicket t
     → row.version ≡ t.version → row.offset ≡ t.at → row.touch ≡ own_touch t → row.pages ≡ t.pages
     → row.nodes ≡ row_of b.window.page_size (extents (take t.version (updates_in b))) t.version
     → row.folds ≡ [] → folds_of b.window.page_size (extents (take t.version (updates_in b))) t.version ≡ [] → IsRowOf b.window.page_size (updates_in b) t.version row

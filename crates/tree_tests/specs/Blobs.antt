@@ -11,9 +11,9 @@ use Rattle.page_store.specs.Stored.{Cut, bytes_of_pages}
 use Rattle.node_store.specs.House.{IsIn}
 use Rattle.node_store.specs.UpdateRows.{UpdateRow}
 use Rattle.snapshot.specs.Versions.{NodesLieIn}
-use Rattle.border_hints.specs.Numbered.{NumberedUpdate, StandsFor as TicketStandsFor}
+use Rattle.border_hints.specs.Numbered.{NumberedUpdate, IsTicketAmong}
 use Rattle.tree_weaver.specs.Planned.{RowPlan, own_ranges, ranges_of}
-use Rattle.publisher.specs.Windows.{Numbered, StandsFor}
+use Rattle.publisher.specs.Windows.{Numbered, WindowHolds}
 
 -- where an update begins, and its pages
 pub record Start : Type 0 where
@@ -42,7 +42,7 @@ IsRowIfAnyIn nodes row = IfSome row (λ (r : UpdateRow). IsIn nodes r.spot)
 -- the window stands for the updates, and the nodes of its rows lie in the house
 pub record IsOneBlob (b : OneBlob) : Type 0 where
   pub page_size : IsPageSize b.window.page_size
-  pub stands : StandsFor (updates_in b) b.window
+  pub stands : WindowHolds (updates_in b) b.window
   pub paired : length b.window.rows ≡ length b.window.log
   pub touches : b.touches ≡ b.window.log
   pub cut : All (λ (s : Start). s.pages.page_size ≡ b.window.page_size) b.starts
@@ -53,7 +53,7 @@ pub record IsTicketOf (b : OneBlob) (t : NumberedUpdate) : Type 0 where
   pub some : 1 ≤ t.version
   pub numbered : t.version ≤ length b.starts
   pub page_size : t.snapshot.page_size ≡ b.window.page_size
-  pub stands : TicketStandsFor t (extents (take t.version (updates_in b)))
+  pub stands : IsTicketAmong t (extents (take t.version (updates_in b)))
   pub bytes : bytes_of_pages t.pages.pages ≡ (update_at (take t.version (updates_in b)) t.version).bytes
   pub lies : NodesLieIn b.nodes t.snapshot
 

@@ -19,7 +19,7 @@ use Rattle.range_log.specs.Laws.{EachExtentIs, EachTouchIs, ContentsGrow, Extent
 use Rattle.range_log.proofs.Bytes.{length-put}
 use Rattle.page_store.specs.Stored.{bytes_of_pages}
 use Rattle.snapshot.specs.Versions.{size_now, updates_of}
-use Rattle.border_hints.specs.Numbered.{NumberedUpdate, IsNumbered, log_of, log_with, log_upto, own_touch}
+use Rattle.border_hints.specs.Numbered.{NumberedUpdate, IsValidTicket, log_of, log_with, log_upto, own_touch}
 use Rattle.border_hints.proofs.Published.{log_size}
 use Rattle.border_hints.proofs.Tickets.{length-log_of, length-log_with}
 use Rattle.range_reader.specs.Reading.{page_in}
@@ -49,7 +49,7 @@ edges_are false first last i c = elim (Contains-append_cases (first ∷ []) (las
 
 -- ---- where such a page lies
 -- its ticket knows the version before
-pub knows : (t : NumberedUpdate) (i : ℕ) → KnowsBefore t → IsNumbered t → IsStoredAnew t i → length t.snapshot.rows + 1 ≡ t.version
+pub knows : (t : NumberedUpdate) (i : ℕ) → KnowsBefore t → IsValidTicket t → IsStoredAnew t i → length t.snapshot.rows + 1 ≡ t.version
 knows t i before is anew =
     before is.stands.0 is.stands.1
     (λ none. none_in i (subst (λ (l : List ℕ). Contains l i) none (anew is.stands.0 is.stands.1)))
@@ -59,7 +59,7 @@ size_front log more zero le = refl
 size_front log more (suc k) le = ap (λ (u : Touch). u.size) (get_or_append_left log more _ k (omega arith))
 
 -- the size before the update is that of the snapshot
-size_known : TouchesAre → SizesAre → ExtentsStand → (t : NumberedUpdate) → IsNumbered t → length t.snapshot.rows + 1 ≡ t.version
+size_known : TouchesAre → SizesAre → ExtentsStand → (t : NumberedUpdate) → IsValidTicket t → length t.snapshot.rows + 1 ≡ t.version
     → size_at (log_upto t) (t.version - 1) ≡ size_now t.snapshot
 size_known are sizes stand t is before =
     let n : ℕ = length t.snapshot.rows in
@@ -83,7 +83,7 @@ uncovered false rest e = refl
 not_both : (b : Bool) → b ≡ true → b ≡ false → ⊥
 not_both b e f = grind (arith, e, f)
 
-pub changed : EachTouchIs → TouchesAre → SizesAre → ExtentsStand → (t : NumberedUpdate) (i : ℕ) → IsNumbered t → IsStoredAnew t i → length t.snapshot.rows + 1 ≡ t.version → IsChanged t i
+pub changed : EachTouchIs → TouchesAre → SizesAre → ExtentsStand → (t : NumberedUpdate) (i : ℕ) → IsValidTicket t → IsStoredAnew t i → length t.snapshot.rows + 1 ≡ t.version → IsChanged t i
 changed each are sizes stand t i is anew before =
     let p : ℕ = t.snapshot.page_size in
     let pos : 1 ≤ p = page_pos p is.published.page_size in
@@ -158,7 +158,7 @@ update_among us (suc k) some = get_or-take (suc k) us k no_update (omega arith)
 
 module _ (fill : LeavesFill) (folds : FoldsAre) (grown : LogsAreGrown) (count : TouchesAre) (hits : NewestHits) (has : NewestHasNode) (are : ExtentsAre) (each : EachExtentIs) (grow : ContentsGrow) where
   -- among whichever updates the ticket's is one, they are the page's bytes at its version
-  pub bytes_told : (t : NumberedUpdate) (p : ℕ) (us : List Update) (i : ℕ) → IsNumbered t → IsAmong p us t → length t.snapshot.rows + 1 ≡ t.version
+  pub bytes_told : (t : NumberedUpdate) (p : ℕ) (us : List Update) (i : ℕ) → IsValidTicket t → IsAmong p us t → length t.snapshot.rows + 1 ≡ t.version
       → Contains (folds_of t.snapshot.page_size (extents (take t.version us)) t.version) i
       → bytes_anew t i ≡ page_bytes t.snapshot.page_size (take t.version us) t.version i
   bytes_told t size us i is among before anew =

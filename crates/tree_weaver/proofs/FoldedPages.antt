@@ -9,7 +9,7 @@ use Rattle.tree_geom.specs.Laws.{TouchesTellCover}
 use Rattle.range_log.specs.Rows.{pages_in}
 use Rattle.page_store.specs.Stored.{Cut, IsCut, bytes_of_pages}
 use Rattle.snapshot.proofs.Growing.{cut_count}
-use Rattle.border_hints.specs.Numbered.{NumberedUpdate, IsNumbered, own_touch}
+use Rattle.border_hints.specs.Numbered.{NumberedUpdate, IsValidTicket, own_touch}
 use Rattle.tree_geom.proofs.Spans.{page_pos}
 use Rattle.tree_weaver.specs.Planned.{own_depth, own_folded, own_place}
 use Rattle.tree_weaver.proofs.Shapes.{uncovered_edge}
@@ -19,7 +19,7 @@ pub folded_is : (t : NumberedUpdate) (page : ℕ) (whole : Bool) (depth : ℕ) �
 folded_is t page whole depth e f = ap (λ b. not b && depth == 0) e ∙ ap (λ d. not (covers t.snapshot.page_size t.at t.len t.size page) && d == 0) f
 
 -- the update's own stored pages are as many as its bytes need
-pub pages_counted : (t : NumberedUpdate) (told : Cut) (count : ℕ) → IsNumbered t → told ≡ t.pages → IsCut told.page_size told.pages → count ≡ length told.pages
+pub pages_counted : (t : NumberedUpdate) (told : Cut) (count : ℕ) → IsValidTicket t → told ≡ t.pages → IsCut told.page_size told.pages → count ≡ length told.pages
     → count ≡ pages_in t.snapshot.page_size t.len
 pages_counted t told count is same cut counted =
     let p : ℕ = t.snapshot.page_size in
@@ -76,7 +76,7 @@ uncovered true d e = sym e
 uncovered false d e = refl
 
 -- and the place of another page than the first, as the code tests it
-pub place_other : TouchesTellCover → (t : NumberedUpdate) (page : ℕ) (b : Bool) → IsNumbered t → (u : Touch) → u ≡ own_touch t → (own_touch t).first ≤ page → page ≤ (own_touch t).last
+pub place_other : TouchesTellCover → (t : NumberedUpdate) (page : ℕ) (b : Bool) → IsValidTicket t → (u : Touch) → u ≡ own_touch t → (own_touch t).first ≤ page → page ≤ (own_touch t).last
     → page ≢ u.first → own_folded t page ≡ true → b ≡ own_folded t u.first → (if b then 1 else 0) ≡ own_place t page
 place_other tells t page b is u same from to other anew first =
     let p : ℕ = t.snapshot.page_size in

@@ -19,7 +19,7 @@ use Rattle.range_log.specs.Depths.{fold_number, depth_of}
 use Rattle.range_log.specs.Rows.{level_of, levels_of, row_keys_of, row_of, node_of, leaf_of, folded_of, folds_by, folds_of}
 use Rattle.range_log.specs.Rows.{back_by, covered, edge_pages, fold_at, pages_in, valid_in, whole_leaf, leaf_at}
 use Rattle.range_log.specs.Laws.{EachTouchIs, SizesAre}
-use Rattle.border_hints.specs.Numbered.{NumberedUpdate, own_touch, log_upto, StandsFor, IsNumbered}
+use Rattle.border_hints.specs.Numbered.{NumberedUpdate, own_touch, log_upto, IsTicketAmong, IsValidTicket}
 use Rattle.tree_weaver.specs.Planned.{own_extent, own_folds, own_node, own_nodes, own_ranges, ranges_of}
 
 -- ---- what the updates tell that a ticket stands for
@@ -82,7 +82,7 @@ map_id : {X : Type 0} (xs : List X) → map (λ x. x) xs ≡ xs
 map_id [] = refl
 map_id (x ∷ xs) = ap (λ l. x ∷ l) (map_id xs)
 
-module _ (each : EachTouchIs) (sizes : SizesAre) (t : NumberedUpdate) (is : IsNumbered t) (us : List Extent) (st : StandsFor t us) where
+module _ (each : EachTouchIs) (sizes : SizesAre) (t : NumberedUpdate) (is : IsValidTicket t) (us : List Extent) (st : IsTicketAmong t us) where
   last_version : t.version ≡ suc (t.version - 1)
   last_version = omega (arith, is.version)
 
@@ -246,7 +246,7 @@ level_begun f all a q e =
     sym (ap (λ n. all ++ map f (range_with_len a n)) z ∙ append-nil all)
 
 -- the same of the end, where the code has the touch as another one's result
-pub level_finished : (t : NumberedUpdate) (v : Touch) (h pages q : ℕ) (all now : List (Range × Node)) → IsNumbered t → 1 ≤ t.snapshot.page_size → v ≡ own_touch t → pages ≡ 2 ^ h → v.last / pages + 1 ≤ q
+pub level_finished : (t : NumberedUpdate) (v : Touch) (h pages q : ℕ) (all now : List (Range × Node)) → IsValidTicket t → 1 ≤ t.snapshot.page_size → v ≡ own_touch t → pages ≡ 2 ^ h → v.last / pages + 1 ≤ q
     → (v.first / pages ≤ v.last / pages + 1 → q ≤ v.last / pages + 1)
     → now ≡ all ++ map (numbered_node t h) (range_with_len ((own_touch t).first / pages) (q - (own_touch t).first / pages))
     → now ≡ all ++ own_nodes t (level_of t.snapshot.page_size (own_touch t) h)

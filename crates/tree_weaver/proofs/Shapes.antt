@@ -13,7 +13,7 @@ use Rattle.range_log.specs.Log.{newest_of, touch_at}
 use Rattle.range_log.specs.Depths.{depth_of}
 use Rattle.page_store.specs.Stored.{Cut, bytes_of_pages}
 use Rattle.range_log.specs.Laws.{NewestHits, NewestMisses}
-use Rattle.border_hints.specs.Numbered.{NumberedUpdate, own_touch, log_upto, IsNumbered}
+use Rattle.border_hints.specs.Numbered.{NumberedUpdate, own_touch, log_upto, IsValidTicket}
 use Rattle.border_hints.specs.Borders.{IsRowRange, IsBorder, BorderLinks, AreBorders}
 use Rattle.border_hints.proofs.Depths.{depth_whole}
 use Rattle.tree_weaver.specs.Planned.{own_link, own_back, own_depth, own_leaf, own_inner, own_node, IsHalf}
@@ -67,10 +67,10 @@ uncovered_edge tells at len p size i pos some fits low high un =
 pub border_half : (t : NumberedUpdate) (range : Range) → IsHalf t range → ¬ Meets t.snapshot.page_size (own_touch t) range → IsBorder t.snapshot.page_size (own_touch t) range
 border_half t range half apart = inl (record { node = half.node; of_row = half.of_row; inner = half.inner; half = half.half; untouched = apart })
 
-link_cases : (t : NumberedUpdate) → IsNumbered t → t.version ≡ suc (t.version - 1)
+link_cases : (t : NumberedUpdate) → IsValidTicket t → t.version ≡ suc (t.version - 1)
 link_cases t is = omega (arith, is.version)
 
-pub link_hit : NewestHits → (t : NumberedUpdate) (range : Range) → IsNumbered t → touch_at (log_upto t) t.version ≡ own_touch t → Meets t.snapshot.page_size (own_touch t) range → t.version ≡ own_link t range
+pub link_hit : NewestHits → (t : NumberedUpdate) (range : Range) → IsValidTicket t → touch_at (log_upto t) t.version ≡ own_touch t → Meets t.snapshot.page_size (own_touch t) range → t.version ≡ own_link t range
 link_hit hits t range is own met =
     let p : ℕ = t.snapshot.page_size in
     let k : ℕ = t.version - 1 in
@@ -80,7 +80,7 @@ link_hit hits t range is own met =
     let took : newest_of p (log_upto t) (suc k) range ≡ suc k = hits p (log_upto t) k range (subst P (sym here) met) in
     e ∙ sym took ∙ ap (λ n. newest_of p (log_upto t) n range) (sym e)
 
-pub link_miss : NewestMisses → (t : NumberedUpdate) (range : Range) → IsNumbered t → touch_at (log_upto t) t.version ≡ own_touch t → ¬ Meets t.snapshot.page_size (own_touch t) range
+pub link_miss : NewestMisses → (t : NumberedUpdate) (range : Range) → IsValidTicket t → touch_at (log_upto t) t.version ≡ own_touch t → ¬ Meets t.snapshot.page_size (own_touch t) range
     → newest_of t.snapshot.page_size (log_upto t) (t.version - 1) range ≡ own_link t range
 link_miss misses t range is own apart =
     let p : ℕ = t.snapshot.page_size in
@@ -170,7 +170,7 @@ answered_back t page answer range here part is =
     is ∙ ap newest here ∙ sym (ap (λ b. if b then 0 else newest (page_range t.snapshot.page_size page)) part)
 
 -- how deep a leaf lies that covers its page
-pub covered_depth : MeetsIsTrue → TouchesTellCover → (t : NumberedUpdate) (page : ℕ) → IsNumbered t → touch_at (log_upto t) t.version ≡ own_touch t → (own_touch t).first ≤ page → page ≤ (own_touch t).last
+pub covered_depth : MeetsIsTrue → TouchesTellCover → (t : NumberedUpdate) (page : ℕ) → IsValidTicket t → touch_at (log_upto t) t.version ≡ own_touch t → (own_touch t).first ≤ page → page ≤ (own_touch t).last
     → covers t.snapshot.page_size t.at t.len t.size page ≡ true → 0 ≡ own_depth t page
 covered_depth met tells t page is own from to whole =
     let p : ℕ = t.snapshot.page_size in
@@ -181,7 +181,7 @@ covered_depth met tells t page is own from to whole =
     depth_whole met p (log_upto t) (own_touch t) k page pos (ap (touch_at (log_upto t)) e ∙ own) from to shut ∙ ap (λ n. depth_of p (log_upto t) n page) e
 
 -- and another one, as the borders tell it
-pub answered_depth : (b : BorderLinks) (t : NumberedUpdate) (page answer : ℕ) → IsNumbered t → b.page_size ≡ t.snapshot.page_size → b.touch ≡ own_touch t → AreBorders (log_upto t) (t.version - 1) b
+pub answered_depth : (b : BorderLinks) (t : NumberedUpdate) (page answer : ℕ) → IsValidTicket t → b.page_size ≡ t.snapshot.page_size → b.touch ≡ own_touch t → AreBorders (log_upto t) (t.version - 1) b
     → touch_at (log_upto t) t.version ≡ own_touch t
     → ((log : List Touch) (k : ℕ) → AreBorders log k b → touch_at log (k + 1) ≡ b.touch → answer ≡ depth_of b.page_size log (k + 1) page) → answer ≡ own_depth t page
 answered_depth b t page answer is size touch are own told =
@@ -213,14 +213,14 @@ edge_page b t page e is =
     subst P (sym e) is
 
 -- the range of a node of the row, as the code tells it
-pub own_range : HeightsHold → SpanOfSome → RangesNest → (t : NumberedUpdate) (h q : ℕ) → IsNumbered t → h ≤ height_of t.snapshot.page_size t.size
+pub own_range : HeightsHold → SpanOfSome → RangesNest → (t : NumberedUpdate) (h q : ℕ) → IsValidTicket t → h ≤ height_of t.snapshot.page_size t.size
     → (own_touch t).first / 2 ^ h ≤ q → q ≤ (own_touch t).last / 2 ^ h → IsRowRange t.snapshot.page_size (own_touch t) (tree_range t.snapshot.page_size h q)
 own_range heights span nest t h q is low from to =
     let p : ℕ = t.snapshot.page_size in
     let e : (t.at + t.len - 1) / p * p ≤ t.at + t.len - 1 = div-mul-le_self (t.at + t.len - 1) p in
     level_range heights span nest p h q (own_touch t) (page_pos p is.published.page_size) (omega (arith, is.some, is.size)) (omega (arith, is.some, is.size)) low from to
 
-pub own_fits : SpanOfSome → (t : NumberedUpdate) (h q z : ℕ) → IsNumbered t → t.snapshot.page_size * 2 ^ height_of t.snapshot.page_size t.size ≤ 2 ^ 40
+pub own_fits : SpanOfSome → (t : NumberedUpdate) (h q z : ℕ) → IsValidTicket t → t.snapshot.page_size * 2 ^ height_of t.snapshot.page_size t.size ≤ 2 ^ 40
     → IsRowRange t.snapshot.page_size (own_touch t) (tree_range t.snapshot.page_size h q) → z ≡ t.snapshot.page_size * 2 ^ h → q * z + z ≤ 2 ^ 40
 own_fits span t h q z is root row size =
     let p : ℕ = t.snapshot.page_size in

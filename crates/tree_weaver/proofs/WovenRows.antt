@@ -19,7 +19,7 @@ use Rattle.node_store.specs.House.{IsIn}
 use Rattle.node_store.specs.UpdateRows.{UpdateRow}
 use Rattle.snapshot.specs.Versions.{fold_bytes, IsRowOf}
 use Rattle.snapshot.specs.Laws.{OwnRowsStay}
-use Rattle.border_hints.specs.Numbered.{NumberedUpdate, own_touch, StandsFor, IsNumbered}
+use Rattle.border_hints.specs.Numbered.{NumberedUpdate, own_touch, IsTicketAmong, IsValidTicket}
 use Rattle.tree_weaver.specs.Laws.{StoredRowsAreRows}
 use Rattle.tree_weaver.specs.Anew.{KnowsBefore, IsStoredAnew, StoresNoneAnew, bytes_anew}
 use Rattle.tree_weaver.specs.Woven.{IsAmong, IsWoven, BytesAnewStand}
@@ -61,8 +61,8 @@ none_told t row none folds p us among =
     ∙ sym (ap (map (λ i. page_bytes t.snapshot.page_size (take t.version us) t.version i)) (none (extents (take t.version us)) among.stands))
 
 -- one that names some, which have the bytes that they have after the update
-pub anew_told : BytesAnewStand → (t : NumberedUpdate) (row : UpdateRow) (pages : List ℕ) → IsNumbered t → KnowsBefore t
-    → ((us : List Extent) → StandsFor t us → pages ≡ folds_of t.snapshot.page_size us t.version) → map (λ (s : Stored). s.bytes) row.folds ≡ map (bytes_anew t) pages
+pub anew_told : BytesAnewStand → (t : NumberedUpdate) (row : UpdateRow) (pages : List ℕ) → IsValidTicket t → KnowsBefore t
+    → ((us : List Extent) → IsTicketAmong t us → pages ≡ folds_of t.snapshot.page_size us t.version) → map (λ (s : Stored). s.bytes) row.folds ≡ map (bytes_anew t) pages
     → (p : ℕ) (us : List Update) → IsAmong p us t → map (λ (s : Stored). s.bytes) row.folds ≡ fold_bytes t.snapshot.page_size (take t.version us) t.version
 anew_told stand t row pages is before named bytes p us among =
     let q : ℕ = t.snapshot.page_size in
@@ -75,15 +75,15 @@ anew_told stand t row pages is before named bytes p us among =
     (λ i c. stand t p us i is among (before (extents first) among.stands (λ none. none_in i (subst (λ (l : List ℕ). Contains l i) none c))) c)
 
 -- each page that a plan names is stored anew
-pub named_anew : (t : NumberedUpdate) (pages : List ℕ) → ((us : List Extent) → StandsFor t us → pages ≡ folds_of t.snapshot.page_size us t.version) → All (IsStoredAnew t) pages
+pub named_anew : (t : NumberedUpdate) (pages : List ℕ) → ((us : List Extent) → IsTicketAmong t us → pages ≡ folds_of t.snapshot.page_size us t.version) → All (IsStoredAnew t) pages
 named_anew t pages named k d lt us stands = subst (λ (l : List ℕ). Contains l (slice_index_or pages k d)) (named us stands) (k, lt, get_or_default pages k _ d lt)
 
 -- ---- the row
 -- A row with the ticket's version, offset, touch and pages, the planned nodes, and the bytes of the pages that are stored anew is that of the
 -- update, among whichever updates it is one.
-row_among : StoredRowsAreRows → OwnRowsStay → (t : NumberedUpdate) (row : UpdateRow) (planned : List (Range × Node)) → IsNumbered t
+row_among : StoredRowsAreRows → OwnRowsStay → (t : NumberedUpdate) (row : UpdateRow) (planned : List (Range × Node)) → IsValidTicket t
     → row.version ≡ t.version → row.offset ≡ t.at → row.touch ≡ own_touch t → row.pages ≡ t.pages
-    → ((us : List Extent) → StandsFor t us → planned ≡ row_of t.snapshot.page_size us t.version) → row.nodes ≡ planned
+    → ((us : List Extent) → IsTicketAmong t us → planned ≡ row_of t.snapshot.page_size us t.version) → row.nodes ≡ planned
     → ((p : ℕ) (us : List Update) → IsAmong p us t → map (λ (s : Stored). s.bytes) row.folds ≡ fold_bytes t.snapshot.page_size (take t.version us) t.version)
     → (p : ℕ) (us : List Update) → IsAmong p us t → IsRowOf p us t.version row
 row_among stored stay t row planned numbered version offset touch pages plan nodes folds p us of =
@@ -98,9 +98,9 @@ row_among stored stay t row planned numbered version offset touch pages plan nod
     subst Q of.page_size (subst P (take-append-drop t.version us) among)
 
 -- and it was woven for the update
-pub woven : StoredRowsAreRows → OwnRowsStay → (t : NumberedUpdate) (row : UpdateRow) (planned : List (Range × Node)) → IsNumbered t
+pub woven : StoredRowsAreRows → OwnRowsStay → (t : NumberedUpdate) (row : UpdateRow) (planned : List (Range × Node)) → IsValidTicket t
     → row.version ≡ t.version → row.offset ≡ t.at → row.touch ≡ own_touch t → row.pages ≡ t.pages
-    → ((us : List Extent) → StandsFor t us → planned ≡ row_of t.snapshot.page_size us t.version) → row.nodes ≡ planned
+    → ((us : List Extent) → IsTicketAmong t us → planned ≡ row_of t.snapshot.page_size us t.version) → row.nodes ≡ planned
     → ((p : ℕ) (us : List Update) → IsAmong p us t → map (λ (s : Stored). s.bytes) row.folds ≡ fold_bytes t.snapshot.page_size (take t.version us) t.version)
     → row.blob ≡ t.blob → (nodes : List Shelves) → IsIn nodes row.spot → (houses : List House) → LieAmong houses t.pages.pages → LieAmong houses row.folds → IsWoven nodes houses t row
 woven stored stay t row planned numbered version offset touch pages plan planned_is folds under nodes there houses here anew =

@@ -7,7 +7,7 @@ use Rattle.range_log.specs.Rows.{folds_of, leaf_start, leaf_from, leaf_len}
 use Rattle.page_store.specs.Stored.{Stored, bytes_of_pages}
 use Rattle.page_writer.specs.Lost.{NoneTook}
 use Rattle.snapshot.specs.Versions.{size_now}
-use Rattle.border_hints.specs.Numbered.{NumberedUpdate, StandsFor}
+use Rattle.border_hints.specs.Numbered.{NumberedUpdate, IsTicketAmong}
 use Rattle.range_reader.specs.Reading.{page_in}
 use Rattle.range_reader.specs.Faults.{AllRose, PageFailed}
 use Rattle.tree_weaver.specs.Planned.{own_extent}
@@ -17,19 +17,19 @@ use Rattle.tree_weaver.specs.declared.folding.WeaveFault.TheVariants as fault
 -- ---- which they are, among whichever updates it stands for
 -- it stores none anew
 abbrev pub StoresNoneAnew : NumberedUpdate → Type 0
-StoresNoneAnew t = (us : List Extent) → StandsFor t us → folds_of t.snapshot.page_size us t.version ≡ []
+StoresNoneAnew t = (us : List Extent) → IsTicketAmong t us → folds_of t.snapshot.page_size us t.version ≡ []
 
 -- it stores some anew
 abbrev pub StoresSomeAnew : NumberedUpdate → Type 0
-StoresSomeAnew t = (us : List Extent) → StandsFor t us → folds_of t.snapshot.page_size us t.version ≢ []
+StoresSomeAnew t = (us : List Extent) → IsTicketAmong t us → folds_of t.snapshot.page_size us t.version ≢ []
 
 -- page i is one of them
 abbrev pub IsStoredAnew : NumberedUpdate → ℕ → Type 0
-IsStoredAnew t i = (us : List Extent) → StandsFor t us → Contains (folds_of t.snapshot.page_size us t.version) i
+IsStoredAnew t i = (us : List Extent) → IsTicketAmong t us → Contains (folds_of t.snapshot.page_size us t.version) i
 
 -- its snapshot is the version before it, if it stores a page anew
 abbrev pub KnowsBefore : NumberedUpdate → Type 0
-KnowsBefore t = (us : List Extent) → StandsFor t us → folds_of t.snapshot.page_size us t.version ≢ [] → length t.snapshot.rows + 1 ≡ t.version
+KnowsBefore t = (us : List Extent) → IsTicketAmong t us → folds_of t.snapshot.page_size us t.version ≢ [] → length t.snapshot.rows + 1 ≡ t.version
 
 -- ---- a page of an update whose snapshot is the version before it
 -- the page has bytes there, and the update writes some of its bytes

@@ -9,7 +9,7 @@ use Rattle.page_store.specs.House.{House}
 use Rattle.page_store.specs.Stored.{bytes_of_pages}
 use Rattle.node_store.specs.UpdateRows.{UpdateRow, IsRowIn}
 use Rattle.snapshot.specs.Versions.{updates_of, IsRowOf}
-use Rattle.border_hints.specs.Numbered.{NumberedUpdate, StandsFor, IsNumbered}
+use Rattle.border_hints.specs.Numbered.{NumberedUpdate, IsTicketAmong, IsValidTicket}
 use Rattle.tree_weaver.specs.Anew.{bytes_anew}
 
 -- The numbered update is one of these updates of a blob with that page size: it stands for those up to its own, its pages have the
@@ -17,7 +17,7 @@ use Rattle.tree_weaver.specs.Anew.{bytes_anew}
 pub record IsAmong (p : ℕ) (us : List Update) (t : NumberedUpdate) : Type 0 where
   pub page_size : t.snapshot.page_size ≡ p
   pub numbered : t.version ≤ length us
-  pub stands : StandsFor t (extents (take t.version us))
+  pub stands : IsTicketAmong t (extents (take t.version us))
   pub bytes : bytes_of_pages t.pages.pages ≡ (update_at us t.version).bytes
   pub before : content (updates_of t.snapshot) (length t.snapshot.rows) ≡ content us (length t.snapshot.rows)
 
@@ -31,6 +31,6 @@ pub record IsWoven (nodes : List Shelves) (houses : List House) (t : NumberedUpd
 -- The bytes of a page that it stores anew are the page's at its version, among whichever updates it is one, where its snapshot is the
 -- version before it.
 abbrev pub BytesAnewStand : Type 0
-BytesAnewStand = (t : NumberedUpdate) (p : ℕ) (us : List Update) (i : ℕ) → IsNumbered t → IsAmong p us t → length t.snapshot.rows + 1 ≡ t.version
+BytesAnewStand = (t : NumberedUpdate) (p : ℕ) (us : List Update) (i : ℕ) → IsValidTicket t → IsAmong p us t → length t.snapshot.rows + 1 ≡ t.version
     → Contains (folds_of t.snapshot.page_size (extents (take t.version us)) t.version) i
     → bytes_anew t i ≡ page_bytes t.snapshot.page_size (take t.version us) t.version i

@@ -4,7 +4,7 @@ ghost use Rattle.std.specs.List.{filter_map};
 ghost use Rattle.tree_geom.specs.Geometry.{tree_range, height_of};
 ghost use Rattle.range_log.specs.Extents.{Extent};
 ghost use Rattle.range_log.specs.Rows.{folds_of, level_of, row_of};
-ghost use Rattle.border_hints.specs.Numbered.{log_upto, own_touch, StandsFor};
+ghost use Rattle.border_hints.specs.Numbered.{log_upto, own_touch, IsTicketAmong};
 ghost use Rattle.border_hints.specs.Borders.{AreBorders};
 ghost use Rattle.snapshot.specs.Versions.{NodesLieIn};
 ghost use Rattle.tree_weaver.specs.Planned.{own_node, own_nodes, own_ranges, ranges_of};
@@ -130,9 +130,9 @@ pub fn plan<L: Ledger>(
     steps: &mut Steps<L>,
 ) -> Result<PlannedRow, NoMemory>
     requires here { NodesLieIn nodes.now ticket.now.snapshot }
-    ensures row { IfOk result (λ row. (us : List Extent) → StandsFor ticket.now us → row.nodes ≡ row_of ticket.now.snapshot.page_size us ticket.now.version) }
+    ensures row { IfOk result (λ row. (us : List Extent) → IsTicketAmong ticket.now us → row.nodes ≡ row_of ticket.now.snapshot.page_size us ticket.now.version) }
     ensures ranges { IfOk result (λ row. ranges_of row.nodes ≡ own_ranges ticket.now) }
-    ensures folded { IfOk result (λ row. (us : List Extent) → StandsFor ticket.now us → row.folded ≡ folds_of ticket.now.snapshot.page_size us ticket.now.version) }
+    ensures folded { IfOk result (λ row. (us : List Extent) → IsTicketAmong ticket.now us → row.folded ≡ folds_of ticket.now.snapshot.page_size us ticket.now.version) }
     ensures steps { steps.new ≤ steps.old + 2 * height_of ticket.now.snapshot.page_size ticket.now.size + 2 }
     ensures one_page { let touch = own_touch ticket.now in
         touch.first ≡ touch.last → steps.new ≤ steps.old + height_of ticket.now.snapshot.page_size ticket.now.size + 1 }
@@ -163,7 +163,7 @@ pub fn plan<L: Ledger>(
 /// It goes down the snapshot's tree as `plan` does and makes no row: it takes no memory and no lock, and waits for nobody.
 pub fn folds_of_ticket(ticket: &Ticket, nodes: &NodeHouse) -> [Option<u64>; 2]
     requires here { NodesLieIn nodes.now ticket.now.snapshot }
-    ensures folded { (us : List Extent) → StandsFor ticket.now us → filter_map (λ o. o) result ≡ folds_of ticket.now.snapshot.page_size us ticket.now.version }
+    ensures folded { (us : List Extent) → IsTicketAmong ticket.now us → filter_map (λ o. o) result ≡ folds_of ticket.now.snapshot.page_size us ticket.now.version }
 {
     folds_by::<Brand>(ticket, nodes, Blank::new(1))
 }
@@ -174,7 +174,7 @@ fn folds_by<L: Ledger>(ticket: &Ticket, nodes: &NodeHouse, blank: Blank) -> [Opt
     requires name { blank.name ≡ L.name }
     requires parts { blank.parts ≡ L.parts }
     requires some { 0 < blank.parts }
-    ensures folded { (us : List Extent) → StandsFor ticket.now us → filter_map (λ o. o) result ≡ folds_of ticket.now.snapshot.page_size us ticket.now.version }
+    ensures folded { (us : List Extent) → IsTicketAmong ticket.now us → filter_map (λ o. o) result ≡ folds_of ticket.now.snapshot.page_size us ticket.now.version }
 {
     range_log::laws::logs_are_grown();
     ticket.stands();

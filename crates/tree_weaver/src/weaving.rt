@@ -4,7 +4,7 @@ ghost use Rattle.std.specs.Arc.{arc_value};
 ghost use Rattle.range_log.specs.Extents.{Extent};
 ghost use Rattle.range_log.specs.Rows.{folds_of, row_of};
 ghost use Rattle.snapshot.specs.Versions.{NodesLieIn, IsVersionIn};
-ghost use Rattle.border_hints.specs.Numbered.{StandsFor};
+ghost use Rattle.border_hints.specs.Numbered.{IsTicketAmong};
 ghost use Rattle.page_store.specs.Count.{HasRisen};
 ghost use Rattle.page_store.specs.House.{House};
 ghost use Rattle.page_store.specs.Stored.{LieAmong};
@@ -143,9 +143,9 @@ fn planned<L: Ledger>(
     requires name { blank.name ≡ L.name }
     requires parts { blank.parts ≡ L.parts }
     requires some { 0 < blank.parts }
-    ensures row { IfOk result (λ row. (us : List Extent) → StandsFor ticket.now us → row.nodes ≡ row_of ticket.now.snapshot.page_size us ticket.now.version) }
+    ensures row { IfOk result (λ row. (us : List Extent) → IsTicketAmong ticket.now us → row.nodes ≡ row_of ticket.now.snapshot.page_size us ticket.now.version) }
     ensures ranges { IfOk result (λ row. ranges_of row.nodes ≡ own_ranges ticket.now) }
-    ensures folded { IfOk result (λ row. (us : List Extent) → StandsFor ticket.now us → row.folded ≡ folds_of ticket.now.snapshot.page_size us ticket.now.version) }
+    ensures folded { IfOk result (λ row. (us : List Extent) → IsTicketAmong ticket.now us → row.folded ≡ folds_of ticket.now.snapshot.page_size us ticket.now.version) }
 {
     let mut steps = Steps::<L>::open(blank);
     plan(alloc, ticket, nodes, &mut steps)

@@ -32,7 +32,7 @@ impl<S: Journaled> TableRule<S, Known<S::Entry, S::Fixed>, Snapshot<S>> for Turn
 pub type TurnSeat<S> = Seat<S, Known<<S as Journaled>::Entry, <S as Journaled>::Fixed>>;
 
 /// The table as all threads see it.
-pub type Board<S> = Shared<
+pub type TurnTable<S> = Shared<
     S,
     Known<<S as Journaled>::Entry, <S as Journaled>::Fixed>,
     Snapshot<S>,

@@ -7,7 +7,7 @@ ghost use Rattle.turn_lock.specs.Told.{number_of, kept_of, Enters, Ran, Turned, 
 
 use crate::journal::{Act, Journaled};
 use crate::plays::{Book, Deal, Draw, Gather, Look, PassOn, Settle};
-use crate::rule::{Board, DRAWN, ENTRIES, PASSED, Room, STATE, TurnSeat};
+use crate::rule::{DRAWN, ENTRIES, PASSED, Room, STATE, TurnSeat, TurnTable};
 use std::hint::spin_loop;
 use std::sync::Wait;
 
@@ -15,19 +15,19 @@ use std::sync::Wait;
 pub const LOOKS: u32 = 64;
 
 // Draws a number.
-fn draw<S: Journaled>(board: &Board<S>, seat: &mut TurnSeat<S>) -> u64
-    requires table { (seat.old.table_id ≡ board.now.table_id) × (board.now.table_id.words ≡ 3) }
+fn draw<S: Journaled>(table: &TurnTable<S>, seat: &mut TurnSeat<S>) -> u64
+    requires table { (seat.old.table_id ≡ table.now.table_id) × (table.now.table_id.words ≡ 3) }
     requires idle { seat.old.me.0.stage ≡ Idle }
     ensures seat { Stays seat.old seat.new }
     ensures drawn { result ≡ number_of seat.new.me.0.stage % 18446744073709551616 }
     ensures waits { seat.new.me ≡ (staged seat.old.me.0 (Waits (number_of seat.new.me.0.stage)), seat.old.me.1) }
 {
-    board.fetch_add::<Draw>(seat, DRAWN, 1)
+    table.fetch_add::<Draw>(seat, DRAWN, 1)
 }
 
 // Waits for its turn, and takes the state.
-fn enter<S: Journaled, R: Wait>(rt: &R, board: &Board<S>, seat: &mut TurnSeat<S>, number: u64)
-    requires table { (seat.old.table_id ≡ board.now.table_id) × (board.now.table_id.words ≡ 3) }
+fn enter<S: Journaled, R: Wait>(rt: &R, table: &TurnTable<S>, seat: &mut TurnSeat<S>, number: u64)
+    requires table { (seat.old.table_id ≡ table.now.table_id) × (table.now.table_id.words ≡ 3) }
     requires waits { seat.old.me.0.stage ≡ Waits (number_of seat.old.me.0.stage) }
     requires drawn { number ≡ number_of seat.old.me.0.stage % 18446744073709551616 }
     ensures seat { Stays seat.old seat.new }
@@ -35,7 +35,7 @@ fn enter<S: Journaled, R: Wait>(rt: &R, board: &Board<S>, seat: &mut TurnSeat<S>
 {
     let mut looks = 0;
     for _ in rt.forever() {
-        let found = board.load::<Look>(seat, PASSED);
+        let found = table.load::<Look>(seat, PASSED);
         if found == number {
             return;
         }
@@ -43,7 +43,7 @@ fn enter<S: Journaled, R: Wait>(rt: &R, board: &Board<S>, seat: &mut TurnSeat<S>
             looks += 1;
             spin_loop();
         } else {
-            board.park(rt, PASSED, (found & 0xffff_ffff) as u32);
+            table.park(rt, PASSED, (found & 0xffff_ffff) as u32);
         }
     }
     unreachable!()
@@ -51,18 +51,18 @@ fn enter<S: Journaled, R: Wait>(rt: &R, board: &Board<S>, seat: &mut TurnSeat<S>
 
 // Lets the act change the state where it lies, and tells how many entries it added.
 fn run<S: Journaled, A: Act<S>>(
-    board: &Board<S>,
+    table: &TurnTable<S>,
     seat: &mut TurnSeat<S>,
     act: A,
     caller: u32,
 ) -> (A::Answer, u64)
-    requires table { (seat.old.table_id ≡ board.now.table_id) × (caller ≡ seat.old.me.0.caller) }
+    requires table { (seat.old.table_id ≡ table.now.table_id) × (caller ≡ seat.old.me.0.caller) }
     requires held { (x : S) × (seat.old.me.1 ≡ (0, x) ∷ []) × A.ready act (S.history x) (S.fixed x) }
     ensures seat { Stays seat.old seat.new }
     ensures ran { (x : S) × (y : S) × (length (S.history y) < 2 ^ 38)
         × Ran S.history S.fixed (λ before f after. A.gives act before f caller result.0 after) seat.old.me seat.new.me result.1 x y }
 {
-    let state = seat.slot_mut(board, STATE);
+    let state = seat.slot_mut(table, STATE);
     let before = state.count();
     let answer = act.act(state, caller);
     let added = state.count() - before;
@@ -70,8 +70,8 @@ fn run<S: Journaled, A: Act<S>>(
 }
 
 // Counts what the act added.
-fn book<S: Journaled>(board: &Board<S>, seat: &mut TurnSeat<S>, added: u64)
-    requires table { (seat.old.table_id ≡ board.now.table_id) × (board.now.table_id.words ≡ 3) }
+fn book<S: Journaled>(table: &TurnTable<S>, seat: &mut TurnSeat<S>, added: u64)
+    requires table { (seat.old.table_id ≡ table.now.table_id) × (table.now.table_id.words ≡ 3) }
     requires inside { seat.old.me.0.stage ≡ Inside (number_of seat.old.me.0.stage) }
     requires held { (x : S) × (seat.old.me.1 ≡ (0, x) ∷ []) × Adds seat.old.me.0.caller seat.old.me.0.seen (S.history x)
         × (length (S.history x) ≡ length seat.old.me.0.seen + added) × (length (S.history x) < 2 ^ 38) }
@@ -79,67 +79,67 @@ fn book<S: Journaled>(board: &Board<S>, seat: &mut TurnSeat<S>, added: u64)
     ensures booked { (x : S) → seat.old.me.1 ≡ (0, x) ∷ []
         → seat.new.me ≡ (record { caller = seat.old.me.0.caller; seen = S.history x; fixed = seat.old.me.0.fixed; stage = seat.old.me.0.stage }, seat.old.me.1) }
 {
-    board.fetch_add::<Book>(seat, ENTRIES, added);
+    table.fetch_add::<Book>(seat, ENTRIES, added);
 }
 
 // Gives the state back with the turn, and wakes those that sleep. Where no seat has a number none sleeps: a seat draws before
 // it looks.
-fn pass_on<S: Journaled>(board: &Board<S>, seat: &mut TurnSeat<S>)
-    requires table { (seat.old.table_id ≡ board.now.table_id) × (board.now.table_id.words ≡ 3) }
+fn pass_on<S: Journaled>(table: &TurnTable<S>, seat: &mut TurnSeat<S>)
+    requires table { (seat.old.table_id ≡ table.now.table_id) × (table.now.table_id.words ≡ 3) }
     requires inside { seat.old.me.0.stage ≡ Inside (number_of seat.old.me.0.stage) }
     requires held { (x : S) × (seat.old.me.1 ≡ (0, x) ∷ []) × (S.history x ≡ seat.old.me.0.seen) × (seat.old.me.0.fixed ≡ Some (S.fixed x)) }
     ensures seat { Stays seat.old seat.new }
     ensures passed { seat.new.me ≡ (staged seat.old.me.0 Idle, []) }
 {
-    let number = board.fetch_add::<PassOn>(seat, PASSED, 1);
-    if board.peek(DRAWN) != number.wrapping_add(1) {
-        board.wake_all(PASSED);
+    let number = table.fetch_add::<PassOn>(seat, PASSED, 1);
+    if table.peek(DRAWN) != number.wrapping_add(1) {
+        table.wake_all(PASSED);
     }
 }
 
 /// A whole turn: draw, look, act, book, pass on.
 pub fn take_turn<S: Journaled, A: Act<S>, R: Wait>(
     rt: &R,
-    board: &Board<S>,
+    table: &TurnTable<S>,
     seat: &mut TurnSeat<S>,
     act: A,
     caller: u32,
 ) -> A::Answer
-    requires table { (seat.old.table_id ≡ board.now.table_id) × (board.now.table_id.words ≡ 3) }
+    requires table { (seat.old.table_id ≡ table.now.table_id) × (table.now.table_id.words ≡ 3) }
     requires idle { IsIdle seat.old.me caller }
     requires ready { IfSome seat.old.me.0.fixed (λ f. A.ready act seat.old.me.0.seen f) }
     ensures seat { Stays seat.old seat.new }
     ensures same { seat.new.me ≡ (record { caller = seat.old.me.0.caller; seen = seat.new.me.0.seen; fixed = seat.old.me.0.fixed; stage = Idle }, []) }
     ensures turned { Turned (λ before f after. A.gives act before f caller result after) seat.old.me.0 seat.new.me.0 }
 {
-    let number = draw(board, seat);
-    enter(rt, board, seat, number);
-    let (answer, added) = run(board, seat, act, caller);
+    let number = draw(table, seat);
+    enter(rt, table, seat, number);
+    let (answer, added) = run(table, seat, act, caller);
     if added > 0 {
-        book(board, seat, added);
+        book(table, seat, added);
     }
-    pass_on(board, seat);
+    pass_on(table, seat);
     answer
 }
 
 /// Splits the seat of a new pass off the owner's.
-pub fn deal<S: Journaled>(board: &Board<S>, seat: &mut TurnSeat<S>, made: u32) -> TurnSeat<S>
-    requires table { (seat.old.table_id ≡ board.now.table_id) × (board.now.table_id.words ≡ 3) }
+pub fn deal<S: Journaled>(table: &TurnTable<S>, seat: &mut TurnSeat<S>, made: u32) -> TurnSeat<S>
+    requires table { (seat.old.table_id ≡ table.now.table_id) × (table.now.table_id.words ≡ 3) }
     requires owns { (seat.old.me.0.stage ≡ Owns made (kept_of seat.old.me.0.stage)) × (made < 1024) }
     ensures seat { Stays seat.old seat.new × (seat.new.me ≡ (dealt seat.old.me.0, seat.old.me.1)) }
     ensures new { (result.table_id ≡ seat.old.table_id) × (result.me ≡ (newcomer seat.old.me.0, [])) }
 {
-    board.split_seat::<Deal>(seat)
+    table.split_seat::<Deal>(seat)
 }
 
 /// Joins a pass's seat to the owner's, by two loads: the table tells only at the second how what both had seen lies in one history.
 pub fn take_in<S: Journaled>(
-    board: &Board<S>,
+    table: &TurnTable<S>,
     seat: &mut TurnSeat<S>,
     other: TurnSeat<S>,
     made: u32,
 )
-    requires table { (seat.old.table_id ≡ board.now.table_id) × (other.table_id ≡ board.now.table_id) × (board.now.table_id.words ≡ 3) }
+    requires table { (seat.old.table_id ≡ table.now.table_id) × (other.table_id ≡ table.now.table_id) × (table.now.table_id.words ≡ 3) }
     requires owns { seat.old.me.0.stage ≡ Owns made (kept_of seat.old.me.0.stage) }
     requires idle { (other.me.0.stage ≡ Idle) × (other.me.1 ≡ []) }
     ensures seat { Stays seat.old seat.new × (seat.new.me.1 ≡ seat.old.me.1) × (seat.new.me.0.fixed ≡ seat.old.me.0.fixed) }
@@ -150,8 +150,8 @@ pub fn take_in<S: Journaled>(
     ensures before { (c : ℕ) → Contains (kept_of seat.old.me.0.stage) c → entries_by c seat.new.me.0.seen ≡ entries_by c seat.old.me.0.seen }
     ensures room { LacksUngiven made seat.new.me.0.seen × (length (kept_of seat.old.me.0.stage) + 1 ≤ made) }
 {
-    board.join_seat::<Gather>(seat, other);
-    board.load::<Settle>(seat, DRAWN);
+    table.join_seat::<Gather>(seat, other);
+    table.load::<Settle>(seat, DRAWN);
 }
 
 /// Ends the table, where no pass is out.

@@ -17,7 +17,7 @@ use Rattle.client_session.specs.Results.{finish_reply}
 use Rattle.workload_law.specs.Numbered.{IsNumberedBy}
 use Rattle.workload_law.specs.Sessions.{FinishesItsOwn}
 use Rattle.workload_law.specs.Ends.{Leaves, Holds, StopsAt, UpdateHindered, FinishEnds, FinishesEnd, LeavesAdd, HoldsStay, HoldsItsOwn, ReportsLeave, HindrancesStay, still_held}
-use Rattle.update_work.specs.Updates.{update_events, awaited_by, IsStopped, IsHindered, FinishTold, FinishedFor, StandsAt, StandsFor, HasHungUp, HungUpFor, HasWaited}
+use Rattle.update_work.specs.Updates.{update_events, awaited_by, IsStopped, IsHindered, FinishTold, FinishedFor, StandsAt, StandsAfter, HasHungUp, HungUpFor, HasWaited}
 use Rattle.update_work.proofs.Updates.{leaves_same, same_fault}
 
 -- ---- one finish
@@ -126,7 +126,7 @@ module _ (blob number : ℕ) (mid : Session) (told : Result ℕ Fault) (s' : Ses
       let here : Holds s blob place bytes number version mid = subst (λ (k : ℕ). Holds s blob place bytes k version mid) (sym same) holds in
       stands_told s blob place bytes number told s' (finished s place bytes version none here)
 
-pub stands_still : (blob : ℕ) (ticket : Option ℕ) (mid : Session) → StandsFor blob ticket mid mid
+pub stands_still : (blob : ℕ) (ticket : Option ℕ) (mid : Session) → StandsAfter blob ticket mid mid
 stands_still blob ticket mid s place bytes none stops = StandsAt.hindered ticket stops
 
 -- ---- hanging up
@@ -220,7 +220,7 @@ module _ (adds : LeavesAdd) (own_held : HoldsItsOwn) (reports : ReportsLeave) (b
 
 -- a session that hung up as it stopped at an update
 pub hung_up_for : LeavesAdd → HoldsItsOwn → ReportsLeave → (blob : ℕ) (held : Option ℕ) (old mid : Session) (counts : GivenUpCounts) (s' : Session) → s'.tickets ≡ [] → HungUp AllOther mid counts s'
-    → StandsFor blob held old mid → HungUpFor blob held old s'
+    → StandsAfter blob held old mid → HungUpFor blob held old s'
 hung_up_for adds own_held reports blob held old mid counts s' none_held up stands s place bytes none stops =
     hung_at adds own_held reports blob mid counts s' none_held up s place bytes none (stands s place bytes none stops)
 

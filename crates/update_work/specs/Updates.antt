@@ -124,8 +124,8 @@ pub data StandsAt (s : Session) (blob : ℕ) (place : Place) (bytes : List ℕ) 
   finished : IsUpdated s blob place bytes s' → StandsAt s blob place bytes s'
 
 -- so it stands, whatever the update is at which it stopped
-abbrev pub StandsFor : ℕ → Option ℕ → Session → Session → Type 0
-StandsFor blob ticket mid s' = (s : Session) (place : Place) (bytes : List ℕ) → s.tickets ≡ [] → StopsAt s blob place bytes ticket mid → StandsAt s blob place bytes s'
+abbrev pub StandsAfter : ℕ → Option ℕ → Session → Session → Type 0
+StandsAfter blob ticket mid s' = (s : Session) (place : Place) (bytes : List ℕ) → s.tickets ≡ [] → StopsAt s blob place bytes ticket mid → StandsAt s blob place bytes s'
 
 -- A session that stopped at an update hung up. It had done the update's events from their beginning on, as far as it came.
 pub record HasHungUp (s : Session) (blob : ℕ) (place : Place) (bytes : List ℕ) (s' : Session) : Type 0 where

@@ -4,7 +4,7 @@ ghost use denote.Param.Send.{IsSync};
 ghost use Rattle.faults.specs.Counts.{RoseBy};
 ghost use Rattle.client_session.specs.Sessions.{session_of, Continues};
 ghost use Rattle.workload_law.specs.Ends.{ticket_of, still_held};
-ghost use Rattle.update_work.specs.Updates.{awaited_by, told_faults, stop_faults, FinishedFor, CompletedFor, StandsFor, HungUpFor};
+ghost use Rattle.update_work.specs.Updates.{awaited_by, told_faults, stop_faults, FinishedFor, CompletedFor, StandsAfter, HungUpFor};
 
 use crate::waiting::wait_for;
 use client_session::{Session, Started};
@@ -111,7 +111,7 @@ fn finish_last<R: Threads + Wait + Sync, D: BesideDoor, G: Gate>(
     held: Option<u64>,
 )
     requires sync { IsSync R.row }
-    ensures stands { StandsFor blob held (session_of session.old) (session_of session.new) }
+    ensures stands { StandsAfter blob held (session_of session.old) (session_of session.new) }
     ensures faults { RoseBy 0 (sum_by D.faults session.old.doors) (sum_by D.faults session.new.doors) }
     ensures goes_on { Continues session.old session.new }
 {

@@ -23,8 +23,8 @@ use Rattle.snapshot.proofs.Growing.{IsRowOf-longer}
 use Rattle.snapshot.proofs.Telling.{told}
 use Rattle.tree_geom.proofs.Spans.{page_pos}
 use Rattle.border_hints.specs.Numbered.{NumberedUpdate, log_of, log_with, own_touch}
-use Rattle.border_hints.specs.Numbered.{StandsFor as TicketStands}
-use Rattle.publisher.specs.Windows.{Numbered, leading, published_of, version_of, waiting_of, with_numbered, StandsFor}
+use Rattle.border_hints.specs.Numbered.{IsTicketAmong}
+use Rattle.publisher.specs.Windows.{Numbered, leading, published_of, version_of, waiting_of, with_numbered, WindowHolds}
 use Rattle.publisher.proofs.Growing.{numbered_stands, log_published}
 use Rattle.range_log.proofs.Growth.{size_front, extent_of_front}
 use Rattle.version_manager.specs.Blobs.{Takes}
@@ -87,7 +87,7 @@ module _ (us : List Update) (u : Update) (ok : Replayable us) (begins : offset_o
       ∙ ap (λ n. touched_by p at (length u.bytes) n) size
 
   pub stands_more : (p : ℕ) (t : NumberedUpdate) (log : List Touch) → t.snapshot.page_size ≡ p → t.version ≡ length us + 1 → t.at ≡ at → t.len ≡ length u.bytes
-      → log_with t.snapshot t.waiting ≡ log → log ++ own_touch t ∷ [] ≡ touches p (extents all) → TicketStands t (extents all)
+      → log_with t.snapshot t.waiting ≡ log → log ++ own_touch t ∷ [] ≡ touches p (extents all) → IsTicketAmong t (extents all)
   stands_more p t log pages version begin len old whole =
       let v : t.version ≡ suc (length us) = omega arith in
       record {
@@ -156,7 +156,7 @@ module _ (limits : Bounds) (w : Numbered) (b : Blob) (u : Update) (may : Takes l
   abbrev k : Keeps limits w b
   k = may.kept
 
-  next_stands : StandsFor (b.updates ++ u ∷ []) (with_numbered w touch)
+  next_stands : WindowHolds (b.updates ++ u ∷ []) (with_numbered w touch)
   next_stands =
       let more = size_more b.updates u k.stands.replayable may.begins may.some in
       numbered_stands rows_stay extents_grow (IsRowOf-longer rows_stay extents_grow) b.updates u w touch may.even k.stands (record {
@@ -196,7 +196,7 @@ module _ (limits : Bounds) (w : Numbered) (b : Blob) (u : Update) (may : Takes l
   pub ticket_kept : Keeps limits (with_numbered w (own_touch t)) (and_update b u)
   ticket_kept = next_kept limits w b u may (own_touch t) own_is
 
-  pub ticket_stands : IsVersion t.snapshot → t.waiting ≡ waiting_of w → t.version ≡ length w.log + 1 → TicketStands t (extents (b.updates ++ u ∷ []))
+  pub ticket_stands : IsVersion t.snapshot → t.waiting ≡ waiting_of w → t.version ≡ length w.log + 1 → IsTicketAmong t (extents (b.updates ++ u ∷ []))
   ticket_stands is waiting version =
       stands_more b.updates u may.kept.stands.replayable may.begins may.some w.page_size t w.log
       (ap (λ (s : Version). s.page_size) snapshot) (omega (arith, may.kept.stands.counted)) begin len

@@ -16,7 +16,7 @@ use Rattle.blob_model.specs.declared.call.Event.TheVariants as Events
 use Rattle.blob_model.specs.declared.call.Refusal.{Refusal}
 use Rattle.blob_model.specs.declared.call.Refusal.TheVariants as Refusals
 use Rattle.range_log.specs.Updates.{update_at, extents, no_update}
-use Rattle.border_hints.specs.Numbered.{StandsFor}
+use Rattle.border_hints.specs.Numbered.{IsTicketAmong}
 use Rattle.version_manager.specs.Desks.{updates_or_none, updates_in, finished_or_not}
 use Rattle.version_manager.specs.Laws.{TicketsStay, UnfinishedStay}
 use Rattle.version_manager.proofs.Stores.{store_from-append, item_under, blob_at-with, get-set_other, get-push_other}
@@ -49,7 +49,7 @@ tickets stay d d' more t limits page history ticket =
     let is : updates_in d' t.blob ≡ us ++ later = ap (λ (b : Bounds). O b d'.history) limits ∙ ap (λ (l : List Event). O d.limits l) history ∙ more_is in
     let same : update_at (updates_in d' t.blob) v ≡ update_at us v = ap (λ (l : List Update). update_at l v) is ∙ same_update us later v ticket.numbered in
     let taken : take v (updates_in d' t.blob) ≡ take v us = ap (λ (l : List Update). take v l) is ∙ take-append-le v us later ticket.numbered in
-    let S : List Update → Type 0 = λ l. StandsFor t (extents l) in
+    let S : List Update → Type 0 = λ l. IsTicketAmong t (extents l) in
     record {
       page_size = ticket.page_size ∙ sym page;
       numbered = omega (arith, ticket.numbered, ap length is, length-append us later);

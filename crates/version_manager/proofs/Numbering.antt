@@ -25,7 +25,7 @@ use Rattle.page_store.specs.Stored.{Cut, bytes_of_pages}
 use Rattle.version_manager.specs.declared.entry.Change.TheVariants as Changes
 use Rattle.version_manager.specs.declared.entry.Entry.{Entry}
 use Rattle.version_manager.specs.Entries.{event_of}
-use Rattle.border_hints.specs.Numbered.{NumberedUpdate, StandsFor}
+use Rattle.border_hints.specs.Numbered.{NumberedUpdate, IsTicketAmong}
 use Rattle.publisher.specs.Windows.{Numbered}
 use Rattle.version_manager.specs.Desks.{DeskState, updates_or_none, updates_in, finished_or_not, OnRefused, IsTicketOf, IsUnfinished, refusal_in}
 use Rattle.version_manager.specs.declared.fault.DeskFault.{DeskFault}
@@ -54,12 +54,12 @@ all_taken us u v e =
     ap (λ (k : ℕ). take k (us ++ u ∷ [])) n ∙ take-length (us ++ u ∷ [])
 
 pub is_ticket : (d : DeskState) (t : NumberedUpdate) (us : List Update) (u : Update) → updates_in d t.blob ≡ us ++ u ∷ [] → t.version ≡ length us + 1 → t.snapshot.page_size ≡ d.page_size
-    → u.caller ≡ t.caller → bytes_of_pages t.pages.pages ≡ u.bytes → StandsFor t (extents (us ++ u ∷ [])) → IsTicketOf d t
+    → u.caller ≡ t.caller → bytes_of_pages t.pages.pages ≡ u.bytes → IsTicketAmong t (extents (us ++ u ∷ [])) → IsTicketOf d t
 is_ticket d t us u is version page caller bytes stands =
     let v : ℕ = t.version in
     let last : update_at (updates_in d t.blob) v ≡ u = ap (λ (l : List Update). update_at l v) is ∙ last_update us u v version in
     let taken : take v (updates_in d t.blob) ≡ us ++ u ∷ [] = ap (λ (l : List Update). take v l) is ∙ all_taken us u v version in
-    let S : List Update → Type 0 = λ l. StandsFor t (extents l) in
+    let S : List Update → Type 0 = λ l. IsTicketAmong t (extents l) in
     record {
       page_size = page;
       numbered = omega (arith, version, ap length is, length-append us (u ∷ []));

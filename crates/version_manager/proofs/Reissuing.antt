@@ -25,7 +25,7 @@ use Rattle.range_log.proofs.Grown.{touch-touches}
 use Rattle.range_log.proofs.Growth.{rows_stay, extents_grow, extent_of_front}
 use Rattle.snapshot.specs.Versions.{Version, IsVersion}
 use Rattle.border_hints.specs.Numbered.{NumberedUpdate, log_with, own_touch}
-use Rattle.border_hints.specs.Numbered.{StandsFor as TicketStands}
+use Rattle.border_hints.specs.Numbered.{IsTicketAmong}
 use Rattle.publisher.specs.Windows.{Numbered, published_of, version_of, waiting_of, opens_from}
 use Rattle.publisher.proofs.Growing.{touches_first}
 use Rattle.version_manager.specs.declared.waiting.WaitingUpdate.{WaitingUpdate}
@@ -184,7 +184,7 @@ module _ (limits : Bounds) (w : Numbered) (b : Blob) (k : Keeps limits w b) (eve
         let Q : List OpenTouch → Type 0 = λ l. TellBelow us i (version_of w) l in
         subst P (sym e) (subst Q (sym f) tell_here)
 
-    pub stands_again : (t : NumberedUpdate) → t.snapshot ≡ version_of w → t.waiting ≡ opens' → t.version ≡ suc i → t.at ≡ own.at → t.len ≡ own.len → t.size ≡ size_of us (suc i) → TicketStands t (extents (take (suc i) us))
+    pub stands_again : (t : NumberedUpdate) → t.snapshot ≡ version_of w → t.waiting ≡ opens' → t.version ≡ suc i → t.at ≡ own.at → t.len ≡ own.len → t.size ≡ size_of us (suc i) → IsTicketAmong t (extents (take (suc i) us))
     stands_again t snapshot waiting version at len size =
         let page : t.snapshot.page_size ≡ w.page_size = ap (λ (s : Version). s.page_size) snapshot in
         let touch : own_touch t ≡ get_or w.log i no_touch =
@@ -211,11 +211,11 @@ module _ (limits : Bounds) (w : Numbered) (b : Blob) (k : Keeps limits w b) (eve
 
 -- ---- the ticket, of the desk
 pub is_ticket_again : (d : DeskState) (t : NumberedUpdate) (us : List Update) (v p : ℕ) (houses : List House) (u : WaitingUpdate) → updates_in d t.blob ≡ us → t.version ≡ v → t.snapshot.page_size ≡ d.page_size → IsWaitingUpdate p houses us v u
-    → t.caller ≡ u.caller → t.pages ≡ arc_value u.pages → TicketStands t (extents (take v us)) → IsTicketOf d t
+    → t.caller ≡ u.caller → t.pages ≡ arc_value u.pages → IsTicketAmong t (extents (take v us)) → IsTicketOf d t
 is_ticket_again d t us v p houses u is version page own caller pages stands =
     let at : update_at (updates_in d t.blob) t.version ≡ update_at us v = ap (λ (l : List Update). update_at l t.version) is ∙ ap (update_at us) version in
     let taken : take t.version (updates_in d t.blob) ≡ take v us = ap (λ (l : List Update). take t.version l) is ∙ ap (λ n. take n us) version in
-    let S : List Update → Type 0 = λ l. TicketStands t (extents l) in
+    let S : List Update → Type 0 = λ l. IsTicketAmong t (extents l) in
     record {
       page_size = page;
       numbered = omega (arith, own.numbered, version, ap length is);

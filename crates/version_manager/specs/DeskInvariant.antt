@@ -13,7 +13,7 @@ use Rattle.boxcar.specs.Table.{Shelves}
 use Rattle.page_store.specs.House.{House}
 use Rattle.page_store.specs.Stored.{bytes_of_pages, LieAmong}
 use Rattle.range_log.specs.Updates.{update_at, extent_of}
-use Rattle.publisher.specs.Windows.{Numbered, finished_of, published_of, StandsFor}
+use Rattle.publisher.specs.Windows.{Numbered, finished_of, published_of, WindowHolds}
 use Rattle.version_manager.specs.declared.waiting.WaitingUpdate.{WaitingUpdate}
 use Rattle.version_manager.specs.Desks.{LieIn, updates_or_none}
 use Rattle.version_manager.specs.Origins.{parents_of, KeepsOrigins}
@@ -22,7 +22,7 @@ use Rattle.version_manager.specs.Origins.{parents_of, KeepsOrigins}
 pub record IsBlobKept (limits : Bounds) (p id : ℕ) (b : Blob) (w : Numbered) : Type 0 where
   pub blob : w.blob ≡ id
   pub page_size : w.page_size ≡ p
-  pub stands : StandsFor b.updates w
+  pub stands : WindowHolds b.updates w
   pub finished : b.finished ≡ finished_of w
   pub versions : assigned b ≤ limits.max_versions
   pub waiting : waiting b ≤ limits.max_open

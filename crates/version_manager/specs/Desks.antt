@@ -20,7 +20,7 @@ use Rattle.page_store.specs.Stored.{bytes_of_pages}
 use Rattle.node_store.specs.UpdateRows.{UpdateRow, IsRowIn}
 use Rattle.snapshot.specs.Versions.{IsRowOf, IsVersionIn}
 use Rattle.snapshot.specs.Laws.{TellUpdates}
-use Rattle.border_hints.specs.Numbered.{NumberedUpdate, StandsFor}
+use Rattle.border_hints.specs.Numbered.{NumberedUpdate, IsTicketAmong}
 use Rattle.publisher.specs.Windows.{Numbered, version_of, waiting_of, opens_from}
 use Rattle.version_manager.specs.Origins.{LieUnderOrigins}
 use Rattle.version_manager.specs.declared.fault.DeskFault.{DeskFault}
@@ -142,7 +142,7 @@ pub record IsTicketOf (d : DeskState) (t : NumberedUpdate) : Type 0 where
   pub page_size : t.snapshot.page_size ≡ d.page_size
   pub numbered : t.version ≤ length (updates_in d t.blob)
   pub caller : (update_at (updates_in d t.blob) t.version).caller ≡ t.caller
-  pub stands : StandsFor t (extents (take t.version (updates_in d t.blob)))
+  pub stands : IsTicketAmong t (extents (take t.version (updates_in d t.blob)))
   pub bytes : bytes_of_pages t.pages.pages ≡ (update_at (updates_in d t.blob) t.version).bytes
 
 -- why there is no ticket of that version now: the blob isn't there, the version was never numbered, or it is finished, as version 0 always is

@@ -5,7 +5,7 @@ use Rattle.std.proofs.lemmas.List.{map-append, take-append-le, get_or_append_lef
 use Rattle.range_log.specs.Updates.{update_at, extents, no_update}
 use Rattle.range_log.proofs.Growth.{rows_stay, extents_grow}
 use Rattle.snapshot.proofs.Growing.{IsRowOf-longer}
-use Rattle.border_hints.specs.Numbered.{NumberedUpdate, StandsFor}
+use Rattle.border_hints.specs.Numbered.{NumberedUpdate, IsTicketAmong}
 use Rattle.node_store.specs.UpdateRows.{UpdateRow}
 use Rattle.blob_model.specs.Content.{Update}
 use Rattle.blob_model.specs.Limits.{Bounds}
@@ -50,7 +50,7 @@ ticket_stays t xs ys f ticket =
     let (later, is) = updates_longer f xs ys t.blob in
     let same : update_at (updates_in (desk_at f (xs ++ ys)) t.blob) v ≡ update_at us v = ap (λ (l : List Update). update_at l v) is ∙ same_update us later v ticket.numbered in
     let taken : take v (updates_in (desk_at f (xs ++ ys)) t.blob) ≡ take v us = ap (λ (l : List Update). take v l) is ∙ take-append-le v us later ticket.numbered in
-    let S : List Update → Type 0 = λ l. StandsFor t (extents l) in
+    let S : List Update → Type 0 = λ l. IsTicketAmong t (extents l) in
     record {
       page_size = ticket.page_size;
       numbered = omega (arith, ticket.numbered, ap length is, length-append us later);

@@ -9,7 +9,7 @@ ghost use Rattle.range_log.specs.Updates.{extents};
 ghost use Rattle.page_store.specs.House.{House};
 ghost use Rattle.page_store.specs.Stored.{bytes_of_pages};
 ghost use Rattle.snapshot.specs.Versions.{IsVersion, under_blob, older_version};
-ghost use Rattle.border_hints.specs.Numbered.{own_touch, StandsFor};
+ghost use Rattle.border_hints.specs.Numbered.{own_touch, IsTicketAmong};
 ghost use Rattle.publisher.specs.Windows.{window_on, version_of, waiting_of, published_of, with_numbered};
 ghost use Rattle.version_manager.specs.Desks.{OnRefused, OnNoMemory, most_bytes};
 ghost use Rattle.version_manager.specs.Blobs.{Takes};
@@ -116,7 +116,7 @@ pub(crate) fn ticket_over(
     ensures waiting { IfOk result (λ t. t.waiting ≡ waiting_of window.now) }
     ensures pages { IfOk result (λ t. t.pages ≡ arc_value pages.now) }
     ensures stands { (b : Blob) (u : Update) → Keeps limits window.now b → u.place ≡ place → u.bytes ≡ bytes_of_pages (arc_value pages.now).pages
-        → IfOk result (λ t. StandsFor t (extents (b.updates ++ u ∷ []))) }
+        → IfOk result (λ t. IsTicketAmong t (extents (b.updates ++ u ∷ []))) }
     ensures kept { (b : Blob) (u : Update) → Keeps limits window.now b → u.place ≡ place → u.bytes ≡ bytes_of_pages (arc_value pages.now).pages
         → IfOk result (λ t. Keeps limits (with_numbered window.now (own_touch t)) (and_update b u)) }
     ensures few { IfOk result (λ _. length window.now.log < published_of window.now + 64) }
@@ -199,7 +199,7 @@ pub(crate) fn ticket_again(
     ensures waiting { IfOk result (λ t. t.waiting ≡ take (version - published_of window.now - 1) (waiting_of window.now)) }
     ensures pages { IfOk result (λ t. t.pages ≡ arc_value update.now.pages) }
     ensures stands { (limits : Bounds) (b : Blob) (houses : List House) → Keeps limits window.now b → IsWaitingUpdate window.now.page_size houses b.updates version update.now
-        → IfOk result (λ t. StandsFor t (extents (take version b.updates))) }
+        → IfOk result (λ t. IsTicketAmong t (extents (take version b.updates))) }
 {
     window.stands();
     let below = window.place(version);

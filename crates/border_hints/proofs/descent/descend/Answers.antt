@@ -4,7 +4,7 @@ use Rattle.tree_geom.specs.Geometry.{tree_range, page_range, height_of, span_of}
 use Rattle.tree_geom.specs.Laws.{HeightsHold, SpanOfSome, RangesNest}
 use Rattle.snapshot.specs.Versions.{Version}
 use Rattle.tree_geom.proofs.Spans.{page_pos}
-use Rattle.border_hints.specs.Numbered.{NumberedUpdate, log_of, log_upto, IsNumbered}
+use Rattle.border_hints.specs.Numbered.{NumberedUpdate, log_of, log_upto, IsValidTicket}
 use Rattle.border_hints.specs.Borders.{newest_known}
 use Rattle.border_hints.proofs.Published.{log_grown}
 use Rattle.border_hints.proofs.Turning.{down_started, down_turn, edge_known, page_is, root_fits, page_fits, leaf_fits}
@@ -14,7 +14,7 @@ use Rattle.border_hints.proofs.descent.descend.Goals as goal
 tall : (p q n m h : ℕ) → q ≡ p → m ≡ n → h ≡ height_of q m → h ≡ height_of p n
 tall p q n m h e f is = is ∙ ap (λ x. height_of x m) e ∙ ap (height_of p) f
 
-some_bytes : (t : NumberedUpdate) → IsNumbered t → 1 ≤ t.size
+some_bytes : (t : NumberedUpdate) → IsValidTicket t → 1 ≤ t.size
 some_bytes t is = omega (arith, is.some, is.size)
 
 pub loop-level-init : goal.loop-level-init
@@ -52,7 +52,7 @@ range_here : (q p page : ℕ) (range : Range) → q ≡ p → range ≡ page_ran
 range_here q p page range e is = is ∙ ap (λ n. page_range n page) e
 
 -- the page ends within the root
-ends : (nest : RangesNest) (heights : HeightsHold) (span : SpanOfSome) (t : NumberedUpdate) (page q m root : ℕ) → IsNumbered t → page * t.snapshot.page_size < t.size → q ≡ t.snapshot.page_size → m ≡ t.size
+ends : (nest : RangesNest) (heights : HeightsHold) (span : SpanOfSome) (t : NumberedUpdate) (page q m root : ℕ) → IsValidTicket t → page * t.snapshot.page_size < t.size → q ≡ t.snapshot.page_size → m ≡ t.size
     → root ≡ span_of q m → root ≤ 2 ^ 40 → page * t.snapshot.page_size + t.snapshot.page_size ≤ 2 ^ 40
 ends nest heights span t page q m root is inside e f rooted fits =
     let p : ℕ = t.snapshot.page_size in

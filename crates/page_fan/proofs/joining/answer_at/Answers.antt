@@ -1,5 +1,5 @@
 use Rattle.std.proofs.Common.{◌-◌, ◌<◌, ℕ, List, arith, length}
-use Rattle.page_fan.specs.declared.stand.Reply.{Reply}
+use Rattle.page_fan.specs.declared.stand.PutReply.{PutReply}
 use Rattle.page_fan.specs.declared.stand.Stand.{Stand}
 use Rattle.page_fan.proofs.Owing.{owed_next}
 use Rattle.page_fan.proofs.Rises.{none_falls}
@@ -9,7 +9,7 @@ use Rattle.page_fan.proofs.joining.answer_at.Goals as goal
 pub returns-clause-answer : goal.returns-clause-answer
 returns-clause-answer g c = λ before all.
     let faults : Stand g.row.D.Denot → ℕ = λ s. g.D.Door.faults s.door in
-    let tray : Stand g.row.D.Denot → List Reply = λ s. s.tray.items in
+    let tray : Stand g.row.D.Denot → List PutReply = λ s. s.tray.items in
     let stands = c.args.stands.now in
     let served = c.requires.served in
     let within : c.args.put.provider - 1 < length stands = omega (arith, served.0, served.1) in
@@ -19,7 +19,7 @@ returns-clause-answer g c = λ before all.
 pub returns-clause-replies : goal.returns-clause-replies
 returns-clause-replies g c = λ before all.
     let faults : Stand g.row.D.Denot → ℕ = λ s. g.D.Door.faults s.door in
-    let tray : Stand g.row.D.Denot → List Reply = λ s. s.tray.items in
+    let tray : Stand g.row.D.Denot → List PutReply = λ s. s.tray.items in
     let stands = c.args.stands.now in
     let served = c.requires.served in
     let within : c.args.put.provider - 1 < length stands = omega (arith, served.0, served.1) in

@@ -2,7 +2,7 @@ use Rattle.std.proofs.Common.{◌≡◌, ◌<◌, ◌≤◌, ℕ, List, arith, l
 use Rattle.std.specs.Prelude.{All}
 use Rattle.page_store.specs.House.{IsProvider}
 use Rattle.page_fan.specs.Groups.{AllReplied}
-use Rattle.page_fan.specs.declared.stand.Reply.{Reply}
+use Rattle.page_fan.specs.declared.stand.PutReply.{PutReply}
 use Rattle.page_fan.specs.declared.stand.Stand.{Stand}
 use Rattle.page_fan.proofs.Rises.{none_fell_since, none_falls_each}
 use Rattle.page_fan.specs.Listed.{puts_from}
@@ -19,7 +19,7 @@ put_groups-requires-clause-puts g c =
 pub join_pages-requires : goal.join_pages-requires
 join_pages-requires g c =
     let faults : Stand g.row.D.Denot → ℕ = λ s. g.D.Door.faults s.door in
-    let tray : Stand g.row.D.Denot → List Reply = λ s. s.tray.items in
+    let tray : Stand g.row.D.Denot → List PutReply = λ s. s.tray.items in
     let new = c.put_groups.new.stands in
     let before : g.before ≡ map faults c.args.stands.now = search rules in
     let same : length new ≡ length c.args.stands.now = c.put_groups.auto.stands in

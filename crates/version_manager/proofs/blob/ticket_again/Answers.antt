@@ -3,7 +3,7 @@ use Rattle.range_log.specs.declared.open.OpenTouch.{OpenTouch}
 use Rattle.range_log.specs.Open.{open_at}
 use Rattle.range_log.specs.Updates.{update_at, extent_of, extents}
 use Rattle.page_store.specs.Stored.{Cut, bytes_of_pages}
-use Rattle.border_hints.specs.Numbered.{NumberedUpdate, StandsFor}
+use Rattle.border_hints.specs.Numbered.{NumberedUpdate, IsTicketAmong}
 use Rattle.publisher.specs.Windows.{published_of, waiting_of}
 use Rattle.version_manager.proofs.Reissuing.{begins, size_next, waits_size, waits_before, tell_below, stands_again}
 use Rattle.version_manager.proofs.blob.ticket_again.Goals as goal
@@ -99,7 +99,7 @@ returns-clause-stands c limits b houses k u =
     let S : OpenTouch → ℕ = λ o. o.touch.size in
     let size = ap S c.at-size.ensures ∙ ap (λ l. S (open_at l c.place-below.result)) c.waiting-waiting.ensures ∙ ap (λ (n : ℕ). S (open_at (waiting_of w) n)) count
     ∙ waits_size limits w b k (sym c.stands.ensures.log) i (omega (arith, c.requires.waits)) (omega (arith, c.requires.waits)) in
-    let T : ℕ → Type 0 = λ n. StandsFor t (extents (take n us)) in
+    let T : ℕ → Type 0 = λ n. IsTicketAmong t (extents (take n us)) in
     let is = c.of.ensures in
     subst T (sym v) (stands_again limits w b k (sym c.stands.ensures.log) i (omega (arith, c.requires.waits)) (omega (arith, c.requires.waits)) c.stands.ensures.version t
     (ap (λ (x : NumberedUpdate). x.snapshot) is ∙ c.in_ok-published_in.ensures) (ap (λ (x : NumberedUpdate). x.waiting) is ∙ opens) (ap (λ (x : NumberedUpdate). x.version) is ∙ v)

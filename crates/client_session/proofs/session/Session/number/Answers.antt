@@ -14,7 +14,7 @@ use Rattle.session_parts.specs.Tickets.{ticket_of}
 use Rattle.client_session.specs.Sessions.{longest, session_at}
 use Rattle.client_session.specs.Finishing.{bare}
 use Rattle.client_session.specs.Numbering.{LookedAhead, NotNumberedFor, Numbering}
-use Rattle.client_session.specs.Updates.{IsNumbered}
+use Rattle.client_session.specs.Updates.{WasNumbered}
 use Rattle.client_session.proofs.Lifted.{unnumbered_lifts}
 use Rattle.client_session.proofs.Losses.{calm_lost}
 use Rattle.client_session.proofs.Numbered.{not_numbered_both, both_others, both_outcome, both_seen, both_longer}
@@ -135,7 +135,7 @@ returns-in-Ok-number_stored-clause-numbered g c =
     (subst (λ (b : List ℕ). Numbering fixed mid.caller mid.seen c.args.blob c.args.place b t new.seen) c.in-Ok.ensures.bytes c.in-Ok-number_stored.ensures.numbered)
     in
     let few : length i.held < 64 = let a = c.count.ensures.count in let b = c.count.ensures.few in let d = c.in_default.ensures.room in omega arith in
-    let made : IsNumbered (record { store = i.shared.now; caller = by; log = i.pass.seen; held = i.held; next = i.next; doors = i.doors; limit = limit }) c.args.blob c.args.place bytes t
+    let made : WasNumbered (record { store = i.shared.now; caller = by; log = i.pass.seen; held = i.held; next = i.next; doors = i.doors; limit = limit }) c.args.blob c.args.place bytes t
     (record { store = i.shared.now; caller = by; log = new.seen; held = i.held; next = i.next; doors = c.prepare.new.doors; limit = limit }) =
     record {
       others = _;

@@ -2,7 +2,7 @@ use Rattle.std.proofs.Common.{rules, ◌≡◌, ◌≢◌, ◌+◌, ◌≤◌, �
 use Rattle.std.proofs.lemmas.List.{length_push}
 use Rattle.std.specs.VecDeque.{deque_capacity}
 use Rattle.page_fan.specs.declared.stand.Put.{Put}
-use Rattle.page_fan.specs.declared.stand.Reply.{Reply}
+use Rattle.page_fan.specs.declared.stand.PutReply.{PutReply}
 use Rattle.page_fan.specs.Groups.{IsAnswer}
 use Rattle.page_fan.proofs.Group.{group_first, group_same, reply_next}
 use Rattle.page_store.specs.Calls.{uncalled, call_more}
@@ -29,7 +29,7 @@ loop-put-preserved g c =
     elim c.if-put-index.branch [
       | then-put-index+else-is_err w ↦
           let own : (get_or puts i d).provider ≡ c.args.index + 1 = omega (arith, known.known.0, w.if-put-index.true) in
-          let reply : Reply = record { at = (get_or puts i d).at; answer = w.put-answer.result } in
+          let reply : PutReply = record { at = (get_or puts i d).at; answer = w.put-answer.result } in
           let pushed : w.push_back_reserved.new.self.items ≡ c.loop-put.self.tray.items ++ reply ∷ [] = search rules in
           let more : length w.push_back_reserved.new.self.items ≡ suc (length c.loop-put.self.tray.items) = let long = ap length pushed in omega (arith, long, length_push c.loop-put.self.tray.items reply) in
           let content : w.page_bytes-bytes.result.now ≡ take c.args.p (drop reply.at c.args.buffer.now) = rw w.bytes.ensures.is at w.page_bytes-bytes.ensures.bytes in

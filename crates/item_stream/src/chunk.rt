@@ -6,12 +6,12 @@ use std::marker::Model;
 
 /// Bytes of a stream that were taken and aren't read yet. Contracts see those that are left.
 #[derive(Drop)]
-pub struct Piece {
+pub struct Chunk {
     bytes: Vec<u8>,
     taken: usize,
 }
 
-impl Model for Piece {
+impl Model for Chunk {
     ghost use Rattle.std.specs.Prelude.{ℕ, ◌≤◌, List, length, drop};
 
     ghost Value = { List ℕ };
@@ -21,13 +21,13 @@ impl Model for Piece {
     ghost invariant = { λ p. p.taken ≤ length p.bytes.items };
 }
 
-impl Piece {
+impl Chunk {
     /// No bytes, with room for some.
-    pub fn with_room(alloc: Global, room: usize) -> Result<Piece, NoMemory>
-        ensures { IfOk result (λ piece. piece ≡ []) }
+    pub fn with_room(alloc: Global, room: usize) -> Result<Chunk, NoMemory>
+        ensures { IfOk result (λ chunk. chunk ≡ []) }
     {
         match Vec::with_capacity(alloc, room) {
-            Ok(bytes) => Ok(Piece { bytes, taken: 0 }),
+            Ok(bytes) => Ok(Chunk { bytes, taken: 0 }),
             Err(_) => Err(NoMemory),
         }
     }
