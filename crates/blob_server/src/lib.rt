@@ -4,9 +4,9 @@
 ghost use Rattle.std.specs.Prelude.{◌≡◌};
 
 mod bell;
-mod desk;
 mod peer;
 mod pool;
+mod queue;
 mod server;
 mod sessions;
 mod task;

@@ -3,7 +3,7 @@ ghost use Rattle.std.specs.Prelude.{◌≡◌, ◌<◌, ℕ, true, length, All, 
 ghost use Rattle.blob_server.specs.Peers.{IsIdle};
 ghost use Rattle.blob_server.specs.Serving.{TakesAs};
 
-use crate::desk::Desk;
+use crate::queue::PeerQueue;
 use crate::peer::serve_peer;
 use crate::task::{Task, run_beside, take_back};
 use client_session::Session;
@@ -20,7 +20,7 @@ use std::thread::Threads;
 fn place_peer<R: Threads + Wait + Sync, P: Source + Sink + Drop, D: BesideDoor, G: Gate>(
     rt: &R,
     alloc: Global,
-    desk: &Desk<P>,
+    queue: &PeerQueue<P>,
     session: &mut Session<'_, D, G>,
     peer: P,
     alone: bool,
@@ -33,7 +33,7 @@ fn place_peer<R: Threads + Wait + Sync, P: Source + Sink + Drop, D: BesideDoor, 
         serve_peer(rt, alloc, session, &mut peer);
         return;
     }
-    desk.hand_over(rt, alloc, session, peer);
+    queue.hand_over(rt, alloc, session, peer);
 }
 
 // Takes so many peers of the listener, or fewer where it gives no more, and answers how many they were. None where the
@@ -41,7 +41,7 @@ fn place_peer<R: Threads + Wait + Sync, P: Source + Sink + Drop, D: BesideDoor, 
 fn take_peers<R: Threads + Wait + Sync, Li: Listener, D: BesideDoor, G: Gate>(
     rt: &R,
     alloc: Global,
-    desk: &Desk<Li::Peer>,
+    queue: &PeerQueue<Li::Peer>,
     session: &mut Session<'_, D, G>,
     net: &mut Li,
     connections: u32,
@@ -61,7 +61,7 @@ where
 {
     for taken in 0..connections {
         match net.accept(rt) {
-            Accepted::Peer(peer) => place_peer(rt, alloc, desk, session, peer, alone),
+            Accepted::Peer(peer) => place_peer(rt, alloc, queue, session, peer, alone),
             Accepted::Done => return Some(taken),
             Accepted::Failed => return None,
         }
@@ -73,7 +73,7 @@ where
 fn lead<R: Threads + Wait + Sync, Li: Listener, D: BesideDoor, G: Gate>(
     rt: &R,
     alloc: Global,
-    desk: &Desk<Li::Peer>,
+    queue: &PeerQueue<Li::Peer>,
     session: &mut Session<'_, D, G>,
     net: &mut Li,
     connections: u32,
@@ -91,9 +91,9 @@ where
     ensures here { Li.listens_at net.new ≡ Li.listens_at net.old }
     ensures idle { IsIdle session.old.store session.new }
 {
-    let taken = take_peers(rt, alloc, desk, session, net, connections, alone);
-    desk.close(rt);
-    desk.work(rt, alloc, session);
+    let taken = take_peers(rt, alloc, queue, session, net, connections, alone);
+    queue.close(rt);
+    queue.work(rt, alloc, session);
     taken
 }
 
@@ -103,7 +103,7 @@ fn work_beside<
     P: Source + Sink + Drop + Send,
     D: BesideDoor + Send,
     G: Gate + Sync,
->(rt: &R, alloc: Global, desk: &Desk<P>, sessions: &mut [Session<'_, D, G>])
+>(rt: &R, alloc: Global, queue: &PeerQueue<P>, sessions: &mut [Session<'_, D, G>])
     requires { All (λ s. IsIdle s.store s) sessions.old }
     ensures { (k : ℕ) (d : _) → k < length sessions.old → IsIdle (slice_index_or sessions.old k d).store (slice_index_or sessions.new k d) }
 {
@@ -115,7 +115,7 @@ fn work_beside<
         &|_, session: &mut Session<'_, D, G>|
             requires { IsIdle session.old.store session.old }
             ensures { IsIdle session.old.store session.new }
-        { desk.work(rt, alloc, session) },
+        { queue.work(rt, alloc, session) },
     );
 }
 
@@ -129,14 +129,14 @@ fn lend_beside<
 >(
     rt: &R,
     alloc: Global,
-    desk: &Desk<P>,
+    queue: &PeerQueue<P>,
     mut sessions: Vec<Session<'s, D, G>>,
 ) -> Vec<Session<'s, D, G>>
     requires { All (λ s. IsIdle s.store s) sessions.items }
     ensures idle { (k : ℕ) (d : _) → k < vec_len sessions.entry → IsIdle (slice_index_or sessions.entry.items k d).store (slice_index_or result.items k d) }
     ensures count { vec_len result ≡ vec_len sessions.entry }
 {
-    work_beside(rt, alloc, desk, sessions.as_mut_slice());
+    work_beside(rt, alloc, queue, sessions.as_mut_slice());
     sessions
 }
 
@@ -144,7 +144,7 @@ fn lend_beside<
 #[derive(Drop)]
 struct Leader<'d, 's, 'n, Li: Listener, D: BesideDoor, G: Gate> {
     alloc: Global,
-    desk: &'d Desk<Li::Peer>,
+    queue: &'d PeerQueue<Li::Peer>,
     session: Session<'s, D, G>,
     net: &'n mut Li,
     connections: u32,
@@ -170,13 +170,13 @@ where
     fn run<R: Threads + Wait + Sync>(self, rt: &R) -> (Option<u32>, Session<'s, D, G>, &'n mut Li) {
         let Leader {
             alloc,
-            desk,
+            queue,
             mut session,
             net,
             connections,
             alone,
         } = self;
-        let taken = lead(rt, alloc, desk, &mut session, net, connections, alone);
+        let taken = lead(rt, alloc, queue, &mut session, net, connections, alone);
         (taken, session, net)
     }
 }
@@ -192,7 +192,7 @@ pub(crate) fn work_all<
 >(
     rt: &R,
     alloc: Global,
-    desk: &Desk<Li::Peer>,
+    queue: &PeerQueue<Li::Peer>,
     first: Session<'s, D, G>,
     others: Vec<Session<'s, D, G>>,
     net: &mut Li,
@@ -216,7 +216,7 @@ where
     let alone = others.is_empty();
     let leader = Leader {
         alloc,
-        desk,
+        queue,
         session: first,
         net,
         connections,
@@ -228,7 +228,7 @@ where
             requires { All (λ s. IsIdle s.store s) others.items }
             ensures idle { (k : ℕ) (d : _) → k < vec_len others.entry → IsIdle (slice_index_or others.entry.items k d).store (slice_index_or result.items k d) }
             ensures count { vec_len result ≡ vec_len others.entry }
-        { lend_beside(rt, alloc, desk, others) },
+        { lend_beside(rt, alloc, queue, others) },
         leader,
     );
     take_back(net);

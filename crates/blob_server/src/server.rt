@@ -5,7 +5,7 @@ ghost use Rattle.client_session.specs.Sessions.{IsOwnerOf};
 ghost use Rattle.blob_server.specs.Serving.{EndsAs, MakesPasses, LendsDoors};
 ghost use Rattle.blob_server.specs.declared.server.ServeFault.TheVariants as Faults;
 
-use crate::desk::Desk;
+use crate::queue::PeerQueue;
 use crate::pool::work_all;
 use crate::sessions::{end_sessions, sessions_of};
 use client_session::{Owner, Shared};
@@ -82,7 +82,7 @@ where
     ensures truth_stays { M.is_true doors.old ↔ M.is_true doors.new }
     ensures plan_stays { (n : ℕ) (door : _) → M.makes doors.old n door ↔ M.makes doors.new n door }
 {
-    let Ok(desk) = Desk::new(alloc, workers - 1) else {
+    let Ok(queue) = PeerQueue::new(alloc, workers - 1) else {
         return Err(ServeFault::NoMemory);
     };
     let Ok(mut sessions) = sessions_of(alloc, shared, owner, doors, gate, workers) else {
@@ -92,7 +92,7 @@ where
         // There is at least one worker.
         unreachable!()
     };
-    let (taken, first, others) = work_all(rt, alloc, &desk, first, sessions, net, connections);
+    let (taken, first, others) = work_all(rt, alloc, &queue, first, sessions, net, connections);
     end_session(shared, owner, doors, first);
     end_sessions(shared, owner, doors, others);
     match taken {

@@ -23,6 +23,7 @@ use Rattle.blob_model.specs.declared.call.Refusal.{Refusal}
 use Rattle.blob_model.specs.declared.call.Refusal.TheVariants as Refusals
 use Rattle.request_form.specs.Session.{Fixed, Session, HeldTicket, IsNobody, sees, holds, ticket_at, without_ticket, drops, without_version, lets_go, takes_up_to}
 use Rattle.request_form.specs.Answers.{Updated, HeldBack, Started, CreateAnswer, UpdateAnswer, WholeUpdate, FinishHindered, ReportAnswer, FinishAnswer, BranchAnswer, ReadAnswer, ReadManyAnswer, RepairAnswer, LookAnswer, Unless, update_fault, read_fault, ranges_fault, Answers}
+use Rattle.request_form.specs.HangUp.{AllNumbered}
 use Rattle.request_form.specs.Transcript.{ItemReply, Run, first_session}
 use Rattle.request_form.specs.declared.form.Request.{Request}
 use Rattle.request_form.specs.declared.form.Request.TheVariants as Requests
@@ -259,23 +260,15 @@ sound_event limits history others e alone sound accepted =
 
 -- ---- tickets
 
--- each of them is of a version that was numbered
-pub AllNumbered : Store → List HeldTicket → Type 0
-AllNumbered s [] = Unit {0}
-AllNumbered s (t ∷ ts) = IsNumbered (blob_at s t.blob) t.version × AllNumbered s ts
-
 numbered_push : (s : Store) (ts : List HeldTicket) (t : HeldTicket) → AllNumbered s ts → IsNumbered (blob_at s t.blob) t.version → AllNumbered s (ts ++ t ∷ [])
-unfolding AllNumbered
 numbered_push s [] t h k = (k, tt)
 numbered_push s (x ∷ ts) t h k = (h.0, numbered_push s ts t h.1 k)
 
 without_if : (s : Store) (b : Bool) (t : HeldTicket) (ts ts' : List HeldTicket) → IsNumbered (blob_at s t.blob) t.version → AllNumbered s ts → AllNumbered s ts' → AllNumbered s (if b then ts else t ∷ ts')
-unfolding AllNumbered
 without_if s true t ts ts' h k l = k
 without_if s false t ts ts' h k l = (h, l)
 
 numbered_without : (s : Store) (ts : List HeldTicket) (number : ℕ) → AllNumbered s ts → AllNumbered s (without_ticket ts number)
-unfolding AllNumbered
 numbered_without s [] number h = tt
 numbered_without s (t ∷ ts) number h = without_if s (t.number == number) t ts (without_ticket ts number) h.0 h.1 (numbered_without s ts number h.1)
 
@@ -285,12 +278,10 @@ found_if s true t found o e h k = let P : HeldTicket → Type 0 = λ x. IsNumber
 found_if s false t found o e h k = k e
 
 numbered_held : (s : Store) (ts : List HeldTicket) (number : ℕ) (found : HeldTicket) → AllNumbered s ts → ticket_at ts number ≡ Some found → IsNumbered (blob_at s found.blob) found.version
-unfolding AllNumbered
 numbered_held s [] number found h e = absurd (none-some found e)
 numbered_held s (t ∷ ts) number found h e = found_if s (t.number == number) t found (ticket_at ts number) e h.0 (numbered_held s ts number found h.1)
 
 numbered_without_version : (s : Store) (ts : List HeldTicket) (blob version : ℕ) → AllNumbered s ts → AllNumbered s (without_version ts blob version)
-unfolding AllNumbered
 numbered_without_version s [] blob version h = tt
 numbered_without_version s (t ∷ ts) blob version h =
     without_if s (t.blob == blob && t.version == version) t ts (without_version ts blob version) h.0 h.1 (numbered_without_version s ts blob version h.1)
@@ -345,7 +336,6 @@ module _ (stay : OldVersionsStay) where
       subst P (sym there.1) now
 
   all_stay : (limits : Bounds) (history more : List Event) → IsLegal limits (history ++ more) → (ts : List HeldTicket) → AllNumbered (store_of limits history) ts → AllNumbered (store_of limits (history ++ more)) ts
-  unfolding AllNumbered
   all_stay limits history more legal [] h = tt
   all_stay limits history more legal (t ∷ ts) h = (numbered_stays limits history more t.blob t.version legal h.0, all_stay limits history more legal ts h.1)
 
@@ -538,5 +528,5 @@ module _ (stay : OldVersionsStay) where
       subst Q well.fixed (run_legal run.0 last items replies well.good run.2)
 
 pub first_good : (fixed : Fixed) → IsGood (first_session fixed 1)
-unfolding AllEven AllNumbered
+unfolding AllEven
 first_good fixed = record { sound = record { legal = tt; even = tt }; held = tt }

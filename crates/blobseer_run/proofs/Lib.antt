@@ -13,6 +13,6 @@ pub mod Settling
 pub mod Statuses
 pub mod Names
 pub mod PeersServed
+pub mod Early
+pub mod Lendings
 pub mod Measures
-pub mod Loads
-pub mod Watches

@@ -1,12 +1,14 @@
 -- How a measure ended, from what its parts did.
-use Rattle.std.proofs.Common.{◌≡◌, ℕ, List, [], refl, sym, subst}
+use Rattle.std.proofs.Common.{◌≡◌, inl, inr, ℕ, List, [], refl, sym, subst}
 use Rattle.std.specs.Prelude.{Option}
 use Rattle.std.specs.Io.KnownBytes.{Appends}
 use Rattle.std.proofs.KnownBytes.{Appends-nil}
 use Rattle.blobseer_run.specs.Outside.{Outside, LeavesInput, LeavesNet, Rises}
 use Rattle.blobseer_run.specs.Measuring.{Measured, DidMeasure}
 use Rattle.blobseer_run.specs.Writing.{WritesLine, ToldLine}
-use Rattle.blobseer_run.specs.Status.{out_of_memory, load_ended_early}
+use Rattle.blobseer_run.specs.declared.status.Status.{Status}
+use Rattle.blobseer_run.specs.Status.{code_of, out_of_memory, load_ended_early}
+use Rattle.blobseer_run.proofs.Early.{IsEarly}
 
 module _ (lines : List ℕ) (old new : Outside) (input : LeavesInput old new) (net : LeavesNet old new) where
   pub whole_there : (told : List ℕ) (status : ℕ) → told ≡ lines → ToldLine told old.written new.written old.writes new.writes status → DidMeasure lines old new status
@@ -27,8 +29,13 @@ module _ (lines : List ℕ) (old new : Outside) (input : LeavesInput old new) (n
     pub starved_there : DidMeasure lines old new out_of_memory
     starved_there = unwritten out_of_memory (Measured.starved refl refl)
 
-    pub early_there : Rises old.doors new.doors → DidMeasure lines old new load_ended_early
+    early_there : Rises old.doors new.doors → DidMeasure lines old new load_ended_early
     early_there rose = unwritten load_ended_early (Measured.early refl rose refl)
+
+    -- it was ended early
+    pub ended_there : (status : Status) → IsEarly status old.doors new.doors → DidMeasure lines old new (code_of status)
+    ended_there status (inl e) = subst (λ (s : Status). DidMeasure lines old new (code_of s)) (sym e) starved_there
+    ended_there status (inr e) = subst (λ (s : Status). DidMeasure lines old new (code_of s)) (sym e.0) (early_there e.1)
 
 -- the same of the same lines
 pub at_lines : (lines lines' : List ℕ) (old new : Outside) (status : ℕ) → lines ≡ lines' → DidMeasure lines old new status → DidMeasure lines' old new status

@@ -9,7 +9,7 @@ use Rattle.settings.specs.Values.{GivenValues, SettingsValues}
 use Rattle.settings.specs.Words.{Bytes}
 use Rattle.settings.specs.File.{Gives}
 use Rattle.settings.specs.Merged.{merged}
-use Rattle.blobseer_run.specs.Told.{file_limit, Order, order_of_words, FileGives, FileRefused, Settled, SettingsRefused, IsFileKnown, Stopped}
+use Rattle.blobseer_run.specs.Told.{file_limit, Order, order_of_words, FileGives, FileRefused, Settled, SettingsRefused, NamesFile, IsFileKnown, Stopped}
 use Rattle.blobseer_run.specs.Telling.{FileStops}
 use Rattle.blobseer_run.specs.Status.{code_of}
 use Rattle.blobseer_run.specs.declared.status.Status.{Status}
@@ -92,3 +92,11 @@ module _ (words : List Bytes) (known : Files) (files files' : ℕ) (status : Sta
   file_stopped (FileStops.unread e n named rose) = subst StopsAs (sym e) (Stopped.unread refl ((command, given), n, asks, named) rose)
   file_stopped (FileStops.refused e refused) = subst StopsAs (sym e) (Stopped.unsettled refl (SettingsRefused.file_refused (command, given) asks refused))
   file_stopped (FileStops.starved e) = subst StopsAs (sym e) (Stopped.starved refl)
+
+-- words that name no settings file give none
+no_name : (o : Option Bytes) → ((n : Bytes) → o ≡ Some n → ⊥) → o ≡ None
+no_name None none = refl
+no_name (Some n) none = absurd (none n refl)
+
+pub unnamed : (words : List Bytes) (command : Command) (given : GivenValues) → order_of_words words ≡ Some (command, given) → (¬ NamesFile words) → given.settings ≡ None
+unnamed words command given asks none = no_name given.settings (λ n e. none ((command, given), n, asks, e))

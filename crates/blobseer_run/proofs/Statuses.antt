@@ -11,6 +11,7 @@ use Rattle.settings.specs.Words.{Bytes}
 use Rattle.blobseer_run.specs.Status.{done, words_refused, settings_refused, read_fault, write_fault, out_of_memory, listener_fault, input_too_long, load_ended_early}
 use Rattle.blobseer_run.specs.Told.{Order, order_of_words, AsksFor, Settled, SettingsRefused, Stopped}
 use Rattle.blobseer_run.specs.Outside.{Outside}
+use Rattle.blobseer_run.specs.Lending.{LendsBy}
 use Rattle.blobseer_run.specs.Conversation.{Dialogue, Ended}
 use Rattle.blobseer_run.specs.Script.{fixed_of, script}
 use Rattle.blobseer_run.specs.Node.{frames}
@@ -45,11 +46,11 @@ module _ (old new : Outside) (status : ℕ) where
   line_own line text (WritesLine.part e rest is some rose) = own status write_fault e (λ f. cc, λ f. cc)
   line_own line text (WritesLine.nothing e is) = own status out_of_memory e (λ f. cc, λ f. cc)
 
-  hosted_own : (connections : ℕ) (text : List ℕ) → Hosted connections old.net new.net text old.writes new.writes status → IsOwn status
-  hosted_own connections text (Hosted.served peers listens took line) = line_own (served_line peers) text line
-  hosted_own connections text (Hosted.deaf e listens none is) = own status listener_fault e (λ f. cc, λ f. cc)
-  hosted_own connections text (Hosted.unserved e listens failed is) = own status listener_fault e (λ f. cc, λ f. cc)
-  hosted_own connections text (Hosted.starved e listens none is) = own status out_of_memory e (λ f. cc, λ f. cc)
+  hosted_own : (address : List ℕ) (connections : ℕ) (text : List ℕ) → Hosted address connections old.net new.net text old.writes new.writes status → IsOwn status
+  hosted_own address connections text (Hosted.served peers listens took line) = line_own (served_line peers) text line
+  hosted_own address connections text (Hosted.deaf e listens none is) = own status listener_fault e (λ f. cc, λ f. cc)
+  hosted_own address connections text (Hosted.unserved e listens failed is) = own status listener_fault e (λ f. cc, λ f. cc)
+  hosted_own address connections text (Hosted.starved e listens none is) = own status out_of_memory e (λ f. cc, λ f. cc)
 
   measured_own : (lines text : List ℕ) → Measured lines text old.doors new.doors old.writes new.writes status → IsOwn status
   measured_own lines text (Measured.whole line) = line_own lines text line
@@ -58,7 +59,7 @@ module _ (old new : Outside) (status : ℕ) where
 
   did_own : (command : Command) (settings : SettingsValues) (calm : Type 0) → Did command settings calm old new status → IsOwn status
   did_own Commands.Run settings calm d = ended_own (script (fixed_of settings) calm old.doors new.doors) d.served.taken d.served.text d.served.rest d.served.ended
-  did_own Commands.Serve settings calm d = hosted_own settings.connections d.text d.ended
+  did_own Commands.Serve settings calm d = hosted_own settings.listen settings.connections d.text d.ended
   did_own Commands.Load settings calm d = measured_own (loading.load_lines (loading.plan_of settings)) d.text d.ended
   did_own Commands.Node settings calm d = ended_own (frames settings.page) d.served.taken d.served.text d.served.rest d.served.ended
   did_own Commands.Files settings calm d =
@@ -85,11 +86,11 @@ module _ (old new : Outside) (status : ℕ) where
     line_complete line text (WritesLine.part e rest is some rose) = absurd (writes rose)
     line_complete line text (WritesLine.nothing e is) = IsComplete.starved e
 
-    hosted_complete : (connections : ℕ) (text : List ℕ) → ¬ RoseBy 1 old.net.handing.faults new.net.handing.faults → Hosted connections old.net new.net text old.writes new.writes status → Complete
-    hosted_complete connections text peers (Hosted.served n listens took line) = line_complete (served_line n) text line
-    hosted_complete connections text peers (Hosted.deaf e listens none is) = absurd (peers none.rose)
-    hosted_complete connections text peers (Hosted.unserved e listens failed is) = absurd (peers failed.failed)
-    hosted_complete connections text peers (Hosted.starved e listens none is) = IsComplete.starved e
+    hosted_complete : (address : List ℕ) (connections : ℕ) (text : List ℕ) → ¬ RoseBy 1 old.net.handing.faults new.net.handing.faults → Hosted address connections old.net new.net text old.writes new.writes status → Complete
+    hosted_complete address connections text peers (Hosted.served n listens took line) = line_complete (served_line n) text line
+    hosted_complete address connections text peers (Hosted.deaf e listens none is) = absurd (peers none.rose)
+    hosted_complete address connections text peers (Hosted.unserved e listens failed is) = absurd (peers failed.failed)
+    hosted_complete address connections text peers (Hosted.starved e listens none is) = IsComplete.starved e
 
     measured_complete : (lines text : List ℕ) (command : Command) → AsksFor words command → measures command ≡ true → Measured lines text old.doors new.doors old.writes new.writes status → Complete
     measured_complete lines text command asks is (Measured.whole line) = line_complete lines text line
@@ -100,7 +101,7 @@ module _ (old new : Outside) (status : ℕ) where
         → Did command settings calm old new status → Complete
     did_complete Commands.Run settings calm asks reads peers d =
         ended_complete (script (fixed_of settings) calm old.doors new.doors) d.served.taken d.served.text d.served.rest Commands.Run asks refl reads d.served.ended
-    did_complete Commands.Serve settings calm asks reads peers d = hosted_complete settings.connections d.text peers d.ended
+    did_complete Commands.Serve settings calm asks reads peers d = hosted_complete settings.listen settings.connections d.text peers d.ended
     did_complete Commands.Load settings calm asks reads peers d = measured_complete (loading.load_lines (loading.plan_of settings)) d.text Commands.Load asks refl d.ended
     did_complete Commands.Node settings calm asks reads peers d = ended_complete (frames settings.page) d.served.taken d.served.text d.served.rest Commands.Node asks refl reads d.served.ended
     did_complete Commands.Files settings calm asks reads peers d =
@@ -117,16 +118,16 @@ refused_asked words known (SettingsRefused.too_many_replicas order file asks g x
 two : (status m n : ℕ) → status ≡ m → status ≡ n → m ≢ n → ⊥
 two status m n e f differ = differ (sym e ∙ f)
 
-module _ (words : List Bytes) (known : Files) (calm : Type 0) (files files' : ℕ) (old new : Outside) (status : ℕ) where
+module _ (words : List Bytes) (known : Files) (calm : Type 0) (Back : ℕ → Type 0) (files files' : ℕ) (old new : Outside) (status : ℕ) where
   stopped_words : Stopped words known files files' status → RefusesWords words status
   stopped_words (Stopped.unasked e none same) memory = (λ f. none, λ f. e)
   stopped_words (Stopped.unread e names rose) memory = (λ f. absurd (two status read_fault words_refused e f (λ d. cc)), λ f. absurd (some_none (order_of_words words) names.0 names.2 f))
   stopped_words (Stopped.unsettled e refused) memory = (λ f. absurd (two status settings_refused words_refused e f (λ d. cc)), λ f. absurd (refused_asked words known refused f))
   stopped_words (Stopped.starved e) memory = absurd (memory e)
 
-  pub refuses_words : Ran words known calm files files' old new status → RefusesWords words status
-  refuses_words (Ran.stopped s idle) = stopped_words s
-  refuses_words (Ran.did command settings settled did) = λ memory. (
+  pub refuses_words : Ran words known calm Back files files' old new status → RefusesWords words status
+  refuses_words (Ran.stopped s idle none) = stopped_words s
+  refuses_words (Ran.did command settings settled did lends) = λ memory. (
     λ f. absurd ((did_own old new status command settings calm did).0 f),
     λ f. absurd (some_none (order_of_words words) (command, settled.given) settled.asks f),
   )
@@ -137,9 +138,9 @@ module _ (words : List Bytes) (known : Files) (calm : Type 0) (files files' : �
   stopped_settings (Stopped.unsettled e refused) told still memory = (λ f. refused, λ x. e)
   stopped_settings (Stopped.starved e) told still memory = absurd (memory e)
 
-  pub refuses_settings : Ran words known calm files files' old new status → RefusesSettings words known files files' status
-  refuses_settings (Ran.stopped s idle) = stopped_settings s
-  refuses_settings (Ran.did command settings settled did) = λ told still memory. (
+  pub refuses_settings : Ran words known calm Back files files' old new status → RefusesSettings words known files files' status
+  refuses_settings (Ran.stopped s idle none) = stopped_settings s
+  refuses_settings (Ran.did command settings settled did lends) = λ told still memory. (
     λ f. absurd ((did_own old new status command settings calm did).1 f),
     λ refused. absurd (settled_not_refused words known told command settings settled refused),
   )
@@ -150,18 +151,18 @@ module _ (words : List Bytes) (known : Files) (calm : Type 0) (files files' : �
   stopped_complete (Stopped.unsettled e refused) taken still = absurd (taken.1 refused)
   stopped_complete (Stopped.starved e) taken still = IsComplete.starved e
 
-  pub complete : Ran words known calm files files' old new status → IsTaken words known → ¬ RoseBy 1 old.reads new.reads → ¬ RoseBy 1 old.writes new.writes
+  pub complete : Ran words known calm Back files files' old new status → IsTaken words known → ¬ RoseBy 1 old.reads new.reads → ¬ RoseBy 1 old.writes new.writes
       → ¬ RoseBy 1 old.net.handing.faults new.net.handing.faults → ¬ RoseBy 1 files files' → IsComplete words old.doors new.doors status
-  complete (Ran.stopped s idle) taken reads writes peers still = stopped_complete s taken still
-  complete (Ran.did command settings settled did) taken reads writes peers still =
+  complete (Ran.stopped s idle none) taken reads writes peers still = stopped_complete s taken still
+  complete (Ran.did command settings settled did lends) taken reads writes peers still =
       did_complete old new status words writes command settings calm (settled.given, settled.asks) reads peers did
 
 -- ---- how a run went, at the status that its line gave
 
-module _ (words : List Bytes) (known : Files) (calm : Type 0) (files files' : ℕ) (n status : ℕ) (is : n ≡ status) where
-  pub ran_stopped : (outside : Outside) → Stopped words known files files' status → Ran words known calm files files' outside outside n
-  ran_stopped outside stopped = let P : ℕ → Type 0 = λ m. Ran words known calm files files' outside outside m in subst P (sym is) (Ran.stopped stopped refl)
+module _ (words : List Bytes) (known : Files) (calm : Type 0) (Back : ℕ → Type 0) (files files' : ℕ) (n status : ℕ) (is : n ≡ status) where
+  pub ran_stopped : (outside : Outside) → Stopped words known files files' status → Back 0 → Ran words known calm Back files files' outside outside n
+  ran_stopped outside stopped none = let P : ℕ → Type 0 = λ m. Ran words known calm Back files files' outside outside m in subst P (sym is) (Ran.stopped stopped refl none)
 
   pub ran_did : (old new : Outside) (command : Command) (settings : SettingsValues) → Settled words known command settings → Did command settings calm old new status
-      → Ran words known calm files files' old new n
-  ran_did old new command settings settled did = let P : ℕ → Type 0 = λ m. Ran words known calm files files' old new m in subst P (sym is) (Ran.did command settings settled did)
+      → LendsBy command settings Back status → Ran words known calm Back files files' old new n
+  ran_did old new command settings settled did lends = let P : ℕ → Type 0 = λ m. Ran words known calm Back files files' old new m in subst P (sym is) (Ran.did command settings settled did lends)

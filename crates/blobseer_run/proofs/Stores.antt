@@ -1,6 +1,7 @@
 -- What a run's session was served, from what its store says.
 use Rattle.std.proofs.Common.{◌≡◌, ℕ, List, [], ◌++◌, sum_by, refl, sym, ◌∙◌, ap, subst}
-use Rattle.std.specs.Prelude.{Option}
+use Rattle.std.specs.Prelude.{Option, Some, Result, Ok, Err, IfOk}
+use Rattle.blob_model.specs.Limits.{Bounds}
 use Rattle.blob_model.specs.declared.call.Event.{Event}
 use Rattle.request_form.specs.Session.{Session, AllOwn}
 use Rattle.request_form.specs.Answers.{max_update}
@@ -13,14 +14,15 @@ use Rattle.server_core.specs.Progress.{Point}
 use Rattle.server_core.specs.Served.{Input, Served}
 use Rattle.server_core.proofs.Served.{Served-none}
 use Rattle.turn_lock.specs.History.{Log, Begins, LacksUngiven}
-use Rattle.turn_lock.specs.Shown.{PassView}
+use Rattle.turn_lock.specs.Shown.{PassView, OwnerView}
 use Rattle.version_manager.specs.Log.{tagged, events}
 use Rattle.version_manager.specs.declared.journal.DeskFixed.{DeskFixed}
-use Rattle.client_session.specs.Sessions.{StoreState, SessionState, session_at, session_of, pass_of}
+use Rattle.client_session.specs.Sessions.{StoreState, IsOwnerOf, SessionState, session_at, session_of, pass_of}
 use Rattle.settings.specs.Values.{SettingsValues}
 use Rattle.blobseer_run.specs.Conversation.{input_limit}
 use Rattle.blobseer_run.specs.Script.{fixed_of}
 use Rattle.blobseer_run.specs.Serving.{ServedLines}
+use Rattle.blobseer_run.specs.Store.{IsNewStore}
 use Rattle.blobseer_run.proofs.Alone.{own_of}
 
 -- ---- nothing was served for want of memory
@@ -75,3 +77,21 @@ own_there made history whole seen one lacks is begins tags =
 -- what a new store keeps to is what its settings say
 pub fixed_there : (f : DeskFixed) (settings : SettingsValues) → f.limits ≡ settings.limits → f.page_size ≡ settings.page → record { limits = f.limits; page = f.page_size } ≡ fixed_of settings
 fixed_there f settings limits page = rw (limits, page) refl
+
+-- a new store of what was asked for, where that is what the settings say
+pub new_store_of : {E : Type 0} (settings : SettingsValues) (bounds : Bounds) (page providers replicas : ℕ) (made : Result (StoreState × OwnerView Event DeskFixed) E)
+    → page ≡ settings.page → providers ≡ settings.providers → replicas ≡ settings.replicas
+    → IfOk made (λ r. IsOwnerOf r.0 r.1) → IfOk made (λ r. r.1 ≡ record { lock = r.0.lock; made = 0; out = 0; seen = []; fixed = Some r.0.fixed; kept = [] })
+    → IfOk made (λ r. r.0.fixed.limits ≡ bounds) → IfOk made (λ r. r.0.fixed.page_size ≡ page) → IfOk made (λ r. r.0.providers ≡ providers) → IfOk made (λ r. r.0.replicas ≡ replicas)
+    → IfOk made (λ r. IsNewStore settings bounds r.0 r.1)
+new_store_of settings bounds page providers replicas (Ok r) page_is providers_are replicas_are owned new limits size many copies = record {
+  owned = owned;
+  no_pass = ap (λ (o : OwnerView Event DeskFixed). o.made) new;
+  none_out = ap (λ (o : OwnerView Event DeskFixed). o.out) new;
+  none_seen = ap (λ (o : OwnerView Event DeskFixed). o.seen) new;
+  limits = limits;
+  page_size = size ∙ page_is;
+  providers = many ∙ providers_are;
+  replicas = copies ∙ replicas_are;
+}
+new_store_of settings bounds page providers replicas (Err e) page_is providers_are replicas_are owned new limits size many copies = tt

@@ -1,5 +1,5 @@
 -- What the command `serve` promises: what its listener did, and the line that tells how many connections were served.
-use Rattle.std.specs.Prelude.{◌≡◌, ◌⊎◌, ℕ, Bool, true, List, [], ◌∷◌, ◌++◌, Option, codes}
+use Rattle.std.specs.Prelude.{◌≡◌, ◌⊎◌, ℕ, Bool, true, List, [], ◌∷◌, ◌++◌, Option, IfSome, codes}
 use Rattle.std.specs.Fmt.{decimal}
 use Rattle.std.specs.Io.KnownBytes.{Appends}
 use Rattle.faults.specs.Counts.{RoseBy}
@@ -27,22 +27,33 @@ pub record HandsOutNone (faults : ℕ) (old new : Handing) : Type 0 where
   pub done : new.is_done ≡ old.is_done
   pub rose : RoseBy faults old.faults new.faults
 
--- How a server ended, by the status and by the text that was written.
-pub data Hosted (connections : ℕ) (net net' : Net) (text : List ℕ) (writes writes' status : ℕ) : Type 0 where
-  -- as many connections as were asked for were served, or fewer where the listener gave no more, and their number was told
-  served : (peers : ℕ) → (net'.listens ≡ true) → TookPeers connections peers net.handing net'.handing → WritesLine (served_line peers) text writes writes' status →
-      Hosted connections net net' text writes writes' status
-  -- it couldn't listen, and listens as it did before
-  deaf : (status ≡ listener_fault) → (net'.listens ≡ net.listens) → HandsOutNone 1 net.handing net'.handing → (text ≡ []) → Hosted connections net net' text writes writes' status
-  -- the listener failed after fewer peers than were asked for, and none was taken after that
-  unserved : (status ≡ listener_fault) → (net'.listens ≡ true) → FailedAfter connections net.handing net'.handing → (text ≡ []) → Hosted connections net net' text writes writes' status
-  -- no memory was found, before it listened or then for the sessions, and no peer was taken
-  starved : (status ≡ out_of_memory) → (net'.listens ≡ net.listens) ⊎ (net'.listens ≡ true) → HandsOutNone 0 net.handing net'.handing → (text ≡ []) →
-      Hosted connections net net' text writes writes' status
+-- it listens at that address, as far as its address is known
+pub record ListensAt (address : List ℕ) (net : Net) : Type 0 where
+  pub listens : net.listens ≡ true
+  pub here : IfSome net.address (λ here. here ≡ address)
 
--- Connections were served, as many as that unless the listener gave no more, the output got the text, and the input was left alone.
-pub record DidServe (connections : ℕ) (old new : Outside) (status : ℕ) : Type 0 where
+-- it listens as it did before
+pub record ListensAsBefore (old new : Net) : Type 0 where
+  pub listens : new.listens ≡ old.listens
+  pub address : new.address ≡ old.address
+
+-- How a server ended, by the address and the number of connections that it was told, by the status and by the text that was written.
+pub data Hosted (address : List ℕ) (connections : ℕ) (net net' : Net) (text : List ℕ) (writes writes' status : ℕ) : Type 0 where
+  -- as many connections as were asked for were served, or fewer where the listener gave no more, and their number was told
+  served : (peers : ℕ) → ListensAt address net' → TookPeers connections peers net.handing net'.handing → WritesLine (served_line peers) text writes writes' status →
+      Hosted address connections net net' text writes writes' status
+  -- it couldn't listen, and listens as it did before
+  deaf : (status ≡ listener_fault) → ListensAsBefore net net' → HandsOutNone 1 net.handing net'.handing → (text ≡ []) → Hosted address connections net net' text writes writes' status
+  -- the listener failed after fewer peers than were asked for, and none was taken after that
+  unserved : (status ≡ listener_fault) → ListensAt address net' → FailedAfter connections net.handing net'.handing → (text ≡ []) →
+      Hosted address connections net net' text writes writes' status
+  -- no memory was found, before it listened or then for the sessions, and no peer was taken
+  starved : (status ≡ out_of_memory) → ListensAsBefore net net' ⊎ ListensAt address net' → HandsOutNone 0 net.handing net'.handing → (text ≡ []) →
+      Hosted address connections net net' text writes writes' status
+
+-- Connections to that address were served, as many as that unless the listener gave no more, the output got the text, and the input was left alone.
+pub record DidServe (address : List ℕ) (connections : ℕ) (old new : Outside) (status : ℕ) : Type 0 where
   pub text : List ℕ
   pub adds : Appends old.written new.written text
-  pub ended : Hosted connections old.net new.net text old.writes new.writes status
+  pub ended : Hosted address connections old.net new.net text old.writes new.writes status
   pub input : LeavesInput old new

@@ -3,6 +3,8 @@ pub mod Told
 pub mod Telling
 pub mod Writing
 pub mod Outside
+pub mod Store
+pub mod Lending
 pub mod Conversation
 pub mod Script
 pub mod Hosting

@@ -4,10 +4,6 @@ use Rattle.settings.specs.Values.{SettingsValues}
 use Rattle.workload_law.specs.declared.plan.LoadPlan.{LoadPlan}
 use Rattle.workload_law.specs.Said.{said}
 use Rattle.workload_law.specs.Summed.{summary_of}
-use Rattle.workload_run.specs.declared.loading.LoadFault.{LoadFault}
-use Rattle.workload_run.specs.declared.loading.LoadFault.TheVariants as Faults
-use Rattle.blobseer_run.specs.declared.status.Status.{Status}
-use Rattle.blobseer_run.specs.declared.status.Status.TheVariants as Statuses
 use Rattle.blobseer_run.specs.Outside.{Outside}
 use Rattle.blobseer_run.specs.Measuring.{DidMeasure}
 
@@ -18,11 +14,6 @@ plan_of settings = record { seed = settings.seed; workers = settings.workers; op
 -- the three lines that every load of the plan comes to
 abbrev pub load_lines : LoadPlan → List ℕ
 load_lines plan = said plan (summary_of plan)
-
--- how a load ends that was ended early
-abbrev pub status_of : LoadFault → Status
-status_of (Faults.Refused fault) = Statuses.LoadEndedEarly
-status_of Faults.NoMemory = Statuses.OutOfMemory
 
 -- A load of the plan was run.
 abbrev pub DidLoad : LoadPlan → Outside → Outside → ℕ → Type 0

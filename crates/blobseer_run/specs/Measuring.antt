@@ -1,9 +1,18 @@
 -- What a command promises that measures the store: the lines that it comes to.
 use Rattle.std.specs.Prelude.{◌≡◌, ℕ, List, []}
 use Rattle.std.specs.Io.KnownBytes.{Appends}
+use Rattle.update_work.specs.declared.ending.EarlyEnd.{EarlyEnd}
+use Rattle.update_work.specs.declared.ending.EarlyEnd.TheVariants as Ends
+use Rattle.blobseer_run.specs.declared.status.Status.{Status}
+use Rattle.blobseer_run.specs.declared.status.Status.TheVariants as Statuses
 use Rattle.blobseer_run.specs.Status.{out_of_memory, load_ended_early}
 use Rattle.blobseer_run.specs.Writing.{WritesLine}
 use Rattle.blobseer_run.specs.Outside.{Outside, LeavesInput, LeavesNet, Rises}
+
+-- how a measure ends that was ended early
+abbrev pub status_of : EarlyEnd → Status
+status_of (Ends.Refused fault) = Statuses.LoadEndedEarly
+status_of Ends.NoMemory = Statuses.OutOfMemory
 
 -- How a measure ended, by the status and by the text that was written.
 pub data Measured (lines text : List ℕ) (doors doors' writes writes' status : ℕ) : Type 0 where

@@ -4,9 +4,10 @@ use Rattle.std.specs.Io.KnownBytes.{Appends, Consumes}
 use Rattle.faults.specs.Counts.{RoseBy}
 use Rattle.blob_server.specs.Serving.{Handing}
 
--- a listener: whether it listens, and what it has handed out
+-- a listener: whether it listens, at which address, where that is known, and what it has handed out
 pub record Net : Type 0 where
   pub listens : Bool
+  pub address : Option (List ℕ)
   pub handing : Handing
 
 -- A command's objects: the bytes that the input gave and has left, the faults of its reads and its ends; the bytes that the output got, and the faults of its

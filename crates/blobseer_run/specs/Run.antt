@@ -7,6 +7,7 @@ use Rattle.settings.specs.declared.table.Command.TheVariants as Commands
 use Rattle.settings.specs.Values.{SettingsValues}
 use Rattle.settings.specs.Words.{Bytes}
 use Rattle.blobseer_run.specs.Outside.{Outside, Rises}
+use Rattle.blobseer_run.specs.Lending.{LendsBy}
 use Rattle.blobseer_run.specs.Script.{fixed_of, DidRun}
 use Rattle.blobseer_run.specs.Node.{DidNode}
 use Rattle.blobseer_run.specs.Filing.{DidFiles}
@@ -19,7 +20,7 @@ use Rattle.blobseer_run.specs.Status.{done, words_refused, settings_refused, out
 -- what the command did with its settings
 abbrev pub Did : Command → SettingsValues → Type 0 → Outside → Outside → ℕ → Type 0
 Did Commands.Run settings calm old new status = DidRun (fixed_of settings) calm old new status
-Did Commands.Serve settings calm old new status = DidServe settings.connections old new status
+Did Commands.Serve settings calm old new status = DidServe settings.listen settings.connections old new status
 Did Commands.Load settings calm old new status = loading.DidLoad (loading.plan_of settings) old new status
 Did Commands.Node settings calm old new status = DidNode settings.page old new status
 Did Commands.Files settings calm old new status = DidFiles (fixed_of settings) settings.providers calm old new status
@@ -43,12 +44,12 @@ measures Commands.Node = false
 measures Commands.Files = false
 measures Commands.Watch = true
 
--- A run was stopped before its command did anything, or the command did its work. The files are read before it.
-pub data Ran (words : List Bytes) (known : Files) (calm : Type 0) (files files' : ℕ) (old new : Outside) (status : ℕ) : Type 0 where
-  -- nothing was taken off the input or put on the output, the listener was left alone, and no count rose but that of the files
-  stopped : Stopped words known files files' status → (new ≡ old) → Ran words known calm files files' old new status
-  did : (command : Command) → (settings : SettingsValues) → Settled words known command settings → Did command settings calm old new status →
-      Ran words known calm files files' old new status
+-- A run was stopped before its command did anything, or the command did its work, and the doors that were made for it came back. The files are read before it.
+pub data Ran (words : List Bytes) (known : Files) (calm : Type 0) (Back : ℕ → Type 0) (files files' : ℕ) (old new : Outside) (status : ℕ) : Type 0 where
+  -- nothing was taken off the input or put on the output, the listener was left alone, no door was made, and no count rose but that of the files
+  stopped : Stopped words known files files' status → (new ≡ old) → Back 0 → Ran words known calm Back files files' old new status
+  did : (command : Command) → (settings : SettingsValues) → Settled words known command settings → Did command settings calm old new status → LendsBy command settings Back status →
+      Ran words known calm Back files files' old new status
 
 -- ---- what follows for a status
 

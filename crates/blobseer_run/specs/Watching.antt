@@ -4,10 +4,6 @@ use Rattle.settings.specs.Values.{SettingsValues}
 use Rattle.watch_law.specs.declared.plan.WatchPlan.{WatchPlan}
 use Rattle.watch_law.specs.Said.{said}
 use Rattle.watch_law.specs.Watch.{summary_of}
-use Rattle.watch_run.specs.declared.watching.WatchFault.{WatchFault}
-use Rattle.watch_run.specs.declared.watching.WatchFault.TheVariants as Faults
-use Rattle.blobseer_run.specs.declared.status.Status.{Status}
-use Rattle.blobseer_run.specs.declared.status.Status.TheVariants as Statuses
 use Rattle.blobseer_run.specs.Outside.{Outside}
 use Rattle.blobseer_run.specs.Measuring.{DidMeasure}
 
@@ -18,11 +14,6 @@ plan_of settings = record { seed = settings.seed; readers = settings.readers; op
 -- the two lines that every watch of the plan comes to
 abbrev pub watch_lines : WatchPlan → List ℕ
 watch_lines plan = said plan (summary_of plan)
-
--- how a watch ends that was ended early
-abbrev pub status_of : WatchFault → Status
-status_of (Faults.Refused fault) = Statuses.LoadEndedEarly
-status_of Faults.NoMemory = Statuses.OutOfMemory
 
 -- A watch of the plan was run.
 abbrev pub DidWatch : WatchPlan → Outside → Outside → ℕ → Type 0

@@ -6,6 +6,8 @@ ghost use Rattle.client_session.specs.Sessions.{IsPassOf, IsOwnerOf, session_at}
 ghost use Rattle.version_manager.specs.Log.{events};
 ghost use Rattle.server_core.specs.Conversed.{end_read_faults, end_write_faults};
 ghost use Rattle.blobseer_run.specs.Outside.{NoneFell};
+ghost use Rattle.blobseer_run.specs.Store.{IsNewStore};
+ghost use Rattle.blobseer_run.specs.Lending.{CameBack, Lends};
 ghost use Rattle.blobseer_run.specs.Script.{fixed_of, IsCalm};
 ghost use Rattle.blobseer_run.specs.Filing.{DidFiles, ServedLines, ServedNamed, ServedByOne};
 ghost use Rattle.blobseer_run.specs.Status.{code_of};
@@ -58,6 +60,7 @@ fn serve_session<R: Wait + Threads + Sync, S: Source, K: Sink, D: BesideDoor, G:
         (events result.1.seen) result.2.seen (sum_by D.faults result.3) (K.written out.new) result.0 }
     ensures pass { IsPassOf shared.now result.1 }
     ensures names { result.2 ≡ record names_pass { seen = result.2.seen } }
+    ensures doors { length result.3 ≡ shared.now.providers }
     ensures read_faults { RoseBy (end_read_faults result.0) (S.read_faults script.old) (S.read_faults script.new) }
     ensures write_faults { RoseBy (end_write_faults result.0) (K.write_faults out.old) (K.write_faults out.new) }
 {
@@ -96,6 +99,7 @@ fn serve_named<R: Wait + Threads + Sync, S: Source, K: Sink, D: BesideDoor, G: G
         (record { given = S.given script.new; left = S.left script.new; ends = S.ends script.new })
         (events result.1.seen) (sum_by D.faults result.2) (K.written out.new) result.0 }
     ensures pass { IsPassOf shared.now result.1 }
+    ensures doors { length result.2 ≡ shared.now.providers }
     ensures read_faults { RoseBy (end_read_faults result.0) (S.read_faults script.old) (S.read_faults script.new) }
     ensures write_faults { RoseBy (end_write_faults result.0) (K.write_faults out.old) (K.write_faults out.new) }
 {
@@ -144,6 +148,7 @@ fn serve_store<R: Wait + Threads + Sync, S: Source, K: Sink, D: BesideDoor, G: G
         (record { given = S.given script.old; left = S.left script.old; ends = S.ends script.old })
         (record { given = S.given script.new; left = S.left script.new; ends = S.ends script.new })
         (sum_by D.faults doors) (sum_by D.faults result.1) (K.written out.old) (K.written out.new) result.0 }
+    ensures doors { length result.1 ≡ shared.providers }
     ensures read_faults { RoseBy (end_read_faults result.0) (S.read_faults script.old) (S.read_faults script.new) }
     ensures write_faults { RoseBy (end_write_faults result.0) (K.write_faults out.old) (K.write_faults out.new) }
 {
@@ -165,9 +170,58 @@ fn serve_store<R: Wait + Threads + Sync, S: Source, K: Sink, D: BesideDoor, G: G
     (end, doors)
 }
 
+// Answers lines about folders and files by the one file session of that store and of new names. The session's doors are the
+// maker's, and go back to it; its passes go back to the store and to the names, which are closed.
+fn answer_lines<
+    'a,
+    R: Wait + Threads + Sync,
+    S: Source,
+    K: Sink,
+    L: Listener,
+    M: DoorMaker,
+    G: Gate,
+>(
+    rt: &R,
+    alloc: Global,
+    settings: &Settings,
+    shared: Shared,
+    owner: Owner,
+    objects: &mut Objects<'a, S, K, L, M>,
+    gate: &G,
+) -> Status
+where
+    M::Door: BesideDoor,
+    requires store { IsNewStore settings.now settings.now.limits shared owner }
+    requires true_doors { M.is_true objects.old.doors.now }
+    ensures did { DidFiles (fixed_of settings.now) settings.now.providers (IsCalm M.Door.faults) (⟦<Objects<'a, S, K, L, M> as Standing>⟧.stands objects.old)
+        (⟦<Objects<'a, S, K, L, M> as Standing>⟧.stands objects.new) (code_of result) }
+    ensures lent { Lends settings.now.providers (CameBack M.hands_out M.takes_back objects.old.doors.now objects.new.doors.now) (code_of result) }
+    ensures none_fell { NoneFell (⟦<Objects<'a, S, K, L, M> as Standing>⟧.stands objects.old) (⟦<Objects<'a, S, K, L, M> as Standing>⟧.stands objects.new) }
+    ensures truth_stays { M.is_true objects.old.doors.now ↔ M.is_true objects.new.doors.now }
+    ensures names { ⟦<Objects<'a, S, K, L, M> as Standing>⟧.names objects.new ≡ ⟦<Objects<'a, S, K, L, M> as Standing>⟧.names objects.old }
+{
+    // Laws that tell that the session was alone.
+    transcripts_hold();
+    own_events_are_made();
+    let Ok(doors) = Doors::new(alloc, objects.doors, settings.providers) else {
+        return Status::OutOfMemory;
+    };
+    let (end, doors) = serve_store(
+        rt,
+        alloc,
+        shared,
+        owner,
+        gate,
+        doors,
+        objects.script,
+        objects.out,
+    );
+    doors.back(objects.doors);
+    Status::after(end)
+}
+
 /// The command `files`: answers lines about folders and files by the one file session of a new store of these settings and of new
-/// names. The session's doors are the maker's, and go back to it; its passes go back to the store and to the names, which are
-/// closed.
+/// names.
 pub(crate) fn answer_files<
     'a,
     R: Wait + Threads + Sync,
@@ -188,30 +242,13 @@ where
     requires true_doors { M.is_true objects.old.doors.now }
     ensures did { DidFiles (fixed_of settings.now) settings.now.providers (IsCalm M.Door.faults) (⟦<Objects<'a, S, K, L, M> as Standing>⟧.stands objects.old)
         (⟦<Objects<'a, S, K, L, M> as Standing>⟧.stands objects.new) (code_of result) }
+    ensures lent { Lends settings.now.providers (CameBack M.hands_out M.takes_back objects.old.doors.now objects.new.doors.now) (code_of result) }
     ensures none_fell { NoneFell (⟦<Objects<'a, S, K, L, M> as Standing>⟧.stands objects.old) (⟦<Objects<'a, S, K, L, M> as Standing>⟧.stands objects.new) }
     ensures truth_stays { M.is_true objects.old.doors.now ↔ M.is_true objects.new.doors.now }
     ensures names { ⟦<Objects<'a, S, K, L, M> as Standing>⟧.names objects.new ≡ ⟦<Objects<'a, S, K, L, M> as Standing>⟧.names objects.old }
 {
-    // Laws that tell that the session was alone.
-    transcripts_hold();
-    own_events_are_made();
-    let Ok(doors) = Doors::new(alloc, objects.doors, settings.providers) else {
-        return Status::OutOfMemory;
-    };
     let Ok((shared, owner)) = new_store(alloc, settings, settings.limits) else {
-        doors.back(objects.doors);
         return Status::OutOfMemory;
     };
-    let (end, doors) = serve_store(
-        rt,
-        alloc,
-        shared,
-        owner,
-        gate,
-        doors,
-        objects.script,
-        objects.out,
-    );
-    doors.back(objects.doors);
-    Status::after(end)
+    answer_lines(rt, alloc, settings, shared, owner, objects, gate)
 }

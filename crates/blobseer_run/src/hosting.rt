@@ -1,7 +1,9 @@
 // Connections are served over a new store.
-ghost use Rattle.std.specs.Prelude.{◌≡◌, ◌↔◌};
+ghost use Rattle.std.specs.Prelude.{◌≡◌, ◌↔◌, ◌*◌};
 ghost use Rattle.faults.specs.Counts.{RoseBy};
 ghost use Rattle.blobseer_run.specs.Outside.{NoneFell};
+ghost use Rattle.blobseer_run.specs.Store.{IsNewStore};
+ghost use Rattle.blobseer_run.specs.Lending.{CameBack, Lends};
 ghost use Rattle.blobseer_run.specs.Hosting.{served_line, status_of, DidServe};
 ghost use Rattle.blobseer_run.specs.Writing.{ToldLine};
 ghost use Rattle.blobseer_run.specs.Status.{code_of};
@@ -11,6 +13,7 @@ use crate::status::Status;
 use crate::store::new_store;
 use crate::writing::tell;
 use blob_server::{ServeFault, serve};
+use client_session::{Owner, Shared};
 use page_fan::BesideDoor;
 use page_store::DoorMaker;
 use ports::gate::Gate;
@@ -43,9 +46,9 @@ fn status_of(fault: ServeFault) -> Status
     }
 }
 
-/// The command `serve`: serves the connections of the listener over a new store of these settings, and writes how many they were.
-/// The store is closed before that, and the doors are with their maker again.
-pub(crate) fn serve_peers<
+// Serves the connections of the listener over that store, and writes how many they were. The store is closed before that, and the
+// doors are with their maker again.
+fn serve_store<
     'a,
     R: Wait + Threads + Sync,
     S: Source,
@@ -57,22 +60,24 @@ pub(crate) fn serve_peers<
     rt: &R,
     alloc: Global,
     settings: &Settings,
+    shared: Shared,
+    owner: Owner,
     objects: &mut Objects<'a, S, K, L, M>,
     gate: &G,
 ) -> Status
 where
     L::Peer: Drop + Send,
     M::Door: BesideDoor + Drop + Send,
+    requires store { IsNewStore settings.now settings.now.limits shared owner }
     requires true_doors { M.is_true objects.old.doors.now }
-    ensures did { DidServe settings.now.connections (⟦<Objects<'a, S, K, L, M> as Standing>⟧.stands objects.old)
+    ensures did { DidServe settings.now.listen settings.now.connections (⟦<Objects<'a, S, K, L, M> as Standing>⟧.stands objects.old)
         (⟦<Objects<'a, S, K, L, M> as Standing>⟧.stands objects.new) (code_of result) }
+    ensures lent { Lends (settings.now.workers * settings.now.providers) (CameBack M.hands_out M.takes_back objects.old.doors.now objects.new.doors.now) (code_of result) }
     ensures none_fell { NoneFell (⟦<Objects<'a, S, K, L, M> as Standing>⟧.stands objects.old) (⟦<Objects<'a, S, K, L, M> as Standing>⟧.stands objects.new) }
     ensures truth_stays { M.is_true objects.old.doors.now ↔ M.is_true objects.new.doors.now }
     ensures names { ⟦<Objects<'a, S, K, L, M> as Standing>⟧.names objects.new ≡ ⟦<Objects<'a, S, K, L, M> as Standing>⟧.names objects.old }
 {
-    let Ok((shared, mut owner)) = new_store(alloc, settings, settings.limits) else {
-        return Status::OutOfMemory;
-    };
+    let mut owner = owner;
     if !objects.net.listen(settings.listen.as_str()) {
         return Status::ListenerFault;
     }
@@ -97,4 +102,37 @@ where
         Ok(peers) => tell_served(alloc, peers, objects.out),
         Err(fault) => status_of(fault),
     }
+}
+
+/// The command `serve`: serves the connections of the listener over a new store of these settings, and writes how many they were.
+pub(crate) fn serve_peers<
+    'a,
+    R: Wait + Threads + Sync,
+    S: Source,
+    K: Sink,
+    L: Listener,
+    M: DoorMaker,
+    G: Gate + Sync,
+>(
+    rt: &R,
+    alloc: Global,
+    settings: &Settings,
+    objects: &mut Objects<'a, S, K, L, M>,
+    gate: &G,
+) -> Status
+where
+    L::Peer: Drop + Send,
+    M::Door: BesideDoor + Drop + Send,
+    requires true_doors { M.is_true objects.old.doors.now }
+    ensures did { DidServe settings.now.listen settings.now.connections (⟦<Objects<'a, S, K, L, M> as Standing>⟧.stands objects.old)
+        (⟦<Objects<'a, S, K, L, M> as Standing>⟧.stands objects.new) (code_of result) }
+    ensures lent { Lends (settings.now.workers * settings.now.providers) (CameBack M.hands_out M.takes_back objects.old.doors.now objects.new.doors.now) (code_of result) }
+    ensures none_fell { NoneFell (⟦<Objects<'a, S, K, L, M> as Standing>⟧.stands objects.old) (⟦<Objects<'a, S, K, L, M> as Standing>⟧.stands objects.new) }
+    ensures truth_stays { M.is_true objects.old.doors.now ↔ M.is_true objects.new.doors.now }
+    ensures names { ⟦<Objects<'a, S, K, L, M> as Standing>⟧.names objects.new ≡ ⟦<Objects<'a, S, K, L, M> as Standing>⟧.names objects.old }
+{
+    let Ok((shared, owner)) = new_store(alloc, settings, settings.limits) else {
+        return Status::OutOfMemory;
+    };
+    serve_store(rt, alloc, settings, shared, owner, objects, gate)
 }

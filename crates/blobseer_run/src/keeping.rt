@@ -1,6 +1,7 @@
 // Frames are answered by a new page node.
 ghost use Rattle.std.specs.Prelude.{◌≡◌, ◌↔◌};
 ghost use Rattle.blobseer_run.specs.Outside.{NoneFell};
+ghost use Rattle.blobseer_run.specs.Lending.{CameBack};
 ghost use Rattle.blobseer_run.specs.Node.{DidNode};
 ghost use Rattle.blobseer_run.specs.Status.{code_of};
 
@@ -29,6 +30,7 @@ pub(crate) fn keep_pages<
 >(rt: &R, alloc: Global, settings: &Settings, objects: &mut Objects<'a, S, K, L, M>) -> Status
     ensures did { DidNode settings.now.page (⟦<Objects<'a, S, K, L, M> as Standing>⟧.stands objects.old)
         (⟦<Objects<'a, S, K, L, M> as Standing>⟧.stands objects.new) (code_of result) }
+    ensures lent { CameBack M.hands_out M.takes_back objects.old.doors.now objects.new.doors.now 0 }
     ensures none_fell { NoneFell (⟦<Objects<'a, S, K, L, M> as Standing>⟧.stands objects.old) (⟦<Objects<'a, S, K, L, M> as Standing>⟧.stands objects.new) }
     ensures truth_stays { M.is_true objects.old.doors.now ↔ M.is_true objects.new.doors.now }
     ensures names { ⟦<Objects<'a, S, K, L, M> as Standing>⟧.names objects.new ≡ ⟦<Objects<'a, S, K, L, M> as Standing>⟧.names objects.old }

@@ -7,8 +7,8 @@ use blob_model::laws::old_versions_stay;
 use page_store::{Door, PlainDoor};
 use request_form::laws::transcripts_hold;
 
-/// The history of a transcript alone is legal, and each list of items has such a transcript, in which the outside failed
-/// for no request.
+/// The history of a transcript alone is legal, and each list of items has such a transcript, in which no reply to a request tells
+/// that memory was wanting, and the outside failed for no request.
 pub fn transcripts_are_legal()
     ensures legal { LegalAlone }
     ensures always { AlwaysSays }

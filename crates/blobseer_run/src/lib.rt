@@ -14,6 +14,7 @@ mod hosting;
 mod keeping;
 pub mod laws;
 mod loading;
+mod measuring;
 mod objects;
 mod program;
 mod serving;

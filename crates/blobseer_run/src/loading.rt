@@ -1,14 +1,19 @@
 // A load is run over a new store.
-ghost use Rattle.std.specs.Prelude.{◌≡◌, ◌↔◌};
+ghost use Rattle.std.specs.Prelude.{◌≡◌, ◌↔◌, ◌+◌, ◌*◌};
+ghost use Rattle.blob_model.specs.Limits.{greatest};
 ghost use Rattle.blobseer_run.specs.Outside.{NoneFell};
-ghost use Rattle.blobseer_run.specs.Loading.{plan_of, status_of, DidLoad};
+ghost use Rattle.blobseer_run.specs.Store.{IsNewStore};
+ghost use Rattle.blobseer_run.specs.Lending.{CameBack, Lends};
+ghost use Rattle.blobseer_run.specs.Loading.{plan_of, DidLoad};
 ghost use Rattle.blobseer_run.specs.Status.{code_of};
 
+use crate::measuring::status_of;
 use crate::objects::{Objects, Standing};
 use crate::status::Status;
 use crate::store::new_store;
 use crate::writing::tell_lines;
 use blob_model::Limits;
+use client_session::{Owner, Shared};
 use page_fan::BesideDoor;
 use page_store::DoorMaker;
 use ports::gate::Gate;
@@ -20,20 +25,54 @@ use std::mem;
 use std::sync::Wait;
 use std::thread::Threads;
 use workload_law::{LoadPlan, lines};
-use workload_run::{LoadFault, load};
+use workload_run::load;
 
-// How a load ends that was ended early.
-fn status_of(fault: LoadFault) -> Status
-    ensures { result ≡ status_of fault }
+// Runs the load of these settings over that store, and writes what it came to. The store is closed before that, and the doors are
+// with their maker again.
+fn load_store<
+    'a,
+    R: Wait + Threads + Sync,
+    S: Source,
+    K: Sink,
+    L: Listener,
+    M: DoorMaker,
+    G: Gate + Sync,
+>(
+    rt: &R,
+    alloc: Global,
+    settings: &Settings,
+    shared: Shared,
+    owner: Owner,
+    objects: &mut Objects<'a, S, K, L, M>,
+    gate: &G,
+) -> Status
+where
+    M::Door: BesideDoor + Drop + Send,
+    requires store { IsNewStore settings.now greatest shared owner }
+    requires true_doors { M.is_true objects.old.doors.now }
+    ensures did { DidLoad (plan_of settings.now) (⟦<Objects<'a, S, K, L, M> as Standing>⟧.stands objects.old)
+        (⟦<Objects<'a, S, K, L, M> as Standing>⟧.stands objects.new) (code_of result) }
+    ensures lent { Lends ((settings.now.workers + 2) * settings.now.providers) (CameBack M.hands_out M.takes_back objects.old.doors.now objects.new.doors.now) (code_of result) }
+    ensures none_fell { NoneFell (⟦<Objects<'a, S, K, L, M> as Standing>⟧.stands objects.old) (⟦<Objects<'a, S, K, L, M> as Standing>⟧.stands objects.new) }
+    ensures truth_stays { M.is_true objects.old.doors.now ↔ M.is_true objects.new.doors.now }
+    ensures names { ⟦<Objects<'a, S, K, L, M> as Standing>⟧.names objects.new ≡ ⟦<Objects<'a, S, K, L, M> as Standing>⟧.names objects.old }
 {
-    match fault {
-        LoadFault::Refused(_) => Status::LoadEndedEarly,
-        LoadFault::NoMemory => Status::OutOfMemory,
+    let plan = LoadPlan {
+        seed: settings.seed,
+        workers: settings.workers,
+        ops: settings.ops,
+    };
+    match load(rt, alloc, shared, owner, objects.doors, gate, plan) {
+        Ok((summary, desk)) => {
+            // The process ends, and gives the memory of all pages and nodes back at once.
+            mem::forget(desk);
+            tell_lines(lines(alloc, &plan, &summary), objects.out)
+        }
+        Err(fault) => status_of(fault),
     }
 }
 
 /// The command `load`: runs the load of these settings over a new store with the greatest limits, and writes what it came to.
-/// The store is closed before that, and the doors are with their maker again.
 pub(crate) fn run_load<
     'a,
     R: Wait + Threads + Sync,
@@ -54,6 +93,7 @@ where
     requires true_doors { M.is_true objects.old.doors.now }
     ensures did { DidLoad (plan_of settings.now) (⟦<Objects<'a, S, K, L, M> as Standing>⟧.stands objects.old)
         (⟦<Objects<'a, S, K, L, M> as Standing>⟧.stands objects.new) (code_of result) }
+    ensures lent { Lends ((settings.now.workers + 2) * settings.now.providers) (CameBack M.hands_out M.takes_back objects.old.doors.now objects.new.doors.now) (code_of result) }
     ensures none_fell { NoneFell (⟦<Objects<'a, S, K, L, M> as Standing>⟧.stands objects.old) (⟦<Objects<'a, S, K, L, M> as Standing>⟧.stands objects.new) }
     ensures truth_stays { M.is_true objects.old.doors.now ↔ M.is_true objects.new.doors.now }
     ensures names { ⟦<Objects<'a, S, K, L, M> as Standing>⟧.names objects.new ≡ ⟦<Objects<'a, S, K, L, M> as Standing>⟧.names objects.old }
@@ -61,17 +101,5 @@ where
     let Ok((shared, owner)) = new_store(alloc, settings, Limits::greatest()) else {
         return Status::OutOfMemory;
     };
-    let plan = LoadPlan {
-        seed: settings.seed,
-        workers: settings.workers,
-        ops: settings.ops,
-    };
-    match load(rt, alloc, shared, owner, objects.doors, gate, plan) {
-        Ok((summary, desk)) => {
-            // The process ends, and gives the memory of all pages and nodes back at once.
-            mem::forget(desk);
-            tell_lines(lines(alloc, &plan, &summary), objects.out)
-        }
-        Err(fault) => status_of(fault),
-    }
+    load_store(rt, alloc, settings, shared, owner, objects, gate)
 }

@@ -62,6 +62,7 @@ impl<'a, S: Source, K: Sink, L: Listener, M: DoorMaker> Standing for Objects<'a,
       writes = K.write_faults o.out.now;
       net = record {
         listens = L.listens o.net.now;
+        address = L.listens_at o.net.now;
         handing = record { handed = L.handed o.net.now; is_done = L.is_done o.net.now; faults = L.faults o.net.now };
       };
       doors = M.faults o.doors.now;

@@ -2,8 +2,10 @@ ghost use Rattle.std.specs.Prelude.{◌≡◌, ◌↔◌, ℕ, ◌-◌, ◌^◌,
 ghost use Rattle.std.specs.String.{string_bytes};
 ghost use Rattle.faults.specs.Counts.{RoseBy};
 ghost use Rattle.blobseer_run.specs.Outside.{outside, NoneFell};
+ghost use Rattle.blobseer_run.specs.Lending.{CameBack, LendsBy};
 ghost use Rattle.blobseer_run.specs.Script.{IsCalm};
 ghost use Rattle.blobseer_run.specs.Run.{Did, Ran, RefusesWords, RefusesSettings, IsTaken, IsComplete};
+ghost use Rattle.blobseer_run.specs.Told.{NamesFile};
 ghost use Rattle.blobseer_run.specs.Status.{code_of, Tells};
 
 use crate::filing::answer_files;
@@ -49,6 +51,7 @@ where
     requires true_doors { M.is_true objects.old.doors.now }
     ensures did { Did command settings.now (IsCalm M.Door.faults) (⟦<Objects<'a, S, K, L, M> as Standing>⟧.stands objects.old)
         (⟦<Objects<'a, S, K, L, M> as Standing>⟧.stands objects.new) (code_of result) }
+    ensures lent { LendsBy command settings.now (CameBack M.hands_out M.takes_back objects.old.doors.now objects.new.doors.now) (code_of result) }
     ensures none_fell { NoneFell (⟦<Objects<'a, S, K, L, M> as Standing>⟧.stands objects.old) (⟦<Objects<'a, S, K, L, M> as Standing>⟧.stands objects.new) }
     ensures truth_stays { M.is_true objects.old.doors.now ↔ M.is_true objects.new.doors.now }
     ensures names { ⟦<Objects<'a, S, K, L, M> as Standing>⟧.names objects.new ≡ ⟦<Objects<'a, S, K, L, M> as Standing>⟧.names objects.old }
@@ -117,15 +120,16 @@ where
     // The doors give back the bytes that were put.
     requires true_doors { M.is_true doors.old }
 
-    // What it was told, what it took and wrote, and how it ended.
-    ensures ran { Ran (map string_bytes words.now) (F.known files.old) (IsCalm M.Door.faults) (F.faults files.old) (F.faults files.new)
+    // What it was told, what it took and wrote, and how it ended. Each door that was made in it came back before it answered.
+    ensures ran { Ran (map string_bytes words.now) (F.known files.old) (IsCalm M.Door.faults) (CameBack M.hands_out M.takes_back doors.old doors.new)
+        (F.faults files.old) (F.faults files.new)
         (outside (record { given = S.given script.old; left = S.left script.old; reads = S.read_faults script.old; ends = S.ends script.old })
         (record { written = K.written out.old; writes = K.write_faults out.old })
-        (record { listens = L.listens net.old; handing = record { handed = L.handed net.old; is_done = L.is_done net.old; faults = L.faults net.old } })
+        (record { listens = L.listens net.old; address = L.listens_at net.old; handing = record { handed = L.handed net.old; is_done = L.is_done net.old; faults = L.faults net.old } })
         (M.faults doors.old))
         (outside (record { given = S.given script.new; left = S.left script.new; reads = S.read_faults script.new; ends = S.ends script.new })
         (record { written = K.written out.new; writes = K.write_faults out.new })
-        (record { listens = L.listens net.new; handing = record { handed = L.handed net.new; is_done = L.is_done net.new; faults = L.faults net.new } })
+        (record { listens = L.listens net.new; address = L.listens_at net.new; handing = record { handed = L.handed net.new; is_done = L.is_done net.new; faults = L.faults net.new } })
         (M.faults doors.new)) result }
 
     // When words and settings are refused.
@@ -152,8 +156,11 @@ where
     ensures file_faults { RoseBy 0 (F.faults files.old) (F.faults files.new) }
     ensures door_faults { M.faults doors.new < 2 ^ 64 - 1 → M.faults doors.old ≤ M.faults doors.new }
 
-    // Its doors stay true, and its files stay as they are.
+    // Its doors stay true.
     ensures truth_stays { M.is_true doors.old ↔ M.is_true doors.new }
+
+    // Its files stay as they are, and aren't touched where the words name no settings file.
+    ensures files_untouched { (¬ NamesFile (map string_bytes words.now)) → files.new ≡ files.old }
     ensures files_stay { (name : List ℕ) → F.known files.new name ≡ F.known files.old name }
 {
     match told(alloc, words, files) {

@@ -6,6 +6,8 @@ ghost use Rattle.client_session.specs.Sessions.{IsPassOf, IsOwnerOf, session_at}
 ghost use Rattle.version_manager.specs.Log.{events};
 ghost use Rattle.server_core.specs.Served.{end_read_faults, end_write_faults};
 ghost use Rattle.blobseer_run.specs.Outside.{NoneFell};
+ghost use Rattle.blobseer_run.specs.Store.{IsNewStore};
+ghost use Rattle.blobseer_run.specs.Lending.{CameBack, Lends};
 ghost use Rattle.blobseer_run.specs.Script.{DidRun, fixed_of, IsCalm};
 ghost use Rattle.blobseer_run.specs.Serving.{ServedLines, ServedByOne};
 ghost use Rattle.blobseer_run.specs.Status.{code_of};
@@ -49,6 +51,7 @@ fn serve_session<R: Wait + Threads + Sync, I: Source + Sink, D: BesideDoor, G: G
         (record { given = I.given io.new; left = I.left io.new; ends = I.ends io.new })
         (events result.1.seen) (sum_by D.faults result.2) (I.written io.new) result.0 }
     ensures pass { IsPassOf shared.now result.1 }
+    ensures doors { length result.2 ≡ shared.now.providers }
     ensures read_faults { RoseBy (end_read_faults result.0) (I.read_faults io.old) (I.read_faults io.new) }
     ensures write_faults { RoseBy (end_write_faults result.0) (I.write_faults io.old) (I.write_faults io.new) }
     ensures objects { I.objects io.new ≡ I.objects io.old }
@@ -85,6 +88,7 @@ fn serve_store<R: Wait + Threads + Sync, I: Source + Sink, D: BesideDoor, G: Gat
         (record { given = I.given io.old; left = I.left io.old; ends = I.ends io.old })
         (record { given = I.given io.new; left = I.left io.new; ends = I.ends io.new })
         (sum_by D.faults doors) (sum_by D.faults result.1) (I.written io.old) (I.written io.new) result.0 }
+    ensures doors { length result.1 ≡ shared.providers }
     ensures read_faults { RoseBy (end_read_faults result.0) (I.read_faults io.old) (I.read_faults io.new) }
     ensures write_faults { RoseBy (end_write_faults result.0) (I.write_faults io.old) (I.write_faults io.new) }
     ensures objects { I.objects io.new ≡ I.objects io.old }
@@ -105,8 +109,52 @@ fn serve_store<R: Wait + Threads + Sync, I: Source + Sink, D: BesideDoor, G: Gat
     (end, doors)
 }
 
-/// The command `run`: answers the lines of a script by the one session of a new store of these settings. The session's doors are
-/// the maker's, and go back to it; its pass goes back to the store, which is closed.
+// Answers the lines of a script by the one session of that store. The session's doors are the maker's, and go back to it; its pass
+// goes back to the store, which is closed.
+fn answer_script<
+    'a,
+    R: Wait + Threads + Sync,
+    S: Source,
+    K: Sink,
+    L: Listener,
+    M: DoorMaker,
+    G: Gate,
+>(
+    rt: &R,
+    alloc: Global,
+    settings: &Settings,
+    shared: Shared,
+    owner: Owner,
+    objects: &mut Objects<'a, S, K, L, M>,
+    gate: &G,
+) -> Status
+where
+    M::Door: BesideDoor,
+    requires store { IsNewStore settings.now settings.now.limits shared owner }
+    requires true_doors { M.is_true objects.old.doors.now }
+    ensures did { DidRun (fixed_of settings.now) (IsCalm M.Door.faults) (⟦<Objects<'a, S, K, L, M> as Standing>⟧.stands objects.old)
+        (⟦<Objects<'a, S, K, L, M> as Standing>⟧.stands objects.new) (code_of result) }
+    ensures lent { Lends settings.now.providers (CameBack M.hands_out M.takes_back objects.old.doors.now objects.new.doors.now) (code_of result) }
+    ensures none_fell { NoneFell (⟦<Objects<'a, S, K, L, M> as Standing>⟧.stands objects.old) (⟦<Objects<'a, S, K, L, M> as Standing>⟧.stands objects.new) }
+    ensures truth_stays { M.is_true objects.old.doors.now ↔ M.is_true objects.new.doors.now }
+    ensures names { ⟦<Objects<'a, S, K, L, M> as Standing>⟧.names objects.new ≡ ⟦<Objects<'a, S, K, L, M> as Standing>⟧.names objects.old }
+{
+    // Laws that tell what was written, by the stream's end.
+    transcripts_are_legal();
+    endings_hold();
+    let Ok(doors) = Doors::new(alloc, objects.doors, settings.providers) else {
+        return Status::OutOfMemory;
+    };
+    let mut io = Pair {
+        source: objects.script,
+        sink: objects.out,
+    };
+    let (end, doors) = serve_store(rt, alloc, shared, owner, gate, doors, &mut io);
+    doors.back(objects.doors);
+    Status::after(end)
+}
+
+/// The command `run`: answers the lines of a script by the one session of a new store of these settings.
 pub(crate) fn serve_script<
     'a,
     R: Wait + Threads + Sync,
@@ -127,25 +175,13 @@ where
     requires true_doors { M.is_true objects.old.doors.now }
     ensures did { DidRun (fixed_of settings.now) (IsCalm M.Door.faults) (⟦<Objects<'a, S, K, L, M> as Standing>⟧.stands objects.old)
         (⟦<Objects<'a, S, K, L, M> as Standing>⟧.stands objects.new) (code_of result) }
+    ensures lent { Lends settings.now.providers (CameBack M.hands_out M.takes_back objects.old.doors.now objects.new.doors.now) (code_of result) }
     ensures none_fell { NoneFell (⟦<Objects<'a, S, K, L, M> as Standing>⟧.stands objects.old) (⟦<Objects<'a, S, K, L, M> as Standing>⟧.stands objects.new) }
     ensures truth_stays { M.is_true objects.old.doors.now ↔ M.is_true objects.new.doors.now }
     ensures names { ⟦<Objects<'a, S, K, L, M> as Standing>⟧.names objects.new ≡ ⟦<Objects<'a, S, K, L, M> as Standing>⟧.names objects.old }
 {
-    // Laws that tell what was written, by the stream's end.
-    transcripts_are_legal();
-    endings_hold();
-    let Ok(doors) = Doors::new(alloc, objects.doors, settings.providers) else {
-        return Status::OutOfMemory;
-    };
     let Ok((shared, owner)) = new_store(alloc, settings, settings.limits) else {
-        doors.back(objects.doors);
         return Status::OutOfMemory;
     };
-    let mut io = Pair {
-        source: objects.script,
-        sink: objects.out,
-    };
-    let (end, doors) = serve_store(rt, alloc, shared, owner, gate, doors, &mut io);
-    doors.back(objects.doors);
-    Status::after(end)
+    answer_script(rt, alloc, settings, shared, owner, objects, gate)
 }

@@ -1,6 +1,6 @@
 // New stores, by settings.
-ghost use Rattle.std.specs.Prelude.{◌≡◌, IfOk, [], Some};
-ghost use Rattle.client_session.specs.Sessions.{IsOwnerOf};
+ghost use Rattle.std.specs.Prelude.{◌≡◌, IfOk};
+ghost use Rattle.blobseer_run.specs.Store.{IsNewStore};
 
 use blob_model::Limits;
 use client_session::{Owner, Shared};
@@ -19,17 +19,14 @@ pub(crate) fn page_size(settings: &Settings) -> PageSize
     }
 }
 
-/// A new store of these settings, but for its limits, which are told, and the owner of its passes.
+/// A new store of these settings, but for its limits, which are told, and the owner of its passes. Each command that works with a
+/// store makes it here.
 pub(crate) fn new_store(
     alloc: Global,
     settings: &Settings,
     limits: Limits,
 ) -> Result<(Shared, Owner), NoMemory>
-    ensures owner { IfOk result (λ r. IsOwnerOf r.0 r.1) }
-    ensures new { IfOk result (λ r. r.1 ≡ record { lock = r.0.lock; made = 0; out = 0; seen = []; fixed = Some r.0.fixed; kept = [] }) }
-    ensures limits { IfOk result (λ r. r.0.fixed.limits ≡ limits) }
-    ensures page_size { IfOk result (λ r. r.0.fixed.page_size ≡ settings.now.page) }
-    ensures providers { IfOk result (λ r. r.0.providers ≡ settings.now.providers) }
+    ensures { IfOk result (λ store. IsNewStore settings.now limits store.0 store.1) }
 {
     Shared::new(
         alloc,

@@ -1,7 +1,7 @@
 // What the program is told to do, by its words, the settings file and the defaults.
-ghost use Rattle.std.specs.Prelude.{◌≡◌, ℕ, List, Some, map, IfOk, IfErr, string_bytes};
+ghost use Rattle.std.specs.Prelude.{◌≡◌, ℕ, List, Some, None, map, IfOk, IfErr, string_bytes};
 ghost use Rattle.faults.specs.Counts.{RoseBy};
-ghost use Rattle.blobseer_run.specs.Told.{order_of_words, FileGives, Settled, Stopped};
+ghost use Rattle.blobseer_run.specs.Told.{order_of_words, NamesFile, FileGives, Settled, Stopped};
 ghost use Rattle.blobseer_run.specs.Telling.{FileStops, WordsStop};
 ghost use Rattle.blobseer_run.specs.Status.{code_of};
 
@@ -26,6 +26,7 @@ fn order_of(alloc: Global, words: &[String]) -> Result<(Command, Given), Status>
 fn file_given<F: Files>(alloc: Global, files: &mut F, name: &Option<Text>) -> Result<Given, Status>
     ensures gives { IfOk result (λ given. FileGives (F.known files.old) name.now given) }
     ensures stopped { IfErr result (λ status. FileStops (F.known files.old) name.now (F.faults files.old) (F.faults files.new) status) }
+    ensures untouched { name.now ≡ None → files.new ≡ files.old }
     ensures faults { RoseBy 0 (F.faults files.old) (F.faults files.new) }
     ensures files { (other : List ℕ) → F.known files.new other ≡ F.known files.old other }
 {
@@ -46,7 +47,7 @@ fn file_given<F: Files>(alloc: Global, files: &mut F, name: &Option<Text>) -> Re
 }
 
 /// The command that the words ask for, and the settings that they, the file that they name and the defaults come to. The file
-/// is read only where the words are taken.
+/// is read only where the words are taken, and no file is where they name none.
 pub(crate) fn told<F: Files>(
     alloc: Global,
     words: &[String],
@@ -54,6 +55,7 @@ pub(crate) fn told<F: Files>(
 ) -> Result<(Command, Settings), Status>
     ensures settled { IfOk result (λ told. Settled (map string_bytes words.now) (F.known files.old) told.0 told.1) }
     ensures stopped { IfErr result (λ status. Stopped (map string_bytes words.now) (F.known files.old) (F.faults files.old) (F.faults files.new) (code_of status)) }
+    ensures untouched { (¬ NamesFile (map string_bytes words.now)) → files.new ≡ files.old }
     ensures faults { RoseBy 0 (F.faults files.old) (F.faults files.new) }
     ensures files { (other : List ℕ) → F.known files.new other ≡ F.known files.old other }
 {

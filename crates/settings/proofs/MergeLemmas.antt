@@ -6,7 +6,7 @@ use Rattle.std.proofs.lemmas.Bool.{and_parts, eqb-true}
 use Rattle.blob_model.specs.Limits.{Bounds, IsWithin}
 use Rattle.settings.specs.declared.table.Key.{Key}
 use Rattle.settings.specs.declared.table.Key.TheVariants.{Page, Providers, Replicas, MaxSize, MaxVersions, MaxOpen, MaxBlobs, Workers, Connections, Seed, Ops, Readers}
-use Rattle.settings.specs.declared.table.Range.{Range}
+use Rattle.settings.specs.declared.table.NumberRange.{NumberRange}
 use Rattle.settings.specs.Table.{range_of, fits}
 use Rattle.settings.specs.Values.{IsOf, SettingsValues, IsSettled}
 use Rattle.settings.specs.Merged.{chosen}
@@ -42,12 +42,12 @@ or_else (Some n) file default = refl
 or_else None file default = refl
 
 -- what the calls of std choose is what is chosen
-pub chosen_is_fit : (key : Key) (words file either : Option ℕ) (range : Range) (n : ℕ) → IsOf key words → IsOf key file → either ≡ option_or words file
+pub chosen_is_fit : (key : Key) (words file either : Option ℕ) (range : NumberRange) (n : ℕ) → IsOf key words → IsOf key file → either ≡ option_or words file
     → range ≡ range_of key → n ≡ unwrap_or either range.default → fits (range_of key) n ≡ true
 chosen_is_fit key words file either range n w f first is e =
     let same : n ≡ chosen key words file =
     e ∙ ap (λ (o : Option ℕ). unwrap_or o range.default) first ∙ or_else words file range.default
-    ∙ ap (λ (g : Range). unwrap_or words (unwrap_or file g.default)) is in
+    ∙ ap (λ (g : NumberRange). unwrap_or words (unwrap_or file g.default)) is in
     subst (λ (m : ℕ). fits (range_of key) m ≡ true) (sym same) (chosen_fits key words file w f)
 
 within : (b : Bounds) → fits (range_of MaxSize) b.max_size ≡ true → fits (range_of MaxVersions) b.max_versions ≡ true → fits (range_of MaxOpen) b.max_open ≡ true

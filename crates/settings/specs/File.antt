@@ -3,17 +3,17 @@ use Rattle.std.specs.Prelude.{◌≡◌, ℕ, ℤ, pos, List, Option, Some, None
 use Rattle.std.specs.Str.{IsUtf8}
 use Rattle.toml.specs.Data.{Data, integer, Members, no_members, member}
 use Rattle.toml.specs.Parse.{parse_document}
-use Rattle.settings.specs.declared.table.Range.{Range}
+use Rattle.settings.specs.declared.table.NumberRange.{NumberRange}
 use Rattle.settings.specs.Table.{key_named, range_of, fits_in_file}
 use Rattle.settings.specs.Values.{GivenValues, nothing, with_number}
 
 -- an integer of the range
-abbrev pub number_in : Range → ℤ → Option ℕ
+abbrev pub number_in : NumberRange → ℤ → Option ℕ
 number_in range (pos n) = if fits_in_file range n then Some n else None
 number_in range _ = None
 
 -- a value that is one
-abbrev pub number_by : Range → Data → Option ℕ
+abbrev pub number_by : NumberRange → Data → Option ℕ
 number_by range (integer z) = number_in range z
 number_by range _ = None
 

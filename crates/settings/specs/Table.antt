@@ -8,7 +8,7 @@ use Rattle.settings.specs.declared.table.Key.{Key}
 use Rattle.settings.specs.declared.table.Key.TheVariants.{Page, Providers, Replicas, MaxSize, MaxVersions, MaxOpen, MaxBlobs, Workers, Connections, Seed, Ops, Readers}
 use Rattle.settings.specs.declared.table.Choice.{Choice}
 use Rattle.settings.specs.declared.table.Choice.TheVariants.{Number, Settings, Listen}
-use Rattle.settings.specs.declared.table.Range.{Range}
+use Rattle.settings.specs.declared.table.NumberRange.{NumberRange}
 
 -- ---- commands and their options
 
@@ -67,10 +67,10 @@ abbrev pub key_named : List ℕ → Option Key
 key_named name = find (λ k. is_in_file k && bytes_eq (key_name k) name) keys
 
 -- each number from the least to the most, in a file too
-abbrev pub plain : ℕ → ℕ → ℕ → Range
+abbrev pub plain : ℕ → ℕ → ℕ → NumberRange
 plain least most default = record { least = least; most = most; most_in_file = most; is_power = false; default = default }
 
-abbrev pub range_of : Key → Range
+abbrev pub range_of : Key → NumberRange
 range_of Page = record { least = 4; most = 1048576; most_in_file = 1048576; is_power = true; default = 4096 }
 range_of Providers = plain 1 64 4
 range_of Replicas = plain 1 8 2
@@ -85,11 +85,11 @@ range_of Ops = plain 1 4096 100
 range_of Readers = plain 1 16 2
 
 -- the number is of the range
-abbrev pub fits : Range → ℕ → Bool
+abbrev pub fits : NumberRange → ℕ → Bool
 fits range n = nat_le range.least n && nat_le n range.most && (not range.is_power || is_power_of_two n)
 
 -- and of that of a settings file
-abbrev pub fits_in_file : Range → ℕ → Bool
+abbrev pub fits_in_file : NumberRange → ℕ → Bool
 fits_in_file range n = fits range n && nat_le n range.most_in_file
 
 -- ---- the names of options

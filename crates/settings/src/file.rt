@@ -6,7 +6,7 @@ ghost use Rattle.settings.specs.Table.{fits};
 ghost use Rattle.settings.specs.Values.{GivenValues, nothing};
 ghost use Rattle.settings.specs.File.{number_by, with_key, with_keys, Gives};
 
-use crate::table::{Key, Range};
+use crate::table::{Key, NumberRange};
 use crate::values::Given;
 use std::alloc::Global;
 use thiserror::Error;
@@ -27,7 +27,7 @@ pub enum TextFault {
 }
 
 // The integer of the range that a value is.
-fn number_of_value(value: &Value, range: &Range) -> Option<u64>
+fn number_of_value(value: &Value, range: &NumberRange) -> Option<u64>
     ensures number { result ≡ number_by range.now (view value.now) }
     ensures fits { ForSome result (λ n. IsTrue (fits range.now n)) }
 {
@@ -45,7 +45,7 @@ fn with(given: Given, name: &str, value: &Value) -> Option<Given>
     ensures { result ≡ with_key name.now (view value.now) given }
 {
     let key = Key::named(name)?;
-    let number = number_of_value(value, &key.row().range)?;
+    let number = number_of_value(value, &key.setting().range)?;
     Some(given.with(key, Some(number)))
 }
 

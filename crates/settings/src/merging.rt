@@ -22,7 +22,7 @@ fn chosen_wide(key: Key, words: Option<u64>, file: Option<u64>) -> u64
     ensures is { result ≡ chosen key words file }
     ensures fits { IsTrue (fits (range_of key) result) }
 {
-    words.or(file).unwrap_or(key.row().range.default)
+    words.or(file).unwrap_or(key.setting().range.default)
 }
 
 // The same of a number of 32 bits.
@@ -33,7 +33,7 @@ fn chosen_narrow(key: Key, words: Option<u32>, file: Option<u32>) -> u32
     ensures is { result ≡ chosen key words file }
     ensures fits { IsTrue (fits (range_of key) result) }
 {
-    words.or(file).unwrap_or(key.row().range.default as u32)
+    words.or(file).unwrap_or(key.setting().range.default as u32)
 }
 
 fn text_chosen(words: Option<Text>, file: Option<Text>) -> Text

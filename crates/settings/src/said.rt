@@ -20,12 +20,12 @@ fn number_given(found: &ArgMatches, key: Key) -> Option<Option<u64>>
     ensures number { result ≡ reading.number_if (first_value (found_of found.now)) key }
     ensures fits { ForSome result (λ number. IsOf key number) }
 {
-    let row = key.row();
-    let Some(text) = found.get_str(row.name) else {
+    let setting = key.setting();
+    let Some(text) = found.get_str(setting.name) else {
         return Some(None);
     };
     let number = number(text)?;
-    if row.range.takes(number) {
+    if setting.range.takes(number) {
         Some(Some(number))
     } else {
         None

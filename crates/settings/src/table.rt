@@ -1,7 +1,7 @@
 // The commands, their options, and the numbers that options and keys of the settings file take.
 //
-// This is the only place in the code that names them. A new command is a variant of `Command` with its row of options; a
-// new number is a variant of `Key` with its row.
+// This is the only place in the code that names them. A new command is a variant of `Command` with its list of options; a
+// new number is a variant of `Key` with its setting.
 ghost use Rattle.std.specs.Prelude.{◌≡◌, map};
 ghost use Rattle.settings.specs.Table.{commands, keys, command_name, options_of, choice_name, is_needed, key_name, range_of, plain, fits, fits_in_file, command_named, key_named, is_in_file};
 
@@ -52,7 +52,7 @@ pub enum Choice {
 
 /// Which numbers a key takes.
 #[derive(Clone, Copy)]
-pub struct Range {
+pub struct NumberRange {
     pub least: u64,
     pub most: u64,
     /// The greatest number in a settings file, where it is below `most`.
@@ -65,9 +65,9 @@ pub struct Range {
 
 /// What a key is called, as an option after two hyphens, and which numbers it takes.
 #[derive(Clone, Copy)]
-pub struct Row {
+pub struct Setting {
     pub name: &'static str,
-    pub range: Range,
+    pub range: NumberRange,
 }
 
 static RUN: [Choice; 8] = [
@@ -188,7 +188,7 @@ impl Choice {
         ensures { result.now ≡ choice_name self }
     {
         match self {
-            Choice::Number(key) => key.row().name,
+            Choice::Number(key) => key.setting().name,
             Choice::Settings => "settings",
             Choice::Listen => "listen",
         }
@@ -205,7 +205,7 @@ impl Choice {
     }
 }
 
-impl Range {
+impl NumberRange {
     /// Whether the number is of the range.
     pub fn takes(&self, number: u64) -> bool
         ensures { result ≡ fits self.now number }
@@ -221,66 +221,66 @@ impl Range {
     }
 }
 
-// A row of a name and a range that is the same in a file, with no more to it.
-fn plain_row(name: &'static str, least: u64, most: u64, default: u64) -> Row
+// A setting of a name and a range that is the same in a file, with no more to it.
+fn plain_setting(name: &'static str, least: u64, most: u64, default: u64) -> Setting
     ensures name { result.name.now ≡ name.entry.now }
     ensures range { result.range ≡ plain least most default }
 {
-    let range = Range {
+    let range = NumberRange {
         least,
         most,
         most_in_file: most,
         is_power: false,
         default,
     };
-    Row { name, range }
+    Setting { name, range }
 }
 
-// The row of pages, which are powers of two.
-fn page_row() -> Row
+// The setting of pages, which are powers of two.
+fn page_setting() -> Setting
     ensures name { result.name.now ≡ key_name Key.Page }
     ensures range { result.range ≡ range_of Key.Page }
 {
-    let row = plain_row("page", 4, 1_048_576, 4096);
-    let range = Range {
+    let setting = plain_setting("page", 4, 1_048_576, 4096);
+    let range = NumberRange {
         is_power: true,
-        ..row.range
+        ..setting.range
     };
-    Row { range, ..row }
+    Setting { range, ..setting }
 }
 
-// The row of seeds: the numbers of a file end earlier.
-fn seed_row() -> Row
+// The setting of seeds: the numbers of a file end earlier.
+fn seed_setting() -> Setting
     ensures name { result.name.now ≡ key_name Key.Seed }
     ensures range { result.range ≡ range_of Key.Seed }
 {
-    let row = plain_row("seed", 0, 18_446_744_073_709_551_615, 1);
-    let range = Range {
+    let setting = plain_setting("seed", 0, 18_446_744_073_709_551_615, 1);
+    let range = NumberRange {
         most_in_file: 9_223_372_036_854_775_807,
-        ..row.range
+        ..setting.range
     };
-    Row { range, ..row }
+    Setting { range, ..setting }
 }
 
 impl Key {
     /// The key's name and range.
-    pub fn row(self) -> Row
+    pub fn setting(self) -> Setting
         ensures name { result.name.now ≡ key_name self }
         ensures range { result.range ≡ range_of self }
     {
         match self {
-            Key::Page => page_row(),
-            Key::Providers => plain_row("providers", 1, 64, 4),
-            Key::Replicas => plain_row("replicas", 1, 8, 2),
-            Key::MaxSize => plain_row("max-size", 1, 1_099_511_627_776, 1_099_511_627_776),
-            Key::MaxVersions => plain_row("max-versions", 1, 1_048_576, 1_048_576),
-            Key::MaxOpen => plain_row("max-open", 1, 64, 64),
-            Key::MaxBlobs => plain_row("max-blobs", 1, 65_535, 65_535),
-            Key::Workers => plain_row("workers", 1, 16, 4),
-            Key::Connections => plain_row("connections", 1, 4_294_967_295, 4_294_967_295),
-            Key::Seed => seed_row(),
-            Key::Ops => plain_row("ops", 1, 4096, 100),
-            Key::Readers => plain_row("readers", 1, 16, 2),
+            Key::Page => page_setting(),
+            Key::Providers => plain_setting("providers", 1, 64, 4),
+            Key::Replicas => plain_setting("replicas", 1, 8, 2),
+            Key::MaxSize => plain_setting("max-size", 1, 1_099_511_627_776, 1_099_511_627_776),
+            Key::MaxVersions => plain_setting("max-versions", 1, 1_048_576, 1_048_576),
+            Key::MaxOpen => plain_setting("max-open", 1, 64, 64),
+            Key::MaxBlobs => plain_setting("max-blobs", 1, 65_535, 65_535),
+            Key::Workers => plain_setting("workers", 1, 16, 4),
+            Key::Connections => plain_setting("connections", 1, 4_294_967_295, 4_294_967_295),
+            Key::Seed => seed_setting(),
+            Key::Ops => plain_setting("ops", 1, 4096, 100),
+            Key::Readers => plain_setting("readers", 1, 16, 2),
         }
     }
 
@@ -297,6 +297,6 @@ impl Key {
     {
         KEYS.iter()
             .copied()
-            .find(|key| key.is_in_file() && key.row().name == name)
+            .find(|key| key.is_in_file() && key.setting().name == name)
     }
 }

@@ -22,18 +22,17 @@ use Rattle.version_manager.specs.Log.{tagged, events, desk_at}
 use Rattle.version_manager.specs.Laws.{EntriesAreEvents}
 use Rattle.version_manager.specs.declared.journal.DeskFixed.{DeskFixed}
 use Rattle.request_form.specs.Answers.{max_read}
-use Rattle.request_form.specs.Replies.{page_faults}
 use Rattle.request_form.specs.declared.form.Fault.{Fault}
 use Rattle.workload_law.specs.Ends.{IsOutside, UpdateHindered, CreateHindered, RefusedAt}
 use Rattle.workload_law.proofs.Closing.{nobodys_are_none}
 use Rattle.workload_law.proofs.OneCaller.{legal_front}
-use Rattle.workload_run.proofs.Returns.{none_by, events_append, no_front}
+use Rattle.update_work.proofs.Returns.{none_by, events_append, no_front}
 use Rattle.watch_law.specs.declared.plan.WatchPlan.{WatchPlan}
 use Rattle.watch_law.specs.declared.plan.WatchSummary.{WatchSummary}
 use Rattle.watch_law.specs.Watch.{IsSized, piece_of, HasWritten, HaveCome, IsUnderway, IsWatch, summary_of}
 use Rattle.watch_law.specs.Laws.{ComeTogether, WatchesAreDone, BlobsAreThere, NothingElseHinders, IsDone}
 use Rattle.watch_run.specs.Stages.{Entries, Owner, IsUnopened, IsWatched}
-use Rattle.watch_run.specs.Ending.{IsSeenLast, HasWrittenAll, EndsBy, WatchEnds, TellsWatch, watch_fault, EndsEarly}
+use Rattle.watch_run.specs.Ending.{IsSeenLast, HasWrittenAll, EndsBy, WatchEnds, TellsWatch}
 
 -- two summaries that tell the same
 same_summary : (a b : WatchSummary) → a.size ≡ b.size → a.versions ≡ b.versions → a.agree ≡ b.agree → a ≡ b
@@ -233,10 +232,3 @@ module _ (are : EntriesAreEvents) (plan : WatchPlan) (sized : IsSized plan) (f :
     closed (Ok summary) (first, (old, (new, (w, (all, (begins, (last, agree))))))) =
         same_summary summary (summary_of plan) (size_all together first w dones old new all begins summary.versions summary.size last)
         (versions together first w dones old new all begins summary.versions summary.size last) agree
-
--- why a watch ended early, by what the doors counted
-pub early_of : (fault : Fault) → IsOutside fault → (before after : ℕ) → (after < 2 ^ 64 - 1 → before + page_faults fault ≤ after) → EndsEarly (watch_fault fault) before after
-early_of fault (IsOutside.lost page is) before after rose =
-    subst (λ (x : Fault). EndsEarly (watch_fault x) before after) (sym is) (record { page = page; lost = refl; rose = λ less. omega (arith, rose less, ap page_faults is) })
-early_of fault (IsOutside.starved is) before after rose = subst (λ (x : Fault). EndsEarly (watch_fault x) before after) (sym is) tt
-early_of fault (IsOutside.held ticket is) before after rose = subst (λ (x : Fault). EndsEarly (watch_fault x) before after) (sym is) tt

@@ -38,7 +38,7 @@ use Rattle.read_board.specs.Refreshes.{updates_of}
 use Rattle.read_board.specs.Laws.{Agrees}
 use Rattle.workload_law.specs.Ends.{IsOutside}
 use Rattle.workload_law.proofs.ReadBack.{found}
-use Rattle.workload_run.proofs.Returns.{events_append}
+use Rattle.update_work.proofs.Returns.{events_append}
 use Rattle.watch_run.specs.Agreeing.{IsVersionIn, IsSeenBy}
 use Rattle.watch_run.specs.declared.last.Last.{Last}
 

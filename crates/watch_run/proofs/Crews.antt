@@ -7,9 +7,9 @@ use Rattle.request_form.specs.declared.form.Fault.{Fault}
 use Rattle.client_session.specs.Sessions.{StoreState, SessionState}
 use Rattle.read_board.specs.Fronts.{BoardId}
 use Rattle.workload_law.specs.Ends.{IsOutside}
-use Rattle.workload_run.specs.Updates.{told_faults}
+use Rattle.update_work.specs.Updates.{told_faults}
 use Rattle.watch_run.specs.Idling.{Idles}
-use Rattle.watch_run.specs.Writing.{Told}
+use Rattle.update_work.specs.Callers.{Told}
 use Rattle.watch_run.specs.Readers.{WatcherState, HasWatched, HaveWatched}
 use Rattle.watch_run.specs.Stages.{IsIdle}
 use Rattle.watch_run.specs.Crews.{IsEndable, IsReadyToWatch, IsDoneWatching}

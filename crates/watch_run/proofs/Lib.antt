@@ -6,6 +6,7 @@ pub mod ReadOn
 pub mod Lasts
 pub mod Compared
 pub mod Ends
+pub mod Doors
 pub mod Crews
 pub mod Finishing
 pub mod Works

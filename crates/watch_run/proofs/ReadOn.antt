@@ -4,7 +4,7 @@ use Rattle.std.specs.Prelude.{sum_by}
 use Rattle.faults.specs.Counts.{RoseBy}
 use Rattle.client_session.specs.Sessions.{SessionState}
 use Rattle.read_board.specs.Keeping.{StandingState}
-use Rattle.workload_run.proofs.Updates.{rose_both}
+use Rattle.update_work.proofs.Updates.{rose_both}
 use Rattle.watch_run.specs.Readers.{HasRead}
 use Rattle.watch_run.proofs.Idling.{idles_none, idles_both}
 

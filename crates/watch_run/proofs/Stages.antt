@@ -17,11 +17,10 @@ use Rattle.store_sessions.specs.Made.{IsNewSession}
 use Rattle.workload_law.specs.Ends.{CreateHindered}
 use Rattle.workload_law.specs.Closing.{OwnsStay, IdleOwnsAll}
 use Rattle.workload_law.specs.Sessions.{FinishesItsOwn}
-use Rattle.workload_run.specs.Opening.{HasDoneOwn, HasNotMade, MakingEnds}
-use Rattle.workload_run.specs.Stages.{CameBack}
-use Rattle.workload_run.specs.Work.{IsFresh}
-use Rattle.workload_run.proofs.Returns.{none_by, same_by, came_back, owns_back, tags_of_front, events_append}
-use Rattle.workload_run.proofs.Stores.{fresh_at, own_is}
+use Rattle.update_work.specs.Making.{HasDoneOwn, HasNotMade, MakingEnds}
+use Rattle.update_work.specs.Callers.{CameBack, IsFresh}
+use Rattle.update_work.proofs.Returns.{none_by, same_by, came_back, owns_back, tags_of_front, events_append}
+use Rattle.update_work.proofs.Fresh.{fresh_at, own_is}
 use Rattle.watch_law.specs.declared.plan.WatchPlan.{WatchPlan}
 use Rattle.watch_law.specs.Watch.{HasBegun}
 use Rattle.watch_run.specs.Stages.{Entries, Owner, IsOpened, IsCalled, IsUnopened, OpensAs, IsWatched, IsIdle, ComesBack, LeavesWatch}

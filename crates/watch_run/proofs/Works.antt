@@ -18,13 +18,13 @@ use Rattle.client_session.specs.Sessions.{StoreState, SessionState, session_of}
 use Rattle.workload_law.specs.Closing.{OwnsStay}
 use Rattle.workload_law.specs.Ends.{IsOutside, UpdateHindered}
 use Rattle.workload_law.specs.Sessions.{FinishesItsOwn}
-use Rattle.workload_run.specs.Updates.{told_faults}
+use Rattle.update_work.specs.Updates.{told_faults}
 use Rattle.watch_law.specs.declared.plan.WatchPlan.{WatchPlan}
 use Rattle.watch_law.specs.declared.plan.WatchSummary.{WatchSummary}
 use Rattle.watch_law.specs.Watch.{piece_of, HasWritten, HasBegun}
 use Rattle.watch_run.specs.Ending.{IsSeenLast, HasWrittenAll, EndsBy, HasFinished, FinishHindered, Finishes, WatchEnds}
 use Rattle.watch_run.specs.Keeping.{RefreshHindered}
-use Rattle.watch_run.specs.Writing.{Told}
+use Rattle.update_work.specs.Callers.{Told}
 use Rattle.watch_run.specs.Stages.{Entries, Owner, IsWatched, LeavesWatch, IsCalled}
 use Rattle.watch_run.specs.Writing.{Wrote, StoppedWriting, WriteEnds}
 use Rattle.watch_run.proofs.Lasts.{no_page}

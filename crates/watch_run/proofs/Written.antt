@@ -9,8 +9,8 @@ use Rattle.request_form.specs.declared.form.Fault.{Fault}
 use Rattle.workload_law.specs.Sessions.{FinishesItsOwn}
 use Rattle.workload_law.specs.Ends.{Leaves, UpdateHindered}
 use Rattle.workload_law.specs.Closing.{IdleOwnsAll}
-use Rattle.workload_run.specs.Updates.{update_events, IsUpdated, IsStopped}
-use Rattle.workload_run.specs.Work.{IsFresh}
+use Rattle.update_work.specs.Updates.{update_events, IsUpdated, IsStopped}
+use Rattle.update_work.specs.Callers.{IsFresh}
 use Rattle.watch_law.specs.declared.plan.WatchPlan.{WatchPlan}
 use Rattle.watch_law.specs.Watch.{piece_of, operation, HasWritten, HasBegun}
 use Rattle.watch_run.specs.Writing.{Wrote, StoppedWriting}

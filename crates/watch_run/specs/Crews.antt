@@ -5,7 +5,7 @@ use Rattle.read_board.specs.Fronts.{BoardId}
 use Rattle.request_form.specs.Replies.{page_faults}
 use Rattle.request_form.specs.declared.form.Fault.{Fault}
 use Rattle.workload_law.specs.Ends.{IsOutside}
-use Rattle.workload_run.specs.Updates.{told_faults}
+use Rattle.update_work.specs.Updates.{told_faults}
 use Rattle.watch_run.specs.Readers.{WatcherState}
 use Rattle.watch_run.specs.Stages.{IsIdle}
 

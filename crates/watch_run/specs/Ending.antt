@@ -12,15 +12,12 @@ use Rattle.version_manager.specs.Log.{events, tagged, desk_at}
 use Rattle.version_manager.specs.declared.journal.DeskFixed.{DeskFixed}
 use Rattle.request_form.specs.Answers.{max_read}
 use Rattle.request_form.specs.declared.form.Fault.{Fault}
-use Rattle.request_form.specs.declared.form.Fault.TheVariants as Faults
 use Rattle.workload_law.specs.Ends.{IsOutside, UpdateHindered, CreateHindered}
 use Rattle.read_board.specs.declared.refresh.Refresh.{Refresh}
 use Rattle.watch_law.specs.declared.plan.WatchPlan.{WatchPlan}
 use Rattle.watch_law.specs.declared.plan.WatchSummary.{WatchSummary}
 use Rattle.watch_law.specs.Watch.{piece_of, HasWritten, summary_of}
 use Rattle.watch_run.specs.declared.last.Last.{Last}
-use Rattle.watch_run.specs.declared.watching.WatchFault.{WatchFault}
-use Rattle.watch_run.specs.declared.watching.WatchFault.TheVariants as WatchFaults
 use Rattle.watch_run.specs.Agreeing.{IsToldBy, IsSeenIn}
 use Rattle.watch_run.specs.Stages.{Entries, Owner, IsUnopened, IsWatched, LeavesWatch}
 
@@ -90,20 +87,3 @@ WatchEnds plan f (Err fault) owner = EndsBy plan f owner fault
 abbrev pub TellsWatch : WatchPlan → Result WatchSummary Fault → Type 0
 TellsWatch plan (Ok summary) = summary ≡ summary_of plan
 TellsWatch plan (Err fault) = IsOutside fault
-
--- ---- what the watch says of a fault
-abbrev pub watch_fault : Fault → WatchFault
-watch_fault Faults.NoMemory = WatchFaults.NoMemory
-watch_fault (Faults.NoMemoryTicket ticket) = WatchFaults.NoMemory
-watch_fault fault = WatchFaults.Refused fault
-
--- A page was lost, and the count rose, which stands still at the greatest u64.
-pub record LostPage (fault : Fault) (before after : ℕ) : Type 0 where
-  pub page : ℕ
-  pub lost : fault ≡ Faults.PageFault page
-  pub rose : after < 2 ^ 64 - 1 → before + 1 ≤ after
-
--- it ends so only where a page was lost, or for want of memory
-abbrev pub EndsEarly : WatchFault → ℕ → ℕ → Type 0
-EndsEarly (WatchFaults.Refused fault) before after = LostPage fault before after
-EndsEarly WatchFaults.NoMemory before after = Unit {0}

@@ -11,7 +11,7 @@ use Rattle.read_board.specs.declared.refresh.Refresh.{Refresh}
 use Rattle.read_board.specs.Keeping.{KeeperState}
 use Rattle.read_board.specs.Refreshing.{AllHold}
 use Rattle.watch_run.specs.Idling.{Idles}
-use Rattle.watch_run.specs.Writing.{Told}
+use Rattle.update_work.specs.Callers.{Told}
 
 -- The keeper may refresh by this session, and all its refreshes are of blob 1.
 pub record MayRefresh {D : Type 0} (k : KeeperState) (s : SessionState D) : Type 0 where

@@ -1,4 +1,5 @@
 pub mod Idling
+pub mod Doors
 pub mod Writing
 pub mod Keeping
 pub mod Readers

@@ -5,9 +5,9 @@ use Rattle.request_form.specs.declared.form.Fault.{Fault}
 use Rattle.client_session.specs.Sessions.{SessionState}
 use Rattle.read_board.specs.Keeping.{StandingState}
 use Rattle.workload_law.specs.Ends.{IsOutside}
-use Rattle.workload_run.specs.Updates.{told_faults}
+use Rattle.update_work.specs.Updates.{told_faults}
 use Rattle.watch_run.specs.Idling.{Idles}
-use Rattle.watch_run.specs.Writing.{Told}
+use Rattle.update_work.specs.Callers.{Told}
 
 -- a reader, and how it ended
 pub record WatcherState (D : Type 0) : Type 0 where

@@ -10,7 +10,8 @@ use Rattle.request_form.specs.declared.form.Fault.{Fault}
 use Rattle.client_session.specs.Sessions.{SessionState, Continues, session_of}
 use Rattle.workload_law.specs.Sessions.{FinishesItsOwn}
 use Rattle.workload_law.specs.Ends.{UpdateHindered}
-use Rattle.workload_run.specs.Updates.{IsReady, told_faults}
+use Rattle.update_work.specs.Updates.{IsReady, told_faults}
+use Rattle.update_work.specs.Callers.{Told}
 use Rattle.watch_law.specs.declared.plan.WatchPlan.{WatchPlan}
 use Rattle.watch_law.specs.Watch.{piece_of, HasWritten, HasBegun}
 
@@ -36,10 +37,6 @@ pub record StoppedWriting (plan : WatchPlan) (fault : Fault) (s s' : Session) : 
 abbrev pub WriteEnds : {A : Type 0} → WatchPlan → Result A Fault → Session → Session → Type 0
 WriteEnds plan (Ok done) s s' = Wrote plan plan.ops s s'
 WriteEnds plan (Err fault) s s' = StoppedWriting plan fault s s'
-
--- how something ended that was to come to its end: there, or at a fault
-abbrev pub Told : Type 0
-Told = Result (Unit {0}) Fault
 
 -- the work so far
 pub record Writes {D : Type 0} (faults : D → ℕ) (plan : WatchPlan) (op : ℕ) (old new : SessionState D) : Type 0 where

@@ -1,9 +1,8 @@
 // What ends a watch: each reader reads what the last session read.
-ghost use Rattle.std.specs.Prelude.{◌≡◌, ◌<◌, true, IfOk, IfErr};
+ghost use Rattle.std.specs.Prelude.{◌≡◌, ◌<◌, true, IfOk, IfErr, sum_by};
 ghost use Rattle.faults.specs.Counts.{RoseBy};
-ghost use Rattle.std.specs.Prelude.{sum_by};
 ghost use Rattle.workload_law.specs.Ends.{IsOutside};
-ghost use Rattle.workload_run.specs.Updates.{told_faults};
+ghost use Rattle.update_work.specs.Updates.{told_faults};
 ghost use Rattle.watch_run.specs.Agreeing.{IsToldBy, IsSeenBy};
 ghost use Rattle.watch_run.specs.Idling.{Idles};
 ghost use Rattle.watch_run.specs.Readers.{HasRead};

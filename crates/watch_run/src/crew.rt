@@ -1,6 +1,7 @@
 // The callers of a watch that work beside each other.
-ghost use Rattle.std.specs.Prelude.{◌≡◌, ◌≤◌, ◌<◌, ◌+◌, ◌-◌, ◌^◌, ◌↔◌, ◌∷◌, [], ℕ, vec_len, IfOk, OnOk, OnErr, All};
+ghost use Rattle.std.specs.Prelude.{◌≡◌, ◌≤◌, ◌<◌, ◌+◌, ◌-◌, ◌*◌, ◌^◌, ◌↔◌, ◌∷◌, [], ℕ, vec_len, IfOk, OnOk, OnErr, All};
 ghost use Rattle.client_session.specs.Sessions.{IsOwnerOf};
+ghost use Rattle.page_store.specs.Calls.{Traffic, AllCameBack};
 ghost use Rattle.store_sessions.specs.Made.{IsNewSession};
 ghost use Rattle.watch_run.specs.Crews.{IsReadyToWatch};
 
@@ -23,7 +24,7 @@ pub(crate) struct Crew<'a, D: Door, G: Gate> {
 }
 
 // The readers of a watch, each with a new session, none of which has read anything. Where no memory is found, those that were made
-// have ended.
+// have ended, and all doors have gone back.
 fn watchers_of<'a, M: DoorMaker, G: Gate>(
     alloc: Global,
     shared: &'a Shared,
@@ -44,6 +45,8 @@ fn watchers_of<'a, M: DoorMaker, G: Gate>(
     ensures none_out { OnErr result (owner.new.out ≡ owner.old.out) }
     ensures owner { IsOwnerOf shared.now owner.new }
     ensures doors { M.faults maker.new < 2 ^ 64 - 1 → M.faults maker.old ≤ M.faults maker.new }
+    ensures handed_out { OnOk result (Traffic M.hands_out M.takes_back (count * shared.now.providers) 0 maker.old maker.new) }
+    ensures all_back { OnErr result (AllCameBack M.hands_out M.takes_back maker.old maker.new) }
     ensures truth_stays { M.is_true maker.old ↔ M.is_true maker.new }
     ensures plan_stays { (n : ℕ) (door : _) → M.makes maker.old n door ↔ M.makes maker.new n door }
 {
@@ -67,7 +70,7 @@ fn watchers_of<'a, M: DoorMaker, G: Gate>(
 }
 
 /// The callers from 2 up, each with a new session, none of which has done anything. Where no memory is found, those that were made have
-/// ended.
+/// ended, and all doors have gone back.
 pub(crate) fn crew_of<'a, M: DoorMaker, G: Gate>(
     alloc: Global,
     shared: &'a Shared,
@@ -90,6 +93,8 @@ pub(crate) fn crew_of<'a, M: DoorMaker, G: Gate>(
     ensures none_out { OnErr result (owner.new.out ≡ owner.old.out) }
     ensures owner { IsOwnerOf shared.now owner.new }
     ensures doors { M.faults maker.new < 2 ^ 64 - 1 → M.faults maker.old ≤ M.faults maker.new }
+    ensures handed_out { OnOk result (Traffic M.hands_out M.takes_back ((2 + readers) * shared.now.providers) 0 maker.old maker.new) }
+    ensures all_back { OnErr result (AllCameBack M.hands_out M.takes_back maker.old maker.new) }
     ensures truth_stays { M.is_true maker.old ↔ M.is_true maker.new }
     ensures plan_stays { (n : ℕ) (door : _) → M.makes maker.old n door ↔ M.makes maker.new n door }
 {

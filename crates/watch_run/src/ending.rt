@@ -1,9 +1,12 @@
 // The end of a watch: the readers are compared with the last session, one by one, and their sessions end.
-ghost use Rattle.std.specs.Prelude.{◌≡◌, ◌≤◌, ◌<◌, ◌+◌, ◌-◌, ◌^◌, ◌↔◌, ℕ, true, IfOk, IfErr, IfSome, vec_len, All};
+ghost use Rattle.std.specs.Prelude.{◌≡◌, ◌≤◌, ◌<◌, ◌+◌, ◌-◌, ◌*◌, ◌^◌, ◌↔◌, ℕ, true, IfOk, IfErr, IfSome, vec_len, All};
 ghost use Rattle.client_session.specs.Sessions.{IsOwnerOf};
+ghost use Rattle.page_store.specs.Calls.{Traffic};
+ghost use Rattle.store_sessions.specs.Lent.{LentDoors};
 ghost use Rattle.workload_law.specs.Ends.{IsOutside};
-ghost use Rattle.workload_run.specs.Updates.{told_faults};
+ghost use Rattle.update_work.specs.Updates.{told_faults};
 ghost use Rattle.watch_run.specs.Stages.{IsIdle, LeavesWatch};
+ghost use Rattle.watch_run.specs.Doors.{EndDoors};
 ghost use Rattle.watch_run.specs.Crews.{IsEndable, IsDoneWatching, stop_faults};
 ghost use Rattle.watch_run.specs.Agreeing.{IsToldBy, IsSeenIn};
 
@@ -36,6 +39,7 @@ pub(crate) fn end_watchers<M: DoorMaker, G: Gate>(
     ensures out { owner.old.out ≡ owner.new.out + vec_len watchers.entry }
     ensures owner { IsOwnerOf shared.now owner.new }
     ensures doors { M.faults maker.new < 2 ^ 64 - 1 → M.faults maker.old + stop_faults result ≤ M.faults maker.new }
+    ensures taken_back { Traffic M.hands_out M.takes_back 0 (vec_len watchers.entry * shared.now.providers) maker.old maker.new }
     ensures truth_stays { M.is_true maker.old ↔ M.is_true maker.new }
     ensures plan_stays { (n : ℕ) (door : _) → M.makes maker.old n door ↔ M.makes maker.new n door }
 {
@@ -73,6 +77,7 @@ fn agree_by_place<R: Wait, W: Wait + Drop, M: DoorMaker, G: Gate>(
     ensures made { owner.new.made ≡ owner.old.made }
     ensures owner { IsOwnerOf shared.now owner.new }
     ensures doors { M.faults maker.new < 2 ^ 64 - 1 → M.faults maker.old + told_faults result ≤ M.faults maker.new }
+    ensures taken_back { Traffic M.hands_out M.takes_back 0 shared.now.providers maker.old maker.new }
     ensures truth_stays { M.is_true maker.old ↔ M.is_true maker.new }
     ensures plan_stays { (n : ℕ) (door : _) → M.makes maker.old n door ↔ M.makes maker.new n door }
 {
@@ -113,6 +118,7 @@ fn agree_by_turn<R: Wait, M: DoorMaker, G: Gate>(
     ensures seen { IsSeenIn shared.now.fixed owner.new.seen last.now }
     ensures owner { IsOwnerOf shared.now owner.new }
     ensures doors { M.faults maker.new < 2 ^ 64 - 1 → M.faults maker.old + told_faults result ≤ M.faults maker.new }
+    ensures lent { LentDoors M.hands_out M.takes_back shared.now.providers maker.old maker.new result }
     ensures truth_stays { M.is_true maker.old ↔ M.is_true maker.new }
     ensures plan_stays { (n : ℕ) (door : _) → M.makes maker.old n door ↔ M.makes maker.new n door }
 {
@@ -152,6 +158,7 @@ fn agree_one<R: Wait, W: Wait + Drop, M: DoorMaker, G: Gate>(
     ensures made { (owner.old.made ≤ owner.new.made) × (owner.new.made ≤ owner.old.made + 1) }
     ensures owner { IsOwnerOf shared.now owner.new }
     ensures doors { M.faults maker.new < 2 ^ 64 - 1 → M.faults maker.old + told_faults result ≤ M.faults maker.new }
+    ensures lent { EndDoors M.hands_out M.takes_back shared.now.providers 0 1 1 maker.old maker.new result }
     ensures truth_stays { M.is_true maker.old ↔ M.is_true maker.new }
     ensures plan_stays { (n : ℕ) (door : _) → M.makes maker.old n door ↔ M.makes maker.new n door }
 {
@@ -188,6 +195,7 @@ fn agree_with<R: Wait, W: Wait + Drop, M: DoorMaker, G: Gate>(
     ensures made { (owner.old.made ≤ owner.new.made) × (owner.new.made ≤ owner.old.made + 1) }
     ensures owner { IsOwnerOf shared.now owner.new }
     ensures doors { M.faults maker.new < 2 ^ 64 - 1 → M.faults maker.old + told_faults result ≤ M.faults maker.new }
+    ensures lent { EndDoors M.hands_out M.takes_back shared.now.providers 0 1 1 maker.old maker.new result }
     ensures truth_stays { M.is_true maker.old ↔ M.is_true maker.new }
     ensures plan_stays { (n : ℕ) (door : _) → M.makes maker.old n door ↔ M.makes maker.new n door }
 {
@@ -226,6 +234,7 @@ pub(crate) fn agree_all<R: Wait, W: Wait + Drop, M: DoorMaker, G: Gate>(
     ensures out { owner.old.out ≡ owner.new.out + vec_len watchers.entry }
     ensures owner { IsOwnerOf shared.now owner.new }
     ensures doors { M.faults maker.new < 2 ^ 64 - 1 → M.faults maker.old + told_faults result ≤ M.faults maker.new }
+    ensures lent { EndDoors M.hands_out M.takes_back shared.now.providers 0 (vec_len watchers.entry) (vec_len watchers.entry) maker.old maker.new result }
     ensures truth_stays { M.is_true maker.old ↔ M.is_true maker.new }
     ensures plan_stays { (n : ℕ) (door : _) → M.makes maker.old n door ↔ M.makes maker.new n door }
 {

@@ -5,7 +5,7 @@ ghost use Rattle.client_session.specs.Sessions.{Continues};
 ghost use Rattle.read_board.specs.declared.refresh.Refresh.{Refresh};
 ghost use Rattle.read_board.specs.Refreshes.{on_board, version_of};
 ghost use Rattle.read_board.specs.Refreshing.{Holds};
-ghost use Rattle.workload_run.specs.Updates.{told_faults};
+ghost use Rattle.update_work.specs.Updates.{told_faults};
 ghost use Rattle.watch_run.specs.Idling.{Idles};
 ghost use Rattle.watch_run.specs.Keeping.{MayRefresh};
 ghost use Rattle.watch_run.specs.Lasts.{WholeRead, IsLast, LastHindered, updates_seen};

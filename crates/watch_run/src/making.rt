@@ -3,7 +3,9 @@ ghost use Rattle.std.specs.Prelude.{◌≡◌, ◌≤◌, ◌<◌, ◌+◌, ◌-
 ghost use Rattle.blob_model.specs.Limits.{greatest};
 ghost use Rattle.client_session.specs.Sessions.{IsOwnerOf};
 ghost use Rattle.turn_lock.specs.History.{Begins};
-ghost use Rattle.workload_run.specs.Updates.{told_faults};
+ghost use Rattle.page_store.specs.Calls.{Traffic};
+ghost use Rattle.store_sessions.specs.Lent.{LentDoors};
+ghost use Rattle.update_work.specs.Updates.{told_faults};
 ghost use Rattle.watch_run.specs.Stages.{OpensAs, IsIdle, LeavesWatch};
 
 use client_session::{Owner, Session, Shared};
@@ -13,8 +15,8 @@ use request_form::Fault;
 use std::alloc::Global;
 use std::sync::Wait;
 use store_sessions::{end_session, open_session};
+use update_work::make_blob;
 use workload_law::laws::loads_close;
-use workload_run::make_blob;
 
 /// Makes the watched blob in a new store by a session of its own, the store's first, whose pass is back before any other is made. So
 /// every later session has seen it.
@@ -36,6 +38,7 @@ pub(crate) fn open_store<R: Wait, M: DoorMaker, G: Gate>(
     ensures opens { OpensAs result owner.new }
     ensures owner { IsOwnerOf shared.now owner.new }
     ensures doors { M.faults maker.new < 2 ^ 64 - 1 → M.faults maker.old + told_faults result ≤ M.faults maker.new }
+    ensures lent { LentDoors M.hands_out M.takes_back shared.now.providers maker.old maker.new result }
     ensures truth_stays { M.is_true maker.old ↔ M.is_true maker.new }
     ensures plan_stays { (n : ℕ) (door : _) → M.makes maker.old n door ↔ M.makes maker.new n door }
 {
@@ -64,6 +67,7 @@ pub(crate) fn end_idle<M: DoorMaker, G: Gate>(
     ensures begins { Begins session.entry.log owner.new.seen }
     ensures owner { IsOwnerOf shared.now owner.new }
     ensures doors { min (M.faults maker.old + sum_by M.Door.faults session.entry.doors) (2 ^ 64 - 1) ≤ M.faults maker.new }
+    ensures taken_back { Traffic M.hands_out M.takes_back 0 shared.now.providers maker.old maker.new }
     ensures truth_stays { M.is_true maker.old ↔ M.is_true maker.new }
     ensures plan_stays { (n : ℕ) (door : _) → M.makes maker.old n door ↔ M.makes maker.new n door }
 {

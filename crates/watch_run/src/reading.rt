@@ -1,7 +1,7 @@
 // The work of a watch's readers.
 ghost use Rattle.std.specs.Prelude.{◌≡◌, ◌≤◌, ◌<◌, ◌+◌, ◌^◌, IfErr, sum_by};
 ghost use Rattle.workload_law.specs.Ends.{IsOutside};
-ghost use Rattle.workload_run.specs.Updates.{told_faults};
+ghost use Rattle.update_work.specs.Updates.{told_faults};
 ghost use Rattle.request_form.specs.Replies.{page_faults};
 ghost use Rattle.watch_run.specs.Readers.{HasRead, HasWatched, HaveWatched};
 

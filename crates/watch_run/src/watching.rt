@@ -1,16 +1,19 @@
 // A watch, from a new store to its summary.
-ghost use Rattle.std.specs.Prelude.{◌≡◌, ◌≤◌, ◌<◌, ◌+◌, ◌-◌, ◌^◌, ◌↔◌, ◌∷◌, [], ℕ, IfOk, IfErr, All, vec_len};
+ghost use Rattle.std.specs.Prelude.{◌≡◌, ◌≤◌, ◌<◌, ◌+◌, ◌-◌, ◌*◌, ◌^◌, ◌↔◌, ◌∷◌, [], ℕ, IfOk, IfErr, All, vec_len};
 ghost use Rattle.blob_model.specs.Limits.{greatest};
 ghost use Rattle.blob_model.specs.History.{IsLegal};
 ghost use Rattle.client_session.specs.Sessions.{IsOwnerOf};
 ghost use Rattle.version_manager.specs.Log.{fixed_of};
 ghost use Rattle.watch_law.specs.Watch.{IsSized, summary_of};
-ghost use Rattle.workload_run.specs.Updates.{told_faults};
+ghost use Rattle.update_work.specs.Updates.{told_faults};
 ghost use Rattle.read_board.specs.Refreshing.{AllHold};
 ghost use Rattle.store_sessions.specs.Made.{IsNewSession};
+ghost use Rattle.store_sessions.specs.Lent.{LentDoors};
+ghost use Rattle.watch_run.specs.Doors.{EndDoors, LentSessions};
 ghost use Rattle.watch_run.specs.Stages.{IsCalled};
 ghost use Rattle.watch_run.specs.Crews.{IsReadyToWatch, IsDoneWatching};
-ghost use Rattle.watch_run.specs.Ending.{HasReadBack, FinishHindered, Finishes, WatchEnds, watch_fault, EndsEarly};
+ghost use Rattle.watch_run.specs.Ending.{HasReadBack, FinishHindered, Finishes, WatchEnds};
+ghost use Rattle.update_work.specs.Ending.{EndsEarly};
 
 use crate::beside::work_beside;
 use crate::crew::{Crew, crew_of};
@@ -29,30 +32,12 @@ use std::alloc::Global;
 use std::sync::Wait;
 use std::thread::Threads;
 use store_sessions::{end_session, open_session};
+pub use update_work::EarlyEnd as WatchFault;
+use update_work::early_end;
 use version_manager::Desk;
 use watch_law::laws::{watches_are_done, watches_close};
 use watch_law::{WatchPlan, WatchSummary};
 use workload_law::laws::loads_close;
-
-/// Why a watch ended early.
-#[derive(Clone, Copy, Debug, PartialEq, Eq)]
-pub enum WatchFault {
-    /// A call of one of its sessions was refused with this fault.
-    Refused(Fault),
-    /// No memory was found.
-    NoMemory,
-}
-
-// How a watch ended that was ended by this fault of a call.
-fn fault_of(fault: Fault) -> WatchFault
-    ensures { result ≡ watch_fault fault }
-{
-    match fault {
-        Fault::NoMemory => WatchFault::NoMemory,
-        Fault::NoMemoryTicket { .. } => WatchFault::NoMemory,
-        refused => WatchFault::Refused(refused),
-    }
-}
 
 // One more session refreshes the blob, reads the whole of it, and ends.
 fn read_back<R: Threads + Wait + Sync, W: Wait + Drop, M: DoorMaker, G: Gate>(
@@ -80,6 +65,7 @@ where
     ensures made { (owner.old.made ≤ owner.new.made) × (owner.new.made ≤ owner.old.made + 1) }
     ensures owner { IsOwnerOf shared.now owner.new }
     ensures doors { M.faults doors.new < 2 ^ 64 - 1 → M.faults doors.old + told_faults result ≤ M.faults doors.new }
+    ensures lent { LentDoors M.hands_out M.takes_back shared.now.providers doors.old doors.new result }
     ensures truth_stays { M.is_true doors.old ↔ M.is_true doors.new }
     ensures plan_stays { (n : ℕ) (door : _) → M.makes doors.old n door ↔ M.makes doors.new n door }
 {
@@ -117,6 +103,7 @@ where
     ensures out { owner.old.out ≡ owner.new.out + vec_len watchers.entry }
     ensures owner { IsOwnerOf shared.now owner.new }
     ensures doors { M.faults doors.new < 2 ^ 64 - 1 → M.faults doors.old + told_faults result ≤ M.faults doors.new }
+    ensures lent { EndDoors M.hands_out M.takes_back shared.now.providers 1 (1 + vec_len watchers.entry) (vec_len watchers.entry) doors.old doors.new result }
     ensures truth_stays { M.is_true doors.old ↔ M.is_true doors.new }
     ensures plan_stays { (n : ℕ) (door : _) → M.makes doors.old n door ↔ M.makes doors.new n door }
 {
@@ -169,6 +156,7 @@ where
     ensures none_out { owner.new.out ≡ 0 }
     ensures owner { IsOwnerOf shared.now owner.new }
     ensures doors { M.faults doors.new < 2 ^ 64 - 1 → M.faults doors.old + told_faults result ≤ M.faults doors.new }
+    ensures lent { EndDoors M.hands_out M.takes_back shared.now.providers 1 (1 + plan.now.readers) (2 + plan.now.readers) doors.old doors.new result }
     ensures truth_stays { M.is_true doors.old ↔ M.is_true doors.new }
     ensures plan_stays { (n : ℕ) (door : _) → M.makes doors.old n door ↔ M.makes doors.new n door }
 {
@@ -216,6 +204,7 @@ where
     ensures none_out { owner.new.out ≡ 0 }
     ensures owner { IsOwnerOf shared.now owner.new }
     ensures doors { M.faults doors.new < 2 ^ 64 - 1 → M.faults doors.old + told_faults result ≤ M.faults doors.new }
+    ensures lent { LentSessions M.hands_out M.takes_back shared.now.providers (4 + plan.now.readers) (4 + 2 * plan.now.readers) doors.old doors.new result }
     ensures truth_stays { M.is_true doors.old ↔ M.is_true doors.new }
     ensures plan_stays { (n : ℕ) (door : _) → M.makes doors.old n door ↔ M.makes doors.new n door }
 {
@@ -271,7 +260,9 @@ where
     // Why it ended early.
     ensures early { IfErr result (λ fault. EndsEarly fault (M.faults doors.old) (M.faults doors.new)) }
 
-    // What the doors counted went to the maker, which makes the doors that it made before.
+    // The first session, the writer's, the keeper's, those of the readers and the last one had a door to each provider, and one more session for
+    // each reader without a place. All doors came back. What they counted went to the maker, which makes the doors that it made before.
+    ensures lent { LentSessions M.hands_out M.takes_back shared.providers (4 + plan.readers) (4 + 2 * plan.readers) doors.old doors.new result }
     ensures doors { M.faults doors.new < 2 ^ 64 - 1 → M.faults doors.old ≤ M.faults doors.new }
     ensures truth_stays { M.is_true doors.old ↔ M.is_true doors.new }
     ensures plan_stays { (n : ℕ) (door : _) → M.makes doors.old n door ↔ M.makes doors.new n door }
@@ -289,6 +280,6 @@ where
     desk.stands();
     match told {
         Ok(summary) => Ok((summary, desk)),
-        Err(fault) => Err(fault_of(fault)),
+        Err(fault) => Err(early_end(fault)),
     }
 }

@@ -12,7 +12,8 @@ use Rattle.turn_lock.proofs.Histories.{begins_both}
 use Rattle.version_manager.specs.declared.journal.DeskFixed.{DeskFixed}
 use Rattle.request_form.specs.declared.form.Fault.{Fault}
 use Rattle.client_session.specs.Sessions.{StoreState}
-use Rattle.workload_run.specs.Workers.{Told, WorkerState, IsBack, stop_or, IsReadyAt, AreReady, IsOfStore, AreOfStore, AreBack, AreKept, first_stop, counted_by}
+use Rattle.update_work.specs.Callers.{Told}
+use Rattle.workload_run.specs.Workers.{WorkerState, IsBack, stop_or, IsReadyAt, AreReady, IsOfStore, AreOfStore, AreBack, AreKept, first_stop, counted_by}
 
 abbrev Entries : Type 0
 Entries = List (ℕ × Event)

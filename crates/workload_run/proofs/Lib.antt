@@ -1,8 +1,5 @@
-pub mod Updates
-pub mod Finishes
 pub mod Operations
 pub mod Openings
-pub mod Returns
 pub mod Endings
 pub mod Lents
 pub mod Looks

@@ -20,10 +20,10 @@ use Rattle.request_form.specs.declared.form.Fault.{Fault}
 use Rattle.request_form.specs.declared.form.Fault.TheVariants as Faults
 use Rattle.workload_law.specs.Ends.{LooksLeaveNone, IsOutside}
 use Rattle.workload_law.specs.Closing.{ReadsAreShort}
-use Rattle.workload_run.specs.Opening.{HasDoneOwn}
+use Rattle.update_work.specs.Making.{HasDoneOwn}
 use Rattle.workload_run.specs.Look.{recent_told, IsUntold}
-use Rattle.workload_run.proofs.Returns.{no_front}
-use Rattle.workload_run.proofs.Updates.{leaves_same, same_fault}
+use Rattle.update_work.proofs.Returns.{no_front}
+use Rattle.update_work.proofs.Updates.{leaves_same, same_fault}
 
 -- ---- nothing more was seen
 

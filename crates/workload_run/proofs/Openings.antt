@@ -11,10 +11,11 @@ use Rattle.workload_law.specs.declared.plan.LoadPlan.{LoadPlan}
 use Rattle.workload_law.specs.Load.{zeros_of}
 use Rattle.workload_law.specs.Ends.{CreateHindered, UpdateHindered, Leaves, LeavesAdd}
 use Rattle.workload_law.specs.Closing.{OpeningHindered}
-use Rattle.workload_run.specs.Updates.{update_events, IsReady, IsUpdated, IsStopped}
-use Rattle.workload_run.specs.Work.{IsFresh}
-use Rattle.workload_run.specs.Opening.{HasDoneOwn, HasNotMade, HasOpened, HasNotOpened}
-use Rattle.workload_run.proofs.Updates.{leaves_same}
+use Rattle.update_work.specs.Updates.{update_events, IsReady, IsUpdated, IsStopped}
+use Rattle.update_work.specs.Callers.{IsFresh}
+use Rattle.update_work.specs.Making.{HasDoneOwn, HasNotMade}
+use Rattle.workload_run.specs.Opening.{HasOpened, HasNotOpened}
+use Rattle.update_work.proofs.Updates.{leaves_same}
 
 module _ (adds : LeavesAdd) (plan : LoadPlan) (s : Session) (fresh : IsFresh 0 s) where
   abbrev create_one : List Event

@@ -13,8 +13,9 @@ use Rattle.workload_law.specs.Sessions.{FinishesItsOwn}
 use Rattle.workload_law.specs.Ends.{Leaves, UpdateHindered, LeavesAdd}
 use Rattle.workload_law.specs.Closing.{OperationHindered, IdleOwnsAll}
 use Rattle.workload_law.specs.Laws.{StoppedHaveBegun}
-use Rattle.workload_run.specs.Updates.{update_events, IsUpdated, IsStopped}
-use Rattle.workload_run.specs.Work.{HasOperated, HasStoppedAt, HasWorked, HasEndedEarly, IsFresh}
+use Rattle.update_work.specs.Updates.{update_events, IsUpdated, IsStopped}
+use Rattle.workload_run.specs.Work.{HasOperated, HasStoppedAt, HasWorked, HasEndedEarly}
+use Rattle.update_work.specs.Callers.{IsFresh}
 
 -- ---- one operation
 

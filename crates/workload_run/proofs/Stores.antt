@@ -25,39 +25,17 @@ use Rattle.workload_law.specs.Laws.{IsReadBack}
 use Rattle.workload_law.specs.Sessions.{FinishesItsOwn}
 use Rattle.workload_law.specs.Ends.{IsOutside}
 use Rattle.workload_law.specs.Closing.{OwnsStay, IdleOwnsAll, OperationHindered}
-use Rattle.workload_run.specs.Updates.{told_faults}
-use Rattle.workload_run.specs.Work.{IsFresh, HasEndedEarly, WorkEnds}
-use Rattle.workload_run.specs.Opening.{HasDoneOwn, HasOpened, HasNotOpened, OpeningEnds}
-use Rattle.workload_run.specs.Stages.{CameBack, IsOpened, IsHalfOpened, OpensAs, HaveCome, HaveDone, HaveStopped, HasLooked, LooksAs}
+use Rattle.update_work.specs.Updates.{told_faults}
+use Rattle.update_work.specs.Callers.{IsFresh, CameBack, Told}
+use Rattle.workload_run.specs.Work.{HasEndedEarly, WorkEnds}
+use Rattle.update_work.specs.Making.{HasDoneOwn}
+use Rattle.workload_run.specs.Opening.{HasOpened, HasNotOpened, OpeningEnds}
+use Rattle.workload_run.specs.Stages.{IsOpened, IsHalfOpened, OpensAs, HaveCome, HaveDone, HaveStopped, HasLooked, LooksAs}
 use Rattle.workload_run.specs.Look.{SummaryEnds}
 use Rattle.std.proofs.lemmas.List.Sums.{get_or-le-sum_by}
-use Rattle.workload_run.specs.Workers.{Told, WorkerState, AreKept, counted_by, stop_or, AreReady, AreWorkable, HaveRun, AreOfStore, AreBack, first_stop}
+use Rattle.workload_run.specs.Workers.{WorkerState, AreKept, counted_by, stop_or, AreReady, AreWorkable, HaveRun, AreOfStore, AreBack, first_stop}
 use Rattle.workload_run.proofs.Looks.{mid_same}
-use Rattle.workload_run.proofs.Returns.{none_by, same_by, came_back, owns_back, tags_of_front, events_append}
-
--- ---- sessions
-
-module _ {D : Type 0} (s : SessionState D) where
-  pub fresh_at : EntriesAreEvents → (worker : ℕ) → s.caller ≡ worker + 1 → s.store.fixed.limits ≡ greatest → s.log ≡ tagged (events s.log) → entries_by (worker + 1) s.log ≡ [] → s.held ≡ [] → s.limit ≡ max_update → IsFresh worker (session_of s)
-  fresh_at are worker caller limits tags none none_held limit = record {
-    caller = caller;
-    limits = limits;
-    none = none_by are s.log (worker + 1) tags none;
-    ready = record { none_held = ap (λ (l : List OpenUpdate). tickets_of l) none_held; limit = limit };
-  }
-
--- what a session has done that hadn't done anything
-module _ (idle : IdleOwnsAll) (worker : ℕ) (s s' : Session) (fresh : IsFresh worker s) (own : List Event) (did : HasDoneOwn s own s') where
-  pub own_is : events_by (worker + 1) s'.seen ≡ own
-  own_is =
-      subst (λ (c : ℕ). events_by c s'.seen ≡ events_by c s.seen ++ own) fresh.caller did.leaves.mine ∙ ap (λ (l : List Event). l ++ own) fresh.none
-
-  pub own_finishes : FinishesItsOwn greatest s'.seen (worker + 1)
-  own_finishes =
-      let goes : FinishesItsOwn greatest s.seen (worker + 1) → FinishesItsOwn greatest s'.seen (worker + 1) =
-      subst (λ (b : Bounds). FinishesItsOwn b s.seen (worker + 1) → FinishesItsOwn b s'.seen (worker + 1)) fresh.limits
-      (subst (λ (c : ℕ). FinishesItsOwn s.fixed.limits s.seen c → FinishesItsOwn s.fixed.limits s'.seen c) fresh.caller did.leaves.finishes) in
-      goes (idle greatest (worker + 1) s.seen fresh.none)
+use Rattle.update_work.proofs.Returns.{none_by, same_by, came_back, owns_back, tags_of_front, events_append}
 
 -- ---- the opening
 
@@ -464,10 +442,3 @@ module _ {D : Type 0} (are : EntriesAreEvents) (stay : OwnsStay) (plan : LoadPla
     crew_out,
     inr (have_stopped are faults plan sized store limits first.seen crew_tags old count ready stay new same_count run last.seen tags back last refl crew_made crew_out crew_kept crew_first fault stop),
   )
-
--- the count of the maker, to which the doors of all workers went back
-pub rose_stop : (n before between sum after : ℕ) → (between < 2 ^ 64 - 1 → before ≤ between) → (sum < 2 ^ 64 - 1 → n ≤ sum) → min (between + sum) (2 ^ 64 - 1) ≤ after → after < 2 ^ 64 - 1 → before + n ≤ after
-rose_stop n before between sum after made counted back less =
-    let low : between < 2 ^ 64 - 1 = omega (arith, back, less) in
-    let few : sum < 2 ^ 64 - 1 = omega (arith, back, less) in
-    omega (arith, made low, counted few, back, less)

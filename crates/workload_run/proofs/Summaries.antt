@@ -21,7 +21,7 @@ use Rattle.workload_law.specs.Summed.{summary_of, cells_sum}
 use Rattle.workload_law.specs.Ends.{LeavesAdd, LooksLeaveNone, IsOutside}
 use Rattle.workload_law.specs.Closing.{ReadsAreShort}
 use Rattle.workload_run.specs.declared.looking.Last.{Last}
-use Rattle.workload_run.specs.Opening.{HasDoneOwn}
+use Rattle.update_work.specs.Making.{HasDoneOwn}
 use Rattle.workload_run.specs.Look.{recent_told, IsTold, IsUntold, LookEnds, summed_up, SummaryEnds}
 use Rattle.workload_run.proofs.Looks.{mid_same, end_same, outcome_same, saw_left, recent_saw, told_recent, told_none, read_left, read_bytes, read_short, unread}
 

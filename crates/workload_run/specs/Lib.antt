@@ -1,7 +1,5 @@
-pub mod Updates
 pub mod Work
 pub mod Opening
 pub mod Stages
 pub mod Workers
 pub mod Look
-pub mod Loading

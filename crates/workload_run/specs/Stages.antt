@@ -8,6 +8,7 @@ use Rattle.turn_lock.specs.Shown.{OwnerView}
 use Rattle.version_manager.specs.declared.journal.DeskFixed.{DeskFixed}
 use Rattle.version_manager.specs.Log.{tagged, events}
 use Rattle.request_form.specs.declared.form.Fault.{Fault}
+use Rattle.update_work.specs.Callers.{CameBack}
 use Rattle.workload_law.specs.declared.plan.LoadPlan.{LoadPlan}
 use Rattle.workload_law.specs.declared.plan.Summary.{Summary}
 use Rattle.workload_law.specs.Load.{opened_with, HasDone, HasBegun, IsLoad}
@@ -16,12 +17,6 @@ use Rattle.workload_law.specs.Sessions.{FinishesItsOwn}
 use Rattle.workload_law.specs.Summed.{summary_of}
 use Rattle.workload_law.specs.Ends.{IsOutside}
 use Rattle.workload_law.specs.Closing.{OpeningHindered, OperationHindered}
-
--- The history goes on from what was seen, and has no more events of that caller.
-pub record CameBack (caller : ℕ) (seen history : List Event) : Type 0 where
-  pub later : List Event
-  pub begins : history ≡ seen ++ later
-  pub same : events_by caller history ≡ events_by caller seen
 
 -- ---- the first session
 

@@ -12,7 +12,7 @@ use Rattle.workload_law.specs.Load.{operation, IsSized, HasDone, HasBegun}
 use Rattle.workload_law.specs.Sessions.{FinishesItsOwn}
 use Rattle.workload_law.specs.Ends.{Leaves}
 use Rattle.workload_law.specs.Closing.{OperationHindered}
-use Rattle.workload_run.specs.Updates.{IsReady, StoppedWithin}
+use Rattle.update_work.specs.Updates.{IsReady, StoppedWithin}
 
 -- a worker of the plan, and an operation of it
 pub record IsOperation (plan : LoadPlan) (worker op : ℕ) : Type 0 where
@@ -67,13 +67,6 @@ pub record HasEndedEarly (plan : LoadPlan) (worker : ℕ) (fault : Fault) (s s' 
 abbrev pub WorkEnds : {A : Type 0} → LoadPlan → ℕ → Result A Fault → Session → Session → Type 0
 WorkEnds plan worker (Ok done) s s' = HasWorked plan worker plan.ops s s'
 WorkEnds plan worker (Err fault) s s' = HasEndedEarly plan worker fault s s'
-
--- a session with which a worker begins: it has events of others alone, the greatest limits, and no ticket
-pub record IsFresh (worker : ℕ) (s : Session) : Type 0 where
-  pub caller : s.caller ≡ worker + 1
-  pub limits : s.fixed.limits ≡ greatest
-  pub none : events_by (worker + 1) s.seen ≡ []
-  pub ready : IsReady s
 
 -- the work so far
 pub record Works {D : Type 0} (faults : D → ℕ) (plan : LoadPlan) (worker op : ℕ) (old new : SessionState D) : Type 0 where

@@ -8,12 +8,9 @@ use Rattle.request_form.specs.declared.form.Fault.{Fault}
 use Rattle.client_session.specs.Sessions.{StoreState, SessionState, Continues, session_of}
 use Rattle.workload_law.specs.declared.plan.LoadPlan.{LoadPlan}
 use Rattle.workload_law.specs.Load.{IsSized}
-use Rattle.workload_run.specs.Updates.{told_faults}
-use Rattle.workload_run.specs.Work.{WorkEnds, IsFresh}
-
--- how something ended that was to come to its end: there, or at a fault
-abbrev pub Told : Type 0
-Told = Result (Unit {0}) Fault
+use Rattle.update_work.specs.Updates.{told_faults}
+use Rattle.workload_run.specs.Work.{WorkEnds}
+use Rattle.update_work.specs.Callers.{Told, IsFresh}
 
 -- a worker: its session, its number, and how it ended
 pub record WorkerState (D : Type 0) : Type 0 where

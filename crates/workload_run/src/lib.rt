@@ -3,16 +3,10 @@
 #![tactic(auto)]
 
 mod crew;
-mod finishing;
 mod loading;
 mod looking;
 mod opening;
 mod starting;
-mod trying;
-mod updating;
-mod waiting;
 mod working;
 
 pub use loading::{LoadFault, load};
-pub use opening::make_blob;
-pub use updating::update;

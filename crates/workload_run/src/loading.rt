@@ -8,9 +8,9 @@ ghost use Rattle.store_sessions.specs.Lent.{LentDoors};
 ghost use Rattle.version_manager.specs.Log.{fixed_of};
 ghost use Rattle.workload_law.specs.Load.{IsSized, IsLoad};
 ghost use Rattle.workload_law.specs.Summed.{summary_of};
-ghost use Rattle.workload_run.specs.Updates.{told_faults};
+ghost use Rattle.update_work.specs.Updates.{told_faults};
 ghost use Rattle.workload_run.specs.Stages.{ClosesAs, AreFinishedByOwn};
-ghost use Rattle.workload_run.specs.Loading.{load_fault, EndsEarly};
+ghost use Rattle.update_work.specs.Ending.{EndsEarly};
 
 use crate::crew::work_all;
 use crate::looking::look_back;
@@ -23,29 +23,11 @@ use request_form::Fault;
 use std::alloc::Global;
 use std::sync::Wait;
 use std::thread::Threads;
+pub use update_work::EarlyEnd as LoadFault;
+use update_work::early_end;
 use version_manager::Desk;
 use workload_law::laws::{loads_close, loads_read_back};
 use workload_law::{LoadPlan, Summary};
-
-/// Why a load ended early.
-#[derive(Clone, Copy, Debug, PartialEq, Eq)]
-pub enum LoadFault {
-    /// A call of one of its sessions was refused with this fault.
-    Refused(Fault),
-    /// No memory was found.
-    NoMemory,
-}
-
-// How a load ended that was ended by this fault of a call.
-fn fault_of(fault: Fault) -> LoadFault
-    ensures { result ≡ load_fault fault }
-{
-    match fault {
-        Fault::NoMemory => LoadFault::NoMemory,
-        Fault::NoMemoryTicket { .. } => LoadFault::NoMemory,
-        refused => LoadFault::Refused(refused),
-    }
-}
 
 // Opens the store, does all workers' work, and looks back at it.
 fn run_load<R: Threads + Wait + Sync, M: DoorMaker, G: Gate + Sync>(
@@ -149,6 +131,6 @@ where
     desk.stands();
     match told {
         Ok(summary) => Ok((summary, desk)),
-        Err(fault) => Err(fault_of(fault)),
+        Err(fault) => Err(early_end(fault)),
     }
 }

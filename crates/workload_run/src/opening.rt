@@ -4,39 +4,22 @@ ghost use denote.Param.Send.{IsSync};
 ghost use Rattle.faults.specs.Counts.{RoseBy};
 ghost use Rattle.client_session.specs.Sessions.{session_of, Continues};
 ghost use Rattle.workload_law.specs.Load.{IsSized, zeros_of};
-ghost use Rattle.workload_run.specs.Updates.{told_faults};
-ghost use Rattle.workload_run.specs.Work.{IsFresh};
-ghost use Rattle.workload_run.specs.Opening.{MakingEnds, OpeningEnds};
+ghost use Rattle.update_work.specs.Updates.{told_faults};
+ghost use Rattle.update_work.specs.Callers.{IsFresh};
+ghost use Rattle.update_work.specs.Making.{MakingEnds};
+ghost use Rattle.workload_run.specs.Opening.{OpeningEnds};
 
-use crate::updating::update;
 use crate::working::GRID;
 use blob_model::Place;
 use client_session::Session;
 use page_fan::BesideDoor;
-use page_store::Door;
 use ports::gate::Gate;
 use request_form::Fault;
 use std::sync::Wait;
 use std::thread::Threads;
+use update_work::{make_blob, update};
 use workload_law::LoadPlan;
-use workload_law::laws::{calls_end, calls_leave};
-
-/// Makes a blob, whatever its id is. One turn. Where it isn't made nothing is entered.
-pub fn make_blob<R: Wait, D: Door, G: Gate>(
-    rt: &R,
-    session: &mut Session<'_, D, G>,
-) -> Result<(), Fault>
-    requires none_held { (session_of session.old).tickets ≡ [] }
-    ensures ends { MakingEnds result (session_of session.old) (session_of session.new) }
-    ensures faults { RoseBy (told_faults result) (sum_by D.faults session.old.doors) (sum_by D.faults session.new.doors) }
-    ensures goes_on { Continues session.old session.new }
-{
-    calls_end();
-    match session.create(rt) {
-        Ok(_blob) => Ok(()),
-        Err(fault) => Err(fault),
-    }
-}
+use workload_law::laws::calls_leave;
 
 /// Makes the log and the grid, and fills the grid with zeros, by the first session of a store. Where one of these isn't done the
 /// session hangs up.

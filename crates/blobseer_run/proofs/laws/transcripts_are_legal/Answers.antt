@@ -9,12 +9,13 @@ pub returns-clause-legal : goal.returns-clause-legal
 returns-clause-legal c = λ fixed heard replies last run. run_legal c.old_versions_stay.ensures (first_session fixed 1) last (until_quit heard) replies (first_good fixed) run
 
 pub returns-clause-always : goal.returns-clause-always
-returns-clause-always c = λ fixed items well.
-    let made = c.transcripts_hold.ensures.always (first_session fixed 1) items in (
+returns-clause-always c = λ fixed items.
+    let made = c.transcripts_hold.ensures.fed (first_session fixed 1) items tt in (
       flat_map said made.0,
       record {
         alone = record { replies = made.0; last = made.1.0; transcript = made.1.1.0; says = refl };
         legal = run_legal c.old_versions_stay.ensures (first_session fixed 1) made.1.0 (until_quit items) made.0 (first_good fixed) made.1.1.0;
-        calm = made.1.1.1 well;
+        fed = made.1.1.1.1;
+        calm = made.1.1.1.0;
       },
     )

@@ -1,27 +1,16 @@
-use Rattle.std.proofs.Common.{◌≡◌, refl, ◌∙◌, ap, arith}
+use Rattle.std.proofs.Common.{refl, subst, arith}
 use Rattle.settings.specs.Values.{SettingsValues}
 use Rattle.blobseer_run.specs.Script.{fixed_of, IsCalm}
-use Rattle.blobseer_run.proofs.Runs.{gave_back, ran, ran_as, ran_none}
-use Rattle.store_sessions.proofs.Fresh.{fresh_doors}
-use Rattle.blobseer_run.proofs.Stores.{fixed_there}
+use Rattle.blobseer_run.specs.Store.{IsNewStore}
+use Rattle.blobseer_run.proofs.Lendings.{none_made}
+use Rattle.blobseer_run.proofs.Runs.{ran_none}
 use Rattle.blobseer_run.proofs.serving.serve_script.Goals as goal
 
+pub answer_script-requires-clause-store : goal.answer_script-requires-clause-store
+answer_script-requires-clause-store g c = subst (λ (s : SettingsValues). IsNewStore c.args.settings.now s.limits c.in-Ok.shared c.in-Ok.owner) c.settings.view_is c.in-Ok.ensures
+
 pub returns-in_default-clause-did : goal.returns-in_default-clause-did
-returns-in_default-clause-did g c = ran_none (fixed_of c.args.settings.now) (IsCalm g.M.Door.Door.faults) _ _ refl refl refl refl (omega (arith, c.new.ensures.count_stays))
+returns-in_default-clause-did g c = ran_none (fixed_of c.args.settings.now) (IsCalm g.M.Door.Door.faults) _ _ refl refl refl refl (omega arith)
 
-pub returns-in_default-new_store-clause-did : goal.returns-in_default-new_store-clause-did
-returns-in_default-new_store-clause-did g c =
-    ran_none (fixed_of c.args.settings.now) (IsCalm g.M.Door.Door.faults) _ _ refl refl refl refl (omega (arith, c.in-Ok.ensures.count_stays, c.back.ensures.rises))
-
-pub returns-clause-did : goal.returns-clause-did
-returns-clause-did g c =
-    let served = c.serve_store-end in
-    let faults = g.M.Door.Door.faults in
-    let before = g.M.DoorMaker.faults c.args.objects.now.doors.now in
-    let after = g.M.DoorMaker.faults c.back-2.new.maker in
-    let gave = gave_back faults c.in-Ok.doors served.result.1 before (g.M.DoorMaker.faults c.new.new.maker) after (fresh_doors faults c.in-Ok.doors c.in-Ok.ensures.fresh) c.in-Ok.ensures.count_stays c.back-2.ensures.rises in
-    let store = c.in-Ok-new_store in
-    let limits : store.shared.fixed.limits ≡ c.args.settings.now.limits = store.ensures.limits ∙ ap (λ (s : SettingsValues). s.limits) c.settings.view_is in
-    let same = fixed_there store.shared.fixed c.args.settings.now limits store.ensures.page_size in
-    let did = ran c.endings_hold.ensures.alone c.transcripts_are_legal.ensures.legal _ (IsCalm faults) _ _ _ _ gave served.result.0 served.ensures.lines served.ensures.read_faults served.ensures.write_faults refl in
-    ran_as _ _ (IsCalm faults) _ _ served.result.0 c.after.result same c.after.ensures did
+pub returns-in_default-clause-lent : goal.returns-in_default-clause-lent
+returns-in_default-clause-lent g c = none_made g.M.DoorMaker.hands_out g.M.DoorMaker.takes_back c.args.settings.now.providers _

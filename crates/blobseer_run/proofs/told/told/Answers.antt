@@ -1,4 +1,4 @@
-use Rattle.std.proofs.Common.{map, refl, ap, subst}
+use Rattle.std.proofs.Common.{map, refl, ◌∙◌, ap, subst}
 use Rattle.std.proofs.lemmas.Result.{err_from_is_err_and}
 use Rattle.std.specs.String.{string_bytes}
 use Rattle.std.specs.Prelude.{Option}
@@ -6,7 +6,7 @@ use Rattle.settings.specs.Values.{GivenValues}
 use Rattle.settings.specs.Words.{Bytes}
 use Rattle.blobseer_run.specs.Told.{FileGives, SettingsRefused, Stopped}
 use Rattle.blobseer_run.specs.Telling.{FileStops}
-use Rattle.blobseer_run.proofs.Settling.{file_stopped}
+use Rattle.blobseer_run.proofs.Settling.{file_stopped, unnamed}
 use Rattle.blobseer_run.proofs.told.told.Goals as goal
 
 pub returns-in_err-file-clause-stopped : goal.returns-in_err-file-clause-stopped
@@ -40,3 +40,13 @@ returns-in-Err-clause-stopped g c =
     let gives = subst (λ (name : Option Bytes). FileGives known name c.in_ok-file.file) named c.in_ok-file.ensures.gives in
     let refused = c.in-Err.ensures.refused in
     Stopped.unsettled refl (SettingsRefused.too_many_replicas (c.in_ok-command.command, c.in_ok-command.given) c.in_ok-file.file c.in_ok-command.ensures.asks gives (refused.0 refl))
+
+pub returns-in_err-file-clause-untouched : goal.returns-in_err-file-clause-untouched
+returns-in_err-file-clause-untouched g c none =
+    let named = ap (λ (given : GivenValues). given.settings) c.given.view_is in
+    c.in_err-file.ensures.untouched (named ∙ unnamed (map string_bytes c.args.words.now) c.in_ok-command.command c.in_ok-command.given c.in_ok-command.ensures.asks none)
+
+pub returns-in-Err-clause-untouched : goal.returns-in-Err-clause-untouched
+returns-in-Err-clause-untouched g c none =
+    let named = ap (λ (given : GivenValues). given.settings) c.given.view_is in
+    c.in_ok-file.ensures.untouched (named ∙ unnamed (map string_bytes c.args.words.now) c.in_ok-command.command c.in_ok-command.given c.in_ok-command.ensures.asks none)

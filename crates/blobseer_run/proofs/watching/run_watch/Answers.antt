@@ -1,20 +1,11 @@
-use Rattle.std.proofs.Common.{refl, ap}
-use Rattle.settings.specs.Values.{SettingsValues}
-use Rattle.watch_law.specs.Said.{said}
-use Rattle.blobseer_run.specs.Watching.{plan_of, watch_lines}
-use Rattle.blobseer_run.proofs.Measures.{whole_there, starved_there, at_lines}
-use Rattle.blobseer_run.proofs.Watches.{watch_early}
+use Rattle.std.proofs.Common.{refl}
+use Rattle.blobseer_run.proofs.Lendings.{none_made, watched_early}
+use Rattle.blobseer_run.proofs.Measures.{starved_there}
 use Rattle.blobseer_run.proofs.watching.run_watch.Goals as goal
 
 pub returns-in_default-clause-did : goal.returns-in_default-clause-did
 returns-in_default-clause-did g c = starved_there _ _ _ (record { given = refl; left = refl; reads = refl; ends = refl }) refl refl
 
-pub returns-in-Ok-watch-clause-did : goal.returns-in-Ok-watch-clause-did
-returns-in-Ok-watch-clause-did g c =
-    let lines = ap (said _) c.in-Ok-watch.ensures.summary in
-    let told = c.tell_lines.ensures.told _ c.lines.ensures in
-    at_lines _ _ _ _ _ (ap (λ (s : SettingsValues). watch_lines (plan_of s)) c.settings.view_is)
-    (whole_there _ _ _ (record { given = refl; left = refl; reads = refl; ends = refl }) refl _ _ lines told)
-
-pub returns-in-Err-clause-did : goal.returns-in-Err-clause-did
-returns-in-Err-clause-did g c = watch_early _ _ _ (record { given = refl; left = refl; reads = refl; ends = refl }) refl refl c.in-Err.fault _ c.status_of.ensures c.in-Err.ensures.early
+pub returns-in_default-clause-lent : goal.returns-in_default-clause-lent
+returns-in_default-clause-lent g c =
+    watched_early g.M.DoorMaker.hands_out g.M.DoorMaker.takes_back _ _ _ _ _ (none_made g.M.DoorMaker.hands_out g.M.DoorMaker.takes_back _ _)

@@ -3,5 +3,5 @@ use Rattle.settings.proofs.merging.chosen_narrow.Goals as goal
 
 pub returns-clause-fits : goal.returns-clause-fits
 returns-clause-fits c =
-    chosen_is_fit c.args.key c.args.words c.args.file c.or.result c.row.result.range c.unwrap_or.result
-    c.requires.words c.requires.file c.or.ensures c.row.ensures.range c.unwrap_or.ensures
+    chosen_is_fit c.args.key c.args.words c.args.file c.or.result c.setting.result.range c.unwrap_or.result
+    c.requires.words c.requires.file c.or.ensures c.setting.ensures.range c.unwrap_or.ensures

@@ -1,5 +1,8 @@
-use Rattle.std.proofs.Common.{rules, ◌≡◌, ◌∙◌, ◌+◌, ◌≤◌, ℕ, ap, subst, sym, refl, arith}
+use Rattle.std.proofs.Common.{rules, ◌≡◌, ◌∙◌, ◌+◌, ◌*◌, ◌≤◌, ℕ, vec_len, ap, subst, sym, refl, arith}
+use Rattle.std.proofs.lemmas.Grind.{common_steps}
+use Rattle.page_store.specs.Calls.{Traffic, no_door}
 use Rattle.client_session.specs.Sessions.{SessionState}
+use Rattle.store_sessions.proofs.Traffics.{none_handed, handed_more, came_back_around}
 use Rattle.watch_run.specs.Stages.{Owner, IsIdle}
 use Rattle.watch_run.specs.Crews.{IsReadyToWatch}
 use Rattle.watch_run.proofs.Ends.{all_more}
@@ -9,6 +12,8 @@ use Rattle.watch_run.proofs.crew.watchers_of.Goals as goal
 pub makes-preserved : goal.makes-preserved
 makes-preserved g c =
     let faults = g.M.Door.Door.faults in
+    let m = g.M.DoorMaker in
+    let p = c.args.shared.now.providers in
     let i = c.makes.invariant in
     let x = c.in-Ok-open_session.ensures in
     let r = c.reader.ensures in
@@ -28,7 +33,34 @@ makes-preserved g c =
       owner = search rules;
       given = search rules;
       maker_true = search rules;
+      handed = subst (λ (n : ℕ). Traffic m.hands_out m.takes_back (n * p) 0 c.args.maker.now c.open_session.new.maker) (sym c.push_reserved.ensures.len)
+          (handed_more m.hands_out m.takes_back p (vec_len c.makes.watchers) c.args.maker.now c.makes.maker c.open_session.new.maker i.handed x.handed_out);
       doors = search rules;
       plan_stays = λ n door. (λ h. (x.plan_stays n door).0 ((i.plan_stays n door).0 h), λ h. (i.plan_stays n door).1 ((x.plan_stays n door).1 h));
       truth_stays = search rules;
     }
+
+pub makes-init : goal.makes-init
+makes-init g c = record {
+  few = first_of (search rules, grind (arith, common_steps));
+  room = first_of (search rules, grind (arith, common_steps));
+  ready = first_of (search rules, grind (arith, common_steps));
+  stand = first_of (search rules, grind (arith, common_steps));
+  owner = first_of (search rules, grind (arith, common_steps));
+  given = first_of (search rules, grind (arith, common_steps));
+  maker_true = first_of (search rules, grind (arith, common_steps));
+  handed = none_handed g.M.DoorMaker.hands_out g.M.DoorMaker.takes_back c.args.shared.now.providers c.args.maker.now;
+  doors = first_of (search rules, grind (arith, common_steps));
+  plan_stays = first_of (search rules, grind (arith, common_steps));
+  truth_stays = first_of (search rules, grind (arith, common_steps));
+}
+
+pub returns-in_default-clause-all_back : goal.returns-in_default-clause-all_back
+returns-in_default-clause-all_back g c = (0, no_door)
+
+pub returns-in-Err-clause-all_back : goal.returns-in-Err-clause-all_back
+returns-in-Err-clause-all_back g c =
+    let m = g.M.DoorMaker in
+    let p = c.args.shared.now.providers in
+    came_back_around m.hands_out m.takes_back (vec_len c.makes.watchers * p) c.args.maker.now c.makes.maker c.open_session.new.maker c.end_watchers-none.new.maker
+    c.makes.invariant.handed c.in-Err.ensures.all_back c.end_watchers-none.ensures.taken_back

@@ -1,10 +1,12 @@
-use Rattle.std.proofs.Common.{◌≡◌, ◌∙◌, List, ℕ, Bool, ◌+◌, ◌-◌, ◌^◌, ◌<◌, ◌≤◌, vec_len, ap, subst, arith}
+use Rattle.std.proofs.Common.{rules, ◌≡◌, ◌∙◌, List, ℕ, Bool, ◌+◌, ◌-◌, ◌^◌, ◌<◌, ◌≤◌, vec_len, ap, subst, arith}
 use Rattle.std.specs.Prelude.{All, IfSome, Option}
+use Rattle.std.proofs.lemmas.Grind.{common_steps}
 use mir.Val.{bool_byte}
 use Rattle.request_form.specs.declared.form.Fault.{Fault}
 use Rattle.workload_law.specs.Ends.{IsOutside}
 use Rattle.watch_run.specs.Readers.{WatcherState}
 use Rattle.watch_run.specs.Crews.{IsDoneWatching, stop_faults}
+use Rattle.watch_run.proofs.Doors.{none_gone, one_more, one_stopped, all_ended, all_doors}
 use Rattle.watch_run.proofs.Ends.{all_front, all_last, agree_more, lower}
 use Rattle.watch_run.proofs.ending.agree_all.Goals as goal
 
@@ -27,6 +29,8 @@ loop-watcher-preserved-in-Ok g c =
       out = omega (arith, i.out, e.out, len);
       done = all_front done c.pop.new.self.items c.in-Some.watcher all;
       seen = e.seen;
+      ended = one_more g.M.DoorMaker.hands_out g.M.DoorMaker.takes_back c.args.shared.now.providers (vec_len c.args.watchers) (vec_len c.loop-watcher.watchers) (vec_len c.pop.new.self) c.loop-watcher.stop c.args.maker.now
+          c.loop-watcher.maker c.agree_with.new.maker len i.ended e.lent;
       plan_stays = λ n door. (λ h. (e.plan_stays n door).0 ((i.plan_stays n door).0 h), λ h. (i.plan_stays n door).1 ((e.plan_stays n door).1 h));
       truth_stays = (λ t. e.truth_stays.0 (i.truth_stays.0 t), λ t. i.truth_stays.1 (e.truth_stays.1 t));
       maker_true = e.truth_stays.0 i.maker_true;
@@ -50,6 +54,8 @@ loop-watcher-preserved g c =
       out = omega (arith, i.out, e.out, len);
       done = all_front done c.pop.new.self.items c.in-Some.watcher all;
       seen = e.seen;
+      ended = one_stopped g.M.DoorMaker.hands_out g.M.DoorMaker.takes_back c.args.shared.now.providers (vec_len c.args.watchers) (vec_len c.loop-watcher.watchers) (vec_len c.pop.new.self) c.loop-watcher.stop c.args.maker.now
+          c.loop-watcher.maker c.agree_with.new.maker len i.ended c.in-Err.fault e.lent;
       plan_stays = λ n door. (λ h. (e.plan_stays n door).0 ((i.plan_stays n door).0 h), λ h. (i.plan_stays n door).1 ((e.plan_stays n door).1 h));
       truth_stays = (λ t. e.truth_stays.0 (i.truth_stays.0 t), λ t. i.truth_stays.1 (e.truth_stays.1 t));
       maker_true = e.truth_stays.0 i.maker_true;
@@ -62,3 +68,32 @@ agree_with-requires-clause-done g c =
 
 pub returns-in-Some-stop-clause-stop : goal.returns-in-Some-stop-clause-stop
 returns-in-Some-stop-clause-stop g c = subst (λ (o : Option Fault). IfSome o IsOutside) c.in-Some-stop.is c.loop-watcher.invariant.stop
+
+pub returns-in-Some-stop-clause-lent : goal.returns-in-Some-stop-clause-lent
+returns-in-Some-stop-clause-lent g c =
+    let m = g.M.DoorMaker in
+    all_doors m.hands_out m.takes_back c.args.shared.now.providers (vec_len c.args.watchers) (vec_len c.loop-watcher.watchers) c.loop-watcher.stop c.args.maker.now c.loop-watcher.maker c.in_default.ensures.cases.0
+    c.loop-watcher.invariant.ended
+
+pub returns-in-None-clause-lent : goal.returns-in-None-clause-lent
+returns-in-None-clause-lent g c =
+    let m = g.M.DoorMaker in
+    all_ended m.hands_out m.takes_back c.args.shared.now.providers (vec_len c.args.watchers) (vec_len c.loop-watcher.watchers) c.loop-watcher.stop c.args.maker.now c.loop-watcher.maker c.in_default.ensures.cases.0
+    c.loop-watcher.invariant.ended c.in-None.is
+
+pub loop-watcher-init : goal.loop-watcher-init
+loop-watcher-init g c = record {
+  owner = c.requires.owner;
+  agree = first_of (search rules, grind (arith, common_steps));
+  made = c.requires.passes_left;
+  few = first_of (search rules, grind (arith, common_steps));
+  out = first_of (search rules, grind (arith, common_steps));
+  done = c.requires.done;
+  seen = c.requires.seen;
+  stop = first_of (search rules, grind (arith, common_steps));
+  doors = first_of (search rules, grind (arith, common_steps));
+  ended = none_gone g.M.DoorMaker.hands_out g.M.DoorMaker.takes_back c.args.shared.now.providers (vec_len c.args.watchers) c.args.maker.now;
+  plan_stays = λ n door. (λ h. h, λ h. h);
+  truth_stays = (λ t. t, λ t. t);
+  maker_true = first_of (search rules, grind (arith, common_steps));
+}

@@ -4,6 +4,7 @@ use Rattle.client_session.specs.Sessions.{IsOwnerOf}
 use Rattle.workload_law.specs.Ends.{IsOutside}
 use Rattle.watch_run.specs.Agreeing.{IsSeenIn}
 use Rattle.watch_run.specs.Crews.{IsDoneWatching, stop_faults}
+use Rattle.watch_run.proofs.Doors.{HaveEnded}
 use Rattle.watch_run.proofs.Ends.{AgreeSoFar}
 use Rattle.watch_run.proofs.ending.agree_all.Given as goal
 
@@ -21,6 +22,7 @@ invariant-loop-watcher g l =
       seen : IsSeenIn l.shared.fixed l.owner.seen l.last;
       stop : IfSome l.stop IsOutside;
       doors : faults l.maker < 2 ^ 64 - 1 → faults l.fn.maker + stop_faults l.stop ≤ faults l.maker;
+      ended : HaveEnded g.M.DoorMaker.hands_out g.M.DoorMaker.takes_back l.shared.providers (vec_len l.fn.watchers) (vec_len l.watchers) l.stop l.fn.maker l.maker;
       plan_stays : (n : ℕ) (door : _) → g.M.DoorMaker.makes l.fn.maker n door ↔ g.M.DoorMaker.makes l.maker n door;
       truth_stays : is_true l.fn.maker ↔ is_true l.maker;
       maker_true : is_true l.maker;

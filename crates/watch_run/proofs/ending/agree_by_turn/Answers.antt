@@ -1,4 +1,5 @@
 use Rattle.std.proofs.Common.{◌≡◌, ◌≤◌, ap, arith, ℕ}
+use Rattle.store_sessions.proofs.Traffics
 use Rattle.watch_run.specs.Stages.{Owner, LeavesWatch}
 use Rattle.watch_run.proofs.Crews.{idle_on, told_any}
 use Rattle.watch_run.proofs.Stages.{new_idle, leaves_both, leaves_given}
@@ -22,3 +23,11 @@ returns-clause-plan_stays g c n door =
     let i = c.open_session.ensures in
     let e = c.end_idle.ensures in
     (λ h. (e.plan_stays n door).0 ((i.plan_stays n door).0 h), λ h. (i.plan_stays n door).1 ((e.plan_stays n door).1 h))
+
+pub returns-clause-lent : goal.returns-clause-lent
+returns-clause-lent g c =
+    let hands_out = g.M.DoorMaker.hands_out in
+    let takes_back = g.M.DoorMaker.takes_back in
+    let p = c.args.shared.now.providers in
+    Traffics.lent hands_out takes_back p c.args.maker.now c.end_idle.new.maker c.compare_by_turn-told.result
+    (Traffics.went_back hands_out takes_back p c.args.maker.now c.open_session.new.maker c.end_idle.new.maker c.in-Ok.ensures.handed_out c.end_idle.ensures.taken_back)

@@ -1,5 +1,6 @@
 use Rattle.std.proofs.Common.{◌≡◌, ℕ}
 use Rattle.watch_run.proofs.Crews.{told_more}
+use Rattle.watch_run.proofs.Doors.{ended_by_place, ended_by_turn}
 use Rattle.watch_run.proofs.Stages.{leaves_both}
 use Rattle.watch_run.proofs.ending.agree_one.Goals as goal
 
@@ -11,3 +12,12 @@ returns-clause-plan_stays g c n door =
     let i = c.end_idle.ensures in
     let e = c.agree_by_turn.ensures in
     (λ h. (e.plan_stays n door).0 ((i.plan_stays n door).0 h), λ h. (i.plan_stays n door).1 ((e.plan_stays n door).1 h))
+
+pub returns-then-clause-lent : goal.returns-then-clause-lent
+returns-then-clause-lent g c =
+    ended_by_place g.M.DoorMaker.hands_out g.M.DoorMaker.takes_back c.args.shared.now.providers c.agree_by_place.result c.args.maker.now c.agree_by_place.new.maker c.agree_by_place.ensures.taken_back
+
+pub returns-clause-lent : goal.returns-clause-lent
+returns-clause-lent g c =
+    ended_by_turn g.M.DoorMaker.hands_out g.M.DoorMaker.takes_back c.args.shared.now.providers c.agree_by_turn.result c.args.maker.now c.end_idle.new.maker c.agree_by_turn.new.maker c.end_idle.ensures.taken_back
+    c.agree_by_turn.ensures.lent

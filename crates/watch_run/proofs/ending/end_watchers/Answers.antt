@@ -1,15 +1,17 @@
-use Rattle.std.proofs.Common.{◌≡◌, ◌∙◌, List, ℕ, [], ◌∷◌, ◌++◌, ◌+◌, ◌-◌, ◌^◌, ◌<◌, ◌≤◌, min, ap, subst, sym, arith}
+use Rattle.std.proofs.Common.{rules, refl, ◌≡◌, ◌∙◌, List, ℕ, [], ◌∷◌, ◌++◌, ◌+◌, ◌-◌, ◌^◌, ◌<◌, ◌≤◌, min, ap, subst, sym, arith}
 use Rattle.std.specs.Prelude.{sum_by, All, IfErr}
+use Rattle.std.proofs.lemmas.Grind.{common_steps}
 use Rattle.request_form.specs.Replies.{page_faults}
 use Rattle.client_session.specs.Sessions.{SessionState}
 use Rattle.workload_law.specs.Ends.{IsOutside}
-use Rattle.workload_run.specs.Updates.{told_faults}
-use Rattle.workload_run.proofs.Stores.{rose_stop}
+use Rattle.update_work.specs.Updates.{told_faults}
+use Rattle.update_work.proofs.Fresh.{rose_stop}
 use Rattle.watch_run.specs.Readers.{WatcherState}
-use Rattle.watch_run.specs.Writing.{Told}
+use Rattle.update_work.specs.Callers.{Told}
 use Rattle.watch_run.specs.Crews.{IsEndable, stop_faults}
 use Rattle.watch_run.proofs.Ends.{all_front, all_last, rose_on, lower}
-use Rattle.watch_run.proofs.Stages.{leaves_both}
+use Rattle.watch_run.proofs.Stages.{leaves_both, leaves_given}
+use Rattle.store_sessions.proofs.Traffics.{none_gone, gone_more, all_gone}
 use Rattle.watch_run.proofs.ending.end_watchers.Goals as goal
 
 pub loop-watcher-preserved-in-Err : goal.loop-watcher-preserved-in-Err
@@ -35,6 +37,8 @@ loop-watcher-preserved-in-Err g c =
       stop = subst (λ (t : Told). IfErr t IsOutside) told last.stop;
       doors = rose_stop (page_faults c.in-Err.fault) (counts c.args.maker.now) (counts c.loop-watcher.maker) (sum_by faults one.reader.session.doors) (counts c.end_idle.new.maker)
           (lower (stop_faults c.loop-watcher.stop) (counts c.args.maker.now) (counts c.loop-watcher.maker) i.doors) counted back;
+      gone = gone_more g.M.DoorMaker.hands_out g.M.DoorMaker.takes_back store.providers c.args.watchers.len c.loop-watcher.watchers.len c.pop.new.self.len c.args.maker.now c.loop-watcher.maker
+          c.end_idle.new.maker (sym c.in-Some.ensures.cases) i.gone e.taken_back;
       plan_stays = λ n door. (λ h. (e.plan_stays n door).0 ((i.plan_stays n door).0 h), λ h. (i.plan_stays n door).1 ((e.plan_stays n door).1 h));
       truth_stays = (λ t. e.truth_stays.0 (i.truth_stays.0 t), λ t. i.truth_stays.1 (e.truth_stays.1 t));
     }
@@ -56,6 +60,26 @@ loop-watcher-preserved g c =
       endable = all_front (IsEndable faults store) c.pop.new.self.items one all;
       stop = i.stop;
       doors = rose_on (stop_faults c.loop-watcher.stop) (counts c.args.maker.now) (counts c.loop-watcher.maker) (sum_by faults c.into_session.result.doors) (counts c.end_idle.new.maker) i.doors e.doors;
+      gone = gone_more g.M.DoorMaker.hands_out g.M.DoorMaker.takes_back store.providers c.args.watchers.len c.loop-watcher.watchers.len c.pop.new.self.len c.args.maker.now c.loop-watcher.maker
+          c.end_idle.new.maker (sym c.in-Some.ensures.cases) i.gone e.taken_back;
       plan_stays = λ n door. (λ h. (e.plan_stays n door).0 ((i.plan_stays n door).0 h), λ h. (i.plan_stays n door).1 ((e.plan_stays n door).1 h));
       truth_stays = (λ t. e.truth_stays.0 (i.truth_stays.0 t), λ t. i.truth_stays.1 (e.truth_stays.1 t));
     }
+
+pub returns-clause-taken_back : goal.returns-clause-taken_back
+returns-clause-taken_back g c =
+    all_gone g.M.DoorMaker.hands_out g.M.DoorMaker.takes_back c.args.shared.now.providers c.args.watchers.len c.loop-watcher.watchers.len c.args.maker.now c.loop-watcher.maker c.in_default.ensures.cases.0
+    c.loop-watcher.invariant.gone
+
+pub loop-watcher-init : goal.loop-watcher-init
+loop-watcher-init g c = record {
+  owner = c.requires.owner;
+  leaves = leaves_given c.args.owner.now c.args.owner.now refl refl;
+  out = first_of (search rules, grind (arith, common_steps));
+  endable = c.requires.endable;
+  stop = first_of (search rules, grind (arith, common_steps));
+  doors = first_of (search rules, grind (arith, common_steps));
+  gone = none_gone g.M.DoorMaker.hands_out g.M.DoorMaker.takes_back c.args.shared.now.providers c.args.watchers.len c.args.maker.now;
+  plan_stays = λ n door. (λ h. h, λ h. h);
+  truth_stays = (λ t. t, λ t. t);
+}

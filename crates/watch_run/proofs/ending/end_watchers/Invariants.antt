@@ -1,6 +1,7 @@
 use Rattle.std.proofs.Common.{◌≡◌, ℕ, ◌+◌, ◌-◌, ◌^◌, ◌<◌, ◌≤◌, vec_len}
 use Rattle.std.specs.Prelude.{◌↔◌, All, IfSome}
 use Rattle.client_session.specs.Sessions.{IsOwnerOf}
+use Rattle.store_sessions.proofs.Traffics.{HaveGone}
 use Rattle.workload_law.specs.Ends.{IsOutside}
 use Rattle.watch_run.specs.Stages.{LeavesWatch}
 use Rattle.watch_run.specs.Crews.{IsEndable, stop_faults}
@@ -17,6 +18,7 @@ invariant-loop-watcher g l =
       endable : All (IsEndable g.M.Door.Door.faults l.shared) l.watchers.items;
       stop : IfSome l.stop IsOutside;
       doors : faults l.maker < 2 ^ 64 - 1 → faults l.fn.maker + stop_faults l.stop ≤ faults l.maker;
+      gone : HaveGone g.M.DoorMaker.hands_out g.M.DoorMaker.takes_back l.shared.providers (vec_len l.fn.watchers) (vec_len l.watchers) l.fn.maker l.maker;
       plan_stays : (n : ℕ) (door : _) → g.M.DoorMaker.makes l.fn.maker n door ↔ g.M.DoorMaker.makes l.maker n door;
       truth_stays : is_true l.fn.maker ↔ is_true l.maker;
     }

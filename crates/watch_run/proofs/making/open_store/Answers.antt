@@ -1,5 +1,6 @@
 use Rattle.std.proofs.Common.{◌≡◌, ◌∙◌, ◌+◌, ℕ, ap, sym, arith}
 use Rattle.client_session.specs.Sessions.{StoreState}
+use Rattle.store_sessions.proofs.Traffics
 use Rattle.watch_run.specs.Stages.{Owner}
 use Rattle.watch_run.proofs.Stages.{took, opens_as}
 use Rattle.watch_run.proofs.making.open_store.Goals as goal
@@ -17,3 +18,11 @@ returns-clause-opens g c =
     let out : new.out ≡ 0 = (let b = ap (λ (o : Owner). o.out) x.given in omega (arith, e.counts.0, b, c.requires.none_out)) in
     opens_as c.entries_are_events.ensures s s' mid new (took c.args.shared.now s'.caller s'.log mid new e.counts e.begins e.own e.before e.owner) first (x.session.log ∙ c.requires.new)
     (ap (λ (o : Owner). o.kept) x.given ∙ c.requires.none_kept) made out (ap (λ (t : StoreState). t.fixed.limits) x.session.of_store ∙ c.requires.limits) c.make_blob-made.result c.make_blob-made.ensures.ends
+
+pub returns-clause-lent : goal.returns-clause-lent
+returns-clause-lent g c =
+    let hands_out = g.M.DoorMaker.hands_out in
+    let takes_back = g.M.DoorMaker.takes_back in
+    let p = c.args.shared.now.providers in
+    Traffics.lent hands_out takes_back p c.args.maker.now c.end_session.new.maker c.make_blob-made.result
+    (Traffics.went_back hands_out takes_back p c.args.maker.now c.open_session.new.maker c.end_session.new.maker c.in-Ok.ensures.handed_out c.end_session.ensures.taken_back)

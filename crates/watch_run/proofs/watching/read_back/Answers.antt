@@ -4,6 +4,7 @@ use Rattle.client_session.specs.Sessions.{StoreState, SessionState}
 use Rattle.read_board.specs.Refreshing.{AllHold}
 use Rattle.request_form.specs.declared.form.Fault.{Fault}
 use Rattle.watch_run.specs.declared.last.Last.{Last}
+use Rattle.store_sessions.proofs.Traffics
 use Rattle.watch_run.specs.Stages.{Owner, Entries}
 use Rattle.watch_run.proofs.Crews.{idle_on, told_read, told_lost}
 use Rattle.watch_run.proofs.Finishing.{finish_hindered, read_back}
@@ -57,3 +58,11 @@ returns-clause-plan_stays g c n door =
     let i = c.open_session.ensures in
     let e = c.end_idle.ensures in
     (λ h. (e.plan_stays n door).0 ((i.plan_stays n door).0 h), λ h. (i.plan_stays n door).1 ((e.plan_stays n door).1 h))
+
+pub returns-clause-lent : goal.returns-clause-lent
+returns-clause-lent g c =
+    let hands_out = g.M.DoorMaker.hands_out in
+    let takes_back = g.M.DoorMaker.takes_back in
+    let p = c.args.shared.now.providers in
+    Traffics.lent hands_out takes_back p c.args.doors.now c.end_idle.new.maker c.read_last-told.result
+    (Traffics.went_back hands_out takes_back p c.args.doors.now c.open_session.new.maker c.end_idle.new.maker c.in-Ok.ensures.handed_out c.end_idle.ensures.taken_back)

@@ -1,5 +1,7 @@
 use Rattle.std.proofs.Common.{⊎_elim}
+use Rattle.page_store.proofs.CallsLemmas.{all_came_back_join}
 use Rattle.watch_run.specs.Ending.{EndsBy}
+use Rattle.watch_run.proofs.Doors.{all_lent}
 use Rattle.watch_run.proofs.watching.run_watch.Goals as goal
 
 pub returns-in-Err-clause-ends : goal.returns-in-Err-clause-ends
@@ -11,3 +13,17 @@ returns-in-Ok-crew_of-clause-plan_stays g c n door =
     let q = c.crew_of.ensures.plan_stays n door in
     let r = c.work.ensures.plan_stays n door in
     (λ h. r.0 (q.0 (p.0 h)), λ h. p.1 (q.1 (r.1 h)))
+
+pub returns-in-Ok-crew_of-clause-lent : goal.returns-in-Ok-crew_of-clause-lent
+returns-in-Ok-crew_of-clause-lent g c =
+    let m = g.M.DoorMaker in
+    all_lent m.hands_out m.takes_back c.args.shared.now.providers c.args.plan.now.readers c.args.doors.now c.open_store.new.maker c.crew_of.new.maker c.work.new.doors c.in-Ok.ensures.lent
+    c.in-Ok-crew_of.ensures.handed_out c.work.result c.work.ensures.lent
+
+pub returns-in_default-clause-lent : goal.returns-in_default-clause-lent
+returns-in_default-clause-lent g c = (c.args.shared.now.providers, c.in-Ok.ensures.lent)
+
+pub returns-in-Err-crew_of-clause-lent : goal.returns-in-Err-crew_of-clause-lent
+returns-in-Err-crew_of-clause-lent g c =
+    let m = g.M.DoorMaker in
+    all_came_back_join m.hands_out m.takes_back c.args.doors.now c.open_store.new.maker c.crew_of.new.maker (c.args.shared.now.providers, c.in-Ok.ensures.lent) c.in-Err-crew_of.ensures.all_back

@@ -4,9 +4,10 @@ use Rattle.blob_model.specs.History.{IsLegal}
 use Rattle.blob_model.specs.declared.call.Event.{Event}
 use Rattle.turn_lock.specs.History.{LacksUngiven}
 use Rattle.version_manager.specs.Log.{events}
-use Rattle.watch_run.proofs.Closed.{closed, early_of}
-use Rattle.watch_run.specs.declared.watching.WatchFault.{WatchFault}
-use Rattle.watch_run.specs.Ending.{EndsEarly}
+use Rattle.watch_run.proofs.Closed.{closed}
+use Rattle.update_work.specs.declared.ending.EarlyEnd.{EarlyEnd}
+use Rattle.update_work.proofs.Early.{early_of}
+use Rattle.update_work.specs.Ending.{EndsEarly}
 use Rattle.watch_run.proofs.watching.watch.Goals as goal
 
 pub returns-in-Ok-told-clause-summary : goal.returns-in-Ok-told-clause-summary
@@ -28,4 +29,4 @@ returns-in-Err-clause-early g c =
     let x = c.watches_close.ensures in
     let tells = closed c.entries_are_events.ensures c.args.plan c.requires.sized c.args.shared.fixed c.requires.limits owner o.log.tags legal c.in-Ok.ensures.all_kept lacks x.together c.watches_are_done.ensures x.there x.writer in
     let why = early_of c.in-Err.fault (tells (Err c.in-Err.fault) c.in-Err.ensures.ends) (g.M.DoorMaker.faults c.args.doors.now) (g.M.DoorMaker.faults c.run_watch-told.new.doors) c.in-Err.ensures.doors in
-    subst (λ (f : WatchFault). EndsEarly f (g.M.DoorMaker.faults c.args.doors.now) (g.M.DoorMaker.faults c.run_watch-told.new.doors)) (sym c.fault_of.ensures) why
+    subst (λ (f : EarlyEnd). EndsEarly f (g.M.DoorMaker.faults c.args.doors.now) (g.M.DoorMaker.faults c.run_watch-told.new.doors)) (sym c.early_end.ensures) why

@@ -1,14 +1,17 @@
-use Rattle.std.proofs.Common.{◌≡◌, ◌∙◌, ◌+◌, ◌≤◌, List, [], ◌∷◌, ℕ, length, refl, sym, ap, subst, arith}
+use Rattle.std.proofs.Common.{◌≡◌, ◌∙◌, ◌+◌, ◌*◌, ◌≤◌, List, [], ◌∷◌, ℕ, length, vec_len, refl, sym, ap, subst, arith}
 use Rattle.std.specs.Prelude.{All}
+use Rattle.page_store.specs.Calls.{Traffic}
 use Rattle.turn_lock.specs.History.{entries_by, Begins}
 use Rattle.turn_lock.proofs.Histories.{begins_both}
 use Rattle.version_manager.specs.Log.{tagged, events}
 use Rattle.client_session.specs.Sessions.{StoreState, SessionState}
 use Rattle.read_board.specs.Fronts.{BoardId}
 use Rattle.read_board.specs.Refreshing.{AllHold}
-use Rattle.workload_run.proofs.Returns.{none_by}
-use Rattle.workload_run.proofs.Stores.{fresh_at}
+use Rattle.update_work.proofs.Returns.{none_by}
+use Rattle.update_work.proofs.Fresh.{fresh_at}
 use Rattle.watch_run.specs.Ending.{Finishes}
+use Rattle.watch_run.specs.Doors.{EndDoors}
+use Rattle.watch_run.proofs.Doors.{crew_told, crew_ended, readers_ended}
 use Rattle.watch_run.specs.Crews.{IsDoneWatching}
 use Rattle.watch_run.specs.Stages.{Entries, Owner}
 use Rattle.watch_run.proofs.Crews.{idle_on, all_done, all_done_end}
@@ -115,3 +118,26 @@ returns-in-Err-clause-plan_stays g c n door =
     let b = c.end_idle.ensures in
     let e = c.end_watchers-later.ensures in
     (λ h. (e.plan_stays n door).0 ((b.plan_stays n door).0 ((a.plan_stays n door).0 h)), λ h. (a.plan_stays n door).1 ((b.plan_stays n door).1 ((e.plan_stays n door).1 h)))
+
+pub returns-in-Ok-clause-lent : goal.returns-in-Ok-clause-lent
+returns-in-Ok-clause-lent g c =
+    let m = g.M.DoorMaker in
+    let p = c.args.shared.now.providers in
+    let n = c.args.plan.now.readers in
+    let mid = c.end_idle.new.maker in
+    let last = c.finish.new.doors in
+    let count : vec_len c.work_beside-keeper.result.1.watchers ≡ n = c.work_beside-keeper.ensures.count ∙ c.requires.count in
+    crew_told m.hands_out m.takes_back p n c.args.doors.now c.end_session.new.maker mid last c.end_session.ensures.taken_back c.end_idle.ensures.taken_back c.finish.result
+    (subst (λ (k : ℕ). EndDoors m.hands_out m.takes_back p 1 (1 + k) k mid last c.finish.result) count c.finish.ensures.lent)
+
+pub returns-in-Err-clause-lent : goal.returns-in-Err-clause-lent
+returns-in-Err-clause-lent g c =
+    let m = g.M.DoorMaker in
+    let p = c.args.shared.now.providers in
+    let n = c.args.plan.now.readers in
+    let first = c.args.doors.now in
+    let mid = c.end_idle.new.maker in
+    let last = c.end_watchers-later.new.maker in
+    let count : vec_len c.work_beside-keeper.result.1.watchers ≡ n = c.work_beside-keeper.ensures.count ∙ c.requires.count in
+    crew_ended m.hands_out m.takes_back p n first c.end_session.new.maker mid last c.end_session.ensures.taken_back c.end_idle.ensures.taken_back
+    (readers_ended m.hands_out m.takes_back p n first mid last (subst (λ (k : ℕ). Traffic m.hands_out m.takes_back 0 (k * p) mid last) count c.end_watchers-later.ensures.taken_back))

@@ -3,8 +3,8 @@ use Rattle.std.specs.Prelude.{sum_by}
 use Rattle.blob_model.specs.declared.call.Place.TheVariants.{Append}
 use Rattle.client_session.specs.Sessions.{session_of}
 use Rattle.client_session.proofs.Waiting.{goes_both}
-use Rattle.workload_run.specs.Updates.{IsUpdated, IsStopped}
-use Rattle.workload_run.proofs.Updates.{rose_both}
+use Rattle.update_work.specs.Updates.{IsUpdated, IsStopped}
+use Rattle.update_work.proofs.Updates.{rose_both}
 use Rattle.watch_run.proofs.Written.{wrote_none, wrote_more, stopped_writing}
 use Rattle.watch_run.proofs.writing.write_all.Goals as goal
 

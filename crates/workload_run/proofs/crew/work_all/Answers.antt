@@ -4,7 +4,8 @@ use Rattle.page_store.specs.Calls.{Traffic}
 use Rattle.request_form.specs.Replies.{page_faults}
 use Rattle.store_sessions.proofs.Traffics.{went_back}
 use Rattle.workload_run.specs.Workers.{counted_by}
-use Rattle.workload_run.proofs.Stores.{workable, crew_done, crew_stopped, counted_stop, rose_stop}
+use Rattle.workload_run.proofs.Stores.{workable, crew_done, crew_stopped, counted_stop}
+use Rattle.update_work.proofs.Fresh.{rose_stop}
 use Rattle.workload_run.proofs.crew.work_all.Goals as goal
 
 pub run_all-workers-requires-after_bounds : goal.run_all-workers-requires-after_bounds

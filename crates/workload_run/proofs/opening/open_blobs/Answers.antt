@@ -1,7 +1,7 @@
 use Rattle.std.proofs.Common.{List, ℕ, subst}
 use Rattle.blob_model.specs.declared.call.Place.TheVariants.{Append}
 use Rattle.client_session.specs.Sessions.{session_of}
-use Rattle.workload_run.specs.Updates.{IsUpdated, IsStopped}
+use Rattle.update_work.specs.Updates.{IsUpdated, IsStopped}
 use Rattle.workload_run.proofs.Openings.{made_one, made_both, opened, no_log, no_grid, no_zeros}
 use Rattle.workload_run.proofs.opening.open_blobs.Goals as goal
 

@@ -2,7 +2,7 @@ use Rattle.std.proofs.Common.{ℕ, List, subst}
 use Rattle.blob_model.specs.declared.call.Place.TheVariants.{WriteAt, Append}
 use Rattle.client_session.specs.Sessions.{session_of}
 use Rattle.workload_law.specs.Pieces.{cell_of}
-use Rattle.workload_run.specs.Updates.{IsUpdated, IsStopped}
+use Rattle.update_work.specs.Updates.{IsUpdated, IsStopped}
 use Rattle.workload_run.proofs.Operations.{operated, stopped_in_record, stopped_in_cell}
 use Rattle.workload_run.proofs.working.operate.Goals as goal
 

@@ -1,0 +1,5 @@
+pub mod Updates
+pub mod Finishes
+pub mod Returns
+pub mod Fresh
+pub mod Early

@@ -1,0 +1,4 @@
+pub mod Updates
+pub mod Making
+pub mod Callers
+pub mod Ending
