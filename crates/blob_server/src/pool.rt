@@ -3,8 +3,8 @@ ghost use Rattle.std.specs.Prelude.{◌≡◌, ◌<◌, ℕ, true, length, All, 
 ghost use Rattle.blob_server.specs.Peers.{IsIdle};
 ghost use Rattle.blob_server.specs.Serving.{TakesAs};
 
-use crate::queue::PeerQueue;
 use crate::peer::serve_peer;
+use crate::queue::PeerQueue;
 use crate::task::{Task, run_beside, take_back};
 use client_session::Session;
 use page_fan::BesideDoor;

@@ -5,8 +5,8 @@ ghost use Rattle.client_session.specs.Sessions.{IsOwnerOf};
 ghost use Rattle.blob_server.specs.Serving.{EndsAs, MakesPasses, LendsDoors};
 ghost use Rattle.blob_server.specs.declared.server.ServeFault.TheVariants as Faults;
 
-use crate::queue::PeerQueue;
 use crate::pool::work_all;
+use crate::queue::PeerQueue;
 use crate::sessions::{end_sessions, sessions_of};
 use client_session::{Owner, Shared};
 use page_fan::BesideDoor;
