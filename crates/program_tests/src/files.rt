@@ -82,7 +82,7 @@ fn a_file_has_at_most_65536_bytes(rt: HostRuntime) {
 }
 
 #[test]
-fn bytes_that_are_not_utf8_are_refused(rt: HostRuntime) {
+fn a_settings_file_that_is_not_utf8_is_refused(rt: HostRuntime) {
     let file = b"# \xff".as_slice();
     let ran = run_line(&rt, rt.alloc(), "run --settings s", file, "", 64);
     assert_eq!(rt; ran.status, 2);

@@ -2,6 +2,7 @@
 
 ghost use Rattle.std.specs.Prelude.{◌≡◌};
 
+use crate::given::words_of;
 use blobseer_run::run;
 use page_fan::BesideDoor;
 use page_store::DoorMaker;
@@ -110,14 +111,4 @@ pub fn memory_of<R: Abort>(
     let bytes = input.to_vec(alloc).expect(rt, "memory");
     let failing = failing.to_vec(alloc).expect(rt, "memory");
     MemSource::new(bytes, piece.max(1), failing)
-}
-
-// The words of a line, which stand between single spaces: two spaces have an empty word between them.
-fn words_of<R: Abort>(rt: &R, alloc: Global, line: &str) -> Vec<String> {
-    let mut words = Vec::new(alloc);
-    for word in line.split(' ') {
-        let word = String::from_str(alloc, word).expect(rt, "memory");
-        words.push(word).expect(rt, "memory");
-    }
-    words
 }

@@ -1,6 +1,6 @@
 //! Tests of words and settings files together.
 
-use crate::given::words_of;
+use crate::given::{add, words_of};
 use settings::{MergeRefused, Settings, merge, read_text, read_words};
 use std::alloc::Global;
 use std::process::Abort;
@@ -102,15 +102,11 @@ fn texts_of<R: Abort>(rt: &R, alloc: Global, settings: &Settings) -> String {
     format!(in alloc; " texts [{listen}] [{file}]").expect(rt, "memory")
 }
 
-fn add<R: Abort>(rt: &R, line: &mut String, part: String) {
-    line.push_str(part.as_str()).expect(rt, "memory");
-}
-
 fn line_of<R: Abort>(rt: &R, alloc: Global, settings: &Settings) -> String {
     let mut line = store_of(rt, alloc, settings);
-    add(rt, &mut line, limits_of(rt, alloc, settings));
-    add(rt, &mut line, load_of(rt, alloc, settings));
-    add(rt, &mut line, texts_of(rt, alloc, settings));
+    add(rt, &mut line, limits_of(rt, alloc, settings).as_str());
+    add(rt, &mut line, load_of(rt, alloc, settings).as_str());
+    add(rt, &mut line, texts_of(rt, alloc, settings).as_str());
     line
 }
 

@@ -26,7 +26,8 @@ pub fn word_of(command: Command) -> &'static str {
     }
 }
 
-fn add<R: Abort>(rt: &R, line: &mut String, part: &str) {
+/// Adds a part to a line.
+pub fn add<R: Abort>(rt: &R, line: &mut String, part: &str) {
     line.push_str(part).expect(rt, "memory");
 }
 
