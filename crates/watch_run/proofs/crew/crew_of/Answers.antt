@@ -17,11 +17,11 @@ returns-in-Ok-watchers_of-clause-handed_out g c =
     crew_handed m.hands_out m.takes_back c.args.shared.now.providers c.args.readers c.args.maker.now c.open_session.new.maker c.open_session-2.new.maker c.watchers_of.new.maker
     c.in-Ok.ensures.handed_out c.in-Ok-open_session.ensures.handed_out c.in-Ok-watchers_of.ensures.handed_out
 
-pub returns-in_default-clause-all_back : goal.returns-in_default-clause-all_back
-returns-in_default-clause-all_back g c =
+pub returns-in_default-open_session-clause-all_back : goal.returns-in_default-open_session-clause-all_back
+returns-in_default-open_session-clause-all_back g c =
     let m = g.M.DoorMaker in
     came_back_around m.hands_out m.takes_back c.args.shared.now.providers c.args.maker.now c.open_session.new.maker c.open_session-2.new.maker c.end_session.new.maker
-    c.in-Ok.ensures.handed_out c.in_default.ensures.all_back c.end_session.ensures.taken_back
+    c.in-Ok.ensures.handed_out c.in_default-open_session.ensures.all_back c.end_session.ensures.taken_back
 
 pub returns-in-Err-clause-all_back : goal.returns-in-Err-clause-all_back
 returns-in-Err-clause-all_back g c =

@@ -49,7 +49,8 @@ makes-init g c = record {
   owner = first_of (search rules, grind (arith, common_steps));
   given = first_of (search rules, grind (arith, common_steps));
   maker_true = first_of (search rules, grind (arith, common_steps));
-  handed = none_handed g.M.DoorMaker.hands_out g.M.DoorMaker.takes_back c.args.shared.now.providers c.args.maker.now;
+  handed = subst (λ (n : ℕ). Traffic g.M.DoorMaker.hands_out g.M.DoorMaker.takes_back (n * c.args.shared.now.providers) 0 c.args.maker.now c.args.maker.now) (sym c.in-Ok.ensures.len)
+      (none_handed g.M.DoorMaker.hands_out g.M.DoorMaker.takes_back c.args.shared.now.providers c.args.maker.now);
   doors = first_of (search rules, grind (arith, common_steps));
   plan_stays = first_of (search rules, grind (arith, common_steps));
   truth_stays = first_of (search rules, grind (arith, common_steps));

@@ -13,8 +13,8 @@ returns-clause-plan_stays g c n door =
     let e = c.agree_by_turn.ensures in
     (λ h. (e.plan_stays n door).0 ((i.plan_stays n door).0 h), λ h. (i.plan_stays n door).1 ((e.plan_stays n door).1 h))
 
-pub returns-then-clause-lent : goal.returns-then-clause-lent
-returns-then-clause-lent g c =
+pub returns-then-has_place-clause-lent : goal.returns-then-has_place-clause-lent
+returns-then-has_place-clause-lent g c =
     ended_by_place g.M.DoorMaker.hands_out g.M.DoorMaker.takes_back c.args.shared.now.providers c.agree_by_place.result c.args.maker.now c.agree_by_place.new.maker c.agree_by_place.ensures.taken_back
 
 pub returns-clause-lent : goal.returns-clause-lent
