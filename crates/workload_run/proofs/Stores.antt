@@ -35,6 +35,7 @@ use Rattle.workload_run.specs.Look.{SummaryEnds}
 use Rattle.std.proofs.lemmas.List.Sums.{get_or-le-sum_by}
 use Rattle.workload_run.specs.Workers.{WorkerState, AreKept, counted_by, stop_or, AreReady, AreWorkable, HaveRun, AreOfStore, AreBack, first_stop}
 use Rattle.workload_run.proofs.Looks.{mid_same}
+use Rattle.update_work.proofs.Fresh.{fresh_at, own_is, own_finishes}
 use Rattle.update_work.proofs.Returns.{none_by, same_by, came_back, owns_back, tags_of_front, events_append}
 
 -- ---- the opening
