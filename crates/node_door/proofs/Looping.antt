@@ -1,6 +1,6 @@
 -- A link in memory: what is answered to a frame, and what is kept of the frames.
-use Rattle.std.proofs.Common.{◌≡◌, ◌∙◌, ◌⊎◌, ℕ, ◌+◌, ◌-◌, ◌<◌, ◌≤◌, ◌==◌, ◌||◌, nat_lt, Bool, cond, not, true, false, true≢false, List, [], ◌∷◌, ◌++◌, length, take, drop, take-add, take-append-drop, Some, None, get_or, flat_map, refl, sym, ap, subst, arith, append_assoc, append-nil, length-append, length-drop, inl, inr}
-use Rattle.std.proofs.lemmas.List.{take_all, drop-append-le, take-append-le}
+use Rattle.std.proofs.Common.{◌≡◌, ◌∙◌, ◌⊎◌, ℕ, ◌+◌, ◌-◌, ◌<◌, ◌≤◌, ◌==◌, ◌||◌, nat_lt, Bool, cond, not, true, false, true≢false, List, [], ◌∷◌, ◌++◌, length, take, drop, take-add, take-append-drop, None, get_or, flat_map, refl, sym, ap, subst, arith, append_assoc, append-nil, length-append, length-drop, inl, inr}
+use Rattle.std.proofs.lemmas.List.{take_all, drop-append-le}
 use Rattle.std.proofs.Math.Seq.{take-append_seam}
 use Rattle.std.proofs.lemmas.Bool.{cases_lt}
 use Rattle.std.proofs.lemmas.Bool.Decides.{nat_tests}
@@ -364,21 +364,6 @@ pub stands_from : (old old' : FarAt) → old ≡ old' → NodeTranscript (new_no
 stands_from old old' e s = subst (λ (f : FarAt). NodeTranscript (new_node f.node.page_size) (heard f.written).whole f.replies f.node) e s
 
 -- ---- a link's next bytes
-
-pub next_some : (old new : FarAt) (at : ℕ) (bytes : List ℕ) (count faults ends : ℕ) → at ≤ length old.replies → TakesSome old bytes new count
-    → NextTaken (link_at old at faults ends) bytes (link_at new at faults ends) (Some count)
-next_some old new at bytes count faults ends within t = record {
-  some = t.some;
-  within = t.within;
-  written = t.written;
-  given = ap (λ (l : List ℕ). take at l) t.replies ∙ take-append-le at old.replies t.more within;
-  room = t.room;
-  faults = refl;
-  ends = refl;
-}
-
-pub more_room : (old new : FarAt) (at : ℕ) (bytes : List ℕ) (count : ℕ) → at ≤ length old.replies → TakesSome old bytes new count → at ≤ length new.replies
-more_room old new at bytes count within t = let l = length-append old.replies t.more in let e = ap (λ (x : List ℕ). length x) t.replies in omega (arith, within, l, e)
 
 pub next_full : (old : FarAt) (at : ℕ) (bytes : List ℕ) (faults ends : ℕ) → PassesRoom old bytes → NextTaken (link_at old at faults ends) bytes (link_at old at faults ends) None
 next_full old at bytes faults ends (inl p) = (refl, inr (inl p))

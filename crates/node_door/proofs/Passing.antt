@@ -11,7 +11,6 @@ use Rattle.ports.specs.declared.stream.Written.TheVariants as Writtens
 use Rattle.framing.specs.Begun.{frame_part}
 use Rattle.node_door.specs.declared.wire.Exchanged.{Exchanged}
 use Rattle.node_door.specs.declared.wire.Exchanged.TheVariants as Exchange
-use Rattle.page_node.specs.Grammar.{IsOutside}
 use Rattle.node_door.specs.Link.{LinkAt, Passed, WriteBroke, ReadBroke, Sends, TakesAt, Fills, ComparesSoFar, Compares, Tells, IsHeard, Hears, IsExchanged, Exchanges}
 use Rattle.node_door.proofs.Replies.{given_tells, given_other}
 
@@ -40,9 +39,6 @@ passed_on a b c sent sent' got got' p q = record {
 rose_on : (a b c : ℕ) → a ≤ b → RoseBy 1 b c → RoseBy 1 a c
 rose_on a b c on r = record { later = omega (arith, r.later); by = λ below. (let h = r.by below in omega arith) }
 
-rose_then : (a b c : ℕ) → RoseBy 1 a b → b ≤ c → RoseBy 1 a c
-rose_then a b c r on = record { later = omega (arith, r.later); by = λ below. (let h = r.by (omega arith) in omega arith) }
-
 -- what broke later broke in both
 pub read_broke_on : (a b c : LinkAt) (sent got : List ℕ) → Passed sent got a b → ReadBroke b c → ReadBroke a c
 read_broke_on a b c sent got p (inl r) = inl (rose_on a.read_faults b.read_faults c.read_faults p.read_faults r)
@@ -50,9 +46,6 @@ read_broke_on a b c sent got p (inr r) = inr (rose_on a.ends b.ends c.ends p.end
 
 pub write_broke_on : (a b c : LinkAt) (sent got : List ℕ) → Passed sent got a b → WriteBroke b c → WriteBroke a c
 write_broke_on a b c sent got p r = rose_on a.write_faults b.write_faults c.write_faults p.write_faults r
-
-pub write_broke_then : (a b c : LinkAt) (sent got : List ℕ) → WriteBroke a b → Passed sent got b c → WriteBroke a c
-write_broke_then a b c sent got r p = rose_then a.write_faults b.write_faults c.write_faults r p.write_faults
 
 -- ---- writes
 
@@ -108,9 +101,6 @@ pub takes_more : (old new : List ℕ) (at n : ℕ) (a b c : LinkAt) → Passed [
 takes_more old new at n a b c p t =
     subst (λ (l : List ℕ). Passed [] l a c) (ap (λ (l : List ℕ). l ++ take n (drop at new)) (sym t.2) ∙ sym (take-add at n new)) (passed_on a b c [] [] (take at old) (take n (drop at new)) p t.3)
 
-pub fills_whole : (buf : List ℕ) (at : ℕ) (a b : LinkAt) → length buf ≤ at → Passed [] (take at buf) a b → Fills buf a b true
-fills_whole buf at a b all p = record { got = take at buf; passed = p; whole = λ _. take_all at buf all; broke = λ h. absurd (true≢false h) }
-
 pub fills_part : (old new : List ℕ) (at : ℕ) (a b c : LinkAt) → Passed [] (take at old) a b → TakesAt old at new b c None → Fills new a c false
 fills_part old new at a b c p t = record {
   got = take at old;
@@ -153,15 +143,6 @@ sends_by bytes w before before' after ok same told out appends given left rose r
     as_told (inr some) = ap went some.1 ∙ sym some.2
 
 -- ---- bytes that are compared
-
-pub compared_none : (count : ℕ) (want : List ℕ) (same : Bool) (at : LinkAt) → (same ≡ true → count ≡ length want) → (same ≡ false → (count ≡ length want) → ⊥) → ComparesSoFar count want 0 same at at
-compared_none count want same at is other = record {
-  got = [];
-  passed = passed_none at;
-  many = refl;
-  alike = λ h. (is h, refl);
-  unlike = λ h rest lengths e. other h (omega (arith, ap (λ (l : List ℕ). length l) e));
-}
 
 -- what is left of those that are wanted
 rest_of : (at n : ℕ) (got more rest want : List ℕ) → length got ≡ at → length more ≡ n → (got ++ more) ++ rest ≡ want → (got ≡ take at want) × (more ≡ take n (drop at want))
@@ -223,19 +204,12 @@ heard_from want got a b c Exchange.Other sent more p t = t
 heard_from want got a b c Exchange.Broken sent more p (inl broke) = inl (read_broke_on a b c sent more p broke)
 heard_from want got a b c Exchange.Broken sent more p (inr out) = inr out
 
-pub hears_broke : (want front buf : List ℕ) (a b : LinkAt) (ok : Bool) → ok ≡ false → Fills buf a b ok → Hears want front a b Exchange.Broken
-hears_broke want front buf a b ok not f = record { got = f.got; passed = f.passed; heard = inl (f.broke not) }
-
 pub hears_told : (want front buf whole : List ℕ) (a b : LinkAt) (ok : Bool) (r : Exchanged) → ok ≡ true → Fills buf a b ok → front ++ buf ≡ whole → Tells want whole r → Hears want front a b r
 hears_told want front buf whole a b ok r is f joins t = record {
   got = buf;
   passed = subst (λ (l : List ℕ). Passed [] l a b) (f.whole is) f.passed;
   heard = heard_as_told want (front ++ buf) a b r (subst (λ (l : List ℕ). Tells want l r) (sym joins) t);
 }
-
--- the bytes so far are no front of a reply
-pub hears_outside : (want buf front : List ℕ) (a b : LinkAt) (ok : Bool) → ok ≡ true → Fills buf a b ok → buf ≡ front → IsOutside front → Hears want [] a b Exchange.Broken
-hears_outside want buf front a b ok is f same out = hears_told want [] buf front a b ok Exchange.Broken is f same out
 
 -- the rest of a reply behind its head
 pub hears_behind : (want buf front : List ℕ) (a b c : LinkAt) (ok : Bool) (r : Exchanged) → ok ≡ true → Fills buf a b ok → buf ≡ front → Hears want front b c r → Hears want [] a c r
@@ -244,9 +218,6 @@ hears_behind want buf front a b c ok r is f same h = record {
   passed = passed_on a b c [] [] front h.got (subst (λ (l : List ℕ). Passed [] l a b) (f.whole is ∙ same) f.passed) h.passed;
   heard = heard_from want (front ++ h.got) a b c r [] front (subst (λ (l : List ℕ). Passed [] l a b) (f.whole is ∙ same) f.passed) h.heard;
 }
-
-pub hears_given_none : (count : ℕ) (want : List ℕ) (front : List ℕ) (a b : LinkAt) → Compares count want a b None → Hears want front a b Exchange.Broken
-hears_given_none count want front a b k = record { got = k.got; passed = k.passed; heard = inl k.compared }
 
 pub hears_given_same : (count : ℕ) (want : List ℕ) (a b : LinkAt) (same : Bool) → same ≡ true → count < 2097152 → Compares count want a b (Some same) → Hears want (frame_part (1 + count) (161 ∷ [])) a b Exchange.Same
 hears_given_same count want a b same is few k = record { got = k.got; passed = k.passed; heard = given_tells count k.got want few k.compared.0 (k.compared.1 is) }

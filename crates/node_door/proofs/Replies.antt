@@ -39,17 +39,6 @@ whole_frame n bytes fits lengths =
     let k = frame_part-number n bytes fits in
     grind (arith, nat_tests, l, k, lengths)
 
--- and one with another number of them
-other_frame : (n : ℕ) (bytes : List ℕ) → n < 2 ^ 32 → ((length bytes ≡ n) → ⊥) → is_whole (frame_part n bytes) ≡ false
-other_frame n bytes fits other = go (is_whole (frame_part n bytes)) refl
-  where
-    go : (b : Bool) → is_whole (frame_part n bytes) ≡ b → b ≡ false
-    go true e =
-        let l = frame_part-length n bytes in
-        let k = frame_part-number n bytes fits in
-        absurd (other (grind (arith, nat_tests, l, k, e)))
-    go false e = refl
-
 pub reply_frame : (n : ℕ) (bytes : List ℕ) → n ≤ max_frame → length bytes ≡ n → is_reply bytes ≡ true → is_reply_frame (frame_part n bytes) ≡ true
 reply_frame n bytes few lengths reply =
     let fits : n < 2 ^ 32 = omega arith in
