@@ -7,10 +7,12 @@ use Rattle.blob_server.specs.Serving.{LendsDoors}
 use Rattle.watch_run.specs.Doors.{SessionsLent}
 use Rattle.blob_server.specs.declared.server.ServeFault.{ServeFault}
 use Rattle.blob_server.specs.declared.server.ServeFault.TheVariants as ServeFaults
+use Rattle.settings.specs.declared.table.Command.{Command}
+use Rattle.settings.specs.Values.{SettingsValues}
 use Rattle.blobseer_run.specs.declared.status.Status.{Status}
 use Rattle.blobseer_run.specs.Status.{code_of, out_of_memory}
 use Rattle.blobseer_run.specs.Hosting as hosting
-use Rattle.blobseer_run.specs.Lending.{CameBack, Lends, LendsWatch}
+use Rattle.blobseer_run.specs.Lending.{CameBack, LendsBy, Lends, LendsWatch}
 use Rattle.blobseer_run.proofs.Early.{IsEarly}
 
 module _ {M : Type 0} (hands_out takes_back : M → M → Type 0) where
@@ -66,3 +68,7 @@ module _ {M : Type 0} (hands_out takes_back : M → M → Type 0) where
       → Lends doors (CameBack hands_out takes_back first last) (code_of status)
   ended_early doors first last status before after (inl e) back = Lends.early back.0 back.1 (inl (ap code_of e))
   ended_early doors first last status before after (inr e) back = Lends.early back.0 back.1 (inr (ap code_of e.0))
+
+-- what is said of a command is said of each that is the same
+pub by_command : (command k : Command) (settings : SettingsValues) (Back : ℕ → Type 0) (status : ℕ) → command ≡ k → LendsBy k settings Back status → LendsBy command settings Back status
+by_command command k settings Back status is lends = subst (λ (c : Command). LendsBy c settings Back status) (sym is) lends

@@ -84,14 +84,14 @@ pub new_store_of : {E : Type 0} (settings : SettingsValues) (bounds : Bounds) (p
     → IfOk made (λ r. IsOwnerOf r.0 r.1) → IfOk made (λ r. r.1 ≡ record { lock = r.0.lock; made = 0; out = 0; seen = []; fixed = Some r.0.fixed; kept = [] })
     → IfOk made (λ r. r.0.fixed.limits ≡ bounds) → IfOk made (λ r. r.0.fixed.page_size ≡ page) → IfOk made (λ r. r.0.providers ≡ providers) → IfOk made (λ r. r.0.replicas ≡ replicas)
     → IfOk made (λ r. IsNewStore settings bounds r.0 r.1)
-new_store_of settings bounds page providers replicas (Ok r) page_is providers_are replicas_are owned new limits size many copies = record {
+new_store_of settings bounds page providers replicas (Ok r) page_is providers_are replicas_are owned fresh limits size many copies = record {
   owned = owned;
-  no_pass = ap (λ (o : OwnerView Event DeskFixed). o.made) new;
-  none_out = ap (λ (o : OwnerView Event DeskFixed). o.out) new;
-  none_seen = ap (λ (o : OwnerView Event DeskFixed). o.seen) new;
+  no_pass = ap (λ (o : OwnerView Event DeskFixed). o.made) fresh;
+  none_out = ap (λ (o : OwnerView Event DeskFixed). o.out) fresh;
+  none_seen = ap (λ (o : OwnerView Event DeskFixed). o.seen) fresh;
   limits = limits;
   page_size = size ∙ page_is;
   providers = many ∙ providers_are;
   replicas = copies ∙ replicas_are;
 }
-new_store_of settings bounds page providers replicas (Err e) page_is providers_are replicas_are owned new limits size many copies = tt
+new_store_of settings bounds page providers replicas (Err e) page_is providers_are replicas_are owned fresh limits size many copies = tt

@@ -2,7 +2,7 @@ use Rattle.std.proofs.Common.{◌≡◌, refl, ◌∙◌, ap, arith}
 use Rattle.settings.specs.Values.{SettingsValues}
 use Rattle.store_sessions.proofs.Fresh.{fresh_doors}
 use Rattle.blobseer_run.specs.Script.{fixed_of, IsCalm}
-use Rattle.blobseer_run.proofs.Lendings.{one_session}
+use Rattle.blobseer_run.proofs.Lendings.{starved, one_session}
 use Rattle.blobseer_run.proofs.Runs.{gave_back}
 use Rattle.blobseer_run.proofs.FilesServed.{did, did_as, did_none}
 use Rattle.blobseer_run.proofs.Stores.{fixed_there}
@@ -10,6 +10,9 @@ use Rattle.blobseer_run.proofs.filing.answer_lines.Goals as goal
 
 pub returns-in_default-clause-did : goal.returns-in_default-clause-did
 returns-in_default-clause-did g c = did_none (fixed_of c.args.settings.now) c.args.settings.now.providers (IsCalm g.M.Door.Door.faults) _ _ refl refl refl refl (omega (arith, c.new.ensures.count_stays))
+
+pub returns-in_default-clause-lent : goal.returns-in_default-clause-lent
+returns-in_default-clause-lent g c = starved g.M.DoorMaker.hands_out g.M.DoorMaker.takes_back _ _ _ c.in_default.ensures.all_back
 
 pub returns-clause-did : goal.returns-clause-did
 returns-clause-did g c =

@@ -6,7 +6,7 @@ use Rattle.blobseer_run.proofs.PeersServed.{starved_there}
 use Rattle.blobseer_run.proofs.hosting.serve_peers.Goals as goal
 
 pub serve_store-requires-clause-store : goal.serve_store-requires-clause-store
-serve_store-requires-clause-store g c = subst (λ (s : SettingsValues). IsNewStore c.args.settings.now s.limits c.in-Ok.shared c.in-Ok.owner) c.settings.view_is c.in-Ok.ensures
+serve_store-requires-clause-store g c κs within = subst (λ (s : SettingsValues). IsNewStore c.args.settings.now s.limits c.in-Ok.shared c.in-Ok.owner) c.settings.view_is c.in-Ok.ensures
 
 pub returns-in_default-clause-did : goal.returns-in_default-clause-did
 returns-in_default-clause-did g c =

@@ -1,4 +1,4 @@
-use Rattle.std.proofs.Common.{◌≡◌, refl, sym, ◌∙◌, ap, arith}
+use Rattle.std.proofs.Common.{◌≡◌, refl, ◌∙◌, ap, arith}
 use Rattle.settings.specs.Values.{SettingsValues}
 use Rattle.blobseer_run.specs.Script.{fixed_of, IsCalm}
 use Rattle.blobseer_run.proofs.Runs.{gave_back, ran, ran_as, ran_none}
@@ -9,6 +9,9 @@ use Rattle.blobseer_run.proofs.serving.answer_script.Goals as goal
 
 pub returns-in_default-clause-did : goal.returns-in_default-clause-did
 returns-in_default-clause-did g c = ran_none (fixed_of c.args.settings.now) (IsCalm g.M.Door.Door.faults) _ _ refl refl refl refl (omega (arith, c.new.ensures.count_stays))
+
+pub returns-in_default-clause-lent : goal.returns-in_default-clause-lent
+returns-in_default-clause-lent g c = starved g.M.DoorMaker.hands_out g.M.DoorMaker.takes_back _ _ _ c.in_default.ensures.all_back
 
 pub returns-clause-did : goal.returns-clause-did
 returns-clause-did g c =

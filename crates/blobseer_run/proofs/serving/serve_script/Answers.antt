@@ -7,7 +7,7 @@ use Rattle.blobseer_run.proofs.Runs.{ran_none}
 use Rattle.blobseer_run.proofs.serving.serve_script.Goals as goal
 
 pub answer_script-requires-clause-store : goal.answer_script-requires-clause-store
-answer_script-requires-clause-store g c = subst (λ (s : SettingsValues). IsNewStore c.args.settings.now s.limits c.in-Ok.shared c.in-Ok.owner) c.settings.view_is c.in-Ok.ensures
+answer_script-requires-clause-store g c κs within = subst (λ (s : SettingsValues). IsNewStore c.args.settings.now s.limits c.in-Ok.shared c.in-Ok.owner) c.settings.view_is c.in-Ok.ensures
 
 pub returns-in_default-clause-did : goal.returns-in_default-clause-did
 returns-in_default-clause-did g c = ran_none (fixed_of c.args.settings.now) (IsCalm g.M.Door.Door.faults) _ _ refl refl refl refl (omega arith)

@@ -7,9 +7,9 @@ use Rattle.blobseer_run.proofs.Lendings.{watched, watched_early, ended_early}
 use Rattle.blobseer_run.proofs.Measures.{whole_there, ended_there, at_lines}
 use Rattle.blobseer_run.proofs.watching.watch_store.Goals as goal
 
-pub returns-in-Ok-watch-clause-did : goal.returns-in-Ok-watch-clause-did
-returns-in-Ok-watch-clause-did g c =
-    let lines = ap (said _) c.in-Ok-watch.ensures.summary in
+pub returns-in-Ok-clause-did : goal.returns-in-Ok-clause-did
+returns-in-Ok-clause-did g c =
+    let lines = ap (said _) c.in-Ok.ensures.summary in
     let told = c.tell_lines.ensures.told _ c.lines.ensures in
     at_lines _ _ _ _ _ (ap (λ (s : SettingsValues). watch_lines (plan_of s)) c.settings.view_is)
     (whole_there _ _ _ (record { given = refl; left = refl; reads = refl; ends = refl }) refl _ _ lines told)
@@ -18,9 +18,9 @@ pub returns-in-Err-clause-did : goal.returns-in-Err-clause-did
 returns-in-Err-clause-did g c =
     ended_there _ _ _ (record { given = refl; left = refl; reads = refl; ends = refl }) refl refl _ (ended_so c.in-Err.fault _ _ _ c.status_of.ensures c.in-Err.ensures.early)
 
-pub returns-in-Ok-watch-clause-lent : goal.returns-in-Ok-watch-clause-lent
-returns-in-Ok-watch-clause-lent g c =
-    watched g.M.DoorMaker.hands_out g.M.DoorMaker.takes_back _ _ _ _ _ _ _ (ap (λ (s : SettingsValues). s.readers) c.settings.view_is) c.requires.store.providers c.in-Ok-watch.ensures.lent
+pub returns-in-Ok-clause-lent : goal.returns-in-Ok-clause-lent
+returns-in-Ok-clause-lent g c =
+    watched g.M.DoorMaker.hands_out g.M.DoorMaker.takes_back _ _ _ _ _ _ _ (ap (λ (s : SettingsValues). s.readers) c.settings.view_is) c.requires.store.providers c.in-Ok.ensures.lent
 
 pub returns-in-Err-clause-lent : goal.returns-in-Err-clause-lent
 returns-in-Err-clause-lent g c =
