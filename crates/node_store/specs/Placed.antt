@@ -1,5 +1,6 @@
 -- What lies in a house, and where.
 use Rattle.std.specs.Prelude.{ℕ, ◌%◌, List, map}
+use Rattle.boxcar.specs.Slot.{Named}
 use Rattle.boxcar.specs.Table.{first, others}
 use Rattle.tree_geom.specs.declared.node.Node.{Node}
 use Rattle.tree_geom.specs.declared.node.Node.TheVariants.{Inner}
@@ -9,6 +10,14 @@ pub record Spot : Type 0 where
   pub shard : ℕ
   pub shelf : ℕ
   pub mark : ℕ
+
+-- the names of slots
+abbrev pub names_of : List Named → List ℕ
+names_of slots = map (λ (s : Named). s.id) slots
+
+-- the names of the slots of a block whose tag that is: behind where the block was pushed
+abbrev pub slots_there : List ℕ → List ℕ
+slots_there place = others (others place)
 
 -- where the nodes of a version lie, whose tag tells their shelf and its mark
 abbrev pub spot_of : ℕ → List ℕ → Spot

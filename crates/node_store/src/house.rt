@@ -122,13 +122,15 @@ struct Room {
     first: usize,
 }
 
-// A row's tag tells where a block was pushed in its shard: the number of its bucket, and the name of the slot that holds the bucket.
+// A row's tag tells where a block was pushed in its shard, by the number of its bucket and the name of the slot that holds the bucket,
+// and then the names of the block's own slots.
 struct Place;
 
 impl Names<Pushed<Block>> for Place {
-    ghost use Rattle.std.specs.Prelude.{[], ◌∷◌};
+    ghost use Rattle.std.specs.Prelude.{◌∷◌};
+    ghost use Rattle.node_store.specs.Placed.{names_of};
 
-    ghost numbers = { λ block. block.bucket ∷ block.row ∷ [] };
+    ghost numbers = { λ block. block.bucket ∷ block.row ∷ names_of block.value };
 }
 
 impl Shard {
@@ -236,7 +238,7 @@ pub struct RowNodes {
     first: usize,
     puts: Vec<Put>,
     version: u64,
-    // where the block of the slots stands in its shard, which proofs alone ask for; it has no bytes
+    // where the block of the slots stands in its shard, and the names of its slots, which proofs alone ask for; it has no bytes
     place: Tag,
 }
 
