@@ -12,6 +12,6 @@ use Rattle.blobseer_run.specs.Measuring.{status_of}
 abbrev pub IsEarly : Status → ℕ → ℕ → Type 0
 IsEarly status before after = (status ≡ Statuses.OutOfMemory) ⊎ ((status ≡ Statuses.LoadEndedEarly) × Rises before after)
 
-pub ended_so : (end : EarlyEnd) (before after : ℕ) (status : Status) → status ≡ status_of end → EndsEarly end before after → IsEarly status before after
-ended_so (Ends.Refused fault) before after status is lost = inr (is, lost.rose)
-ended_so Ends.NoMemory before after status is ended = inl is
+pub ended_so : (IsPage : ℕ → Type 0) (end : EarlyEnd) (before after : ℕ) (status : Status) → status ≡ status_of end → EndsEarly IsPage end before after → IsEarly status before after
+ended_so IsPage (Ends.Refused fault) before after status is lost = inr (is, lost.rose)
+ended_so IsPage Ends.NoMemory before after status is ended = inl is

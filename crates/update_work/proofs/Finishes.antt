@@ -67,12 +67,12 @@ module _ (ends : FinishesEnd) (mid : Session) (blob number : ℕ) (told : Result
     holds_on fault before least is (FinishEnds.waits least' said h) = h
     holds_on fault before least is (FinishEnds.hinders f said other hindered stops) = absurd (other before least (sym (same_fault fault f said) ∙ is))
 
-    finish_hinders : (fault : Fault) → ((first : List Event) → UpdateHindered s.fixed.limits s.caller blob place bytes first s'.seen fault) → StopsAt s blob place bytes (still_held number fault) s'
+    finish_hinders : (fault : Fault) → UpdateHindered s.fixed.limits s.fixed.page s.caller blob place bytes s.seen s'.seen fault → StopsAt s blob place bytes (still_held number fault) s'
         → IsHindered s blob place bytes fault (still_held number fault) s'
     finish_hinders fault hindered stops = record {
       more = [];
       of_others = ap (λ (h : List Event). events_by s.caller h) (append-nil s.seen);
-      hindered = hindered (s.seen ++ []);
+      hindered = subst (λ (h : List Event). UpdateHindered s.fixed.limits s.fixed.page s.caller blob place bytes h s'.seen fault) (sym (append-nil s.seen)) hindered;
       stops = stops;
     }
 
@@ -235,6 +235,6 @@ stopped stay s blob place bytes fault held mid s' later seen none hindered hung 
       more = hindered.more;
       of_others = hindered.of_others;
       hindered =
-          subst (λ (h : List Event). UpdateHindered s.fixed.limits s.caller blob place bytes (s.seen ++ hindered.more) h fault) (sym seen)
-          (stay s.fixed.limits s.caller blob place bytes (s.seen ++ hindered.more) mid.seen later fault hindered.hindered);
+          subst (λ (h : List Event). UpdateHindered s.fixed.limits s.fixed.page s.caller blob place bytes (s.seen ++ hindered.more) h fault) (sym seen)
+          (stay s.fixed.limits s.fixed.page s.caller blob place bytes (s.seen ++ hindered.more) mid.seen later fault hindered.hindered);
     }

@@ -157,15 +157,15 @@ module _ (adds : LeavesAdd) (later : StopsLater) (held_later : HoldsLater) (s mi
       let own : Leaves mid (update_events s.caller blob place bytes version) s' = subst (λ (c : ℕ). Leaves mid (update_events c blob place bytes version) s') waited.leaves.caller l in
       record { version = version; leaves = adds s mid s' [] (update_events s.caller blob place bytes version) waited.leaves own; none_held = t ∙ (waited.tickets ∙ none) }
 
-  tried_hindered : (fault : Fault) → UpdateHindered mid.fixed.limits mid.caller blob place bytes mid.seen s'.seen fault → StopsAt mid blob place bytes (ticket_of fault) s'
+  tried_hindered : (fault : Fault) → UpdateHindered mid.fixed.limits mid.fixed.page mid.caller blob place bytes mid.seen s'.seen fault → StopsAt mid blob place bytes (ticket_of fault) s'
       → IsHindered s blob place bytes fault (ticket_of fault) s'
   tried_hindered fault hindered stops = record {
     more = waited.leaves.more;
     of_others = ap (λ (h : List Event). events_by s.caller h) (sym waited.leaves.seen) ∙ (waited.leaves.mine ∙ append-nil (events_by s.caller s.seen));
     hindered =
-        subst (λ (h : List Event). UpdateHindered s.fixed.limits s.caller blob place bytes h s'.seen fault) waited.leaves.seen
-        (subst (λ (f : Fixed). UpdateHindered f.limits s.caller blob place bytes mid.seen s'.seen fault) waited.leaves.fixed
-        (subst (λ (c : ℕ). UpdateHindered mid.fixed.limits c blob place bytes mid.seen s'.seen fault) waited.leaves.caller hindered));
+        subst (λ (h : List Event). UpdateHindered s.fixed.limits s.fixed.page s.caller blob place bytes h s'.seen fault) waited.leaves.seen
+        (subst (λ (f : Fixed). UpdateHindered f.limits f.page s.caller blob place bytes mid.seen s'.seen fault) waited.leaves.fixed
+        (subst (λ (c : ℕ). UpdateHindered mid.fixed.limits mid.fixed.page c blob place bytes mid.seen s'.seen fault) waited.leaves.caller hindered));
     stops = later s mid s' blob place bytes (ticket_of fault) waited.leaves waited.tickets stops;
   }
 

@@ -11,13 +11,14 @@ ended_by Faults.NoMemory = Ends.NoMemory
 ended_by (Faults.NoMemoryTicket ticket) = Ends.NoMemory
 ended_by fault = Ends.Refused fault
 
--- A page was lost, and the count rose, which stands still at the greatest u64.
-pub record LostPage (fault : Fault) (before after : ℕ) : Type 0 where
+-- A page was lost, which is one of those, and the count rose, which stands still at the greatest u64.
+pub record LostPage (IsPage : ℕ → Type 0) (fault : Fault) (before after : ℕ) : Type 0 where
   pub page : ℕ
+  pub is_page : IsPage page
   pub lost : fault ≡ Faults.PageFault page
   pub rose : after < 2 ^ 64 - 1 → before + 1 ≤ after
 
--- it ends so only where a page was lost, or for want of memory
-abbrev pub EndsEarly : EarlyEnd → ℕ → ℕ → Type 0
-EndsEarly (Ends.Refused fault) before after = LostPage fault before after
-EndsEarly Ends.NoMemory before after = Unit {0}
+-- it ends so only where one of those pages was lost, or for want of memory
+abbrev pub EndsEarly : (ℕ → Type 0) → EarlyEnd → ℕ → ℕ → Type 0
+EndsEarly IsPage (Ends.Refused fault) before after = LostPage IsPage fault before after
+EndsEarly IsPage Ends.NoMemory before after = Unit {0}

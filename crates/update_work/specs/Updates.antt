@@ -71,13 +71,13 @@ pub record IsStopped (s : Session) (blob : ℕ) (place : Place) (bytes : List �
   pub stopped : StoppedWithin s (update_events s.caller blob place bytes version) s'
   pub more : List Event
   pub of_others : events_by s.caller (s.seen ++ more) ≡ events_by s.caller s.seen
-  pub hindered : UpdateHindered s.fixed.limits s.caller blob place bytes (s.seen ++ more) s'.seen fault
+  pub hindered : UpdateHindered s.fixed.limits s.fixed.page s.caller blob place bytes (s.seen ++ more) s'.seen fault
 
 -- The same before it hung up: it may hold the update under a ticket.
 pub record IsHindered (s : Session) (blob : ℕ) (place : Place) (bytes : List ℕ) (fault : Fault) (ticket : Option ℕ) (s' : Session) : Type 0 where
   pub more : List Event
   pub of_others : events_by s.caller (s.seen ++ more) ≡ events_by s.caller s.seen
-  pub hindered : UpdateHindered s.fixed.limits s.caller blob place bytes (s.seen ++ more) s'.seen fault
+  pub hindered : UpdateHindered s.fixed.limits s.fixed.page s.caller blob place bytes (s.seen ++ more) s'.seen fault
   pub stops : StopsAt s blob place bytes ticket s'
 
 -- the update is held back under a ticket

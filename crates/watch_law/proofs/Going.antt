@@ -20,10 +20,11 @@ use Rattle.request_form.specs.Replies.{fault_of}
 use Rattle.request_form.specs.declared.form.Fault.{Fault}
 use Rattle.workload_law.specs.Numbered.{IsNumberedBy}
 use Rattle.workload_law.specs.Sessions.{FinishesItsOwn}
-use Rattle.workload_law.specs.Ends.{UpdateHindered, IsOutside}
+use Rattle.workload_law.specs.Ends.{UpdateHindered, IsOutside, IsPageOf, AnyPage}
 use Rattle.workload_law.proofs.Appends.{Appends}
 use Rattle.workload_law.proofs.GoingOn.{limits_stay, only_full}
 use Rattle.workload_law.proofs.Grid.{cell_length}
+use Rattle.workload_law.proofs.Lost.{outside_as}
 use Rattle.workload_law.proofs.OneCaller.{legal_front}
 use Rattle.workload_law.proofs.OwnEvents.{nobody_else}
 use Rattle.watch_law.specs.declared.plan.WatchPlan.{WatchPlan}
@@ -98,9 +99,10 @@ module _ (plan : WatchPlan) (history : List Event) (sized : IsSized plan) (legal
         only_full (store_of greatest (Events.Create 1 ∷ es)) 1 (blob_after es) 2 Append (piece_of plan op) (blob_there es front_legal) (limits_stay (empty_store greatest) (Events.Create 1 ∷ es))
         (omega arith) (omega (arith, front_size, front_few, cell_length plan.seed 0 op)) (omega (arith, front_few)) refusal refused
 
-  module _ (op : ℕ) (seen more later : List Event) (fault : Fault) (goes : history ≡ seen ++ more) where
-    by_outside : UpdateHindered greatest 2 1 Append (piece_of plan op) (Events.Create 1 ∷ later) seen fault → IsOutside fault
-    by_outside (UpdateHindered.outside out) = out
+  module _ (p op : ℕ) (seen more later : List Event) (fault : Fault) (goes : history ≡ seen ++ more) where
+    by_outside : UpdateHindered greatest p 2 1 Append (piece_of plan op) (Events.Create 1 ∷ later) seen fault → IsOutside AnyPage fault
+    by_outside (UpdateHindered.outside out) =
+        outside_as (IsPageOf greatest p 2 1 Append (piece_of plan op) (Events.Create 1 ∷ later) seen) AnyPage (λ page its. tt) fault out
     by_outside (UpdateHindered.refused r other) =
         let front : List Event = later ++ r.others in
         let whole : history ≡ Events.Create 1 ∷ (front ++ (r.rest ++ more)) =
@@ -117,6 +119,6 @@ module _ (plan : WatchPlan) (history : List Event) (sized : IsSized plan) (legal
         absurd (true≢false (sym found ∙ nobody_else greatest history legal each_own 2 1 version at size Append (piece_of plan op) before between (rest ++ more) whole numbered gap))
 
 pub nothing_else_hinders : (plan : WatchPlan) (history : List Event) → IsSized plan → IsLegal greatest history → IsUnderway plan history → FinishesItsOwn greatest history 2
-    → (op : ℕ) (seen more later : List Event) (fault : Fault) → history ≡ seen ++ more
-    → UpdateHindered greatest 2 1 Append (piece_of plan op) (Events.Create 1 ∷ later) seen fault → IsOutside fault
-nothing_else_hinders plan history sized legal under own op seen more later fault goes hindered = by_outside plan history sized legal under own op seen more later fault goes hindered
+    → (p op : ℕ) (seen more later : List Event) (fault : Fault) → history ≡ seen ++ more
+    → UpdateHindered greatest p 2 1 Append (piece_of plan op) (Events.Create 1 ∷ later) seen fault → IsOutside AnyPage fault
+nothing_else_hinders plan history sized legal under own p op seen more later fault goes hindered = by_outside plan history sized legal under own p op seen more later fault goes hindered

@@ -9,7 +9,7 @@ use Rattle.blob_model.specs.declared.call.Event.TheVariants as Events
 use Rattle.blob_model.specs.declared.call.Place.TheVariants.{Append}
 use Rattle.request_form.specs.declared.form.Fault.{Fault}
 use Rattle.workload_law.specs.Sessions.{FinishesItsOwn}
-use Rattle.workload_law.specs.Ends.{UpdateHindered, IsOutside}
+use Rattle.workload_law.specs.Ends.{UpdateHindered, IsOutside, AnyPage}
 use Rattle.watch_law.specs.declared.plan.WatchPlan.{WatchPlan}
 use Rattle.watch_law.specs.Watch.{IsSized, piece_of, IsUnderway, IsWatch, HaveCome}
 
@@ -34,5 +34,5 @@ BlobsAreThere = (later : List Event) → IsLegal greatest (Events.Create 1 ∷ l
 -- Where a watch's history goes on from what the writer has seen, and the writer finishes only its own, nothing but the outside hinders an operation.
 abbrev pub NothingElseHinders : Type 0
 NothingElseHinders = (plan : WatchPlan) (history : List Event) → IsSized plan → IsLegal greatest history → IsUnderway plan history → FinishesItsOwn greatest history 2
-    → (op : ℕ) (seen more later : List Event) (fault : Fault) → history ≡ seen ++ more
-    → UpdateHindered greatest 2 1 Append (piece_of plan op) (Events.Create 1 ∷ later) seen fault → IsOutside fault
+    → (p op : ℕ) (seen more later : List Event) (fault : Fault) → history ≡ seen ++ more
+    → UpdateHindered greatest p 2 1 Append (piece_of plan op) (Events.Create 1 ∷ later) seen fault → IsOutside AnyPage fault

@@ -23,8 +23,9 @@ use Rattle.version_manager.specs.Laws.{EntriesAreEvents}
 use Rattle.version_manager.specs.declared.journal.DeskFixed.{DeskFixed}
 use Rattle.request_form.specs.Answers.{max_read}
 use Rattle.request_form.specs.declared.form.Fault.{Fault}
-use Rattle.workload_law.specs.Ends.{IsOutside, UpdateHindered, CreateHindered, RefusedAt}
+use Rattle.workload_law.specs.Ends.{IsOutside, NoPage, AnyPage, UpdateHindered, CreateHindered, RefusedAt}
 use Rattle.workload_law.proofs.Closing.{nobodys_are_none}
+use Rattle.workload_law.proofs.Lost.{outside_as}
 use Rattle.workload_law.proofs.OneCaller.{legal_front}
 use Rattle.update_work.proofs.Returns.{none_by, events_append, no_front}
 use Rattle.watch_law.specs.declared.plan.WatchPlan.{WatchPlan}
@@ -79,7 +80,7 @@ module _ (are : EntriesAreEvents) (plan : WatchPlan) (sized : IsSized plan) (f :
   ungiven c not = none_by are owner.seen c tags (lacks c not)
 
   -- ---- nothing was made
-  unopened_outside : (fault : Fault) → IsUnopened fault owner → IsOutside fault
+  unopened_outside : (fault : Fault) → IsUnopened fault owner → IsOutside AnyPage fault
   unfolding history
   unopened_outside fault u = by_cause u.hindered
     where
@@ -94,8 +95,8 @@ module _ (are : EntriesAreEvents) (plan : WatchPlan) (sized : IsSized plan) (f :
       empty : history ≡ []
       empty = nobodys_are_none [] history none
 
-      by_cause : CreateHindered greatest 1 [] (events u.seen) fault → IsOutside fault
-      by_cause (CreateHindered.outside out) = out
+      by_cause : CreateHindered greatest 1 [] (events u.seen) fault → IsOutside AnyPage fault
+      by_cause (CreateHindered.outside out) = outside_as NoPage AnyPage (λ page none. tt) fault out
       by_cause (CreateHindered.refused r) =
           let seen_none : events u.seen ≡ [] = no_front (events u.seen) (events u.begins.0) (sym (begins_events u.seen owner.seen u.begins) ∙ empty) in
           let others : r.others ≡ [] = no_front r.others r.rest (sym r.split ∙ seen_none) in
@@ -140,12 +141,12 @@ module _ (are : EntriesAreEvents) (plan : WatchPlan) (sized : IsSized plan) (f :
     unfolding history
     under = record { written = events_by 2 history; is = history_is; begun = w.begun }
 
-    writer_outside : NothingElseHinders → (op : ℕ) (seen : Entries) (later : List Event) (fault : Fault) → Begins seen owner.seen
-        → UpdateHindered greatest 2 1 Append (piece_of plan op) (events first ++ later) (events seen) fault → IsOutside fault
+    writer_outside : NothingElseHinders → (p op : ℕ) (seen : Entries) (later : List Event) (fault : Fault) → Begins seen owner.seen
+        → UpdateHindered greatest p 2 1 Append (piece_of plan op) (events first ++ later) (events seen) fault → IsOutside AnyPage fault
     unfolding history
-    writer_outside nothing op seen later fault begins hindered =
-        nothing plan history sized legal under w.own op (events seen) (events begins.0) later fault (begins_events seen owner.seen begins)
-        (subst (λ (l : List Event). UpdateHindered greatest 2 1 Append (piece_of plan op) (l ++ later) (events seen) fault) first_is hindered)
+    writer_outside nothing p op seen later fault begins hindered =
+        nothing plan history sized legal under w.own p op (events seen) (events begins.0) later fault (begins_events seen owner.seen begins)
+        (subst (λ (l : List Event). UpdateHindered greatest p 2 1 Append (piece_of plan op) (l ++ later) (events seen) fault) first_is hindered)
 
     not_missing : BlobsAreThere → (seen : Entries) → Begins first seen → Begins seen owner.seen → blob_at (store_of greatest (events seen)) 1 ≡ None → ⊥
     unfolding history
@@ -220,10 +221,10 @@ module _ (are : EntriesAreEvents) (plan : WatchPlan) (sized : IsSized plan) (f :
 
   -- ---- all ends
   module _ (together : ComeTogether) (dones : WatchesAreDone) (there : BlobsAreThere) (nothing : NothingElseHinders) where
-    fault_outside : (fault : Fault) → EndsBy plan f owner fault → IsOutside fault
+    fault_outside : (fault : Fault) → EndsBy plan f owner fault → IsOutside AnyPage fault
     fault_outside fault (EndsBy.outside out) = out
     fault_outside fault (EndsBy.unopened u) = unopened_outside fault u
-    fault_outside fault (EndsBy.writer first w op seen later begins hindered) = writer_outside together first w nothing op seen later fault begins hindered
+    fault_outside fault (EndsBy.writer first w p op seen later begins hindered) = writer_outside together first w nothing p op seen later fault begins hindered
     fault_outside fault (EndsBy.missing first w seen from begins none) = absurd (not_missing together first w there seen from begins none)
     fault_outside fault (EndsBy.too_long first old new w all begins version size last long) = absurd (not_long together first w dones old new all begins version size last long)
 

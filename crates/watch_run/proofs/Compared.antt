@@ -36,7 +36,7 @@ use Rattle.read_board.specs.declared.standing.Way.{Way}
 use Rattle.read_board.specs.Reads.{Goes, goes_by}
 use Rattle.read_board.specs.Refreshes.{updates_of}
 use Rattle.read_board.specs.Laws.{Agrees}
-use Rattle.workload_law.specs.Ends.{IsOutside}
+use Rattle.workload_law.specs.Ends.{IsOutside, AnyPage}
 use Rattle.workload_law.proofs.ReadBack.{found}
 use Rattle.update_work.proofs.Returns.{events_append}
 use Rattle.watch_run.specs.Agreeing.{IsVersionIn, IsSeenBy}
@@ -52,17 +52,17 @@ prefix_both xs ys zs p q = (p.0 ++ q.0, sym (append_assoc xs p.0 q.0) ∙ (ap (�
 -- where a reader with a place reads nothing, the outside failed
 pub place_stop : {D : Type 0} (f : DeskFixed) (log : Entries) (list : List Refresh) (blob version : ℕ) → Agrees f log list blob version → (has_place : Bool) → has_place ≡ true → (s s' : SessionState D) (count : ℕ)
     (expected : List ℕ) (fault : Fault) (before after : ℕ) → Goes (goes_by has_place list blob version) s blob version 0 count (Err fault) s' before after → count ≡ length expected
-    → expected ≡ content (updates_in (desk_at f log) blob) version → length expected ≤ max_read → IsOutside fault
+    → expected ≡ content (updates_in (desk_at f log) blob) version → length expected ≤ max_read → IsOutside AnyPage fault
 place_stop f log list blob version a false has s s' count expected fault before after goes counted is few = absurd (let no : false ≡ true = has in cc)
 place_stop f log list blob version a true has s s' count expected fault before after goes counted is few =
     let by = subst (λ (o : Option Refresh). Goes o s blob version 0 count (Err fault) s' before after) a.goes goes in
     let long : size_of (updates_of a.refresh) version ≡ count = ap (λ (l : List ℕ). length l) (a.content ∙ sym is) ∙ sym counted in
     by_cause by.reads.cause long
   where
-    by_cause : RangeCause s.store.fixed.page_size (updates_of a.refresh) version 0 count fault → size_of (updates_of a.refresh) version ≡ count → IsOutside fault
+    by_cause : RangeCause s.store.fixed.page_size (updates_of a.refresh) version 0 count fault → size_of (updates_of a.refresh) version ≡ count → IsOutside AnyPage fault
     by_cause (RangeCause.too_long said more) long = absurd (omega (arith, more, counted, few))
     by_cause (RangeCause.past said within past) long = absurd (omega (arith, past, long))
-    by_cause (RangeCause.lost page said within ends met) long = IsOutside.lost page said
+    by_cause (RangeCause.lost page said within ends met) long = IsOutside.lost page tt said
     by_cause (RangeCause.no_memory said) long = IsOutside.starved said
 
 -- where it reads something, these are the bytes
@@ -124,7 +124,7 @@ short_read s s' version count fault few answers is = by_test (nat_lt max_read co
 -- so the whole of a version is read that was published in a history that the session has seen
 abbrev pub TurnTells : List ℕ → Result (List ℕ) Fault → Type 0
 TurnTells expected (Ok bytes) = bytes ≡ expected
-TurnTells expected (Err fault) = IsOutside fault
+TurnTells expected (Err fault) = IsOutside AnyPage fault
 
 module _ (s s' : Session) (version : ℕ) (expected : List ℕ) (few : length expected ≤ max_read) (store : Store) (b : Blob) (at : blob_at store 1 ≡ Some b) (out : version ≤ published b) (is : expected ≡ content b.updates version) where
   told_outcome : read_outcome store (record { blob = 1; version = version; offset = 0; count = length expected }) ≡ Outcomes.Content expected
@@ -141,7 +141,7 @@ module _ (s s' : Session) (version : ℕ) (expected : List ℕ) (few : length ex
   turn_tells (Err fault) answers (Tells.outcome_told told) = absurd (let no : Replies.Refused fault ≡ Replies.Content expected = told ∙ ap (λ (o : Outcome). reply_of o) told_outcome in cc)
   turn_tells (Err fault) answers (Tells.too_long told) = absurd (short_read s s' version (length expected) fault few answers (same_fault fault (Faults.ReadTooLong (length expected)) told))
   turn_tells (Err fault) answers (Tells.out_of_memory told) = IsOutside.starved (same_fault fault Faults.NoMemory told)
-  turn_tells (Err fault) answers (Tells.not_read page told) = IsOutside.lost page (same_fault fault (Faults.PageFault page) told)
+  turn_tells (Err fault) answers (Tells.not_read page told) = IsOutside.lost page tt (same_fault fault (Faults.PageFault page) told)
 
 -- so a session reads the last version, which was published in what it has seen
 pub by_turn : {D : Type 0} (s s' : SessionState D) (last : Last) → IsSeenBy s last → Continues s s' → (said : Result (List ℕ) Fault) (count : ℕ) → count ≡ length last.bytes

@@ -37,7 +37,7 @@ module _ (p : ℕ) (us : List Update) (n size : ℕ) (is_size : size ≡ size_of
       by_cause : RangeCause p us n 0 size fault → WholeRead us n (Err fault)
       by_cause (RangeCause.too_long is long) = inr (omega (arith, long, is_size))
       by_cause (RangeCause.past is within past) = absurd (omega (arith, past, is_size))
-      by_cause (RangeCause.lost page is within ends met) = inl (IsOutside.lost page is)
+      by_cause (RangeCause.lost page is within ends met) = inl (IsOutside.lost page tt is)
       by_cause (RangeCause.no_memory is) = inl (IsOutside.starved is)
 
 -- a read of the whole of a refresh is one of what the store holds

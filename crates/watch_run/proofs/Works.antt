@@ -56,8 +56,8 @@ module _ {D : Type 0} (are : EntriesAreEvents) (stay : OwnsStay) (plan : WatchPl
     pub ends_by_writer : (fault : Fault) → told ≡ Err fault → EndsBy plan f last fault
     ends_by_writer fault is =
         let stop : StoppedWriting plan fault (session_of s) (session_of s') = subst (λ (t : Told). WriteEnds plan t (session_of s) (session_of s')) is ends in
-        EndsBy.writer first.seen watched_last stop.op s'.log stop.later log_last
-        (subst (λ (l : Entries). UpdateHindered greatest 2 1 Append (piece_of plan stop.op) (events l ++ stop.later) (events s'.log) fault) log stop.hindered)
+        EndsBy.writer first.seen watched_last s.store.fixed.page_size stop.op s'.log stop.later log_last
+        (subst (λ (l : Entries). UpdateHindered greatest s.store.fixed.page_size 2 1 Append (piece_of plan stop.op) (events l ++ stop.later) (events s'.log) fault) log stop.hindered)
 
     -- the keeper stopped
     pub ends_by_keeper : (k : SessionState D) (fault : Fault) → Begins first.seen k.log → Begins k.log last.seen → RefreshHindered k fault → EndsBy plan f last fault

@@ -95,14 +95,15 @@ module _ (plan : WatchPlan) (op : ℕ) (s mid s' : Session) (limits : s.fixed.li
       let split : x.own ++ x.rest ≡ operation plan op stop.version = x.split ∙ ap (λ (c : ℕ). update_events c 1 Append (piece_of plan op) stop.version) wrote.caller in
       let begun : HasBegun plan (events_by 2 mid.seen ++ x.own) = begun_within plan op stop.version (events_by 2 mid.seen) x.own x.rest wrote.written within split in
       let first : mid.seen ++ stop.more ≡ s.seen ++ (wrote.more ++ stop.more) = ap (λ (h : List Event). h ++ stop.more) wrote.seen ∙ append_assoc s.seen wrote.more stop.more in
-      let hindered : UpdateHindered greatest 2 1 Append (piece_of plan op) (mid.seen ++ stop.more) s'.seen fault =
-      subst (λ (b : Bounds). UpdateHindered b 2 1 Append (piece_of plan op) (mid.seen ++ stop.more) s'.seen fault) mid_limits
-      (subst (λ (c : ℕ). UpdateHindered mid.fixed.limits c 1 Append (piece_of plan op) (mid.seen ++ stop.more) s'.seen fault) wrote.caller stop.hindered)
+      let hindered : UpdateHindered greatest s.fixed.page 2 1 Append (piece_of plan op) (mid.seen ++ stop.more) s'.seen fault =
+      subst (λ (b : Bounds). UpdateHindered b s.fixed.page 2 1 Append (piece_of plan op) (mid.seen ++ stop.more) s'.seen fault) limits
+      (subst (λ (f : Fixed). UpdateHindered f.limits f.page 2 1 Append (piece_of plan op) (mid.seen ++ stop.more) s'.seen fault) wrote.fixed
+      (subst (λ (c : ℕ). UpdateHindered mid.fixed.limits mid.fixed.page c 1 Append (piece_of plan op) (mid.seen ++ stop.more) s'.seen fault) wrote.caller stop.hindered))
       in
       record {
         begun = subst (λ (h : List Event). HasBegun plan h) (sym (own_more x.own x.leaves)) begun;
         own = finishes_more x.own x.leaves;
         op = op;
         later = wrote.more ++ stop.more;
-        hindered = subst (λ (h : List Event). UpdateHindered greatest 2 1 Append (piece_of plan op) h s'.seen fault) first hindered;
+        hindered = subst (λ (h : List Event). UpdateHindered greatest s.fixed.page 2 1 Append (piece_of plan op) h s'.seen fault) first hindered;
       }

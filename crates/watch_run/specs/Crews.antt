@@ -4,7 +4,7 @@ use Rattle.client_session.specs.Sessions.{StoreState}
 use Rattle.read_board.specs.Fronts.{BoardId}
 use Rattle.request_form.specs.Replies.{page_faults}
 use Rattle.request_form.specs.declared.form.Fault.{Fault}
-use Rattle.workload_law.specs.Ends.{IsOutside}
+use Rattle.workload_law.specs.Ends.{IsOutside, AnyPage}
 use Rattle.update_work.specs.Updates.{told_faults}
 use Rattle.watch_run.specs.Readers.{WatcherState}
 use Rattle.watch_run.specs.Stages.{IsIdle}
@@ -14,7 +14,7 @@ module _ {D : Type 0} (faults : D → ℕ) (store : StoreState) where
   pub record IsEndable (w : WatcherState D) : Type 0 where
     pub idle : IsIdle store w.reader.session
     pub counted : sum_by faults w.reader.session.doors < 2 ^ 64 - 1 → told_faults w.told ≤ sum_by faults w.reader.session.doors
-    pub stop : IfErr w.told IsOutside
+    pub stop : IfErr w.told (IsOutside AnyPage)
 
   module _ (board : BoardId) where
     -- a reader that hasn't read anything

@@ -12,7 +12,7 @@ use Rattle.version_manager.specs.Log.{events, tagged, desk_at}
 use Rattle.version_manager.specs.declared.journal.DeskFixed.{DeskFixed}
 use Rattle.request_form.specs.Answers.{max_read}
 use Rattle.request_form.specs.declared.form.Fault.{Fault}
-use Rattle.workload_law.specs.Ends.{IsOutside, UpdateHindered, CreateHindered}
+use Rattle.workload_law.specs.Ends.{IsOutside, AnyPage, UpdateHindered, CreateHindered}
 use Rattle.read_board.specs.declared.refresh.Refresh.{Refresh}
 use Rattle.watch_law.specs.declared.plan.WatchPlan.{WatchPlan}
 use Rattle.watch_law.specs.declared.plan.WatchSummary.{WatchSummary}
@@ -38,12 +38,12 @@ pub record HasWrittenAll (plan : WatchPlan) (seen : Entries) (owner : Owner) : T
   pub same : events_by 2 (events seen) ≡ events_by 2 (events owner.seen)
   pub begins : Begins seen owner.seen
 
--- why a watch ended early
+-- why a watch ended early, where pages have p bytes
 pub data EndsBy (plan : WatchPlan) (f : DeskFixed) (owner : Owner) (fault : Fault) : Type 0 where
-  outside : IsOutside fault → EndsBy plan f owner fault
+  outside : IsOutside AnyPage fault → EndsBy plan f owner fault
   unopened : IsUnopened fault owner → EndsBy plan f owner fault
-  writer : (first : Entries) → IsWatched plan first owner → (op : ℕ) (seen : Entries) (later : List Event) → Begins seen owner.seen
-      → UpdateHindered greatest 2 1 Append (piece_of plan op) (events first ++ later) (events seen) fault → EndsBy plan f owner fault
+  writer : (first : Entries) → IsWatched plan first owner → (p op : ℕ) (seen : Entries) (later : List Event) → Begins seen owner.seen
+      → UpdateHindered greatest p 2 1 Append (piece_of plan op) (events first ++ later) (events seen) fault → EndsBy plan f owner fault
   missing : (first : Entries) → IsWatched plan first owner → (seen : Entries) → Begins first seen → Begins seen owner.seen
       → blob_at (store_of greatest (events seen)) 1 ≡ None → EndsBy plan f owner fault
   too_long : (first old new : Entries) → IsWatched plan first owner → HasWrittenAll plan old owner → Begins new owner.seen → (version size : ℕ) → IsSeenLast f old new version size
@@ -69,7 +69,7 @@ pub record HasFinished (f : DeskFixed) (readers : ℕ) (old new : Owner) (summar
 
 -- why they didn't come to it
 pub data FinishHindered (f : DeskFixed) (old new : Owner) (fault : Fault) : Type 0 where
-  outside : IsOutside fault → FinishHindered f old new fault
+  outside : IsOutside AnyPage fault → FinishHindered f old new fault
   missing : LeavesWatch old new → (seen : Entries) → Begins old.seen seen → Begins seen new.seen → blob_at (store_of greatest (events seen)) 1 ≡ None → FinishHindered f old new fault
   too_long : LeavesWatch old new → (seen : Entries) → Begins seen new.seen → (version size : ℕ) → IsSeenLast f old.seen seen version size → max_read < size → FinishHindered f old new fault
 
@@ -86,4 +86,4 @@ WatchEnds plan f (Err fault) owner = EndsBy plan f owner fault
 -- ---- once it is closed
 abbrev pub TellsWatch : WatchPlan → Result WatchSummary Fault → Type 0
 TellsWatch plan (Ok summary) = summary ≡ summary_of plan
-TellsWatch plan (Err fault) = IsOutside fault
+TellsWatch plan (Err fault) = IsOutside AnyPage fault

@@ -13,7 +13,7 @@ use Rattle.read_board.specs.declared.refresh.Refresh.{Refresh}
 use Rattle.read_board.specs.Keeping.{KeeperState}
 use Rattle.read_board.specs.Refreshes.{version_of, on_board}
 use Rattle.read_board.specs.Refreshing.{Holds, IsRecent}
-use Rattle.workload_law.specs.Ends.{IsOutside}
+use Rattle.workload_law.specs.Ends.{IsOutside, AnyPage}
 
 -- blob 1's updates, in what the session has seen
 abbrev pub updates_seen : {D : Type 0} → SessionState D → List Update
@@ -22,7 +22,7 @@ updates_seen s = updates_in (desk_at s.store.fixed s.log) 1
 -- a version of these updates was read whole, or it is too long for a read, or the outside failed
 abbrev pub WholeRead : List Update → ℕ → Result (List ℕ) Fault → Type 0
 WholeRead us version (Ok bytes) = (bytes ≡ content us version) × (length bytes ≤ max_read)
-WholeRead us version (Err fault) = IsOutside fault ⊎ (max_read < size_of us version)
+WholeRead us version (Err fault) = IsOutside AnyPage fault ⊎ (max_read < size_of us version)
 
 -- The last refresh of the keeper is of that version and published, its session has seen the version's updates, and these are its bytes.
 pub record IsLast {D : Type 0} (k : KeeperState) (s s' : SessionState D) (version : ℕ) (bytes : List ℕ) : Type 0 where
@@ -38,6 +38,6 @@ pub record IsLast {D : Type 0} (k : KeeperState) (s s' : SessionState D) (versio
 
 -- why nothing was read: by the outside; or the blob isn't there; or its last version is too long for a read
 pub data LastHindered {D : Type 0} (s s' : SessionState D) (fault : Fault) : Type 0 where
-  outside : IsOutside fault → LastHindered s s' fault
+  outside : IsOutside AnyPage fault → LastHindered s s' fault
   missing : blob_at (store_of greatest (events s'.log)) 1 ≡ None → LastHindered s s' fault
   too_long : (version : ℕ) → IsRecent s s' 1 version → max_read < size_of (updates_seen s') version → LastHindered s s' fault

@@ -4,7 +4,7 @@ use Rattle.faults.specs.Counts.{RoseBy}
 use Rattle.request_form.specs.declared.form.Fault.{Fault}
 use Rattle.client_session.specs.Sessions.{SessionState}
 use Rattle.read_board.specs.Keeping.{StandingState}
-use Rattle.workload_law.specs.Ends.{IsOutside}
+use Rattle.workload_law.specs.Ends.{IsOutside, AnyPage}
 use Rattle.update_work.specs.Updates.{told_faults}
 use Rattle.watch_run.specs.Idling.{Idles}
 use Rattle.update_work.specs.Callers.{Told}
@@ -25,7 +25,7 @@ module _ {D : Type 0} (faults : D → ℕ) where
   -- a reader has read what it was to read, or it stopped where the outside failed
   pub record HasWatched (old new : WatcherState D) : Type 0 where
     pub read : HasRead (told_faults new.told) old.reader new.reader
-    pub stop : IfErr new.told IsOutside
+    pub stop : IfErr new.told (IsOutside AnyPage)
 
   -- so it is of the readers at all places
   abbrev pub HaveWatched : List (WatcherState D) → List (WatcherState D) → Type 0

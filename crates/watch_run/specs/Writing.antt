@@ -31,7 +31,7 @@ pub record StoppedWriting (plan : WatchPlan) (fault : Fault) (s s' : Session) : 
   pub own : FinishesItsOwn greatest s'.seen 2
   pub op : ℕ
   pub later : List Event
-  pub hindered : UpdateHindered greatest 2 1 Append (piece_of plan op) (s.seen ++ later) s'.seen fault
+  pub hindered : UpdateHindered greatest s.fixed.page 2 1 Append (piece_of plan op) (s.seen ++ later) s'.seen fault
 
 -- how the writer ended: at its end, or early
 abbrev pub WriteEnds : {A : Type 0} → WatchPlan → Result A Fault → Session → Session → Type 0

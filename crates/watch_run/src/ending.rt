@@ -3,7 +3,7 @@ ghost use Rattle.std.specs.Prelude.{◌≡◌, ◌≤◌, ◌<◌, ◌+◌, ◌-
 ghost use Rattle.client_session.specs.Sessions.{IsOwnerOf};
 ghost use Rattle.page_store.specs.Calls.{Traffic};
 ghost use Rattle.store_sessions.specs.Lent.{LentDoors};
-ghost use Rattle.workload_law.specs.Ends.{IsOutside};
+ghost use Rattle.workload_law.specs.Ends.{IsOutside, AnyPage};
 ghost use Rattle.update_work.specs.Updates.{told_faults};
 ghost use Rattle.watch_run.specs.Stages.{IsIdle, LeavesWatch};
 ghost use Rattle.watch_run.specs.Doors.{EndDoors};
@@ -34,7 +34,7 @@ pub(crate) fn end_watchers<M: DoorMaker, G: Gate>(
 ) -> Option<Fault>
     requires owner { IsOwnerOf shared.now owner.old }
     requires endable { All (IsEndable M.Door.faults shared.now) watchers.items }
-    ensures stop { IfSome result IsOutside }
+    ensures stop { IfSome result (IsOutside AnyPage) }
     ensures leaves { LeavesWatch owner.old owner.new }
     ensures out { owner.old.out ≡ owner.new.out + vec_len watchers.entry }
     ensures owner { IsOwnerOf shared.now owner.new }
@@ -71,7 +71,7 @@ fn agree_by_place<R: Wait, W: Wait + Drop, M: DoorMaker, G: Gate>(
     requires place { reader.has_place ≡ true }
     requires told { IsToldBy keeper.now.shown last.now }
     ensures agrees { IfOk result (λ same. same ≡ true) }
-    ensures stop { IfErr result IsOutside }
+    ensures stop { IfErr result (IsOutside AnyPage) }
     ensures leaves { LeavesWatch owner.old owner.new }
     ensures out { owner.old.out ≡ owner.new.out + 1 }
     ensures made { owner.new.made ≡ owner.old.made }
@@ -111,7 +111,7 @@ fn agree_by_turn<R: Wait, M: DoorMaker, G: Gate>(
     requires true_doors { M.is_true maker.old }
     requires seen { IsSeenIn shared.now.fixed owner.old.seen last.now }
     ensures agrees { IfOk result (λ same. same ≡ true) }
-    ensures stop { IfErr result IsOutside }
+    ensures stop { IfErr result (IsOutside AnyPage) }
     ensures leaves { IfOk result (λ _. LeavesWatch owner.old owner.new) }
     ensures out { owner.new.out ≡ owner.old.out }
     ensures made { (owner.old.made ≤ owner.new.made) × (owner.new.made ≤ owner.old.made + 1) }
@@ -151,7 +151,7 @@ fn agree_one<R: Wait, W: Wait + Drop, M: DoorMaker, G: Gate>(
     requires told { IsToldBy keeper.now.shown last.now }
     requires seen { IsSeenIn shared.now.fixed owner.old.seen last.now }
     ensures agrees { IfOk result (λ same. same ≡ true) }
-    ensures stop { IfErr result IsOutside }
+    ensures stop { IfErr result (IsOutside AnyPage) }
     ensures leaves { IfOk result (λ _. LeavesWatch owner.old owner.new) }
     ensures seen { IsSeenIn shared.now.fixed owner.new.seen last.now }
     ensures out { owner.old.out ≡ owner.new.out + 1 }
@@ -188,7 +188,7 @@ fn agree_with<R: Wait, W: Wait + Drop, M: DoorMaker, G: Gate>(
     requires told { IsToldBy keeper.now.shown last.now }
     requires seen { IsSeenIn shared.now.fixed owner.old.seen last.now }
     ensures agrees { IfOk result (λ same. same ≡ true) }
-    ensures stop { IfErr result IsOutside }
+    ensures stop { IfErr result (IsOutside AnyPage) }
     ensures leaves { IfOk result (λ _. LeavesWatch owner.old owner.new) }
     ensures seen { IsSeenIn shared.now.fixed owner.new.seen last.now }
     ensures out { owner.old.out ≡ owner.new.out + 1 }
@@ -229,7 +229,7 @@ pub(crate) fn agree_all<R: Wait, W: Wait + Drop, M: DoorMaker, G: Gate>(
     requires told { IsToldBy keeper.now.shown last.now }
     requires seen { IsSeenIn shared.now.fixed owner.old.seen last.now }
     ensures all { IfOk result (λ agree. agree ≡ vec_len watchers.entry) }
-    ensures stop { IfErr result IsOutside }
+    ensures stop { IfErr result (IsOutside AnyPage) }
     ensures leaves { IfOk result (λ _. LeavesWatch owner.old owner.new) }
     ensures out { owner.old.out ≡ owner.new.out + vec_len watchers.entry }
     ensures owner { IsOwnerOf shared.now owner.new }

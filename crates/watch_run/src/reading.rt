@@ -1,6 +1,6 @@
 // The work of a watch's readers.
 ghost use Rattle.std.specs.Prelude.{◌≡◌, ◌≤◌, ◌<◌, ◌+◌, ◌^◌, IfErr, sum_by};
-ghost use Rattle.workload_law.specs.Ends.{IsOutside};
+ghost use Rattle.workload_law.specs.Ends.{IsOutside, AnyPage};
 ghost use Rattle.update_work.specs.Updates.{told_faults};
 ghost use Rattle.request_form.specs.Replies.{page_faults};
 ghost use Rattle.watch_run.specs.Readers.{HasRead, HasWatched, HaveWatched};
@@ -40,7 +40,7 @@ impl<'a, D: Door, G: Gate> Model for Watcher<'a, D, G> {
 // Why a reader stops: a page was lost, or no memory was found. A version that isn't published yet is passed over; the store
 // refuses nothing else that a reader asks for.
 fn stop_of(fault: Fault) -> Result<(), Fault>
-    ensures outside { IfErr result IsOutside }
+    ensures outside { IfErr result (IsOutside AnyPage) }
     ensures faults { told_faults result ≡ page_faults fault }
 {
     match fault {
@@ -61,7 +61,7 @@ fn read_uncounted<R: Wait, D: Door, G: Gate, L: Ledger>(
     requires some { 0 < blank.parts }
     requires few { op < 2 ^ 32 }
     ensures read { HasRead D.faults (told_faults result) reader.old reader.new }
-    ensures stop { IfErr result IsOutside }
+    ensures stop { IfErr result (IsOutside AnyPage) }
 {
     sessions_own();
     let mut steps = Steps::<L>::open(blank);
@@ -78,7 +78,7 @@ fn read_versions<R: Wait, D: Door, G: Gate>(
     plan: &WatchPlan,
 ) -> Result<(), Fault>
     ensures read { HasRead D.faults (told_faults result) reader.old reader.new }
-    ensures stop { IfErr result IsOutside }
+    ensures stop { IfErr result (IsOutside AnyPage) }
 {
     'reads: for op in 0..plan.ops {
         match read_uncounted::<R, D, G, Brand>(rt, reader, op as u64, Blank::new(1)) {

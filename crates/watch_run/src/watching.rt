@@ -13,6 +13,7 @@ ghost use Rattle.watch_run.specs.Doors.{EndDoors, LentSessions};
 ghost use Rattle.watch_run.specs.Stages.{IsCalled};
 ghost use Rattle.watch_run.specs.Crews.{IsReadyToWatch, IsDoneWatching};
 ghost use Rattle.watch_run.specs.Ending.{HasReadBack, FinishHindered, Finishes, WatchEnds};
+ghost use Rattle.workload_law.specs.Ends.{AnyPage};
 ghost use Rattle.update_work.specs.Ending.{EndsEarly};
 
 use crate::beside::work_beside;
@@ -258,7 +259,7 @@ where
     ensures fixed { IfOk result (λ r. fixed_of r.1 ≡ shared.fixed) }
 
     // Why it ended early.
-    ensures early { IfErr result (λ fault. EndsEarly fault (M.faults doors.old) (M.faults doors.new)) }
+    ensures early { IfErr result (λ fault. EndsEarly AnyPage fault (M.faults doors.old) (M.faults doors.new)) }
 
     // The first session, the writer's, the keeper's, those of the readers and the last one had a door to each provider, and one more session for
     // each reader without a place. All doors came back. What they counted went to the maker, which makes the doors that it made before.

@@ -1,11 +1,12 @@
 -- How a call ends, by the answer to it.
 use Rattle.std.proofs.Common.{◌≡◌, ◌≢◌, ◌⊎◌, inl, inr, ℕ, ◌-◌, ◌==◌, Bool, true, false, cond, if◌then◌else◌, List, [], ◌∷◌, ◌++◌, refl, sym, ap, subst, ◌∙◌, append_assoc, append-nil, arith}
-use Rattle.std.specs.Prelude.{Option, Some, None}
+use Rattle.std.specs.Prelude.{Option, Some, None, Contains}
 use Rattle.std.proofs.lemmas.Bool.{eq-eqb}
+use Rattle.std.proofs.lemmas.List.{append_cancel_right}
 use Rattle.blob_model.specs.Limits.{Bounds}
 use Rattle.blob_model.specs.Answer.{answer}
 use Rattle.blob_model.specs.History.{caller_of, store_of, finishes, events_by, AllOther}
-use Rattle.blob_model.specs.Laws.{FinishedByEvents}
+use Rattle.blob_model.specs.Laws.{FinishedByEvents, OldVersionsStay}
 use Rattle.blob_model.specs.declared.call.Call.{Call}
 use Rattle.blob_model.specs.declared.call.Call.TheVariants as Calls
 use Rattle.blob_model.specs.declared.call.Event.{Event}
@@ -14,17 +15,18 @@ use Rattle.blob_model.specs.declared.call.Outcome.TheVariants as Outcomes
 use Rattle.blob_model.specs.declared.call.Place.{Place}
 use Rattle.blob_model.specs.declared.call.Refusal.{Refusal}
 use Rattle.blob_model.specs.declared.call.Refusal.TheVariants as Refusals
-use Rattle.request_form.specs.Session.{Fixed, HeldTicket, Session, sees, holds as put_by, outcome_at, ticket_at, without_ticket}
+use Rattle.request_form.specs.Session.{Fixed, HeldTicket, Session, sees, holds as put_by, store_at, outcome_at, ticket_at, without_ticket}
 use Rattle.request_form.specs.Replies.{fault_of}
-use Rattle.request_form.specs.Answers.{WholeUpdate, CreateAnswer, UpdateAnswer, ReportAnswer, FinishAnswer, FinishHindered, LookAnswer, TicketKept, HeldBack, Reported, FoundFinished}
+use Rattle.request_form.specs.Answers.{WholeUpdate, CreateAnswer, UpdateAnswer, ReportAnswer, FinishAnswer, FinishHindered, LookAnswer, TicketKept, HeldBack, Reported, FoundFinished, folds_in}
 use Rattle.request_form.specs.declared.form.Reply.{Reply}
 use Rattle.request_form.specs.declared.form.Reply.TheVariants as Replies
 use Rattle.request_form.specs.declared.form.Fault.{Fault}
 use Rattle.request_form.specs.declared.form.Fault.TheVariants as Faults
 use Rattle.workload_law.specs.Numbered.{IsNumberedBy}
 use Rattle.workload_law.specs.Sessions.{FinishesItsOwn}
-use Rattle.workload_law.specs.Ends.{IsOutside, RefusedAt, CreateHindered, UpdateHindered, Leaves, Holds, StopsAt, ticket_of, still_held, CreateEnds, UpdateEnds, FinishEnds}
+use Rattle.workload_law.specs.Ends.{IsOutside, IsPageOf, RefusedAt, CreateHindered, UpdateHindered, Leaves, Holds, StopsAt, ticket_of, still_held, CreateEnds, UpdateEnds, FinishEnds}
 use Rattle.workload_law.proofs.Marks.{already_by_events}
+use Rattle.workload_law.proofs.Lost.{outside_as, fold_within}
 use Rattle.workload_law.proofs.OneCaller.{IsNext, is_next}
 use Rattle.workload_law.proofs.OwnEvents.{both as own_both, gap_has_none, numbering_is_own, update_is_own, gap_stays, finishes_stay, event_is_own, event_stays, reports_stay}
 
@@ -152,8 +154,11 @@ module _ (s : Session) (blob : ℕ) (place : Place) (bytes : List ℕ) (done : �
       UpdateEnds.held_back s.next h.version h.at h.size h.said (omega (arith, here.next))
       (holds s blob place bytes s' h.others h.later h.is_gap h.is_gap_later h.version h.at h.size h.numbered s.next goes (ap (λ (x : Session). x.tickets) h.seen))
 
+  abbrev IsItsPage : ℕ → Type 0
+  IsItsPage = IsPageOf s.fixed.limits s.fixed.page s.caller blob place bytes s.seen s'.seen
+
   -- by the outside, before it was numbered
-  outside : (others : List Event) → AllOther s.caller others → (fault : Fault) → IsOutside fault → ((limit : ℕ) → fault ≢ Faults.TooManyOpen limit) → ticket_of fault ≡ None
+  outside : (others : List Event) → AllOther s.caller others → (fault : Fault) → IsOutside IsItsPage fault → ((limit : ℕ) → fault ≢ Faults.TooManyOpen limit) → ticket_of fault ≡ None
       → reply ≡ Replies.Refused fault → s' ≡ sees s others → Ends
   outside others gap fault out other none said seen =
       UpdateEnds.hinders fault said other (UpdateHindered.outside out) (StopsAt.unnumbered none (left_gap s s' others gap seen) (same_tickets s others s' seen))
@@ -194,7 +199,7 @@ module _ (s : Session) (blob : ℕ) (place : Place) (bytes : List ℕ) (done : �
   ends (UpdateAnswer.refused r) = by_refusal r.others r.is_gap r.refusal r.refused r.said r.seen
   ends (UpdateAnswer.out_of_memory m) = outside m.others m.is_gap Faults.NoMemory (IsOutside.starved refl) (λ limit same. cc) refl m.said m.seen
   ends (UpdateAnswer.kept k) = kept_ends k
-  ends (UpdateAnswer.not_stored p) = outside p.others p.is_gap (Faults.PageFault p.page) (IsOutside.lost p.page refl) (λ limit same. cc) refl p.said p.seen
+  ends (UpdateAnswer.not_stored p) = outside p.others p.is_gap (Faults.PageFault p.page) (IsOutside.lost p.page (IsPageOf.of_bytes p.is_page) refl) (λ limit same. cc) refl p.said p.seen
 
 pub updates_ended : (s : Session) (blob : ℕ) (place : Place) (bytes : List ℕ) (done : ℕ → ℕ → ℕ → Reply) (started : ℕ → ℕ → ℕ → ℕ → Reply) (reply : Reply) (s' : Session)
     → UpdateAnswer AllOther s blob place bytes (WholeUpdate AllOther s blob place bytes done started reply s') reply s' → UpdateEnds s blob place bytes done started reply s'
@@ -231,12 +236,23 @@ more_refused limits caller call first seen more fault r = record {
   is = r.is;
 }
 
-pub hindrances_stay : (limits : Bounds) (caller blob : ℕ) (place : Place) (bytes : List ℕ) (first seen more : List Event) (fault : Fault)
-    → UpdateHindered limits caller blob place bytes first seen fault → UpdateHindered limits caller blob place bytes first (seen ++ more) fault
-hindrances_stay limits caller blob place bytes first seen more fault (UpdateHindered.outside out) = UpdateHindered.outside out
-hindrances_stay limits caller blob place bytes first seen more fault (UpdateHindered.refused r other) =
+page_stays : (limits : Bounds) (p caller blob : ℕ) (place : Place) (bytes : List ℕ) (first seen more : List Event) (page : ℕ)
+    → IsPageOf limits p caller blob place bytes first seen page → IsPageOf limits p caller blob place bytes first (seen ++ more) page
+page_stays limits p caller blob place bytes first seen more page (IsPageOf.of_bytes lt) = IsPageOf.of_bytes lt
+page_stays limits p caller blob place bytes first seen more page (IsPageOf.of_blob before rest version at size split own numbered within) =
+    IsPageOf.of_blob before (rest ++ more) version at size
+    (ap (λ (l : List Event). l ++ more) split ∙ append_assoc before (Events.Assign caller blob place bytes ∷ rest) more)
+    own numbered within
+
+pub hindrances_stay : (limits : Bounds) (p caller blob : ℕ) (place : Place) (bytes : List ℕ) (first seen more : List Event) (fault : Fault)
+    → UpdateHindered limits p caller blob place bytes first seen fault → UpdateHindered limits p caller blob place bytes first (seen ++ more) fault
+hindrances_stay limits p caller blob place bytes first seen more fault (UpdateHindered.outside out) =
+    UpdateHindered.outside
+    (outside_as (IsPageOf limits p caller blob place bytes first seen) (IsPageOf limits p caller blob place bytes first (seen ++ more))
+    (page_stays limits p caller blob place bytes first seen more) fault out)
+hindrances_stay limits p caller blob place bytes first seen more fault (UpdateHindered.refused r other) =
     UpdateHindered.refused (more_refused limits caller (Calls.Assign blob place bytes) first seen more fault r) other
-hindrances_stay limits caller blob place bytes first seen more fault (UpdateHindered.finished before later rest version at size split numbered gap found) =
+hindrances_stay limits p caller blob place bytes first seen more fault (UpdateHindered.finished before later rest version at size split numbered gap found) =
     let this : Event = Events.Assign caller blob place bytes in
     UpdateHindered.finished before later (rest ++ more) version at size
     (ap (λ (l : List Event). l ++ more) split ∙ (append_assoc before (this ∷ (later ++ rest)) more ∙ ap (λ (l : List Event). before ++ this ∷ l) (append_assoc later rest more)))
@@ -293,15 +309,21 @@ found_goes s ticket reply s' r = record {
   limit = ap (λ (x : Session). x.limit) r.seen;
 }
 
+-- a page that the update of a version stores anew, where the session has seen that much
+record IsFolded (s : Session) (blob version : ℕ) (s' : Session) (page : ℕ) : Type 0 where
+  others : List Event
+  seen : s'.seen ≡ s.seen ++ others
+  fold : Contains (folds_in s.fixed.page (store_at s others) blob version) page
+
 -- a finish that is hindered
-record Hindered (s : Session) (version : ℕ) (reply : Reply) (s' : Session) : Type 0 where
+record Hindered (s : Session) (blob version : ℕ) (reply : Reply) (s' : Session) : Type 0 where
   leaves : Leaves s [] s'
   tickets : s'.tickets ≡ s.tickets
   why : ((least : ℕ) × (reply ≡ Replies.Refused (Faults.Pending (version - 1) least)))
       ⊎ ((fault : Fault)
-      × ((reply ≡ Replies.Refused fault) × (IsOutside fault × (((earlier least : ℕ) → fault ≢ Faults.Pending earlier least) × ((number : ℕ) → still_held number fault ≡ Some number)))))
+      × ((reply ≡ Replies.Refused fault) × (IsOutside (IsFolded s blob version s') fault × (((earlier least : ℕ) → fault ≢ Faults.Pending earlier least) × ((number : ℕ) → still_held number fault ≡ Some number)))))
 
-hindered : (s : Session) (blob version : ℕ) (reply : Reply) (s' : Session) → FinishHindered AllOther s blob version reply s' → Hindered s version reply s'
+hindered : (s : Session) (blob version : ℕ) (reply : Reply) (s' : Session) → FinishHindered AllOther s blob version reply s' → Hindered s blob version reply s'
 hindered s blob version reply s' (FinishHindered.out_of_memory m) = record {
   leaves = left_gap s s' m.others m.is_gap m.seen;
   tickets = same_tickets s m.others s' m.seen;
@@ -315,7 +337,7 @@ hindered s blob version reply s' (FinishHindered.waits w) = record {
 hindered s blob version reply s' (FinishHindered.not_folded p) = record {
   leaves = left_gap s s' p.others p.is_gap p.seen;
   tickets = same_tickets s p.others s' p.seen;
-  why = inr (Faults.PageFault p.page, (p.said, (IsOutside.lost p.page refl, ((λ earlier least same. cc), λ number. refl))));
+  why = inr (Faults.PageFault p.page, (p.said, (IsOutside.lost p.page (record { others = p.others; seen = ap (λ (x : Session). x.seen) p.seen; fold = p.folds }) refl, ((λ earlier least same. cc), λ number. refl))));
 }
 
 pub reports_leave : (s : Session) (ticket : HeldTicket) (reply : Reply) (s' : Session) → IsNumberedBy s.fixed.limits s.seen s.caller ticket.blob ticket.version
@@ -381,7 +403,25 @@ module _ (s mid : Session) (blob : ℕ) (place : Place) (bytes : List ℕ) (numb
       (subst (λ (c : ℕ). IsNumberedBy s.fixed.limits mid.seen c blob version) (sym caller_stays)
       (record { before = h.before; after = h.later; place = place; bytes = bytes; at = h.at; size = h.size; split = h.split; answered = h.numbered }))
 
-  module _ (by_events : FinishedByEvents) (none : s.tickets ≡ []) (reply : Reply) (s' : Session) where
+  -- what the session's own had come to when it was numbered
+  own_before : events_by s.caller h.before ≡ events_by s.caller s.seen
+  own_before =
+      append_cancel_right (events_by s.caller h.before) (events_by s.caller s.seen) (Events.Assign s.caller blob place bytes ∷ [])
+      (sym (numbering_is_own s.caller blob place bytes h.before [] h.later tt h.is_gap) ∙ (ap (λ (l : List Event). events_by s.caller l) (sym h.split) ∙ h.leaves.mine))
+
+  -- a page that it stores anew is one that it can lose
+  folded_page : OldVersionsStay → (s' : Session) (page : ℕ) → IsFolded mid blob version s' page → IsPageOf s.fixed.limits s.fixed.page s.caller blob place bytes s.seen s'.seen page
+  folded_page stay s' page f =
+      let this : Event = Events.Assign s.caller blob place bytes in
+      let all : List Event = h.later ++ f.others in
+      let split : mid.seen ++ f.others ≡ h.before ++ this ∷ all = ap (λ (x : List Event). x ++ f.others) h.split ∙ append_assoc h.before (this ∷ h.later) f.others in
+      let fold : Contains (folds_in s.fixed.page (store_of s.fixed.limits (h.before ++ this ∷ all)) blob version) page =
+      subst (λ (x : List Event). Contains (folds_in s.fixed.page (store_of s.fixed.limits x) blob version) page) split
+      (subst (λ (x : Fixed). Contains (folds_in x.page (store_of x.limits (mid.seen ++ f.others)) blob version) page) h.leaves.fixed f.fold) in
+      IsPageOf.of_blob h.before all version h.at h.size (f.seen ∙ split) own_before h.numbered
+      (fold_within stay s.fixed.limits s.caller blob place bytes version h.at h.size h.before all h.numbered s.fixed.page page fold)
+
+  module _ (by_events : FinishedByEvents) (stay : OldVersionsStay) (none : s.tickets ≡ []) (reply : Reply) (s' : Session) where
     abbrev its_ticket : HeldTicket
     its_ticket = record { number = number; blob = blob; version = version }
 
@@ -423,19 +463,21 @@ module _ (s mid : Session) (blob : ℕ) (place : Place) (bytes : List ℕ) (numb
         (subst (λ (c : ℕ). (answer (store_of mid.fixed.limits (mid.seen ++ r.others)) c (Calls.Finish blob version)).1 ≡ Outcomes.Refused (Refusals.Already version)) caller_stays r.refused)) in
         let done : finishes blob version all ≡ true = already_by_events by_events s.fixed.limits s.caller blob version h.at h.size place bytes h.before all h.numbered refused in
         FinishEnds.hinders (Faults.Already version) r.said (λ earlier least same. cc)
-        (λ first. UpdateHindered.finished h.before all [] version h.at h.size seen h.numbered gap done)
+        (UpdateHindered.finished h.before all [] version h.at h.size seen h.numbered gap done)
         (StopsAt.numbered refl (leaves_add s mid s' (this ∷ []) [] h.leaves l) (ap (λ (x : Session). x.tickets) r.seen ∙ given_up))
 
     -- it was hindered, and is held as before
-    still_holds : Hindered mid version reply s' → Holds s blob place bytes number version s'
+    still_holds : Hindered mid blob version reply s' → Holds s blob place bytes number version s'
     still_holds x = holds_stay s' x.leaves x.tickets
 
-    finish_hindered : Hindered mid version reply s' → FinishEnds s blob place bytes number version reply s'
+    finish_hindered : Hindered mid blob version reply s' → FinishEnds s blob place bytes number version reply s'
     finish_hindered x =
         elim x.why [
           | inl (least, said) ↦ FinishEnds.waits least said (still_holds x)
           | inr (fault, (said, (out, (other, held)))) ↦
-              FinishEnds.hinders fault said other (λ first. UpdateHindered.outside out) (StopsAt.held number version (held number) (still_holds x))
+              FinishEnds.hinders fault said other
+              (UpdateHindered.outside
+              (outside_as (IsFolded mid blob version s') (IsPageOf s.fixed.limits s.fixed.page s.caller blob place bytes s.seen s'.seen) (folded_page stay s') fault out)) (StopsAt.held number version (held number) (still_holds x))
         ]
 
     by_report : ReportAnswer AllOther mid its_ticket reply s' → FinishEnds s blob place bytes number version reply s'

@@ -1,13 +1,15 @@
 -- What is known of a load's history once every caller's pass came back.
-use Rattle.std.proofs.Common.{◌≡◌, ◌≢◌, ℕ, ◌+◌, ◌<◌, ◌≤◌, ◌==◌, zero, suc, Bool, true, false, cond, List, [], ◌∷◌, ◌++◌, length, take, refl, sym, ap, subst, ◌∙◌, arith, append_assoc, append-nil}
+use Rattle.std.proofs.Common.{◌≡◌, ◌≢◌, ℕ, ◌+◌, ◌*◌, ◌<◌, ◌≤◌, ◌==◌, zero, suc, Bool, true, false, cond, List, [], ◌∷◌, ◌++◌, length, take, refl, sym, ap, subst, ◌∙◌, arith, append_assoc, append-nil}
 use Rattle.std.specs.Prelude.{Option, Some, None}
 use Rattle.std.specs.List.{Contains}
 use Rattle.std.proofs.lemmas.Bool.{eq-eqb, eqb-true, true≢false}
-use Rattle.std.proofs.lemmas.List.{append_cancel_left, length-take}
+use Rattle.std.proofs.lemmas.List.{append_cancel_left, length-replicate, length-take}
 use Rattle.std.proofs.lemmas.List.Elements.{filter-append}
+use Rattle.std.proofs.lemmas.Nat.{mul-le}
 use Rattle.blob_model.specs.Limits.{Bounds, greatest}
-use Rattle.blob_model.specs.Store.{Store, Blob, blob_at, and_update, empty_store}
+use Rattle.blob_model.specs.Store.{Store, Blob, blob_at, size_now, and_update, empty_store}
 use Rattle.blob_model.specs.Answer.{answer, Answered, refuse, bytes_of, unless_refused, not_published, range_past_size}
+use Rattle.blob_model.specs.Laws.{OldVersionsStay}
 use Rattle.blob_model.specs.History.{caller_of, call_of, store_of, is_refused, IsLegal, IsAccepted, finishes, events_by, AllOther}
 use Rattle.blob_model.specs.declared.call.Call.{Call}
 use Rattle.blob_model.specs.declared.call.Call.TheVariants as Calls
@@ -23,15 +25,19 @@ use Rattle.request_form.specs.Replies.{fault_of}
 use Rattle.request_form.specs.declared.form.Fault.{Fault}
 use Rattle.workload_law.specs.declared.plan.LoadPlan.{LoadPlan}
 use Rattle.workload_law.specs.Pieces.{record_of, cell_of}
-use Rattle.workload_law.specs.Load.{IsSized, zeros_of, opening, opened_with, cell_offset, IsUnderway}
+use Rattle.workload_law.specs.Load.{all_ops, IsSized, zeros_of, opening, opened_with, cell_offset, IsLoadPage, IsUnderway}
 use Rattle.workload_law.specs.Sessions.{FinishesItsOwn}
-use Rattle.workload_law.specs.Ends.{RefusedAt, CreateHindered, UpdateHindered, IsOutside}
+use Rattle.workload_law.specs.Ends.{RefusedAt, CreateHindered, UpdateHindered, IsOutside, NoPage, IsPageOf}
 use Rattle.workload_law.specs.Closing.{OpeningHindered, OperationHindered}
-use Rattle.workload_law.proofs.Blobs.{event_updates, finish_accepted}
-use Rattle.workload_law.proofs.Opened.{zeros, empty, made}
+use Rattle.workload_law.proofs.Blobs.{event_updates, finish_accepted, some_is}
+use Rattle.workload_law.proofs.Cells.{cell_fits}
+use Rattle.workload_law.proofs.Grid.{grid_length, cell_length}
+use Rattle.workload_law.proofs.Lost.{outside_as, is_placed, append_ends}
+use Rattle.workload_law.proofs.Opened.{zeros, empty, made, log_of, log_there}
 use Rattle.workload_law.proofs.OneCaller.{legal_front, numbered_stays}
 use Rattle.workload_law.proofs.OwnEvents.{gap_has_none, nobody_else}
-use Rattle.workload_law.proofs.GoingOn.{opening_legal, refused_when_full, beginnings_underway}
+use Rattle.workload_law.proofs.GoingOn.{log_size, opening_legal, refused_when_full, beginnings_underway}
+use Rattle.workload_law.proofs.Records.{record_length}
 
 -- ---- whose events there are
 some_first : (t : Bool) (e : Event) (es : List Event) → t ≡ true → cond t (e ∷ es) es ≡ [] → ⊥
@@ -172,62 +178,116 @@ module _ (plan : LoadPlan) (history : List Event) (sized : IsSized plan) (legal 
   opened : IsLegal greatest (opening plan)
   opened = opening_legal plan sized
 
-  create_outside : (first seen more done : List Event) (fault : Fault) → history ≡ seen ++ more → events_by 1 first ≡ done → is_refused (answer (store_of greatest done) 1 Calls.Create).1 ≡ false
-      → CreateHindered greatest 1 first seen fault → IsOutside fault
-  create_outside first seen more done fault goes was accepted (CreateHindered.outside out) = out
-  create_outside first seen more done fault goes was accepted (CreateHindered.refused r) = absurd (unrefused Calls.Create first seen more done fault r goes was accepted)
+  create_outside : (p : ℕ) (first seen more done : List Event) (fault : Fault) → history ≡ seen ++ more → events_by 1 first ≡ done → is_refused (answer (store_of greatest done) 1 Calls.Create).1 ≡ false
+      → CreateHindered greatest 1 first seen fault → IsOutside (IsLoadPage plan p) fault
+  create_outside p first seen more done fault goes was accepted (CreateHindered.outside out) = outside_as NoPage (IsLoadPage plan p) (λ page none. absurd none) fault out
+  create_outside p first seen more done fault goes was accepted (CreateHindered.refused r) = absurd (unrefused Calls.Create first seen more done fault r goes was accepted)
 
-  zeros_outside : (first seen more : List Event) (fault : Fault) → history ≡ seen ++ more → events_by 1 first ≡ Events.Create 1 ∷ Events.Create 1 ∷ []
-      → UpdateHindered greatest 1 2 Append (zeros_of plan) first seen fault → IsOutside fault
-  zeros_outside first seen more fault goes was (UpdateHindered.outside out) = out
-  zeros_outside first seen more fault goes was (UpdateHindered.refused r other) =
+  -- caller 1 numbered the zeros after nothing but the two blobs, so they begin the grid
+  zeros_page : (p : ℕ) (first seen more : List Event) → history ≡ seen ++ more → events_by 1 first ≡ Events.Create 1 ∷ Events.Create 1 ∷ [] → (page : ℕ)
+      → IsPageOf greatest p 1 2 Append (zeros_of plan) first seen page → IsLoadPage plan p page
+  zeros_page p first seen more goes was page (IsPageOf.of_bytes lt) = let long : length (zeros_of plan) ≡ 16 * all_ops plan = length-replicate (16 * all_ops plan) 0 in omega (arith, lt, long)
+  zeros_page p first seen more goes was page (IsPageOf.of_blob before rest version at size split mine numbered within) =
+      let this : Event = Events.Assign 1 2 Append (zeros_of plan) in
+      let whole : history ≡ before ++ this ∷ (rest ++ more) = goes ∙ (ap (λ (l : List Event). l ++ more) split ∙ append_assoc before (this ∷ rest) more) in
+      let front : before ≡ events_by 1 before =
+      sym (seen_alone 1 before (λ other apart.
+      no_front (events_by other before) (events_by other (this ∷ (rest ++ more)))
+      (sym (filter-append (λ e. caller_of e == other) before (this ∷ (rest ++ more))) ∙ (ap (λ (h : List Event). events_by other h) (sym whole) ∙ alone other apart)))) in
+      let made : before ≡ Events.Create 1 ∷ Events.Create 1 ∷ [] = front ∙ (mine ∙ was) in
+      let placed = is_placed (store_of greatest before) 1 2 Append (zeros_of plan) version at size numbered in
+      let new : placed.here ≡ record { updates = []; finished = [] } =
+      some_is (blob_at (store_of greatest before) 2) placed.here (record { updates = []; finished = [] }) placed.there (ap (λ (h : List Event). blob_at (store_of greatest h) 2) made) in
+      let none : at ≡ 0 = placed.placed ∙ ap (λ (b : Blob). size_now b) new in
+      let some : 1 ≤ all_ops plan = mul-le 1 1 plan.workers plan.ops sized.some_workers sized.some_ops in
+      let long : length (zeros_of plan) ≡ 16 * all_ops plan = length-replicate (16 * all_ops plan) 0 in
+      omega (arith, within (omega (arith, some, long)), none, long)
+
+  zeros_outside : (p : ℕ) (first seen more : List Event) (fault : Fault) → history ≡ seen ++ more → events_by 1 first ≡ Events.Create 1 ∷ Events.Create 1 ∷ []
+      → UpdateHindered greatest p 1 2 Append (zeros_of plan) first seen fault → IsOutside (IsLoadPage plan p) fault
+  zeros_outside p first seen more fault goes was (UpdateHindered.outside out) =
+      outside_as (IsPageOf greatest p 1 2 Append (zeros_of plan) first seen) (IsLoadPage plan p) (zeros_page p first seen more goes was) fault out
+  zeros_outside p first seen more fault goes was (UpdateHindered.refused r other) =
       absurd (unrefused (Calls.Assign 2 Append (zeros_of plan)) first seen more (Events.Create 1 ∷ Events.Create 1 ∷ []) fault r goes was opened.1.1.0.accepted)
-  zeros_outside first seen more fault goes was (UpdateHindered.finished before between rest version at size split numbered gap found) =
+  zeros_outside p first seen more fault goes was (UpdateHindered.finished before between rest version at size split numbered gap found) =
       absurd (nobody_finished history legal all_own 1 2 Append (zeros_of plan) before between rest seen more version at size goes split numbered gap found)
 
-  opening_outside : (first seen more : List Event) (fault : Fault) → history ≡ seen ++ more → OpeningHindered plan first seen fault → IsOutside fault
-  opening_outside first seen more fault goes (OpeningHindered.in_log was h) = create_outside first seen more [] fault goes was refl h
-  opening_outside first seen more fault goes (OpeningHindered.in_grid was h) = create_outside first seen more (Events.Create 1 ∷ []) fault goes was refl h
-  opening_outside first seen more fault goes (OpeningHindered.in_zeros was h) = zeros_outside first seen more fault goes was h
+  opening_outside : (p : ℕ) (first seen more : List Event) (fault : Fault) → history ≡ seen ++ more → OpeningHindered plan p first seen fault → IsOutside (IsLoadPage plan p) fault
+  opening_outside p first seen more fault goes (OpeningHindered.in_log was h) = create_outside p first seen more [] fault goes was refl h
+  opening_outside p first seen more fault goes (OpeningHindered.in_grid was h) = create_outside p first seen more (Events.Create 1 ∷ []) fault goes was refl h
+  opening_outside p first seen more fault goes (OpeningHindered.in_zeros was h) = zeros_outside p first seen more fault goes was h
 
 pub nothing_else_hinders_openings : (plan : LoadPlan) (history : List Event) → IsSized plan → IsLegal greatest history → ((other : ℕ) → other ≢ 1 → events_by other history ≡ [])
-    → FinishesItsOwn greatest history 1 → (first seen more : List Event) (fault : Fault) → history ≡ seen ++ more → OpeningHindered plan first seen fault → IsOutside fault
-nothing_else_hinders_openings plan history sized legal alone own first seen more fault goes hindered =
-    opening_outside plan history sized legal alone own first seen more fault goes hindered
+    → FinishesItsOwn greatest history 1 → (p : ℕ) (first seen more : List Event) (fault : Fault) → history ≡ seen ++ more → OpeningHindered plan p first seen fault
+    → IsOutside (IsLoadPage plan p) fault
+nothing_else_hinders_openings plan history sized legal alone own p first seen more fault goes hindered =
+    opening_outside plan history sized legal alone own p first seen more fault goes hindered
+
+-- ---- the pages of a worker's updates
+module _ (stay : OldVersionsStay) (plan : LoadPlan) (history : List Event) (sized : IsSized plan) (legal : IsLegal greatest history) (under : IsUnderway plan history)
+    (p worker op : ℕ) (first seen more : List Event) (goes : history ≡ seen ++ more) where
+  all_some : 1 ≤ all_ops plan
+  all_some = mul-le 1 1 plan.workers plan.ops sized.some_workers sized.some_ops
+
+  -- a record ends within what the log comes to
+  record_page : (page : ℕ) → IsPageOf greatest p (worker + 1) 1 Append (record_of worker op) first seen page → IsLoadPage plan p page
+  record_page page (IsPageOf.of_bytes lt) = omega (arith, lt, all_some, record_length worker op)
+  record_page page (IsPageOf.of_blob before rest version at size split mine numbered within) =
+      let this : Event = Events.Assign (worker + 1) 1 Append (record_of worker op) in
+      let whole : history ≡ before ++ this ∷ (rest ++ more) = goes ∙ (ap (λ (l : List Event). l ++ more) split ∙ append_assoc before (this ∷ rest) more) in
+      let ends = append_ends stay greatest (worker + 1) 1 (record_of worker op) version at size before (rest ++ more) numbered in
+      let there : blob_at (store_of greatest (before ++ this ∷ (rest ++ more))) 1 ≡ Some (log_of plan under.later) =
+      ap (λ (h : List Event). blob_at (store_of greatest h) 1) (sym whole) ∙ log_there plan history under.later legal under.begins in
+      let same : ends.0 ≡ log_of plan under.later = some_is (blob_at (store_of greatest (before ++ this ∷ (rest ++ more))) 1) ends.0 (log_of plan under.later) ends.1 there in
+      omega (arith, within (omega (arith, record_length worker op)), ends.2, ap (λ (b : Blob). size_now b) same, log_size plan history sized legal under)
+
+  -- a cell lies within the grid
+  cell_page : 1 ≤ worker → worker ≤ plan.workers → op < plan.ops → (page : ℕ)
+      → IsPageOf greatest p (worker + 1) 2 (WriteAt (cell_offset plan worker op)) (cell_of plan.seed worker op) first seen page → IsLoadPage plan p page
+  cell_page from to few page (IsPageOf.of_bytes lt) = omega (arith, lt, all_some, cell_length plan.seed worker op)
+  cell_page from to few page (IsPageOf.of_blob before rest version at size split mine numbered within) =
+      let placed = is_placed (store_of greatest before) (worker + 1) 2 (WriteAt (cell_offset plan worker op)) (cell_of plan.seed worker op) version at size numbered in
+      let long = cell_length plan.seed worker op in
+      omega (arith, within (omega (arith, long)), placed.placed, long, grid_length plan, cell_fits plan worker op from to few)
 
 -- ---- nothing else hinders a worker
-module _ (plan : LoadPlan) (history : List Event) (sized : IsSized plan) (legal : IsLegal greatest history) (under : IsUnderway plan history)
-    (owns : (other : ℕ) → FinishesItsOwn greatest history other) (later : List Event) where
-  module _ (caller blob : ℕ) (place : Place) (bytes : List ℕ)
+module _ (stay : OldVersionsStay) (plan : LoadPlan) (history : List Event) (sized : IsSized plan) (legal : IsLegal greatest history) (under : IsUnderway plan history)
+    (owns : (other : ℕ) → FinishesItsOwn greatest history other) (p : ℕ) (later : List Event) where
+  module _ (caller blob : ℕ) (place : Place) (bytes : List ℕ) (seen more : List Event) (goes : history ≡ seen ++ more)
+      (pages : (page : ℕ) → IsPageOf greatest p caller blob place bytes (opening plan ++ later) seen page → IsLoadPage plan p page)
       (full : (front : List Event) → IsLegal greatest front → IsUnderway plan front → (refusal : Refusal) → (answer (store_of greatest front) caller (Calls.Assign blob place bytes)).1 ≡ Outcomes.Refused refusal
       → refusal ≡ Refusals.TooManyOpen greatest.max_open) where
-    by_outside : (seen more : List Event) (fault : Fault) → history ≡ seen ++ more → UpdateHindered greatest caller blob place bytes (opening plan ++ later) seen fault → IsOutside fault
-    by_outside seen more fault goes (UpdateHindered.outside out) = out
-    by_outside seen more fault goes (UpdateHindered.refused r other) =
+    by_outside : (fault : Fault) → UpdateHindered greatest p caller blob place bytes (opening plan ++ later) seen fault → IsOutside (IsLoadPage plan p) fault
+    by_outside fault (UpdateHindered.outside out) = outside_as (IsPageOf greatest p caller blob place bytes (opening plan ++ later) seen) (IsLoadPage plan p) pages fault out
+    by_outside fault (UpdateHindered.refused r other) =
         let front : List Event = (opening plan ++ later) ++ r.others in
         let whole : history ≡ front ++ (r.rest ++ more) = goes ∙ (ap (λ (l : List Event). l ++ more) r.split ∙ append_assoc front r.rest more) in
         let front_legal : IsLegal greatest front = legal_front (empty_store greatest) front (r.rest ++ more) (subst (λ (h : List Event). IsLegal greatest h) whole legal) in
         let front_under : IsUnderway plan front =
         beginnings_underway plan front (r.rest ++ more) (later ++ r.others) (subst (λ (h : List Event). IsUnderway plan h) whole under) (append_assoc (opening plan) later r.others) in
         absurd (other greatest.max_open (r.is ∙ ap fault_of (full front front_legal front_under r.refusal r.refused)))
-    by_outside seen more fault goes (UpdateHindered.finished before between rest version at size split numbered gap found) =
+    by_outside fault (UpdateHindered.finished before between rest version at size split numbered gap found) =
         absurd (nobody_finished history legal owns caller blob place bytes before between rest seen more version at size goes split numbered gap found)
 
   module _ (worker op : ℕ) (from : 1 ≤ worker) (to : worker ≤ plan.workers) (few : op < plan.ops) where
-    hindered_by_outside : (seen more : List Event) (fault : Fault) → history ≡ seen ++ more → OperationHindered plan worker op (opening plan ++ later) seen fault → IsOutside fault
+    hindered_by_outside : (seen more : List Event) (fault : Fault) → history ≡ seen ++ more → OperationHindered plan p worker op (opening plan ++ later) seen fault
+        → IsOutside (IsLoadPage plan p) fault
     hindered_by_outside seen more fault goes (OperationHindered.in_record h) =
-        by_outside (worker + 1) 1 Append (record_of worker op)
-        (λ front front_legal front_under. (refused_when_full plan front sized front_legal front_under worker op from to few).log) seen more fault goes h
+        by_outside (worker + 1) 1 Append (record_of worker op) seen more goes
+        (record_page stay plan history sized legal under p worker op (opening plan ++ later) seen more goes)
+        (λ front front_legal front_under. (refused_when_full plan front sized front_legal front_under worker op from to few).log) fault h
     hindered_by_outside seen more fault goes (OperationHindered.in_cell h) =
-        by_outside (worker + 1) 2 (WriteAt (cell_offset plan worker op)) (cell_of plan.seed worker op)
-        (λ front front_legal front_under. (refused_when_full plan front sized front_legal front_under worker op from to few).grid) seen more fault goes h
+        by_outside (worker + 1) 2 (WriteAt (cell_offset plan worker op)) (cell_of plan.seed worker op) seen more goes
+        (cell_page stay plan history sized legal under p worker op (opening plan ++ later) seen more goes from to few)
+        (λ front front_legal front_under. (refused_when_full plan front sized front_legal front_under worker op from to few).grid) fault h
 
-pub nothing_else_hinders : (plan : LoadPlan) (history : List Event) → IsSized plan → IsLegal greatest history → IsUnderway plan history
+pub nothing_else_hinders : OldVersionsStay → (plan : LoadPlan) (history : List Event) → IsSized plan → IsLegal greatest history → IsUnderway plan history
     → ((other : ℕ) → FinishesItsOwn greatest history other)
-    → (worker op : ℕ) → 1 ≤ worker → worker ≤ plan.workers → op < plan.ops
-    → (seen more later : List Event) (fault : Fault) → history ≡ seen ++ more → OperationHindered plan worker op (opening plan ++ later) seen fault → IsOutside fault
-nothing_else_hinders plan history sized legal under owns worker op from to few seen more later fault goes hindered =
-    hindered_by_outside plan history sized legal under owns later worker op from to few seen more fault goes hindered
+    → (p worker op : ℕ) → 1 ≤ worker → worker ≤ plan.workers → op < plan.ops
+    → (seen more later : List Event) (fault : Fault) → history ≡ seen ++ more → OperationHindered plan p worker op (opening plan ++ later) seen fault
+    → IsOutside (IsLoadPage plan p) fault
+nothing_else_hinders stay plan history sized legal under owns p worker op from to few seen more later fault goes hindered =
+    hindered_by_outside stay plan history sized legal under owns p later worker op from to few seen more fault goes hindered
 
 -- ---- reads
 content_is : (s : Store) (o : Option Refusal) (bytes content : List ℕ) → (let a : Answered = elim o [ Some r ↦ refuse s r | None ↦ (s, Outcomes.Content content) ] in a).1 ≡ Outcomes.Content bytes → bytes ≡ content

@@ -91,7 +91,7 @@ module _ (plan : LoadPlan) (history : List Event) (sized : IsSized plan) (legal 
   same_limits : (store_of greatest history).limits ≡ greatest
   same_limits = limits_stay (empty_store greatest) history
 
-  log_size : size_now (log_of plan under.later) ≤ 16 * all_ops plan
+  pub log_size : size_now (log_of plan under.later) ≤ 16 * all_ops plan
   log_size =
       let us : List Update = updates_in 1 under.later in
       let begun = log_begun plan history under in

@@ -19,5 +19,6 @@ pub mod OneCaller
 pub mod Marks
 pub mod OwnEvents
 pub mod PrintedLines
+pub mod Lost
 pub mod CallEnds
 pub mod Closing

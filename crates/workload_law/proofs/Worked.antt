@@ -11,9 +11,10 @@ use Rattle.blob_model.specs.declared.call.Event.{Event}
 use Rattle.blob_model.specs.declared.call.Event.TheVariants as Events
 use Rattle.workload_law.specs.declared.plan.LoadPlan.{LoadPlan}
 use Rattle.workload_law.specs.Pieces.{record_of, cell_of, is_by, is_in_order, in_order_of}
-use Rattle.workload_law.specs.Load.{opening, HasDone, IsLoad}
+use Rattle.workload_law.specs.Load.{opening, HasDone, IsLoad, IsLoadPage}
 use Rattle.workload_law.specs.Summed.{cells_sum, summary_of}
 use Rattle.workload_law.specs.Numbered.{IsNumberedBy}
+use Rattle.workload_law.specs.Ends.{IsPageOf}
 
 first_record : record_of 1 258 ≡ 0 ∷ 0 ∷ 0 ∷ 0 ∷ 0 ∷ 0 ∷ 0 ∷ 1 ∷ 0 ∷ 0 ∷ 0 ∷ 0 ∷ 0 ∷ 0 ∷ 1 ∷ 2 ∷ []
 unfolding record_of
@@ -33,6 +34,13 @@ larger_load : summary_of (record { seed = 7; workers = 4; ops = 100 })
     ≡ record { log_size = 6400; log_versions = 400; in_order = 4; grid_size = 6400; grid_versions = 401; grid_sum = 425600 }
 unfolding cells_sum
 larger_load = refl
+
+-- the last of its pages of 4096 bytes begins within its bytes, and the page after that one doesn't
+larger_page : IsLoadPage (record { seed = 7; workers = 4; ops = 100 }) 4096 1
+larger_page = omega arith
+
+larger_end : IsLoadPage (record { seed = 7; workers = 4; ops = 100 }) 4096 2 → ⊥
+larger_end within = omega (arith, within)
 
 -- ---- two workers, one operation each
 plan : LoadPlan
@@ -145,3 +153,8 @@ counted_falling = refl
 mixed_numbered : IsNumberedBy greatest mixed 3 1 2
 unfolding mixed later plan record_of cell_of
 mixed_numbered = record { before = opening plan ++ Events.Assign 2 1 Append (record_of 1 0) ∷ []; after = _; place = Append; bytes = record_of 2 0; at = 16; size = 32; split = refl; answered = refl }
+
+-- its record is page 1 of the log, where pages have 16 bytes, and can be lost as such
+mixed_page : IsPageOf greatest 16 3 1 Append (record_of 2 0) (opening plan) mixed 1
+unfolding mixed later plan record_of cell_of
+mixed_page = IsPageOf.of_blob (opening plan ++ Events.Assign 2 1 Append (record_of 1 0) ∷ []) _ 2 16 32 refl refl refl (λ some. omega arith)

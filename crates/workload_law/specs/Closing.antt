@@ -12,7 +12,7 @@ use Rattle.blob_model.specs.declared.call.Place.TheVariants.{WriteAt, Append}
 use Rattle.request_form.specs.declared.form.Fault.{Fault}
 use Rattle.workload_law.specs.declared.plan.LoadPlan.{LoadPlan}
 use Rattle.workload_law.specs.Pieces.{record_of, cell_of}
-use Rattle.workload_law.specs.Load.{IsSized, zeros_of, opening, opened_with, cell_offset, IsUnderway}
+use Rattle.workload_law.specs.Load.{IsSized, zeros_of, opening, opened_with, cell_offset, IsLoadPage, IsUnderway}
 use Rattle.workload_law.specs.Sessions.{FinishesItsOwn}
 use Rattle.workload_law.specs.Ends.{CreateHindered, UpdateHindered, IsOutside}
 
@@ -37,28 +37,31 @@ OwnsStay = (limits : Bounds) (caller : ℕ) (seen more : List Event) → events_
 abbrev pub IdleOwnsAll : Type 0
 IdleOwnsAll = (limits : Bounds) (caller : ℕ) (history : List Event) → events_by caller history ≡ [] → FinishesItsOwn limits history caller
 
--- why one of the two updates of a worker's operation wasn't done
-pub data OperationHindered (plan : LoadPlan) (worker op : ℕ) (first seen : List Event) (fault : Fault) : Type 0 where
-  in_record : UpdateHindered greatest (worker + 1) 1 Append (record_of worker op) first seen fault → OperationHindered plan worker op first seen fault
-  in_cell : UpdateHindered greatest (worker + 1) 2 (WriteAt (cell_offset plan worker op)) (cell_of plan.seed worker op) first seen fault → OperationHindered plan worker op first seen fault
+-- why one of the two updates of a worker's operation wasn't done, where pages have p bytes
+pub data OperationHindered (plan : LoadPlan) (p worker op : ℕ) (first seen : List Event) (fault : Fault) : Type 0 where
+  in_record : UpdateHindered greatest p (worker + 1) 1 Append (record_of worker op) first seen fault → OperationHindered plan p worker op first seen fault
+  in_cell : UpdateHindered greatest p (worker + 1) 2 (WriteAt (cell_offset plan worker op)) (cell_of plan.seed worker op) first seen fault → OperationHindered plan p worker op first seen fault
 
 -- Where a load's history goes on from what a worker has seen, and everybody finishes only his own, nothing but the outside hinders the worker.
+-- A page that is lost then begins within the log or the grid.
 abbrev pub NothingElseHinders : Type 0
 NothingElseHinders = (plan : LoadPlan) (history : List Event) → IsSized plan → IsLegal greatest history → IsUnderway plan history
     → ((other : ℕ) → FinishesItsOwn greatest history other)
-    → (worker op : ℕ) → 1 ≤ worker → worker ≤ plan.workers → op < plan.ops
-    → (seen more later : List Event) (fault : Fault) → history ≡ seen ++ more → OperationHindered plan worker op (opening plan ++ later) seen fault → IsOutside fault
+    → (p worker op : ℕ) → 1 ≤ worker → worker ≤ plan.workers → op < plan.ops
+    → (seen more later : List Event) (fault : Fault) → history ≡ seen ++ more → OperationHindered plan p worker op (opening plan ++ later) seen fault
+    → IsOutside (IsLoadPage plan p) fault
 
--- why one of the opening's four steps wasn't done, by what caller 1 had done before
-pub data OpeningHindered (plan : LoadPlan) (first seen : List Event) (fault : Fault) : Type 0 where
-  in_log : events_by 1 first ≡ [] → CreateHindered greatest 1 first seen fault → OpeningHindered plan first seen fault
-  in_grid : events_by 1 first ≡ Events.Create 1 ∷ [] → CreateHindered greatest 1 first seen fault → OpeningHindered plan first seen fault
-  in_zeros : events_by 1 first ≡ Events.Create 1 ∷ Events.Create 1 ∷ [] → UpdateHindered greatest 1 2 Append (zeros_of plan) first seen fault → OpeningHindered plan first seen fault
+-- why one of the opening's four steps wasn't done, by what caller 1 had done before, where pages have p bytes
+pub data OpeningHindered (plan : LoadPlan) (p : ℕ) (first seen : List Event) (fault : Fault) : Type 0 where
+  in_log : events_by 1 first ≡ [] → CreateHindered greatest 1 first seen fault → OpeningHindered plan p first seen fault
+  in_grid : events_by 1 first ≡ Events.Create 1 ∷ [] → CreateHindered greatest 1 first seen fault → OpeningHindered plan p first seen fault
+  in_zeros : events_by 1 first ≡ Events.Create 1 ∷ Events.Create 1 ∷ [] → UpdateHindered greatest p 1 2 Append (zeros_of plan) first seen fault → OpeningHindered plan p first seen fault
 
--- Where nobody else has an event in the end, nothing but the outside hinders the opening.
+-- Where nobody else has an event in the end, nothing but the outside hinders the opening. A page that is lost then begins within the grid.
 abbrev pub NothingElseHindersOpenings : Type 0
 NothingElseHindersOpenings = (plan : LoadPlan) (history : List Event) → IsSized plan → IsLegal greatest history → ((other : ℕ) → other ≢ 1 → events_by other history ≡ [])
-    → FinishesItsOwn greatest history 1 → (first seen more : List Event) (fault : Fault) → history ≡ seen ++ more → OpeningHindered plan first seen fault → IsOutside fault
+    → FinishesItsOwn greatest history 1 → (p : ℕ) (first seen more : List Event) (fault : Fault) → history ≡ seen ++ more → OpeningHindered plan p first seen fault
+    → IsOutside (IsLoadPage plan p) fault
 
 -- a read has no more bytes than were asked for
 abbrev pub ReadsAreShort : Type 0

@@ -1,5 +1,5 @@
 -- How an update of a session ends, what it leaves, and what may hinder it.
-use Rattle.std.specs.Prelude.{◌≡◌, ◌≢◌, ◌⊎◌, ℕ, ◌-◌, ◌≤◌, true, List, [], ◌∷◌, ◌++◌, Option, Some, None}
+use Rattle.std.specs.Prelude.{◌≡◌, ◌≢◌, ◌⊎◌, ℕ, ◌+◌, ◌-◌, ◌*◌, ◌<◌, ◌≤◌, true, List, [], ◌∷◌, ◌++◌, length, Option, Some, None}
 use Rattle.blob_model.specs.Limits.{Bounds}
 use Rattle.blob_model.specs.Answer.{answer}
 use Rattle.blob_model.specs.History.{store_of, finishes, events_by, AllOther}
@@ -20,11 +20,30 @@ use Rattle.request_form.specs.declared.form.Fault.TheVariants as Faults
 use Rattle.workload_law.specs.Numbered.{IsNumberedBy}
 use Rattle.workload_law.specs.Sessions.{FinishesItsOwn}
 
--- the fault is of the outside: no door took or gave a page, or there was no memory
-pub data IsOutside (fault : Fault) : Type 0 where
-  lost : (page : ℕ) → fault ≡ Faults.PageFault page → IsOutside fault
-  starved : fault ≡ Faults.NoMemory → IsOutside fault
-  held : (ticket : ℕ) → fault ≡ Faults.NoMemoryTicket ticket → IsOutside fault
+-- the fault is of the outside: no door took or gave a page, which is one of those, or there was no memory
+pub data IsOutside (IsPage : ℕ → Type 0) (fault : Fault) : Type 0 where
+  lost : (page : ℕ) → IsPage page → fault ≡ Faults.PageFault page → IsOutside IsPage fault
+  starved : fault ≡ Faults.NoMemory → IsOutside IsPage fault
+  held : (ticket : ℕ) → fault ≡ Faults.NoMemoryTicket ticket → IsOutside IsPage fault
+
+-- where no page can be lost
+abbrev pub NoPage : ℕ → Type 0
+NoPage page = ⊥
+
+-- where it isn't said which pages can be lost
+abbrev pub AnyPage : ℕ → Type 0
+AnyPage page = Unit {0}
+
+-- A page that an update can lose, where pages have p bytes and are numbered from 0: a page of its bytes, which are stored as they
+-- come; or a page of the blob that it stores anew, which begins before the update ends there. It was numbered then, after as many
+-- events of its caller as at first.
+pub data IsPageOf (limits : Bounds) (p caller blob : ℕ) (place : Place) (bytes : List ℕ) (first seen : List Event) (page : ℕ) : Type 0 where
+  of_bytes : p * page < length bytes → IsPageOf limits p caller blob place bytes first seen page
+  of_blob : (before rest : List Event) (version at size : ℕ) → seen ≡ before ++ Events.Assign caller blob place bytes ∷ rest
+      → events_by caller before ≡ events_by caller first
+      → (answer (store_of limits before) caller (Calls.Assign blob place bytes)).1 ≡ Outcomes.Assigned version at size
+      → (1 ≤ length bytes → p * page < at + length bytes)
+      → IsPageOf limits p caller blob place bytes first seen page
 
 -- The store refused a caller's call on a front of the history: what the caller had seen before the call, and then others' events.
 -- By now the caller has seen more.
@@ -39,19 +58,19 @@ pub record RefusedAt (limits : Bounds) (caller : ℕ) (call : Call) (first seen 
 
 -- Why a blob wasn't made: by the outside, or by the store.
 pub data CreateHindered (limits : Bounds) (caller : ℕ) (first seen : List Event) (fault : Fault) : Type 0 where
-  outside : IsOutside fault → CreateHindered limits caller first seen fault
+  outside : IsOutside NoPage fault → CreateHindered limits caller first seen fault
   refused : RefusedAt limits caller Calls.Create first seen fault → CreateHindered limits caller first seen fault
 
 -- Why an update wasn't done: by the outside; or by the store, for another cause than too many waiting updates; or another caller
 -- had finished it once it was numbered.
-pub data UpdateHindered (limits : Bounds) (caller blob : ℕ) (place : Place) (bytes : List ℕ) (first seen : List Event) (fault : Fault) : Type 0 where
-  outside : IsOutside fault → UpdateHindered limits caller blob place bytes first seen fault
+pub data UpdateHindered (limits : Bounds) (p caller blob : ℕ) (place : Place) (bytes : List ℕ) (first seen : List Event) (fault : Fault) : Type 0 where
+  outside : IsOutside (IsPageOf limits p caller blob place bytes first seen) fault → UpdateHindered limits p caller blob place bytes first seen fault
   refused : RefusedAt limits caller (Calls.Assign blob place bytes) first seen fault → ((limit : ℕ) → fault ≢ Faults.TooManyOpen limit)
-      → UpdateHindered limits caller blob place bytes first seen fault
+      → UpdateHindered limits p caller blob place bytes first seen fault
   finished : (before later rest : List Event) (version at size : ℕ) → seen ≡ before ++ Events.Assign caller blob place bytes ∷ (later ++ rest)
       → (answer (store_of limits before) caller (Calls.Assign blob place bytes)).1 ≡ Outcomes.Assigned version at size
       → AllOther caller later → finishes blob version later ≡ true
-      → UpdateHindered limits caller blob place bytes first seen fault
+      → UpdateHindered limits p caller blob place bytes first seen fault
 
 -- A session has seen more. Its own events are those that it had, and then these. It finishes only what it numbered, and takes as many
 -- bytes in an update as at first, if it did so before.
@@ -97,7 +116,7 @@ pub data UpdateEnds (s : Session) (blob : ℕ) (place : Place) (bytes : List ℕ
       → UpdateEnds s blob place bytes done started reply s'
   full : (limit : ℕ) → reply ≡ Replies.Refused (Faults.TooManyOpen limit) → Leaves s [] s' → s'.tickets ≡ s.tickets → UpdateEnds s blob place bytes done started reply s'
   hinders : (fault : Fault) → reply ≡ Replies.Refused fault → ((limit : ℕ) → fault ≢ Faults.TooManyOpen limit)
-      → UpdateHindered s.fixed.limits s.caller blob place bytes s.seen s'.seen fault → StopsAt s blob place bytes (ticket_of fault) s'
+      → UpdateHindered s.fixed.limits s.fixed.page s.caller blob place bytes s.seen s'.seen fault → StopsAt s blob place bytes (ticket_of fault) s'
       → UpdateEnds s blob place bytes done started reply s'
 
 -- How an update may end that the session lets through to the store.
@@ -118,7 +137,7 @@ pub data FinishEnds (s : Session) (blob : ℕ) (place : Place) (bytes : List ℕ
       → FinishEnds s blob place bytes number version reply s'
   waits : (least : ℕ) → reply ≡ Replies.Refused (Faults.Pending (version - 1) least) → Holds s blob place bytes number version s' → FinishEnds s blob place bytes number version reply s'
   hinders : (fault : Fault) → reply ≡ Replies.Refused fault → ((earlier least : ℕ) → fault ≢ Faults.Pending earlier least)
-      → ((first : List Event) → UpdateHindered s.fixed.limits s.caller blob place bytes first s'.seen fault) → StopsAt s blob place bytes (still_held number fault) s'
+      → UpdateHindered s.fixed.limits s.fixed.page s.caller blob place bytes s.seen s'.seen fault → StopsAt s blob place bytes (still_held number fault) s'
       → FinishEnds s blob place bytes number version reply s'
 
 -- So it ends where the session held no other ticket.
@@ -138,8 +157,8 @@ CreatesEnd = (s : Session) (reply : Reply) (s' : Session) → CreateAnswer AllOt
 
 -- what hindered stands as more is seen
 abbrev pub HindrancesStay : Type 0
-HindrancesStay = (limits : Bounds) (caller blob : ℕ) (place : Place) (bytes : List ℕ) (first seen more : List Event) (fault : Fault)
-    → UpdateHindered limits caller blob place bytes first seen fault → UpdateHindered limits caller blob place bytes first (seen ++ more) fault
+HindrancesStay = (limits : Bounds) (p caller blob : ℕ) (place : Place) (bytes : List ℕ) (first seen more : List Event) (fault : Fault)
+    → UpdateHindered limits p caller blob place bytes first seen fault → UpdateHindered limits p caller blob place bytes first (seen ++ more) fault
 
 -- ---- what calls leave
 -- one call after another leaves what both left

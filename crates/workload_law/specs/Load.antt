@@ -11,6 +11,11 @@ use Rattle.workload_law.specs.Pieces.{record_of, cell_of}
 abbrev pub all_ops : LoadPlan → ℕ
 all_ops plan = plan.workers * plan.ops
 
+-- The page begins within the bytes to which the log and the grid of a load come, which are as many in both. Pages have p bytes, and are
+-- numbered from 0.
+abbrev pub IsLoadPage : LoadPlan → ℕ → ℕ → Type 0
+IsLoadPage plan p page = p * page < 16 * all_ops plan
+
 -- a plan that a load takes
 pub record IsSized (plan : LoadPlan) : Type 0 where
   pub some_workers : 1 ≤ plan.workers

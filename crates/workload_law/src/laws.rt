@@ -52,7 +52,8 @@ pub fn sessions_own()
 
 /// A new blob of a session is made or was hindered; an update is done, or is held back under a ticket, or is to be tried again as too
 /// many updates of its blob wait, or was hindered; the finish of an update that is held is done, or is to be tried again as the
-/// version before it waits, or was hindered.
+/// version before it waits, or was hindered. A page that an update lost is one of its bytes, or one of the blob that begins before
+/// the update ends there.
 pub fn calls_end()
     ensures creates { CreatesEnd }
     ensures updates { UpdatesEnd }
@@ -60,6 +61,7 @@ pub fn calls_end()
     ensures stay { HindrancesStay }
 {
     blob_model::laws::finished_by_events();
+    blob_model::laws::old_versions_stay();
 }
 
 /// What a session's calls leave of its own events, one after another: a look nothing, a report a finish or nothing. An update is
@@ -75,7 +77,8 @@ pub fn calls_leave()
 {}
 
 /// What is known of a load's history once all passes came back: what the first caller saw alone, whose finishes are whose, and
-/// that nothing but the outside hinders a worker.
+/// that nothing but the outside hinders the opening or a worker. A page that was lost then begins within the bytes to which the log
+/// and the grid come.
 pub fn loads_close()
     ensures alone { SeenAlone }
     ensures none { NobodysAreNone }
@@ -84,7 +87,9 @@ pub fn loads_close()
     ensures idle { IdleOwnsAll }
     ensures openings { NothingElseHindersOpenings }
     ensures workers { NothingElseHinders }
-{}
+{
+    blob_model::laws::old_versions_stay();
+}
 
 /// A read is no longer than was asked for.
 pub fn reads_are_short()

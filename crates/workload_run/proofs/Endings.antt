@@ -14,7 +14,7 @@ use Rattle.version_manager.specs.Laws.{EntriesAreEvents}
 use Rattle.request_form.specs.declared.form.Fault.{Fault}
 use Rattle.workload_law.specs.declared.plan.LoadPlan.{LoadPlan}
 use Rattle.workload_law.specs.declared.plan.Summary.{Summary}
-use Rattle.workload_law.specs.Load.{opening, opened_with, IsSized, IsLoad, IsUnderway}
+use Rattle.workload_law.specs.Load.{opening, opened_with, IsSized, IsLoad, IsLoadPage, IsUnderway}
 use Rattle.workload_law.specs.Laws.{LoadsReadBack}
 use Rattle.workload_law.specs.Sessions.{FinishesItsOwn}
 use Rattle.workload_law.specs.Ends.{IsOutside}
@@ -62,13 +62,13 @@ one_given zero differs = inl refl
 one_given (suc zero) differs = absurd (differs refl)
 one_given (suc (suc n)) differs = inr (omega arith)
 
-module _ (are : EntriesAreEvents) (plan : LoadPlan) (sized : IsSized plan) where
-  pub half_opened : NothingElseHindersOpenings → (fault : Fault) (owner : OwnerView Event DeskFixed) → IsHalfOpened plan fault owner
-      → LacksUngiven owner.made owner.seen → IsLegal greatest (events owner.seen) → owner.seen ≡ tagged (events owner.seen) → IsOutside fault
+module _ (are : EntriesAreEvents) (plan : LoadPlan) (p : ℕ) (sized : IsSized plan) where
+  pub half_opened : NothingElseHindersOpenings → (fault : Fault) (owner : OwnerView Event DeskFixed) → IsHalfOpened plan p fault owner
+      → LacksUngiven owner.made owner.seen → IsLegal greatest (events owner.seen) → owner.seen ≡ tagged (events owner.seen) → IsOutside (IsLoadPage plan p) fault
   half_opened nothing fault owner half lacks legal tags =
       let others : (other : ℕ) → other ≢ 1 → events_by other (events owner.seen) ≡ [] =
       λ other differs. none_by are owner.seen other tags (lacks other (subst (λ (n : ℕ). IsUngiven n other) (sym half.made) (one_given other differs))) in
-      nothing plan (events owner.seen) sized legal others half.own half.first half.seen half.more fault half.split half.hindered
+      nothing plan (events owner.seen) sized legal others half.own p half.first half.seen half.more fault half.split half.hindered
 
 -- ---- the workers
 
@@ -112,11 +112,11 @@ module _ (plan : LoadPlan) (first : List Event) (owner : OwnerView Event DeskFix
     owns stay idle own other (Whose.nobodys whose_not) = idle greatest other history_of (only other whose_not)
 
     -- nothing but the outside stopped a worker
-    pub stopped : NothingElseHinders → OwnsStay → IdleOwnsAll → IsSized plan → FinishesItsOwn greatest first 1 → (fault : Fault) → HaveStopped plan first fault owner → IsOutside fault
-    stopped nothing stay idle sized own fault stop =
-        let hindered : OperationHindered plan stop.worker stop.op (opening plan ++ stop.later) stop.seen fault =
-        subst (λ (l : List Event). OperationHindered plan stop.worker stop.op (l ++ stop.later) stop.seen fault) first_opening stop.hindered in
-        nothing plan history_of sized legal underway (λ other. owns stay idle own other (whose plan.workers other)) stop.worker stop.op stop.some stop.last stop.is_op stop.seen stop.more stop.later fault stop.split
+    pub stopped : NothingElseHinders → OwnsStay → IdleOwnsAll → IsSized plan → FinishesItsOwn greatest first 1 → (p : ℕ) (fault : Fault) → HaveStopped plan p first fault owner → IsOutside (IsLoadPage plan p) fault
+    stopped nothing stay idle sized own p fault stop =
+        let hindered : OperationHindered plan p stop.worker stop.op (opening plan ++ stop.later) stop.seen fault =
+        subst (λ (l : List Event). OperationHindered plan p stop.worker stop.op (l ++ stop.later) stop.seen fault) first_opening stop.hindered in
+        nothing plan history_of sized legal underway (λ other. owns stay idle own other (whose plan.workers other)) p stop.worker stop.op stop.some stop.last stop.is_op stop.seen stop.more stop.later fault stop.split
         hindered
 
     pub is_load : HaveDone plan first owner → IsLoad plan history_of
@@ -130,7 +130,7 @@ only_theirs are plan owner made lacks tags caller whose_not =
 
 -- ---- the last look
 
-module _ (plan : LoadPlan) (first : List Event) (old new : OwnerView Event DeskFixed) (told : Result Summary Fault) (all : HaveDone plan first old) (look : HasLooked plan old told new) where
+module _ (plan : LoadPlan) (p : ℕ) (first : List Event) (old new : OwnerView Event DeskFixed) (told : Result Summary Fault) (all : HaveDone plan first old) (look : HasLooked plan p old told new) where
   abbrev old_history : List Event
   old_history = events old.seen
 
@@ -182,33 +182,33 @@ module _ (plan : LoadPlan) (first : List Event) (old new : OwnerView Event DeskF
           subst (λ (h : List Event). FinishesItsOwn greatest h caller) (sym (same_history no_others))
           (owns plan first old all.come alone first_is only_old legal_old version opened stay idle own caller (whose plan.workers caller))
 
-      pub told_of : TellsSummary plan told
+      pub told_of : TellsSummary plan p told
       told_of = look.tells (none_later no_others) (read_back plan old_history (omega (arith, sized.workers)) legal_old loaded_old (old.made + 1))
 
 -- ---- once the store is closed
 
-module _ (are : EntriesAreEvents) (plan : LoadPlan) (sized : IsSized plan) where
-  pub closes_unopened : NothingElseHindersOpenings → (fault : Fault) (owner : OwnerView Event DeskFixed) → IsOutside fault ⊎ IsHalfOpened plan fault owner → ClosesAs plan (Err fault) owner
+module _ (are : EntriesAreEvents) (plan : LoadPlan) (p : ℕ) (sized : IsSized plan) where
+  pub closes_unopened : NothingElseHindersOpenings → (fault : Fault) (owner : OwnerView Event DeskFixed) → IsOutside (IsLoadPage plan p) fault ⊎ IsHalfOpened plan p fault owner → ClosesAs plan p (Err fault) owner
   closes_unopened nothing fault owner (inl outside) lacks legal tags = outside
-  closes_unopened nothing fault owner (inr half) lacks legal tags = half_opened are plan sized nothing fault owner half lacks legal tags
+  closes_unopened nothing fault owner (inr half) lacks legal tags = half_opened are plan p sized nothing fault owner half lacks legal tags
 
   module _ (alone : SeenAlone) (first_is : OpeningsAreFirst) (mid : OwnerView Event DeskFixed) (opened : IsOpened plan mid) where
-    pub closes_stopped : NothingElseHinders → OwnsStay → IdleOwnsAll → (fault : Fault) (owner : OwnerView Event DeskFixed) → IsOutside fault ⊎ HaveStopped plan (events mid.seen) fault owner
-        → ClosesAs plan (Err fault) owner
+    pub closes_stopped : NothingElseHinders → OwnsStay → IdleOwnsAll → (fault : Fault) (owner : OwnerView Event DeskFixed) → IsOutside (IsLoadPage plan p) fault ⊎ HaveStopped plan p (events mid.seen) fault owner
+        → ClosesAs plan p (Err fault) owner
     closes_stopped nothing stay idle fault owner (inl outside) lacks legal tags = outside
     closes_stopped nothing stay idle fault owner (inr stop) lacks legal tags =
-        stopped plan (events mid.seen) owner stop.come alone first_is (only_theirs are plan owner stop.come.made lacks tags) legal opened.version opened.opened nothing stay idle sized opened.own fault stop
+        stopped plan (events mid.seen) owner stop.come alone first_is (only_theirs are plan owner stop.come.made lacks tags) legal opened.version opened.opened nothing stay idle sized opened.own p fault stop
 
     module _ (no_others : NobodysAreNone) (read_back : LoadsReadBack) (old new : OwnerView Event DeskFixed) (all : HaveDone plan (events mid.seen) old) where
-      pub closes_looked : OwnsStay → IdleOwnsAll → (summary : Summary) → HasLooked plan old (Ok summary) new → ClosesAs plan (Ok summary) new
+      pub closes_looked : OwnsStay → IdleOwnsAll → (summary : Summary) → HasLooked plan p old (Ok summary) new → ClosesAs plan p (Ok summary) new
       closes_looked stay idle summary look lacks legal tags =
           let first : List Event = events mid.seen in (
-            told_of plan first old new (Ok summary) all look are lacks tags no_others alone first_is read_back sized legal opened.version opened.opened,
-            loaded plan first old new (Ok summary) all look are lacks tags no_others alone first_is read_back sized legal opened.version opened.opened,
-            finished plan first old new (Ok summary) all look are lacks tags no_others alone first_is read_back sized legal opened.version opened.opened stay idle opened.own,
+            told_of plan p first old new (Ok summary) all look are lacks tags no_others alone first_is read_back sized legal opened.version opened.opened,
+            loaded plan p first old new (Ok summary) all look are lacks tags no_others alone first_is read_back sized legal opened.version opened.opened,
+            finished plan p first old new (Ok summary) all look are lacks tags no_others alone first_is read_back sized legal opened.version opened.opened stay idle opened.own,
           )
 
-      pub closes_unseen : (fault : Fault) → IsOutside fault ⊎ HasLooked plan old (Err fault) new → ClosesAs plan (Err fault) new
+      pub closes_unseen : (fault : Fault) → IsOutside (IsLoadPage plan p) fault ⊎ HasLooked plan p old (Err fault) new → ClosesAs plan p (Err fault) new
       closes_unseen fault (inl outside) lacks legal tags = outside
       closes_unseen fault (inr look) lacks legal tags =
-          told_of plan (events mid.seen) old new (Err fault) all look are lacks tags no_others alone first_is read_back sized legal opened.version opened.opened
+          told_of plan p (events mid.seen) old new (Err fault) all look are lacks tags no_others alone first_is read_back sized legal opened.version opened.opened

@@ -168,8 +168,8 @@ module _ (s s' : Session) (blob version size : ℕ) where
     unread_in true is x same = IsUntold.too_long version size recent (grind (arith, nat_tests))
     unread_in false is (ReadAnswer.content x) same = absurd (let no : Replies.Refused fault ≡ Replies.Content x.bytes = x.said in cc)
     unread_in false is (ReadAnswer.refused x) same = IsUntold.refused version size x.refusal recent (sym (alone x.others x.seen same) ∙ x.refused)
-    unread_in false is (ReadAnswer.out_of_memory x) same = IsUntold.outside (IsOutside.starved (same_fault fault Faults.NoMemory x.said))
-    unread_in false is (ReadAnswer.not_read x) same = IsUntold.outside (IsOutside.lost x.page (same_fault fault (Faults.PageFault x.page) x.said))
+    unread_in false is (ReadAnswer.out_of_memory x) same = IsUntold.outside version size recent (IsOutside.starved (same_fault fault Faults.NoMemory x.said))
+    unread_in false is (ReadAnswer.not_read x) same = IsUntold.outside version size recent (IsOutside.lost x.page (omega (arith, x.begins)) (same_fault fault (Faults.PageFault x.page) x.said))
 
     pub unread : Answers AllOther s (Requests.Read blob version 0 size) (Replies.Refused fault) s' → s'.seen ≡ s.seen → IsUntold s blob fault
     unread answers same = unread_in (nat_lt max_read size) refl answers same

@@ -90,9 +90,10 @@ module _ (adds : LeavesAdd) (plan : LoadPlan) (s : Session) (fresh : IsFresh 0 s
       let caller : two.caller ≡ 1 = caller_at create_both two did in
       let first : List Event = two.seen ++ stop.more in
       let own : events_by 1 first ≡ create_both = subst (λ (c : ℕ). events_by c first ≡ events_by c two.seen) caller stop.of_others ∙ own_events create_both two did in
-      let hindered : UpdateHindered greatest 1 2 Append (zeros_of plan) first s'.seen fault =
-      subst (λ (b : Bounds). UpdateHindered b 1 2 Append (zeros_of plan) first s'.seen fault) (limits_at create_both two did)
-      (subst (λ (c : ℕ). UpdateHindered two.fixed.limits c 2 Append (zeros_of plan) first s'.seen fault) caller stop.hindered) in
+      let hindered : UpdateHindered greatest s.fixed.page 1 2 Append (zeros_of plan) first s'.seen fault =
+      subst (λ (b : Bounds). UpdateHindered b s.fixed.page 1 2 Append (zeros_of plan) first s'.seen fault) fresh.limits
+      (subst (λ (f : Fixed). UpdateHindered f.limits f.page 1 2 Append (zeros_of plan) first s'.seen fault) did.leaves.fixed
+      (subst (λ (c : ℕ). UpdateHindered two.fixed.limits two.fixed.page c 2 Append (zeros_of plan) first s'.seen fault) caller stop.hindered)) in
       record {
         own = create_both ++ stop.stopped.own;
         did = record { leaves = adds s two s' create_both stop.stopped.own did.leaves stop.stopped.leaves; none_held = stop.stopped.none_held };

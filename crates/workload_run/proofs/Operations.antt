@@ -53,9 +53,10 @@ module _ (plan : LoadPlan) (worker op : ℕ) where
     stopped_in_cell adds limits s' fault stop =
         let split : stop.stopped.own ++ stop.stopped.rest ≡ cell_events stop.version =
         subst (λ (c : ℕ). stop.stopped.own ++ stop.stopped.rest ≡ update_events c 2 (WriteAt (cell_offset plan worker op)) cell_bytes stop.version) goes_caller stop.stopped.split in
-        let hindered : UpdateHindered greatest (worker + 1) 2 (WriteAt (cell_offset plan worker op)) cell_bytes (mid.seen ++ stop.more) s'.seen fault =
-        subst (λ (b : Bounds). UpdateHindered b (worker + 1) 2 (WriteAt (cell_offset plan worker op)) cell_bytes (mid.seen ++ stop.more) s'.seen fault) (ap (λ (f : Fixed). f.limits) wrote.leaves.fixed ∙ limits)
-        (subst (λ (c : ℕ). UpdateHindered mid.fixed.limits c 2 (WriteAt (cell_offset plan worker op)) cell_bytes (mid.seen ++ stop.more) s'.seen fault) goes_caller stop.hindered) in
+        let hindered : UpdateHindered greatest s.fixed.page (worker + 1) 2 (WriteAt (cell_offset plan worker op)) cell_bytes (mid.seen ++ stop.more) s'.seen fault =
+        subst (λ (b : Bounds). UpdateHindered b s.fixed.page (worker + 1) 2 (WriteAt (cell_offset plan worker op)) cell_bytes (mid.seen ++ stop.more) s'.seen fault) limits
+        (subst (λ (f : Fixed). UpdateHindered f.limits f.page (worker + 1) 2 (WriteAt (cell_offset plan worker op)) cell_bytes (mid.seen ++ stop.more) s'.seen fault) wrote.leaves.fixed
+        (subst (λ (c : ℕ). UpdateHindered mid.fixed.limits mid.fixed.page c 2 (WriteAt (cell_offset plan worker op)) cell_bytes (mid.seen ++ stop.more) s'.seen fault) goes_caller stop.hindered)) in
         let first : mid.seen ++ stop.more ≡ s.seen ++ (wrote.leaves.more ++ stop.more) = ap (λ (l : List Event). l ++ stop.more) wrote.leaves.seen ∙ append_assoc s.seen wrote.leaves.more stop.more in
         record {
           log_version = wrote.version;
@@ -68,16 +69,16 @@ module _ (plan : LoadPlan) (worker op : ℕ) where
             none_held = stop.stopped.none_held;
           };
           more = wrote.leaves.more ++ stop.more;
-          hindered = subst (λ (h : List Event). OperationHindered plan worker op h s'.seen fault) first (OperationHindered.in_cell hindered);
+          hindered = subst (λ (h : List Event). OperationHindered plan s.fixed.page worker op h s'.seen fault) first (OperationHindered.in_cell hindered);
         }
 
   pub stopped_in_record : (s : Session) → s.caller ≡ worker + 1 → s.fixed.limits ≡ greatest → (s' : Session) (fault : Fault) → IsStopped s 1 Append record_bytes fault s' → HasStoppedAt plan worker op fault s s'
   stopped_in_record s caller limits s' fault stop =
       let split : stop.stopped.own ++ stop.stopped.rest ≡ record_events stop.version =
       subst (λ (c : ℕ). stop.stopped.own ++ stop.stopped.rest ≡ update_events c 1 Append record_bytes stop.version) caller stop.stopped.split in
-      let hindered : UpdateHindered greatest (worker + 1) 1 Append record_bytes (s.seen ++ stop.more) s'.seen fault =
-      subst (λ (b : Bounds). UpdateHindered b (worker + 1) 1 Append record_bytes (s.seen ++ stop.more) s'.seen fault) limits
-      (subst (λ (c : ℕ). UpdateHindered s.fixed.limits c 1 Append record_bytes (s.seen ++ stop.more) s'.seen fault) caller stop.hindered) in
+      let hindered : UpdateHindered greatest s.fixed.page (worker + 1) 1 Append record_bytes (s.seen ++ stop.more) s'.seen fault =
+      subst (λ (b : Bounds). UpdateHindered b s.fixed.page (worker + 1) 1 Append record_bytes (s.seen ++ stop.more) s'.seen fault) limits
+      (subst (λ (c : ℕ). UpdateHindered s.fixed.limits s.fixed.page c 1 Append record_bytes (s.seen ++ stop.more) s'.seen fault) caller stop.hindered) in
       record {
         log_version = stop.version;
         grid_version = 0;
@@ -150,5 +151,7 @@ module _ (plan : LoadPlan) (worker op : ℕ) (s mid s' : Session) (limits : s.fi
         op = op;
         is_op = within;
         later = worked.more ++ stop.more;
-        hindered = subst (λ (h : List Event). OperationHindered plan worker op h s'.seen fault) first stop.hindered;
+        hindered =
+            subst (λ (f : Fixed). OperationHindered plan f.page worker op (s.seen ++ (worked.more ++ stop.more)) s'.seen fault) worked.fixed
+            (subst (λ (h : List Event). OperationHindered plan mid.fixed.page worker op h s'.seen fault) first stop.hindered);
       }

@@ -20,7 +20,7 @@ use Rattle.client_session.specs.Tickets.{OpenUpdate, tickets_of}
 use Rattle.store_sessions.specs.Made.{IsNewSession}
 use Rattle.workload_law.specs.declared.plan.LoadPlan.{LoadPlan}
 use Rattle.workload_law.specs.declared.plan.Summary.{Summary}
-use Rattle.workload_law.specs.Load.{IsSized, opened_with, HasDone, HasBegun}
+use Rattle.workload_law.specs.Load.{IsSized, IsLoadPage, opened_with, HasDone, HasBegun}
 use Rattle.workload_law.specs.Laws.{IsReadBack}
 use Rattle.workload_law.specs.Sessions.{FinishesItsOwn}
 use Rattle.workload_law.specs.Ends.{IsOutside}
@@ -30,7 +30,7 @@ use Rattle.update_work.specs.Callers.{IsFresh, CameBack, Told}
 use Rattle.workload_run.specs.Work.{HasEndedEarly, WorkEnds}
 use Rattle.update_work.specs.Making.{HasDoneOwn}
 use Rattle.workload_run.specs.Opening.{HasOpened, HasNotOpened, OpeningEnds}
-use Rattle.workload_run.specs.Stages.{IsOpened, IsHalfOpened, OpensAs, HaveCome, HaveDone, HaveStopped, HasLooked, LooksAs}
+use Rattle.workload_run.specs.Stages.{IsOpened, IsHalfOpened, OpensAs, HaveCome, HaveDone, HaveStopped, TellsSummary, HasLooked, LooksAs}
 use Rattle.workload_run.specs.Look.{SummaryEnds}
 use Rattle.std.proofs.lemmas.List.Sums.{get_or-le-sum_by}
 use Rattle.workload_run.specs.Workers.{WorkerState, AreKept, counted_by, stop_or, AreReady, AreWorkable, HaveRun, AreOfStore, AreBack, first_stop}
@@ -62,7 +62,7 @@ module _ {D : Type 0} (are : EntriesAreEvents) (idle : IdleOwnsAll) (stay : Owns
         own = first_owns own opened.did;
       }
 
-  pub half_opened : (fault : Fault) → HasNotOpened plan fault (session_of s) (session_of s') → IsHalfOpened plan fault owner
+  pub half_opened : (fault : Fault) → HasNotOpened plan fault (session_of s) (session_of s') → IsHalfOpened plan s.store.fixed.page_size fault owner
   half_opened fault lost = record {
     made = made;
     out = out;
@@ -243,7 +243,7 @@ module _ {D : Type 0} (are : EntriesAreEvents) (faults : D → ℕ) (plan : Load
               (done_at place first_worker there (all_done new none place first_worker (omega (arith, there, same_count)))));
         }
 
-        pub have_stopped : (fault : Fault) → first_stop new ≡ Some fault → HaveStopped plan (events log) fault owner
+        pub have_stopped : (fault : Fault) → first_stop new ≡ Some fault → HaveStopped plan store.fixed.page_size (events log) fault owner
         have_stopped fault stop =
             let at = stopped_at new fault stop in
             let there : at.place < length old = omega (arith, at.within, same_count) in
@@ -262,7 +262,10 @@ module _ {D : Type 0} (are : EntriesAreEvents) (faults : D → ℕ) (plan : Load
               split = ap (λ (l : List (ℕ × Event)). events l) is ∙ came.begins;
               later = early.later;
               hindered =
-                  subst (λ (l : List (ℕ × Event)). OperationHindered plan (at.place + 1) early.op (events l ++ early.later) (events (new_at at.place first_worker there).session.log) fault) r.seen early.hindered;
+                  subst (λ (t : StoreState). OperationHindered plan t.fixed.page_size (at.place + 1) early.op (events log ++ early.later) (events (new_at at.place first_worker there).session.log) fault) r.of_store
+                  (subst (λ (l : List (ℕ × Event)).
+                  OperationHindered plan (old_at at.place first_worker there).session.store.fixed.page_size (at.place + 1) early.op (events l ++ early.later)
+                  (events (new_at at.place first_worker there).session.log) fault) r.seen early.hindered);
             }
 
   -- a page that a worker lost was counted by its doors
@@ -315,7 +318,7 @@ module _ {D : Type 0} (are : EntriesAreEvents) (idle : IdleOwnsAll) (plan : Load
   saw_same same =
       mid_same (session_of s).seen (events s'.log) (events new.seen) ends.did.leaves.more last_back.later ends.did.leaves.seen last_back.begins (same ∙ sym seen_first)
 
-  pub has_looked : new.made ≡ old.made + 1 → new.out ≡ old.out → HasLooked plan old told new
+  pub has_looked : new.made ≡ old.made + 1 → new.out ≡ old.out → HasLooked plan store.fixed.page_size old told new
   has_looked made out =
       let later : List Event = events goes_on.0 in
       let split : events new.seen ≡ events old.seen ++ later = ap (λ (l : List (ℕ × Event)). events l) goes_on.1 ∙ events_append old.seen goes_on.0 in
@@ -328,10 +331,11 @@ module _ {D : Type 0} (are : EntriesAreEvents) (idle : IdleOwnsAll) (plan : Load
         none = last_back.same ∙ own_is idle old.made (session_of s) (session_of s') fresh_last [] ends.did;
         tells = λ none read_back.
             let same : events new.seen ≡ events old.seen = split ∙ (ap (λ (l : List Event). events old.seen ++ l) none ∙ append-nil (events old.seen)) in
-            ends.tells (saw_same same) sized
+            subst (λ (t : StoreState). TellsSummary plan t.fixed.page_size told) fresh.of_store
+            (ends.tells (saw_same same) sized
             (subst (λ (h : List Event). IsReadBack plan (store_of (session_of s).fixed.limits h) (session_of s).caller) (sym seen_first)
             (subst (λ (b : Bounds). IsReadBack plan (store_of b (events old.seen)) (session_of s).caller) (sym fresh_last.limits)
-            (subst (λ (c : ℕ). IsReadBack plan (store_of greatest (events old.seen)) c) (sym fresh_last.caller) read_back)));
+            (subst (λ (c : ℕ). IsReadBack plan (store_of greatest (events old.seen)) c) (sym fresh_last.caller) read_back))));
       }
 
 -- ---- sessions that were made by an owner and went back to it
@@ -384,18 +388,23 @@ module _ {D : Type 0} (are : EntriesAreEvents) (idle : IdleOwnsAll) (stay : Owns
   out_none : new.out ≡ 0
   out_none = went.out ∙ none_out
 
-  pub opens_as : (told : Told) → OpeningEnds plan told (session_of s) (session_of s') → OpensAs plan told new
+  pub opens_as : (told : Told) → OpeningEnds plan told (session_of s) (session_of s') → OpensAs plan store.fixed.page_size told new
   opens_as (Ok done) ends =
       is_opened are idle stay plan s s' fresh_zero new made_one out_none tags went.begins went.back (subst (λ (c : ℕ). Contains new.kept c) (caller ∙ caller_first) went.kept_own) ends
-  opens_as (Err fault) ends = (out_none, inr (half_opened are idle stay plan s s' fresh_zero new made_one out_none tags went.begins went.back fault ends))
+  opens_as (Err fault) ends = (
+    out_none,
+    inr
+        (subst (λ (t : StoreState). IsHalfOpened plan t.fixed.page_size fault new) fresh.of_store
+        (half_opened are idle stay plan s s' fresh_zero new made_one out_none tags went.begins went.back fault ends)),
+  )
 
 -- how the last look ended for the owner
 module _ {D : Type 0} (are : EntriesAreEvents) (idle : IdleOwnsAll) (plan : LoadPlan) (sized : IsSized plan) (faults : D → ℕ) (store : StoreState) (limits : store.fixed.limits ≡ greatest)
     (old new : OwnerView Event DeskFixed) (s s' : SessionState D) (fresh : IsNewSession faults store old s) (went : WentBack s'.caller s'.log old new) (tags : new.seen ≡ tagged (events new.seen)) where
-  looked : (told : Result Summary Fault) → SummaryEnds plan told (session_of s) (session_of s') → HasLooked plan old told new
+  looked : (told : Result Summary Fault) → SummaryEnds plan told (session_of s) (session_of s') → HasLooked plan store.fixed.page_size old told new
   looked told ends = has_looked are idle plan sized faults store limits old new s s' fresh told ends tags went.goes_on went.begins went.back went.before went.made went.out
 
-  pub looks_as : (told : Result Summary Fault) → SummaryEnds plan told (session_of s) (session_of s') → LooksAs plan old told new
+  pub looks_as : (told : Result Summary Fault) → SummaryEnds plan told (session_of s) (session_of s') → LooksAs plan store.fixed.page_size old told new
   looks_as (Ok summary) ends = looked (Ok summary) ends
   looks_as (Err fault) ends = (went.out, inr (looked (Err fault) ends))
 
@@ -438,7 +447,7 @@ module _ {D : Type 0} (are : EntriesAreEvents) (stay : OwnsStay) (plan : LoadPla
   crew_done none =
       have_done are faults plan sized store limits first.seen crew_tags old count ready stay new same_count run last.seen tags back last refl crew_made crew_out crew_kept crew_first none
 
-  pub crew_stopped : (fault : Fault) → first_stop new ≡ Some fault → (last.out ≡ 0) × (IsOutside fault ⊎ HaveStopped plan (events first.seen) fault last)
+  pub crew_stopped : (fault : Fault) → first_stop new ≡ Some fault → (last.out ≡ 0) × (IsOutside (IsLoadPage plan store.fixed.page_size) fault ⊎ HaveStopped plan store.fixed.page_size (events first.seen) fault last)
   crew_stopped fault stop = (
     crew_out,
     inr (have_stopped are faults plan sized store limits first.seen crew_tags old count ready stay new same_count run last.seen tags back last refl crew_made crew_out crew_kept crew_first fault stop),

@@ -1,5 +1,5 @@
 -- What the last session's looks come to.
-use Rattle.std.proofs.Common.{◌≡◌, ℕ, ◌+◌, ◌*◌, ◌≤◌, List, [], ◌++◌, sum, refl, sym, ap, subst, ◌∙◌, append-nil, arith}
+use Rattle.std.proofs.Common.{◌≡◌, ℕ, ◌+◌, ◌*◌, ◌<◌, ◌≤◌, List, [], ◌++◌, sum, refl, sym, ap, subst, ◌∙◌, append-nil, arith}
 use Rattle.std.specs.Prelude.{Ok, Err}
 use Rattle.blob_model.specs.History.{store_of, AllOther}
 use Rattle.blob_model.specs.declared.call.Call.{Call}
@@ -7,14 +7,14 @@ use Rattle.blob_model.specs.declared.call.Call.TheVariants as Calls
 use Rattle.blob_model.specs.declared.call.Event.{Event}
 use Rattle.blob_model.specs.declared.call.Outcome.{Outcome}
 use Rattle.blob_model.specs.declared.call.Outcome.TheVariants as Outcomes
-use Rattle.request_form.specs.Session.{Session, outcome_at}
+use Rattle.request_form.specs.Session.{Fixed, Session, outcome_at}
 use Rattle.request_form.specs.Answers.{LookAnswer, Answers, max_read}
 use Rattle.request_form.specs.Replies.{reply_of}
 use Rattle.request_form.specs.declared.form.Request.TheVariants as Requests
 use Rattle.request_form.specs.declared.form.Reply.TheVariants as Replies
 use Rattle.request_form.specs.declared.form.Fault.{Fault}
 use Rattle.workload_law.specs.declared.plan.LoadPlan.{LoadPlan}
-use Rattle.workload_law.specs.Load.{IsSized, all_ops}
+use Rattle.workload_law.specs.Load.{IsSized, IsLoadPage, all_ops}
 use Rattle.workload_law.specs.Laws.{IsReadBack}
 use Rattle.workload_law.specs.Pieces.{in_order_of}
 use Rattle.workload_law.specs.Summed.{summary_of, cells_sum}
@@ -32,12 +32,12 @@ module _ (s t : Session) (same : (call : Call) → outcome_at t [] call ≡ outc
   told_so : (last : Last) → IsTold t blob last → IsTold s blob last
   told_so last told = record { recent = sym (same (Calls.Recent blob)) ∙ told.recent; read = sym (same (Calls.Read blob last.version 0 last.size)) ∙ told.read }
 
-  untold_so : (fault : Fault) → IsUntold t blob fault → IsUntold s blob fault
-  untold_so fault (IsUntold.no_blob none) = IsUntold.no_blob (λ version size is. none version size (same (Calls.Recent blob) ∙ is))
-  untold_so fault (IsUntold.too_long version size is long) = IsUntold.too_long version size (sym (same (Calls.Recent blob)) ∙ is) long
-  untold_so fault (IsUntold.refused version size refusal is refused) =
+  untold_so : t.fixed ≡ s.fixed → (fault : Fault) → IsUntold t blob fault → IsUntold s blob fault
+  untold_so fixed fault (IsUntold.no_blob none) = IsUntold.no_blob (λ version size is. none version size (same (Calls.Recent blob) ∙ is))
+  untold_so fixed fault (IsUntold.too_long version size is long) = IsUntold.too_long version size (sym (same (Calls.Recent blob)) ∙ is) long
+  untold_so fixed fault (IsUntold.refused version size refusal is refused) =
       IsUntold.refused version size refusal (sym (same (Calls.Recent blob)) ∙ is) (sym (same (Calls.Read blob version 0 size)) ∙ refused)
-  untold_so fault (IsUntold.outside outside) = IsUntold.outside outside
+  untold_so fixed fault (IsUntold.outside version size is outside) = IsUntold.outside version size (sym (same (Calls.Recent blob)) ∙ is) (subst (λ (f : Fixed). IsOutside (λ page. f.page * page < size) fault) fixed outside)
 
 did_both : LeavesAdd → (s mid s' : Session) → HasDoneOwn s [] mid → HasDoneOwn mid [] s' → HasDoneOwn s [] s'
 did_both adds s mid s' a b = record { leaves = adds s mid s' [] [] a.leaves b.leaves; none_held = b.none_held }
@@ -82,7 +82,7 @@ module _ (adds : LeavesAdd) (looks : LooksLeaveNone) (s mid : Session) (blob : �
           did = did_both adds s mid s' did_recent two;
           short = tt;
           tells = λ same.
-              untold_so s mid (told_alike s mid s' did_recent two same) blob fault
+              untold_so s mid (told_alike s mid s' did_recent two same) blob did_recent.leaves.fixed fault
               (unread mid s' blob version size fault (recent_mid two same) answers (seen_end s mid s' did_recent two same));
         }
 
@@ -115,7 +115,7 @@ module _ (s : Session) (blob version size : ℕ) (bytes : List ℕ) (is : IsLast
       (sym told.read ∙ (ap (λ (v : ℕ). outcome_at s [] (Calls.Read blob v 0 last.size)) (last_version last told) ∙ (ap (λ (n : ℕ). outcome_at s [] (Calls.Read blob version 0 n)) (last_size last told) ∙ is.read)))
 
   -- nothing but the outside hinders the look
-  last_outside : size ≤ max_read → (fault : Fault) → IsUntold s blob fault → IsOutside fault
+  last_outside : size ≤ max_read → (fault : Fault) → IsUntold s blob fault → IsOutside (λ page. s.fixed.page * page < size) fault
   last_outside few fault (IsUntold.no_blob none) = absurd (none version size is.recent)
   last_outside few fault (IsUntold.too_long v n told long) = absurd (let same : n ≡ size = size_is v version n size (sym told ∙ is.recent) in omega (arith, same, long, few))
   last_outside few fault (IsUntold.refused v n refusal told refused) =
@@ -125,7 +125,8 @@ module _ (s : Session) (blob version size : ℕ) (bytes : List ℕ) (is : IsLast
       ∙ (ap (λ (x : ℕ). outcome_at s [] (Calls.Read blob version 0 x)) (size_is v version n size (sym told ∙ is.recent)) ∙ is.read) in
       let no : Outcomes.Refused refusal ≡ Outcomes.Content bytes = sym refused ∙ read in
       cc)
-  last_outside few fault (IsUntold.outside outside) = outside
+  last_outside few fault (IsUntold.outside v n told outside) =
+      subst (λ (k : ℕ). IsOutside (λ page. s.fixed.page * page < k) fault) (size_is v version n size (sym told ∙ is.recent)) outside
 
 -- all bytes of a blob of a load may be read at once
 few_bytes : (plan : LoadPlan) → IsSized plan → 16 * all_ops plan ≤ max_read
@@ -154,10 +155,10 @@ module _ (plan : LoadPlan) (s : Session) (sized : IsSized plan) (read_back : IsR
       let total : sum grid.bytes ≡ cells_sum plan = ap (λ (b : List ℕ). sum b) gb ∙ read_back.grid_sum in
       rw (lv, ls, order, gv, gs, total) refl
 
-  log_outside : (fault : Fault) → IsUntold s 1 fault → IsOutside fault
+  log_outside : (fault : Fault) → IsUntold s 1 fault → IsOutside (IsLoadPage plan s.fixed.page) fault
   log_outside fault untold = last_outside s 1 (all_ops plan) (16 * all_ops plan) read_back.log_bytes the_log (few_bytes plan sized) fault untold
 
-  grid_outside : (fault : Fault) → IsUntold s 2 fault → IsOutside fault
+  grid_outside : (fault : Fault) → IsUntold s 2 fault → IsOutside (IsLoadPage plan s.fixed.page) fault
   grid_outside fault untold = last_outside s 2 (all_ops plan + 1) (16 * all_ops plan) read_back.grid_bytes the_grid (few_bytes plan sized) fault untold
 
 -- the same, of what had been seen and no more
@@ -182,7 +183,7 @@ module _ (plan : LoadPlan) (s : Session) where
     pub no_grid : (fault : Fault) → LookEnds 2 (Err fault) mid s' → SummaryEnds plan (Err fault) s s'
     no_grid fault look = record {
       did = did_both adds s mid s' first.did look.did;
-      tells = λ same sized read_back. grid_outside plan s sized (seen_alone s plan read_back) fault (untold_so s mid (at_mid look.did same) 2 fault (look.tells (end_is look.did same)));
+      tells = λ same sized read_back. grid_outside plan s sized (seen_alone s plan read_back) fault (untold_so s mid (at_mid look.did same) 2 first.did.leaves.fixed fault (look.tells (end_is look.did same)));
     }
 
     pub summed : (grid : Last) → LookEnds 2 (Ok grid) mid s' → SummaryEnds plan (Ok (summed_up plan log grid)) s s'

@@ -1,5 +1,5 @@
 -- What the last session is told of the log and of the grid.
-use Rattle.std.specs.Prelude.{◌≡◌, ℕ, ◌<◌, ◌≤◌, [], Result, Ok, Err, Bool, true, false, length, sum}
+use Rattle.std.specs.Prelude.{◌≡◌, ℕ, ◌*◌, ◌<◌, ◌≤◌, [], Result, Ok, Err, Bool, true, false, length, sum}
 use Rattle.blob_model.specs.declared.call.Call.TheVariants as Calls
 use Rattle.blob_model.specs.declared.call.Outcome.{Outcome}
 use Rattle.blob_model.specs.declared.call.Outcome.TheVariants as Outcomes
@@ -39,13 +39,14 @@ pub record IsTold (s : Session) (blob : ℕ) (last : Last) : Type 0 where
   pub recent : outcome_at s [] (Calls.Recent blob) ≡ Outcomes.Recent last.version last.size
   pub read : outcome_at s [] (Calls.Read blob last.version 0 last.size) ≡ Outcomes.Content last.bytes
 
--- Why it doesn't: the blob isn't there; its bytes are more than a read may have; the read is refused; or the outside failed.
+-- Why it doesn't: the blob isn't there; its bytes are more than a read may have; the read is refused; or the outside failed, and a page
+-- that was lost begins within the blob's bytes.
 pub data IsUntold (s : Session) (blob : ℕ) (fault : Fault) : Type 0 where
   no_blob : ((version size : ℕ) → outcome_at s [] (Calls.Recent blob) ≡ Outcomes.Recent version size → ⊥) → IsUntold s blob fault
   too_long : (version size : ℕ) → outcome_at s [] (Calls.Recent blob) ≡ Outcomes.Recent version size → max_read < size → IsUntold s blob fault
   refused : (version size : ℕ) (refusal : Refusal) → outcome_at s [] (Calls.Recent blob) ≡ Outcomes.Recent version size
       → outcome_at s [] (Calls.Read blob version 0 size) ≡ Outcomes.Refused refusal → IsUntold s blob fault
-  outside : IsOutside fault → IsUntold s blob fault
+  outside : (version size : ℕ) → outcome_at s [] (Calls.Recent blob) ≡ Outcomes.Recent version size → IsOutside (λ page. s.fixed.page * page < size) fault → IsUntold s blob fault
 
 abbrev pub TellsLast : Session → ℕ → Result Last Fault → Type 0
 TellsLast s blob (Ok last) = IsTold s blob last
@@ -78,4 +79,4 @@ summed_up plan log grid = record {
 -- how the look at both ended
 pub record SummaryEnds (plan : LoadPlan) (told : Result Summary Fault) (s s' : Session) : Type 0 where
   pub did : HasDoneOwn s [] s'
-  pub tells : s'.seen ≡ s.seen → IsSized plan → IsReadBack plan (store_of s.fixed.limits s.seen) s.caller → TellsSummary plan told
+  pub tells : s'.seen ≡ s.seen → IsSized plan → IsReadBack plan (store_of s.fixed.limits s.seen) s.caller → TellsSummary plan s.fixed.page told

@@ -18,7 +18,7 @@ pub record HasNotOpened (plan : LoadPlan) (fault : Fault) (s s' : Session) : Typ
   pub own : List Event
   pub did : HasDoneOwn s own s'
   pub first : List Event
-  pub hindered : OpeningHindered plan first s'.seen fault
+  pub hindered : OpeningHindered plan s.fixed.page first s'.seen fault
 
 -- which of them it was
 abbrev pub OpeningEnds : {A : Type 0} → LoadPlan → Result A Fault → Session → Session → Type 0

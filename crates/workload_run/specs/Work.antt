@@ -34,7 +34,7 @@ pub record HasStoppedAt (plan : LoadPlan) (worker op : ℕ) (fault : Fault) (s s
   pub grid_version : ℕ
   pub stopped : StoppedWithin s (operation plan worker op log_version grid_version) s'
   pub more : List Event
-  pub hindered : OperationHindered plan worker op (s.seen ++ more) s'.seen fault
+  pub hindered : OperationHindered plan s.fixed.page worker op (s.seen ++ more) s'.seen fault
 
 -- which of them it was
 abbrev pub Operated : {A : Type 0} → LoadPlan → ℕ → ℕ → Result A Fault → Session → Session → Type 0
@@ -61,7 +61,7 @@ pub record HasEndedEarly (plan : LoadPlan) (worker : ℕ) (fault : Fault) (s s' 
   pub op : ℕ
   pub is_op : op < plan.ops
   pub later : List Event
-  pub hindered : OperationHindered plan worker op (s.seen ++ later) s'.seen fault
+  pub hindered : OperationHindered plan s.fixed.page worker op (s.seen ++ later) s'.seen fault
 
 -- how a worker ended: at its end, or early
 abbrev pub WorkEnds : {A : Type 0} → LoadPlan → ℕ → Result A Fault → Session → Session → Type 0

@@ -190,7 +190,7 @@ where
     requires limits { shared.now.fixed.limits ≡ greatest }
     requires opened { IsOpened plan.now owner.old }
     requires true_doors { M.is_true maker.old }
-    ensures works { WorksAs plan.now (events owner.old.seen) result owner.new }
+    ensures works { WorksAs plan.now shared.now.fixed.page_size (events owner.old.seen) result owner.new }
     ensures owner { IsOwnerOf shared.now owner.new }
     ensures doors { M.faults maker.new < 2 ^ 64 - 1 → M.faults maker.old + told_faults result ≤ M.faults maker.new }
     ensures lent { LentDoors M.hands_out M.takes_back (plan.now.workers * shared.now.providers) maker.old maker.new result }

@@ -6,7 +6,7 @@ ghost use Rattle.blob_model.specs.History.{IsLegal};
 ghost use Rattle.client_session.specs.Sessions.{IsOwnerOf};
 ghost use Rattle.store_sessions.specs.Lent.{LentDoors};
 ghost use Rattle.version_manager.specs.Log.{fixed_of};
-ghost use Rattle.workload_law.specs.Load.{IsSized, IsLoad};
+ghost use Rattle.workload_law.specs.Load.{IsSized, IsLoad, IsLoadPage};
 ghost use Rattle.workload_law.specs.Summed.{summary_of};
 ghost use Rattle.update_work.specs.Updates.{told_faults};
 ghost use Rattle.workload_run.specs.Stages.{ClosesAs, AreFinishedByOwn};
@@ -48,7 +48,7 @@ where
     requires none_out { owner.old.out ≡ 0 }
     requires new { owner.old.seen ≡ [] }
     requires true_doors { M.is_true doors.old }
-    ensures closes { ClosesAs plan.now result owner.new }
+    ensures closes { ClosesAs plan.now shared.now.fixed.page_size result owner.new }
     ensures none_out { owner.new.out ≡ 0 }
     ensures owner { IsOwnerOf shared.now owner.new }
     ensures doors { M.faults doors.new < 2 ^ 64 - 1 → M.faults doors.old + told_faults result ≤ M.faults doors.new }
@@ -83,8 +83,9 @@ where
 ///
 /// It answers that summary, which is the plan's at every schedule, and the desk of the closed store, whose history is a load's.
 /// Where the opening, a worker or the last session didn't come to its end it answers why, of the lowest such worker: a page was
-/// lost, and then the count of `doors` rose, or no memory was found. When it answers, all passes and all doors have gone back.
-/// The gate is called between the acts of updates.
+/// lost, and then the count of `doors` rose, or no memory was found. The page begins within the bytes to which the log and the grid
+/// come; pages are numbered from 0. When it answers, all passes and all doors have gone back. The gate is called between the acts of
+/// updates.
 pub fn load<R: Threads + Wait + Sync, M: DoorMaker, G: Gate + Sync>(
     rt: &R,
     alloc: Global,
@@ -111,8 +112,8 @@ where
     ensures finishes { IfOk result (λ r. AreFinishedByOwn plan r.1.history) }
     ensures fixed { IfOk result (λ r. fixed_of r.1 ≡ shared.fixed) }
 
-    // Why it ended early.
-    ensures early { IfErr result (λ fault. EndsEarly fault (M.faults doors.old) (M.faults doors.new)) }
+    // Why it ended early: a page that was lost begins within the bytes to which the log and the grid come.
+    ensures early { IfErr result (λ fault. EndsEarly (IsLoadPage plan shared.fixed.page_size) fault (M.faults doors.old) (M.faults doors.new)) }
 
     // The first session, each worker and the last session had a door to each provider, and all doors came back. What they counted
     // went to the maker, which makes the doors that it made before.

@@ -149,7 +149,7 @@ where
     requires limits { shared.now.fixed.limits ≡ greatest }
     requires passes_left { owner.old.made < 1024 }
     requires true_doors { M.is_true maker.old }
-    ensures looks { LooksAs plan.now owner.old result owner.new }
+    ensures looks { LooksAs plan.now shared.now.fixed.page_size owner.old result owner.new }
     ensures owner { IsOwnerOf shared.now owner.new }
     ensures doors { M.faults maker.new < 2 ^ 64 - 1 → M.faults maker.old + told_faults result ≤ M.faults maker.new }
     ensures lent { LentDoors M.hands_out M.takes_back shared.now.providers maker.old maker.new result }

@@ -42,7 +42,7 @@ where
     requires none_out { owner.old.out ≡ 0 }
     requires new { owner.old.seen ≡ [] }
     requires true_doors { M.is_true maker.old }
-    ensures opens { OpensAs plan.now result owner.new }
+    ensures opens { OpensAs plan.now shared.now.fixed.page_size result owner.new }
     ensures owner { IsOwnerOf shared.now owner.new }
     ensures doors { M.faults maker.new < 2 ^ 64 - 1 → M.faults maker.old + told_faults result ≤ M.faults maker.new }
     ensures lent { LentDoors M.hands_out M.takes_back shared.now.providers maker.old maker.new result }

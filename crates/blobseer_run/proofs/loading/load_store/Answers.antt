@@ -22,8 +22,8 @@ returns-in-Ok-clause-lent g c =
 
 pub returns-in-Err-clause-did : goal.returns-in-Err-clause-did
 returns-in-Err-clause-did g c =
-    ended_there _ _ _ (record { given = refl; left = refl; reads = refl; ends = refl }) refl refl _ (ended_so c.in-Err.fault _ _ _ c.status_of.ensures c.in-Err.ensures.early)
+    ended_there _ _ _ (record { given = refl; left = refl; reads = refl; ends = refl }) refl refl _ (ended_so _ c.in-Err.fault _ _ _ c.status_of.ensures c.in-Err.ensures.early)
 
 pub returns-in-Err-clause-lent : goal.returns-in-Err-clause-lent
 returns-in-Err-clause-lent g c =
-    ended_early g.M.DoorMaker.hands_out g.M.DoorMaker.takes_back _ _ _ _ _ _ (ended_so c.in-Err.fault _ _ _ c.status_of.ensures c.in-Err.ensures.early) c.in-Err.ensures.lent
+    ended_early g.M.DoorMaker.hands_out g.M.DoorMaker.takes_back _ _ _ _ _ _ (ended_so _ c.in-Err.fault _ _ _ c.status_of.ensures c.in-Err.ensures.early) c.in-Err.ensures.lent

@@ -16,7 +16,7 @@ returns-in-Ok-clause-did g c =
 
 pub returns-in-Err-clause-did : goal.returns-in-Err-clause-did
 returns-in-Err-clause-did g c =
-    ended_there _ _ _ (record { given = refl; left = refl; reads = refl; ends = refl }) refl refl _ (ended_so c.in-Err.fault _ _ _ c.status_of.ensures c.in-Err.ensures.early)
+    ended_there _ _ _ (record { given = refl; left = refl; reads = refl; ends = refl }) refl refl _ (ended_so _ c.in-Err.fault _ _ _ c.status_of.ensures c.in-Err.ensures.early)
 
 pub returns-in-Ok-clause-lent : goal.returns-in-Ok-clause-lent
 returns-in-Ok-clause-lent g c =
@@ -24,5 +24,5 @@ returns-in-Ok-clause-lent g c =
 
 pub returns-in-Err-clause-lent : goal.returns-in-Err-clause-lent
 returns-in-Err-clause-lent g c =
-    let early = ended_so c.in-Err.fault _ _ _ c.status_of.ensures c.in-Err.ensures.early in
+    let early = ended_so _ c.in-Err.fault _ _ _ c.status_of.ensures c.in-Err.ensures.early in
     watched_early g.M.DoorMaker.hands_out g.M.DoorMaker.takes_back _ _ _ _ _ (ended_early g.M.DoorMaker.hands_out g.M.DoorMaker.takes_back _ _ _ _ _ _ early c.in-Err.ensures.lent)

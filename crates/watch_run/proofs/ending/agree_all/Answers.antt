@@ -3,7 +3,7 @@ use Rattle.std.specs.Prelude.{All, IfSome, Option}
 use Rattle.std.proofs.lemmas.Grind.{common_steps}
 use mir.Val.{bool_byte}
 use Rattle.request_form.specs.declared.form.Fault.{Fault}
-use Rattle.workload_law.specs.Ends.{IsOutside}
+use Rattle.workload_law.specs.Ends.{IsOutside, AnyPage}
 use Rattle.watch_run.specs.Readers.{WatcherState}
 use Rattle.watch_run.specs.Crews.{IsDoneWatching, stop_faults}
 use Rattle.watch_run.proofs.Doors.{none_gone, one_more, one_stopped, all_ended, all_doors}
@@ -67,7 +67,7 @@ agree_with-requires-clause-done g c =
     all_last done c.pop.new.self.items c.in-Some.watcher (subst (λ (l : List (WatcherState _)). All done l) c.in-Some.ensures.items c.loop-watcher.invariant.done)
 
 pub returns-in-Some-stop-clause-stop : goal.returns-in-Some-stop-clause-stop
-returns-in-Some-stop-clause-stop g c = subst (λ (o : Option Fault). IfSome o IsOutside) c.in-Some-stop.is c.loop-watcher.invariant.stop
+returns-in-Some-stop-clause-stop g c = subst (λ (o : Option Fault). IfSome o (IsOutside AnyPage)) c.in-Some-stop.is c.loop-watcher.invariant.stop
 
 pub returns-in-Some-stop-clause-lent : goal.returns-in-Some-stop-clause-lent
 returns-in-Some-stop-clause-lent g c =

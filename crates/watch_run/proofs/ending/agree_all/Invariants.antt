@@ -1,7 +1,7 @@
 use Rattle.std.proofs.Common.{◌≡◌, ℕ, ◌+◌, ◌-◌, ◌^◌, ◌<◌, ◌≤◌, vec_len}
 use Rattle.std.specs.Prelude.{◌↔◌, All, IfSome, Option, Some, None}
 use Rattle.client_session.specs.Sessions.{IsOwnerOf}
-use Rattle.workload_law.specs.Ends.{IsOutside}
+use Rattle.workload_law.specs.Ends.{IsOutside, AnyPage}
 use Rattle.watch_run.specs.Agreeing.{IsSeenIn}
 use Rattle.watch_run.specs.Crews.{IsDoneWatching, stop_faults}
 use Rattle.watch_run.proofs.Doors.{HaveEnded}
@@ -20,7 +20,7 @@ invariant-loop-watcher g l =
       out : l.fn.owner.out + vec_len l.watchers ≡ l.owner.out + vec_len l.fn.watchers;
       done : All (IsDoneWatching g.M.Door.Door.faults l.shared l.keeper.board) l.watchers.items;
       seen : IsSeenIn l.shared.fixed l.owner.seen l.last;
-      stop : IfSome l.stop IsOutside;
+      stop : IfSome l.stop (IsOutside AnyPage);
       doors : faults l.maker < 2 ^ 64 - 1 → faults l.fn.maker + stop_faults l.stop ≤ faults l.maker;
       ended : HaveEnded g.M.DoorMaker.hands_out g.M.DoorMaker.takes_back l.shared.providers (vec_len l.fn.watchers) (vec_len l.watchers) l.stop l.fn.maker l.maker;
       plan_stays : (n : ℕ) (door : _) → g.M.DoorMaker.makes l.fn.maker n door ↔ g.M.DoorMaker.makes l.maker n door;

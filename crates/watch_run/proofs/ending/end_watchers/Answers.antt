@@ -3,7 +3,7 @@ use Rattle.std.specs.Prelude.{sum_by, All, IfErr}
 use Rattle.std.proofs.lemmas.Grind.{common_steps}
 use Rattle.request_form.specs.Replies.{page_faults}
 use Rattle.client_session.specs.Sessions.{SessionState}
-use Rattle.workload_law.specs.Ends.{IsOutside}
+use Rattle.workload_law.specs.Ends.{IsOutside, AnyPage}
 use Rattle.update_work.specs.Updates.{told_faults}
 use Rattle.update_work.proofs.Fresh.{rose_stop}
 use Rattle.watch_run.specs.Readers.{WatcherState}
@@ -34,7 +34,7 @@ loop-watcher-preserved-in-Err g c =
       leaves = leaves_both _ _ _ i.leaves e.leaves;
       out = omega (arith, i.out, e.out, c.in-Some.ensures.cases);
       endable = all_front (IsEndable faults store) c.pop.new.self.items one all;
-      stop = subst (λ (t : Told). IfErr t IsOutside) told last.stop;
+      stop = subst (λ (t : Told). IfErr t (IsOutside AnyPage)) told last.stop;
       doors = rose_stop (page_faults c.in-Err.fault) (counts c.args.maker.now) (counts c.loop-watcher.maker) (sum_by faults one.reader.session.doors) (counts c.end_idle.new.maker)
           (lower (stop_faults c.loop-watcher.stop) (counts c.args.maker.now) (counts c.loop-watcher.maker) i.doors) counted back;
       gone = gone_more g.M.DoorMaker.hands_out g.M.DoorMaker.takes_back store.providers c.args.watchers.len c.loop-watcher.watchers.len c.pop.new.self.len c.args.maker.now c.loop-watcher.maker

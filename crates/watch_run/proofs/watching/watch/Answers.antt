@@ -4,6 +4,7 @@ use Rattle.blob_model.specs.History.{IsLegal}
 use Rattle.blob_model.specs.declared.call.Event.{Event}
 use Rattle.turn_lock.specs.History.{LacksUngiven}
 use Rattle.version_manager.specs.Log.{events}
+use Rattle.workload_law.specs.Ends.{AnyPage}
 use Rattle.watch_run.proofs.Closed.{closed}
 use Rattle.update_work.specs.declared.ending.EarlyEnd.{EarlyEnd}
 use Rattle.update_work.proofs.Early.{early_of}
@@ -28,5 +29,5 @@ returns-in-Err-clause-early g c =
     let legal = subst (λ (b : Bounds). IsLegal b (events owner.seen)) c.requires.limits o.log.legal in
     let x = c.watches_close.ensures in
     let tells = closed c.entries_are_events.ensures c.args.plan c.requires.sized c.args.shared.fixed c.requires.limits owner o.log.tags legal c.in-Ok.ensures.all_kept lacks x.together c.watches_are_done.ensures x.there x.writer in
-    let why = early_of c.in-Err.fault (tells (Err c.in-Err.fault) c.in-Err.ensures.ends) (g.M.DoorMaker.faults c.args.doors.now) (g.M.DoorMaker.faults c.run_watch-told.new.doors) c.in-Err.ensures.doors in
-    subst (λ (f : EarlyEnd). EndsEarly f (g.M.DoorMaker.faults c.args.doors.now) (g.M.DoorMaker.faults c.run_watch-told.new.doors)) (sym c.early_end.ensures) why
+    let why = early_of AnyPage c.in-Err.fault (tells (Err c.in-Err.fault) c.in-Err.ensures.ends) (g.M.DoorMaker.faults c.args.doors.now) (g.M.DoorMaker.faults c.run_watch-told.new.doors) c.in-Err.ensures.doors in
+    subst (λ (f : EarlyEnd). EndsEarly AnyPage f (g.M.DoorMaker.faults c.args.doors.now) (g.M.DoorMaker.faults c.run_watch-told.new.doors)) (sym c.early_end.ensures) why

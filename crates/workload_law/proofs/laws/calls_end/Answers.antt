@@ -12,4 +12,4 @@ returns-clause-stay c = hindrances_stay
 
 pub returns-clause-finishes : goal.returns-clause-finishes
 returns-clause-finishes c s mid blob place bytes number version reply s' none holds answers =
-    finish_ended s mid blob place bytes number version holds c.finished_by_events.ensures none reply s' answers
+    finish_ended s mid blob place bytes number version holds c.finished_by_events.ensures c.old_versions_stay.ensures none reply s' answers

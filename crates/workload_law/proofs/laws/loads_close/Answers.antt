@@ -17,7 +17,7 @@ pub returns-clause-idle : goal.returns-clause-idle
 returns-clause-idle c = idle_owns_all
 
 pub returns-clause-workers : goal.returns-clause-workers
-returns-clause-workers c = nothing_else_hinders
+returns-clause-workers c = nothing_else_hinders c.old_versions_stay.ensures
 
 pub returns-clause-openings : goal.returns-clause-openings
 returns-clause-openings c = nothing_else_hinders_openings

@@ -15,9 +15,9 @@ use Rattle.workload_run.proofs.loading.load.Goals as goal
 
 -- what is known of the closed store's history
 told_of : (f : DeskFixed) (plan : LoadPlan) (summary : Summary) (owner : OwnerView Event DeskFixed) (history : List Event) → f.limits ≡ greatest → IsLog f owner.seen
-    → ClosesAs plan (Ok summary) owner → tagged history ≡ owner.seen → LacksUngiven owner.made (tagged history) → TellsLoad plan (Ok summary) history
+    → ClosesAs plan f.page_size (Ok summary) owner → tagged history ≡ owner.seen → LacksUngiven owner.made (tagged history) → TellsLoad plan f.page_size (Ok summary) history
 told_of f plan summary owner history limits log closes is lacks =
-    subst (λ (h : List Event). TellsLoad plan (Ok summary) h) (ap (λ (l : List (ℕ × Event)). events l) (sym is) ∙ events_tagged history)
+    subst (λ (h : List Event). TellsLoad plan f.page_size (Ok summary) h) (ap (λ (l : List (ℕ × Event)). events l) (sym is) ∙ events_tagged history)
     (closes (subst (λ (l : List (ℕ × Event)). LacksUngiven owner.made l) is lacks) (subst (λ (b : Bounds). IsLegal b (events owner.seen)) limits log.legal) log.tags)
 
 pub returns-in-Ok-told-clause-loaded : goal.returns-in-Ok-told-clause-loaded
