@@ -1,8 +1,7 @@
-use Rattle.std.proofs.Common.{◌≡◌, ◌+◌, ◌-◌, ◌<◌, List, [], arith, rules, refl, subst, ◌∙◌}
+use Rattle.std.proofs.Common.{◌≡◌, ◌<◌, List, arith, refl, subst}
 use Rattle.std.specs.List.{All}
 use Rattle.std.proofs.lemmas.Grind.{common_steps}
 use Rattle.crossbeam_queue.specs.Passes.{view}
-use Rattle.blob_server.specs.Tallies.{tally, both}
 use Rattle.blob_server.specs.Serving.{WasServed, Accounts}
 use Rattle.blob_server.proofs.Accounting.{beside}
 use Rattle.blob_server.proofs.Idling.{last_of}

@@ -1,4 +1,4 @@
-use Rattle.std.proofs.Common.{◌+◌, arith, subst}
+use Rattle.std.proofs.Common.{arith, subst}
 use Rattle.crossbeam_queue.specs.Passes.{view}
 use Rattle.blob_server.specs.Serving.{WasServed, Accounts}
 use Rattle.blob_server.proofs.Accounting.{then}

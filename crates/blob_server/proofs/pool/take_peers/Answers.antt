@@ -1,4 +1,4 @@
-use Rattle.std.proofs.Common.{◌+◌, ap, arith, rules, refl}
+use Rattle.std.proofs.Common.{arith, rules, refl}
 use Rattle.std.proofs.lemmas.Grind.{common_steps}
 use Rattle.crossbeam_queue.specs.Passes.{view}
 use Rattle.std.proofs.Common.{subst}

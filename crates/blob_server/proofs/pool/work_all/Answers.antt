@@ -1,6 +1,6 @@
-use Rattle.std.proofs.Common.{◌≡◌, ◌-◌, ◌∙◌, [], ap, arith, refl, subst, sym}
+use Rattle.std.proofs.Common.{◌≡◌, ◌-◌, ◌∙◌, [], ap, arith, subst}
 use Rattle.crossbeam_queue.specs.Passes.{view}
-use Rattle.blob_server.specs.Tallies.{tally, both, all_parts}
+use Rattle.blob_server.specs.Tallies.{tally, all_parts}
 use Rattle.blob_server.specs.Serving.{WasServed, Accounts}
 use Rattle.blob_server.proofs.Accounting.{together, all_served, then}
 use Rattle.blob_server.proofs.pool.work_all.Goals as goal

@@ -1,4 +1,4 @@
-use Rattle.std.proofs.Common.{◌≡◌, ◌∙◌, List, length, refl, subst, arith}
+use Rattle.std.proofs.Common.{◌≡◌, ◌∙◌, List, length, refl, subst, arith, rules}
 use Rattle.std.specs.List.{All}
 use Rattle.page_store.specs.Calls.{no_door}
 use Rattle.client_session.specs.Sessions.{SessionState}
@@ -44,6 +44,12 @@ pub returns-then-taken-clause-served : goal.returns-then-taken-clause-served
 returns-then-taken-clause-served g c =
     let w = c.work_all-first.ensures in
     served_till_then _ c.args.connections c.work_all-first.result.0.peers c.work_all-first.result.0.failed _ _ c.if-taken.true w.took w.served
+
+pub returns-clause-served : goal.returns-clause-served
+returns-clause-served g c =
+    let w = c.work_all-first.ensures.served in
+    let number = w.number in
+    record { peers = w.peers; number = first_of (omega (arith, number), search rules); each = w.each }
 
 pub returns-in_default-clause-lent : goal.returns-in_default-clause-lent
 returns-in_default-clause-lent g c = (0, no_door)

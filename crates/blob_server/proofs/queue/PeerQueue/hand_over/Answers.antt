@@ -1,8 +1,3 @@
-use Rattle.std.proofs.Common.{ap, rules}
-use Rattle.std.specs.Prelude.{◌≡◌}
-use Rattle.std.proofs.Common.{subst}
-use Rattle.crossbeam_queue.specs.Passes.{view}
-use Rattle.blob_server.specs.Serving.{WasServed}
 use Rattle.blob_server.proofs.Accounting.{put_one, served_one}
 use Rattle.blob_server.proofs.queue.PeerQueue.hand_over.Goals as goal
 

@@ -1,4 +1,3 @@
-use Rattle.std.proofs.Common.{ap, rules}
 use Rattle.blob_server.proofs.Rule.{puts}
 use Rattle.blob_server.proofs.queue.PeerQueue.put.Goals as goal
 
