@@ -28,20 +28,19 @@ sum_more f xs x =
 -- ---- sessions
 
 module _ {D : Type 0} where
-  -- each is of its own store
-  pub own_store : (store : StoreState) (sessions : List (SessionState D)) → All (IsIdle store) sessions → All (λ s. IsIdle s.store s) sessions
-  own_store store sessions idle k d less =
-      let i = idle k d less in
-      record { of_store = refl; none_held = i.none_held; first_next = i.first_next; first_limit = i.first_limit }
+  -- it is of its own store, which is that one
+  pub own_store : (store : StoreState) (session : SessionState D) → IsIdle store session → IsIdle session.store session × (session.store ≡ store)
+  own_store store session i = (record { of_store = refl; none_held = i.none_held; first_next = i.first_next; first_limit = i.first_limit }, i.of_store)
 
-  -- they are of the store still where each is of the store that it was of
-  pub idle_still : (store : StoreState) (old new : List (SessionState D)) → length new ≡ length old → All (IsIdle store) old
-      → ((k : ℕ) (d : SessionState D) → k < length old → IsIdle (slice_index_or old k d).store (slice_index_or new k d)) → All (IsIdle store) new
-  idle_still store old new same idle each k d less =
-      let there : k < length old = omega (arith, same) in
-      let i = idle k d there in
-      let j = each k d there in
-      record { of_store = j.of_store ∙ i.of_store; none_held = j.none_held; first_next = j.first_next; first_limit = j.first_limit }
+  pub that_store : (store : StoreState) (session : SessionState D) → IsIdle session.store session × (session.store ≡ store) → IsIdle store session
+  that_store store session i = record { of_store = i.1; none_held = i.0.none_held; first_next = i.0.first_next; first_limit = i.0.first_limit }
+
+  -- each of them is
+  pub own_stores : (store : StoreState) (sessions : List (SessionState D)) → All (IsIdle store) sessions → All (λ s. IsIdle s.store s × (s.store ≡ store)) sessions
+  own_stores store sessions idle k d less = own_store store (slice_index_or sessions k d) (idle k d less)
+
+  pub that_stores : (store : StoreState) (sessions : List (SessionState D)) → All (λ s. IsIdle s.store s × (s.store ≡ store)) sessions → All (IsIdle store) sessions
+  that_stores store sessions idle k d less = that_store store (slice_index_or sessions k d) (idle k d less)
 
 -- ---- counts of doors
 

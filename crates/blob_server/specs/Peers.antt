@@ -1,5 +1,5 @@
 -- What one connection is served, and what its session keeps.
-use Rattle.std.specs.Prelude.{◌≡◌, ℕ, [], sum_by}
+use Rattle.std.specs.Prelude.{◌≡◌, ℕ, Option, List, [], sum_by}
 use Rattle.faults.specs.Counts.{RoseBy}
 use Rattle.blob_model.specs.History.{AllOther}
 use Rattle.request_form.specs.Session.{Session}
@@ -8,9 +8,9 @@ use Rattle.request_form.specs.Answers.{max_update}
 use Rattle.frame_wire.specs.Frames.{heard}
 use Rattle.frame_wire.specs.Said.{said}
 use Rattle.server_core.specs.Progress.{Point}
-use Rattle.server_core.specs.Served.{Input, Served}
+use Rattle.server_core.specs.Served.{Input, Served, end_read_faults, end_write_faults, end_ends}
 use Rattle.server_core.specs.declared.flow.End.{End}
-use Rattle.client_session.specs.Sessions.{StoreState, SessionState}
+use Rattle.client_session.specs.Sessions.{StoreState, SessionState, session_of}
 
 -- the most bytes that are taken of a connection
 abbrev pub connection_limit : ℕ
@@ -36,3 +36,15 @@ pub record IsIdle {D : Type 0} (store : StoreState) (session : SessionState D) :
 -- what a session's doors have counted
 abbrev pub faults_of_doors : {D : Type 0} → (D → ℕ) → SessionState D → ℕ
 faults_of_doors faults session = sum_by faults session.doors
+
+-- What `serve_peer` tells of a session and of a peer, of which these are the meanings: the session held no ticket, the connection came to this end, its
+-- frames were answered as a session's requests are, and the peer's counts rose as the end says.
+pub record Converses {D P : Type 0} (faults : D → ℕ) (given left written : P → Option (List ℕ)) (ends read_faults write_faults : P → ℕ)
+    (old : SessionState D) (before after : P) (new : SessionState D) : Type 0 where
+  pub idle : IsIdle old.store old
+  pub end : End
+  pub served : ServedFrames (record { session = session_of old; faults = sum_by faults old.doors; written = written before }) (record { given = given before; left = left before; ends = ends before })
+      (record { given = given after; left = left after; ends = ends after }) (record { session = session_of new; faults = sum_by faults new.doors; written = written after }) end
+  pub faults_read : RoseBy (end_read_faults end) (read_faults before) (read_faults after)
+  pub faults_written : RoseBy (end_write_faults end) (write_faults before) (write_faults after)
+  pub ended : RoseBy (end_ends end) (ends before) (ends after)

@@ -1,7 +1,8 @@
--- How serving ends, by what the listener did in the call.
-use Rattle.std.specs.Prelude.{◌≡◌, ℕ, ◌+◌, ◌<◌, ◌≤◌, Bool, true, Option, Some, None, Result, Ok, Err}
+-- How serving ends, by what the listener did in the call, and what became of the peers that it handed out.
+use Rattle.std.specs.Prelude.{◌≡◌, ℕ, ◌+◌, ◌<◌, ◌≤◌, Bool, true, false, Result, Ok, Err, List, length, All, ⊤}
 use Rattle.faults.specs.Counts.{RoseBy, count_after}
 use Rattle.page_store.specs.Calls.{Traffic, AllCameBack}
+use Rattle.blob_server.specs.declared.tally.Tally.{Tally}
 use Rattle.blob_server.specs.declared.server.ServeFault.{ServeFault}
 use Rattle.blob_server.specs.declared.server.ServeFault.TheVariants as Faults
 
@@ -27,10 +28,10 @@ pub record FailedAfter (connections : ℕ) (old new : Handing) : Type 0 where
   pub done : new.is_done ≡ old.is_done
   pub failed : RoseBy 1 old.faults new.faults
 
--- how the taking of peers ended, by what it answers
-abbrev pub TakesAs : ℕ → Handing → Handing → Option ℕ → Type 0
-TakesAs connections old new (Some peers) = TookPeers connections peers old new
-TakesAs connections old new None = FailedAfter connections old new
+-- how the taking of peers ended, by how many they were and whether the listener failed then
+abbrev pub TakesAs : ℕ → ℕ → Bool → Handing → Handing → Type 0
+TakesAs connections peers false old new = TookPeers connections peers old new
+TakesAs connections peers true old new = (failed : FailedAfter connections old new) × (failed.peers ≡ peers)
 
 -- How serving ended, by what it answers: the number of the peers that were handed out, or why it ended early. Where no memory was found, no peer was taken.
 abbrev pub EndsAs : ℕ → Handing → Handing → Result ℕ ServeFault → Type 0
@@ -49,3 +50,34 @@ abbrev pub LendsDoors : {M : Type 0} → (hands_out takes_back : M → M → Typ
 LendsDoors hands_out takes_back doors first last (Ok peers) = Traffic hands_out takes_back doors doors first last
 LendsDoors hands_out takes_back doors first last (Err Faults.Listener) = Traffic hands_out takes_back doors doors first last
 LendsDoors hands_out takes_back doors first last (Err Faults.NoMemory) = AllCameBack hands_out takes_back first last
+
+-- This peer was served, as it came, by something that serves from that store: what served it, before and after, the peer when it was let go, and what
+-- is told of these.
+pub record WasServed {S P H : Type 0} (home : S → H) (gives : S → P → P → S → Type 0) (store : H) (peer : P) : Type 0 where
+  pub before : S
+  pub after : S
+  pub left : P
+  pub from_store : home before ≡ store
+  pub gave : gives before peer left after
+
+module _ {P : Type 0} where
+  -- so many peers were served
+  pub record ServedMany (Served : P → Type 0) (count : ℕ) : Type 0 where
+    pub peers : List P
+    pub number : length peers ≡ count
+    pub each : All Served peers
+
+  -- Every peer that the listener handed out in the call was served, whether it failed in the end or not. Where no memory was found none was handed out.
+  abbrev pub ServesAll : (P → Type 0) → ℕ → Handing → Handing → Result ℕ ServeFault → Type 0
+  ServesAll Served connections old new (Ok peers) = ServedMany Served peers
+  ServesAll Served connections old new (Err Faults.Listener) = (failed : FailedAfter connections old new) × ServedMany Served failed.peers
+  ServesAll Served connections old new (Err Faults.NoMemory) = ⊤
+
+  -- What a worker did with its pass: so many peers came to it, each of which it put into the queue or served itself, and what it took of the queue was
+  -- served.
+  pub record Accounts (Served : P → Type 0) (came : ℕ) (old new : Tally P) : Type 0 where
+    pub parts : new.parts ≡ old.parts
+    pub own : List P
+    pub own_served : All Served own
+    pub count : length own + new.put ≡ old.put + came
+    pub taken : All Served old.taken → All Served new.taken

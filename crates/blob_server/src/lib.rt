@@ -8,7 +8,9 @@ mod peer;
 mod pool;
 mod queue;
 mod server;
+mod service;
 mod sessions;
+mod tally;
 mod task;
 
 pub use peer::serve_peer;

@@ -1,14 +1,13 @@
 // Where peers wait for a worker.
-ghost use Rattle.std.specs.Prelude.{◌≡◌, IfSome};
-ghost use Rattle.blob_server.specs.Peers.{IsIdle};
+ghost use Rattle.std.specs.Prelude.{◌≡◌, ◌<◌, ◌-◌, [], length, IfOk, MatchOption};
+ghost use Rattle.crossbeam_queue.specs.Passes.{view, IsSamePass, IsPassOf};
+ghost use Rattle.blob_server.specs.Tallies.{tally, all_parts, after_put, both};
+ghost use Rattle.blob_server.specs.Serving.{WasServed, Accounts};
 
 use crate::bell::Bell;
-use crate::peer::serve_peer;
-use client_session::Session;
-use crossbeam_queue::ArrayQueue;
-use page_fan::BesideDoor;
-use ports::gate::Gate;
-use ports::stream::{Sink, Source};
+use crate::service::{Service, serve_one};
+use crate::tally::{Balance, Both, Cut, PeerPass, Puts, Takes, Tally};
+use crossbeam_queue::RuledArrayQueue;
 use request_form::NoMemory;
 use std::alloc::Global;
 use std::sync::Wait;
@@ -26,36 +25,63 @@ const OFFERS: u32 = 100_000;
 /// The peers that wait, and the bell that tells of them. It is shared by the workers.
 #[derive(Drop)]
 pub(crate) struct PeerQueue<P> {
-    queue: ArrayQueue<P>,
+    line: RuledArrayQueue<P, Tally<P>, Balance>,
     bell: Bell,
     // How many workers are to take peers from here, and how many of them serve one now.
     takers: u32,
     serving: AtomicU32,
 }
 
-impl<P: Source + Sink + Drop> PeerQueue<P> {
+impl<P: Drop> PeerQueue<P> {
     /// No peer waits. So many workers are to take peers from here.
-    pub(crate) fn new(alloc: Global, takers: u32) -> Result<PeerQueue<P>, NoMemory> {
-        let Ok(queue) = ArrayQueue::new(alloc, PLACES) else {
+    pub(crate) fn new(alloc: Global, takers: u32) -> Result<(PeerQueue<P>, PeerPass<P>), NoMemory>
+        ensures pass { IfOk result (λ r. IsPassOf r.0.line r.1 × (view r.1 ≡ tally all_parts 0 [])) }
+    {
+        let Ok((line, pass)) = RuledArrayQueue::ruled(alloc, PLACES) else {
             return Err(NoMemory);
         };
-        Ok(PeerQueue {
-            queue,
+        let queue = PeerQueue {
+            line,
             bell: Bell::new(),
             takers,
             serving: AtomicU32::new(0),
-        })
+        };
+        Ok((queue, pass))
+    }
+
+    /// A pass with one part of this one's.
+    pub(crate) fn cut(&self, pass: &mut PeerPass<P>) -> PeerPass<P>
+        requires pass { IsPassOf self.now.line pass.old }
+        requires parts { 1 < (view pass.old).parts }
+        ensures pass { IsSamePass pass.old pass.new × IsPassOf self.now.line result }
+        ensures left { view pass.new ≡ tally ((view pass.old).parts - 1) (view pass.old).put (view pass.old).taken }
+        ensures right { view result ≡ tally 1 0 [] }
+    {
+        self.line.another::<Cut>(pass)
+    }
+
+    /// What another pass knows goes to this one.
+    pub(crate) fn absorb(&self, pass: &mut PeerPass<P>, other: PeerPass<P>)
+        requires pass { IsPassOf self.now.line pass.old × IsPassOf self.now.line other }
+        requires parts { 0 < (view pass.old).parts }
+        ensures pass { IsSamePass pass.old pass.new }
+        ensures both { view pass.new ≡ both (view pass.old) (view other) }
+    {
+        self.line.absorb::<Both>(pass, other);
     }
 
     // Puts a peer where it waits, or gives it back where all places are taken. As long as a worker has none to serve, it is
     // given the time to take one that waits, and so to make room.
-    fn put<R: Wait>(&self, rt: &R, peer: P) -> Option<P>
-        ensures { IfSome result (λ back. back ≡ peer) }
+    fn put<R: Wait>(&self, rt: &R, pass: &mut PeerPass<P>, peer: P) -> Option<P>
+        requires pass { IsPassOf self.now.line pass.old }
+        requires parts { 0 < (view pass.old).parts }
+        ensures pass { IsSamePass pass.old pass.new }
+        ensures rule { MatchOption result (view pass.new ≡ after_put (view pass.old)) (λ back. (back ≡ peer) × (view pass.new ≡ view pass.old)) }
     {
         let mut peer = peer;
         for _ in 0..OFFERS {
             let all_serve = self.serving.load(Ordering::SeqCst) >= self.takers;
-            match self.queue.push(rt, peer) {
+            match self.line.push_as::<Puts, R>(rt, pass, peer) {
                 Ok(()) => return None,
                 Err(back) if all_serve => return Some(back),
                 Err(back) => peer = back,
@@ -66,21 +92,25 @@ impl<P: Source + Sink + Drop> PeerQueue<P> {
     }
 
     /// Leaves a peer to the others, or serves it where there is no place for it to wait.
-    pub(crate) fn hand_over<R: Threads + Wait + Sync, D: BesideDoor, G: Gate>(
+    pub(crate) fn hand_over<R: Threads + Wait + Sync, S: Service<P>>(
         &self,
         rt: &R,
         alloc: Global,
-        session: &mut Session<'_, D, G>,
+        service: &mut S,
+        pass: &mut PeerPass<P>,
         peer: P,
     )
-        requires { IsIdle session.old.store session.old }
-        ensures { IsIdle session.old.store session.new }
+        requires ready { S.is_ready service.old }
+        requires pass { IsPassOf self.now.line pass.old }
+        requires parts { 0 < (view pass.old).parts }
+        ensures ready { S.is_ready service.new }
+        ensures home { S.home service.new ≡ S.home service.old }
+        ensures pass { IsSamePass pass.old pass.new }
+        ensures served { Accounts (WasServed S.home S.gives (S.home service.old)) 1 (view pass.old) (view pass.new) }
     {
-        match self.put(rt, peer) {
+        match self.put(rt, pass, peer) {
             None => self.bell.ring(rt),
-            Some(mut peer) => {
-                serve_peer(rt, alloc, session, &mut peer);
-            }
+            Some(peer) => serve_one(rt, alloc, service, peer),
         }
     }
 
@@ -90,26 +120,56 @@ impl<P: Source + Sink + Drop> PeerQueue<P> {
     }
 
     /// Serves peers that wait, until no more come and none waits. While none waits it sleeps.
-    pub(crate) fn work<R: Threads + Wait + Sync, D: BesideDoor, G: Gate>(
+    pub(crate) fn work<R: Threads + Wait + Sync, S: Service<P>>(
         &self,
         rt: &R,
         alloc: Global,
-        session: &mut Session<'_, D, G>,
+        service: &mut S,
+        pass: &mut PeerPass<P>,
     )
-        requires { IsIdle session.old.store session.old }
-        ensures { IsIdle session.old.store session.new }
+        requires ready { S.is_ready service.old }
+        requires pass { IsPassOf self.now.line pass.old }
+        requires parts { 0 < (view pass.old).parts }
+        ensures ready { S.is_ready service.new }
+        ensures home { S.home service.new ≡ S.home service.old }
+        ensures pass { IsSamePass pass.old pass.new }
+        ensures served { Accounts (WasServed S.home S.gives (S.home service.old)) 0 (view pass.old) (view pass.new) }
     {
         for _ in rt.forever() {
             // What was told before the queue is looked at: a peer that comes after the look is told of after it.
             let told = self.bell.told(rt);
-            match self.queue.pop(rt) {
-                Some(mut peer) => {
+            match self.line.pop_as::<Takes, R>(rt, pass) {
+                Some(peer) => {
                     self.serving.fetch_add(1, Ordering::SeqCst);
-                    serve_peer(rt, alloc, session, &mut peer);
+                    serve_one(rt, alloc, service, peer);
                     self.serving.fetch_sub(1, Ordering::SeqCst);
                 }
                 None if told.closed => return,
                 None => self.bell.wait_past(rt, told.times),
+            }
+        }
+    }
+
+    /// Serves what still waits once all other workers have ended, by the pass with all parts.
+    pub(crate) fn finish<R: Threads + Wait + Sync, S: Service<P>>(
+        &self,
+        rt: &R,
+        alloc: Global,
+        service: &mut S,
+        pass: &mut PeerPass<P>,
+    )
+        requires ready { S.is_ready service.old }
+        requires pass { IsPassOf self.now.line pass.old }
+        requires parts { (view pass.old).parts ≡ all_parts }
+        ensures ready { S.is_ready service.new }
+        ensures home { S.home service.new ≡ S.home service.old }
+        ensures served { Accounts (WasServed S.home S.gives (S.home service.old)) 0 (view pass.old) (view pass.new) }
+        ensures all { (view pass.new).put ≡ length (view pass.new).taken }
+    {
+        for _ in rt.forever() {
+            match self.line.pop_as::<Takes, R>(rt, pass) {
+                Some(peer) => serve_one(rt, alloc, service, peer),
+                None => return,
             }
         }
     }

@@ -2,7 +2,8 @@
 ghost use Rattle.std.specs.Prelude.{◌≡◌, ◌≤◌, ◌<◌, ◌+◌, ◌-◌, ◌*◌, ◌^◌, ◌↔◌, ℕ, true, IfErr};
 ghost use Rattle.turn_lock.specs.History.{Begins};
 ghost use Rattle.client_session.specs.Sessions.{IsOwnerOf};
-ghost use Rattle.blob_server.specs.Serving.{EndsAs, MakesPasses, LendsDoors};
+ghost use Rattle.blob_server.specs.Peers.{Converses};
+ghost use Rattle.blob_server.specs.Serving.{EndsAs, ServesAll, WasServed, MakesPasses, LendsDoors};
 ghost use Rattle.blob_server.specs.declared.server.ServeFault.TheVariants as Faults;
 
 use crate::pool::work_all;
@@ -35,9 +36,9 @@ pub enum ServeFault {
 /// was put. No peer is taken before all sessions are made. The calling thread is the first worker: it takes the peers and
 /// leaves them to the others, which run in threads of their own and take them from a queue of 64 places. Where the queue is full
 /// while all others serve, or there is no other worker, it serves a peer itself, and when it has taken the last one it serves
-/// what still waits, so that all are served where no thread can be made. A worker with nothing to do sleeps. Each peer is served once, as `serve_peer`
-/// tells: its session is hung up before the next one, and what goes wrong with a peer ends its connection alone. When it answers
-/// every pass and every door have gone back. The gate is called between the acts of updates.
+/// what still waits, so that all are served where no thread can be made. A worker with nothing to do sleeps. Each peer is served
+/// once, as `serve_peer` tells: its session is hung up before the next one, and what goes wrong with a peer ends its connection
+/// alone. When it answers every peer that was handed out was served, and every pass and every door have gone back. The gate is called between the acts of updates.
 pub fn serve<R: Threads + Wait + Sync, Li: Listener, M: DoorMaker, G: Gate + Sync>(
     rt: &R,
     alloc: Global,
@@ -65,6 +66,16 @@ where
         (record { handed = Li.handed net.old; is_done = Li.is_done net.old; faults = Li.faults net.old })
         (record { handed = Li.handed net.new; is_done = Li.is_done net.new; faults = Li.faults net.new })
         result }
+
+    // Each peer that the listener handed out was served by a session of this store, as `serve_peer` tells.
+    ensures served { ServesAll (WasServed (λ s. s.store)
+        (Converses M.Door.faults Li.Peer.given Li.Peer.left Li.Peer.written Li.Peer.ends Li.Peer.read_faults Li.Peer.write_faults) shared.now)
+        connections
+        (record { handed = Li.handed net.old; is_done = Li.is_done net.old; faults = Li.faults net.old })
+        (record { handed = Li.handed net.new; is_done = Li.is_done net.new; faults = Li.faults net.new })
+        result }
+
+    // What became of the listener otherwise.
     ensures listens { Li.listens net.new ≡ true }
     ensures here { Li.listens_at net.new ≡ Li.listens_at net.old }
     ensures untouched { IfErr result (λ fault. fault ≡ Faults.NoMemory → net.new ≡ net.old) }
@@ -82,7 +93,7 @@ where
     ensures truth_stays { M.is_true doors.old ↔ M.is_true doors.new }
     ensures plan_stays { (n : ℕ) (door : _) → M.makes doors.old n door ↔ M.makes doors.new n door }
 {
-    let Ok(queue) = PeerQueue::new(alloc, workers - 1) else {
+    let Ok((queue, pass)) = PeerQueue::new(alloc, workers - 1) else {
         return Err(ServeFault::NoMemory);
     };
     let Ok(mut sessions) = sessions_of(alloc, shared, owner, doors, gate, workers) else {
@@ -92,11 +103,21 @@ where
         // There is at least one worker.
         unreachable!()
     };
-    let (taken, first, others) = work_all(rt, alloc, &queue, first, sessions, net, connections);
+    let (taken, first, others) = work_all(
+        rt,
+        alloc,
+        shared,
+        &queue,
+        pass,
+        first,
+        sessions,
+        net,
+        connections,
+    );
     end_session(shared, owner, doors, first);
     end_sessions(shared, owner, doors, others);
-    match taken {
-        Some(peers) => Ok(u64::from(peers)),
-        None => Err(ServeFault::Listener),
+    if taken.failed {
+        return Err(ServeFault::Listener);
     }
+    Ok(u64::from(taken.peers))
 }

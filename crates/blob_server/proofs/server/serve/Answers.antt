@@ -1,43 +1,33 @@
-use Rattle.std.proofs.Common.{◌≡◌, ◌∙◌, List, length, refl, subst, arith}
+use Rattle.std.proofs.Common.{◌≡◌, ◌∙◌, List, length, refl, subst, arith, rules}
 use Rattle.std.specs.List.{All}
 use Rattle.page_store.specs.Calls.{no_door}
 use Rattle.client_session.specs.Sessions.{SessionState}
 use Rattle.blob_server.specs.Peers.{IsIdle}
-use Rattle.blob_server.proofs.Idling.{all_front, last_of, own_store, idle_still}
+use Rattle.blob_server.proofs.Idling.{all_front, last_of, own_store, own_stores, that_stores}
 use Rattle.blob_server.proofs.Lents.{all_lent}
+use Rattle.blob_server.proofs.Taking.{served_till_then}
 use Rattle.blob_server.proofs.server.serve.Goals as goal
 
-pub work_all-taken-requires-clause-first : goal.work_all-taken-requires-clause-first
-work_all-taken-requires-clause-first g c κs within =
+pub work_all-first-requires-clause-first : goal.work_all-first-requires-clause-first
+work_all-first-requires-clause-first g c κs within =
     let store = c.args.shared.now in
     let all = subst (λ (l : List (SessionState _)). All (IsIdle store) l) c.in-Some.ensures.items c.in-Ok-sessions_of.ensures.idle in
-    let i = last_of (IsIdle store) c.pop.new.self.items c.in-Some.first all in
-    record { of_store = refl; none_held = i.none_held; first_next = i.first_next; first_limit = i.first_limit }
+    own_store store c.in-Some.first (last_of (IsIdle store) c.pop.new.self.items c.in-Some.first all)
 
-pub work_all-taken-requires-clause-others : goal.work_all-taken-requires-clause-others
-work_all-taken-requires-clause-others g c κs within =
+pub work_all-first-requires-clause-others : goal.work_all-first-requires-clause-others
+work_all-first-requires-clause-others g c κs within =
     let store = c.args.shared.now in
     let all = subst (λ (l : List (SessionState _)). All (IsIdle store) l) c.in-Some.ensures.items c.in-Ok-sessions_of.ensures.idle in
-    own_store store c.pop.new.self.items (all_front (IsIdle store) c.pop.new.self.items c.in-Some.first all)
+    own_stores store c.pop.new.self.items (all_front (IsIdle store) c.pop.new.self.items c.in-Some.first all)
 
 pub end_session-requires-clause-of_store : goal.end_session-requires-clause-of_store
-end_session-requires-clause-of_store g c =
-    let store = c.args.shared.now in
-    let all = subst (λ (l : List (SessionState _)). All (IsIdle store) l) c.in-Some.ensures.items c.in-Ok-sessions_of.ensures.idle in
-    c.work_all-taken.ensures.first.of_store ∙ (last_of (IsIdle store) c.pop.new.self.items c.in-Some.first all).of_store
+end_session-requires-clause-of_store g c = c.work_all-first.ensures.first.1
 
 pub end_sessions-requires-clause-idle : goal.end_sessions-requires-clause-idle
-end_sessions-requires-clause-idle g c =
-    let store = c.args.shared.now in
-    let w = c.work_all-taken.ensures in
-    let old = c.pop.new.self.items in
-    let new = c.work_all-taken.result.2.items in
-    let all = subst (λ (l : List (SessionState _)). All (IsIdle store) l) c.in-Some.ensures.items c.in-Ok-sessions_of.ensures.idle in
-    let same : length new ≡ length old = omega (arith, w.count, c.pop.new.self.ok.0, c.work_all-taken.result.2.ok.0) in
-    idle_still store old new same (all_front (IsIdle store) old c.in-Some.first all) (λ k d less. w.others k d (omega (arith, less, c.pop.new.self.ok.0)))
+end_sessions-requires-clause-idle g c = that_stores c.args.shared.now c.work_all-first.result.2.items c.work_all-first.ensures.others
 
-pub returns-in-Some-taken-clause-plan_stays : goal.returns-in-Some-taken-clause-plan_stays
-returns-in-Some-taken-clause-plan_stays g c n door =
+pub returns-then-taken-clause-plan_stays : goal.returns-then-taken-clause-plan_stays
+returns-then-taken-clause-plan_stays g c n door =
     let made = c.in-Ok-sessions_of.ensures.plan_stays n door in
     let one = c.end_session.ensures.plan_stays n door in
     let all = c.end_sessions.ensures.plan_stays n door in
@@ -50,19 +40,30 @@ returns-clause-plan_stays g c n door =
     let all = c.end_sessions.ensures.plan_stays n door in
     (λ h. all.0 (one.0 (made.0 h)), λ h. made.1 (one.1 (all.1 h)))
 
+pub returns-then-taken-clause-served : goal.returns-then-taken-clause-served
+returns-then-taken-clause-served g c =
+    let w = c.work_all-first.ensures in
+    served_till_then _ c.args.connections c.work_all-first.result.0.peers c.work_all-first.result.0.failed _ _ c.if-taken.true w.took w.served
+
+pub returns-clause-served : goal.returns-clause-served
+returns-clause-served g c =
+    let w = c.work_all-first.ensures.served in
+    let number = w.number in
+    record { peers = w.peers; number = first_of (omega (arith, number), search rules); each = w.each }
+
 pub returns-in_default-clause-lent : goal.returns-in_default-clause-lent
 returns-in_default-clause-lent g c = (0, no_door)
 
-pub returns-in-Some-taken-clause-lent : goal.returns-in-Some-taken-clause-lent
-returns-in-Some-taken-clause-lent g c =
-    let w = c.work_all-taken.ensures in
-    all_lent g.M.DoorMaker.hands_out g.M.DoorMaker.takes_back c.args.shared.now.providers c.args.workers c.work_all-taken.result.2.len c.args.doors.now c.sessions_of.new.maker c.end_session.new.maker
+pub returns-then-taken-clause-lent : goal.returns-then-taken-clause-lent
+returns-then-taken-clause-lent g c =
+    let w = c.work_all-first.ensures in
+    all_lent g.M.DoorMaker.hands_out g.M.DoorMaker.takes_back c.args.shared.now.providers c.args.workers c.work_all-first.result.2.len c.args.doors.now c.sessions_of.new.maker c.end_session.new.maker
     c.end_sessions.new.maker (omega (arith, w.count, c.in-Some.ensures.cases, c.in-Ok-sessions_of.ensures.count)) c.in-Ok-sessions_of.ensures.handed_out c.end_session.ensures.taken_back
     c.end_sessions.ensures.taken_back
 
 pub returns-clause-lent : goal.returns-clause-lent
 returns-clause-lent g c =
-    let w = c.work_all-taken.ensures in
-    all_lent g.M.DoorMaker.hands_out g.M.DoorMaker.takes_back c.args.shared.now.providers c.args.workers c.work_all-taken.result.2.len c.args.doors.now c.sessions_of.new.maker c.end_session.new.maker
+    let w = c.work_all-first.ensures in
+    all_lent g.M.DoorMaker.hands_out g.M.DoorMaker.takes_back c.args.shared.now.providers c.args.workers c.work_all-first.result.2.len c.args.doors.now c.sessions_of.new.maker c.end_session.new.maker
     c.end_sessions.new.maker (omega (arith, w.count, c.in-Some.ensures.cases, c.in-Ok-sessions_of.ensures.count)) c.in-Ok-sessions_of.ensures.handed_out c.end_session.ensures.taken_back
     c.end_sessions.ensures.taken_back

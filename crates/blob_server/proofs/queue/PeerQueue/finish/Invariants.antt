@@ -1,0 +1,16 @@
+use Rattle.std.proofs.Common.{◌≡◌}
+use Rattle.crossbeam_queue.specs.Passes.{view, IsSamePass, IsPassOf}
+use Rattle.blob_server.specs.Serving.{WasServed, Accounts}
+use Rattle.blob_server.proofs.queue.PeerQueue.finish.Given as goal
+
+-- what was taken so far was served
+abbrev pub invariant-loop : goal.invariant-loop
+invariant-loop g l =
+    let s = g.S.Service in
+    record {
+      ready : s.is_ready l.service;
+      home : s.home l.service ≡ s.home l.fn.service;
+      of_queue : IsPassOf l.self.line l.pass;
+      pass : IsSamePass l.fn.pass l.pass;
+      served : Accounts (WasServed s.home s.gives (s.home l.fn.service)) 0 (view l.fn.pass) (view l.pass);
+    }
