@@ -91,9 +91,6 @@ waited_both adds s mid s' a b = record { leaves = adds s mid s' [] [] a.leaves b
 pub ready_then : (s s' : Session) → IsReady s → HasWaited s s' → IsReady s'
 ready_then s s' ready waited = record { none_held = waited.tickets ∙ ready.none_held; limit = waited.leaves.limit ready.limit }
 
-pub ready_updated : (s : Session) (blob : ℕ) (place : Place) (bytes : List ℕ) (s' : Session) → IsReady s → IsUpdated s blob place bytes s' → IsReady s'
-ready_updated s blob place bytes s' ready done = record { none_held = done.none_held; limit = done.leaves.limit ready.limit }
-
 -- ---- the end of a try
 
 pub no_reply : (place : Place) (version at size : ℕ) (fault : Fault) → Replies.Refused fault ≡ update_reply place version at size → ⊥

@@ -43,10 +43,6 @@ module _ (adds : LeavesAdd) (plan : LoadPlan) (s : Session) (fresh : IsFresh 0 s
       let next : Leaves one create_one two = subst (λ (c : ℕ). Leaves one (Events.Create c ∷ []) two) (caller_at create_one one first) second.leaves in
       record { leaves = adds s one two create_one create_one first.leaves next; none_held = second.none_held }
 
-  -- it may do an update next
-  pub ready_both : (two : Session) → HasDoneOwn s create_both two → IsReady two
-  ready_both two did = record { none_held = did.none_held; limit = did.leaves.limit fresh.ready.limit }
-
   pub opened : (two s' : Session) → HasDoneOwn s create_both two → IsUpdated two 2 Append (zeros_of plan) s' → HasOpened plan s s'
   opened two s' both done =
       let events : ℕ → List Event = λ c. update_events c 2 Append (zeros_of plan) done.version in
