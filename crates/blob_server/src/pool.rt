@@ -180,7 +180,8 @@ fn work_beside<R: Threads + Wait + Sync, P: Drop + Send, S: Service<P> + Drop + 
     let ((mut services, mut pass), (service, own)) = thread::join(
         rt,
         move || -> (Vec<S>, PeerPass<P>)
-            requires { IsSync R.row × All (λ s. S.is_ready s × (S.home s ≡ shared.now)) services.items × IsPassOf queue.now.line pass × (0 < (view pass).parts) × (vec_len services ≤ (view pass).parts) }
+            requires { IsSync R.row × All (λ s. S.is_ready s × (S.home s ≡ shared.now)) services.items × IsPassOf queue.now.line pass
+                × (0 < (view pass).parts) × (vec_len services ≤ (view pass).parts) }
             ensures ready { All (λ s. S.is_ready s × (S.home s ≡ shared.entry.now)) result.0.items }
             ensures room { (vec_len result.0 ≡ vec_len services) × (vec_capacity result.0 ≡ vec_capacity services) }
             ensures pass { IsPassOf queue.entry.now.line result.1 }
