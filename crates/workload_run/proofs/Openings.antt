@@ -11,7 +11,7 @@ use Rattle.workload_law.specs.declared.plan.LoadPlan.{LoadPlan}
 use Rattle.workload_law.specs.Load.{zeros_of}
 use Rattle.workload_law.specs.Ends.{CreateHindered, UpdateHindered, Leaves, LeavesAdd}
 use Rattle.workload_law.specs.Closing.{OpeningHindered}
-use Rattle.update_work.specs.Updates.{update_events, IsReady, IsUpdated, IsStopped}
+use Rattle.update_work.specs.Updates.{update_events, IsUpdated, IsStopped}
 use Rattle.update_work.specs.Callers.{IsFresh}
 use Rattle.update_work.specs.Making.{HasDoneOwn, HasNotMade}
 use Rattle.workload_run.specs.Opening.{HasOpened, HasNotOpened}

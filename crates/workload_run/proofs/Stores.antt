@@ -1,5 +1,5 @@
 -- A load's stages, by what its sessions did and what came back of them.
-use Rattle.std.proofs.Common.{◌≡◌, ◌⊎◌, inr, ℕ, zero, suc, ◌+◌, ◌-◌, ◌^◌, ◌<◌, ◌≤◌, min, List, [], ◌∷◌, ◌++◌, length, refl, sym, ap, subst, ◌∙◌, append-nil, arith}
+use Rattle.std.proofs.Common.{◌≡◌, ◌⊎◌, inr, ℕ, zero, suc, ◌+◌, ◌-◌, ◌^◌, ◌<◌, ◌≤◌, List, [], ◌∷◌, ◌++◌, length, refl, sym, ap, subst, ◌∙◌, append-nil, arith}
 use Rattle.std.specs.Prelude.{Contains, Result, Ok, Err, Option, Some, None, slice_index_or, sum_by}
 use Rattle.std.proofs.lemmas.List.Elements.{Contains-push}
 use Rattle.blob_model.specs.Limits.{Bounds, greatest}
@@ -12,11 +12,9 @@ use Rattle.version_manager.specs.declared.journal.DeskFixed.{DeskFixed}
 use Rattle.version_manager.specs.Log.{tagged, events}
 use Rattle.version_manager.specs.Laws.{EntriesAreEvents}
 use Rattle.request_form.specs.Session.{Session}
-use Rattle.request_form.specs.Answers.{max_update}
 use Rattle.request_form.specs.Replies.{page_faults}
 use Rattle.request_form.specs.declared.form.Fault.{Fault}
 use Rattle.client_session.specs.Sessions.{StoreState, SessionState, session_of}
-use Rattle.client_session.specs.Tickets.{OpenUpdate, tickets_of}
 use Rattle.store_sessions.specs.Made.{IsNewSession}
 use Rattle.workload_law.specs.declared.plan.LoadPlan.{LoadPlan}
 use Rattle.workload_law.specs.declared.plan.Summary.{Summary}

@@ -1,5 +1,5 @@
 -- The workers of a load, each with its session.
-use Rattle.std.specs.Prelude.{◌≡◌, ℕ, ◌+◌, ◌<◌, ◌≤◌, List, [], ◌∷◌, Result, Ok, Err, Option, Some, None, sum_by, slice_index_or, length, Contains}
+use Rattle.std.specs.Prelude.{◌≡◌, ℕ, ◌+◌, ◌<◌, ◌≤◌, List, [], ◌∷◌, Ok, Err, Option, Some, None, sum_by, slice_index_or, length, Contains}
 use Rattle.blob_model.specs.declared.call.Event.{Event}
 use Rattle.faults.specs.Counts.{RoseBy}
 use Rattle.turn_lock.specs.History.{Begins, entries_by}
