@@ -6,7 +6,7 @@ ghost use Rattle.blob_server.specs.Serving.{TakesAs, WasServed, Accounts, Served
 ghost use denote.Param.Send.{IsSync};
 
 use crate::queue::PeerQueue;
-use crate::service::{Service, serve_one};
+use crate::service::{PeerServer, serve_one};
 use crate::tally::PeerPass;
 use crate::task::{Task, run_beside, take_back};
 use client_session::Shared;
@@ -24,7 +24,7 @@ pub(crate) struct TakenPeers {
 }
 
 // Serves a peer, or leaves it to the other workers where there are some.
-fn place_peer<R: Threads + Wait + Sync, P: Drop, S: Service<P>>(
+fn place_peer<R: Threads + Wait + Sync, P: Drop, S: PeerServer<P>>(
     rt: &R,
     alloc: Global,
     queue: &PeerQueue<P>,
@@ -49,7 +49,7 @@ fn place_peer<R: Threads + Wait + Sync, P: Drop, S: Service<P>>(
 }
 
 // Takes so many peers of the listener, or fewer where it gives no more or fails, and answers how many they were.
-fn take_peers<R: Threads + Wait + Sync, Li: Listener, S: Service<Li::Peer>>(
+fn take_peers<R: Threads + Wait + Sync, Li: Listener, S: PeerServer<Li::Peer>>(
     rt: &R,
     alloc: Global,
     queue: &PeerQueue<Li::Peer>,
@@ -99,7 +99,7 @@ where
 }
 
 // The first worker: takes the peers, and then serves those that wait still.
-fn lead<R: Threads + Wait + Sync, Li: Listener, S: Service<Li::Peer>>(
+fn lead<R: Threads + Wait + Sync, Li: Listener, S: PeerServer<Li::Peer>>(
     rt: &R,
     alloc: Global,
     queue: &PeerQueue<Li::Peer>,
@@ -132,7 +132,7 @@ where
 }
 
 // One of the other workers, which is handed over and comes back.
-fn work_by<R: Threads + Wait + Sync, P: Drop, S: Service<P>>(
+fn work_by<R: Threads + Wait + Sync, P: Drop, S: PeerServer<P>>(
     rt: &R,
     alloc: Global,
     queue: &PeerQueue<P>,
@@ -152,7 +152,7 @@ fn work_by<R: Threads + Wait + Sync, P: Drop, S: Service<P>>(
 }
 
 // The other workers, each in a thread of its own where one can be made.
-fn work_beside<R: Threads + Wait + Sync, P: Drop + Send, S: Service<P> + Drop + Send>(
+fn work_beside<R: Threads + Wait + Sync, P: Drop + Send, S: PeerServer<P> + Drop + Send>(
     rt: &R,
     alloc: Global,
     queue: &PeerQueue<P>,
@@ -211,7 +211,7 @@ struct Leader<'d, 'n, Li: Listener, S> {
     alone: bool,
 }
 
-impl<'d, 'n, Li: Listener, S: Service<Li::Peer> + Drop> Task for Leader<'d, 'n, Li, S>
+impl<'d, 'n, Li: Listener, S: PeerServer<Li::Peer> + Drop> Task for Leader<'d, 'n, Li, S>
 where
     Li::Peer: Drop,
 {
@@ -258,7 +258,11 @@ where
 
 /// All workers, the first by its session and each of the others by one of theirs, which come back. As many peers as it answers were
 /// taken of the listener, and each was served. The pass has all parts.
-pub(crate) fn work_all<R: Threads + Wait + Sync, Li: Listener, S: Service<Li::Peer> + Drop + Send>(
+pub(crate) fn work_all<
+    R: Threads + Wait + Sync,
+    Li: Listener,
+    S: PeerServer<Li::Peer> + Drop + Send,
+>(
     rt: &R,
     alloc: Global,
     shared: &Shared,

@@ -5,7 +5,7 @@ ghost use Rattle.blob_server.specs.Tallies.{tally, all_parts, after_put, both};
 ghost use Rattle.blob_server.specs.Serving.{WasServed, Accounts};
 
 use crate::bell::Bell;
-use crate::service::{Service, serve_one};
+use crate::service::{PeerServer, serve_one};
 use crate::tally::{Balance, Both, Cut, PeerPass, Puts, Takes, Tally};
 use crossbeam_queue::RuledArrayQueue;
 use request_form::NoMemory;
@@ -92,7 +92,7 @@ impl<P: Drop> PeerQueue<P> {
     }
 
     /// Leaves a peer to the others, or serves it where there is no place for it to wait.
-    pub(crate) fn hand_over<R: Threads + Wait + Sync, S: Service<P>>(
+    pub(crate) fn hand_over<R: Threads + Wait + Sync, S: PeerServer<P>>(
         &self,
         rt: &R,
         alloc: Global,
@@ -120,7 +120,7 @@ impl<P: Drop> PeerQueue<P> {
     }
 
     /// Serves peers that wait, until no more come and none waits. While none waits it sleeps.
-    pub(crate) fn work<R: Threads + Wait + Sync, S: Service<P>>(
+    pub(crate) fn work<R: Threads + Wait + Sync, S: PeerServer<P>>(
         &self,
         rt: &R,
         alloc: Global,
@@ -151,7 +151,7 @@ impl<P: Drop> PeerQueue<P> {
     }
 
     /// Serves what still waits once all other workers have ended, by the pass with all parts.
-    pub(crate) fn finish<R: Threads + Wait + Sync, S: Service<P>>(
+    pub(crate) fn finish<R: Threads + Wait + Sync, S: PeerServer<P>>(
         &self,
         rt: &R,
         alloc: Global,

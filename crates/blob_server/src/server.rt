@@ -38,7 +38,8 @@ pub enum ServeFault {
 /// while all others serve, or there is no other worker, it serves a peer itself, and when it has taken the last one it serves
 /// what still waits, so that all are served where no thread can be made. A worker with nothing to do sleeps. Each peer is served
 /// once, as `serve_peer` tells: its session is hung up before the next one, and what goes wrong with a peer ends its connection
-/// alone. When it answers every peer that was handed out was served, and every pass and every door have gone back. The gate is called between the acts of updates.
+/// alone. When it answers every peer that was handed out was served, and every pass and every door have gone back. The gate is
+/// called between the acts of updates.
 pub fn serve<R: Threads + Wait + Sync, Li: Listener, M: DoorMaker, G: Gate + Sync>(
     rt: &R,
     alloc: Global,

@@ -12,7 +12,7 @@ use std::sync::Wait;
 use std::thread::Threads;
 
 /// What serves a peer. The pool knows no more of it than this, so that a peer is served only where the pool had it served.
-pub(crate) trait Service<P> {
+pub(crate) trait PeerServer<P> {
     ghost use Rattle.std.specs.Prelude.{◌≡◌};
     ghost use Rattle.client_session.specs.Sessions.{StoreState};
     ghost use denote.Param.Send.{IsSync};
@@ -35,7 +35,7 @@ pub(crate) trait Service<P> {
         ensures home { home self.new ≡ home self.old };
 }
 
-impl<'s, P: Source + Sink, D: BesideDoor, G: Gate> Service<P> for Session<'s, D, G> {
+impl<'s, P: Source + Sink, D: BesideDoor, G: Gate> PeerServer<P> for Session<'s, D, G> {
     ghost use Rattle.blob_server.specs.Peers.{IsIdle, Converses};
 
     ghost home = { λ s. s.store };
@@ -50,7 +50,7 @@ impl<'s, P: Source + Sink, D: BesideDoor, G: Gate> Service<P> for Session<'s, D,
 }
 
 /// Has the peer served, and lets it go.
-pub(crate) fn serve_one<R: Threads + Wait + Sync, P: Drop, S: Service<P>>(
+pub(crate) fn serve_one<R: Threads + Wait + Sync, P: Drop, S: PeerServer<P>>(
     rt: &R,
     alloc: Global,
     service: &mut S,

@@ -9,7 +9,7 @@ use Rattle.blob_server.proofs.pool.+fn-work_beside-join+arg2+work_beside.Goals a
 
 pub returns-clause-served : goal.returns-clause-served
 returns-clause-served g t c =
-    let s = g.S.Service in
+    let s = g.S.PeerServer in
     let Served = WasServed s.home s.gives c.args.shared.now in
     let ready = subst (λ (l : List g.row.S.Denot). All (λ x. s.is_ready x × (s.home x ≡ c.args.shared.now)) l) c.in-Some.ensures.items c.requires.ready in
     let here = (last_of (λ x. s.is_ready x × (s.home x ≡ c.args.shared.now)) c.pop.new.self.items c.in-Some.service ready).1 in

@@ -10,7 +10,7 @@ use Rattle.blob_server.proofs.pool.take_peers.Goals as goal
 pub loop-taken-preserved : goal.loop-taken-preserved
 loop-taken-preserved g c =
     let i = c.loop-taken.invariant in
-    let s = g.S.Service in
+    let s = g.S.PeerServer in
     let one = subst (λ place. Accounts (WasServed s.home s.gives place) 1 (view c.loop-taken.pass) (view c.place_peer.new.pass)) i.home c.place_peer.ensures.served in
     record {
       listens = first_of (search rules, grind (arith, common_steps));

@@ -8,7 +8,7 @@ use Rattle.blob_server.proofs.pool.take_peers.Given as goal
 abbrev pub invariant-loop-taken : goal.invariant-loop-taken
 invariant-loop-taken g l =
     let li = g.Li.Listener in
-    let s = g.S.Service in
+    let s = g.S.PeerServer in
     record {
       listens : li.listens l.net ≡ true;
       here : li.listens_at l.net ≡ li.listens_at l.fn.net;

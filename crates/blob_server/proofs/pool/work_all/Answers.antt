@@ -7,7 +7,7 @@ use Rattle.blob_server.proofs.pool.work_all.Goals as goal
 
 pub returns-clause-served : goal.returns-clause-served
 returns-clause-served g c =
-    let s = g.S.Service in
+    let s = g.S.PeerServer in
     let place = c.args.shared.now in
     let Served = WasServed s.home s.gives place in
     let r = c.run_beside-others.result in

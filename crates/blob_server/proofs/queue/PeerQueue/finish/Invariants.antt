@@ -6,7 +6,7 @@ use Rattle.blob_server.proofs.queue.PeerQueue.finish.Given as goal
 -- what was taken so far was served
 abbrev pub invariant-loop : goal.invariant-loop
 invariant-loop g l =
-    let s = g.S.Service in
+    let s = g.S.PeerServer in
     record {
       ready : s.is_ready l.service;
       home : s.home l.service ≡ s.home l.fn.service;

@@ -15,7 +15,7 @@ pop_as-requires-clause-rule g c =
 pub loop-preserved-in-Some-pop_as : goal.loop-preserved-in-Some-pop_as
 loop-preserved-in-Some-pop_as g c =
     let i = c.loop.invariant in
-    let s = g.S.Service in
+    let s = g.S.PeerServer in
     record {
       ready = first_of (search rules, grind (arith, common_steps));
       home = first_of (search rules, grind (arith, common_steps));
