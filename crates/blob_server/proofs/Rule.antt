@@ -1,5 +1,5 @@
 -- Each step keeps the rule of the queue.
-use Rattle.std.proofs.Common.{◌≡◌, ◌≢◌, ◌∙◌, ℕ, zero, suc, ◌+◌, ◌-◌, ◌<◌, List, [], ◌∷◌, ◌++◌, length, set, get_or, refl, ap, sym, subst, arith, length-append}
+use Rattle.std.proofs.Common.{◌≡◌, ◌≢◌, ◌∙◌, ℕ, zero, suc, ◌+◌, ◌-◌, ◌<◌, List, [], ◌∷◌, ◌++◌, length, set, refl, ap, sym, arith, length-append}
 use Rattle.std.specs.List.{All}
 use Rattle.std.specs.Prelude.{sum_by, ⊤}
 use Rattle.std.proofs.lemmas.List.Sums.{sum_by-append, sum_by-cons, sum_by-set}
@@ -7,7 +7,6 @@ use Rattle.std.proofs.lemmas.List.Elements.{All-nil, All-cons, All-head, All-tai
 use mathlib.Core.Option.{some, some-injective, some-ne-none}
 use lib.ListN.{get_elem?}
 use Rattle.crossbeam_queue.specs.Fifo.{Pushes, Pops, Forks, Merges, Learns}
-use Rattle.crossbeam_queue.proofs.Lists.{at_set}
 use Rattle.blob_server.specs.declared.tally.Tally.{Tally}
 use Rattle.blob_server.specs.Tallies.{all_parts, tally, both, after_put, after_take, IsEmptyIfIdle, Balanced, HasTaken}
 
@@ -27,12 +26,6 @@ module _ {X : Type 0} where
       let new = sum_by-cons f a (set xs k y) in
       let old = sum_by-cons f a xs in
       omega (arith, rest, new, old)
-
-  -- what holds of all holds of the one there
-  pub all_at : (F : X → Type 0) (xs : List X) (k : ℕ) (x : X) → All F xs → get_elem? xs k ≡ some x → F x
-  all_at F [] k x all at = absurd (some-ne-none x (sym at))
-  all_at F (a ∷ xs) zero x all at = subst F (some-injective a x at) (All-head F a xs all)
-  all_at F (a ∷ xs) (suc k) x all at = all_at F xs k x (All-tail F a xs all) at
 
 module _ {P : Type 0} where
   abbrev parts_of : Tally P → ℕ
