@@ -100,7 +100,6 @@ fn is_pending(outcome: &Outcome) -> bool
 /// then its own event. A call that is refused, and one that finds no memory before an update is numbered, enters nothing. It
 /// holds no turn when a call returns, nor when the gate is called. A call that makes and finishes no update leaves the held tickets with their
 /// rows as they are, and one that reads no bytes the doors too.
-#[derive(Drop)]
 pub struct Session<'a, D: Door, G: Gate> {
     pub(crate) alloc: Global,
     pub(crate) shared: &'a Shared,
@@ -111,6 +110,23 @@ pub struct Session<'a, D: Door, G: Gate> {
     pub(crate) next: u64,
     pub(crate) room: ReadRoom,
     pub(crate) limit: UpdateLimit,
+}
+
+// By hand, so that it is one call wherever a session is let go: a derived drop stands, with all its calls, at each such place.
+impl<'a, D: Door + Drop, G: Gate> Drop for Session<'a, D, G> {
+    fn drop(self) {
+        let Session {
+            alloc: _,
+            shared: _,
+            gate: _,
+            pass: _,
+            doors: _,
+            held: _,
+            next: _,
+            room: _,
+            limit: _,
+        } = self;
+    }
 }
 
 impl<'a, D: Door, G: Gate> Model for Session<'a, D, G> {
@@ -171,7 +187,17 @@ impl<'a, D: Door, G: Gate> Session<'a, D, G> {
         ensures doors { result.1 ≡ self.entry.doors }
         ensures count { length result.1 ≡ self.entry.store.providers }
     {
-        let Session { pass, doors, .. } = self;
+        let Session {
+            alloc: _,
+            shared: _,
+            gate: _,
+            pass,
+            doors,
+            held: _,
+            next: _,
+            room: _,
+            limit: _,
+        } = self;
         (pass, doors)
     }
 

@@ -22,7 +22,6 @@ use version_manager::{Desk, DeskOut, Owner, Pass, SharedDesk};
 
 /// What the sessions of a store share: the desk under its lock, the houses of the pages and of the nodes, and the book of the
 /// providers' loads. It is lent to every session, and may be lent to many threads.
-#[derive(Drop)]
 pub struct Shared {
     desk: SharedDesk,
     houses: Arc<Houses>,
@@ -32,6 +31,22 @@ pub struct Shared {
     limits: Limits,
     page_size: PageSize,
     providers: u32,
+}
+
+// By hand, so that it is one call wherever a store is let go: a derived drop stands, with all its calls, at each such place.
+impl Drop for Shared {
+    fn drop(self) {
+        let Shared {
+            desk: _,
+            houses: _,
+            nodes: _,
+            loads: _,
+            notices: _,
+            limits: _,
+            page_size: _,
+            providers: _,
+        } = self;
+    }
 }
 
 impl Model for Shared {

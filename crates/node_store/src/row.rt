@@ -24,7 +24,6 @@ use tree_geom::{PageSize, Range, Steps, Touch};
 /// The nodes stand by the size of their ranges, the largest first, and then by offset, and there is one for each range of a tree of
 /// the row's height that the update touches. So a row keeps no range: where a range's node stands follows from what the update
 /// touches. The nodes are of the blob and the version under which the update was made.
-#[derive(Drop)]
 pub struct Row {
     blob: u64,
     offset: u64,
@@ -35,6 +34,21 @@ pub struct Row {
     nodes: RowNodes,
     page_size: PageSize,
     shape: Shape,
+}
+
+// By hand, so that it is one call wherever a row is let go: a derived drop stands, with all its calls, at each such place.
+impl Drop for Row {
+    fn drop(self) {
+        let Row {
+            blob: _,
+            offset: _,
+            pages: _,
+            folds: _,
+            nodes: _,
+            page_size: _,
+            shape: _,
+        } = self;
+    }
 }
 
 impl Model for Row {

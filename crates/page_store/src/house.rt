@@ -135,9 +135,15 @@ impl PageRef {
 }
 
 /// The houses of the providers 1 to the number of providers.
-#[derive(Drop)]
 pub struct Houses {
     houses: Vec<PageHouse>,
+}
+
+// By hand, so that it is one call wherever the houses are let go: a derived drop stands, with all its calls, at each such place.
+impl Drop for Houses {
+    fn drop(self) {
+        let Houses { houses: _ } = self;
+    }
 }
 
 impl Model for Houses {

@@ -11,10 +11,19 @@ use std::marker::Model;
 
 /// A page with its replicas: 1 to 8 references that all stand for the same bytes. Most stores keep few replicas, so a page
 /// has room for those alone: the first lies in it, and the others in one block of memory, if there are any.
-#[derive(Drop)]
 pub struct StoredPage {
     first: PageRef,
     others: Vec<PageRef>,
+}
+
+// By hand, so that it is one call wherever a page is let go: a derived drop stands, with all its calls, at each such place.
+impl Drop for StoredPage {
+    fn drop(self) {
+        let StoredPage {
+            first: _,
+            others: _,
+        } = self;
+    }
 }
 
 impl Model for StoredPage {
@@ -88,12 +97,23 @@ impl StoredPage {
 
 /// The stored pages of one update, which stand for its bytes: the update's bytes cut at multiples of the page size.
 /// All pages but the last have as many bytes as the page size.
-#[derive(Drop)]
 pub struct Pages {
     page_size: u64,
     room: u32,
     len: u64,
     pages: Vec<StoredPage>,
+}
+
+// By hand, for the same.
+impl Drop for Pages {
+    fn drop(self) {
+        let Pages {
+            page_size: _,
+            room: _,
+            len: _,
+            pages: _,
+        } = self;
+    }
 }
 
 impl Model for Pages {
@@ -186,7 +206,12 @@ impl Pages {
         ensures this { self.pages ≡ result ∷ [] }
         ensures bytes { result.bytes ≡ bytes_of_pages self.pages }
     {
-        let Pages { mut pages, .. } = self;
+        let Pages {
+            page_size: _,
+            room: _,
+            len: _,
+            mut pages,
+        } = self;
         let page = pages.pop().unwrap();
         pages.destroy_empty();
         page

@@ -42,10 +42,16 @@ impl<S: Journaled> Model for Turn<S> {
 }
 
 /// The right to take turns as one caller. It holds no turn between two calls. Contracts see its lock, its caller, the prefix of the history that it has seen, and the fixed data.
-#[derive(Drop)]
 pub struct Pass<S: Journaled> {
     seat: TurnSeat<S>,
     caller: u32,
+}
+
+// By hand, so that it is one call wherever a pass is let go: a derived drop stands, with all its calls, at each such place.
+impl<S: Journaled + Drop> Drop for Pass<S> {
+    fn drop(self) {
+        let Pass { seat: _, caller: _ } = self;
+    }
 }
 
 impl<S: Journaled> Model for Pass<S> {
@@ -63,11 +69,21 @@ impl<S: Journaled> Model for Pass<S> {
 ///
 /// Contracts see its lock, how many passes it made and how many of them are out, the prefix of the history that it has seen,
 /// the fixed data, and the callers of the passes that it took back.
-#[derive(Drop)]
 pub struct Owner<S: Journaled> {
     seat: TurnSeat<S>,
     made: u32,
     out: u32,
+}
+
+// By hand, for the same.
+impl<S: Journaled + Drop> Drop for Owner<S> {
+    fn drop(self) {
+        let Owner {
+            seat: _,
+            made: _,
+            out: _,
+        } = self;
+    }
 }
 
 impl<S: Journaled> Model for Owner<S> {
@@ -159,6 +175,20 @@ impl<S: Journaled> Pass<S> {
     }
 }
 
+impl<S: Journaled> Pass<S> {
+    ghost use Rattle.turn_lock.specs.Told.{IsIdle};
+    ghost use Rattle.turn_lock.specs.Shown.{view_of_pass};
+
+    // Its seat, which is idle.
+    fn into_seat(self) -> TurnSeat<S>
+        ensures idle { IsIdle result.me self.caller }
+        ensures same { view_of_pass result self.caller ≡ self }
+    {
+        let Pass { seat, caller: _ } = self;
+        seat
+    }
+}
+
 impl<S: Journaled> Owner<S> {
     /// A new pass, which has seen what the owner has. Its caller is how many passes were made up to now, this one too, so no caller
     /// comes twice. After 1,024 passes there is none, whether they were taken back or not.
@@ -191,8 +221,12 @@ impl<S: Journaled> Owner<S> {
         ensures own { entries_by pass.caller self.new.seen ≡ entries_by pass.caller pass.seen }
         ensures before { (c : ℕ) → Contains self.old.kept c → entries_by c self.new.seen ≡ entries_by c self.old.seen }
     {
-        let Pass { seat, caller: _ } = pass;
-        take_in(&turn.table.shared, &mut self.seat, seat, self.made);
+        take_in(
+            &turn.table.shared,
+            &mut self.seat,
+            pass.into_seat(),
+            self.made,
+        );
         self.out -= 1;
     }
 

@@ -37,9 +37,15 @@ pub type Owner = turn_lock::Owner<Desk>;
 /// The history that a call finds is what the pass has seen, and then a gap of other callers' entries. The call's outcome is the
 /// desk's on the store of that history. Its event is entered at the end, under the pass's caller, exactly where it is done.
 /// Then the pass has seen all of it.
-#[derive(Drop)]
 pub struct SharedDesk {
     turn: Turn<Desk>,
+}
+
+// By hand, so that it is one call wherever a shared desk is let go: a derived drop stands, with all its calls, at each such place.
+impl Drop for SharedDesk {
+    fn drop(self) {
+        let SharedDesk { turn: _ } = self;
+    }
 }
 
 impl Model for SharedDesk {
@@ -110,7 +116,8 @@ impl SharedDesk {
         ensures all_kept { OnOk result ((c : ℕ) → 0 < c → c ≤ owner.made → Contains owner.kept c) }
         ensures no_other { IfOk result (λ desk. LacksUngiven owner.made (tagged desk.history)) }
     {
-        match owner.close(self.turn) {
+        let SharedDesk { turn } = self;
+        match owner.close(turn) {
             Ok(desk) => Ok(desk),
             Err(CloseRefused { turn, owner, out }) => Err(DeskOut {
                 desk: SharedDesk { turn },
