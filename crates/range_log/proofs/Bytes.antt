@@ -24,7 +24,7 @@ pub extent_is : EachExtentIs
 unfolding extents
 extent_is us k h = get_or-map-range_with_len (λ j. extent_of us j) 1 (length us) k (suc k) no_extent h (omega arith)
 
-content_append : (c : List ℕ) (xs ys : List Update) → content_from c (xs ++ ys) ≡ content_from (content_from c xs) ys
+pub content_append : (c : List ℕ) (xs ys : List Update) → content_from c (xs ++ ys) ≡ content_from (content_from c xs) ys
 content_append c [] ys = refl
 content_append c (x ∷ xs) ys = content_append (put c (offset_of x.place (length c)) x.bytes) xs ys
 

@@ -32,9 +32,9 @@ use Rattle.workload_law.specs.Closing.{OpeningHindered, OperationHindered}
 use Rattle.workload_law.proofs.Blobs.{event_updates, finish_accepted, some_is}
 use Rattle.workload_law.proofs.Cells.{cell_fits}
 use Rattle.workload_law.proofs.Grid.{grid_length, cell_length}
-use Rattle.workload_law.proofs.Lost.{outside_as, is_placed, append_ends}
+use Rattle.workload_law.proofs.Lost.{outside_as, append_ends}
 use Rattle.workload_law.proofs.Opened.{zeros, empty, made, log_of, log_there}
-use Rattle.workload_law.proofs.OneCaller.{legal_front, numbered_stays}
+use Rattle.workload_law.proofs.OneCaller.{legal_front, numbered_stays, is_placed}
 use Rattle.workload_law.proofs.OwnEvents.{gap_has_none, nobody_else}
 use Rattle.workload_law.proofs.GoingOn.{log_size, opening_legal, refused_when_full, beginnings_underway}
 use Rattle.workload_law.proofs.Records.{record_length}

@@ -4,13 +4,13 @@ use Rattle.std.specs.Prelude.{Option, Some, None}
 use Rattle.std.specs.List.{All, Contains, filter}
 use Rattle.std.proofs.Math.Nat.{div-mul-le_self}
 use Rattle.std.proofs.lemmas.Bool.{eq-eqb}
-use Rattle.std.proofs.lemmas.List.{length-append, length-drop, length-take, take_all, take-append-le, get_or_append_left, get_or-append-add}
+use Rattle.std.proofs.lemmas.List.{length-append, length-drop, length-take, take-append-le, get_or_append_left, get_or-append-add}
 use Rattle.std.proofs.lemmas.List.Elements.{All-nil, All-cons, All-filter, All-contains}
 use Rattle.blob_model.specs.Content.{Update, put, content_from, offset_of, size_of}
 use Rattle.blob_model.specs.Laws.{OldVersionsStay}
 use Rattle.blob_model.specs.Limits.{Bounds}
-use Rattle.blob_model.specs.Store.{Store, Blob, blob_at, assigned, size_now, and_update, empty_store}
-use Rattle.blob_model.specs.Answer.{answer, Answered, refuse}
+use Rattle.blob_model.specs.Store.{Store, Blob, blob_at, size_now, and_update, empty_store}
+use Rattle.blob_model.specs.Answer.{answer}
 use Rattle.blob_model.specs.History.{store_of, is_refused}
 use Rattle.blob_model.specs.declared.call.Call.TheVariants as Calls
 use Rattle.blob_model.specs.declared.call.Event.{Event}
@@ -18,18 +18,17 @@ use Rattle.blob_model.specs.declared.call.Event.TheVariants as Events
 use Rattle.blob_model.specs.declared.call.Outcome.TheVariants as Outcomes
 use Rattle.blob_model.specs.declared.call.Place.{Place}
 use Rattle.blob_model.specs.declared.call.Place.TheVariants.{Append}
-use Rattle.blob_model.specs.declared.call.Refusal.{Refusal}
-use Rattle.blob_model.specs.declared.call.Refusal.TheVariants as Refusals
 use Rattle.range_log.specs.Extents.{Extent, extent_at, touch_of}
 use Rattle.range_log.specs.Updates.{extents, update_at, no_update}
 use Rattle.range_log.specs.Rows.{folds_by, folds_of, folded_of, edge_pages}
-use Rattle.range_log.proofs.Bytes.{extent_is}
+use Rattle.range_log.proofs.Bytes.{extent_is, content_append}
 use Rattle.request_form.specs.Answers.{folds_in}
 use Rattle.request_form.specs.declared.form.Fault.{Fault}
 use Rattle.workload_law.specs.Ends.{IsOutside}
 use Rattle.workload_law.proofs.Appends.{put_end}
 use Rattle.workload_law.proofs.Blobs.{event_updates}
-use Rattle.workload_law.proofs.OneCaller.{store_of_both}
+use Rattle.workload_law.proofs.OneCaller.{store_of_both, IsPlaced, is_placed}
+use Rattle.workload_law.proofs.Summing.{whole_content}
 
 -- a fault of the outside is one still where more pages can be lost
 pub outside_as : (P Q : ℕ → Type 0) → ((page : ℕ) → P page → Q page) → (fault : Fault) → IsOutside P fault → IsOutside Q fault
@@ -83,29 +82,6 @@ module _ (us : List Update) (u : Update) (more : List Update) where
       extent_is among (length us) there
       ∙ (ap (λ (x : Update). let e : Extent = record { at = offset_of x.place (size_of among (length us)); len = length x.bytes } in e) update_is
       ∙ ap (λ (n : ℕ). let e : Extent = record { at = offset_of u.place n; len = length u.bytes } in e) size_before)
-
--- ---- what an accepted numbering tells
-pub record IsPlaced (s : Store) (blob : ℕ) (place : Place) (version at : ℕ) : Type 0 where
-  pub here : Blob
-  pub there : blob_at s blob ≡ Some here
-  pub next : version ≡ assigned here + 1
-  pub placed : at ≡ offset_of place (size_now here)
-
-unless_placed : (s : Store) (o : Option Refusal) (done : Answered) (version at size next from to : ℕ) → done.1 ≡ Outcomes.Assigned next from to
-    → (let a : Answered = elim o [ Some r ↦ refuse s r | None ↦ done ] in a).1 ≡ Outcomes.Assigned version at size → (version ≡ next) × (at ≡ from)
-unless_placed s (Some r) done version at size next from to is e = (let no : ⊥ = cc in absurd no)
-unless_placed s None done version at size next from to is e = (let same : Outcomes.Assigned next from to ≡ Outcomes.Assigned version at size = sym is ∙ e in (cc, cc))
-
-blob_placed : (s : Store) (blob : ℕ) (place : Place) (o : Option Blob) (f : Blob → Answered) (version at size : ℕ) → blob_at s blob ≡ o
-    → (let a : Answered = elim o [ None ↦ refuse s (Refusals.NoBlob blob) | Some b ↦ f b ] in a).1 ≡ Outcomes.Assigned version at size
-    → ((b : Blob) → (f b).1 ≡ Outcomes.Assigned version at size → (version ≡ assigned b + 1) × (at ≡ offset_of place (size_now b))) → IsPlaced s blob place version at
-blob_placed s blob place None f version at size is e each = (let no : ⊥ = cc in absurd no)
-blob_placed s blob place (Some b) f version at size is e each = record { here = b; there = is; next = (each b e).0; placed = (each b e).1 }
-
-pub is_placed : (s : Store) (caller blob : ℕ) (place : Place) (bytes : List ℕ) (version at size : ℕ) → (answer s caller (Calls.Assign blob place bytes)).1 ≡ Outcomes.Assigned version at size
-    → IsPlaced s blob place version at
-is_placed s caller blob place bytes version at size e =
-    blob_placed s blob place (blob_at s blob) _ version at size refl e (λ b e. unless_placed s _ _ version at size (assigned b + 1) (offset_of place (size_now b)) _ refl e)
 
 -- ---- a numbered update, once more events came
 module _ (stay : OldVersionsStay) (limits : Bounds) (caller blob : ℕ) (place : Place) (bytes : List ℕ) (version at size : ℕ) (before later : List Event)
@@ -167,15 +143,11 @@ content_grows : (c : List ℕ) (us : List Update) → length c ≤ length (conte
 content_grows c [] = omega arith
 content_grows c (u ∷ us) = let next : List ℕ = put c (offset_of u.place (length c)) u.bytes in omega (arith, put_grows c (offset_of u.place (length c)) u.bytes, content_grows next us)
 
-content_both : (c : List ℕ) (xs ys : List Update) → content_from c (xs ++ ys) ≡ content_from (content_from c xs) ys
-content_both c [] ys = refl
-content_both c (x ∷ xs) ys = content_both (put c (offset_of x.place (length c)) x.bytes) xs ys
-
 -- a blob is at least as long as its first updates left it
 pub size_grows : (us more : List Update) → length (content_from [] us) ≤ size_of (us ++ more) (length (us ++ more))
 size_grows us more =
     let whole : size_of (us ++ more) (length (us ++ more)) ≡ length (content_from (content_from [] us) more) =
-    ap (λ (l : List Update). length (content_from [] l)) (take_all (length (us ++ more)) (us ++ more) (omega arith)) ∙ ap (λ (l : List ℕ). length l) (content_both [] us more) in
+    ap (λ (l : List ℕ). length l) (whole_content (us ++ more)) ∙ ap (λ (l : List ℕ). length l) (content_append [] us more) in
     omega (arith, whole, content_grows (content_from [] us) more)
 
 -- what an append that was numbered makes of its blob is there once more events came
@@ -188,8 +160,8 @@ append_ends stay limits caller blob bytes version at size before later numbered 
     let us : List Update = placed.here.updates in
     let u : Update = record { caller = caller; place = Append; bytes = bytes } in
     let c : List ℕ = content_from [] us in
-    let first : at ≡ length c = placed.placed ∙ ap (λ (l : List Update). length (content_from [] l)) (take_all (length us) us (omega arith)) in
+    let first : at ≡ length c = placed.placed ∙ ap (λ (l : List ℕ). length l) (whole_content us) in
     let ends : length (content_from [] (us ++ u ∷ [])) ≡ length c + length bytes =
-    ap (λ (l : List ℕ). length l) (content_both [] us (u ∷ []) ∙ put_end c bytes) ∙ length-append c bytes in
+    ap (λ (l : List ℕ). length l) (content_append [] us (u ∷ []) ∙ put_end c bytes) ∙ length-append c bytes in
     let whole : size_now now ≡ size_of ((us ++ u ∷ []) ++ among_now.more) (length ((us ++ u ∷ []) ++ among_now.more)) = ap (λ (l : List Update). size_of l (length l)) among_now.updates in
     (now, among_now.there, omega (arith, size_grows (us ++ u ∷ []) among_now.more, whole, ends, first))

@@ -3,9 +3,9 @@ use Rattle.std.proofs.Common.{◌≡◌, ℕ, ◌+◌, ◌<◌, ◌≤◌, ◌==
 use Rattle.std.specs.Prelude.{Option, Some, None}
 use Rattle.std.proofs.lemmas.Bool.{eq-eqb}
 use Rattle.std.proofs.lemmas.List.{length-append}
-use Rattle.blob_model.specs.Content.{Update}
+use Rattle.blob_model.specs.Content.{Update, offset_of}
 use Rattle.blob_model.specs.Limits.{Bounds}
-use Rattle.blob_model.specs.Store.{Store, Blob, blob_at, assigned, empty_store}
+use Rattle.blob_model.specs.Store.{Store, Blob, blob_at, assigned, size_now, empty_store}
 use Rattle.blob_model.specs.Answer.{answer, Answered, refuse}
 use Rattle.blob_model.specs.History.{store_of, store_from, caller_of, call_of, IsLegal, IsLegalFrom}
 use Rattle.blob_model.specs.declared.call.Call.TheVariants as Calls
@@ -57,27 +57,39 @@ pub store_of_both : (s : Store) (xs ys : List Event) → store_from s (xs ++ ys)
 store_of_both s [] ys = refl
 store_of_both s (x ∷ xs) ys = store_of_both (answer s (caller_of x) (call_of x)).0 xs ys
 
--- ---- a numbering is of the next version of a blob that is there
-unless_numbers : (s : Store) (o : Option Refusal) (done : Answered) (version at size next at' size' : ℕ) → done.1 ≡ Outcomes.Assigned next at' size'
-    → (let a : Answered = elim o [ Some r ↦ refuse s r | None ↦ done ] in a).1 ≡ Outcomes.Assigned version at size → version ≡ next
-unless_numbers s (Some r) done version at size next at' size' is e = (let no : ⊥ = cc in absurd no)
-unless_numbers s None done version at size next at' size' is e = cc
+-- ---- a numbering is of the next version of a blob that is there, and falls where its place says
+pub record IsPlaced (s : Store) (blob : ℕ) (place : Place) (version at : ℕ) : Type 0 where
+  pub here : Blob
+  pub there : blob_at s blob ≡ Some here
+  pub next : version ≡ assigned here + 1
+  pub placed : at ≡ offset_of place (size_now here)
+
+unless_placed : (s : Store) (o : Option Refusal) (done : Answered) (version at size next from to : ℕ) → done.1 ≡ Outcomes.Assigned next from to
+    → (let a : Answered = elim o [ Some r ↦ refuse s r | None ↦ done ] in a).1 ≡ Outcomes.Assigned version at size → (version ≡ next) × (at ≡ from)
+unless_placed s (Some r) done version at size next from to is e = (let no : ⊥ = cc in absurd no)
+unless_placed s None done version at size next from to is e = (let same : Outcomes.Assigned next from to ≡ Outcomes.Assigned version at size = sym is ∙ e in (cc, cc))
+
+blob_placed : (s : Store) (blob : ℕ) (place : Place) (o : Option Blob) (f : Blob → Answered) (version at size : ℕ) → blob_at s blob ≡ o
+    → (let a : Answered = elim o [ None ↦ refuse s (Refusals.NoBlob blob) | Some b ↦ f b ] in a).1 ≡ Outcomes.Assigned version at size
+    → ((b : Blob) → (f b).1 ≡ Outcomes.Assigned version at size → (version ≡ assigned b + 1) × (at ≡ offset_of place (size_now b))) → IsPlaced s blob place version at
+blob_placed s blob place None f version at size is e each = (let no : ⊥ = cc in absurd no)
+blob_placed s blob place (Some b) f version at size is e each = record { here = b; there = is; next = (each b e).0; placed = (each b e).1 }
+
+pub is_placed : (s : Store) (caller blob : ℕ) (place : Place) (bytes : List ℕ) (version at size : ℕ) → (answer s caller (Calls.Assign blob place bytes)).1 ≡ Outcomes.Assigned version at size
+    → IsPlaced s blob place version at
+is_placed s caller blob place bytes version at size e =
+    blob_placed s blob place (blob_at s blob) _ version at size refl e (λ b e. unless_placed s _ _ version at size (assigned b + 1) (offset_of place (size_now b)) _ refl e)
 
 pub record IsNext (s : Store) (blob version : ℕ) : Type 0 where
   pub here : Blob
   pub there : blob_at s blob ≡ Some here
   pub next : version ≡ assigned here + 1
 
-blob_numbers : (s : Store) (blob : ℕ) (o : Option Blob) (f : Blob → Answered) (version at size : ℕ) → blob_at s blob ≡ o
-    → (let a : Answered = elim o [ None ↦ refuse s (Refusals.NoBlob blob) | Some b ↦ f b ] in a).1 ≡ Outcomes.Assigned version at size
-    → ((b : Blob) → (f b).1 ≡ Outcomes.Assigned version at size → version ≡ assigned b + 1) → IsNext s blob version
-blob_numbers s blob None f version at size is e each = (let no : ⊥ = cc in absurd no)
-blob_numbers s blob (Some b) f version at size is e each = record { here = b; there = is; next = each b e }
-
 pub is_next : (s : Store) (caller blob : ℕ) (place : Place) (bytes : List ℕ) (version at size : ℕ) → (answer s caller (Calls.Assign blob place bytes)).1 ≡ Outcomes.Assigned version at size
     → IsNext s blob version
 is_next s caller blob place bytes version at size e =
-    blob_numbers s blob (blob_at s blob) _ version at size refl e (λ b e. unless_numbers s _ _ version at size (assigned b + 1) _ _ refl e)
+    let it : IsPlaced s blob place version at = is_placed s caller blob place bytes version at size e in
+    record { here = it.here; there = it.there; next = it.next }
 
 some_same : (o : Option Blob) (a b : Blob) → o ≡ Some a → o ≡ Some b → a ≡ b
 some_same o a b p q = cc
