@@ -1,6 +1,5 @@
 -- What several workers did together.
 use Rattle.std.proofs.Common.{◌≡◌, ℕ, ◌+◌, ◌-◌, ◌<◌, [], ◌∷◌, ◌++◌, length, refl, sym, subst, arith, length-append}
-use Rattle.std.specs.List.{All}
 use Rattle.std.proofs.lemmas.List.Elements.{All-nil, All-cons, All-append, All-push}
 use Rattle.blob_server.specs.declared.tally.Tally.{Tally}
 use Rattle.blob_server.specs.Tallies.{all_parts, tally, both, after_put, after_take}

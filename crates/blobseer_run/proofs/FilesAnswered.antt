@@ -1,5 +1,5 @@
 -- A file session alone has a reply to each line for which the outside doesn't fail and which leaves it as it is, so that its answers to some lines go on to all.
-use Rattle.std.proofs.Common.{◌≡◌, ℕ, ◌+◌, ◌==◌, Bool, true, false, if◌then◌else◌, List, [], ◌∷◌, ◌++◌, length, Option, Some, None, Result, Ok, Err, refl, sym, ap, subst, ◌∙◌, append-nil, arith}
+use Rattle.std.proofs.Common.{◌≡◌, ℕ, ◌+◌, ◌==◌, Bool, true, false, if◌then◌else◌, List, [], ◌∷◌, ◌++◌, length, Option, Some, None, Result, Ok, Err, refl, sym, ap, subst, append-nil, arith}
 use Rattle.std.specs.Prelude.{nat_lt}
 use Rattle.std.proofs.lemmas.Option.{none-some}
 use Rattle.item_stream.specs.Rounds.{Rounds, sum_rounds}
@@ -20,7 +20,7 @@ use Rattle.request_form.specs.declared.form.Reply.{Reply}
 use Rattle.request_form.specs.declared.form.Reply.TheVariants as Replies
 use Rattle.request_form.specs.declared.form.Fault.{Fault}
 use Rattle.request_form.specs.declared.form.Fault.TheVariants as Faults
-use Rattle.file_names.specs.Tree.{NameLog, Lists, ListsNamed, named_at, blob_at, stat_at, enter_fault}
+use Rattle.file_names.specs.Tree.{NameLog, ListsNamed, named_at, blob_at, stat_at, enter_fault}
 use Rattle.file_names.specs.declared.tree.Named.{Named}
 use Rattle.file_names.specs.declared.tree.Named.TheVariants as Nameds
 use Rattle.file_names.specs.declared.tree.Stat.{Stat}
@@ -38,7 +38,7 @@ use Rattle.file_text.specs.declared.form.FileReply.TheVariants as Says
 use Rattle.file_text.specs.declared.form.FileFault.TheVariants as FileFaults
 use Rattle.file_text.specs.declared.form.FileHeard.{FileHeard}
 use Rattle.file_text.specs.declared.form.FileHeard.TheVariants.{Asked, Wrong}
-use Rattle.file_layer.specs.Files.{Files, nobody, with_names, with_store, LooksAtNames, AsksStore, AsksOf, OnBlob, MakesFile, OnFree, OnRecent, OnStat, WhereAnswer, FileItemReply, enter_refused, find_refused, recent_reply, store_fault}
+use Rattle.file_layer.specs.Files.{Files, nobody, with_names, with_store, LooksAtNames, AsksStore, AsksOf, OnBlob, MakesFile, OnFree, OnStat, WhereAnswer, FileItemReply, enter_refused, find_refused, recent_reply, store_fault}
 use Rattle.file_layer.specs.Faults.{file_fault_count, found_faults, file_item_faults}
 
 -- ---- a line and a reply that changes nothing

@@ -1,6 +1,6 @@
 -- What a file session wrote, from what its stream says, and how it ended then.
 use Rattle.std.proofs.Common.{◌≡◌, ◌∙◌, ℕ, ◌+◌, ◌-◌, ◌^◌, ◌<◌, ◌≤◌, min, true, false, List, [], ◌++◌, length, flat_map, refl, sym, ap, subst, inl, inr, arith, append_assoc, append-nil, length-append}
-use Rattle.std.specs.Prelude.{◌⊎◌, Option}
+use Rattle.std.specs.Prelude.{◌⊎◌}
 use Rattle.std.proofs.lemmas.Bool.{false≢true}
 use Rattle.std.proofs.lemmas.Grind.{flat_map-append}
 use Rattle.faults.specs.Counts.{RoseBy}
@@ -19,7 +19,7 @@ use Rattle.file_text.proofs.Hearing.{files_not_cut, files_well, whole_files_well
 use Rattle.file_text.specs.Said.{said}
 use Rattle.file_text.specs.declared.form.FileHeard.{FileHeard}
 use Rattle.file_text.specs.declared.form.FileReply.{FileReply}
-use Rattle.file_layer.specs.Files.{Files, among_others, nobody, FileItemReply}
+use Rattle.file_layer.specs.Files.{Files, nobody, FileItemReply}
 use Rattle.file_layer.specs.Faults.{file_item_faults}
 use Rattle.file_layer.specs.Laws.{AllBy, SeesOwn}
 use Rattle.file_layer.specs.Served.{file_talk, is_last}
@@ -28,8 +28,8 @@ use Rattle.file_layer.proofs.Mapped.{answered_by_map}
 use Rattle.blobseer_run.specs.declared.status.Status.{Status}
 use Rattle.blobseer_run.specs.declared.status.Status.TheVariants as Statuses
 use Rattle.blobseer_run.specs.Outside.{Outside}
-use Rattle.blobseer_run.specs.Conversation.{input_limit, status_after, Dialogue, IsDue, Ended, Conversed}
-use Rattle.blobseer_run.specs.Filing.{first_files, AnsweredAlone, Says, lines, DidFiles, ServedByOne}
+use Rattle.blobseer_run.specs.Conversation.{input_limit, status_after, Dialogue, IsDue, Ended}
+use Rattle.blobseer_run.specs.Filing.{first_files, Says, lines, DidFiles, ServedByOne}
 use Rattle.blobseer_run.specs.Status.{code_of}
 use Rattle.blobseer_run.proofs.Conversations.{input_of, conversed_with, conversed_none}
 use Rattle.blobseer_run.proofs.FilesAnswered.{Answered, idle_rounds, joined}

@@ -1,5 +1,5 @@
 -- What a file session was served, from what the store and the names say that were closed behind it.
-use Rattle.std.proofs.Common.{◌≡◌, ◌⊎◌, ℕ, ◌==◌, Bool, true, false, cond, if◌then◌else◌, nat_lt, List, [], ◌∷◌, ◌++◌, length, sum_by, zero, suc, refl, sym, ◌∙◌, ap, subst, inl, inr, arith}
+use Rattle.std.proofs.Common.{◌≡◌, ◌⊎◌, ℕ, ◌==◌, Bool, true, false, cond, if◌then◌else◌, nat_lt, List, [], ◌∷◌, length, sum_by, zero, suc, refl, sym, ◌∙◌, ap, subst, inl, inr, arith}
 use Rattle.std.specs.Prelude.{Option}
 use Rattle.std.proofs.lemmas.Bool.{false≢true}
 use Rattle.std.proofs.lemmas.Bool.Decides.{nat_tests}
@@ -13,7 +13,7 @@ use Rattle.turn_lock.specs.History.{Log, LacksUngiven, IsUngiven, entries_by, lo
 use Rattle.turn_lock.specs.Shown.{PassView}
 use Rattle.version_manager.specs.Log.{tagged, events}
 use Rattle.version_manager.specs.declared.journal.DeskFixed.{DeskFixed}
-use Rattle.client_session.specs.Sessions.{StoreState, SessionState, session_at, session_of, pass_of}
+use Rattle.client_session.specs.Sessions.{StoreState, session_at, pass_of}
 use Rattle.server_core.specs.Conversed.{Input}
 use Rattle.server_core.specs.declared.flow.End.{End}
 use Rattle.server_core.specs.declared.flow.End.TheVariants as Ends

@@ -22,7 +22,7 @@ use Rattle.blob_model.specs.declared.call.Outcome.TheVariants as Outcomes
 use Rattle.blob_model.specs.declared.call.Refusal.{Refusal}
 use Rattle.blob_model.specs.declared.call.Refusal.TheVariants as Refusals
 use Rattle.request_form.specs.Session.{Fixed, Session, HeldTicket, IsNobody, sees, holds, ticket_at, without_ticket, drops, without_version, lets_go, takes_up_to}
-use Rattle.request_form.specs.Answers.{Updated, HeldBack, Started, CreateAnswer, UpdateAnswer, WholeUpdate, FinishHindered, ReportAnswer, FinishAnswer, BranchAnswer, ReadAnswer, ReadManyAnswer, RepairAnswer, LookAnswer, Unless, update_fault, read_fault, ranges_fault, Answers}
+use Rattle.request_form.specs.Answers.{Updated, Started, CreateAnswer, UpdateAnswer, WholeUpdate, FinishHindered, ReportAnswer, FinishAnswer, BranchAnswer, ReadAnswer, ReadManyAnswer, RepairAnswer, LookAnswer, Unless, update_fault, read_fault, ranges_fault, Answers}
 use Rattle.request_form.specs.HangUp.{AllNumbered}
 use Rattle.request_form.specs.Transcript.{ItemReply, Run, first_session}
 use Rattle.request_form.specs.declared.form.Request.{Request}

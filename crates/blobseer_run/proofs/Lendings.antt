@@ -1,5 +1,5 @@
 -- The doors that were made for a command came back.
-use Rattle.std.proofs.Common.{◌≡◌, ◌⊎◌, inl, inr, ℕ, ◌+◌, ◌*◌, ◌≤◌, arith, refl, sym, ◌∙◌, ap, subst}
+use Rattle.std.proofs.Common.{◌≡◌, inl, inr, ℕ, ◌+◌, ◌*◌, arith, refl, sym, ap, subst}
 use Rattle.std.specs.Prelude.{Err}
 use Rattle.page_store.specs.Calls.{Traffic, no_door, AllCameBack}
 use Rattle.store_sessions.proofs.Traffics.{went_back}

@@ -1,5 +1,5 @@
 -- What a node wrote, from what the stream's loop says, and how it ended then.
-use Rattle.std.proofs.Common.{◌≡◌, ◌∙◌, ℕ, ◌+◌, ◌<◌, true, false, List, [], ◌∷◌, ◌++◌, length, flat_map, refl, sym, ap, subst, inl, inr, arith, append_assoc, append-nil, length-append}
+use Rattle.std.proofs.Common.{◌≡◌, ◌∙◌, ℕ, ◌+◌, ◌<◌, true, List, [], ◌∷◌, ◌++◌, length, flat_map, refl, sym, ap, subst, inl, inr, arith, append_assoc, append-nil, length-append}
 use Rattle.std.specs.Prelude.{◌⊎◌}
 use Rattle.std.proofs.lemmas.Grind.{flat_map-append}
 use Rattle.faults.specs.Counts.{RoseBy}
@@ -17,7 +17,7 @@ use Rattle.page_node.specs.Transcript as Nodes
 use Rattle.blobseer_run.specs.declared.status.Status.{Status}
 use Rattle.blobseer_run.specs.declared.status.Status.TheVariants as Statuses
 use Rattle.blobseer_run.specs.Outside.{Outside}
-use Rattle.blobseer_run.specs.Conversation.{input_limit, status_after, IsDue, Ended, Conversed}
+use Rattle.blobseer_run.specs.Conversation.{input_limit, status_after, IsDue, Ended}
 use Rattle.blobseer_run.specs.Node.{Says, frames, new_node, DidNode}
 use Rattle.blobseer_run.specs.Status.{code_of}
 use Rattle.blobseer_run.proofs.Conversations.{input_of, conversed_with, conversed_none}

@@ -1,8 +1,8 @@
 -- What a run wrote, from what the stream's loop says, and how it ended then.
-use Rattle.std.proofs.Common.{◌≡◌, ℕ, ◌+◌, ◌-◌, ◌^◌, ◌<◌, ◌≤◌, min, true, false, List, [], length, sum_by, refl, sym, ◌∙◌, ap, subst, inl, inr, arith}
+use Rattle.std.proofs.Common.{◌≡◌, ℕ, ◌+◌, ◌-◌, ◌^◌, ◌<◌, ◌≤◌, min, true, false, List, [], length, sum_by, refl, sym, ◌∙◌, subst, inl, inr, arith}
 use Rattle.std.proofs.lemmas.Bool.{false≢true}
 use Rattle.std.proofs.lemmas.List.Sums.{sum_by-cons}
-use Rattle.std.specs.Prelude.{◌∷◌, ◌⊎◌}
+use Rattle.std.specs.Prelude.{◌∷◌}
 use Rattle.faults.specs.Counts.{RoseBy}
 use Rattle.request_form.specs.Session.{Fixed, AllOwn}
 use Rattle.request_form.specs.Stream.{AllWellHeard}
@@ -19,7 +19,7 @@ use Rattle.blobseer_run.specs.declared.status.Status.{Status}
 use Rattle.blobseer_run.specs.declared.status.Status.TheVariants as Statuses
 use Rattle.blobseer_run.specs.Legal.{LegalAlone, faults_alone}
 use Rattle.blobseer_run.specs.Outside.{Outside}
-use Rattle.blobseer_run.specs.Conversation.{input_limit, status_after, Dialogue, IsDue, Ended, Conversed}
+use Rattle.blobseer_run.specs.Conversation.{input_limit, status_after, Dialogue, IsDue, Ended}
 use Rattle.blobseer_run.specs.Script.{IsCalm, Says, script, DidRun}
 use Rattle.blobseer_run.specs.Serving.{ServedByOne}
 use Rattle.blobseer_run.specs.Status.{code_of}

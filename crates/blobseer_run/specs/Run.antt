@@ -1,5 +1,5 @@
 -- What a run promises: from the words and the bytes that came in to the bytes that went out.
-use Rattle.std.specs.Prelude.{◌≡◌, ◌≢◌, ◌↔◌, ℕ, Bool, true, false, List, Option, None}
+use Rattle.std.specs.Prelude.{◌≡◌, ◌≢◌, ◌↔◌, ℕ, Bool, true, false, List, None}
 use Rattle.faults.specs.Counts.{RoseBy}
 use Rattle.ports.specs.Files.{Files}
 use Rattle.settings.specs.declared.table.Command.{Command}

@@ -1,5 +1,5 @@
 -- The store that a command works with.
-use Rattle.std.specs.Prelude.{◌≡◌, ℕ, []}
+use Rattle.std.specs.Prelude.{◌≡◌, []}
 use Rattle.blob_model.specs.Limits.{Bounds}
 use Rattle.blob_model.specs.declared.call.Event.{Event}
 use Rattle.turn_lock.specs.Shown.{OwnerView}

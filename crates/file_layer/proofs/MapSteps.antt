@@ -46,7 +46,7 @@ use Rattle.file_text.specs.declared.form.FileHeard.{FileHeard}
 use Rattle.file_text.specs.declared.form.FileHeard.TheVariants.{Asked, Wrong}
 use Rattle.file_text.specs.Lines.{IsWellHeard, AllWellHeard}
 use Rattle.file_layer.specs.Files.{Files, nobody, with_store, with_names, LooksAtNames, EntersNames, AsksOf, OnBlob, OnFile, MkdirAnswer, MakesFile, OnFree, OnRecent, OnStat, WhereAnswer, TellsWhere, FileAnswers, FileItemReply, file_reply, recent_reply, store_fault, enter_refused, entered_reply, list_reply}
-use Rattle.file_layer.specs.PathMap.{Thing, HeldAppend, PathMap, thing_in, thing_at, put_in, held_in, without_held, and_thing, and_held, and_dropped, puts, new_file, new_fault, bytes_fault, append_refusal, read_refusal, folds_at, appended, SaysFault, UnlessFault, FolderSays, FileSays, MakeSays, AppendSays, ReadSays, WhereSays, FinishSays, HeldSays, TicketSays, AtFile, MapAnswers, MapItemReply}
+use Rattle.file_layer.specs.PathMap.{Thing, HeldAppend, PathMap, thing_at, put_in, held_in, without_held, and_thing, and_held, puts, new_file, new_fault, bytes_fault, append_refusal, read_refusal, folds_at, appended, SaysFault, UnlessFault, FolderSays, FileSays, MakeSays, AppendSays, ReadSays, WhereSays, FinishSays, HeldSays, TicketSays, AtFile, MapAnswers, MapItemReply}
 use Rattle.file_layer.specs.PathMap as Maps
 use Rattle.file_layer.proofs.PathMaps.{Things, names_of, Keeps, found, looked, blob_is, fault_is, stat_is, list_is, put_names, in_things, puts_keep}
 use Rattle.file_layer.proofs.StoreTells.{goes, stops, not_past, offset_first, size_sum}

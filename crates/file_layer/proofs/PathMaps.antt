@@ -10,7 +10,7 @@ use Rattle.std.proofs.lemmas.Option.{none-some, same_Some}
 use Rattle.blob_model.specs.Store.{Blob}
 use Rattle.file_names.specs.Paths.{is_root, parent_of, child_of}
 use Rattle.file_names.specs.Tree as Tree
-use Rattle.file_names.specs.Tree.{NameLog, IsListing, ListsNamed, entered_at, named_at, fault_under, enter_fault, blob_at, blob_named, stat_at, stat_of, entries_in, listed_as, most_names}
+use Rattle.file_names.specs.Tree.{NameLog, IsListing, ListsNamed, entered_at, named_at, fault_under, enter_fault, blob_at, blob_named, stat_at, stat_of, entries_in, most_names}
 use Rattle.file_names.specs.declared.tree.Named.{Named}
 use Rattle.file_names.specs.declared.tree.Named.TheVariants as Nameds
 use Rattle.file_names.specs.declared.tree.Entered.{Entered}

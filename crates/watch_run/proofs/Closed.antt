@@ -1,36 +1,35 @@
 -- What a watch came to, and why it ended early, once its store is closed.
-use Rattle.std.proofs.Common.{◌≡◌, ◌≢◌, ◌⊎◌, inl, inr, ℕ, zero, suc, ◌+◌, ◌*◌, ◌-◌, ◌^◌, ◌<◌, ◌≤◌, ◌==◌, Bool, true, false, List, [], ◌∷◌, ◌++◌, length, refl, sym, ap, subst, ◌∙◌, append_assoc, append-nil, arith, Contains}
+use Rattle.std.proofs.Common.{◌≡◌, ◌≢◌, ◌⊎◌, inl, inr, ℕ, zero, suc, ◌+◌, ◌*◌, ◌-◌, ◌<◌, ◌≤◌, ◌==◌, Bool, true, false, List, [], ◌∷◌, ◌++◌, refl, sym, ap, subst, ◌∙◌, append_assoc, append-nil, arith, Contains}
 use Rattle.std.specs.Prelude.{Option, Some, None, Result, Ok, Err}
 use Rattle.std.proofs.lemmas.Bool.{eq-eqb, eqb-true, true≢false}
 use Rattle.std.proofs.lemmas.List.{append_cancel_left}
 use Rattle.std.proofs.lemmas.List.Elements.{filter-append}
-use Rattle.blob_model.specs.Content.{Update, size_of}
+use Rattle.blob_model.specs.Content.{size_of}
 use Rattle.blob_model.specs.Limits.{Bounds, greatest}
-use Rattle.blob_model.specs.Store.{Blob, blob_at, published, empty_store}
+use Rattle.blob_model.specs.Store.{Blob, blob_at, empty_store}
 use Rattle.blob_model.specs.Answer.{answer}
 use Rattle.blob_model.specs.History.{store_of, caller_of, events_by, IsLegal, is_refused}
 use Rattle.blob_model.specs.declared.call.Call.TheVariants as Calls
 use Rattle.blob_model.specs.declared.call.Event.{Event}
 use Rattle.blob_model.specs.declared.call.Event.TheVariants as Events
-use Rattle.blob_model.specs.declared.call.Outcome.{Outcome}
 use Rattle.blob_model.specs.declared.call.Outcome.TheVariants as Outcomes
 use Rattle.blob_model.specs.declared.call.Place.TheVariants.{Append}
-use Rattle.turn_lock.specs.History.{entries_by, Begins, LacksUngiven}
+use Rattle.turn_lock.specs.History.{Begins, LacksUngiven}
 use Rattle.turn_lock.proofs.Histories.{begins_both}
-use Rattle.version_manager.specs.Desks.{updates_in, published_in, updates_or_none, published_or_none}
-use Rattle.version_manager.specs.Log.{tagged, events, desk_at}
+use Rattle.version_manager.specs.Desks.{updates_or_none, published_or_none}
+use Rattle.version_manager.specs.Log.{tagged, events}
 use Rattle.version_manager.specs.Laws.{EntriesAreEvents}
 use Rattle.version_manager.specs.declared.journal.DeskFixed.{DeskFixed}
 use Rattle.request_form.specs.Answers.{max_read}
 use Rattle.request_form.specs.declared.form.Fault.{Fault}
-use Rattle.workload_law.specs.Ends.{IsOutside, NoPage, AnyPage, UpdateHindered, CreateHindered, RefusedAt}
+use Rattle.workload_law.specs.Ends.{IsOutside, NoPage, AnyPage, UpdateHindered, CreateHindered}
 use Rattle.workload_law.proofs.Closing.{nobodys_are_none}
 use Rattle.workload_law.proofs.Lost.{outside_as}
 use Rattle.workload_law.proofs.OneCaller.{legal_front}
 use Rattle.update_work.proofs.Returns.{none_by, events_append, no_front}
 use Rattle.watch_law.specs.declared.plan.WatchPlan.{WatchPlan}
 use Rattle.watch_law.specs.declared.plan.WatchSummary.{WatchSummary}
-use Rattle.watch_law.specs.Watch.{IsSized, piece_of, HasWritten, HaveCome, IsUnderway, IsWatch, summary_of}
+use Rattle.watch_law.specs.Watch.{IsSized, piece_of, HaveCome, IsUnderway, IsWatch, summary_of}
 use Rattle.watch_law.specs.Laws.{ComeTogether, WatchesAreDone, BlobsAreThere, NothingElseHinders, IsDone}
 use Rattle.watch_run.specs.Stages.{Entries, Owner, IsUnopened, IsWatched}
 use Rattle.watch_run.specs.Ending.{IsSeenLast, HasWrittenAll, EndsBy, WatchEnds, TellsWatch}

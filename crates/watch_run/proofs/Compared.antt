@@ -1,12 +1,12 @@
 -- What the readers of a watch read in the end.
-use Rattle.std.proofs.Common.{◌≡◌, ◌≢◌, ◌⊎◌, inl, inr, ℕ, zero, suc, ◌+◌, ◌<◌, ◌≤◌, Bool, true, false, if◌then◌else◌, List, [], ◌∷◌, ◌++◌, length, take, refl, sym, ap, subst, ◌∙◌, append_assoc, arith}
+use Rattle.std.proofs.Common.{◌≡◌, ℕ, ◌+◌, ◌≤◌, Bool, true, false, if◌then◌else◌, List, [], ◌∷◌, ◌++◌, length, take, refl, sym, ap, subst, ◌∙◌, append_assoc, arith}
 use Rattle.std.specs.Prelude.{Option, Some, None, Result, Ok, Err, nat_lt}
 use Rattle.std.proofs.lemmas.Bool.Decides.{nat_tests}
 use Rattle.std.proofs.lemmas.List.{take_all}
 use mathlib.Core.List.{IsPrefix}
-use Rattle.blob_model.specs.Content.{Update, content, size_of}
+use Rattle.blob_model.specs.Content.{content, size_of}
 use Rattle.blob_model.specs.Store.{Store, Blob, blob_at, published}
-use Rattle.blob_model.specs.Answer.{answer, Answered, Test, bytes_of, in_blob, unless_refused, not_published, range_past_size, refuse}
+use Rattle.blob_model.specs.Answer.{Answered, Test, bytes_of, unless_refused, not_published, range_past_size}
 use Rattle.blob_model.specs.History.{store_of, AllOther}
 use Rattle.blob_model.specs.declared.call.Call.TheVariants as Calls
 use Rattle.blob_model.specs.declared.call.Event.{Event}
@@ -19,16 +19,15 @@ use Rattle.turn_lock.proofs.Histories.{begins_both}
 use Rattle.version_manager.specs.Desks.{updates_in, updates_or_none}
 use Rattle.version_manager.specs.Log.{desk_at, events}
 use Rattle.version_manager.specs.declared.journal.DeskFixed.{DeskFixed}
-use Rattle.request_form.specs.Answers.{Unless, ReadAnswer, Answers, read_fault, max_read}
-use Rattle.request_form.specs.PublishedReads.{IsPublishedIn, Range, Tells, read_outcome}
+use Rattle.request_form.specs.Answers.{Unless, ReadAnswer, Answers, max_read}
+use Rattle.request_form.specs.PublishedReads.{IsPublishedIn, Tells, read_outcome}
 use Rattle.request_form.specs.Replies.{reply_of, fault_of}
 use Rattle.request_form.specs.Session.{Session}
 use Rattle.request_form.specs.declared.form.Request.TheVariants as Requests
-use Rattle.request_form.specs.declared.form.Reply.{Reply}
 use Rattle.request_form.specs.declared.form.Reply.TheVariants as Replies
 use Rattle.request_form.specs.declared.form.Fault.{Fault}
 use Rattle.request_form.specs.declared.form.Fault.TheVariants as Faults
-use Rattle.client_session.specs.Opening.{ReadsRange, RangeCause}
+use Rattle.client_session.specs.Opening.{RangeCause}
 use Rattle.client_session.specs.Results.{read_reply}
 use Rattle.client_session.specs.Sessions.{SessionState, StoreState, session_of, Continues, AnswersAsPublished}
 use Rattle.read_board.specs.declared.refresh.Refresh.{Refresh}

@@ -1,15 +1,11 @@
 -- Readers that are made, and that have read.
-use Rattle.std.proofs.Common.{◌≡◌, ℕ, ◌+◌, ◌-◌, ◌^◌, ◌<◌, ◌≤◌, List, [], ◌∷◌, ◌++◌, length, refl, sym, ap, subst, ◌∙◌, arith, get_or}
-use Rattle.std.specs.Prelude.{Result, Ok, Err, All, IfOk, IfErr, sum_by, slice_index_or}
+use Rattle.std.proofs.Common.{◌≡◌, ℕ, ◌-◌, ◌<◌, ◌≤◌, List, [], length, refl, sym, subst, ◌∙◌, arith, get_or}
+use Rattle.std.specs.Prelude.{Result, Ok, Err, All, IfOk, IfErr}
 use Rattle.blob_model.specs.History.{events_by}
 use Rattle.version_manager.specs.Log.{events}
-use Rattle.request_form.specs.declared.form.Fault.{Fault}
 use Rattle.client_session.specs.Sessions.{StoreState, SessionState}
 use Rattle.read_board.specs.Fronts.{BoardId}
-use Rattle.workload_law.specs.Ends.{IsOutside}
-use Rattle.update_work.specs.Updates.{told_faults}
 use Rattle.watch_run.specs.Idling.{Idles}
-use Rattle.update_work.specs.Callers.{Told}
 use Rattle.watch_run.specs.Readers.{WatcherState, HasWatched, HaveWatched}
 use Rattle.watch_run.specs.Stages.{IsIdle}
 use Rattle.watch_run.specs.Crews.{IsEndable, IsReadyToWatch, IsDoneWatching}

@@ -6,7 +6,7 @@ use Rattle.page_store.specs.Calls.{Traffic, no_door, AllCameBack}
 use Rattle.request_form.specs.declared.form.Fault.{Fault}
 use Rattle.store_sessions.specs.Lent.{LentDoors}
 use Rattle.store_sessions.proofs.Traffics.{traffic_both, came_back_around}
-use Rattle.watch_run.specs.Doors.{SessionsEnd, DoorsEnd, EndDoors, SessionsLent, LentSessions}
+use Rattle.watch_run.specs.Doors.{SessionsEnd, DoorsEnd, EndDoors, LentSessions}
 
 some_stop : (fault : Fault) → Some fault ≡ None → ⊥
 some_stop fault is = cc

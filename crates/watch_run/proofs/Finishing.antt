@@ -1,28 +1,23 @@
 -- What the last session read, and what comes then.
-use Rattle.std.proofs.Common.{◌≡◌, ◌⊎◌, inl, inr, ℕ, zero, suc, ◌+◌, ◌<◌, ◌≤◌, List, [], ◌∷◌, ◌++◌, length, refl, sym, ap, subst, ◌∙◌, arith}
-use Rattle.std.specs.Prelude.{Option, Some, None, Result, Ok, Err}
-use Rattle.blob_model.specs.Content.{Update, content, size_of}
-use Rattle.blob_model.specs.Limits.{greatest}
+use Rattle.std.proofs.Common.{◌≡◌, ℕ, ◌≤◌, List, length, refl, sym, ap, subst, ◌∙◌, arith}
+use Rattle.std.specs.Prelude.{Option, Some}
+use Rattle.blob_model.specs.Content.{size_of}
 use Rattle.blob_model.specs.Store.{Blob, blob_at, published}
 use Rattle.blob_model.specs.History.{store_of}
-use Rattle.blob_model.specs.declared.call.Event.{Event}
 use Rattle.turn_lock.specs.History.{Begins}
 use Rattle.turn_lock.proofs.Histories.{begins_both}
 use Rattle.version_manager.specs.Desks.{updates_in, published_in, published_or_none}
 use Rattle.version_manager.specs.Log.{events, desk_at}
 use Rattle.version_manager.specs.declared.journal.DeskFixed.{DeskFixed}
-use Rattle.request_form.specs.Answers.{max_read}
 use Rattle.request_form.specs.PublishedReads.{IsPublishedIn}
 use Rattle.request_form.specs.declared.form.Fault.{Fault}
 use Rattle.client_session.specs.Sessions.{StoreState, SessionState}
 use Rattle.read_board.specs.declared.refresh.Refresh.{Refresh}
 use Rattle.read_board.specs.Keeping.{KeeperState}
 use Rattle.read_board.specs.Refreshes.{version_of, on_board}
-use Rattle.read_board.specs.Refreshing.{Holds, IsRecent}
-use Rattle.watch_law.specs.declared.plan.WatchSummary.{WatchSummary}
 use Rattle.watch_run.specs.declared.last.Last.{Last}
-use Rattle.watch_run.specs.Agreeing.{IsVersionIn, IsToldBy, IsSeenIn, IsSeenBy}
-use Rattle.watch_run.specs.Ending.{IsSeenLast, HasReadBack, HasFinished, FinishHindered, Finishes}
+use Rattle.watch_run.specs.Agreeing.{IsVersionIn, IsToldBy, IsSeenIn}
+use Rattle.watch_run.specs.Ending.{IsSeenLast, HasReadBack, HasFinished, FinishHindered}
 use Rattle.watch_run.specs.Lasts.{updates_seen, IsLast, LastHindered}
 use Rattle.watch_run.specs.Stages.{Entries, Owner, LeavesWatch}
 use Rattle.watch_run.proofs.Stages.{leaves_both}

@@ -1,12 +1,11 @@
 -- Sessions that enter nothing, and readers.
-use Rattle.std.proofs.Common.{◌≡◌, ℕ, Bool, true, false, List, [], ◌++◌, refl, sym, ap, subst, ◌∙◌, append-nil}
-use Rattle.std.specs.Prelude.{Option, Some, None, Result, Ok, Err}
+use Rattle.std.proofs.Common.{◌≡◌, ℕ, List, [], refl, sym, ap, subst, ◌∙◌, append-nil}
+use Rattle.std.specs.Prelude.{Option, Some, None, Result}
 use Rattle.blob_model.specs.History.{events_by, AllOther}
 use Rattle.blob_model.specs.declared.call.Event.{Event}
-use Rattle.turn_lock.specs.History.{Begins}
 use Rattle.version_manager.specs.Log.{events}
 use Rattle.request_form.specs.Session.{Session, sees}
-use Rattle.request_form.specs.Answers.{Unless, ReadAnswer, Answers, read_fault}
+use Rattle.request_form.specs.Answers.{Unless, ReadAnswer, read_fault}
 use Rattle.request_form.specs.declared.form.Request.TheVariants as Requests
 use Rattle.request_form.specs.declared.form.Reply.{Reply}
 use Rattle.request_form.specs.declared.form.Fault.{Fault}
@@ -17,7 +16,7 @@ use Rattle.workload_law.specs.Sessions.{GapsHaveNoOwn}
 use Rattle.read_board.specs.declared.refresh.Refresh.{Refresh}
 use Rattle.read_board.specs.declared.standing.Way.{Way}
 use Rattle.read_board.specs.Refreshing.{HasLooked}
-use Rattle.read_board.specs.Reads.{Goes, ByBoard, ByTurn, bytes_said}
+use Rattle.read_board.specs.Reads.{Goes, bytes_said}
 use Rattle.watch_run.specs.Idling.{Idles}
 
 module _ {D : Type 0} where

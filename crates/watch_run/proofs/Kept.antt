@@ -1,22 +1,20 @@
 -- What a watch's keeper keeps from refresh to refresh.
-use Rattle.std.proofs.Common.{◌≡◌, ◌⊎◌, inl, inr, ⊎_elim, ℕ, zero, suc, ◌+◌, ◌<◌, ◌≤◌, ◌==◌, Bool, true, false, List, [], ◌∷◌, ◌++◌, length, fold, if◌then◌else◌, refl, sym, ap, subst, ◌∙◌, arith}
-use Rattle.std.specs.Prelude.{Option, Some, None, Result, Ok, Err, All, IfErr}
+use Rattle.std.proofs.Common.{◌≡◌, ◌⊎◌, ⊎_elim, ℕ, suc, ◌+◌, ◌==◌, Bool, true, List, [], ◌∷◌, ◌++◌, fold, if◌then◌else◌, refl, sym, ap, subst, ◌∙◌, arith}
+use Rattle.std.specs.Prelude.{Option, Some, None, All}
 use Rattle.std.proofs.lemmas.Bool.Decides.{nat_tests}
 use Rattle.std.proofs.lemmas.List.Elements.{All-push}
 use Rattle.std.proofs.lemmas.List.Sums.{fold_push}
-use Rattle.blob_model.specs.Limits.{Bounds, greatest}
+use Rattle.blob_model.specs.Limits.{Bounds}
 use Rattle.blob_model.specs.Store.{blob_at}
 use Rattle.blob_model.specs.History.{store_of}
 use Rattle.version_manager.specs.Log.{events}
-use Rattle.version_manager.specs.declared.journal.DeskFixed.{DeskFixed}
 use Rattle.request_form.specs.declared.form.Fault.{Fault}
 use Rattle.client_session.specs.Sessions.{SessionState, StoreState, Continues}
 use Rattle.workload_law.specs.Sessions.{GapsHaveNoOwn}
 use Rattle.read_board.specs.declared.refresh.Refresh.{Refresh}
 use Rattle.read_board.specs.Keeping.{KeeperState}
-use Rattle.read_board.specs.Refreshes.{on_board, latest_of, IsFullFor}
-use Rattle.read_board.specs.Refreshing.{AllHold, HasLooked, IsNotThere, Refreshed, LeftPending}
-use Rattle.watch_run.specs.Idling.{Idles}
+use Rattle.read_board.specs.Refreshes.{on_board, IsFullFor}
+use Rattle.read_board.specs.Refreshing.{AllHold, HasLooked, IsNotThere, LeftPending}
 use Rattle.watch_run.specs.Keeping.{MayRefresh, RefreshHindered, Refreshes}
 use Rattle.watch_run.proofs.Idling.{idles_none, idles_both, idles_looked}
 

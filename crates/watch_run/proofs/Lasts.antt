@@ -1,13 +1,13 @@
 -- What the last session of a watch reads.
-use Rattle.std.proofs.Common.{◌≡◌, ◌⊎◌, inl, inr, ℕ, zero, suc, ◌+◌, ◌<◌, ◌≤◌, List, [], ◌∷◌, ◌++◌, length, take, drop, refl, sym, ap, subst, ◌∙◌, arith, get_or}
-use Rattle.std.specs.Prelude.{Option, Some, None, Result, Ok, Err, All}
+use Rattle.std.proofs.Common.{◌≡◌, inl, inr, ℕ, ◌+◌, ◌<◌, List, [], ◌∷◌, ◌++◌, length, take, refl, sym, ap, subst, ◌∙◌, arith}
+use Rattle.std.specs.Prelude.{Some, Result, Ok, Err}
 use Rattle.std.proofs.lemmas.List.{get_or_push, length-append, take_all}
 use Rattle.blob_model.specs.Content.{Update, content, size_of}
 use Rattle.blob_model.specs.declared.call.Event.{Event}
-use Rattle.snapshot.specs.Versions.{Version, updates, size_now}
+use Rattle.snapshot.specs.Versions.{size_now}
 use Rattle.snapshot.specs.Laws.{TellUpdates}
 use Rattle.version_manager.specs.Desks.{updates_in}
-use Rattle.version_manager.specs.Log.{desk_at, events}
+use Rattle.version_manager.specs.Log.{desk_at}
 use Rattle.version_manager.specs.declared.journal.DeskFixed.{DeskFixed}
 use Rattle.request_form.specs.Answers.{max_read}
 use Rattle.request_form.specs.Replies.{page_faults}
@@ -19,7 +19,7 @@ use Rattle.read_board.specs.Keeping.{KeeperState}
 use Rattle.read_board.specs.Refreshes.{version_of, on_board}
 use Rattle.read_board.specs.Refreshing.{Holds, AllHold, IsRecent, Refreshed}
 use Rattle.workload_law.specs.Ends.{IsOutside}
-use Rattle.watch_run.specs.Keeping.{MayRefresh, RefreshHindered, Refreshes}
+use Rattle.watch_run.specs.Keeping.{MayRefresh, RefreshHindered}
 use Rattle.watch_run.specs.Lasts.{updates_seen, WholeRead, IsLast, LastHindered}
 use Rattle.watch_run.proofs.Kept.{on_pushed}
 

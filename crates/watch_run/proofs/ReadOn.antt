@@ -1,8 +1,6 @@
 -- The reads of a watch's readers, one after another.
-use Rattle.std.proofs.Common.{◌≡◌, ℕ, ◌+◌, ◌<◌, ◌≤◌, List, refl, sym, ap, subst, ◌∙◌, arith}
+use Rattle.std.proofs.Common.{◌≡◌, ℕ, refl, ◌∙◌, arith}
 use Rattle.std.specs.Prelude.{sum_by}
-use Rattle.faults.specs.Counts.{RoseBy}
-use Rattle.client_session.specs.Sessions.{SessionState}
 use Rattle.read_board.specs.Keeping.{StandingState}
 use Rattle.update_work.proofs.Updates.{rose_both}
 use Rattle.watch_run.specs.Readers.{HasRead}

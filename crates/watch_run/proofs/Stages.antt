@@ -1,26 +1,24 @@
 -- What the owner has seen as passes come back.
-use Rattle.std.proofs.Common.{◌≡◌, ◌≢◌, ◌⊎◌, inl, inr, ⊎_elim, ℕ, ◌+◌, ◌<◌, ◌≤◌, ◌==◌, Bool, true, false, List, [], ◌∷◌, ◌++◌, refl, sym, ap, subst, ◌∙◌, append-nil, arith, Contains}
+use Rattle.std.proofs.Common.{◌≡◌, ◌⊎◌, inl, inr, ⊎_elim, ℕ, ◌+◌, ◌≤◌, List, [], ◌∷◌, ◌++◌, refl, sym, ap, subst, ◌∙◌, append-nil, arith, Contains}
 use Rattle.std.specs.Prelude.{Result, Ok, Err}
 use Rattle.std.proofs.lemmas.List.Elements.{Contains-append_left, Contains-push, Contains-push_cases}
 use Rattle.blob_model.specs.Limits.{Bounds, greatest}
-use Rattle.blob_model.specs.History.{events_by, AllOther}
+use Rattle.blob_model.specs.History.{events_by}
 use Rattle.blob_model.specs.declared.call.Event.{Event}
 use Rattle.blob_model.specs.declared.call.Event.TheVariants as Events
 use Rattle.turn_lock.specs.History.{entries_by, Begins}
 use Rattle.turn_lock.proofs.Histories.{begins_both}
 use Rattle.version_manager.specs.Log.{tagged, events}
 use Rattle.version_manager.specs.Laws.{EntriesAreEvents}
-use Rattle.request_form.specs.Session.{Session}
 use Rattle.request_form.specs.declared.form.Fault.{Fault}
 use Rattle.client_session.specs.Sessions.{StoreState, SessionState, IsOwnerOf, session_of}
 use Rattle.store_sessions.specs.Made.{IsNewSession}
 use Rattle.workload_law.specs.Ends.{CreateHindered}
-use Rattle.workload_law.specs.Closing.{OwnsStay, IdleOwnsAll}
+use Rattle.workload_law.specs.Closing.{OwnsStay}
 use Rattle.workload_law.specs.Sessions.{FinishesItsOwn}
 use Rattle.update_work.specs.Making.{HasDoneOwn, HasNotMade, MakingEnds}
-use Rattle.update_work.specs.Callers.{CameBack, IsFresh}
+use Rattle.update_work.specs.Callers.{CameBack}
 use Rattle.update_work.proofs.Returns.{none_by, same_by, came_back, owns_back, tags_of_front, events_append}
-use Rattle.update_work.proofs.Fresh.{fresh_at, own_is}
 use Rattle.watch_law.specs.declared.plan.WatchPlan.{WatchPlan}
 use Rattle.watch_law.specs.Watch.{HasBegun}
 use Rattle.watch_run.specs.Stages.{Entries, Owner, IsOpened, IsCalled, IsUnopened, OpensAs, IsWatched, IsIdle, ComesBack, LeavesWatch}

@@ -1,6 +1,6 @@
 -- How a watch's work ends, by how its callers did.
-use Rattle.std.proofs.Common.{◌≡◌, ◌⊎◌, inl, inr, ℕ, zero, suc, ◌+◌, ◌<◌, ◌≤◌, List, [], ◌∷◌, ◌++◌, length, refl, sym, ap, subst, ◌∙◌, append-nil, arith, Contains}
-use Rattle.std.specs.Prelude.{Option, Some, None, Result, Ok, Err, IfErr}
+use Rattle.std.proofs.Common.{◌≡◌, ◌+◌, List, [], ◌++◌, refl, sym, ap, subst, ◌∙◌, append-nil, arith}
+use Rattle.std.specs.Prelude.{Result, Ok, Err, IfErr}
 use Rattle.std.specs.Result.{result_and}
 use Rattle.blob_model.specs.Limits.{greatest}
 use Rattle.blob_model.specs.History.{events_by}
@@ -13,8 +13,7 @@ use Rattle.version_manager.specs.Log.{events}
 use Rattle.version_manager.specs.Laws.{EntriesAreEvents}
 use Rattle.version_manager.specs.declared.journal.DeskFixed.{DeskFixed}
 use Rattle.request_form.specs.declared.form.Fault.{Fault}
-use Rattle.request_form.specs.Replies.{page_faults}
-use Rattle.client_session.specs.Sessions.{StoreState, SessionState, session_of}
+use Rattle.client_session.specs.Sessions.{SessionState, session_of}
 use Rattle.workload_law.specs.Closing.{OwnsStay}
 use Rattle.workload_law.specs.Ends.{IsOutside, UpdateHindered}
 use Rattle.workload_law.specs.Sessions.{FinishesItsOwn}
@@ -22,13 +21,12 @@ use Rattle.update_work.specs.Updates.{told_faults}
 use Rattle.watch_law.specs.declared.plan.WatchPlan.{WatchPlan}
 use Rattle.watch_law.specs.declared.plan.WatchSummary.{WatchSummary}
 use Rattle.watch_law.specs.Watch.{piece_of, HasWritten, HasBegun}
-use Rattle.watch_run.specs.Ending.{IsSeenLast, HasWrittenAll, EndsBy, HasFinished, FinishHindered, Finishes, WatchEnds}
+use Rattle.watch_run.specs.Ending.{HasWrittenAll, EndsBy, FinishHindered, Finishes, WatchEnds}
 use Rattle.watch_run.specs.Keeping.{RefreshHindered}
 use Rattle.update_work.specs.Callers.{Told}
 use Rattle.watch_run.specs.Stages.{Entries, Owner, IsWatched, LeavesWatch, IsCalled}
 use Rattle.watch_run.specs.Writing.{Wrote, StoppedWriting, WriteEnds}
-use Rattle.watch_run.proofs.Lasts.{no_page}
-use Rattle.watch_run.proofs.Stages.{TookBack, writer_back, own_by, leaves_both}
+use Rattle.watch_run.proofs.Stages.{TookBack, writer_back, own_by}
 
 -- ---- the writer
 begun_by : {D : Type 0} (plan : WatchPlan) (s s' : SessionState D) (told : Told) → WriteEnds plan told (session_of s) (session_of s') → HasBegun plan (events_by 2 (events s'.log))

@@ -1,5 +1,5 @@
 -- What the readers of a watch are compared with.
-use Rattle.std.specs.Prelude.{◌≡◌, ℕ, ◌≤◌, List, length, Some}
+use Rattle.std.specs.Prelude.{◌≡◌, ◌≤◌, List, length, Some}
 use Rattle.blob_model.specs.Content.{content}
 use Rattle.blob_model.specs.History.{store_of}
 use Rattle.turn_lock.specs.History.{Begins}

@@ -1,18 +1,18 @@
 -- How a watch ends.
-use Rattle.std.specs.Prelude.{◌≡◌, ℕ, ◌+◌, ◌*◌, ◌<◌, ◌≤◌, ◌^◌, ◌-◌, List, ◌++◌, length, None, Contains, Result, Ok, Err}
+use Rattle.std.specs.Prelude.{◌≡◌, ℕ, ◌+◌, ◌<◌, ◌-◌, List, ◌++◌, length, None, Result, Ok, Err}
 use Rattle.blob_model.specs.Content.{size_of}
 use Rattle.blob_model.specs.Limits.{greatest}
 use Rattle.blob_model.specs.Store.{blob_at}
-use Rattle.blob_model.specs.History.{store_of, IsLegal, events_by}
+use Rattle.blob_model.specs.History.{store_of, events_by}
 use Rattle.blob_model.specs.declared.call.Event.{Event}
 use Rattle.blob_model.specs.declared.call.Place.TheVariants.{Append}
-use Rattle.turn_lock.specs.History.{Begins, LacksUngiven}
+use Rattle.turn_lock.specs.History.{Begins}
 use Rattle.version_manager.specs.Desks.{updates_in, published_in}
-use Rattle.version_manager.specs.Log.{events, tagged, desk_at}
+use Rattle.version_manager.specs.Log.{events, desk_at}
 use Rattle.version_manager.specs.declared.journal.DeskFixed.{DeskFixed}
 use Rattle.request_form.specs.Answers.{max_read}
 use Rattle.request_form.specs.declared.form.Fault.{Fault}
-use Rattle.workload_law.specs.Ends.{IsOutside, AnyPage, UpdateHindered, CreateHindered}
+use Rattle.workload_law.specs.Ends.{IsOutside, AnyPage, UpdateHindered}
 use Rattle.read_board.specs.declared.refresh.Refresh.{Refresh}
 use Rattle.watch_law.specs.declared.plan.WatchPlan.{WatchPlan}
 use Rattle.watch_law.specs.declared.plan.WatchSummary.{WatchSummary}

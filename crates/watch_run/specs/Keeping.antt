@@ -1,5 +1,5 @@
 -- What a watch's keeper keeps from refresh to refresh, and why a refresh isn't done.
-use Rattle.std.specs.Prelude.{◌≡◌, ℕ, List, [], ◌∷◌, None, All, IfErr}
+use Rattle.std.specs.Prelude.{◌≡◌, [], ◌∷◌, None, All, IfErr}
 use Rattle.blob_model.specs.Limits.{greatest}
 use Rattle.blob_model.specs.Store.{blob_at}
 use Rattle.blob_model.specs.History.{store_of}

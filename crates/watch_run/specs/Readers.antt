@@ -1,8 +1,6 @@
 -- The readers of a watch, each with how it ended.
-use Rattle.std.specs.Prelude.{◌≡◌, ℕ, ◌+◌, ◌<◌, Bool, List, Result, IfErr, sum_by, slice_index_or, length}
+use Rattle.std.specs.Prelude.{◌≡◌, ℕ, ◌<◌, List, IfErr, sum_by, slice_index_or, length}
 use Rattle.faults.specs.Counts.{RoseBy}
-use Rattle.request_form.specs.declared.form.Fault.{Fault}
-use Rattle.client_session.specs.Sessions.{SessionState}
 use Rattle.read_board.specs.Keeping.{StandingState}
 use Rattle.workload_law.specs.Ends.{IsOutside, AnyPage}
 use Rattle.update_work.specs.Updates.{told_faults}

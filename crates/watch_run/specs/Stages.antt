@@ -1,5 +1,5 @@
 -- What the owner of a watch's store has seen, stage by stage, once passes came back.
-use Rattle.std.specs.Prelude.{◌≡◌, ◌⊎◌, ℕ, ◌+◌, ◌≤◌, List, [], ◌∷◌, Result, Ok, Err, Contains, IfErr, All, sum_by}
+use Rattle.std.specs.Prelude.{◌≡◌, ◌⊎◌, ℕ, ◌+◌, ◌≤◌, List, [], ◌∷◌, Result, Ok, Err, Contains}
 use Rattle.blob_model.specs.Limits.{greatest}
 use Rattle.blob_model.specs.History.{events_by}
 use Rattle.blob_model.specs.declared.call.Event.{Event}

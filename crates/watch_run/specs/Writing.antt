@@ -1,5 +1,5 @@
 -- The work of a watch's writer.
-use Rattle.std.specs.Prelude.{◌≡◌, ℕ, ◌<◌, List, ◌++◌, Result, Ok, Err, sum_by}
+use Rattle.std.specs.Prelude.{◌≡◌, ℕ, List, ◌++◌, Result, Ok, Err, sum_by}
 use Rattle.faults.specs.Counts.{RoseBy}
 use Rattle.blob_model.specs.Limits.{greatest}
 use Rattle.blob_model.specs.History.{events_by}

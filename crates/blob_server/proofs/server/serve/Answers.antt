@@ -1,4 +1,4 @@
-use Rattle.std.proofs.Common.{◌≡◌, ◌∙◌, List, subst, arith, rules}
+use Rattle.std.proofs.Common.{◌≡◌, List, subst, arith, rules}
 use Rattle.std.specs.List.{All}
 use Rattle.page_store.specs.Calls.{no_door}
 use Rattle.client_session.specs.Sessions.{SessionState}

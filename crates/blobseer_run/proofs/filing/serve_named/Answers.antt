@@ -1,14 +1,10 @@
-use Rattle.std.proofs.Common.{◌≡◌, ℕ, [], ◌∙◌, ap, subst, sum_by, arith}
+use Rattle.std.proofs.Common.{◌≡◌, [], ◌∙◌, ap, sum_by, arith}
 use Rattle.turn_lock.specs.History.{longer}
 use Rattle.turn_lock.specs.Shown.{PassView, OwnerView}
 use Rattle.server_core.specs.Conversed.{Input}
 use Rattle.server_core.specs.declared.flow.End.TheVariants as Ends
-use Rattle.request_form.specs.Answers.{max_update}
-use Rattle.client_session.specs.Sessions.{session_at}
-use Rattle.version_manager.specs.Log.{events}
 use Rattle.file_names.specs.Tree as Names
 use Rattle.file_names.specs.declared.tree.Entered.{Entered}
-use Rattle.blobseer_run.specs.Filing.{ServedLines}
 use Rattle.blobseer_run.proofs.FilesStored.{named_none, named_of}
 use Rattle.blobseer_run.proofs.filing.serve_named.Goals as goal
 

@@ -1,6 +1,5 @@
-use Rattle.std.specs.Prelude.{◌≡◌, [], sum_by}
-use Rattle.std.proofs.Common.{◌∙◌, ap, sym, arith}
-use Rattle.std.proofs.lemmas.List.{length-map}
+use Rattle.std.specs.Prelude.{◌≡◌, []}
+use Rattle.std.proofs.Common.{◌∙◌, ap, arith}
 use Rattle.blob_model.specs.declared.call.Event.{Event}
 use Rattle.turn_lock.specs.Shown.{PassView, OwnerView}
 use Rattle.turn_lock.specs.History.{longer}

@@ -1,4 +1,4 @@
-use Rattle.std.proofs.Common.{◌≡◌, ◌∙◌, sym, subst, arith, refl, Ok, Err, ℕ}
+use Rattle.std.proofs.Common.{◌≡◌, ◌∙◌, sym, arith, refl, Ok, Err}
 use Rattle.std.proofs.lemmas.Slice.Eq.{bytes_eq-Decides}
 use Rattle.watch_run.proofs.Compared.{by_turn}
 use Rattle.watch_run.proofs.agreeing.compare_by_turn.Goals as goal

@@ -1,4 +1,4 @@
-use Rattle.std.proofs.Common.{◌≡◌, ℕ, ◌+◌, ◌-◌, ◌*◌, ◌^◌, ◌<◌, ◌≤◌, vec_len, [], ◌∷◌}
+use Rattle.std.proofs.Common.{◌≡◌, ℕ, ◌+◌, ◌-◌, ◌*◌, ◌^◌, ◌<◌, ◌≤◌, vec_len}
 use Rattle.std.specs.Prelude.{vec_capacity, ◌↔◌, All}
 use Rattle.page_store.specs.Calls.{Traffic}
 use Rattle.client_session.specs.Sessions.{IsOwnerOf}

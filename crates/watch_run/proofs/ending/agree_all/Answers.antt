@@ -1,13 +1,13 @@
-use Rattle.std.proofs.Common.{rules, ◌≡◌, ◌∙◌, List, ℕ, Bool, ◌+◌, ◌-◌, ◌^◌, ◌<◌, ◌≤◌, vec_len, ap, subst, arith}
+use Rattle.std.proofs.Common.{rules, ◌≡◌, ◌∙◌, List, Bool, ◌+◌, ◌-◌, vec_len, ap, subst, arith}
 use Rattle.std.specs.Prelude.{All, IfSome, Option}
 use Rattle.std.proofs.lemmas.Grind.{common_steps}
 use mir.Val.{bool_byte}
 use Rattle.request_form.specs.declared.form.Fault.{Fault}
 use Rattle.workload_law.specs.Ends.{IsOutside, AnyPage}
 use Rattle.watch_run.specs.Readers.{WatcherState}
-use Rattle.watch_run.specs.Crews.{IsDoneWatching, stop_faults}
+use Rattle.watch_run.specs.Crews.{IsDoneWatching}
 use Rattle.watch_run.proofs.Doors.{none_gone, one_more, one_stopped, all_ended, all_doors}
-use Rattle.watch_run.proofs.Ends.{all_front, all_last, agree_more, lower}
+use Rattle.watch_run.proofs.Ends.{all_front, all_last, agree_more}
 use Rattle.watch_run.proofs.ending.agree_all.Goals as goal
 
 pub loop-watcher-preserved-in-Ok : goal.loop-watcher-preserved-in-Ok

@@ -1,5 +1,5 @@
 use Rattle.std.proofs.Common.{◌≡◌, ℕ, ◌+◌, ◌-◌, ◌^◌, ◌<◌, ◌≤◌, vec_len}
-use Rattle.std.specs.Prelude.{◌↔◌, All, IfSome, Option, Some, None}
+use Rattle.std.specs.Prelude.{◌↔◌, All, IfSome}
 use Rattle.client_session.specs.Sessions.{IsOwnerOf}
 use Rattle.workload_law.specs.Ends.{IsOutside, AnyPage}
 use Rattle.watch_run.specs.Agreeing.{IsSeenIn}

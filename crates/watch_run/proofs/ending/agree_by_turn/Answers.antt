@@ -1,6 +1,6 @@
-use Rattle.std.proofs.Common.{◌≡◌, ◌≤◌, ap, arith, ℕ}
+use Rattle.std.proofs.Common.{◌≡◌, ap, arith}
 use Rattle.store_sessions.proofs.Traffics
-use Rattle.watch_run.specs.Stages.{Owner, LeavesWatch}
+use Rattle.watch_run.specs.Stages.{Owner}
 use Rattle.watch_run.proofs.Crews.{idle_on, told_any}
 use Rattle.watch_run.proofs.Stages.{new_idle, leaves_both, leaves_given}
 use Rattle.watch_run.proofs.ending.agree_by_turn.Goals as goal

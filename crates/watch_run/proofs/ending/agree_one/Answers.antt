@@ -1,4 +1,4 @@
-use Rattle.std.proofs.Common.{◌≡◌, ℕ}
+use Rattle.std.proofs.Common.{◌≡◌}
 use Rattle.watch_run.proofs.Crews.{told_more}
 use Rattle.watch_run.proofs.Doors.{ended_by_place, ended_by_turn}
 use Rattle.watch_run.proofs.Stages.{leaves_both}

@@ -1,4 +1,4 @@
-use Rattle.std.proofs.Common.{◌≡◌, ℕ, ap, subst, sym, arith}
+use Rattle.std.proofs.Common.{◌≡◌, ap, arith}
 use Rattle.std.specs.Prelude.{sum_by}
 use Rattle.client_session.specs.Sessions.{SessionState}
 use Rattle.watch_run.proofs.Lasts.{last_missing, no_page, latest_is, last_holds_mid, last_read, last_unread}

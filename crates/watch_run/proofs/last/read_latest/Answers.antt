@@ -1,7 +1,6 @@
-use Rattle.std.proofs.Common.{◌≡◌, ◌∙◌, ℕ, sym, subst, ap, refl}
+use Rattle.std.proofs.Common.{◌≡◌, ◌∙◌, ℕ, sym, subst, refl}
 use Rattle.version_manager.specs.Desks.{updates_in}
 use Rattle.version_manager.specs.Log.{desk_at}
-use Rattle.client_session.specs.Sessions.{StoreState}
 use Rattle.read_board.specs.declared.refresh.Refresh.{Refresh}
 use Rattle.read_board.specs.Refreshes.{version_of}
 use Rattle.read_board.specs.Refreshing.{Holds}

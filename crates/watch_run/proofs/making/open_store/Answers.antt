@@ -1,4 +1,4 @@
-use Rattle.std.proofs.Common.{◌≡◌, ◌∙◌, ◌+◌, ℕ, ap, sym, arith}
+use Rattle.std.proofs.Common.{◌≡◌, ◌∙◌, ap, arith}
 use Rattle.client_session.specs.Sessions.{StoreState}
 use Rattle.store_sessions.proofs.Traffics
 use Rattle.watch_run.specs.Stages.{Owner}

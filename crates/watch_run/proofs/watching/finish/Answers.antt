@@ -1,4 +1,4 @@
-use Rattle.std.proofs.Common.{◌≡◌, ℕ}
+use Rattle.std.proofs.Common.{◌≡◌}
 use Rattle.std.proofs.Common.{vec_len}
 use Rattle.watch_run.specs.Ending.{FinishHindered}
 use Rattle.watch_run.proofs.Doors.{read_and_ended, came_and_ended, readers_ended}

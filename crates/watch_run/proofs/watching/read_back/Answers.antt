@@ -1,9 +1,6 @@
-use Rattle.std.proofs.Common.{rules, ◌≡◌, ◌∙◌, ◌≤◌, ◌∷◌, [], Ok, Err, List, ℕ, ap, subst, sym, arith}
-use Rattle.std.specs.Prelude.{Result, IfOk, IfErr}
-use Rattle.client_session.specs.Sessions.{StoreState, SessionState}
+use Rattle.std.proofs.Common.{rules, ◌≡◌, ◌∙◌, ◌∷◌, [], ap, subst, sym, arith}
+use Rattle.client_session.specs.Sessions.{StoreState}
 use Rattle.read_board.specs.Refreshing.{AllHold}
-use Rattle.request_form.specs.declared.form.Fault.{Fault}
-use Rattle.watch_run.specs.declared.last.Last.{Last}
 use Rattle.store_sessions.proofs.Traffics
 use Rattle.watch_run.specs.Stages.{Owner, Entries}
 use Rattle.watch_run.proofs.Crews.{idle_on, told_read, told_lost}

@@ -1,4 +1,4 @@
-use Rattle.std.proofs.Common.{◌≡◌, ◌∙◌, List, ℕ, Ok, Err, ap, subst, sym}
+use Rattle.std.proofs.Common.{◌≡◌, List, ℕ, Ok, Err, subst, sym}
 use Rattle.blob_model.specs.Limits.{Bounds}
 use Rattle.blob_model.specs.History.{IsLegal}
 use Rattle.blob_model.specs.declared.call.Event.{Event}

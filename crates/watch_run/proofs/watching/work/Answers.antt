@@ -1,10 +1,10 @@
-use Rattle.std.proofs.Common.{◌≡◌, ◌∙◌, ◌+◌, ◌*◌, ◌≤◌, List, [], ◌∷◌, ℕ, length, vec_len, refl, sym, ap, subst, arith}
+use Rattle.std.proofs.Common.{◌≡◌, ◌∙◌, ◌+◌, ◌*◌, [], ℕ, length, vec_len, refl, sym, ap, subst, arith}
 use Rattle.std.specs.Prelude.{All}
 use Rattle.page_store.specs.Calls.{Traffic}
 use Rattle.turn_lock.specs.History.{entries_by, Begins}
 use Rattle.turn_lock.proofs.Histories.{begins_both}
 use Rattle.version_manager.specs.Log.{tagged, events}
-use Rattle.client_session.specs.Sessions.{StoreState, SessionState}
+use Rattle.client_session.specs.Sessions.{StoreState}
 use Rattle.read_board.specs.Fronts.{BoardId}
 use Rattle.read_board.specs.Refreshing.{AllHold}
 use Rattle.update_work.proofs.Returns.{none_by}
