@@ -43,3 +43,8 @@ steps_next p w v x steps i d lt all is done =
     let L : List Step → Type 0 = λ l. AllAllowed p w l × (x ≡ world_after p w l) in
     subst L (sym e)
     (all_next p w (take i steps) step all (subst A is done.allowed), done.is ∙ ap (λ (y : World). after p y step) is ∙ sym (world_next p w (take i steps) step))
+
+-- what holds anyway holds where an act fails
+pub on_err : {T E N : Type 0} (result : Result T E) → N → OnErr result N
+on_err (Ok t) n = tt
+on_err (Err e) n = n

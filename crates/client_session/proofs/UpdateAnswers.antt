@@ -20,8 +20,9 @@ use Rattle.version_manager.specs.Desks.{IsTicketOf, updates_in, updates_or_none,
 use Rattle.version_manager.specs.Log.{desk_at, events}
 use Rattle.version_manager.specs.declared.journal.DeskFixed.{DeskFixed}
 use Rattle.request_form.specs.Session.{Session, HeldTicket, store_at, sees, holds}
-use Rattle.request_form.specs.Answers.{UpdateAnswer, WholeUpdate, Updated, HeldBack, TicketKept, RepairAnswer, Unless, Answers, update_fault, update_faults, held_back_faults, is_waiting_in, folds_in}
-use Rattle.request_form.specs.Replies.{page_faults}
+use Rattle.request_form.specs.Answers.{UpdateAnswer, WholeUpdate, Started, Updated, HeldBack, TicketKept, RepairAnswer, Unless, Answers}
+use Rattle.request_form.specs.Answers.{update_fault, update_faults, held_back_faults, is_waiting_in, folds_in}
+use Rattle.request_form.specs.Replies.{page_faults, fault_count}
 use Rattle.request_form.specs.declared.form.Reply.{Reply}
 use Rattle.request_form.specs.declared.form.Reply.TheVariants as Replies
 use Rattle.request_form.specs.declared.form.Fault.{Fault}
@@ -58,6 +59,49 @@ update_done s blob (WriteAt offset) bytes reply s' none answer = subst (λ (o : 
 pub start_done : (s : Session) (blob : ℕ) (place : Place) (bytes : List ℕ) (reply : Reply) (s' : Session) → update_fault s bytes ≡ None → StartDone s blob place bytes reply s' → Answers AllOther s (start_request blob place bytes) reply s'
 start_done s blob Append bytes reply s' none answer = subst (λ (o : Option Fault). Unless o s reply s' (StartDone s blob Append bytes reply s')) (sym none) answer
 start_done s blob (WriteAt offset) bytes reply s' none answer = subst (λ (o : Option Fault). Unless o s reply s' (StartDone s blob (WriteAt offset) bytes reply s')) (sym none) answer
+
+-- what isn't numbered isn't done, whatever would be done
+unnumbered : {A : Type 0} (s : Session) (blob : ℕ) (place : Place) (bytes : List ℕ) (reply : Reply) (s' : Session)
+    → UpdateAnswer AllOther s blob place bytes ⊥ reply s' → UpdateAnswer AllOther s blob place bytes A reply s'
+unnumbered s blob place bytes reply s' (UpdateAnswer.does never) = absurd never
+unnumbered s blob place bytes reply s' (UpdateAnswer.refused a) = UpdateAnswer.refused a
+unnumbered s blob place bytes reply s' (UpdateAnswer.out_of_memory a) = UpdateAnswer.out_of_memory a
+unnumbered s blob place bytes reply s' (UpdateAnswer.kept a) = UpdateAnswer.kept a
+unnumbered s blob place bytes reply s' (UpdateAnswer.not_stored a) = UpdateAnswer.not_stored a
+
+unless_unnumbered : (A : Type 0) (o : Option Fault) (s : Session) (blob : ℕ) (place : Place) (bytes : List ℕ) (reply : Reply) (s' : Session)
+    → Unless o s reply s' (UpdateAnswer AllOther s blob place bytes ⊥ reply s') → Unless o s reply s' (UpdateAnswer AllOther s blob place bytes A reply s')
+unless_unnumbered A None s blob place bytes reply s' a = unnumbered s blob place bytes reply s' a
+unless_unnumbered A (Some fault) s blob place bytes reply s' a = a
+
+pub update_not_done : (s : Session) (blob : ℕ) (place : Place) (bytes : List ℕ) (fault : Fault) (s' : Session)
+    → Unless (update_fault s bytes) s (Replies.Refused fault) s' (UpdateAnswer AllOther s blob place bytes ⊥ (Replies.Refused fault) s')
+    → Answers AllOther s (update_request blob place bytes) (Replies.Refused fault) s'
+update_not_done s blob Append bytes fault s' a =
+    unless_unnumbered (WholeUpdate AllOther s blob Append bytes (update_reply Append) (start_reply Append) (Replies.Refused fault) s') (update_fault s bytes)
+    s blob Append bytes (Replies.Refused fault) s' a
+update_not_done s blob (WriteAt offset) bytes fault s' a =
+    unless_unnumbered (WholeUpdate AllOther s blob (WriteAt offset) bytes (update_reply (WriteAt offset)) (start_reply (WriteAt offset)) (Replies.Refused fault) s') (update_fault s bytes)
+    s blob (WriteAt offset) bytes (Replies.Refused fault) s' a
+
+pub start_not_done : (s : Session) (blob : ℕ) (place : Place) (bytes : List ℕ) (fault : Fault) (s' : Session)
+    → Unless (update_fault s bytes) s (Replies.Refused fault) s' (UpdateAnswer AllOther s blob place bytes ⊥ (Replies.Refused fault) s')
+    → Answers AllOther s (start_request blob place bytes) (Replies.Refused fault) s'
+start_not_done s blob Append bytes fault s' a =
+    unless_unnumbered (Started AllOther s blob Append bytes (start_reply Append) (Replies.Refused fault) s') (update_fault s bytes)
+    s blob Append bytes (Replies.Refused fault) s' a
+start_not_done s blob (WriteAt offset) bytes fault s' a =
+    unless_unnumbered (Started AllOther s blob (WriteAt offset) bytes (start_reply (WriteAt offset)) (Replies.Refused fault) s') (update_fault s bytes)
+    s blob (WriteAt offset) bytes (Replies.Refused fault) s' a
+
+-- the outside didn't fail for an update that is finished at once, nor for one that is started
+pub update_rose : (s : Session) (blob : ℕ) (place : Place) (version at size a b : ℕ) → a ≤ b → RoseBy (update_faults s blob (update_reply place version at size)) a b
+update_rose s blob Append version at size a b le = record { later = le; by = λ few. omega arith }
+update_rose s blob (WriteAt offset) version at size a b le = record { later = le; by = λ few. omega arith }
+
+pub start_rose : (place : Place) (ticket version at size a b : ℕ) → a ≤ b → RoseBy (fault_count (start_reply place ticket version at size)) a b
+start_rose Append ticket version at size a b le = record { later = le; by = λ few. omega arith }
+start_rose (WriteAt offset) ticket version at size a b le = record { later = le; by = λ few. omega arith }
 
 -- ---- an update that was numbered
 -- a blob is there still, with its versions, once more events have come
@@ -117,6 +161,19 @@ module _ {D : Type 0} (s mid : SessionState D) (blob : ℕ) (place : Place) (byt
         later = [];
         is_gap = n.is_gap;
         is_gap_later = tt;
+        version = t.version;
+        at = t.at;
+        size = t.size;
+        numbered = n.outcome;
+        said = refl;
+        seen = holding_it s' is;
+      }
+
+  pub start_held : (s' : Session) → s' ≡ holds (session_of mid) t.blob t.version → StartDone (session_of s) blob place bytes (start_reply place s.next t.version t.at t.size) s'
+  start_held s' is =
+      UpdateAnswer.does record {
+        others = n.others;
+        is_gap = n.is_gap;
         version = t.version;
         at = t.at;
         size = t.size;

@@ -1,13 +1,13 @@
 -- What a look at the recent version and its opening give.
-use Rattle.std.proofs.Common.{◌≡◌, ℕ, ◌+◌, ◌<◌, ◌≤◌, Bool, true, false, List, [], ◌∷◌, ◌++◌, length, Option, Some, None, Result, Ok, Err, refl, ap, sym, ◌∙◌, subst, arith, append_assoc}
+use Rattle.std.proofs.Common.{◌≡◌, ℕ, ◌≤◌, Bool, true, false, List, [], ◌∷◌, ◌++◌, Option, Some, None, Result, refl, ap, sym, ◌∙◌, subst, arith, append_assoc}
 use Rattle.std.specs.Prelude.{nat_lt}
 use Rattle.std.proofs.lemmas.Bool.Decides.{nat_tests}
 use Rattle.std.proofs.lemmas.List.{map-append}
 use Rattle.blob_model.specs.Content.{size_of}
 use Rattle.blob_model.specs.Store.{Store, Blob, blob_at, published}
 use Rattle.blob_model.specs.Answer.{Answered, answer, refuse, unless_refused, not_published}
-use Rattle.blob_model.specs.History.{AllOther, store_of, caller_of}
-use Rattle.blob_model.specs.Laws.{Stays, OldVersionsStay}
+use Rattle.blob_model.specs.History.{AllOther, store_of}
+use Rattle.blob_model.specs.Laws.{OldVersionsStay}
 use Rattle.blob_model.specs.declared.call.Call.TheVariants as Calls
 use Rattle.blob_model.specs.declared.call.Event.{Event}
 use Rattle.blob_model.specs.declared.call.Outcome.{Outcome}
@@ -15,12 +15,12 @@ use Rattle.blob_model.specs.declared.call.Outcome.TheVariants as Outcomes
 use Rattle.blob_model.specs.declared.call.Refusal.{Refusal}
 use Rattle.blob_model.specs.declared.call.Refusal.TheVariants as Refusals
 use Rattle.snapshot.specs.Versions.{Version, size_now}
-use Rattle.version_manager.specs.Desks.{updates_in, published_in, published_or_none, OnRefused}
-use Rattle.version_manager.specs.Log.{IsSnapshotOf, desk_at, events, outcome_in}
+use Rattle.version_manager.specs.Desks.{published_or_none, OnRefused}
+use Rattle.version_manager.specs.Log.{IsSnapshotOf, events, outcome_in}
 use Rattle.version_manager.specs.declared.journal.DeskFixed.{DeskFixed}
 use Rattle.version_manager.specs.declared.fault.DeskFault.{DeskFault}
 use Rattle.version_manager.specs.declared.fault.DeskFault.TheVariants as DeskFaults
-use Rattle.request_form.specs.Session.{Session, sees, outcome_at}
+use Rattle.request_form.specs.Session.{Session, sees}
 use Rattle.request_form.specs.Answers.{LookAnswer}
 use Rattle.request_form.specs.Replies.{reply_of, fault_of}
 use Rattle.request_form.specs.declared.form.Fault.{Fault}
@@ -29,7 +29,6 @@ use Rattle.client_session.specs.Results.{desk_fault}
 use Rattle.client_session.specs.Opening.{Opening, NotOpened}
 use Rattle.client_session.specs.Sessions.{SessionState, StoreState, session_of, Continues}
 use Rattle.client_session.proofs.Turns.{seen_gap}
-use Rattle.read_board.specs.declared.refresh.Refresh.{Refresh}
 use Rattle.read_board.specs.Refreshing.{Holds, HasLooked, IsRecent, IsNotThere}
 
 all_other : (caller : ℕ) (xs ys : List Event) → AllOther caller xs → AllOther caller ys → AllOther caller (xs ++ ys)
@@ -74,6 +73,20 @@ size_not_refused (Some c) b blob v r s is le e =
     let le' : v ≤ published c = subst (λ (x : Blob). v ≤ published x) (sym same) le in
     let no : nat_lt (published c) v ≡ false = grind (arith, nat_tests, le') in
     passed s (nat_lt (published c) v) (Refusals.NotPublished v (published c)) r (size_of c.updates v) no e
+
+-- where the size of a version is told the blob is there, and the version is published
+sized_there : (o : Option Blob) (blob v n : ℕ) (s : Store) → (sized_of o blob v s).1 ≡ Outcomes.Size n → (v ≤ published_or_none o) × (b : Blob) × (o ≡ Some b)
+sized_there None blob v n s e = absurd (cc (e))
+sized_there (Some b) blob v n s e =
+    let no = passes s (nat_lt (published b) v) (Refusals.NotPublished v (published b)) (size_of b.updates v) n e in
+    (grind (arith, nat_tests, no), b, refl)
+
+-- the refresh of a version that was opened holds its updates
+pub holds_opened : (f : DeskFixed) (log : List (ℕ × Event)) (caller blob v : ℕ) (snapshot : Version) → outcome_in f log caller (Calls.Size blob v) ≡ Outcomes.Size (size_now snapshot)
+    → IsSnapshotOf f log blob v snapshot → Holds f log (record { blob = blob; snapshot = snapshot })
+holds_opened f log caller blob v snapshot done is =
+    let known = sized_there (blob_at (store_of f.limits (events log)) blob) blob v (size_now snapshot) (store_of f.limits (events log)) done in
+    record { there = (known.1, known.2); published = omega (arith, is.rows, known.0); tells = is.tells }
 
 -- ---- the two turns of a refresh
 module _ {D : Type 0} (s s1 : SessionState D) (blob : ℕ) where

@@ -1,5 +1,5 @@
 -- Which pages an update stores anew, as the code tests it, and where they stand among its stored pages.
-use Rattle.std.proofs.Common.{◌≡◌, ◌≢◌, ℕ, ◌+◌, ◌≤◌, List, [], ◌∷◌, length, arith, inl, inr, refl, ap, sym, subst, ◌∙◌, true, false, Bool}
+use Rattle.std.proofs.Common.{◌≡◌, ◌≢◌, ℕ, ◌+◌, ◌-◌, ◌*◌, ◌<◌, ◌≤◌, List, [], ◌∷◌, length, arith, inl, inr, refl, ap, sym, subst, ◌∙◌, true, false, Bool}
 use Rattle.std.specs.Prelude.{◌==◌, ◌&&◌, not, cond, if◌then◌else◌}
 use Rattle.std.specs.List.{filter, position_or_len}
 use Rattle.std.proofs.lemmas.Bool.Decides.{nat_tests}
@@ -12,7 +12,17 @@ use Rattle.snapshot.proofs.Growing.{cut_count}
 use Rattle.border_hints.specs.Numbered.{NumberedUpdate, IsValidTicket, own_touch}
 use Rattle.tree_geom.proofs.Spans.{page_pos}
 use Rattle.tree_weaver.specs.Planned.{own_depth, own_folded, own_place}
-use Rattle.tree_weaver.proofs.Shapes.{uncovered_edge}
+use Rattle.tree_weaver.proofs.Shapes.{page_low, page_high, uncovered_edge}
+
+-- a page that the update touches begins before the update ends, and ends after it begins
+pub page_touched : (t : NumberedUpdate) (page size : ℕ) → IsValidTicket t → size ≡ t.snapshot.page_size → (own_touch t).first ≤ page → page ≤ (own_touch t).last
+    → (page * size ≡ page * t.snapshot.page_size) × (page * size < t.at + t.len) × (t.at < page * size + size)
+page_touched t page size is same first last =
+    let p : ℕ = t.snapshot.page_size in
+    let begins : page * size ≡ page * p = ap (λ x. page * x) same in
+    let low : t.at < page * p + p = page_low t.at p page (page_pos p is.published.page_size) first in
+    let high : page * p ≤ t.at + t.len - 1 = page_high (t.at + t.len - 1) p page last in
+    (begins, omega (arith, begins, high, is.some), omega (arith, begins, low, same))
 
 pub folded_is : (t : NumberedUpdate) (page : ℕ) (whole : Bool) (depth : ℕ) → whole ≡ covers t.snapshot.page_size t.at t.len t.size page → depth ≡ own_depth t page
     → (not whole && depth == 0) ≡ own_folded t page

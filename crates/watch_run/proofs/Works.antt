@@ -1,5 +1,5 @@
 -- How a watch's work ends, by how its callers did.
-use Rattle.std.proofs.Common.{◌≡◌, ◌+◌, List, [], ◌++◌, refl, sym, ap, subst, ◌∙◌, append-nil, arith}
+use Rattle.std.proofs.Common.{◌≡◌, ◌+◌, ◌≤◌, List, [], ◌++◌, refl, sym, ap, subst, ◌∙◌, append-nil, arith}
 use Rattle.std.specs.Prelude.{Result, Ok, Err, IfErr}
 use Rattle.std.specs.Result.{result_and}
 use Rattle.blob_model.specs.Limits.{greatest}
@@ -12,6 +12,7 @@ use Rattle.turn_lock.proofs.Histories.{begins_both}
 use Rattle.version_manager.specs.Log.{events}
 use Rattle.version_manager.specs.Laws.{EntriesAreEvents}
 use Rattle.version_manager.specs.declared.journal.DeskFixed.{DeskFixed}
+use Rattle.request_form.specs.Replies.{page_faults}
 use Rattle.request_form.specs.declared.form.Fault.{Fault}
 use Rattle.client_session.specs.Sessions.{SessionState, session_of}
 use Rattle.workload_law.specs.Closing.{OwnsStay}
@@ -26,6 +27,7 @@ use Rattle.watch_run.specs.Keeping.{RefreshHindered}
 use Rattle.update_work.specs.Callers.{Told}
 use Rattle.watch_run.specs.Stages.{Entries, Owner, IsWatched, LeavesWatch, IsCalled}
 use Rattle.watch_run.specs.Writing.{Wrote, StoppedWriting, WriteEnds}
+use Rattle.watch_run.proofs.Lasts.{no_page}
 use Rattle.watch_run.proofs.Stages.{TookBack, writer_back, own_by}
 
 -- ---- the writer
@@ -107,6 +109,16 @@ module _ {D : Type 0} (are : EntriesAreEvents) (stay : OwnsStay) (plan : WatchPl
 
   pub ends_early : (fault : Fault) → result_and written kept ≡ Err fault → EndsBy plan f last fault
   ends_early fault which = stopped_by written kept refl refl fault which
+
+-- no page was lost but by the writer
+pub early_counts : {D : Type 0} (k : SessionState D) (written kept : Told) (fault : Fault) → IfErr kept (RefreshHindered k) → result_and written kept ≡ Err fault
+    → page_faults fault ≤ told_faults written
+early_counts k (Err stop) kept fault hindered which = (let same = same_count (Err stop) (Err fault) which in omega (arith, same))
+early_counts k (Ok done) (Err stop) fault hindered which =
+    let same = same_count (Err stop) (Err fault) which in
+    let none = no_page k stop hindered in
+    omega (arith, same, none)
+early_counts k (Ok done) (Ok also) fault hindered which = absurd (let no : Ok also ≡ Err fault = which in cc)
 
 pub both_done : (written kept : Told) (done : Unit {0}) → result_and written kept ≡ Ok done → written ≡ Ok tt
 both_done (Ok done) kept one which = refl

@@ -9,8 +9,14 @@ use Rattle.range_log.specs.Extents.{extent_at, size_after}
 use Rattle.range_log.specs.Updates.{extents}
 use Rattle.range_log.specs.Rows.{folds_of, pages_in, valid_in}
 use Rattle.blob_core.proofs.Growing.{size_in_log}
-use Rattle.blob_core.proofs.Rowing.{has_version, log_tells, extent_within, whole_leaf_is}
+use Rattle.blob_core.proofs.Rowing.{has_version, log_tells, range_fits, extent_within, whole_leaf_is}
 use Rattle.blob_core.proofs.leaves.whole_leaf.Goals as goal
+
+pub size_at-whole-requires : goal.size_at-whole-requires
+size_at-whole-requires c =
+    let v = has_version c.args.p c.args.blob.now.updates c.args.version (page_range c.args.p c.args.page) c.requires.has in
+    let tells = log_tells c.page_bytes_stay.ensures.extents c.args.p c.args.blob.now c.args.log.now c.requires.log in
+    omega (arith, tells.0, v.1)
 
 pub span_stands-requires : goal.span_stands-requires
 span_stands-requires c =
@@ -36,6 +42,20 @@ overflow_add-len c =
       extent_within c.page_bytes_stay.ensures.extents c.args.p c.args.blob.now c.args.log.now c.args.version c.extent-len.result.0 c.extent-len.result.1 c.requires.log
           v.0 v.1 c.extent-len.ensures.at c.extent-len.ensures.len,
     )
+
+pub overflow_mul-begin : goal.overflow_mul-begin
+overflow_mul-begin c =
+    let fits =
+    range_fits c.args.p c.args.blob.now.updates c.args.log.now c.args.version c.size_at-whole.result (page_range c.args.p c.args.page) c.requires.log.is c.requires.has c.size_at-whole.ensures
+    c.span_stands.ensures.fits in
+    omega (arith, fits, ap (λ (n : ℕ). c.args.page * n) c.bytes-size.ensures.is)
+
+pub overflow_add-begin : goal.overflow_add-begin
+overflow_add-begin c =
+    let fits =
+    range_fits c.args.p c.args.blob.now.updates c.args.log.now c.args.version c.size_at-whole.result (page_range c.args.p c.args.page) c.requires.log.is c.requires.has c.size_at-whole.ensures
+    c.span_stands.ensures.fits in
+    omega (arith, fits, c.bytes-size.ensures.is, ap (λ (n : ℕ). c.args.page * n) c.bytes-size.ensures.is)
 
 pub returns : goal.returns
 returns c =

@@ -1,10 +1,10 @@
-use Rattle.std.proofs.Common.{◌≡◌, ℕ, ◌/◌, ◌≤◌, List, arith, sym, subst}
+use Rattle.std.proofs.Common.{◌≡◌, ℕ, ◌+◌, ◌/◌, ◌≤◌, List, arith, ap, sym, subst}
 use Rattle.blob_model.specs.Content.{Update}
 use Rattle.tree_geom.specs.declared.range.Range.{Range}
 use Rattle.tree_geom.specs.Geometry.{page_range}
 use Rattle.range_log.specs.Log.{HasNode}
 use Rattle.blob_core.specs.World.{log_of}
-use Rattle.blob_core.proofs.Rowing.{has_version, log_tells, even_size, page_of}
+use Rattle.blob_core.proofs.Rowing.{has_version, log_tells, range_fits, even_size, page_of}
 use Rattle.blob_core.proofs.nodes.row_node.Goals as goal
 
 pub row_leaf-requires-clause-has : goal.row_leaf-requires-clause-has
@@ -17,6 +17,12 @@ row_leaf-requires-clause-has c =
     let I : ℕ → Type 0 = λ n. HasNode c.args.p (log_of c.args.p us) c.args.version (page_range c.args.p (c.args.range.offset / n)) in
     subst I (sym c.bytes-then-range-bytes.ensures.is) (subst H page c.requires.has)
 
+pub size_at-requires : goal.size_at-requires
+size_at-requires c =
+    let v = has_version c.args.p c.args.blob.now.updates c.args.version c.args.range c.requires.has in
+    let tells = log_tells c.page_bytes_stay.ensures.extents c.args.p c.args.blob.now c.args.log.now c.requires.log in
+    omega (arith, tells.0, v.1)
+
 pub span_stands-requires : goal.span_stands-requires
 span_stands-requires c =
     let v = has_version c.args.p c.args.blob.now.updates c.args.version c.args.range c.requires.has in
@@ -27,3 +33,36 @@ pub halves-requires-clause-even : goal.halves-requires-clause-even
 halves-requires-clause-even c =
     let pos : 1 ≤ c.args.p = omega (arith, c.bytes.ensures.bounds.0, c.bytes.ensures.is) in
     even_size c.args.p c.args.range pos c.requires.has.aligned (λ same. omega (arith, same, c.if-range-bytes.false, c.bytes.ensures.is))
+
+pub halves-requires-clause-fits : goal.halves-requires-clause-fits
+halves-requires-clause-fits c =
+    range_fits c.args.p c.args.blob.now.updates c.args.log.now c.args.version c.size_at.result c.args.range c.requires.log.is c.requires.has c.size_at.ensures
+    c.span_stands.ensures.fits
+
+pub newest-requires-clause-within : goal.newest-requires-clause-within
+newest-requires-clause-within c =
+    let v = has_version c.args.p c.args.blob.now.updates c.args.version c.args.range c.requires.has in
+    let tells = log_tells c.page_bytes_stay.ensures.extents c.args.p c.args.blob.now c.args.log.now c.requires.log in
+    omega (arith, tells.0, v.1)
+
+pub newest-requires-2-clause-within : goal.newest-requires-2-clause-within
+newest-requires-2-clause-within c =
+    let v = has_version c.args.p c.args.blob.now.updates c.args.version c.args.range c.requires.has in
+    let tells = log_tells c.page_bytes_stay.ensures.extents c.args.p c.args.blob.now c.args.log.now c.requires.log in
+    omega (arith, tells.0, v.1)
+
+pub newest-requires-clause-fits : goal.newest-requires-clause-fits
+newest-requires-clause-fits c =
+    let fits =
+    range_fits c.args.p c.args.blob.now.updates c.args.log.now c.args.version c.size_at.result c.args.range c.requires.log.is c.requires.has c.size_at.ensures
+    c.span_stands.ensures.fits in
+    let E : Range → ℕ = λ r. r.offset + r.size in
+    omega (arith, fits, ap E c.halves.ensures.lower)
+
+pub newest-requires-2-clause-fits : goal.newest-requires-2-clause-fits
+newest-requires-2-clause-fits c =
+    let fits =
+    range_fits c.args.p c.args.blob.now.updates c.args.log.now c.args.version c.size_at.result c.args.range c.requires.log.is c.requires.has c.size_at.ensures
+    c.span_stands.ensures.fits in
+    let E : Range → ℕ = λ r. r.offset + r.size in
+    omega (arith, fits, ap E c.halves.ensures.upper)

@@ -8,6 +8,8 @@ use Rattle.client_session.specs.Finishing.{Finishing}
 use Rattle.client_session.proofs.Finished.{look_failed, after_look, not_woven}
 use Rattle.client_session.proofs.Losses.{anew_lost, calm_lost, calm_repair}
 use Rattle.client_session.proofs.Opened.{may_finish_woven}
+use Rattle.turn_lock.proofs.Histories.{begins_both}
+use Rattle.client_session.proofs.RangeAnswers.{rose_none}
 use Rattle.client_session.proofs.finishing.finish_fresh.Goals as goal
 
 pub returns-in-Err-clause-finishing : goal.returns-in-Err-clause-finishing
@@ -52,3 +54,11 @@ returns-in-Err-woven_or_why-clause-failed g c =
 
 pub returns-clause-failed : goal.returns-clause-failed
 returns-clause-failed g c = calm_repair c.report.result _ c.report.ensures.calm
+
+pub returns-clause-went : goal.returns-clause-went
+returns-clause-went g c =
+    let w = c.report.ensures.went in
+    record { begins = begins_both c.args.pass.now.seen c.fresh_ticket.new.pass.seen c.report.new.pass.seen c.fresh_ticket.ensures.went.begins w.begins; log_is = w.log_is }
+
+pub returns-clause-risen : goal.returns-clause-risen
+returns-clause-risen g c = rose_none _ _ _ c.report.ensures.calm c.in-Ok-woven_or_why.ensures.risen.later

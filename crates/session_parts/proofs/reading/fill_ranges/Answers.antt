@@ -1,4 +1,5 @@
 use Rattle.std.proofs.Common.{◌≡◌, ◌≢◌, sym, ◌∙◌, ap, subst, ℕ, ◌+◌, ◌-◌, ◌<◌, ◌≤◌, List, ◌∷◌, ◌++◌, append_assoc, map, length, length-drop, take, drop, None, slice_index_or, arith}
+use Rattle.std.specs.Prelude.{sum_by}
 use Rattle.std.proofs.lemmas.List.{length-take-le}
 use Rattle.std.proofs.lemmas.List.Sums.{sum_by-cons}
 use Rattle.std.proofs.lemmas.Slice.{take-put_mid}
@@ -6,8 +7,9 @@ use borrow.Rule.Slice.PartMut.{put_mid}
 use Rattle.blob_model.specs.Content.{content, size_of}
 use Rattle.range_log.specs.Updates.{extents}
 use Rattle.range_log.specs.Visits.{visits}
+use Rattle.page_store.specs.Count.{HasRisen}
 use Rattle.range_reader.specs.Faults.{PageFailedIn}
-use Rattle.range_reader.proofs.Counting.{kept_twice}
+use Rattle.range_reader.proofs.Counting.{kept_twice, risen_since}
 use Rattle.session_parts.specs.Ranges.{IsMet, IsMetByOne, PageFailedInOne, first_end_past, joined, bytes_in, visits_of}
 use Rattle.session_parts.proofs.JoinedRanges.{at_drop, one_of_them, some_past, on_past, on_lost, on_both, failed_since}
 use Rattle.session_parts.proofs.reading.fill_ranges.Goals as goal
@@ -140,3 +142,50 @@ loop-range-preserved g c =
       known = c.read_into.ensures.known;
       truth = c.read_into.ensures.truth_stays;
     }
+
+pub overflow_add-end : goal.overflow_add-end
+overflow_add-end g c =
+    let ranges = c.args.ranges.now in
+    let k = c.loop-range.range-index in
+    let r : ℕ × ℕ = slice_index_or ranges k (0, 0) in
+    let tail : drop k ranges ≡ r ∷ drop (k + 1) ranges = at_drop ranges k c.loop-range-test.true in
+    let bytes : bytes_in (drop k ranges) ≡ r.1 + bytes_in (drop (k + 1) ranges) = ap bytes_in tail ∙ sum_by-cons (λ (x : ℕ × ℕ). x.1) r (drop (k + 1) ranges) in
+    omega (arith, c.loop-range.auto.out, c.loop-range.invariant.left, bytes)
+
+pub slice_bounds-part-end : goal.slice_bounds-part-end
+slice_bounds-part-end g c =
+    let ranges = c.args.ranges.now in
+    let k = c.loop-range.range-index in
+    let r : ℕ × ℕ = slice_index_or ranges k (0, 0) in
+    let tail : drop k ranges ≡ r ∷ drop (k + 1) ranges = at_drop ranges k c.loop-range-test.true in
+    let bytes : bytes_in (drop k ranges) ≡ r.1 + bytes_in (drop (k + 1) ranges) = ap bytes_in tail ∙ sum_by-cons (λ (x : ℕ × ℕ). x.1) r (drop (k + 1) ranges) in
+    omega (arith, c.loop-range.auto.out, c.loop-range.invariant.left, bytes)
+
+pub read_into-requires-clause-known : goal.read_into-requires-clause-known
+read_into-requires-clause-known g c = c.loop-range.invariant.known
+
+pub read_into-requires-clause-doors : goal.read_into-requires-clause-doors
+read_into-requires-clause-doors g c = c.loop-range.invariant.doors ∙ c.requires.doors
+
+pub returns-in-Err-clause-counted : goal.returns-in-Err-clause-counted
+returns-in-Err-clause-counted g c =
+    on_lost c.in-Err.fault _ (λ _. HasRisen (sum_by g.D.Door.faults c.args.doors.now) (sum_by g.D.Door.faults c.read_into.new.doors))
+    (λ _ risen. risen_since _ _ _ c.loop-range.invariant.kept.total risen) c.in-Err.ensures.counted
+
+pub returns-in-Err-clause-memory : goal.returns-in-Err-clause-memory
+returns-in-Err-clause-memory g c = c.in-Err.ensures.memory
+
+pub returns-in-Err-clause-sum_never_falls : goal.returns-in-Err-clause-sum_never_falls
+returns-in-Err-clause-sum_never_falls g c = omega (arith, c.loop-range.invariant.kept.total, c.read_into.ensures.sum_never_falls)
+
+pub returns-in-Err-clause-doors_stay : goal.returns-in-Err-clause-doors_stay
+returns-in-Err-clause-doors_stay g c = c.read_into.ensures.doors_stay ∙ c.loop-range.invariant.doors
+
+pub returns-in-Err-clause-room_stays : goal.returns-in-Err-clause-room_stays
+returns-in-Err-clause-room_stays g c = c.read_into.ensures.room_stays ∙ c.loop-range.invariant.room
+
+pub returns-in-Err-clause-truth_stays : goal.returns-in-Err-clause-truth_stays
+returns-in-Err-clause-truth_stays g c = c.read_into.ensures.truth_stays
+
+pub returns-in-Err-clause-bytes : goal.returns-in-Err-clause-bytes
+returns-in-Err-clause-bytes g c us tell = tt

@@ -1,4 +1,5 @@
-use Rattle.std.proofs.Common.{List, sym, subst}
+use Rattle.std.proofs.Common.{ℕ, List, [], ◌∷◌, ◌++◌, length, map, length-append, arith, ap, sym, subst, ◌∙◌}
+use Rattle.std.proofs.lemmas.List.{map-append}
 use Rattle.page_store.specs.Stored.{Stored, LieAmong}
 use Rattle.tree_weaver.proofs.Lost.{one_more}
 use Rattle.tree_weaver.proofs.folding.add_fold.Goals as goal
@@ -7,3 +8,13 @@ pub returns-in-Ok-clause-lie : goal.returns-in-Ok-clause-lie
 returns-in-Ok-clause-lie g c =
     let houses = c.args.houses.now in
     subst (λ (l : List Stored). LieAmong houses l) (sym c.add.ensures) (one_more houses c.args.folds.now c.in-Ok.stored c.requires.lie c.in-Ok.ensures.lies)
+
+pub returns-in-Ok-clause-bytes : goal.returns-in-Ok-clause-bytes
+returns-in-Ok-clause-bytes g c =
+    let bytes : Stored → List ℕ = λ s. s.bytes in
+    let old = c.args.folds.now in
+    rw c.in-Some.is
+    (ap (map bytes) c.add.ensures ∙ map-append bytes old (c.in-Ok.stored ∷ []) ∙ ap (λ b. map bytes old ++ b ∷ []) c.in-Ok.ensures.bytes)
+
+pub returns-in-Ok-clause-few : goal.returns-in-Ok-clause-few
+returns-in-Ok-clause-few g c = omega (arith, ap length c.add.ensures, length-append c.args.folds.now (c.in-Ok.stored ∷ []))

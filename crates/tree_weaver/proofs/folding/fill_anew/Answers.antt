@@ -1,9 +1,9 @@
 use Rattle.std.proofs.Common.{◌≡◌, ℕ, length, take, map, arith, sym, subst, ◌∙◌}
 use Rattle.std.proofs.lemmas.List.{length-take-le}
 use Rattle.range_log.specs.Rows.{leaf_len}
-use Rattle.range_reader.proofs.Counting.{kept_twice}
+use Rattle.range_reader.proofs.Counting.{kept_twice, risen_since}
 use Rattle.tree_weaver.specs.Planned.{own_extent}
-use Rattle.tree_weaver.specs.Anew.{OwnFailed, Unfetched}
+use Rattle.tree_weaver.specs.Anew.{OwnFailed, Unfetched, Unread}
 use Rattle.tree_weaver.proofs.Filled.{page_filled, filled_room}
 use Rattle.tree_weaver.proofs.StoredParts.{part_since}
 use Rattle.tree_weaver.proofs.folding.fill_anew.Goals as goal
@@ -42,3 +42,28 @@ returns-clause-failed g c = λ lost providers replicas.
     let P : ℕ → Type 0 = λ n. OwnFailed t old now part.from n in
     let Q : ℕ → Type 0 = λ b. OwnFailed t old now b (leaf_len t.snapshot.page_size (own_extent t) c.args.page) in
     Unfetched (subst Q e.from (subst P (b_is ∙ e.len) failed))
+
+pub slice_bounds-older-end : goal.slice_bounds-older-end
+slice_bounds-older-end g c = omega (arith, c.requires.whole, c.changed_part-part.ensures.valid, c.changed_part-part.ensures.whole)
+
+pub read_before-requires-clause-few : goal.read_before-requires-clause-few
+read_before-requires-clause-few g c =
+    let e = c.changed_part-part.ensures in
+    omega (arith, length-take-le c.changed_part-part.result.older c.args.out.now (omega (arith, c.requires.whole, e.valid, e.whole)), e.older)
+
+pub read_before-requires-clause-known : goal.read_before-requires-clause-known
+read_before-requires-clause-known g c =
+    let e = c.changed_part-part.ensures in
+    omega (arith, length-take-le c.changed_part-part.result.older c.args.out.now (omega (arith, c.requires.whole, e.valid, e.whole)), e.known)
+
+pub returns-then-not-read_before-clause-failed : goal.returns-then-not-read_before-clause-failed
+returns-then-not-read_before-clause-failed g c = λ lost _ _. Unread (c.read_before.ensures.failed c.if-not-read_before.true)
+
+pub returns-clause-counted : goal.returns-clause-counted
+returns-clause-counted g c = λ lost. risen_since _ _ _ c.read_before.ensures.kept.total (c.fetch_own.ensures.counted lost)
+
+pub returns-then-not-read_before-clause-truth_stays : goal.returns-then-not-read_before-clause-truth_stays
+returns-then-not-read_before-clause-truth_stays g c = c.read_before.ensures.truth_stays c.requires.true_doors
+
+pub returns-clause-truth_stays : goal.returns-clause-truth_stays
+returns-clause-truth_stays g c = c.fetch_own.ensures.truth_stays (c.read_before.ensures.truth_stays c.requires.true_doors)

@@ -1,5 +1,6 @@
 use Rattle.std.proofs.Common.{[], map, ◌∙◌}
 use Rattle.std.specs.List.{cons_option}
+use Rattle.range_reader.proofs.Counting.{kept_twice, risen_since}
 use Rattle.tree_weaver.specs.Anew.{IsStoredAnew, FoldFailed}
 use Rattle.tree_weaver.proofs.Lost.{first_of, rest_of, none_first, none_rest, lost_weaker, fold_since}
 use Rattle.tree_weaver.proofs.folding.fold_pages.Goals as goal
@@ -24,5 +25,26 @@ returns-in-Err-add_fold-clause-failed g c =
 
 pub returns-in-Err-add_fold-clause-untouched : goal.returns-in-Err-add_fold-clause-untouched
 returns-in-Err-add_fold-clause-untouched g c = λ none.
+    none_first _ c.args.last [] (none_rest c.args.first (cons_option c.args.last []) none) c.add_fold-2.ensures.untouched
+    ∙ none_first _ c.args.first (cons_option c.args.last []) none c.add_fold.ensures.untouched
+
+pub returns-in-Err-add_fold-clause-counted : goal.returns-in-Err-add_fold-clause-counted
+returns-in-Err-add_fold-clause-counted g c =
+    lost_weaker c.in-Err-add_fold.fault _ _ (λ _ risen. risen_since _ _ _ c.add_fold.ensures.kept.total risen) c.in-Err-add_fold.ensures.counted
+
+pub returns-in-Err-add_fold-clause-kept : goal.returns-in-Err-add_fold-clause-kept
+returns-in-Err-add_fold-clause-kept g c = kept_twice _ _ _ _ _ _ c.add_fold.ensures.kept c.add_fold-2.ensures.kept
+
+pub returns-in-Ok-add_fold-clause-kept : goal.returns-in-Ok-add_fold-clause-kept
+returns-in-Ok-add_fold-clause-kept g c = kept_twice _ _ _ _ _ _ c.add_fold.ensures.kept c.add_fold-2.ensures.kept
+
+pub add_fold-requires-2-clause-before : goal.add_fold-requires-2-clause-before
+add_fold-requires-2-clause-before g c = λ _ _. c.requires.before
+
+pub returns-in-Err-clause-kept : goal.returns-in-Err-clause-kept
+returns-in-Err-clause-kept g c = c.add_fold.ensures.kept
+
+pub returns-in-Ok-add_fold-clause-untouched : goal.returns-in-Ok-add_fold-clause-untouched
+returns-in-Ok-add_fold-clause-untouched g c = λ none.
     none_first _ c.args.last [] (none_rest c.args.first (cons_option c.args.last []) none) c.add_fold-2.ensures.untouched
     ∙ none_first _ c.args.first (cons_option c.args.last []) none c.add_fold.ensures.untouched

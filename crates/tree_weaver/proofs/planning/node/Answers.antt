@@ -7,7 +7,7 @@ use Rattle.border_hints.specs.Numbered.{own_touch}
 use Rattle.border_hints.specs.Borders.{IsRowRange}
 use Rattle.tree_geom.proofs.Spans.{page_pos}
 use Rattle.tree_weaver.specs.Planned.{own_inner}
-use Rattle.tree_weaver.proofs.Shapes.{size_is, range_is, own_range, own_fits, inner_wide, node_leaf, node_inner}
+use Rattle.tree_weaver.proofs.Shapes.{size_small, size_is, range_is, own_range, own_fits, inner_wide, node_leaf, node_inner}
 use Rattle.tree_weaver.proofs.planning.node.Goals as goal
 
 pub overflow_mul-range : goal.overflow_mul-range
@@ -71,3 +71,9 @@ returns-else-level-eq0 c =
     ap (λ r. made r c.inner.result) (range_is t.snapshot.page_size c.args.level c.args.q _ size)
     ∙ ap (made (tree_range t.snapshot.page_size c.args.level c.args.q))
     (c.inner.ensures ∙ ap (own_inner t) (range_is t.snapshot.page_size c.args.level c.args.q _ size) ∙ node_inner t c.args.level c.args.q wide.0)
+
+pub overflow_mul-size : goal.overflow_mul-size
+overflow_mul-size c =
+    let product : c.bytes.result * c.pow.result ≡ c.bytes.result * 2 ^ c.args.level = ap (λ x. c.bytes.result * x) c.pow.ensures in
+    let small = size_small c.bytes.result c.args.level (omega (arith, c.bytes.ensures.bounds)) (omega (arith, c.requires.level, c.requires.low)) in
+    omega (arith, product, small)

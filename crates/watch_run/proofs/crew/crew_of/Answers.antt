@@ -1,4 +1,9 @@
+use Rattle.std.proofs.Common.{ap, subst, arith}
+use Rattle.std.specs.Prelude.{sum_by}
+use Rattle.store_sessions.specs.Made.{IsNewSession}
 use Rattle.store_sessions.proofs.Traffics.{came_back_around}
+use Rattle.watch_run.specs.Stages.{Owner}
+use Rattle.watch_run.proofs.Ends.{kept_both, kept_back}
 use Rattle.watch_run.proofs.Doors.{crew_handed, crew_back}
 use Rattle.watch_run.proofs.crew.crew_of.Goals as goal
 
@@ -28,3 +33,97 @@ returns-in-Err-clause-all_back g c =
     let m = g.M.DoorMaker in
     crew_back m.hands_out m.takes_back c.args.shared.now.providers c.args.maker.now c.open_session.new.maker c.open_session-2.new.maker c.watchers_of.new.maker c.end_session-in-Err.new.maker c.end_session-in-Err-2.new.maker
     c.in-Ok.ensures.handed_out c.in-Ok-open_session.ensures.handed_out c.in-Err.ensures.all_back c.end_session-in-Err.ensures.taken_back c.end_session-in-Err-2.ensures.taken_back
+
+pub watchers_of-requires-clause-three : goal.watchers_of-requires-clause-three
+watchers_of-requires-clause-three g c =
+    let one = ap (λ (o : Owner). o.made) c.in-Ok.ensures.given in
+    let two = ap (λ (o : Owner). o.made) c.in-Ok-open_session.ensures.given in
+    omega (arith, one, two, c.requires.one)
+
+pub watchers_of-requires-clause-true_doors : goal.watchers_of-requires-clause-true_doors
+watchers_of-requires-clause-true_doors g c = c.open_session-2.ensures.truth_stays.0 (c.open_session.ensures.truth_stays.0 c.requires.true_doors)
+
+pub returns-in-Ok-watchers_of-clause-keeping : goal.returns-in-Ok-watchers_of-clause-keeping
+returns-in-Ok-watchers_of-clause-keeping g c =
+    subst (λ (o : Owner). IsNewSession g.M.Door.Door.faults c.args.shared.now o c.in-Ok-open_session.keeping) c.in-Ok.ensures.given c.in-Ok-open_session.ensures.session
+
+pub returns-in_default-open_session-clause-none_out : goal.returns-in_default-open_session-clause-none_out
+returns-in_default-open_session-clause-none_out g c =
+    let one = ap (λ (o : Owner). o.out) c.in-Ok.ensures.given in
+    omega (arith, one, c.in_default-open_session.ensures.none_out, c.end_session.ensures.counts.0)
+
+pub returns-in-Err-clause-none_out : goal.returns-in-Err-clause-none_out
+returns-in-Err-clause-none_out g c =
+    let one = ap (λ (o : Owner). o.out) c.in-Ok.ensures.given in
+    let two = ap (λ (o : Owner). o.out) c.in-Ok-open_session.ensures.given in
+    omega (arith, one, two, c.in-Err.ensures.none_out, c.end_session-in-Err.ensures.counts.0, c.end_session-in-Err-2.ensures.counts.0)
+
+pub returns-in_default-open_session-clause-doors : goal.returns-in_default-open_session-clause-doors
+returns-in_default-open_session-clause-doors g c =
+    let counts = g.M.DoorMaker.faults in
+    let first = counts c.args.maker.now in
+    let one = counts c.open_session.new.maker in
+    let two = counts c.open_session-2.new.maker in
+    let last = counts c.end_session.new.maker in
+    kept_both first two last (kept_both first one two c.open_session.ensures.doors c.open_session-2.ensures.doors)
+    (kept_back two (sum_by g.M.Door.Door.faults c.in-Ok.writer.doors) last c.end_session.ensures.doors)
+
+pub returns-in-Ok-watchers_of-clause-doors : goal.returns-in-Ok-watchers_of-clause-doors
+returns-in-Ok-watchers_of-clause-doors g c =
+    let counts = g.M.DoorMaker.faults in
+    let first = counts c.args.maker.now in
+    let one = counts c.open_session.new.maker in
+    let two = counts c.open_session-2.new.maker in
+    kept_both first two (counts c.watchers_of.new.maker) (kept_both first one two c.open_session.ensures.doors c.open_session-2.ensures.doors) c.watchers_of.ensures.doors
+
+pub returns-in-Err-clause-doors : goal.returns-in-Err-clause-doors
+returns-in-Err-clause-doors g c =
+    let counts = g.M.DoorMaker.faults in
+    let faults = g.M.Door.Door.faults in
+    let first = counts c.args.maker.now in
+    let one = counts c.open_session.new.maker in
+    let two = counts c.open_session-2.new.maker in
+    let next = counts c.watchers_of.new.maker in
+    let ended = counts c.end_session-in-Err.new.maker in
+    let last = counts c.end_session-in-Err-2.new.maker in
+    kept_both first ended last
+    (kept_both first next ended (kept_both first two next (kept_both first one two c.open_session.ensures.doors c.open_session-2.ensures.doors) c.watchers_of.ensures.doors)
+    (kept_back next (sum_by faults c.in-Ok-open_session.keeping.doors) ended c.end_session-in-Err.ensures.doors))
+    (kept_back ended (sum_by faults c.in-Ok.writer.doors) last c.end_session-in-Err-2.ensures.doors)
+
+pub returns-in-Ok-watchers_of-clause-truth_stays : goal.returns-in-Ok-watchers_of-clause-truth_stays
+returns-in-Ok-watchers_of-clause-truth_stays g c =
+    let p = c.open_session.ensures.truth_stays in
+    let q = c.open_session-2.ensures.truth_stays in
+    let r = c.watchers_of.ensures.truth_stays in
+    (λ t. r.0 (q.0 (p.0 t)), λ t. p.1 (q.1 (r.1 t)))
+
+pub returns-in_default-open_session-clause-truth_stays : goal.returns-in_default-open_session-clause-truth_stays
+returns-in_default-open_session-clause-truth_stays g c =
+    let p = c.open_session.ensures.truth_stays in
+    let q = c.open_session-2.ensures.truth_stays in
+    let r = c.end_session.ensures.truth_stays in
+    (λ t. r.0 (q.0 (p.0 t)), λ t. p.1 (q.1 (r.1 t)))
+
+pub returns-in-Err-clause-truth_stays : goal.returns-in-Err-clause-truth_stays
+returns-in-Err-clause-truth_stays g c =
+    let p = c.open_session.ensures.truth_stays in
+    let q = c.open_session-2.ensures.truth_stays in
+    let r = c.watchers_of.ensures.truth_stays in
+    let s = c.end_session-in-Err.ensures.truth_stays in
+    let t = c.end_session-in-Err-2.ensures.truth_stays in
+    (λ h. t.0 (s.0 (r.0 (q.0 (p.0 h)))), λ h. p.1 (q.1 (r.1 (s.1 (t.1 h)))))
+
+pub returns-in-Ok-watchers_of-clause-plan_stays : goal.returns-in-Ok-watchers_of-clause-plan_stays
+returns-in-Ok-watchers_of-clause-plan_stays g c n door =
+    let p = c.open_session.ensures.plan_stays n door in
+    let q = c.open_session-2.ensures.plan_stays n door in
+    let r = c.watchers_of.ensures.plan_stays n door in
+    (λ h. r.0 (q.0 (p.0 h)), λ h. p.1 (q.1 (r.1 h)))
+
+pub returns-in_default-open_session-clause-plan_stays : goal.returns-in_default-open_session-clause-plan_stays
+returns-in_default-open_session-clause-plan_stays g c n door =
+    let p = c.open_session.ensures.plan_stays n door in
+    let q = c.open_session-2.ensures.plan_stays n door in
+    let r = c.end_session.ensures.plan_stays n door in
+    (λ h. r.0 (q.0 (p.0 h)), λ h. p.1 (q.1 (r.1 h)))

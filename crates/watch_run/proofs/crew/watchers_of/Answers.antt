@@ -1,11 +1,12 @@
 use Rattle.std.proofs.Common.{rules, ◌≡◌, ◌∙◌, ◌*◌, ℕ, vec_len, ap, subst, sym, refl, arith}
 use Rattle.std.proofs.lemmas.Grind.{common_steps}
+use Rattle.std.specs.Prelude.{sum_by}
 use Rattle.page_store.specs.Calls.{Traffic, no_door}
 use Rattle.client_session.specs.Sessions.{SessionState}
 use Rattle.store_sessions.proofs.Traffics.{none_handed, handed_more, came_back_around}
 use Rattle.watch_run.specs.Stages.{Owner, IsIdle}
 use Rattle.watch_run.specs.Crews.{IsReadyToWatch}
-use Rattle.watch_run.proofs.Ends.{all_more}
+use Rattle.watch_run.proofs.Ends.{all_more, kept_both}
 use Rattle.watch_run.proofs.Stages.{new_idle}
 use Rattle.watch_run.proofs.crew.watchers_of.Goals as goal
 
@@ -21,39 +22,39 @@ makes-preserved g c =
     let session : c.reader.result.session ≡ c.in-Ok-open_session.session = r.session in
     let idle = new_idle faults c.entries_are_events.ensures c.args.shared.now c.makes.owner c.in-Ok-open_session.session i.owner.log.tags (omega (arith, before, c.requires.three)) x.session in
     record {
-      few = search rules;
+      few = omega (arith, c.push_reserved.ensures.len, c.makes-test.true);
       room = search rules;
       ready = all_more (IsReadyToWatch faults c.args.shared.now c.args.stand.now) c.makes.watchers.items _ _ c.push_reserved.ensures.items i.ready (record {
         board_is = r.board ∙ i.stand;
         idle = subst (λ (s : SessionState _). IsIdle c.args.shared.now s) (sym session) idle;
-        no_fault = search rules;
+        no_fault = ap (λ (s : SessionState _). sum_by faults s.doors) session ∙ x.session.no_fault;
         told = refl;
       });
       stand = r.stand ∙ i.stand;
-      owner = search rules;
+      owner = x.owner;
       given = search rules;
-      maker_true = search rules;
+      maker_true = x.truth_stays.0 i.maker_true;
       handed = subst (λ (n : ℕ). Traffic m.hands_out m.takes_back (n * p) 0 c.args.maker.now c.open_session.new.maker) (sym c.push_reserved.ensures.len)
           (handed_more m.hands_out m.takes_back p (vec_len c.makes.watchers) c.args.maker.now c.makes.maker c.open_session.new.maker i.handed x.handed_out);
-      doors = search rules;
+      doors = kept_both (m.faults c.args.maker.now) (m.faults c.makes.maker) (m.faults c.open_session.new.maker) i.doors x.doors;
       plan_stays = λ n door. (λ h. (x.plan_stays n door).0 ((i.plan_stays n door).0 h), λ h. (i.plan_stays n door).1 ((x.plan_stays n door).1 h));
-      truth_stays = search rules;
+      truth_stays = (λ t. x.truth_stays.0 (i.truth_stays.0 t), λ t. i.truth_stays.1 (x.truth_stays.1 t));
     }
 
 pub makes-init : goal.makes-init
 makes-init g c = record {
-  few = first_of (search rules, grind (arith, common_steps));
+  few = omega (arith, c.in-Ok.ensures.len);
   room = first_of (search rules, grind (arith, common_steps));
   ready = first_of (search rules, grind (arith, common_steps));
-  stand = first_of (search rules, grind (arith, common_steps));
-  owner = first_of (search rules, grind (arith, common_steps));
+  stand = refl;
+  owner = c.requires.owner;
   given = first_of (search rules, grind (arith, common_steps));
-  maker_true = first_of (search rules, grind (arith, common_steps));
+  maker_true = c.requires.true_doors;
   handed = subst (λ (n : ℕ). Traffic g.M.DoorMaker.hands_out g.M.DoorMaker.takes_back (n * c.args.shared.now.providers) 0 c.args.maker.now c.args.maker.now) (sym c.in-Ok.ensures.len)
       (none_handed g.M.DoorMaker.hands_out g.M.DoorMaker.takes_back c.args.shared.now.providers c.args.maker.now);
-  doors = first_of (search rules, grind (arith, common_steps));
-  plan_stays = first_of (search rules, grind (arith, common_steps));
-  truth_stays = first_of (search rules, grind (arith, common_steps));
+  doors = λ less. omega arith;
+  plan_stays = λ n door. (λ h. h, λ h. h);
+  truth_stays = (λ t. t, λ t. t);
 }
 
 pub returns-in_default-clause-all_back : goal.returns-in_default-clause-all_back

@@ -1,13 +1,13 @@
-use Rattle.std.proofs.Common.{rules, ◌≡◌, ◌∙◌, List, Bool, ◌+◌, ◌-◌, vec_len, ap, subst, arith}
+use Rattle.std.proofs.Common.{◌≡◌, ◌∙◌, List, Bool, ◌+◌, ◌-◌, ◌≤◌, vec_len, refl, ap, subst, arith}
 use Rattle.std.specs.Prelude.{All, IfSome, Option}
-use Rattle.std.proofs.lemmas.Grind.{common_steps}
 use mir.Val.{bool_byte}
 use Rattle.request_form.specs.declared.form.Fault.{Fault}
 use Rattle.workload_law.specs.Ends.{IsOutside, AnyPage}
 use Rattle.watch_run.specs.Readers.{WatcherState}
-use Rattle.watch_run.specs.Crews.{IsDoneWatching}
+use Rattle.watch_run.specs.Crews.{IsDoneWatching, stop_faults}
 use Rattle.watch_run.proofs.Doors.{none_gone, one_more, one_stopped, all_ended, all_doors}
-use Rattle.watch_run.proofs.Ends.{all_front, all_last, agree_more}
+use Rattle.watch_run.proofs.Ends.{AgreeSoFar, all_front, all_last, agree_more}
+use Rattle.watch_run.proofs.Stages.{leaves_given}
 use Rattle.watch_run.proofs.ending.agree_all.Goals as goal
 
 pub loop-watcher-preserved-in-Ok : goal.loop-watcher-preserved-in-Ok
@@ -84,16 +84,53 @@ returns-in-None-clause-lent g c =
 pub loop-watcher-init : goal.loop-watcher-init
 loop-watcher-init g c = record {
   owner = c.requires.owner;
-  agree = first_of (search rules, grind (arith, common_steps));
+  agree = record { count = omega arith; leaves = leaves_given c.args.owner.now c.args.owner.now refl refl };
   made = c.requires.passes_left;
-  few = first_of (search rules, grind (arith, common_steps));
-  out = first_of (search rules, grind (arith, common_steps));
+  few = omega arith;
+  out = refl;
   done = c.requires.done;
   seen = c.requires.seen;
-  stop = first_of (search rules, grind (arith, common_steps));
-  doors = first_of (search rules, grind (arith, common_steps));
+  stop = tt;
+  doors = λ less. omega arith;
   ended = none_gone g.M.DoorMaker.hands_out g.M.DoorMaker.takes_back c.args.shared.now.providers (vec_len c.args.watchers) c.args.maker.now;
   plan_stays = λ n door. (λ h. h, λ h. h);
   truth_stays = (λ t. t, λ t. t);
-  maker_true = first_of (search rules, grind (arith, common_steps));
+  maker_true = c.requires.true_doors;
 }
+
+pub agree_with-requires-clause-passes_left : goal.agree_with-requires-clause-passes_left
+agree_with-requires-clause-passes_left g c =
+    let made = c.loop-watcher.invariant.made in
+    (made.0, omega (arith, made.1, c.in-Some.ensures.cases))
+
+pub overflow_add-agree : goal.overflow_add-agree
+overflow_add-agree g c =
+    let i = c.loop-watcher.invariant in
+    let one : c.from-agree.result ≡ 1 = c.from-agree.ensures ∙ ap (λ (b : Bool). bool_byte b) c.in-Ok.ensures.agrees in
+    omega (arith, i.few, one, c.in-Some.ensures.cases, c.requires.passes_left.1)
+
+pub returns-in-None-clause-all : goal.returns-in-None-clause-all
+returns-in-None-clause-all g c =
+    let l = c.loop-watcher in
+    let so = subst (λ (o : Option Fault). AgreeSoFar o c.args.owner.now l.owner l.agree (vec_len l.watchers) (vec_len c.args.watchers)) c.in-None.is l.invariant.agree in
+    omega (arith, so.count, c.in_default.ensures.cases.0)
+
+pub returns-in-None-clause-leaves : goal.returns-in-None-clause-leaves
+returns-in-None-clause-leaves g c =
+    let l = c.loop-watcher in
+    let so = subst (λ (o : Option Fault). AgreeSoFar o c.args.owner.now l.owner l.agree (vec_len l.watchers) (vec_len c.args.watchers)) c.in-None.is l.invariant.agree in
+    so.leaves
+
+pub returns-in-None-clause-out : goal.returns-in-None-clause-out
+returns-in-None-clause-out g c = omega (arith, c.loop-watcher.invariant.out, c.in_default.ensures.cases.0)
+
+pub returns-in-Some-stop-clause-out : goal.returns-in-Some-stop-clause-out
+returns-in-Some-stop-clause-out g c = omega (arith, c.loop-watcher.invariant.out, c.in_default.ensures.cases.0)
+
+pub returns-in-None-clause-doors : goal.returns-in-None-clause-doors
+returns-in-None-clause-doors g c = λ less. let low = c.loop-watcher.invariant.doors less in omega (arith, low)
+
+pub returns-in-Some-stop-clause-doors : goal.returns-in-Some-stop-clause-doors
+returns-in-Some-stop-clause-doors g c = λ less.
+    let counts = g.M.DoorMaker.faults in
+    subst (λ (o : Option Fault). counts c.args.maker.now + stop_faults o ≤ counts c.loop-watcher.maker) c.in-Some-stop.is (c.loop-watcher.invariant.doors less)

@@ -1,7 +1,12 @@
-use Rattle.std.proofs.Common.{◌≡◌, ap, arith}
+use Rattle.std.proofs.Common.{◌≡◌, ap, subst, sym, arith}
+use Rattle.std.specs.Prelude.{sum_by}
+use Rattle.turn_lock.specs.History.{Begins}
 use Rattle.store_sessions.proofs.Traffics
-use Rattle.watch_run.specs.Stages.{Owner}
+use Rattle.update_work.specs.Updates.{told_faults}
+use Rattle.watch_run.specs.Agreeing.{IsSeenIn}
+use Rattle.watch_run.specs.Stages.{Owner, Entries}
 use Rattle.watch_run.proofs.Crews.{idle_on, told_any}
+use Rattle.watch_run.proofs.Ends.{rose_told, seen_on, seen_by}
 use Rattle.watch_run.proofs.Stages.{new_idle, leaves_both, leaves_given}
 use Rattle.watch_run.proofs.ending.agree_by_turn.Goals as goal
 
@@ -31,3 +36,39 @@ returns-clause-lent g c =
     let p = c.args.shared.now.providers in
     Traffics.lent hands_out takes_back p c.args.maker.now c.end_idle.new.maker c.compare_by_turn-told.result
     (Traffics.went_back hands_out takes_back p c.args.maker.now c.open_session.new.maker c.end_idle.new.maker c.in-Ok.ensures.handed_out c.end_idle.ensures.taken_back)
+
+pub compare_by_turn-told-requires-clause-seen : goal.compare_by_turn-told-requires-clause-seen
+compare_by_turn-told-requires-clause-seen g c =
+    let s = c.in-Ok.session in
+    let x = c.in-Ok.ensures.session in
+    seen_by c.args.shared.now s c.args.owner.now.seen c.args.last.now x.of_store x.log c.requires.seen
+
+pub returns-in_default-clause-seen : goal.returns-in_default-clause-seen
+returns-in_default-clause-seen g c = subst (λ (l : Entries). IsSeenIn c.args.shared.now.fixed l c.args.last.now) (sym c.open_session.ensures.seen) c.requires.seen
+
+pub returns-clause-seen : goal.returns-clause-seen
+returns-clause-seen g c =
+    let seen = c.end_idle.new.owner.seen in
+    seen_on c.args.shared.now.fixed c.args.owner.now.seen seen c.args.last.now c.requires.seen
+    (subst (λ (l : Entries). Begins l seen) c.open_session.ensures.seen c.end_idle.ensures.leaves.comes.begins)
+
+pub returns-clause-out : goal.returns-clause-out
+returns-clause-out g c = let given = ap (λ (o : Owner). o.out) c.in-Ok.ensures.given in omega (arith, given, c.end_idle.ensures.out)
+
+pub returns-clause-made : goal.returns-clause-made
+returns-clause-made g c = rw c.end_idle.ensures.made c.open_session.ensures.made_most
+
+pub returns-clause-doors : goal.returns-clause-doors
+returns-clause-doors g c =
+    let counts = g.M.DoorMaker.faults in
+    let faults = g.M.Door.Door.faults in
+    let told = c.compare_by_turn-told in
+    rose_told (told_faults told.result) (counts c.args.maker.now) (counts c.open_session.new.maker) (sum_by faults c.in-Ok.session.doors) (sum_by faults told.new.session.doors)
+    (counts c.end_idle.new.maker)
+    c.open_session.ensures.doors told.ensures.rose c.end_idle.ensures.doors
+
+pub returns-clause-truth_stays : goal.returns-clause-truth_stays
+returns-clause-truth_stays g c =
+    let i = c.open_session.ensures in
+    let e = c.end_idle.ensures in
+    (λ t. e.truth_stays.0 (i.truth_stays.0 t), λ t. i.truth_stays.1 (e.truth_stays.1 t))

@@ -1,9 +1,14 @@
-use Rattle.std.proofs.Common.{◌∙◌, ap, subst, sym}
-use Rattle.std.specs.Prelude.{IfErr}
+use Rattle.std.proofs.Common.{◌∙◌, ◌+◌, ◌-◌, ◌^◌, ◌<◌, ◌≤◌, min, ap, subst, sym, arith}
+use Rattle.std.specs.Prelude.{sum_by, IfErr}
+use Rattle.request_form.specs.Replies.{page_faults}
+use Rattle.client_session.specs.Sessions.{SessionState}
 use Rattle.workload_law.specs.Ends.{IsOutside, AnyPage}
 use Rattle.watch_run.specs.Readers.{WatcherState}
 use Rattle.update_work.specs.Callers.{Told}
+use Rattle.update_work.specs.Updates.{told_faults}
+use Rattle.update_work.proofs.Fresh.{rose_stop}
 use Rattle.watch_run.proofs.Doors.{doors_of, one_ended}
+use Rattle.watch_run.proofs.Ends.{seen_on}
 use Rattle.watch_run.proofs.ending.agree_with.Goals as goal
 
 pub returns-in-Err-clause-stop : goal.returns-in-Err-clause-stop
@@ -15,3 +20,22 @@ returns-in-Err-clause-lent g c =
     let m = g.M.DoorMaker in
     doors_of m.hands_out m.takes_back c.args.shared.now.providers 0 0 1 c.args.maker.now c.end_idle.new.maker
     (one_ended m.hands_out m.takes_back c.args.shared.now.providers c.args.maker.now c.end_idle.new.maker c.end_idle.ensures.taken_back)
+
+pub returns-in-Err-clause-seen : goal.returns-in-Err-clause-seen
+returns-in-Err-clause-seen g c = seen_on c.args.shared.now.fixed c.args.owner.now.seen c.end_idle.new.owner.seen c.args.last.now c.requires.seen c.end_idle.ensures.leaves.comes.begins
+
+pub returns-in-Err-clause-made : goal.returns-in-Err-clause-made
+returns-in-Err-clause-made g c = let e = c.end_idle.ensures.made in (omega (arith, e), omega (arith, e))
+
+pub returns-in-Err-clause-doors : goal.returns-in-Err-clause-doors
+returns-in-Err-clause-doors g c =
+    let counts = g.M.DoorMaker.faults in
+    let faults = g.M.Door.Door.faults in
+    let old = counts c.args.maker.now in
+    let new = counts c.end_idle.new.maker in
+    let told = ap (λ (w : WatcherState _). w.told) (sym c.watcher.view_is) ∙ c.in-Err.is in
+    let doors = c.args.watcher.reader.session.doors in
+    let counted = subst (λ (t : Told). sum_by faults doors < 2 ^ 64 - 1 → told_faults t ≤ sum_by faults doors) told c.requires.done.endable.counted in
+    let session = c.into_session.ensures ∙ ap (λ (w : WatcherState _). w.reader.session) c.watcher.view_is in
+    let back = subst (λ (s : SessionState _). min (old + sum_by faults s.doors) (2 ^ 64 - 1) ≤ new) session c.end_idle.ensures.doors in
+    rose_stop (page_faults c.in-Err.fault) old old (sum_by faults doors) new (λ _. omega arith) counted back

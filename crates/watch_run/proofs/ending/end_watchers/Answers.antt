@@ -1,6 +1,5 @@
-use Rattle.std.proofs.Common.{rules, refl, ◌≡◌, ◌∙◌, List, [], ◌∷◌, ◌++◌, ◌+◌, ◌-◌, ◌^◌, ◌<◌, ◌≤◌, min, ap, subst, sym, arith}
+use Rattle.std.proofs.Common.{refl, ◌≡◌, ◌∙◌, List, [], ◌∷◌, ◌++◌, ◌+◌, ◌-◌, ◌^◌, ◌<◌, ◌≤◌, min, ap, subst, sym, arith}
 use Rattle.std.specs.Prelude.{sum_by, All, IfErr}
-use Rattle.std.proofs.lemmas.Grind.{common_steps}
 use Rattle.request_form.specs.Replies.{page_faults}
 use Rattle.client_session.specs.Sessions.{SessionState}
 use Rattle.workload_law.specs.Ends.{IsOutside, AnyPage}
@@ -9,6 +8,7 @@ use Rattle.update_work.proofs.Fresh.{rose_stop}
 use Rattle.watch_run.specs.Readers.{WatcherState}
 use Rattle.update_work.specs.Callers.{Told}
 use Rattle.watch_run.specs.Crews.{IsEndable, stop_faults}
+use Rattle.watch_run.specs.Stages.{IsIdle}
 use Rattle.watch_run.proofs.Ends.{all_front, all_last, rose_on, lower}
 use Rattle.watch_run.proofs.Stages.{leaves_both, leaves_given}
 use Rattle.store_sessions.proofs.Traffics.{none_gone, gone_more, all_gone}
@@ -75,11 +75,22 @@ pub loop-watcher-init : goal.loop-watcher-init
 loop-watcher-init g c = record {
   owner = c.requires.owner;
   leaves = leaves_given c.args.owner.now c.args.owner.now refl refl;
-  out = first_of (search rules, grind (arith, common_steps));
+  out = refl;
   endable = c.requires.endable;
-  stop = first_of (search rules, grind (arith, common_steps));
-  doors = first_of (search rules, grind (arith, common_steps));
+  stop = tt;
+  doors = λ less. omega arith;
   gone = none_gone g.M.DoorMaker.hands_out g.M.DoorMaker.takes_back c.args.shared.now.providers c.args.watchers.len c.args.maker.now;
   plan_stays = λ n door. (λ h. h, λ h. h);
   truth_stays = (λ t. t, λ t. t);
 }
+
+pub end_idle-requires-clause-idle : goal.end_idle-requires-clause-idle
+end_idle-requires-clause-idle g c =
+    let store = c.args.shared.now in
+    let endable = IsEndable g.M.Door.Door.faults store in
+    let all = subst (λ (l : List (WatcherState _)). All endable l) c.in-Some.ensures.items c.loop-watcher.invariant.endable in
+    let last = all_last endable c.pop.new.self.items c.in-Some.watcher all in
+    subst (λ (s : SessionState _). IsIdle store s) (sym (c.into_session.ensures ∙ ap (λ (w : WatcherState _). w.reader.session) c.watcher.view_is)) last.idle
+
+pub returns-clause-out : goal.returns-clause-out
+returns-clause-out g c = omega (arith, c.loop-watcher.invariant.out, c.in_default.ensures.cases.0)

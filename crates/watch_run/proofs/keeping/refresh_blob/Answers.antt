@@ -1,6 +1,7 @@
-use Rattle.std.proofs.Common.{◌∙◌, ap, Err}
+use Rattle.std.proofs.Common.{◌∙◌, ap, subst, Err}
 use Rattle.read_board.specs.declared.keeper.RefreshFault.{RefreshFault}
-use Rattle.watch_run.proofs.Kept.{not_full, left_pending}
+use Rattle.read_board.specs.Causes.{RefreshCause}
+use Rattle.watch_run.proofs.Kept.{not_full, left_pending, hindered}
 use Rattle.watch_run.proofs.keeping.refresh_blob.Goals as goal
 
 pub unreachable-requires : goal.unreachable-requires
@@ -12,3 +13,10 @@ pub returns-in-Err-Fault-clause-refreshes : goal.returns-in-Err-Fault-clause-ref
 returns-in-Err-Fault-clause-refreshes g c =
     let x = c.in-Err-Fault.ensures in
     left_pending c.sessions_own.ensures.gaps c.args.keeper.now c.refresh.new.self c.args.session.now c.refresh.new.session c.requires.may x.hold x.looked x.goes_on x.board x.left
+
+pub returns-in-Err-Fault-clause-hindered : goal.returns-in-Err-Fault-clause-hindered
+returns-in-Err-Fault-clause-hindered g c =
+    let x = c.in-Err-Fault.ensures in
+    let s' = c.refresh.new.session in
+    let cause = subst (λ (f : RefreshFault). RefreshCause s' 1 f) c.in-Err-Fault.field-0-is x.cause in
+    hindered c.sessions_own.ensures.gaps c.args.keeper.now c.refresh.new.self c.args.session.now s' c.requires.may x.hold x.looked x.goes_on x.board c.in-Err-Fault.fault cause

@@ -1,7 +1,10 @@
 use Rattle.std.proofs.Common.{◌≡◌, ◌∙◌, ap, arith}
+use Rattle.std.specs.Prelude.{sum_by}
 use Rattle.client_session.specs.Sessions.{StoreState}
 use Rattle.store_sessions.proofs.Traffics
+use Rattle.update_work.specs.Updates.{told_faults}
 use Rattle.watch_run.specs.Stages.{Owner}
+use Rattle.watch_run.proofs.Ends.{rose_told}
 use Rattle.watch_run.proofs.Stages.{took, opens_as}
 use Rattle.watch_run.proofs.making.open_store.Goals as goal
 
@@ -26,3 +29,24 @@ returns-clause-lent g c =
     let p = c.args.shared.now.providers in
     Traffics.lent hands_out takes_back p c.args.maker.now c.end_session.new.maker c.make_blob-made.result
     (Traffics.went_back hands_out takes_back p c.args.maker.now c.open_session.new.maker c.end_session.new.maker c.in-Ok.ensures.handed_out c.end_session.ensures.taken_back)
+
+pub returns-clause-doors : goal.returns-clause-doors
+returns-clause-doors g c =
+    let counts = g.M.DoorMaker.faults in
+    let faults = g.M.Door.Door.faults in
+    let made = c.make_blob-made in
+    rose_told (told_faults made.result) (counts c.args.maker.now) (counts c.open_session.new.maker) (sum_by faults c.in-Ok.session.doors) (sum_by faults made.new.session.doors)
+    (counts c.end_session.new.maker)
+    c.open_session.ensures.doors made.ensures.faults c.end_session.ensures.doors
+
+pub returns-clause-truth_stays : goal.returns-clause-truth_stays
+returns-clause-truth_stays g c =
+    let i = c.open_session.ensures in
+    let e = c.end_session.ensures in
+    (λ t. e.truth_stays.0 (i.truth_stays.0 t), λ t. i.truth_stays.1 (e.truth_stays.1 t))
+
+pub returns-clause-plan_stays : goal.returns-clause-plan_stays
+returns-clause-plan_stays g c n door =
+    let i = c.open_session.ensures in
+    let e = c.end_session.ensures in
+    (λ h. (e.plan_stays n door).0 ((i.plan_stays n door).0 h), λ h. (i.plan_stays n door).1 ((e.plan_stays n door).1 h))

@@ -1,6 +1,11 @@
-use Rattle.std.proofs.Common.{◌≡◌}
-use Rattle.std.proofs.Common.{vec_len}
+use Rattle.std.proofs.Common.{◌≡◌, vec_len, sym, subst, arith}
+use Rattle.std.specs.Prelude.{All}
+use Rattle.request_form.specs.Replies.{page_faults}
+use Rattle.read_board.specs.Fronts.{BoardId}
+use Rattle.watch_run.specs.Crews.{IsDoneWatching}
 use Rattle.watch_run.specs.Ending.{FinishHindered}
+use Rattle.watch_run.proofs.Crews.{all_done_end}
+use Rattle.watch_run.proofs.Ends.{rose_later, rose_before}
 use Rattle.watch_run.proofs.Doors.{read_and_ended, came_and_ended, readers_ended}
 use Rattle.watch_run.proofs.Finishing.{finished, finish_later}
 use Rattle.watch_run.proofs.watching.finish.Goals as goal
@@ -56,3 +61,58 @@ returns-clause-lent g c =
     let n = vec_len c.args.watchers in
     came_and_ended m.hands_out m.takes_back p n c.args.doors.now c.read_back.new.doors c.end_watchers.new.maker c.in-Err.ensures.lent
     (readers_ended m.hands_out m.takes_back p n c.args.doors.now c.read_back.new.doors c.end_watchers.new.maker c.end_watchers.ensures.taken_back)
+
+pub agree_all-requires-clause-passes_left : goal.agree_all-requires-clause-passes_left
+agree_all-requires-clause-passes_left g c =
+    let m = c.read_back.ensures.made in
+    let p = c.requires.passes_left in
+    (omega (arith, m.0, p.0), omega (arith, m.1, p.1))
+
+pub agree_all-requires-clause-true_doors : goal.agree_all-requires-clause-true_doors
+agree_all-requires-clause-true_doors g c = c.read_back.ensures.truth_stays.0 c.requires.true_doors
+
+pub agree_all-requires-clause-done : goal.agree_all-requires-clause-done
+agree_all-requires-clause-done g c =
+    subst (λ (b : BoardId). All (IsDoneWatching g.M.Door.Door.faults c.args.shared.now b) c.args.watchers.items) (sym c.read_back.ensures.board) c.requires.done
+
+pub end_watchers-requires-clause-endable : goal.end_watchers-requires-clause-endable
+end_watchers-requires-clause-endable g c = all_done_end g.M.Door.Door.faults c.args.shared.now c.args.keeper.board c.args.watchers.items c.requires.done
+
+pub returns-in-Ok-agree_all-clause-out : goal.returns-in-Ok-agree_all-clause-out
+returns-in-Ok-agree_all-clause-out g c = omega (arith, c.read_back.ensures.out, c.agree_all.ensures.out)
+
+pub returns-in-Ok-clause-out : goal.returns-in-Ok-clause-out
+returns-in-Ok-clause-out g c = omega (arith, c.read_back.ensures.out, c.agree_all.ensures.out)
+
+pub returns-in-Some-clause-out : goal.returns-in-Some-clause-out
+returns-in-Some-clause-out g c = omega (arith, c.read_back.ensures.out, c.end_watchers.ensures.out)
+
+pub returns-clause-out : goal.returns-clause-out
+returns-clause-out g c = omega (arith, c.read_back.ensures.out, c.end_watchers.ensures.out)
+
+pub returns-in-Ok-agree_all-clause-doors : goal.returns-in-Ok-agree_all-clause-doors
+returns-in-Ok-agree_all-clause-doors g c =
+    let counts = g.M.DoorMaker.faults in
+    rose_later 0 0 (counts c.args.doors.now) (counts c.read_back.new.doors) (counts c.agree_all.new.maker) c.in-Ok.ensures.doors c.in-Ok-agree_all.ensures.doors
+
+pub returns-in-Ok-clause-doors : goal.returns-in-Ok-clause-doors
+returns-in-Ok-clause-doors g c =
+    let counts = g.M.DoorMaker.faults in
+    rose_later 0 (page_faults c.in-Err-agree_all.stopped) (counts c.args.doors.now) (counts c.read_back.new.doors) (counts c.agree_all.new.maker) c.in-Ok.ensures.doors c.in-Err-agree_all.ensures.doors
+
+pub returns-in-Some-clause-doors : goal.returns-in-Some-clause-doors
+returns-in-Some-clause-doors g c =
+    let counts = g.M.DoorMaker.faults in
+    rose_later (page_faults c.in-Err.fault) (page_faults c.in-Some.stop) (counts c.args.doors.now) (counts c.read_back.new.doors) (counts c.end_watchers.new.maker) c.in-Err.ensures.doors
+    c.in-Some.ensures.doors
+
+pub returns-clause-doors : goal.returns-clause-doors
+returns-clause-doors g c =
+    let counts = g.M.DoorMaker.faults in
+    rose_before (page_faults c.in-Err.fault) 0 (counts c.args.doors.now) (counts c.read_back.new.doors) (counts c.end_watchers.new.maker) c.in-Err.ensures.doors c.in-None.ensures.doors
+
+pub returns-in-Ok-agree_all-clause-truth_stays : goal.returns-in-Ok-agree_all-clause-truth_stays
+returns-in-Ok-agree_all-clause-truth_stays g c =
+    let i = c.read_back.ensures in
+    let e = c.agree_all.ensures in
+    (λ t. e.truth_stays.0 (i.truth_stays.0 t), λ t. i.truth_stays.1 (e.truth_stays.1 t))

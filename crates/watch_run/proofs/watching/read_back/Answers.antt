@@ -1,9 +1,12 @@
-use Rattle.std.proofs.Common.{rules, ◌≡◌, ◌∙◌, ◌∷◌, [], ap, subst, sym, arith}
+use Rattle.std.proofs.Common.{◌≡◌, ◌∙◌, ◌∷◌, [], ap, subst, sym, arith}
+use Rattle.std.specs.Prelude.{sum_by}
 use Rattle.client_session.specs.Sessions.{StoreState}
 use Rattle.read_board.specs.Refreshing.{AllHold}
 use Rattle.store_sessions.proofs.Traffics
+use Rattle.update_work.specs.Updates.{told_faults}
 use Rattle.watch_run.specs.Stages.{Owner, Entries}
 use Rattle.watch_run.proofs.Crews.{idle_on, told_read, told_lost}
+use Rattle.watch_run.proofs.Ends.{rose_told}
 use Rattle.watch_run.proofs.Finishing.{finish_hindered, read_back}
 use Rattle.watch_run.proofs.Stages.{new_idle, leaves_both, leaves_given}
 use Rattle.watch_run.proofs.watching.read_back.Goals as goal
@@ -63,3 +66,24 @@ returns-clause-lent g c =
     let p = c.args.shared.now.providers in
     Traffics.lent hands_out takes_back p c.args.doors.now c.end_idle.new.maker c.read_last-told.result
     (Traffics.went_back hands_out takes_back p c.args.doors.now c.open_session.new.maker c.end_idle.new.maker c.in-Ok.ensures.handed_out c.end_idle.ensures.taken_back)
+
+pub returns-clause-out : goal.returns-clause-out
+returns-clause-out g c = let given = ap (λ (o : Owner). o.out) c.in-Ok.ensures.given in omega (arith, given, c.end_idle.ensures.out)
+
+pub returns-clause-made : goal.returns-clause-made
+returns-clause-made g c = rw c.end_idle.ensures.made c.open_session.ensures.made_most
+
+pub returns-clause-doors : goal.returns-clause-doors
+returns-clause-doors g c =
+    let counts = g.M.DoorMaker.faults in
+    let faults = g.M.Door.Door.faults in
+    let told = c.read_last-told in
+    rose_told (told_faults told.result) (counts c.args.doors.now) (counts c.open_session.new.maker) (sum_by faults c.in-Ok.session.doors) (sum_by faults told.new.session.doors)
+    (counts c.end_idle.new.maker)
+    c.open_session.ensures.doors told.ensures.rose c.end_idle.ensures.doors
+
+pub returns-clause-truth_stays : goal.returns-clause-truth_stays
+returns-clause-truth_stays g c =
+    let i = c.open_session.ensures in
+    let e = c.end_idle.ensures in
+    (λ t. e.truth_stays.0 (i.truth_stays.0 t), λ t. i.truth_stays.1 (e.truth_stays.1 t))

@@ -1,5 +1,6 @@
 use Rattle.std.proofs.Common.{◌≡◌, ◌∙◌, ◌+◌, ◌*◌, [], ℕ, length, vec_len, refl, sym, ap, subst, arith}
-use Rattle.std.specs.Prelude.{All}
+use Rattle.std.specs.Prelude.{All, sum_by}
+use Rattle.request_form.specs.Replies.{page_faults}
 use Rattle.page_store.specs.Calls.{Traffic}
 use Rattle.turn_lock.specs.History.{entries_by, Begins}
 use Rattle.turn_lock.proofs.Histories.{begins_both}
@@ -12,11 +13,13 @@ use Rattle.update_work.proofs.Fresh.{fresh_at}
 use Rattle.watch_run.specs.Ending.{Finishes}
 use Rattle.watch_run.specs.Doors.{EndDoors}
 use Rattle.watch_run.proofs.Doors.{crew_told, crew_ended, readers_ended}
-use Rattle.watch_run.specs.Crews.{IsDoneWatching}
+use Rattle.update_work.specs.Updates.{told_faults}
+use Rattle.watch_run.specs.Crews.{IsDoneWatching, stop_faults}
 use Rattle.watch_run.specs.Stages.{Entries, Owner}
 use Rattle.watch_run.proofs.Crews.{idle_on, all_done, all_done_end}
 use Rattle.watch_run.proofs.Stages.{TookBack, took, new_idle, leaves_both}
-use Rattle.watch_run.proofs.Works.{ends_by_finish, ends_early, both_done}
+use Rattle.watch_run.proofs.Ends.{rose_told, rose_after, rose_early}
+use Rattle.watch_run.proofs.Works.{ends_by_finish, ends_early, both_done, early_counts}
 use Rattle.watch_run.proofs.watching.work.Goals as goal
 
 pub work_beside-keeper-requires-clause-fresh : goal.work_beside-keeper-requires-clause-fresh
@@ -141,3 +144,59 @@ returns-in-Err-clause-lent g c =
     let count : vec_len c.work_beside-keeper.result.1.watchers ≡ n = c.work_beside-keeper.ensures.count ∙ c.requires.count in
     crew_ended m.hands_out m.takes_back p n first c.end_session.new.maker mid last c.end_session.ensures.taken_back c.end_idle.ensures.taken_back
     (readers_ended m.hands_out m.takes_back p n first mid last (subst (λ (k : ℕ). Traffic m.hands_out m.takes_back 0 (k * p) mid last) count c.end_watchers-later.ensures.taken_back))
+
+pub finish-requires-clause-passes_left : goal.finish-requires-clause-passes_left
+finish-requires-clause-passes_left g c κs within =
+    let one = ap (λ (o : Owner). o.made) c.end_session.ensures.counts.1 in
+    let two = c.end_idle.ensures.made in
+    let made = c.requires.opened.made in
+    (omega (arith, one, two, made), omega (arith, one, two, made, c.work_beside-keeper.ensures.count, c.requires.count, c.requires.sized.readers))
+
+pub returns-in-Ok-clause-none_out : goal.returns-in-Ok-clause-none_out
+returns-in-Ok-clause-none_out g c =
+    omega (arith, c.end_session.ensures.counts.0, c.end_idle.ensures.out, c.finish.ensures.out, c.requires.opened.out, c.work_beside-keeper.ensures.count, c.requires.count)
+
+pub returns-in-Err-clause-none_out : goal.returns-in-Err-clause-none_out
+returns-in-Err-clause-none_out g c =
+    omega (arith, c.end_session.ensures.counts.0, c.end_idle.ensures.out, c.end_watchers-later.ensures.out, c.requires.opened.out, c.work_beside-keeper.ensures.count, c.requires.count)
+
+pub returns-in-Ok-clause-doors : goal.returns-in-Ok-clause-doors
+returns-in-Ok-clause-doors g c =
+    let counts = g.M.DoorMaker.faults in
+    let faults = g.M.Door.Door.faults in
+    let crew = c.work_beside-keeper.result.1 in
+    let n = told_faults c.finish.result in
+    let one = counts c.end_session.new.maker in
+    let two = counts c.end_idle.new.maker in
+    let last = counts c.finish.new.doors in
+    rose_after n (counts c.args.doors.now) one (sum_by faults crew.writer.doors) last c.end_session.ensures.doors
+    (rose_after n one two (sum_by faults crew.keeping.doors) last c.end_idle.ensures.doors c.finish.ensures.doors)
+
+pub returns-in-Err-clause-doors : goal.returns-in-Err-clause-doors
+returns-in-Err-clause-doors g c =
+    let counts = g.M.DoorMaker.faults in
+    let faults = g.M.Door.Door.faults in
+    let r = c.work_beside-keeper.result in
+    let x = c.work_beside-keeper.ensures in
+    let n = told_faults r.2 in
+    let first = counts c.args.doors.now in
+    let one = counts c.end_session.new.maker in
+    rose_early n (page_faults c.in-Err.fault) (stop_faults c.end_watchers-later.result) first one (sum_by faults r.1.keeping.doors) (counts c.end_idle.new.maker)
+    (counts c.end_watchers-later.new.maker)
+    (early_counts r.1.keeping r.2 r.3 c.in-Err.fault x.kept.hindered (sym c.and.ensures ∙ c.in-Err.is))
+    (rose_told n first first (sum_by faults c.args.crew.writer.doors) (sum_by faults r.1.writer.doors) one (λ _. omega arith) x.written.rose c.end_session.ensures.doors) c.end_idle.ensures.doors
+    c.end_watchers-later.ensures.doors
+
+pub returns-in-Ok-clause-truth_stays : goal.returns-in-Ok-clause-truth_stays
+returns-in-Ok-clause-truth_stays g c =
+    let a = c.end_session.ensures.truth_stays in
+    let b = c.end_idle.ensures.truth_stays in
+    let e = c.finish.ensures.truth_stays in
+    (λ t. e.0 (b.0 (a.0 t)), λ t. a.1 (b.1 (e.1 t)))
+
+pub returns-in-Err-clause-truth_stays : goal.returns-in-Err-clause-truth_stays
+returns-in-Err-clause-truth_stays g c =
+    let a = c.end_session.ensures.truth_stays in
+    let b = c.end_idle.ensures.truth_stays in
+    let e = c.end_watchers-later.ensures.truth_stays in
+    (λ t. e.0 (b.0 (a.0 t)), λ t. a.1 (b.1 (e.1 t)))

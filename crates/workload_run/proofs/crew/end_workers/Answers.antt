@@ -1,9 +1,18 @@
-use Rattle.std.proofs.Common.{◌≡◌, ◌∙◌, List, [], ◌∷◌, ◌++◌, ap, subst, sym, length, arith}
-use Rattle.std.specs.Prelude.{Some}
+use Rattle.std.proofs.Common.{◌≡◌, ◌∙◌, ℕ, List, [], ◌∷◌, ◌++◌, refl, ap, subst, sym, length, arith}
+use Rattle.std.specs.Prelude.{Some, sum_by}
 use Rattle.store_sessions.proofs.Traffics.{none_gone, gone_more, all_gone}
-use Rattle.workload_run.specs.Workers.{WorkerState, IsOfStore, AreOfStore}
+use Rattle.workload_run.specs.Workers.{WorkerState, IsOfStore, AreOfStore, first_stop, counted_by}
 use Rattle.workload_run.proofs.Crews.{Ending, none_ended, one_ended, each_last, stopped_by, goes_on_with, all_back, all_kept}
 use Rattle.workload_run.proofs.crew.end_workers.Goals as goal
+
+-- where none is left all were taken
+none_left : {X : Type 0} (all left taken : List X) → length left ≡ 0 → all ≡ left ++ taken → all ≡ taken
+none_left all [] taken none split = split
+none_left all (x ∷ xs) taken none split = absurd (omega (arith, none))
+
+none_counted : {X : Type 0} (count : X → ℕ) (left : List X) → length left ≡ 0 → sum_by count left ≡ 0
+none_counted count [] none = refl
+none_counted count (x ∷ xs) none = absurd (omega (arith, none))
 
 pub loop-worker-init : goal.loop-worker-init
 loop-worker-init g c = record {
@@ -78,3 +87,28 @@ pub returns-clause-taken_back : goal.returns-clause-taken_back
 returns-clause-taken_back g c =
     all_gone g.M.DoorMaker.hands_out g.M.DoorMaker.takes_back c.args.shared.now.providers c.args.workers.len c.loop-worker.workers.len c.args.maker.now c.loop-worker.maker c.in_default.ensures.cases.0
     c.loop-worker.invariant.gone
+
+pub returns-clause-stop : goal.returns-clause-stop
+returns-clause-stop g c =
+    let ending = c.loop-worker.invariant.ending in
+    let none : length c.loop-worker.workers.items ≡ 0 = omega (arith, c.in_default.ensures.cases, c.loop-worker.workers.ok.0) in
+    ending.stop_is ∙ ap first_stop (sym (none_left c.args.workers.items c.loop-worker.workers.items ending.taken none ending.split))
+
+pub returns-clause-out : goal.returns-clause-out
+returns-clause-out g c =
+    let ending = c.loop-worker.invariant.ending in
+    let none : length c.loop-worker.workers.items ≡ 0 = omega (arith, c.in_default.ensures.cases, c.loop-worker.workers.ok.0) in
+    let all = none_left c.args.workers.items c.loop-worker.workers.items ending.taken none ending.split in
+    omega (arith, ending.out, ap length all, c.args.workers.ok.0)
+
+pub returns-clause-doors : goal.returns-clause-doors
+returns-clause-doors g c =
+    let ending = c.loop-worker.invariant.ending in
+    let none : length c.loop-worker.workers.items ≡ 0 = omega (arith, c.in_default.ensures.cases, c.loop-worker.workers.ok.0) in
+    omega (arith, ending.counted, none_counted (counted_by g.M.Door.Door.faults) c.loop-worker.workers.items none)
+
+pub loop-worker-smaller : goal.loop-worker-smaller
+loop-worker-smaller g c = omega (arith, c.in-Some.ensures.cases)
+
+pub loop-worker-smaller-in-Err : goal.loop-worker-smaller-in-Err
+loop-worker-smaller-in-Err g c = omega (arith, c.in-Some.ensures.cases)

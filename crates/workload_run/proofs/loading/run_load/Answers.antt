@@ -1,4 +1,4 @@
-use Rattle.std.proofs.Common.{◌*◌}
+use Rattle.std.proofs.Common.{◌*◌, arith}
 use Rattle.page_store.proofs.CallsLemmas.{all_came_back_join}
 use Rattle.workload_run.proofs.Lents.{three_lent}
 use Rattle.workload_run.proofs.Endings.{closes_unopened, closes_stopped, closes_looked, closes_unseen}
@@ -44,3 +44,63 @@ returns-in-Err-look_back-clause-lent g c =
     all_came_back_join hands_out takes_back c.args.doors.now c.work_all.new.maker c.look_back.new.maker
     (all_came_back_join hands_out takes_back c.args.doors.now c.open_store.new.maker c.work_all.new.maker (p, c.in-Ok.ensures.lent) (c.args.plan.now.workers * p, c.in-Ok-work_all.ensures.lent))
     c.in-Err-look_back.ensures.lent
+
+pub returns-in-Err-work_all-clause-doors : goal.returns-in-Err-work_all-clause-doors
+returns-in-Err-work_all-clause-doors g c = λ less.
+    let later = c.in-Err-work_all.ensures.doors less in
+    let first = c.in-Ok.ensures.doors (omega (arith, later, less)) in
+    omega (arith, first, later)
+
+pub returns-in-Ok-look_back-clause-doors : goal.returns-in-Ok-look_back-clause-doors
+returns-in-Ok-look_back-clause-doors g c = λ less.
+    let last = c.in-Ok-look_back.ensures.doors less in
+    let later = c.in-Ok-work_all.ensures.doors (omega (arith, last, less)) in
+    let first = c.in-Ok.ensures.doors (omega (arith, later, last, less)) in
+    omega (arith, first, later, last)
+
+pub returns-in-Err-look_back-clause-doors : goal.returns-in-Err-look_back-clause-doors
+returns-in-Err-look_back-clause-doors g c = λ less.
+    let last = c.in-Err-look_back.ensures.doors less in
+    let later = c.in-Ok-work_all.ensures.doors (omega (arith, last, less)) in
+    let first = c.in-Ok.ensures.doors (omega (arith, later, last, less)) in
+    omega (arith, first, later, last)
+
+pub returns-in-Err-work_all-clause-truth_stays : goal.returns-in-Err-work_all-clause-truth_stays
+returns-in-Err-work_all-clause-truth_stays g c =
+    let a = c.open_store.ensures.truth_stays in
+    let b = c.work_all.ensures.truth_stays in
+    (λ t. b.0 (a.0 t), λ t. a.1 (b.1 t))
+
+pub returns-in-Err-work_all-clause-plan_stays : goal.returns-in-Err-work_all-clause-plan_stays
+returns-in-Err-work_all-clause-plan_stays g c = λ n door.
+    let a = c.open_store.ensures.plan_stays n door in
+    let b = c.work_all.ensures.plan_stays n door in
+    (λ h. b.0 (a.0 h), λ h. a.1 (b.1 h))
+
+pub returns-in-Ok-look_back-clause-truth_stays : goal.returns-in-Ok-look_back-clause-truth_stays
+returns-in-Ok-look_back-clause-truth_stays g c =
+    let a = c.open_store.ensures.truth_stays in
+    let b = c.work_all.ensures.truth_stays in
+    let d = c.look_back.ensures.truth_stays in
+    (λ t. d.0 (b.0 (a.0 t)), λ t. a.1 (b.1 (d.1 t)))
+
+pub returns-in-Ok-look_back-clause-plan_stays : goal.returns-in-Ok-look_back-clause-plan_stays
+returns-in-Ok-look_back-clause-plan_stays g c = λ n door.
+    let a = c.open_store.ensures.plan_stays n door in
+    let b = c.work_all.ensures.plan_stays n door in
+    let d = c.look_back.ensures.plan_stays n door in
+    (λ h. d.0 (b.0 (a.0 h)), λ h. a.1 (b.1 (d.1 h)))
+
+pub returns-in-Err-look_back-clause-truth_stays : goal.returns-in-Err-look_back-clause-truth_stays
+returns-in-Err-look_back-clause-truth_stays g c =
+    let a = c.open_store.ensures.truth_stays in
+    let b = c.work_all.ensures.truth_stays in
+    let d = c.look_back.ensures.truth_stays in
+    (λ t. d.0 (b.0 (a.0 t)), λ t. a.1 (b.1 (d.1 t)))
+
+pub returns-in-Err-look_back-clause-plan_stays : goal.returns-in-Err-look_back-clause-plan_stays
+returns-in-Err-look_back-clause-plan_stays g c = λ n door.
+    let a = c.open_store.ensures.plan_stays n door in
+    let b = c.work_all.ensures.plan_stays n door in
+    let d = c.look_back.ensures.plan_stays n door in
+    (λ h. d.0 (b.0 (a.0 h)), λ h. a.1 (b.1 (d.1 h)))

@@ -1,4 +1,5 @@
 use Rattle.std.proofs.Common.{◌≡◌, ℕ, ◌+◌, ◌-◌, ◌*◌, ◌^◌, ◌<◌, ◌≤◌, List, ◌++◌, arith, inl, inr, ap, sym, subst, ◌∙◌}
+use Rattle.std.proofs.Math.Nat.{mul-le-mul_right, pow-le-pow_right}
 use Rattle.tree_geom.specs.declared.range.Range.{Range}
 use Rattle.tree_geom.specs.declared.node.Node.{Node}
 use Rattle.tree_geom.specs.Geometry.{tree_range}
@@ -8,6 +9,25 @@ use Rattle.blob_core.specs.Walk.{tree_walk_from}
 use Rattle.blob_core.proofs.Walking.{ok_on, tree_apart, tree_leaf, tree_gone, tree_on, child_fits}
 use Rattle.blob_core.proofs.state.State.+add_tree.Goals as goal
 use Rattle.blob_core.proofs.state.State.+add_tree.Goals.{then-last-q-via-then-last-q, then-last-q-via-else-last-q+then-q-pages}
+
+-- there are no more ranges of a height than pages
+range_few : (q h : ℕ) → (q + 1) * 2 ^ h ≤ 2 ^ 38 → q + 1 ≤ 2 ^ 38
+range_few q h fits =
+    let two : 0 < 2 = omega arith in
+    let least : 0 ≤ h = omega arith in
+    let one : 1 ≤ 2 ^ h = pow-le-pow_right two least in
+    omega (arith, fits, mul-le-mul_right (q + 1) one)
+
+pub overflow_mul-q : goal.overflow_mul-q
+overflow_mul-q t c =
+    let at : c.args.q * c.pow-pages.result ≡ c.args.q * 2 ^ c.args.height = ap (λ (n : ℕ). c.args.q * n) c.pow-pages.ensures in
+    omega (arith, at, c.requires.fits)
+
+pub overflow_add-q : goal.overflow_add-q
+overflow_add-q t c = omega (arith, range_few c.args.q c.args.height c.requires.fits)
+
+pub overflow_mul-q-else-last-q : goal.overflow_mul-q-else-last-q
+overflow_mul-q-else-last-q t c = omega (arith, c.requires.fits, ap (λ (n : ℕ). (c.args.q + 1) * n) c.pow-pages.ensures)
 
 pub returns-then-last-q : goal.returns-then-last-q
 returns-then-last-q t c =
@@ -25,6 +45,16 @@ returns-then-height-eq0 t c =
     c.in_ok-extend_from_slice.ensures.items
     ∙ ap (λ (l : List ℕ). c.args.bytes.now.items ++ l) (c.as_slice.ensures.value ∙ c.in_ok-leaf.ensures ∙ sym (tree_leaf c.args.height c.args.p c.args.self.now c.args.blob c.args.version c.args.q c.args.first c.args.last c.if-height-eq0.true begins ends))
 
+pub overflow_mul-size : goal.overflow_mul-size
+overflow_mul-size t c =
+    let at : c.args.q * c.pow-pages.result ≡ c.args.q * 2 ^ c.args.height = ap (λ (n : ℕ). c.args.q * n) c.pow-pages.ensures in
+    omega (arith, at, c.requires.fits, c.pow-pages.ensures, mul-le-mul_right c.pow-pages.result c.bytes.ensures.bounds.1)
+
+pub overflow_mul-range : goal.overflow_mul-range
+overflow_mul-range t c =
+    let at : c.args.q * c.pow-pages.result ≡ c.args.q * 2 ^ c.args.height = ap (λ (n : ℕ). c.args.q * n) c.pow-pages.ensures in
+    omega (arith, at, c.requires.fits, mul-le-mul_right (c.args.q * c.pow-pages.result) c.bytes.ensures.bounds.1)
+
 pub returns-in_default : goal.returns-in_default
 returns-in_default t c =
     let begins : c.args.q * 2 ^ c.args.height ≤ c.args.last = (let P : ℕ → Type 0 = λ n. c.args.q * n ≤ c.args.last in subst P c.pow-pages.ensures c.if-last-q.false) in
@@ -36,8 +66,17 @@ returns-in_default t c =
     ap (λ (n : ℕ). node_in c.args.self.now c.args.blob c.args.version (R n)) (sym size) in
     tree_gone c.args.height c.args.p c.args.self.now c.args.blob c.args.version c.args.q c.args.first c.args.last c.args.bytes.now.items (omega arith) begins ends (at ∙ sym c.in_default.ensures)
 
+pub overflow_mul-q-2 : goal.overflow_mul-q-2
+overflow_mul-q-2 t c = omega (arith, range_few c.args.q c.args.height c.requires.fits)
+
 pub add_tree-requires : goal.add_tree-requires
 add_tree-requires t c = let f = child_fits c.args.q c.args.height (2 ^ 38) (omega arith) c.requires.fits in (omega arith, (omega arith, f.0))
+
+pub overflow_mul-q-3 : goal.overflow_mul-q-3
+overflow_mul-q-3 t c = omega (arith, range_few c.args.q c.args.height c.requires.fits)
+
+pub overflow_add-q-2 : goal.overflow_add-q-2
+overflow_add-q-2 t c = omega (arith, range_few c.args.q c.args.height c.requires.fits)
 
 pub add_tree-requires-2 : goal.add_tree-requires-2
 add_tree-requires-2 t c = let f = child_fits c.args.q c.args.height (2 ^ 38) (omega arith) c.requires.fits in (omega arith, (omega arith, f.1))

@@ -19,6 +19,7 @@ use Rattle.blob_core.specs.declared.step.Step.TheVariants as Moves
 use Rattle.blob_core.specs.contracts.state.State.{the_view}
 use Rattle.blob_core.proofs.Acting.{number_done}
 use Rattle.blob_core.proofs.Taken.{blob_some, item_of}
+use Rattle.blob_core.proofs.Onward.{on_err}
 use Rattle.blob_core.proofs.state.State.number.Goals as goal
 
 pub touches_of-requires-clause-replay : goal.touches_of-requires-clause-replay
@@ -32,6 +33,9 @@ touches_of-requires-clause-fits c =
     let b : Blob = c.in-Some-blob.stored.now in
     let s : IsSound c.args.p c.args.self.now c.args.blob b = (c.steps_hold.ensures.stays c.args.p c.args.self.now c.requires).blobs c.args.blob b c.in-Some-blob.ensures in
     s.fits
+
+pub size_at-size-requires : goal.size_at-size-requires
+size_at-size-requires c = omega (arith, c.len.ensures, ap length c.as_slice-3.ensures.value)
 
 pub refuses_update-requires-clause-size : goal.refuses_update-requires-clause-size
 refuses_update-requires-clause-size c =
@@ -56,11 +60,26 @@ kept_beside-requires-clause-front c =
 pub kept_beside-requires-clause-log : goal.kept_beside-requires-clause-log
 kept_beside-requires-clause-log c = omega (arith, c.in_ok-log.ensures.count, ap length c.as_slice-4.ensures.value)
 
+pub overflow_add-key : goal.overflow_add-key
+overflow_add-key c =
+    let b : Blob = c.in-Some-blob.stored.now in
+    let s : IsSound c.args.p c.args.self.now c.args.blob b = (c.steps_hold.ensures.stays c.args.p c.args.self.now c.requires).blobs c.args.blob b c.in-Some-blob.ensures in
+    omega (arith, c.len-2.ensures, c.in_ok-log.ensures.count, s.few)
+
+pub overflow_sub-blob : goal.overflow_sub-blob
+overflow_sub-blob c = (blob_some c.args.self.now.store c.args.blob c.in-Some-blob.stored.now c.in-Some-blob.ensures).0
+
 pub index_mut-requires : goal.index_mut-requires
 index_mut-requires c =
     let some = blob_some c.args.self.now.store c.args.blob c.in-Some-blob.stored.now c.in-Some-blob.ensures in
     let same : length c.self.inside.blobs.items ≡ length c.args.self.now.store.blobs = ap (λ (w : World). length w.store.blobs) c.self.view_is in
     omega (arith, some.0, some.1, c.self.inside.blobs.ok.0)
+
+pub returns-in_err-try_reserve-clause-same : goal.returns-in_err-try_reserve-clause-same
+returns-in_err-try_reserve-clause-same c =
+    let v : World = the_view c.self.inside in
+    let same : c.try_reserve.new.self.items ≡ v.updates = c.in_err-try_reserve.ensures.items in
+    on_err c.from_residual-in_err-try_reserve.result (ap (λ (l : List (UpdateKey × UpdateEntry)). record v { updates = l }) same ∙ c.self.view_is)
 
 pub returns-clause-done : goal.returns-clause-done
 returns-clause-done c =

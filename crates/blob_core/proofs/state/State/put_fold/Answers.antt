@@ -19,8 +19,34 @@ use Rattle.blob_core.proofs.Growing.{size_in_log}
 use Rattle.blob_core.proofs.Finding.{touched_node}
 use Rattle.blob_core.proofs.Rowing.{log_tells, older_some}
 use Rattle.blob_core.proofs.Acting.{IsFound, MayFold, numbered_is, not_foldable, fold_kept, fold_done}
+use Rattle.blob_core.proofs.Onward.{on_err}
 use Rattle.blob_core.proofs.state.State.put_fold.Goals as goal
 use Rattle.blob_core.proofs.state.State.put_fold.Goals.{then-not-folds_page-via-then-not-folds_page, then-not-folds_page-via-else-not-folds_page+then-front-version}
+
+pub folds_page-requires-clause-log : goal.folds_page-requires-clause-log
+folds_page-requires-clause-log c =
+    let w : World = c.args.self.now in
+    let b : Blob = c.in-Some-blob.stored.now in
+    let row : IsFound c.args.p w c.args.blob c.args.version (Some c.in-Some.row) = subst (IsFound c.args.p w c.args.blob c.args.version) c.in-Some.is c.in_ok-row.ensures in
+    let num = numbered_is c.args.p w c.args.blob c.args.version b c.in-Some.row.log.items c.in-Some.row.keys.items c.in-Some-blob.ensures row in
+    let L : List Touch → Type 0 = λ l. IsLogOf c.args.p b l in
+    subst L (sym c.as_slice-log.ensures.value) num.1
+
+pub folds_page-requires-clause-version : goal.folds_page-requires-clause-version
+folds_page-requires-clause-version c =
+    let w : World = c.args.self.now in
+    let b : Blob = c.in-Some-blob.stored.now in
+    let row : IsFound c.args.p w c.args.blob c.args.version (Some c.in-Some.row) = subst (IsFound c.args.p w c.args.blob c.args.version) c.in-Some.is c.in_ok-row.ensures in
+    let num = numbered_is c.args.p w c.args.blob c.args.version b c.in-Some.row.log.items c.in-Some.row.keys.items c.in-Some-blob.ensures row in
+    (num.0.some, num.0.upto)
+
+pub overflow_sub-version : goal.overflow_sub-version
+overflow_sub-version c =
+    let w : World = c.args.self.now in
+    let b : Blob = c.in-Some-blob.stored.now in
+    let row : IsFound c.args.p w c.args.blob c.args.version (Some c.in-Some.row) = subst (IsFound c.args.p w c.args.blob c.args.version) c.in-Some.is c.in_ok-row.ensures in
+    let num = numbered_is c.args.p w c.args.blob c.args.version b c.in-Some.row.log.items c.in-Some.row.keys.items c.in-Some-blob.ensures row in
+    num.0.some
 
 pub returns-then-not-folds_page-clause-refused : goal.returns-then-not-folds_page-clause-refused
 returns-then-not-folds_page-clause-refused c answer =
@@ -52,6 +78,14 @@ returns-then-has_fold-clause-done c =
     let K : List (FoldKey × List ℕ) → Type 0 = λ l. IsKnown (fold_at l c.args.blob c.args.version c.args.page) in
     let found : K w.folded = subst K same (c.has_fold.ensures.there c.if-has_fold.true) in
     fold_kept c.args.p w c.args.blob c.args.version c.args.page b found.0 may found.1
+
+pub overflow_sub-number : goal.overflow_sub-number
+overflow_sub-number c =
+    let w : World = c.args.self.now in
+    let b : Blob = c.in-Some-blob.stored.now in
+    let row : IsFound c.args.p w c.args.blob c.args.version (Some c.in-Some.row) = subst (IsFound c.args.p w c.args.blob c.args.version) c.in-Some.is c.in_ok-row.ensures in
+    let num = numbered_is c.args.p w c.args.blob c.args.version b c.in-Some.row.log.items c.in-Some.row.keys.items c.in-Some-blob.ensures row in
+    num.0.some
 
 pub walk_page-requires-clause-version : goal.walk_page-requires-clause-version
 walk_page-requires-clause-version c =
@@ -93,6 +127,15 @@ walk_page-requires-clause-fits c =
     let le : c.args.version - 1 ≤ length b.updates = omega (arith, num.0.upto) in
     omega (arith, tells.1 (c.args.version - 1) le, s.fits (c.args.version - 1) le)
 
+pub put_own-requires-clause-log : goal.put_own-requires-clause-log
+put_own-requires-clause-log c =
+    let w : World = c.args.self.now in
+    let b : Blob = c.in-Some-blob.stored.now in
+    let row : IsFound c.args.p w c.args.blob c.args.version (Some c.in-Some.row) = subst (IsFound c.args.p w c.args.blob c.args.version) c.in-Some.is c.in_ok-row.ensures in
+    let num = numbered_is c.args.p w c.args.blob c.args.version b c.in-Some.row.log.items c.in-Some.row.keys.items c.in-Some-blob.ensures row in
+    let L : List Touch → Type 0 = λ l. IsLogOf c.args.p b l in
+    subst L (sym c.as_slice-log.ensures.value) num.1
+
 pub put_own-requires-clause-has : goal.put_own-requires-clause-has
 put_own-requires-clause-has c =
     let w : World = c.args.self.now in
@@ -105,6 +148,12 @@ put_own-requires-clause-has c =
     touched_node c.args.p c.args.version c.args.page (extents b.updates) c.requires.some (c.page_bytes_stay.ensures.extents b.updates s.replay).0 num.0.some
     (omega (arith, num.0.upto, length-extents b.updates)) folds.0 in
     has
+
+pub returns-in_err-insert-clause-same : goal.returns-in_err-insert-clause-same
+returns-in_err-insert-clause-same c =
+    let v : World = the_view c.self.inside in
+    let same : c.insert.new.self.items ≡ v.folded = c.in_err-insert.ensures.items in
+    on_err c.from_residual-in_err-insert.result (ap (λ (l : List (FoldKey × List ℕ)). record v { folded = l }) same ∙ c.self.view_is)
 
 pub returns-clause-done : goal.returns-clause-done
 returns-clause-done c =

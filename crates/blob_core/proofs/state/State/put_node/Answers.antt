@@ -16,6 +16,7 @@ use Rattle.blob_core.specs.declared.step.Step.TheVariants as Moves
 use Rattle.blob_core.specs.contracts.state.State.{the_view}
 use Rattle.blob_core.proofs.Rowing.{none_of, some_of}
 use Rattle.blob_core.proofs.Acting.{IsFound, has_in_row, numbered_is, not_of_row, not_without_fold, node_kept, node_done}
+use Rattle.blob_core.proofs.Onward.{on_err}
 use Rattle.blob_core.proofs.state.State.put_node.Goals as goal
 
 pub returns-then-not-is_among-clause-refused : goal.returns-then-not-is_among-clause-refused
@@ -102,6 +103,12 @@ returns-then-is_some-clause-done c =
     let found = some_of c.find_node.result (sym c.is_some.ensures ∙ c.if-is_some.true) in
     node_kept c.args.p w c.args.key b found.0 s num.0 has (subst F folded (c.lacks_fold.ensures.has c.if-lacks_fold.false))
     (ap (λ (l : List (NodeKey × Node)). node_at l c.args.key) (sym same) ∙ sym c.find_node.ensures ∙ found.1)
+
+pub returns-in_err-insert-clause-same : goal.returns-in_err-insert-clause-same
+returns-in_err-insert-clause-same c =
+    let v : World = the_view c.self.inside in
+    let same : c.insert.new.self.items ≡ v.nodes = c.in_err-insert.ensures.items in
+    on_err c.from_residual-in_err-insert.result (ap (λ (l : List (NodeKey × Node)). record v { nodes = l }) same ∙ c.self.view_is)
 
 pub returns-clause-done : goal.returns-clause-done
 returns-clause-done c =

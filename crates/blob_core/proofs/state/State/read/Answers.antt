@@ -1,6 +1,6 @@
 use Rattle.std.proofs.Common.{◌≡◌, ℕ, ◌+◌, ◌-◌, ◌*◌, ◌/◌, ◌^◌, ◌<◌, ◌≤◌, false, List, ◌++◌, length, take, drop, arith, ap, sym, ◌∙◌}
 use Rattle.std.specs.Prelude.{Option, Some}
-use Rattle.std.proofs.Math.Nat.{pow-le-pow_right}
+use Rattle.std.proofs.Math.Nat.{pow-le-pow_right, div-mul-le_self}
 use Rattle.blob_model.specs.Content.{size_of}
 use Rattle.blob_model.specs.Store.{Blob, assigned}
 use Rattle.blob_model.specs.Answer.{answer}
@@ -69,6 +69,30 @@ overflow_add-last c =
     let within = read_within c.args.self.now.store c.args.blob c.args.version c.args.offset c.args.length b c.in-Some.ensures taken in
     let upto : c.args.version ≤ assigned b = omega (arith, within.0, s.front) in
     omega (arith, within.1, s.fits c.args.version upto)
+
+pub nonzero_div-first : goal.nonzero_div-first
+nonzero_div-first c = omega (arith, c.bytes.ensures.bounds.0)
+
+pub nonzero_div-last : goal.nonzero_div-last
+nonzero_div-last c = omega (arith, c.bytes-2.ensures.bounds.0)
+
+pub overflow_sub-last : goal.overflow_sub-last
+overflow_sub-last c = omega (arith, c.if-length-eq0.false)
+
+pub overflow_mul-skipped : goal.overflow_mul-skipped
+overflow_mul-skipped c =
+    let same : c.bytes.result ≡ c.bytes-3.result = c.bytes.ensures.is ∙ sym c.bytes-3.ensures.is in
+    let down = div-mul-le_self c.args.offset c.bytes.result in
+    omega (arith, down, ap (λ (n : ℕ). c.args.offset / c.bytes.result * n) same, c.ranges.offset)
+
+pub overflow_sub-skipped : goal.overflow_sub-skipped
+overflow_sub-skipped c =
+    let same : c.bytes.result ≡ c.bytes-3.result = c.bytes.ensures.is ∙ sym c.bytes-3.ensures.is in
+    let down = div-mul-le_self c.args.offset c.bytes.result in
+    omega (arith, down, ap (λ (n : ℕ). c.args.offset / c.bytes.result * n) same)
+
+pub add_tree-requires-clause-height : goal.add_tree-requires-clause-height
+add_tree-requires-clause-height c = c.height-levels.ensures.bound
 
 pub add_tree-requires-clause-fits : goal.add_tree-requires-clause-fits
 add_tree-requires-clause-fits c =

@@ -17,7 +17,8 @@ tickets-init g c =
 pub with_one-counts-requires : goal.with_one-counts-requires
 with_one-counts-requires g c =
     let b = c.tickets.self in
-    let some : 0 < length b.held = subst (λ (s : SessionState g.row.D.Denot). 0 < length s.held) c.self-in-tickets.view_is (let n = c.count.ensures.count in let t = c.tickets-test.true in omega arith) in
+    let some : 0 < length b.held = subst (λ (s : SessionState g.row.D.Denot). 0 < length s.held)
+    c.self-in-tickets.view_is (let n = c.count.ensures.count in let t = c.tickets-test.true in omega arith) in
     let held : length c.self.inside.held ≡ length (c.args.self.now).held = ap (λ (s : SessionState g.row.D.Denot). length s.held) c.self.view_is in
     let most = c.count-most.ensures.few in
     let count = c.count-most.ensures.count in
@@ -26,7 +27,8 @@ with_one-counts-requires g c =
 pub tickets-preserved : goal.tickets-preserved
 tickets-preserved g c =
     let b = c.tickets.self in
-    let some : 0 < length b.held = subst (λ (s : SessionState g.row.D.Denot). 0 < length s.held) c.self-in-tickets.view_is (let n = c.count.ensures.count in let t = c.tickets-test.true in omega arith) in
+    let some : 0 < length b.held = subst (λ (s : SessionState g.row.D.Denot). 0 < length s.held)
+    c.self-in-tickets.view_is (let n = c.count.ensures.count in let t = c.tickets-test.true in omega arith) in
     let first = some_held b.held some in
     let t : HeldTicket = first.0 in
     let ts : List HeldTicket = first.1.0 in
@@ -40,7 +42,8 @@ tickets-preserved g c =
 pub returns-clause-hung_up : goal.returns-clause-hung_up
 returns-clause-hung_up g c =
     let b = c.tickets.self in
-    let none : length b.held ≤ 0 = subst (λ (s : SessionState g.row.D.Denot). length s.held ≤ 0) c.self-in-tickets.view_is (let n = c.count.ensures.count in let t = c.tickets-test.false in omega arith) in
+    let none : length b.held ≤ 0 = subst (λ (s : SessionState g.row.D.Denot). length s.held ≤ 0)
+    c.self-in-tickets.view_is (let n = c.count.ensures.count in let t = c.tickets-test.false in omega arith) in
     hung_up g.D.Door.faults c.args.self.now b (counts_of c.tickets.counts) _ c.tickets.invariant none (ap (λ (s : SessionState g.row.D.Denot). begins_anew (session_of s)) c.self-2.view_is)
 
 pub returns-clause-finished : goal.returns-clause-finished
@@ -48,7 +51,8 @@ returns-clause-finished g c =
     let v = c.args.self.now in
     let b = c.tickets.self in
     let i = c.self.inside in
-    let none : length b.held ≤ 0 = subst (λ (s : SessionState g.row.D.Denot). length s.held ≤ 0) c.self-in-tickets.view_is (let n = c.count.ensures.count in let t = c.tickets-test.false in omega arith) in
+    let none : length b.held ≤ 0 = subst (λ (s : SessionState g.row.D.Denot). length s.held ≤ 0)
+    c.self-in-tickets.view_is (let n = c.count.ensures.count in let t = c.tickets-test.false in omega arith) in
     let s' : Session = begins_anew (session_of b) in
     let counts : GivenUpCounts = counts_of c.tickets.counts in
     let h : HungUp AllOther (session_of v) counts s' = hung_up g.D.Door.faults v b counts s' c.tickets.invariant none refl in
@@ -58,3 +62,13 @@ returns-clause-finished g c =
     in
     let few : counts.finished ≤ finished_seen s' (session_of v).tickets = finished_then c.hung_up_are_finished.ensures (session_of v) counts s' h numbered in
     subst (λ (s : SessionState g.row.D.Denot). counts.finished ≤ finished_seen (begins_anew (session_of s)) (session_of v).tickets) (sym c.self-2.view_is) few
+
+pub tickets-smaller : goal.tickets-smaller
+tickets-smaller g c = omega (arith, c.give_up_first-finished.ensures.fewer)
+
+pub returns-clause-counts : goal.returns-clause-counts
+returns-clause-counts g c =
+    let b = c.tickets.self in
+    let none : length b.held ≤ 0 = subst (λ (s : SessionState g.row.D.Denot). length s.held ≤ 0)
+    c.self-in-tickets.view_is (let n = c.count.ensures.count in let t = c.tickets-test.false in omega arith) in
+    omega (arith, c.tickets.invariant.each_once, none)

@@ -17,6 +17,7 @@ use Rattle.client_session.specs.Numbering.{LookedAhead, NotNumberedFor, Numberin
 use Rattle.client_session.specs.Updates.{WasNumbered}
 use Rattle.client_session.proofs.Lifted.{unnumbered_lifts}
 use Rattle.client_session.proofs.Losses.{calm_lost}
+use Rattle.client_session.proofs.RangeAnswers.{rose_none}
 use Rattle.client_session.proofs.Numbered.{not_numbered_both, both_others, both_outcome, both_seen, both_longer}
 use Rattle.client_session.proofs.Standing.{session_after, session_doors}
 use Rattle.client_session.proofs.session.Session.number.Goals as goal
@@ -157,3 +158,51 @@ returns-in-Some-clause-first_lost g c = calm_lost c.in-Some.fault _ c.in-Some.en
 
 pub returns-clause-first_lost : goal.returns-clause-first_lost
 returns-clause-first_lost g c = calm_lost c.in-Err-number_stored.fault _ c.in-Err-number_stored.ensures.calm
+
+pub returns-in-Err-clause-refused : goal.returns-in-Err-clause-refused
+returns-in-Err-clause-refused g c =
+    let i = c.self.inside in
+    let by : ℕ = i.pass.caller in
+    let fixed : DeskFixed = i.shared.now.fixed in
+    let mid = c.prepare.new.pass in
+    let bytes : List ℕ = c.args.bytes.now in
+    let fault : Fault = c.in-Err.fault in
+    let s : Session = session_at fixed by i.pass.seen i.held i.next (longest i.limit) in
+    let s' : Session = session_at fixed by mid.seen i.held i.next (longest i.limit) in
+    let tickets : length s.tickets ≡ c.count.result = length-map i.held ticket_of ∙ sym c.count.ensures.count in
+    let none : None ≡ update_fault s bytes = sym c.in_default.is ∙ c.fault_of_update.ensures.fault s (sym c.bytes.ensures.is) tickets in
+    let same : mid.caller ≡ by = ap (λ (p : PassView Event DeskFixed). p.caller) c.prepare.ensures.pass in
+    let answer : UpdateAnswer AllOther s c.args.blob c.args.place bytes ⊥ (Replies.Refused fault) s' =
+    unnumbered_lifts s (bare fixed by mid.seen) c.args.blob c.args.place bytes fault c.in-Err.ensures.refused in
+    rw (← c.self.view_is, same) (not_said (update_fault s bytes) s (Replies.Refused fault) s' _ none answer)
+
+pub returns-in-Ok-number_stored-clause-rest : goal.returns-in-Ok-number_stored-clause-rest
+returns-in-Ok-number_stored-clause-rest g c =
+    let same : c.number_stored.new.pass.caller ≡ c.self.inside.pass.caller =
+    ap (λ (p : PassView Event DeskFixed). p.caller) c.number_stored.ensures.pass ∙ ap (λ (p : PassView Event DeskFixed). p.caller) c.prepare.ensures.pass in
+    rw (← c.self.view_is, same) refl
+
+pub returns-clause-rest : goal.returns-clause-rest
+returns-clause-rest g c =
+    let same : c.number_stored.new.pass.caller ≡ c.self.inside.pass.caller =
+    ap (λ (p : PassView Event DeskFixed). p.caller) c.number_stored.ensures.pass ∙ ap (λ (p : PassView Event DeskFixed). p.caller) c.prepare.ensures.pass in
+    rw (← c.self.view_is, same) refl
+
+pub returns-in-Err-clause-rest : goal.returns-in-Err-clause-rest
+returns-in-Err-clause-rest g c =
+    let same : c.prepare.new.pass.caller ≡ c.self.inside.pass.caller = ap (λ (p : PassView Event DeskFixed). p.caller) c.prepare.ensures.pass in
+    rw (← c.self.view_is, same) refl
+
+pub returns-in-Err-clause-goes_on : goal.returns-in-Err-clause-goes_on
+returns-in-Err-clause-goes_on g c =
+    rw (← c.self.view_is) (record {
+      store = refl;
+      caller = ap (λ (p : PassView Event DeskFixed). p.caller) c.prepare.ensures.pass;
+      begins = c.prepare.ensures.went.begins;
+    })
+
+pub returns-clause-risen : goal.returns-clause-risen
+returns-clause-risen g c = rw (← c.self.view_is) (rose_none _ _ _ c.in-Err-number_stored.ensures.calm c.prepare.ensures.never_falls)
+
+pub prepare-requires-clause-few : goal.prepare-requires-clause-few
+prepare-requires-clause-few g c = λ κs within. omega (arith, c.in_default.ensures.few, c.bytes.ensures.most)

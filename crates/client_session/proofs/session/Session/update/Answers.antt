@@ -1,4 +1,4 @@
-use Rattle.std.proofs.Common.{◌≡◌, sym, ◌∙◌, ap, subst, [], None, append-nil}
+use Rattle.std.proofs.Common.{◌≡◌, sym, ◌∙◌, ap, subst, [], None, append-nil, arith}
 use Rattle.std.specs.Prelude.{sum_by}
 use Rattle.border_hints.specs.Numbered.{NumberedUpdate}
 use Rattle.session_parts.specs.Tickets.{OpenUpdate}
@@ -6,8 +6,8 @@ use Rattle.client_session.specs.SessionInvariant.{IsOpen}
 use Rattle.client_session.specs.Sessions.{SessionState, StoreState, Continues, session_of}
 use Rattle.client_session.specs.Updates.{update_reply}
 use Rattle.client_session.specs.Results.{updated_reply}
-use Rattle.client_session.proofs.Standing.{open_stays}
-use Rattle.client_session.proofs.UpdateAnswers.{update_done, update_finished, kept, rose_both}
+use Rattle.client_session.proofs.Standing.{open_stays, longer_log}
+use Rattle.client_session.proofs.UpdateAnswers.{update_done, update_not_done, update_finished, update_rose, kept, rose_both}
 use Rattle.client_session.proofs.Losses.{calm_result}
 use Rattle.client_session.proofs.Waiting.{goes_both}
 use Rattle.client_session.proofs.session.Session.update.Goals as goal
@@ -78,3 +78,26 @@ returns-in-Err-finish_by-clause-goes_on g c =
 
 pub returns-in-Err-finish_by-clause-first_lost : goal.returns-in-Err-finish_by-clause-first_lost
 returns-in-Err-finish_by-clause-first_lost g c = calm_result c.keep.result _ c.keep.ensures.calm
+
+pub returns-in-Err-clause-answers : goal.returns-in-Err-clause-answers
+returns-in-Err-clause-answers g c = update_not_done (session_of c.args.self.now) c.args.blob c.args.place c.args.bytes.now c.in-Err.fault _ c.in-Err.ensures.refused
+
+pub returns-in-Ok-finish_by-clause-faults : goal.returns-in-Ok-finish_by-clause-faults
+returns-in-Ok-finish_by-clause-faults g c =
+    let f = g.D.Door.faults in
+    let s = c.args.self.now in
+    let m = c.finish_by.new.self in
+    update_rose (session_of m) c.args.blob c.args.place c.version.result c.at.result c.size.result (sum_by f s.doors) (sum_by f m.doors)
+    (omega (arith, c.in-Ok.ensures.never_falls, c.in-Ok-finish_by.ensures.faults.later))
+
+pub returns-in-Ok-finish_by-clause-goes_on : goal.returns-in-Ok-finish_by-clause-goes_on
+returns-in-Ok-finish_by-clause-goes_on g c = goes_both c.args.self.now c.number.new.self c.finish_by.new.self c.in-Ok.ensures.goes_on c.in-Ok-finish_by.ensures.goes_on
+
+pub keep-requires-clause-room : goal.keep-requires-clause-room
+keep-requires-clause-room g c = rw (ap (λ (x : SessionState g.row.D.Denot). x.held) c.in-Err-finish_by.ensures.rest) c.in-Ok.ensures.numbered.room
+
+pub keep-requires-clause-drawn : goal.keep-requires-clause-drawn
+keep-requires-clause-drawn g c =
+    let e = c.in-Err-finish_by.ensures in
+    let longer = longer_log c.number.new.self.log c.finish_by.new.self.log e.goes_on.begins in
+    omega (arith, c.in-Ok.ensures.numbered.drawn, ap (λ (x : SessionState g.row.D.Denot). x.next) e.rest, longer)

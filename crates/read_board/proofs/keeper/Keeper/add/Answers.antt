@@ -1,7 +1,7 @@
 use Rattle.std.proofs.Common.{◌≡◌, ◌<◌, ◌≤◌, ◌∙◌, ◌++◌, ◌∷◌, [], length, sym, ap, subst, arith, List}
 use Rattle.read_board.specs.declared.refresh.Refresh.{Refresh}
 use Rattle.read_board.specs.Fronts.{BoardId, FrontState}
-use Rattle.read_board.specs.Refreshes.{place, put, IsFullFor, IsOn}
+use Rattle.read_board.specs.Refreshes.{place, put, MayFollow, IsFullFor, IsOn}
 use Rattle.read_board.specs.Boards.{front_of}
 use Rattle.read_board.proofs.Latest.{room_below}
 use Rattle.read_board.proofs.Kept.{added}
@@ -22,3 +22,19 @@ invariant_of-self-2 g c =
     let put_is : c.lay.new.on.items ≡ put i.on.items r = c.lay.ensures.placed ∙ ap (λ (l : List Refresh). put l r) c.reserve.ensures.items in
     let of_store : IsOn i.front.board.store r = subst (λ (b : BoardId). IsOn b.store r) (sym (ap (λ s. s.board) c.self.view_is)) c.requires.of_store in
     added i.front c.add.new.self i.shown (front_of i.writer.desk.shown.value) i.on.items c.lay.new.on.items i.head r c.self.invariant list board put_is there of_store
+
+pub add-requires-clause-room : goal.add-requires-clause-room
+add-requires-clause-room g c = omega (arith, c.if-len.false, c.len.ensures, c.len.type_inv, ap (λ (f : FrontState). length f.list) c.again-front.ensures)
+
+pub add-requires-clause-rising : goal.add-requires-clause-rising
+add-requires-clause-rising g c =
+    let all = ap (λ (f : FrontState). f.list) c.again-front.ensures ∙ ap (λ s. s.all) c.self.view_is in
+    subst (λ (l : List Refresh). MayFollow l c.args.refresh) (sym all) c.requires.rising
+
+pub returns-clause-added : goal.returns-clause-added
+returns-clause-added g c =
+    let all = ap (λ (f : FrontState). f.list) c.again-front.ensures ∙ ap (λ s. s.all) c.self.view_is in
+    c.if-not-add.ensures.added ∙ ap (λ (l : List Refresh). l ++ c.args.refresh ∷ []) all
+
+pub invariant_of-self : goal.invariant_of-self
+invariant_of-self g c = rw c.reserve.ensures.items c.self.invariant

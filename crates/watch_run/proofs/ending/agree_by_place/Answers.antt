@@ -1,0 +1,37 @@
+use Rattle.std.proofs.Common.{◌+◌, ◌-◌, ◌^◌, ◌≤◌, min, sym, subst, arith}
+use Rattle.std.specs.Prelude.{sum_by}
+use Rattle.client_session.specs.Sessions.{SessionState}
+use Rattle.update_work.specs.Updates.{told_faults}
+use Rattle.watch_run.specs.Readers.{HasRead}
+use Rattle.watch_run.specs.Stages.{IsIdle}
+use Rattle.watch_run.proofs.Crews.{idle_on}
+use Rattle.watch_run.proofs.Ends.{rose_told}
+use Rattle.watch_run.proofs.ReadOn.{read_none}
+use Rattle.watch_run.proofs.ending.agree_by_place.Goals.{in-Ok, in-Err}
+use Rattle.watch_run.proofs.ending.agree_by_place.Goals as goal
+
+pub end_idle-requires-clause-idle : goal.end_idle-requires-clause-idle
+end_idle-requires-clause-idle g c =
+    let faults = g.M.Door.Door.faults in
+    let read : HasRead faults (told_faults c.match-note.told) c.args.reader c.match-note.reader =
+    elim c.match-note.branch [
+      | in-Ok w ↦ rw (w.reader-is, w.told-is) w.compare_by_place-told.ensures.read
+      | in-Err w ↦ rw (w.reader-is, w.told-is) (read_none faults c.args.reader)
+    ]
+    in
+    subst (λ (s : SessionState _). IsIdle c.args.shared.now s) (sym c.into_session.ensures) (idle_on c.args.shared.now c.args.reader.session c.match-note.reader.session c.requires.idle read.idles)
+
+pub returns-clause-doors : goal.returns-clause-doors
+returns-clause-doors g c =
+    let counts = g.M.DoorMaker.faults in
+    let faults = g.M.Door.Door.faults in
+    let old = counts c.args.maker.now in
+    let new = counts c.end_idle.new.maker in
+    let read : HasRead faults (told_faults c.match-note.told) c.args.reader c.match-note.reader =
+    elim c.match-note.branch [
+      | in-Ok w ↦ rw (w.reader-is, w.told-is) w.compare_by_place-told.ensures.read
+      | in-Err w ↦ rw (w.reader-is, w.told-is) (read_none faults c.args.reader)
+    ]
+    in
+    let back = subst (λ (s : SessionState _). min (old + sum_by faults s.doors) (2 ^ 64 - 1) ≤ new) c.into_session.ensures c.end_idle.ensures.doors in
+    rose_told (told_faults c.match-note.told) old old (sum_by faults c.args.reader.session.doors) (sum_by faults c.match-note.reader.session.doors) new (λ _. omega arith) read.rose back
