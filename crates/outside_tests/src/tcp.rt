@@ -44,8 +44,8 @@ fn check_addresses<N: Net + Clock, R: Abort>(rt: &R, ports: &mut TcpPorts<N>)
 static CALM: [Answer; 2] = [Answer::Stream, Answer::Stream];
 
 // Checks that ports hand out two peers before they fail.
-fn check_ports<R: Abort + Wait>(rt: &R, seen: &Seen) {
-    let mut ports = TcpPorts::new(PlayedNet::new(seen, CALM.as_slice()));
+fn check_ports<N: Net + Clock + Drop, R: Abort + Wait>(rt: &R, net: N) {
+    let mut ports = TcpPorts::new(net);
     check_addresses(rt, &mut ports);
     check_accepted(rt, ports.accept(rt));
     check_accepted(rt, ports.accept(rt));
@@ -55,7 +55,7 @@ fn check_ports<R: Abort + Wait>(rt: &R, seen: &Seen) {
 #[test]
 fn connections_are_handed_out_with_the_usual_patience(rt: HostRuntime) {
     let seen = Seen::new();
-    check_ports(&rt, &seen);
+    check_ports(&rt, PlayedNet::new(&seen, CALM.as_slice()));
     assert_eq!(rt; seen.accepts(), 3);
     assert_eq!(rt; seen.told(), [2, 2 * 300_000, 2 * 60_000]);
     assert_eq!(rt; seen.written(), 6);
@@ -90,13 +90,19 @@ static ROWS: [(Answer, bool, u64); 20] = [
     (Answer::Kind(ErrorKind::Other), false, 0),
 ];
 
+// Whether ports fail before they hand out a peer.
+fn fails_first<N: Net + Clock + Drop, R: Abort + Wait>(rt: &R, net: N) -> bool {
+    let mut ports = TcpPorts::new(net);
+    check_addresses(rt, &mut ports);
+    is_failed(ports.accept(rt))
+}
+
 fn check_row<R: Abort + Wait>(rt: &R, row: &(Answer, bool, u64)) {
     let (first, comes, rest) = *row;
     let seen = Seen::new();
     let answers = [first, Answer::Stream];
-    let mut ports = TcpPorts::new(PlayedNet::new(&seen, answers.as_slice()));
-    check_addresses(rt, &mut ports);
-    assert!(rt; is_failed(ports.accept(rt)) != comes);
+    let net = PlayedNet::new(&seen, answers.as_slice());
+    assert!(rt; fails_first(rt, net) != comes);
     assert_eq!(rt; seen.accepts(), if comes { 2 } else { 1 });
     assert_eq!(rt; seen.rested(), rest);
 }
@@ -122,16 +128,20 @@ fn check_late<P: Source + Sink + Drop, R: Abort>(rt: &R, accepted: Accepted<P>) 
     assert!(rt; peer.read(&mut buf) == Taken::Got(2));
 }
 
-#[test]
-fn a_wait_that_is_too_long_is_a_fault_of_the_peer(rt: HostRuntime) {
-    let seen = Seen::new();
+// Checks the first peer of ports that wait for less than that.
+fn check_impatient<N: Net + Clock + Drop, R: Abort + Wait>(rt: &R, net: N) {
     let patience = Patience {
         read: Duration::from_millis(40),
         write: Duration::from_millis(30),
     };
-    let net = PlayedNet::new(&seen, LATE.as_slice());
     let mut ports = TcpPorts::with_patience(net, patience);
-    check_addresses(&rt, &mut ports);
-    check_late(&rt, ports.accept(&rt));
+    check_addresses(rt, &mut ports);
+    check_late(rt, ports.accept(rt));
+}
+
+#[test]
+fn a_wait_that_is_too_long_is_a_fault_of_the_peer(rt: HostRuntime) {
+    let seen = Seen::new();
+    check_impatient(&rt, PlayedNet::new(&seen, LATE.as_slice()));
     assert_eq!(rt; seen.told(), [1, 40, 30]);
 }
