@@ -60,7 +60,7 @@ impl LinkGate for Failing {
 }
 
 // How often a link looks whether the other one was written to.
-const LOOKS: u32 = 1_000_000;
+const LOOKS: u32 = 100_000_000;
 
 /// A write raises the link's own flag. A read waits until the other link's flag is up, and fails where that takes too long.
 #[derive(Clone, Copy)]

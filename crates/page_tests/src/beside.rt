@@ -31,7 +31,7 @@ impl<'a> Door for MeetingDoor<'a> {
 
     fn put<R: Wait>(&mut self, rt: &R, house: &PageHouse, bytes: &[u8]) -> PutAnswer {
         self.own.store(true, Ordering::SeqCst);
-        for _ in 0..1_000_000 {
+        for _ in 0..100_000_000 {
             if self.other.load(Ordering::SeqCst) {
                 return match house.put(rt, bytes) {
                     Ok(page) => PutAnswer::Stored(page),

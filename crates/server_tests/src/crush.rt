@@ -16,7 +16,7 @@ use std::thread;
 const CRUSH: u32 = 80;
 
 // How often a peer that waits for others looks after them.
-const LOOKS: u32 = 1_000_000;
+const LOOKS: u32 = 100_000_000;
 
 // A quit in a frame.
 const QUIT: [u8; 5] = [0, 0, 0, 1, 13];

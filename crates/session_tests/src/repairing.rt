@@ -103,7 +103,7 @@ impl Gate for WovenGate {
 }
 
 // How often a session looks whether the other one came to the gate.
-const LOOKS: u32 = 1_000_000;
+const LOOKS: u32 = 100_000_000;
 
 // Finishes version 1 by a ticket of its own.
 fn finish_by_ticket<R: Threads + Wait + Sync>(

@@ -13,7 +13,7 @@ use std::thread;
 use std::thread::Threads;
 
 // How often the second session looks whether the first was numbered.
-const LOOKS: u32 = 1_000_000;
+const LOOKS: u32 = 100_000_000;
 
 // What the second session is told while the first is held: of its append, how many bytes version 0 has, and what version 2 waits
 // for.

@@ -1,5 +1,5 @@
 //! Sixteen readers read a hundred thousand ranges beside one writer and its keeper, and each is compared with the blob's bytes.
-ghost use Rattle.std.specs.Prelude.{◌≡◌, ◌<◌, ◌≤◌, ◌∷◌, []};
+ghost use Rattle.std.specs.Prelude.{◌≡◌, ◌<◌, ◌≤◌, ◌^◌, ◌∷◌, []};
 ghost use Rattle.standing_tests.specs.Boards.{MayRefresh};
 ghost use Rattle.client_session.specs.Sessions.{IsOwnerOf};
 
@@ -15,20 +15,22 @@ use std::sync::Wait;
 use std::thread;
 use std::thread::{Threads, join};
 
-// How many readers there are, how many ranges each reads, and how many versions are written meanwhile.
+// How many readers there are, and how many ranges each reads.
 const READERS: u32 = 16;
 
 const READS: u32 = 6_250;
 
+// How many versions are written, and how many of them before the readers come.
 const VERSIONS: u64 = 64;
 
-// A reader, with what it has read so far.
+const BEFORE: u64 = 32;
+
+// A reader, and whether all that it has read so far is right.
 #[derive(Drop)]
 struct Analyst<'a> {
     reader: StandingReader<'a, PlainDoor, FreeGate>,
     state: u64,
     is_right: bool,
-    by_board: u32,
 }
 
 impl<'a> Analyst<'a> {
@@ -44,18 +46,17 @@ impl<'a> Analyst<'a> {
         (self.state >> 33) % bound
     }
 
-    // Reads a range of some version, which may not be published yet.
+    // Reads a range of some version. It comes by the board where the version was there before the readers came, and any other may not
+    // be published yet.
     fn read_one<R: Wait>(&mut self, rt: &R) {
         let version = 1 + self.draw(VERSIONS);
         let offset = self.draw(version * PIECE);
         let count = 1 + self.draw(version * PIECE - offset).min(31);
-        let told = read(rt, &mut self.reader, version, offset, count);
-        if let Some((is_right, way)) = told {
-            self.is_right = self.is_right && is_right;
-            if way == Way::Board {
-                self.by_board = self.by_board.saturating_add(1);
-            }
-        }
+        let is_right = match read(rt, &mut self.reader, version, offset, count) {
+            Some((is_right, way)) => is_right && (way == Way::Board || version > BEFORE),
+            None => version > BEFORE,
+        };
+        self.is_right = self.is_right && is_right;
     }
 
     fn read_many<R: Wait>(&mut self, rt: &R) {
@@ -65,8 +66,8 @@ impl<'a> Analyst<'a> {
     }
 }
 
-// The readers of a stand, each with a session of its own.
-fn analysts_of<'a, R: Abort>(
+// The readers of a stand, each with a session of its own. Each reads the last version by the board, and has then seen what is on it.
+fn analysts_of<'a, R: Wait + Abort>(
     rt: &R,
     alloc: Global,
     shared: &'a Shared,
@@ -75,17 +76,17 @@ fn analysts_of<'a, R: Abort>(
     gate: &'a FreeGate,
 ) -> Vec<Analyst<'a>>
     requires owner { IsOwnerOf shared.now owner.old }
-    requires stand { stand.old.store ≡ shared.now ∷ [] }
-    ensures { IsOwnerOf shared.now owner.new }
+    requires store { stand.old.store ≡ shared.now ∷ [] }
 {
     let mut all = Vec::new(alloc);
     for number in 0..READERS {
         let session = new_session(rt, alloc, shared, owner, &mut PlainMaker::new(), gate);
+        let mut reader = stand.reader(session);
+        let told = read(rt, &mut reader, BEFORE, 0, PIECE);
         let analyst = Analyst {
-            reader: stand.reader(session),
+            reader,
             state: u64::from(number),
-            is_right: true,
-            by_board: 0,
+            is_right: told == Some((true, Way::Board)),
         };
         all.push(analyst).expect(rt, "memory");
     }
@@ -102,17 +103,22 @@ fn read_all<R: Threads + Wait + Sync>(rt: &R, analysts: &mut [Analyst<'_>]) {
     );
 }
 
-// Appends the versions one after another, and refreshes after each. Whether every refresh answered what was just written.
+// Appends versions one after another, from the one after `first` to `last`, and refreshes after each. Whether every refresh answered
+// what was just written.
 fn write_all<R: Threads + Wait + Sync, W: Wait + Drop>(
     rt: &R,
     writer: &mut Client<'_>,
     keeper: &mut Keeper<W>,
     session: &mut Client<'_>,
+    first: u64,
+    last: u64,
 ) -> bool
-    requires { MayRefresh keeper.old session.old }
+    requires keeper { MayRefresh keeper.old session.old }
+    requires few { last < 2 ^ 32 }
+    ensures { MayRefresh keeper.new session.new }
 {
     let mut is_recent = true;
-    for version in 0..VERSIONS {
+    for version in first..last {
         let is_written = append_after(rt, writer, version);
         let told = refresh(rt, keeper, session, 1);
         is_recent = is_recent && is_written && told == Ok(version + 1);
@@ -138,7 +144,7 @@ fn work<'a, R: Threads + Wait + Sync, W: Wait + Drop + Send>(
             let mut writer = writer;
             let mut keeper = keeper;
             let mut session = session;
-            write_all(rt, &mut writer, &mut keeper, &mut session)
+            write_all(rt, &mut writer, &mut keeper, &mut session, BEFORE, VERSIONS)
         },
         || read_all(rt, analysts),
     );
@@ -151,13 +157,12 @@ fn sixteen_readers_read_what_one_writer_wrote(rt: HostRuntime) {
     let gate = FreeGate;
     let mut maker = PlainMaker::new();
     let (shared, mut owner) = new_store(&rt, alloc);
-    let (keeper, mut stand) = Board::new(&rt, alloc, &shared, READERS).expect(&rt, "memory");
+    let (mut keeper, mut stand) = Board::new(&rt, alloc, &shared, READERS).expect(&rt, "memory");
     let mut session = new_session(&rt, alloc, &shared, &mut owner, &mut maker, &gate);
-    let writer = new_session(&rt, alloc, &shared, &mut owner, &mut maker, &gate);
-    let mut analysts = analysts_of(&rt, alloc, &shared, &mut owner, &mut stand, &gate);
+    let mut writer = new_session(&rt, alloc, &shared, &mut owner, &mut maker, &gate);
     assert_eq!(rt; create(&rt, &keeper, &mut session), Some(1));
-    let is_recent = work(&rt, writer, keeper, session, analysts.as_mut_slice());
-    assert!(rt; is_recent);
+    assert!(rt; write_all(&rt, &mut writer, &mut keeper, &mut session, 0, BEFORE));
+    let mut analysts = analysts_of(&rt, alloc, &shared, &mut owner, &mut stand, &gate);
+    assert!(rt; work(&rt, writer, keeper, session, analysts.as_mut_slice()));
     assert!(rt; analysts.iter().all(|analyst| analyst.is_right));
-    assert!(rt; analysts.iter().any(|analyst| analyst.by_board > 0));
 }

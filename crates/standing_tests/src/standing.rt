@@ -17,7 +17,7 @@ use std::thread;
 use std::thread::{Threads, join};
 
 // How often one looks whether the other came.
-const LOOKS: u32 = 1_000_000;
+const LOOKS: u32 = 100_000_000;
 
 // Where a reader and a keeper meet.
 #[derive(Drop)]
