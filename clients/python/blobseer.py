@@ -22,6 +22,7 @@ mean, and when each is refused, stands in docs/FORMATS.md.
 """
 import argparse
 import collections
+import contextlib
 import itertools
 import os
 import selectors
@@ -55,8 +56,8 @@ class ProtocolError(Error):
 
 
 class Refused(Error):
-    """A request was refused, and the blobs and the history are as they were. `name` is the refusal's name, and each of its numbers
-    is an attribute as well; `numbers` has them in order."""
+    """A request was refused, and the blobs and the history are as they were, save where the refusal says something else. `name` is the
+    refusal's name, and each of its numbers is an attribute as well; `numbers` has them in order."""
 
     name = "refused"
     fields = ()
@@ -84,7 +85,7 @@ BlobTooBig = _refusal(4, "blob-too-big", "bytes", "limit", doc="The blob would h
 TooManyVersions = _refusal(5, "too-many-versions", "limit", doc="The blob has as many versions as it may.")
 TooManyOpen = _refusal(6, "too-many-open", "limit", doc="As many updates of the blob wait as may.")
 TooManyBlobs = _refusal(7, "too-many-blobs", "limit", doc="The store has as many blobs as it may.")
-Already = _refusal(8, "already", "version", doc="The update was finished before.")
+Already = _refusal(8, "already", "version", doc="The update was finished before, by another client.")
 NoMemory = _refusal(9, "no-memory", doc="The server was refused memory; nothing has changed.")
 EmptyUpdate = _refusal(10, "empty-update", doc="An update of no bytes.")
 UpdateTooLong = _refusal(11, "update-too-long", "bytes", doc="An update of more bytes than one may have.")
@@ -148,23 +149,28 @@ def _address_of(text):
     return host[1:-1] if host.startswith("[") and host.endswith("]") else host, int(port)
 
 
-def connect(address, timeout=None, version=2):
+def connect(address, timeout=None, version=2, repair_after=None):
     """A client of the server at `HOST:PORT`, or at a pair of host and port. With `timeout`, a wait of so many seconds raises TimeoutError.
+
+    With `repair_after`, a wait for a version repairs the update that it waits for, once this has been the same one for so many seconds: its
+    client is gone or stands still. If it comes back, it is told Already. Without it the wait lasts until somebody else repairs the update.
 
     It speaks version 2 of the frames, or with `version=1` the older one, in which an update has at most 1,048,576 bytes, many ranges are
     read one by one, and nothing is repaired."""
-    return Client(address, timeout, version)
+    return Client(address, timeout, version, repair_after)
 
 
 class Client:
-    """One connection, which is one session of the store. Its tickets are finished for it when it ends.
+    """One connection, which is one session of the store. When it ends, its tickets are finished for it, but for an update that needs
+    the version before it while that isn't published: somebody else has to repair this one.
 
     Each request has a method that waits for the reply. `pipeline` has the same methods and doesn't wait. A client is for one thread.
     """
 
-    def __init__(self, address, timeout=None, version=2):
+    def __init__(self, address, timeout=None, version=2, repair_after=None):
         where = _address_of(address) if isinstance(address, str) else address
         self._timeout = timeout
+        self._repair_after = repair_after
         self._tickets = {}
         self._out = collections.deque()
         self._awaited = collections.deque()
@@ -192,7 +198,7 @@ class Client:
         return self._socket is None
 
     def close(self):
-        """Ends the connection without a word. The session's tickets are finished by the server."""
+        """Ends the connection without a word. The session's tickets are finished by the server, as far as they can be."""
         if self._socket is not None:
             self._selector.close()
             self._socket.close()
@@ -219,12 +225,13 @@ class Client:
         """Adds bytes at the end of a blob: an Update. That it is numbered doesn't mean that it is published.
 
         Where the server holds the update back until the version before it is published, this waits for that and finishes it. If the
-        version before waits for an update that this client holds itself, Pending is raised, and the update's ticket is held too."""
-        return self._finished(blob, self._send(2, blob, data=data, decode=_update))
+        version before waits for an update that this client holds itself, Pending is raised, and the update's ticket is held too. If
+        another client repairs the update before the server has finished it, this waits until it is published."""
+        return self._finished(blob, None, data, self._send(2, blob, data=data, decode=_update))
 
     def write(self, blob, offset, data):
         """Puts bytes over those at an offset: an Update. It may be held back as an append."""
-        return self._finished(blob, self._send(3, blob, offset, data=data, decode=_update))
+        return self._finished(blob, offset, data, self._send(3, blob, offset, data=data, decode=_update))
 
     def start_append(self, blob, data):
         """An append that waits for its finish: a Started."""
@@ -235,8 +242,13 @@ class Client:
         return self._started(blob, self._send(5, blob, offset, data=data, decode=_started))
 
     def finish(self, ticket):
-        """Finishes the update of a ticket, and gives the last published version of its blob."""
-        published = self._send(6, ticket, decode=_number).result()
+        """Finishes the update of a ticket, and gives the last published version of its blob. If another client has repaired it, it is
+        refused as Already, and the ticket is given up."""
+        try:
+            published = self._send(6, ticket, decode=_number).result()
+        except Already:
+            self._tickets.pop(ticket, None)
+            raise
         self._tickets.pop(ticket, None)
         return published
 
@@ -304,15 +316,23 @@ class Client:
 
     def wait_published(self, blob, version, timeout=None):
         """Waits until a version is published, and gives it. It asks again and again, at most ten times a second. Where the version waits for
-        an update that this client holds itself it raises Pending at once, and TimeoutError after `timeout` seconds."""
+        an update that this client holds itself it raises Pending at once, and TimeoutError after `timeout` seconds. Where it waits for another
+        client's update for too long, it repairs this (see `connect`)."""
         end = None if timeout is None else time.monotonic() + timeout
         pause = 0.001
+        held = since = None
         while True:
             try:
                 return self.sync(blob, version)
             except Pending as pending:
                 if (blob, pending.held) in self._tickets.values():
                     raise
+                if pending.held != held:
+                    held, since = pending.held, time.monotonic()
+            if self._repair_after is not None and time.monotonic() - since >= self._repair_after and self.version == 2:
+                with contextlib.suppress(Already):
+                    self.repair(blob, held)
+                continue
             if end is not None and time.monotonic() + pause > end:
                 raise TimeoutError("version %d of blob %d isn't published" % (version, blob))
             time.sleep(pause)
@@ -374,18 +394,21 @@ class Client:
         self._tickets[started.ticket] = (blob, started.version)
         return started
 
-    def _finished(self, blob, reply):
-        update = reply.result()
+    def _finished(self, blob, offset, data, reply):
+        try:
+            update = reply.result()
+        except Already as repaired:
+            size = self.size(blob, self.wait_published(blob, repaired.version))
+            return Update(repaired.version, size - memoryview(data).nbytes if offset is None else offset, size)
         if isinstance(update, Update):
             return update
         self._tickets[update.ticket] = (blob, update.version)
         while True:
             self.wait_published(blob, update.version - 1)
-            try:
-                self.finish(update.ticket)
+            with contextlib.suppress(Pending):
+                with contextlib.suppress(Already):
+                    self.finish(update.ticket)
                 return Update(update.version, update.offset, update.size)
-            except Pending:
-                pass
 
     # ---- the stream
 
@@ -553,7 +576,7 @@ def _filled(file, count):
 
 class Pipeline:
     """Requests that don't wait for one another. Each method gives a Reply, whose `result()` waits. An append or a write whose result is a Started is
-    held back: finish its ticket once the version before it is published. The server answers in order, and replies are
+    held back: finish its ticket once the version before it is published. One that raises Already is done: another client repaired it. The server answers in order, and replies are
     taken while requests are sent, so neither side can stand still because the other's buffers are full. At the end of a `with` block all
     replies have come."""
 
@@ -659,6 +682,8 @@ def _words():
         epilog="Exit statuses: 0 done, 1 refused by the store, 2 wrong words, 3 no connection or a lost one, 4 a local file failed.")
     whole.add_argument("address", metavar="HOST:PORT", help="where the server listens; an IPv6 host stands in brackets")
     whole.add_argument("--timeout", type=float, metavar="SECONDS", help="give up a wait for the server after so long")
+    whole.add_argument("--repair-after", type=float, metavar="SECONDS",
+                       help="finish another client's update for it, where a version has waited for it for so long")
     commands = whole.add_subparsers(dest="command", metavar="COMMAND", required=True)
 
     def command(name, told, *numbers):
@@ -746,7 +771,7 @@ def main(arguments=None):
     except ValueError as error:
         _words().error(str(error))
     try:
-        store = connect(where, words.timeout)
+        store = connect(where, words.timeout, repair_after=words.repair_after)
     except OSError as error:
         print("blobseer: no connection to %s: %s" % (words.address, error), file=sys.stderr)
         return 3

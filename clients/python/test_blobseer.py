@@ -198,6 +198,24 @@ class Requests(unittest.TestCase):
         self.refused(blobseer.NotPublished, (3, 2), self.store.repair, log, 3)
         other.close()
 
+    def test_what_a_lost_client_left_is_repaired_by_one_that_waits(self):
+        log = self.store.create()
+        self.store.append(log, bytes(2))
+        for number in range(14):
+            self.store.write(log, 0, b"\xff")
+        held = self.store.start_write(log, 0, b"\xaa")
+        host, port = self.server.address.split(":")
+        with socket.create_connection((host, int(port))) as lost:
+            lost.sendall(frame(3, log, 1, data=b"\xbb") + frame(13))
+            while lost.recv(4096):
+                pass
+        self.assertEqual(self.store.append(log, b"behind").version, 18)
+        self.assertEqual(self.store.finish(held.ticket), 16)
+        self.assertRaises(TimeoutError, self.store.wait_published, log, 18, timeout=0.05)
+        with blobseer.connect(self.server.address, repair_after=0.05) as other:
+            self.assertEqual(other.wait_published(log, 18), 18)
+            self.assertEqual(other.read(log, 18, 0, 8), b"\xaa\xbbbehind")
+
     def test_an_update_of_its_own_is_repaired(self):
         log = self.store.create()
         self.store.start_append(log, b"a")
@@ -415,6 +433,18 @@ class WrongServers(unittest.TestCase):
             self.assertEqual((created.result(), read.result()), (7, b"abc"))
             store.close()
             thread.join()
+
+    def test_an_append_and_a_write_that_another_client_repaired(self):
+        told = frame(255, 8, 7), frame(255, 16, 7, 6), frame(138, 7), frame(137, 100), frame(141)
+        with played(*told) as address, blobseer.connect(address, version=1) as store:
+            self.assertEqual(store.append(1, b"abc"), (7, 97, 100))
+        with played(*told) as address, blobseer.connect(address, version=1) as store:
+            self.assertEqual(store.write(1, 5, b"abc"), (7, 5, 100))
+
+    def test_an_append_that_another_client_repaired_while_it_was_held_back(self):
+        told = frame(132, 2, 7, 97, 100), frame(138, 6), frame(255, 8, 7), frame(141)
+        with played(*told) as address, blobseer.connect(address, version=1) as store:
+            self.assertEqual(store.append(1, b"abc"), (7, 97, 100))
 
     def test_a_server_of_version_1(self):
         with played(frame(255, 19) + frame(129, 7)) as address:
