@@ -2,10 +2,12 @@
 
 The program is that of the variable BLOBSEER, or crates/blobseer/out/blobseer of this repository.
 """
+import concurrent.futures
 import contextlib
 import io
 import os
 import pathlib
+import random
 import re
 import shlex
 import socket
@@ -332,6 +334,82 @@ class Limits(unittest.TestCase):
                     with self.assertRaises(kind) as caught:
                         call()
                     self.assertEqual(caught.exception.numbers, numbers)
+
+
+class Together(unittest.TestCase):
+    """Many clients at once, some of which are lost: all that they are told belongs to one history over flat bytes."""
+
+    BLOBS = (1, 2, 3)
+
+    # What an update or its finish may be told here.
+    REFUSALS = (blobseer.OffsetPastSize, blobseer.BlobTooBig, blobseer.TooManyOpen, blobseer.TooManyTickets, blobseer.Already, blobseer.Pending)
+
+    def update(self, requests, draw):
+        """Asks for an update: its blob, its bytes and its reply to come."""
+        blob, data = draw.choice(self.BLOBS), bytes([draw.randrange(256)]) * draw.choice((1, 3, 16, 40))
+        kind = draw.randrange(4)
+        if kind < 2:
+            return blob, data, (requests.append, requests.start_append)[kind](blob, data)
+        return blob, data, (requests.write, requests.start_write)[kind - 2](blob, draw.randrange(100), data)
+
+    def session(self, store, draw, updates, reads):
+        requests = store.pipeline()
+        for _ in range(draw.randint(1, 12)):
+            for blob, data, reply in [self.update(requests, draw) for _ in range(draw.randint(1, 6))]:
+                with contextlib.suppress(*self.REFUSALS):
+                    done = reply.result()
+                    updates.append((blob, done.version, done.offset, done.size, data))
+                    if isinstance(done, blobseer.Started) and draw.random() < 0.8:
+                        store.finish(done.ticket)
+            blob = draw.choice(self.BLOBS)
+            with contextlib.suppress(blobseer.Pending):
+                store.wait_published(blob, store.status(blob).assigned)
+            version = draw.randint(0, store.recent(blob).version)
+            begin, end = sorted(draw.randint(0, store.size(blob, version)) for _ in range(2))
+            reads.append((blob, version, begin, store.read(blob, version, begin, end - begin)))
+
+    def client(self, address, seed, updates, reads):
+        draw = random.Random(seed)
+        for _ in range(10):
+            store = blobseer.connect(address, repair_after=0.02)
+            self.session(store, draw, updates, reads)
+            if draw.random() < 0.3:
+                store.quit()
+            elif draw.random() < 0.5:
+                store._socket.sendall(frame(2, 1, data=b"cut")[:-1])
+            store.close()
+
+    def check(self, store, blob, updates, reads):
+        """Reads every version of a blob, and compares it with the updates and the reads that the clients were told of."""
+        told = {update[1]: update for update in updates if update[0] == blob}
+        self.assertEqual(len(told), sum(update[0] == blob for update in updates))
+        before = b""
+        for version in range(store.wait_published(blob, store.status(blob).assigned) + 1):
+            content = store.read(blob, version, 0, store.size(blob, version))
+            if version in told:
+                _, _, offset, size, data = told[version]
+                self.assertEqual(content, before[:offset] + data + before[offset + len(data):])
+                self.assertEqual(size, len(content))
+            for _, _, begin, part in filter(lambda read: read[:2] == (blob, version), reads):
+                self.assertEqual(part, content[begin:begin + len(part)])
+            before = content
+
+    def test_all_belongs_to_one_history(self):
+        with Server("--page", "16", "--max-size", "4096", "--workers", "16") as server:
+            with blobseer.connect(server.address, repair_after=0.02) as store:
+                self.assertEqual(tuple(store.create() for _ in self.BLOBS), self.BLOBS)
+                told = [([], []) for _ in range(8)]
+                with concurrent.futures.ThreadPoolExecutor(len(told)) as clients:
+                    running = [clients.submit(self.client, server.address, seed, *lists) for seed, lists in enumerate(told)]
+                for client in running:
+                    client.result()
+                for updates, _ in told:
+                    for blob in self.BLOBS:
+                        versions = [update[1] for update in updates if update[0] == blob]
+                        self.assertEqual(versions, sorted(versions))
+                updates, reads = ([one for lists in told for one in lists[kind]] for kind in range(2))
+                for blob in self.BLOBS:
+                    self.check(store, blob, updates, reads)
 
 
 class Settings(unittest.TestCase):
