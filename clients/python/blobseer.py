@@ -679,7 +679,7 @@ class _Progress:
 def _words():
     whole = argparse.ArgumentParser(
         prog="blobseer.py", description="Asks a BlobSeer server.",
-        epilog="Exit statuses: 0 done, 1 refused by the store, 2 wrong words, 3 no connection or a lost one, 4 a local file failed.")
+        epilog="Exit statuses: 0 done, 1 refused by the store, 2 wrong words, 3 no connection, a lost one or a wait given up, 4 a local file failed.")
     whole.add_argument("address", metavar="HOST:PORT", help="where the server listens; an IPv6 host stands in brackets")
     whole.add_argument("--timeout", type=float, metavar="SECONDS", help="give up a wait for the server after so long")
     whole.add_argument("--repair-after", type=float, metavar="SECONDS",
@@ -755,7 +755,7 @@ _COMMANDS = {
     "status": lambda store, words: print("assigned %d published %d held %d" % store.status(words.blob)),
     "log": _log,
     "repair": _repair,
-    "wait": lambda store, words: print("published %d" % store.wait_published(words.blob, words.version)),
+    "wait": lambda store, words: print("published %d" % store.wait_published(words.blob, words.version, words.timeout)),
 }
 
 

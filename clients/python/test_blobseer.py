@@ -580,6 +580,16 @@ class Program(unittest.TestCase):
             self.assertEqual(self.ran(address, "read", "1", "1", "1048577", status=1), "blobseer: refused: range-past-size 1048577 1048576\n")
             self.assertEqual(self.ran("nowhere", "create", status=2).split(":")[0], "usage")
 
+    def test_a_wait_ends_or_repairs(self):
+        with Server() as server, blobseer.connect(server.address) as other:
+            address, log = server.address, other.create()
+            for data in (b"a", b"b"):
+                other.start_append(log, data)
+            self.assertEqual(self.ran(address, "--timeout", "0.2", "wait", "1", "2", status=3), "blobseer: version 2 of blob 1 isn't published\n")
+            self.assertEqual(self.ran(address, "repair", "1"), b"published 1\n")
+            self.assertEqual(self.ran(address, "--repair-after", "0.1", "wait", "1", "2"), b"published 2\n")
+            self.assertEqual(self.ran(address, "repair", "1", "2", status=1), "blobseer: refused: already 2\n")
+
     def test_no_server(self):
         address = "127.0.0.1:%d" % free_port()
         self.assertTrue(self.ran(address, "create", status=3).startswith("blobseer: no connection to " + address))
@@ -587,7 +597,7 @@ class Program(unittest.TestCase):
     def test_help(self):
         done = subprocess.run([*CLIENT, "--help"], capture_output=True)
         self.assertEqual(done.returncode, 0)
-        for name in ("create", "append", "write", "read", "branch", "status", "log", "wait"):
+        for name in ("create", "append", "write", "read", "branch", "status", "log", "wait", "repair"):
             self.assertIn(name, done.stdout.decode())
 
 
