@@ -4,7 +4,7 @@ ghost use Rattle.client_session.specs.Sessions.{IsOwnerOf};
 
 use crate::store::{new_session, new_store};
 use blob_model::Bytes;
-use client_session::{Owner, Shared};
+use client_session::{Fault, Owner, Shared};
 use file_layer::FileSession;
 use file_names::{Entered, Named, Names, Path};
 use file_text::{FileFault, FileLine, FileReply};
@@ -103,7 +103,8 @@ impl<'a> Client<'a> {
         }
     }
 
-    // Appends to a file, which may not be there yet. None where it was told something else.
+    // Appends to a file, which may not be there yet, or have as many waiting updates as it may: while one session stands still between
+    // its number and its finish, the others go on. None where it was told something else.
     fn append<R: Threads + Wait + Sync>(&mut self, rt: &R, file: u64, count: usize) -> Option<()> {
         let path = path_of(self.alloc, file)?;
         let byte = self.number;
@@ -121,6 +122,7 @@ impl<'a> Client<'a> {
                 })
                 .ok(),
             FileReply::Refused(FileFault::NoName { path: _ }) => Some(()),
+            FileReply::Refused(FileFault::Store(Fault::TooManyOpen { limit: _ })) => Some(()),
             _ => None,
         }
     }
