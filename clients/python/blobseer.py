@@ -244,13 +244,7 @@ class Client:
     def finish(self, ticket):
         """Finishes the update of a ticket, and gives the last published version of its blob. If another client has repaired it, it is
         refused as Already, and the ticket is given up."""
-        try:
-            published = self._send(6, ticket, decode=_number).result()
-        except Already:
-            self._tickets.pop(ticket, None)
-            raise
-        self._tickets.pop(ticket, None)
-        return published
+        return self._settled(self._send(6, ticket, decode=_number), lambda held, _: held == ticket)
 
     def read(self, blob, version, offset, length):
         """Bytes of a published version, at most LONGEST_READ of them."""
@@ -299,9 +293,7 @@ class Client:
     def repair(self, blob, version):
         """Finishes the update of a version that its client left unfinished, and gives the last published version of its blob. Whoever is first
         finishes it; for the other it is refused as Already."""
-        published = self._send(16, blob, version, decode=_number).result()
-        self._tickets = {ticket: held for ticket, held in self._tickets.items() if held != (blob, version)}
-        return published
+        return self._settled(self._send(16, blob, version, decode=_number), lambda _, update: update == (blob, version))
 
     def quit(self):
         """Ends the session and the connection."""
@@ -388,6 +380,18 @@ class Client:
                 held = self.status(blob).held
                 if held:
                     self.wait_published(blob, held)
+
+    def _settled(self, reply, is_of):
+        """What a finish or a repair is answered. If the update is finished now, by this client or another, its ticket is given up."""
+        refusal = None
+        try:
+            published = reply.result()
+        except Already as already:
+            refusal = already
+        self._tickets = {held: update for held, update in self._tickets.items() if not is_of(held, update)}
+        if refusal is not None:
+            raise refusal
+        return published
 
     def _started(self, blob, reply):
         started = reply.result()
