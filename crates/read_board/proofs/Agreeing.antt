@@ -1,5 +1,5 @@
 -- A reader that learnt of a refresh reads what the store holds, from that refresh or from a later one.
-use Rattle.std.proofs.Common.{◌≡◌, ◌⊎◌, ℕ, zero, suc, ◌+◌, ◌<◌, ◌≤◌, ◌==◌, Bool, true, false, List, [], ◌∷◌, ◌++◌, length, take, fold, slice_get, Option, Some, None, if◌then◌else◌, refl, ap, sym, ◌∙◌, subst, arith, inl, inr, ⊎_elim, append-nil, Result, Ok}
+use Rattle.std.proofs.Common.{◌≡◌, ◌⊎◌, ℕ, zero, suc, ◌+◌, ◌≤◌, ◌==◌, Bool, true, false, List, [], ◌∷◌, ◌++◌, length, take, fold, slice_get, Option, Some, None, if◌then◌else◌, refl, ap, sym, ◌∙◌, subst, arith, inl, inr, ⊎_elim, append-nil, Ok}
 use Rattle.std.specs.Prelude.{nat_le}
 use Rattle.std.proofs.lemmas.Bool.Decides.{nat_tests}
 use Rattle.std.proofs.lemmas.List.{take-append-le}
@@ -13,7 +13,6 @@ use Rattle.version_manager.specs.Log.{desk_at}
 use Rattle.version_manager.specs.declared.journal.DeskFixed.{DeskFixed}
 use Rattle.read_board.specs.declared.refresh.Refresh.{Refresh}
 use Rattle.read_board.specs.Refreshes.{version_of, updates_of, on_board, covering, IsRising}
-use Rattle.read_board.specs.Refreshing.{Holds}
 use Rattle.read_board.specs.Laws.{ReadsAgree, Agrees}
 use Rattle.client_session.specs.Sessions.{SessionState}
 use Rattle.read_board.specs.declared.standing.Way.{Way}

@@ -1,11 +1,10 @@
 -- What refreshes hold of a store stays as it goes on, and makes them rise.
 use Rattle.std.proofs.Common.{◌≡◌, ℕ, zero, suc, ◌+◌, ◌<◌, ◌≤◌, List, [], ◌∷◌, ◌++◌, length, take, Option, Some, None, refl, ap, sym, ◌∙◌, subst, arith, slice_get, get_or}
 use Rattle.std.specs.Prelude.{slice_index_or}
-use Rattle.std.specs.List.{All}
 use Rattle.std.proofs.lemmas.List.{map-append, take-append-le}
 use Rattle.std.proofs.lemmas.Option.{slice_get_within, get_or_from_slice_get}
 use mathlib.Core.List.{IsPrefix}
-use Rattle.blob_model.specs.Content.{Update, content, content_from}
+use Rattle.blob_model.specs.Content.{Update, content_from}
 use Rattle.blob_model.specs.declared.call.Place.TheVariants.{WriteAt}
 use Rattle.blob_model.specs.declared.call.Event.{Event}
 use Rattle.blob_model.specs.Store.{Blob, blob_at, published}
@@ -15,7 +14,7 @@ use Rattle.range_log.specs.Extents.{Extent, extent_at, no_extent}
 use Rattle.range_log.specs.Updates.{update_at, extents, no_update}
 use Rattle.range_log.specs.Laws.{ExtentsGrow, ExtentsAre}
 use Rattle.node_store.specs.UpdateRows.{UpdateRow}
-use Rattle.snapshot.specs.Versions.{row_at, updates, bytes_of, update_of_row}
+use Rattle.snapshot.specs.Versions.{row_at, updates, bytes_of}
 use Rattle.snapshot.specs.Laws.{TellUpdates}
 use Rattle.snapshot.proofs.Lists.{length-updates, update_told, update_at_front}
 use Rattle.turn_lock.specs.History.{Begins}
@@ -23,7 +22,7 @@ use Rattle.version_manager.specs.Desks.{updates_or_none, published_or_none, upda
 use Rattle.version_manager.specs.Log.{desk_at, events}
 use Rattle.version_manager.specs.declared.journal.DeskFixed.{DeskFixed}
 use Rattle.read_board.specs.declared.refresh.Refresh.{Refresh}
-use Rattle.read_board.specs.Refreshes.{version_of, updates_of, MayFollow}
+use Rattle.read_board.specs.Refreshes.{version_of, MayFollow}
 use Rattle.read_board.specs.Refreshing.{IsThere, Holds, AllHold}
 
 -- ---- lists

@@ -1,5 +1,5 @@
 -- A read of an older version by a refresh.
-use Rattle.std.proofs.Common.{◌≡◌, ℕ, zero, suc, ◌+◌, ◌^◌, ◌<◌, ◌≤◌, List, [], ◌∷◌, length, take, Result, Ok, Err, refl, ap, sym, ◌∙◌, subst, arith, length-take-le, append-nil}
+use Rattle.std.proofs.Common.{◌≡◌, ℕ, zero, suc, ◌+◌, ◌^◌, ◌≤◌, List, [], length, take, Result, Ok, Err, refl, ap, sym, ◌∙◌, subst, arith, length-take-le, append-nil}
 use Rattle.std.proofs.lemmas.List.Elements.{All-take}
 use Rattle.blob_model.specs.Content.{Update}
 use Rattle.tree_geom.specs.Geometry.{IsPageSize}
@@ -8,12 +8,11 @@ use Rattle.range_log.specs.Visits.{visits}
 use Rattle.page_store.specs.Stored.{LieAmong}
 use Rattle.node_store.specs.House.{IsIn}
 use Rattle.node_store.specs.UpdateRows.{UpdateRow, stored_of}
-use Rattle.snapshot.specs.Versions.{Version, IsVersion, IsRowOf, row_at, no_row, updates, older_version}
-use Rattle.snapshot.specs.Laws.{AreRowsOf, TellUpdates, RowsTell}
+use Rattle.snapshot.specs.Versions.{Version, IsVersion, IsRowOf, updates, older_version}
+use Rattle.snapshot.specs.Laws.{TellUpdates, RowsTell}
 use Rattle.snapshot.proofs.Lists.{length-updates, row_at_taken}
 use Rattle.request_form.specs.declared.form.Fault.{Fault}
-use Rattle.request_form.specs.declared.form.Fault.TheVariants as Faults
-use Rattle.client_session.specs.Opening.{IsOfStore, RangeCause, ReadsRange}
+use Rattle.client_session.specs.Opening.{IsOfStore, ReadsRange}
 use Rattle.client_session.specs.Results.{read_reply}
 use Rattle.client_session.specs.Sessions.{SessionState, StoreState, session_of, Continues, visits_seen, NoStepIfRefused, AnswersAsPublished}
 use Rattle.blob_model.specs.History.{AllOther}
@@ -24,7 +23,6 @@ use Rattle.read_board.specs.Refreshes.{updates_of, version_of}
 use Rattle.read_board.specs.Reads.{ByBoard, ByTurn, bytes_said, said_by}
 use Rattle.read_board.specs.declared.standing.Way.{Way}
 use Rattle.read_board.specs.declared.standing.Way.TheVariants as Ways
-use Rattle.read_board.proofs.Holding.{get_taken}
 
 pow_some : (i : ℕ) → 1 ≤ 2 ^ i
 pow_some zero = omega arith

@@ -1,17 +1,15 @@
 -- A refresh comes after those that the keeper has, and all hold what they held.
-use Rattle.std.proofs.Common.{◌≡◌, ℕ, ◌+◌, ◌<◌, ◌≤◌, List, [], ◌∷◌, ◌++◌, length, Some, refl, ap, sym, ◌∙◌, subst, arith, slice_get}
+use Rattle.std.proofs.Common.{ℕ, ◌+◌, ◌≤◌, List, [], ◌∷◌, ◌++◌, ap, sym, subst, arith}
 use Rattle.std.proofs.lemmas.List.Elements.{All-push}
 use Rattle.std.proofs.lemmas.Option.{slice_get_within, get_or_from_slice_get}
-use Rattle.blob_model.specs.declared.call.Event.{Event}
 use Rattle.blob_model.specs.Laws.{OldVersionsStay}
 use Rattle.range_log.specs.Laws.{ExtentsGrow, ExtentsAre}
 use Rattle.version_manager.specs.Desks.{published_in}
 use Rattle.version_manager.specs.Log.{desk_at}
 use Rattle.version_manager.specs.declared.journal.DeskFixed.{DeskFixed}
-use Rattle.client_session.specs.Opening.{IsOfStore}
 use Rattle.client_session.specs.Sessions.{SessionState, StoreState, Continues}
 use Rattle.read_board.specs.declared.refresh.Refresh.{Refresh}
-use Rattle.read_board.specs.Refreshes.{version_of, MayFollow, IsOn}
+use Rattle.read_board.specs.Refreshes.{version_of, MayFollow}
 use Rattle.read_board.specs.Refreshing.{Holds, AllHold, IsRecent}
 use Rattle.read_board.proofs.Holding.{grown, all_hold_on, may_follow}
 

@@ -1,5 +1,5 @@
 -- Which board it is, and beginnings of its one list of refreshes.
-use Rattle.std.specs.Prelude.{List, ℕ}
+use Rattle.std.specs.Prelude.{List}
 use Rattle.logbook.specs.Pages.{Book}
 use Rattle.client_session.specs.Sessions.{StoreState}
 use Rattle.read_board.specs.declared.refresh.Refresh.{Refresh}

@@ -8,7 +8,7 @@ use Rattle.request_form.specs.declared.form.Request.TheVariants as Requests
 use Rattle.request_form.specs.declared.form.Fault.{Fault}
 use Rattle.client_session.specs.Results.{read_reply}
 use Rattle.client_session.specs.Opening.{ReadsRange}
-use Rattle.client_session.specs.Sessions.{SessionState, session_of, Continues, visits_seen, NoStepIfRefused, AnswersAsPublished}
+use Rattle.client_session.specs.Sessions.{SessionState, session_of, visits_seen, NoStepIfRefused, AnswersAsPublished}
 use Rattle.read_board.specs.declared.refresh.Refresh.{Refresh}
 use Rattle.read_board.specs.declared.standing.Way.{Way}
 use Rattle.read_board.specs.declared.standing.Way.TheVariants as Ways

@@ -1,5 +1,5 @@
 -- Lists of refreshes, and each blob's last.
-use Rattle.std.specs.Prelude.{◌≡◌, ◌==◌, ◌≤◌, ◌<◌, ℕ, suc, List, [], ◌∷◌, length, Option, Some, None, fold, if◌then◌else◌, slice_get, nat_le}
+use Rattle.std.specs.Prelude.{◌≡◌, ◌==◌, ◌<◌, ℕ, suc, List, [], ◌∷◌, length, Option, Some, None, fold, if◌then◌else◌, slice_get, nat_le}
 use mathlib.Core.List.{IsPrefix}
 use Rattle.blob_model.specs.Content.{Update}
 use Rattle.snapshot.specs.Versions.{updates}

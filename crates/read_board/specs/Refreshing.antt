@@ -1,5 +1,5 @@
 -- What refreshes hold of a store, and what a refresh does.
-use Rattle.std.specs.Prelude.{◌≡◌, ◌⊎◌, ℕ, ◌≤◌, List, [], ◌∷◌, ◌++◌, length, None, Some}
+use Rattle.std.specs.Prelude.{◌≡◌, ◌⊎◌, ℕ, ◌≤◌, List, [], ◌∷◌, ◌++◌, None, Some}
 use Rattle.std.specs.List.{All}
 use Rattle.blob_model.specs.History.{AllOther, store_of}
 use Rattle.blob_model.specs.Store.{Blob, blob_at}
