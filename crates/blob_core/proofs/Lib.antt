@@ -1,10 +1,10 @@
 mod Example
-mod Lists
-mod Growing
-mod Finding
-mod Taken
-mod Keeping
-mod Running
+pub mod Lists
+pub mod Growing
+pub mod Finding
+pub mod Taken
+pub mod Keeping
+pub mod Running
 mod Reaching
 mod Reading
 mod Folding

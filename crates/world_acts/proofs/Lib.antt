@@ -1,0 +1,15 @@
+mod Steps
+mod Turns
+mod Pages
+mod Owning
+mod Finishing
+mod Numbering
+mod Weaving
+mod Folding
+mod Reading
+mod Hinting
+mod Following
+mod Growing
+mod Ordering
+mod Histories
+mod Worked

@@ -1,0 +1,5 @@
+pub mod Worlds
+pub mod Pages
+pub mod Turns
+pub mod Puts
+pub mod Reads
