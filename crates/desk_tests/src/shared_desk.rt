@@ -2,7 +2,7 @@
 ghost use Rattle.std.specs.Prelude.{◌≡◌};
 
 use crate::desk::{desk_of, one_house};
-use blob_model::{Limits, Outcome};
+use blob_model::Outcome;
 use std::alloc::Global;
 use std::process::Abort;
 use std::sync::Wait;
@@ -43,7 +43,7 @@ fn empty_desk<R: Abort>(rt: &R, alloc: Global) -> (SharedDesk, Owner)
     ensures out { result.1.out ≡ 0 }
 {
     let houses = one_house(rt, alloc);
-    let desk = desk_of(rt, alloc, Limits::greatest(), &houses);
+    let (desk, _nodes) = desk_of(rt, alloc, &houses);
     SharedDesk::new(alloc, desk).expect(rt, "memory")
 }
 

@@ -7,11 +7,12 @@ ghost use Rattle.std.specs.Prelude.{◌≡◌, [], Some};
 
 use crate::turn::hall::{Work, written};
 use crate::turn::notebook::{Count, Notebook, ReadAt, Text, Write};
-use crate::turn::writers::{count_and_write, make_and_take_back, two_writers, write_times};
+use crate::turn::writers::{count_and_write, make_and_take_back, write_times};
 use std::alloc::Global;
 use std::process::Abort;
 use std::sync::{Arc, Wait};
-use turn_lock::{CloseRefused, NoMemory, Owner, PassFault, Turn};
+use std::thread::Threads;
+use turn_lock::{CloseRefused, NoMemory, Owner, Pass, PassFault, Turn};
 
 fn seven<R: Abort>(rt: &R, alloc: Global) -> Arc<Text, Global> {
     let mut bytes = Vec::new(alloc);
@@ -26,15 +27,6 @@ fn empty_book<R: Abort>(rt: &R, alloc: Global) -> (Turn<Notebook>, Owner<Noteboo
     Turn::new(alloc, Notebook::new(alloc, 3)).expect(rt, "memory")
 }
 
-#[test]
-fn two_threads_write_a_thousand_texts_each(rt: HostRuntime) {
-    let text = seven(&rt, rt.alloc());
-    let (book, one, two) = two_writers(&rt, rt.alloc(), &text, 1000);
-    assert_eq!(rt; [one, two], [1000, 1000]);
-    let counts = [book.len(), book.count_by(1), book.count_by(2)];
-    assert_eq!(rt; counts, [2000, 1000, 1000]);
-}
-
 // Each of the callers from 1 on wrote so many texts, and nobody else wrote.
 fn check_counts<R: Abort>(rt: &R, book: &Notebook, callers: u32, texts: usize, all: usize) {
     assert_eq!(rt; book.len(), all);
@@ -44,28 +36,49 @@ fn check_counts<R: Abort>(rt: &R, book: &Notebook, callers: u32, texts: usize, a
     }
 }
 
-#[test]
-fn sixteen_threads_write_a_thousand_texts_each(rt: HostRuntime) {
-    let text = seven(&rt, rt.alloc());
+// Checks what the threads of the work have written: each pass, and there is one for each round, all texts of a round.
+fn check_work<R: Threads + Wait + Sync + Abort>(
+    rt: &R,
+    alloc: Global,
+    writers: u32,
+    rounds: u32,
+    texts: usize,
+    all: usize,
+) {
+    let text = seven(rt, alloc);
     let work = Work {
-        writers: 16,
-        rounds: 1,
-        texts: 1000,
+        writers,
+        rounds,
+        texts,
     };
-    let book = written(&rt, rt.alloc(), 3, &text, work).expect(&rt, "a notebook");
-    check_counts(&rt, &book, 16, 1000, 16000);
+    let book = written(rt, alloc, 3, &text, work).expect(rt, "a notebook");
+    check_counts(rt, &book, writers.saturating_mul(rounds), texts, all);
+}
+
+#[test]
+fn two_and_sixteen_threads_write_a_thousand_texts_each(rt: HostRuntime) {
+    check_work(&rt, rt.alloc(), 2, 1, 1000, 2000);
+    check_work(&rt, rt.alloc(), 16, 1, 1000, 16000);
 }
 
 #[test]
 fn passes_are_taken_back_and_given_again_while_others_write(rt: HostRuntime) {
-    let text = seven(&rt, rt.alloc());
-    let work = Work {
-        writers: 4,
-        rounds: 100,
-        texts: 5,
+    check_work(&rt, rt.alloc(), 4, 100, 5, 2000);
+}
+
+// There are eight texts, and the last is the caller's own, of one byte.
+fn check_eighth<R: Wait + Abort>(rt: &R, turn: &Turn<Notebook>, pass: &mut Pass<Notebook>)
+    requires { pass.old.lock ≡ turn.now }
+{
+    let count = turn.with_turn(rt, pass, Count);
+    assert!(rt; count == 8);
+    let mut len = 0;
+    let read = ReadAt {
+        at: 7,
+        len: &mut len,
     };
-    let book = written(&rt, rt.alloc(), 3, &text, work).expect(&rt, "a notebook");
-    check_counts(&rt, &book, 400, 5, 2000);
+    let by = turn.with_turn(rt, pass, read);
+    assert!(rt; by == pass.caller() && len == 1);
 }
 
 #[test]
@@ -73,17 +86,9 @@ fn turns_go_on_where_their_numbers_wrap(rt: HostRuntime) {
     let text = seven(&rt, rt.alloc());
     let (turn, mut owner) = empty_book(&rt, rt.alloc());
     let mut pass = owner.pass(&turn).expect(&rt, "a pass");
-    assert_eq!(rt; pass.caller(), 1);
+    assert!(rt; pass.caller() == 1);
     assert!(rt; count_and_write(&rt, &turn, &mut pass, &text, 8));
-    let count = turn.with_turn(&rt, &mut pass, Count);
-    assert!(rt; count == 8);
-    let mut len = 0;
-    let read = ReadAt {
-        at: 7,
-        len: &mut len,
-    };
-    let by = turn.with_turn(&rt, &mut pass, read);
-    assert_eq!(rt; (by, len), (1, 1));
+    check_eighth(&rt, &turn, &mut pass);
 }
 
 // The first pass writes the text twice, and is taken back.
@@ -96,9 +101,8 @@ fn write_twice<R: Wait + Abort>(
     requires { owner.old.lock ≡ turn.now }
     ensures { owner.new.lock ≡ turn.now }
 {
-    let first = owner.pass(turn).expect(rt, "a pass");
-    let (first, wrote) = write_times(rt, turn, first, text, 2);
-    assert_eq!(rt; wrote, 2);
+    let mut first = owner.pass(turn).expect(rt, "a pass");
+    assert!(rt; write_times(rt, turn, &mut first, text, 2));
     owner.take_back(turn, first);
 }
 
@@ -113,9 +117,8 @@ fn write_once_more<R: Wait + Abort>(
     ensures { owner.new.lock ≡ turn.now }
 {
     let mut second = owner.pass(turn).expect(rt, "a pass");
-    assert_eq!(rt; second.caller(), 2);
-    let count = turn.with_turn(rt, &mut second, Count);
-    assert_eq!(rt; count, 2);
+    assert!(rt; second.caller() == 2);
+    assert!(rt; turn.with_turn(rt, &mut second, Count) == 2);
     assert!(rt; turn.with_turn(rt, &mut second, Write { text }));
     owner.take_back(turn, second);
 }

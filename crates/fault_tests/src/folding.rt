@@ -1,6 +1,6 @@
 //! Doors that fail at each call of a finish that stores a page of the blob anew.
 
-use crate::program::{nobody, run_over};
+use crate::program::run_over;
 use crate::rows::split_lines;
 use page_store::FlakyMaker;
 use ports::memory::MemSource;
@@ -66,19 +66,7 @@ static CALLS: [(u64, &str, &str); 6] = [
     ),
 ];
 
-// Doors of one provider of which this call fails.
-fn maker_of<R: Abort>(rt: &R, alloc: Global, call: u64) -> FlakyMaker {
-    let list = vec![in alloc; call].expect(rt, "memory");
-    let lists = vec![in alloc; list].expect(rt, "memory");
-    FlakyMaker::new(alloc, lists)
-}
-
-// A script of the versions and then these lines.
-fn source_of<R: Abort>(rt: &R, alloc: Global, lines: &str) -> MemSource {
-    let script = format!(in alloc; "{BEFORE}{lines}").expect(rt, "memory");
-    MemSource::new(script.into_bytes(), ROOM, Vec::new(alloc))
-}
-
+// Over doors of one provider of which this call fails, the versions and then these lines are answered so.
 fn check_lines<R: Wait + Threads + Sync + Abort>(
     rt: &R,
     alloc: Global,
@@ -86,13 +74,15 @@ fn check_lines<R: Wait + Threads + Sync + Abort>(
     lines: &str,
     replies: &str,
 ) {
-    let source = source_of(rt, alloc, lines);
-    let mut doors = maker_of(rt, alloc, call);
-    let mut net = nobody(alloc);
-    let ran = run_over(rt, alloc, WORDS, source, ROOM, &mut net, &mut doors);
+    let script = format!(in alloc; "{BEFORE}{lines}").expect(rt, "memory");
+    let source = MemSource::new(script.into_bytes(), ROOM, Vec::new(alloc));
+    let list = vec![in alloc; call].expect(rt, "memory");
+    let lists = vec![in alloc; list].expect(rt, "memory");
+    let mut doors = FlakyMaker::new(alloc, lists);
+    let ran = run_over(rt, alloc, WORDS, source, ROOM, &mut doors);
     let (_, said) = split_lines(ran.out.bytes(), LINES);
-    assert!(rt; said == replies.as_bytes(), "call {call} of {lines}");
-    assert!(rt; ran.ended_with(0) && doors.faults() == 1);
+    let is_so = said == replies.as_bytes() && ran.ended_with(0) && doors.faults() == 1;
+    assert!(rt; is_so, "call {call}");
 }
 
 #[test]

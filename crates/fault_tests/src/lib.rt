@@ -1,15 +1,10 @@
-//! Tests in which everything outside fails once: each call of each door, each read, the write before each byte and each accept, and
-//! the wrong frames.
+//! Tests in which everything outside fails once: each call of each door, each read, and the write before each byte.
 #![tactic(auto)]
 
-#[cfg(test)]
-mod accepts;
 #[cfg(test)]
 mod doors;
 #[cfg(test)]
 mod folding;
-#[cfg(test)]
-mod frames;
 #[cfg(test)]
 mod program;
 #[cfg(test)]

@@ -3,7 +3,6 @@
 use blobseer_run::run;
 use page_store::FlakyMaker;
 use ports::gate::FreeGate;
-use ports::listener::Listener;
 use ports::mem_files::MemFiles;
 use ports::mem_listener::MemListener;
 use ports::memory::{MemSink, MemSource};
@@ -42,72 +41,41 @@ fn words_of<R: Abort>(rt: &R, alloc: Global, line: &str) -> Vec<String> {
     words
 }
 
-// How the program ends with the words of a line, over no files and all these.
-fn status_of<R: Wait + Threads + Sync + Abort, L: Listener>(
+/// The program with the words of a line, over an input, an output that takes so many bytes, and doors of that maker; nobody connects
+/// to it, and there are no files.
+pub(crate) fn run_over<R: Wait + Threads + Sync + Abort>(
     rt: &R,
     alloc: Global,
-    line: &str,
-    source: MemSource,
-    out: &mut MemSink,
-    err: &mut MemSink,
-    net: &mut L,
+    words: &str,
+    mut source: MemSource,
+    room: usize,
     doors: &mut FlakyMaker,
-) -> u8
-where
-    L::Peer: Drop + Send,
-{
-    let words = words_of(rt, alloc, line);
-    let mut source = source;
-    let mut files = MemFiles::new(alloc, BTreeMap::new(alloc));
-    run(
+) -> Ran {
+    let words = words_of(rt, alloc, words);
+    let mut out = MemSink::new(alloc, room).expect(rt, "memory");
+    let mut err = MemSink::new(alloc, ROOM).expect(rt, "memory");
+    let mut net: MemListener<Pair<'_, MemSource, MemSink>> = MemListener::new(
+        String::new(alloc),
+        VecDeque::new(alloc),
+        Vec::new(alloc),
+    );
+    let status = run(
         rt,
         alloc,
         words.as_slice(),
         &mut source,
-        out,
-        err,
-        net,
-        &mut files,
+        &mut out,
+        &mut err,
+        &mut net,
+        &mut MemFiles::new(alloc, BTreeMap::new(alloc)),
         doors,
         &FreeGate,
-    )
-}
-
-/// The program with the words of a line, over an input, an output that takes so many bytes, a listener, and doors of that maker.
-pub(crate) fn run_over<R: Wait + Threads + Sync + Abort, L: Listener>(
-    rt: &R,
-    alloc: Global,
-    line: &str,
-    source: MemSource,
-    room: usize,
-    net: &mut L,
-    doors: &mut FlakyMaker,
-) -> Ran
-where
-    L::Peer: Drop + Send,
-{
-    let mut out = MemSink::new(alloc, room).expect(rt, "memory");
-    let mut err = MemSink::new(alloc, ROOM).expect(rt, "memory");
-    let status = status_of(rt, alloc, line, source, &mut out, &mut err, net, doors);
+    );
     Ran { out, err, status }
 }
 
-/// A listener to which nobody comes.
-pub(crate) fn nobody<'a>(alloc: Global) -> MemListener<Pair<'a, MemSource, MemSink>> {
-    MemListener::new(String::new(alloc), VecDeque::new(alloc), Vec::new(alloc))
-}
-
-/// The program over a script, in pages of four bytes over three providers, with two replicas of each.
-pub(crate) fn run_script<R: Wait + Threads + Sync + Abort>(
-    rt: &R,
-    alloc: Global,
-    source: MemSource,
-    room: usize,
-    doors: &mut FlakyMaker,
-) -> Ran {
-    let line = "run --page 4 --providers 3 --replicas 2";
-    run_over(rt, alloc, line, source, room, &mut nobody(alloc), doors)
-}
+/// Pages of four bytes over three providers, with two replicas of each.
+pub(crate) const RUN: &str = "run --page 4 --providers 3 --replicas 2";
 
 /// Doors of which none fails.
 pub(crate) fn calm(alloc: Global) -> FlakyMaker {
@@ -119,7 +87,6 @@ fn error_line(status: u8) -> &'static str {
     match status {
         3 => "blobseer: read fault\n",
         4 => "blobseer: write fault\n",
-        6 => "blobseer: listener fault\n",
         _ => "",
     }
 }

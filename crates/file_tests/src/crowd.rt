@@ -73,11 +73,7 @@ fn answer<R: Threads + Wait + Sync>(
 
 // So many bytes.
 fn bytes_of(alloc: Global, byte: u8, count: usize) -> Option<Bytes> {
-    let mut bytes = Vec::new(alloc);
-    for _ in 0..count {
-        bytes.push(byte).ok()?;
-    }
-    Some(Bytes::of(bytes))
+    Some(Bytes::of(vec![in alloc; byte; count].ok()?))
 }
 
 impl<'a> Client<'a> {
@@ -297,15 +293,15 @@ fn check_file<R: Threads + Wait + Sync + Abort>(
     file: u64,
 ) {
     let (blob, last, size) = stat(rt, alloc, files, file).expect(rt, "a file");
-    assert_eq!(rt; only_made(clients, file), Some(blob));
+    assert!(rt; only_made(clients, file) == Some(blob));
     let mut content = Vec::new(alloc);
     for before in 0..last {
         let note = only_note(clients, file, before + 1).expect(rt, "one note of each version");
         replay(&mut content, &note).expect(rt, "an append at the file's end");
         let is_read = reads_as(rt, alloc, files, file, before + 1, content.as_slice());
-        assert_eq!(rt; is_read, Some(true));
+        assert!(rt; is_read == Some(true));
     }
-    assert_eq!(rt; size, content.len() as u64);
+    assert!(rt; size == content.len() as u64);
 }
 
 // Whether an entry of the names is that of the file that was made.

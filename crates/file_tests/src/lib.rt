@@ -1,13 +1,9 @@
-//! Tests of files over blobs: paths, the tree of names, and streams of lines that file sessions answer.
+//! Tests of files over blobs: the tree of names, and sessions of files beside each other.
 #![tactic(auto)]
 
 #[cfg(test)]
 mod crowd;
 #[cfg(test)]
-mod files;
-#[cfg(test)]
 mod names;
-#[cfg(test)]
-mod paths;
 #[cfg(test)]
 mod store;

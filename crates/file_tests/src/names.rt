@@ -1,11 +1,19 @@
-//! The tree of names: its limit, and a name that comes between a look and its entering.
+//! Paths that no line can hold; and the tree of names: its limit, and a name that comes between a look and its entering.
 ghost use Rattle.std.specs.Prelude.{◌≡◌};
 
-use file_names::{Enter, EnterFault, Foresee, Named, Names, Path, Stat};
+use file_names::{Enter, EnterFault, Foresee, Named, Names, Path, Stat, is_path};
+use file_text::{FileDialect, FileFault, FileReply};
 use std::alloc::Global;
 use std::process::Abort;
 use std::sync::Wait;
 use turn_lock::{Pass, Turn};
+
+#[test]
+fn no_line_end_is_in_a_path_and_nothing_is_none(rt: HostRuntime) {
+    for text in ["", "/a\n", "/a\r", "/a\r/b", "\n"] {
+        assert!(rt; !is_path(text.as_bytes()));
+    }
+}
 
 fn path_of<R: Abort>(rt: &R, alloc: Global, text: &str) -> Path {
     let bytes = text.as_bytes().to_vec(alloc).expect(rt, "memory");
@@ -36,14 +44,14 @@ fn there_are_65535_paths_beside_the_root(rt: HostRuntime) {
             &numbered_path(&rt, alloc, number),
             Named::File(1),
         );
-        assert_eq!(rt; entered, Ok(()));
+        assert!(rt; entered == Ok(()));
     }
     let more = enter(&mut names, &path_of(&rt, alloc, "/more"), Named::Folder);
-    assert_eq!(rt; more, Err(EnterFault::TooManyNames));
+    assert!(rt; more == Err(EnterFault::TooManyNames));
     let again = enter(&mut names, &path_of(&rt, alloc, "/n7"), Named::Folder);
-    assert_eq!(rt; again, Err(EnterFault::Exists));
+    assert!(rt; again == Err(EnterFault::Exists));
     let root = stat(&names, &path_of(&rt, alloc, "/"));
-    assert_eq!(rt; root, Some(Stat::Folder(65_535)));
+    assert!(rt; root == Some(Stat::Folder(65_535)));
 }
 
 // Why a path can't be entered, in one turn.
@@ -88,8 +96,17 @@ fn a_name_that_another_session_entered_in_between_exists(rt: HostRuntime) {
     let (turn, mut owner) = Turn::new(alloc, names).expect(&rt, "memory");
     let mut one = owner.pass(&turn).expect(&rt, "a pass");
     let mut two = owner.pass(&turn).expect(&rt, "a pass");
-    assert_eq!(rt; foresee(&rt, &turn, &mut one, &path), None);
-    assert_eq!(rt; enter_file(&rt, &turn, &mut two, &path, 2), Ok(()));
+    assert!(rt; foresee(&rt, &turn, &mut one, &path) == None);
+    assert!(rt; enter_file(&rt, &turn, &mut two, &path, 2) == Ok(()));
     let entered = enter_file(&rt, &turn, &mut one, &path, 1);
-    assert_eq!(rt; entered, Err(EnterFault::Exists));
+    assert!(rt; entered == Err(EnterFault::Exists));
+}
+
+#[test]
+fn too_many_names_are_refused_by_a_line(rt: HostRuntime) {
+    let dialect = FileDialect::new(rt.alloc()).expect(&rt, "memory");
+    let reply = FileReply::Refused(FileFault::TooManyNames);
+    let said = dialect.say(reply).expect(&rt, "memory");
+    assert!(rt; said.head.as_slice() == b"error too-many-names 65535\n".as_slice());
+    assert!(rt; said.body.is_empty());
 }

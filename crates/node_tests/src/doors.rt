@@ -19,7 +19,7 @@ use tree_geom::PageSize;
 const ROOM: usize = 256;
 
 // What came of the put, and of the get behind it.
-#[derive(Clone, Copy, Debug, PartialEq, Eq)]
+#[derive(Clone, Copy, PartialEq, Eq)]
 enum Came {
     Got,
     GetFailed,
@@ -257,12 +257,12 @@ fn check_door<R: Abort + Wait, I: Source + Sink>(
 ) {
     let house = PageHouse::new(alloc, 1).expect(rt, "memory");
     let found = put_and_get(rt, door, &house);
-    assert!(rt; found == came, "it gave {found:?}");
+    assert!(rt; found == came, "another answer");
     assert!(rt; door.faults() == faults_of(came), "another count");
     assert!(rt; door.is_spent() == spent, "spent or not");
     if spent {
         let again = put_and_get(rt, door, &house);
-        assert!(rt; again == Came::PutFailed, "a spent door answered {again:?}");
+        assert!(rt; again == Came::PutFailed, "a spent door answered");
         assert!(rt; door.faults() == 2, "a spent door counted nothing");
     }
 }
@@ -346,7 +346,7 @@ fn check_failing<R: Abort + Wait>(rt: &R, alloc: Global, first: u64, count: u64,
     let mut door = StreamDoor::new(alloc, 1, p, link).expect(rt, "memory");
     check_door(rt, alloc, &mut door, came, came != Came::Got);
     let calls = door.into_link().gate.calls();
-    assert!(rt; calls.saturating_sub(1) == first.min(6), "{calls} calls");
+    assert!(rt; calls.saturating_sub(1) == first.min(6), "other calls");
 }
 
 #[test]

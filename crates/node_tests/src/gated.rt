@@ -19,7 +19,7 @@ pub(crate) trait LinkGate {
 }
 
 /// Lets all calls but some in a row go through. Reads and writes are numbered together, from 0.
-#[derive(Clone, Copy, Debug)]
+#[derive(Clone, Copy)]
 pub(crate) struct Failing {
     calls: u64,
     first: u64,

@@ -1,8 +1,6 @@
-//! Tests of page nodes: what a node answers to a stream, and what a door to a node makes of what its link gives.
+//! Tests of page nodes: how a stream to a node ends, and what a door to a node makes of what its link gives.
 #![tactic(auto)]
 
-#[cfg(test)]
-mod dice;
 #[cfg(test)]
 mod doors;
 #[cfg(test)]
@@ -10,8 +8,4 @@ mod gated;
 #[cfg(test)]
 mod links;
 #[cfg(test)]
-mod random;
-#[cfg(test)]
 mod served;
-#[cfg(test)]
-mod stores;

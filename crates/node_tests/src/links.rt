@@ -4,7 +4,6 @@ ghost use Rattle.std.specs.Prelude.{◌≡◌, ◌<◌, ◌≤◌, All, length};
 ghost use Rattle.page_store.specs.Page.{IsIn};
 ghost use Rattle.page_fan.specs.Groups.{CanBePut};
 
-use crate::dice::Dice;
 use crate::gated::{GatedLink, Meeting};
 use node_door::{BYTES_A_THREAD, LoopLink, StreamDoor};
 use page_fan::{Put, Stand, put_all_groups};
@@ -55,7 +54,7 @@ fn a_link_without_room_spends_its_door(rt: HostRuntime) {
         let mut door = door_over(&rt, rt.alloc(), *room);
         assert!(rt;
             comes_back(&rt, &mut door, &house, b"abc") == *well,
-            "a room of {room}"
+            "another end"
         );
         assert!(rt; door.is_spent() != *well, "spent or not");
         assert!(rt; door.faults() == u64::from(!*well), "another count");
@@ -67,88 +66,60 @@ fn a_link_without_room_spends_its_door(rt: HostRuntime) {
     }
 }
 
-// A page of 1 to 4 bytes.
-fn some_bytes<R: Abort>(rt: &R, alloc: Global, dice: &mut Dice) -> Vec<u8>
-    ensures some { 1 ≤ length result.items }
-    ensures few { length result.items ≤ 4 }
-{
-    let length = 1 + dice.below(4) as usize;
-    let mut bytes = vec![in alloc; 0u8; length].expect(rt, "memory");
-    for byte in bytes.as_mut_slice() {
-        *byte = dice.below(256) as u8;
-    }
-    bytes
-}
-
-// Puts a page.
-fn put<R: Abort + Wait>(
-    rt: &R,
-    door: &mut StreamDoor<LoopLink>,
-    house: &PageHouse,
-    bytes: &[u8],
-) -> PageRef
-    requires some { 1 ≤ length bytes.now }
-    requires few { length bytes.now ≤ 4 }
-    ensures here { IsIn house.now result.spot }
-    ensures bytes { result.bytes ≡ bytes.now }
-{
-    match door.put(rt, house, bytes) {
-        PutAnswer::Stored(page) => page,
-        _ => panic!(rt; "not stored"),
-    }
-}
-
-// Gets some bytes of a page, and checks that they are those that were put.
-fn check_part<R: Abort>(
+// Gets each part of a page, and checks that it is of those bytes that were put.
+fn check_parts<R: Abort>(
     rt: &R,
     door: &mut StreamDoor<LoopLink>,
     house: &PageHouse,
     page: &PageRef,
     bytes: &[u8],
-    dice: &mut Dice,
 )
     requires here { IsIn house.now page.now.spot }
     requires bytes { page.now.bytes ≡ bytes.now }
     requires few { length bytes.now ≤ 4 }
 {
-    let from = dice.below(bytes.len() as u64 + 1) as usize;
-    let count = dice.below((bytes.len() - from) as u64 + 1) as usize;
-    let mut out = [0u8; 4];
-    let part = &mut out[..count];
-    let answer = door.get(house, page, from as u32, part);
-    assert!(rt; answer == GetAnswer::Got, "not got");
-    assert!(rt; &part[..] == &bytes[from..from + count], "other bytes");
+    for from in 0..bytes.len() + 1 {
+        for end in from..bytes.len() + 1 {
+            let mut out = [0u8; 4];
+            let part = &mut out[..end - from];
+            let answer = door.get(house, page, from as u32, part);
+            assert!(rt; answer == GetAnswer::Got, "not got");
+            assert!(rt; &part[..] == &bytes[from..end], "other bytes");
+        }
+    }
 }
 
-// Puts two pages, of two doors to one house, and gets parts of both at each door.
-fn check_round<R: Abort + Wait>(
+// Puts a page by one door, and gets its parts by that one and by another one to the same house.
+fn check_page<R: Abort + Wait>(
     rt: &R,
-    alloc: Global,
-    doors: &mut [StreamDoor<LoopLink>; 2],
+    one: &mut StreamDoor<LoopLink>,
+    other: &mut StreamDoor<LoopLink>,
     house: &PageHouse,
-    dice: &mut Dice,
-) {
-    let first = some_bytes(rt, alloc, dice);
-    let second = some_bytes(rt, alloc, dice);
-    let first_page = put(rt, &mut doors[0], house, first.as_slice());
-    let second_page = put(rt, &mut doors[1], house, second.as_slice());
-    for door in doors {
-        check_part(rt, door, house, &first_page, first.as_slice(), dice);
-        check_part(rt, door, house, &second_page, second.as_slice(), dice);
+    bytes: &[u8],
+)
+    requires some { 1 ≤ length bytes.now }
+    requires few { length bytes.now ≤ 4 }
+{
+    match one.put(rt, house, bytes) {
+        PutAnswer::Stored(page) => {
+            check_parts(rt, one, house, &page, bytes);
+            check_parts(rt, other, house, &page, bytes);
+        }
+        _ => panic!(rt; "not stored"),
     }
 }
 
 #[test]
-fn random_parts_of_random_pages_come_back(rt: HostRuntime) {
-    let mut dice = Dice::new(7);
+fn each_part_of_a_page_comes_back_by_each_door(rt: HostRuntime) {
     let house = PageHouse::new(rt.alloc(), 1).expect(&rt, "memory");
-    let room = 1 << 16;
-    let mut doors = [
-        door_over(&rt, rt.alloc(), room),
-        door_over(&rt, rt.alloc(), room),
-    ];
-    for _ in 0..200 {
-        check_round(&rt, rt.alloc(), &mut doors, &house, &mut dice);
+    let mut one = door_over(&rt, rt.alloc(), 1 << 18);
+    let mut other = door_over(&rt, rt.alloc(), 1 << 18);
+    for number in 0..20u8 {
+        let bytes = [number, 255 - number, number / 2, 7];
+        for length in 1..5usize {
+            check_page(&rt, &mut one, &mut other, &house, &bytes[..length]);
+            check_page(&rt, &mut other, &mut one, &house, &bytes[..length]);
+        }
     }
 }
 

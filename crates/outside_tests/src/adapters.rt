@@ -65,7 +65,7 @@ fn an_interrupted_read_is_tried_again_and_another_error_is_a_fault(rt: HostRunti
     let mut source = ReaderSource::new(RoughReader { calls: 0 });
     check_reads(&rt, &mut source, ROUGH_READS.as_slice());
     let RoughReader { calls } = source.into_inner();
-    assert_eq!(rt; calls, 6);
+    assert!(rt; calls == 6);
 }
 
 static WRITES: [(&[u8], Written); 3] = [
@@ -131,5 +131,5 @@ fn a_short_write_goes_on_and_an_error_or_no_byte_is_a_fault(rt: HostRuntime) {
     check_writes(&rt, &mut sink, ROUGH_WRITES.as_slice());
     let RoughWriter { calls, kept } = sink.into_inner();
     check_bytes(&rt, kept.as_slice(), b"abcdef");
-    assert_eq!(rt; calls, 8);
+    assert!(rt; calls == 8);
 }

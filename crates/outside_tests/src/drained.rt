@@ -55,17 +55,13 @@ pub fn check_drained<R: Abort, S: Source>(
     let mut buf = vec![in alloc; 0u8; room].expect(rt, "memory");
     let mut bytes = Vec::new(alloc);
     let answer = drain(rt, source, buf.as_mut_slice(), &mut bytes);
-    check_all(rt, room, (bytes.as_slice(), answer), (want, end));
-}
-
-// Checks all bytes and the last answer at a room.
-fn check_all<R: Abort>(rt: &R, room: usize, given: (&[u8], Taken), want: (&[u8], Taken)) {
-    assert_eq!(rt; given, want, "at a room of {room}");
+    assert!(rt; answer == end);
+    check_bytes(rt, bytes.as_slice(), want);
 }
 
 /// Checks bytes.
 pub fn check_bytes<R: Abort>(rt: &R, bytes: &[u8], want: &[u8]) {
-    assert_eq!(rt; bytes, want);
+    assert!(rt; bytes == want);
 }
 
 // Reads once, and checks the answer and the whole buffer.
@@ -78,8 +74,8 @@ fn check_read<R: Abort, S: Source>(
 )
     requires { 0 < length buf.old }
 {
-    let given = source.read(buf);
-    assert_eq!(rt; (given, &*buf), (answer, want));
+    assert!(rt; source.read(buf) == answer);
+    assert!(rt; &*buf == want);
 }
 
 /// Reads four bytes a time over dots, and checks each answer and what the buffer is then.
@@ -92,7 +88,7 @@ pub fn check_reads<R: Abort, S: Source>(rt: &R, source: &mut S, reads: &[(Taken,
 
 // Writes once, and checks the answer.
 fn check_write<R: Abort, K: Sink>(rt: &R, sink: &mut K, bytes: &[u8], answer: Written) {
-    assert_eq!(rt; sink.write(bytes), answer);
+    assert!(rt; sink.write(bytes) == answer);
 }
 
 /// Writes these bytes, and checks each answer.

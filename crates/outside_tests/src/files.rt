@@ -46,12 +46,8 @@ fn check_file<R: Abort, F: Files>(
     limit: usize,
     text: &str,
 ) {
-    let found = answer(files, alloc, name, limit).expect(rt, "memory");
-    assert_eq!(rt;
-        found.as_slice(),
-        text.as_bytes(),
-        "of {name} within {limit}"
-    );
+    let found = answer(files, alloc, name, limit).expect(rt, name);
+    assert!(rt; found.as_slice() == text.as_bytes(), "{name}");
 }
 
 fn check_files<R: Abort, F: Files + Drop>(rt: &R, alloc: Global, files: F) {

@@ -16,6 +16,4 @@ mod memory;
 #[cfg(test)]
 mod played;
 #[cfg(test)]
-mod tally;
-#[cfg(test)]
 mod tcp;

@@ -41,17 +41,6 @@ fn peers_of<'a, R: Abort>(
     peers
 }
 
-// A listener at `here` with peers that borrow these ends.
-fn listener_of<'a, R: Abort>(
-    rt: &R,
-    alloc: Global,
-    lines: &'a mut [Line],
-    failing: Vec<bool>,
-) -> MemListener<Pair<'a, MemSource, MemSink>> {
-    let address = String::from_str(alloc, "here").expect(rt, "memory");
-    MemListener::new(address, peers_of(rt, alloc, lines), failing)
-}
-
 // Writes back what a peer gives, and a dot at its end. Whether all of it was written.
 fn echo<P: Source + Sink + Drop>(peer: P) -> bool {
     let mut peer = peer;
@@ -93,30 +82,32 @@ where
     (echoed, failed)
 }
 
-// Serves two peers, each in a thread of its own. Whether both were echoed.
-fn echo_both<L: Listener, R: Threads + Wait + Sync>(rt: &R, listener: &mut L) -> bool
+// Whether a listener of three peers, whose second accept fails, hands out all of them.
+fn echoes_each<L: Listener + Drop, R: Wait>(rt: &R, listener: L) -> bool
 where
-    L::Peer: Drop + Send,
-    requires { L.listens listener.old ≡ true }
+    L::Peer: Drop,
 {
-    let Accepted::Peer(one) = listener.accept(rt) else {
-        return false;
-    };
-    let Accepted::Peer(two) = listener.accept(rt) else {
-        return false;
-    };
-    let (one, two) = join(rt, || echo(one), || echo(two));
-    one && two
+    let mut listener = listener;
+    !listener.listen("there")
+        && listener.listen("here")
+        && echo_all(rt, &mut listener) == (3, 1)
+        && echo_all(rt, &mut listener) == (0, 0)
 }
 
-// Checks that two peers are echoed in two threads.
-fn check_echo_both<L: Listener + Drop, R: Abort + Threads + Wait + Sync>(rt: &R, listener: L)
+// Serves two peers, each in a thread of its own. Whether both were echoed.
+fn echoes_two<L: Listener + Drop, R: Threads + Wait + Sync>(rt: &R, listener: L) -> bool
 where
     L::Peer: Drop + Send,
 {
     let mut listener = listener;
-    assert!(rt; listener.listen("here"), "its own address was refused");
-    assert!(rt; echo_both(rt, &mut listener));
+    if !listener.listen("here") {
+        return false;
+    }
+    let (Accepted::Peer(one), Accepted::Peer(two)) = (listener.accept(rt), listener.accept(rt))
+    else {
+        return false;
+    };
+    join(rt, || echo(one), || echo(two)) == (true, true)
 }
 
 fn three_lines<R: Abort>(rt: &R, alloc: Global) -> Vec<Line> {
@@ -127,54 +118,45 @@ fn three_lines<R: Abort>(rt: &R, alloc: Global) -> Vec<Line> {
     lines
 }
 
-// Checks what the peers got, one behind another.
-fn check_got<R: Abort>(rt: &R, alloc: Global, lines: &[Line], want: &[u8]) {
+// Checks what the peers of three lines got, one behind another: of all of them, or of two in two threads.
+fn check_got<R: Abort + Threads + Wait + Sync>(
+    rt: &R,
+    alloc: Global,
+    failing: &[bool],
+    is_beside: bool,
+    want: &[u8],
+) {
+    let mut lines = three_lines(rt, alloc);
+    let address = String::from_str(alloc, "here").expect(rt, "memory");
+    let failing = failing.to_vec(alloc).expect(rt, "memory");
+    let peers = peers_of(rt, alloc, lines.as_mut_slice());
+    let listener = MemListener::new(address, peers, failing);
+    let is_served = if is_beside {
+        echoes_two(rt, listener)
+    } else {
+        echoes_each(rt, listener)
+    };
+    assert!(rt; is_served);
+    check_bytes(rt, got(rt, alloc, lines.as_slice()).as_slice(), want);
+}
+
+// What the peers got, one behind another.
+fn got<R: Abort>(rt: &R, alloc: Global, lines: &[Line]) -> Vec<u8> {
     let mut bytes = Vec::new(alloc);
     for line in lines {
         bytes
             .extend_from_slice(line.sink.bytes())
             .expect(rt, "memory");
     }
-    check_bytes(rt, bytes.as_slice(), want);
-}
-
-// Checks how many peers are echoed until none is left, and how often no peer came.
-fn check_counts<L: Listener, R: Abort + Wait>(rt: &R, listener: &mut L, want: (u32, u32))
-where
-    L::Peer: Drop,
-    requires { L.listens listener.old ≡ true }
-    ensures { L.listens listener.new ≡ true }
-{
-    assert_eq!(rt; echo_all(rt, listener), want);
-}
-
-// Checks that a listener of three peers, whose second accept fails, hands out all of them.
-fn check_echoes<L: Listener + Drop, R: Abort + Wait>(rt: &R, listener: L)
-where
-    L::Peer: Drop,
-{
-    let mut listener = listener;
-    assert!(rt; !listener.listen("there"));
-    assert!(rt; listener.listen("here"), "its own address was refused");
-    check_counts(rt, &mut listener, (3, 1));
-    check_counts(rt, &mut listener, (0, 0));
+    bytes
 }
 
 #[test]
 fn peers_come_in_order_and_what_each_got_is_read_back(rt: HostRuntime) {
-    let alloc = rt.alloc();
-    let mut lines = three_lines(&rt, alloc);
-    let failing = vec![in alloc; false, true].expect(&rt, "memory");
-    let listener = listener_of(&rt, alloc, lines.as_mut_slice(), failing);
-    check_echoes(&rt, listener);
-    check_got(&rt, alloc, lines.as_slice(), b"aa.bb.cc.");
+    check_got(&rt, rt.alloc(), &[false, true], false, b"aa.bb.cc.");
 }
 
 #[test]
 fn two_peers_are_served_in_two_threads(rt: HostRuntime) {
-    let alloc = rt.alloc();
-    let mut lines = three_lines(&rt, alloc);
-    let listener = listener_of(&rt, alloc, lines.as_mut_slice(), Vec::new(alloc));
-    check_echo_both(&rt, listener);
-    check_got(&rt, alloc, lines.as_slice(), b"aa.bb.");
+    check_got(&rt, rt.alloc(), &[], true, b"aa.bb.");
 }

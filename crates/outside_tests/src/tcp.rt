@@ -1,5 +1,6 @@
 //! Ports over a network that the test plays.
 ghost use Rattle.std.specs.Prelude.{◌≡◌, true};
+ghost use Rattle.std.specs.Bool.{OnTrue};
 
 use crate::played::{Answer, PlayedNet, Seen};
 use ports::listener::{Accepted, Listener};
@@ -11,57 +12,109 @@ use std::process::Abort;
 use std::sync::Wait;
 use std::time::{Clock, Duration};
 
-// Whether a peer gives two bytes and its end, and takes three.
-fn talks<P: Source + Sink + Drop>(peer: P) -> bool {
+// What a peer answers to two reads of four bytes over dots and a write of three, and the buffer after the first read.
+#[derive(Clone, Copy)]
+struct Talk {
+    first: Taken,
+    bytes: [u8; 4],
+    second: Taken,
+    wrote: Written,
+}
+
+// A peer that gives two bytes and its end.
+const PROMPT: Talk = Talk {
+    first: Taken::Got(2),
+    bytes: *b"hh..",
+    second: Taken::End,
+    wrote: Written::Whole,
+};
+
+// A peer that keeps its worker waiting too long is at fault, and goes on being a peer.
+const LATE: Talk = Talk {
+    first: Taken::Failed,
+    bytes: *b"....",
+    second: Taken::Got(2),
+    wrote: Written::Failed(1),
+};
+
+// Whether a peer answers so.
+fn talks<P: Source + Sink + Drop>(peer: P, want: &Talk) -> bool {
     let mut peer = peer;
     let mut buf = [b'.'; 4];
-    peer.read(&mut buf) == Taken::Got(2)
-        && buf.as_slice() == b"hh..".as_slice()
-        && peer.read(&mut buf) == Taken::End
-        && peer.write(b"abc") == Written::Whole
+    let first = peer.read(&mut buf);
+    let bytes = buf;
+    let second = peer.read(&mut buf);
+    let wrote = peer.write(b"abc");
+    first == want.first && bytes == want.bytes && second == want.second && wrote == want.wrote
 }
 
-fn check_accepted<P: Source + Sink + Drop, R: Abort>(rt: &R, accepted: Accepted<P>) {
-    let Accepted::Peer(peer) = accepted else {
-        panic!(rt; "no peer");
-    };
-    assert!(rt; talks(peer));
-}
-
-fn is_failed<P: Drop>(accepted: Accepted<P>) -> bool {
-    matches!(&accepted, Accepted::Failed)
-}
-
-// Checks that ports listen at the network's one port alone.
-fn check_addresses<N: Net + Clock, R: Abort>(rt: &R, ports: &mut TcpPorts<N>)
-    ensures { ⟦<TcpPorts<N> as Listener>⟧.listens ports.new ≡ true }
+// Whether ports listen at the network's one port alone.
+fn listens<L: Listener>(ports: &mut L) -> bool
+    ensures { OnTrue result (L.listens ports.new ≡ true) }
 {
-    assert!(rt; !ports.listen("127.0.0.1:7001"));
-    assert!(rt; !ports.listen("nowhere"));
-    assert!(rt; ports.listen("127.0.0.1:7000"), "the port was refused");
+    !ports.listen("127.0.0.1:7001") && !ports.listen("nowhere") && ports.listen("127.0.0.1:7000")
 }
 
-static CALM: [Answer; 2] = [Answer::Stream, Answer::Stream];
+// How many peers ports hand out before they fail, up to three. None where a peer doesn't talk so.
+fn peers_of<L: Listener, R: Wait>(rt: &R, ports: &mut L, want: &Talk) -> Option<u32>
+where
+    L::Peer: Drop,
+    requires { L.listens ports.old ≡ true }
+{
+    let mut peers: u32 = 0;
+    for _ in 0..3 {
+        match ports.accept(rt) {
+            Accepted::Peer(peer) => {
+                if !talks(peer, want) {
+                    return None;
+                }
+                peers = peers.saturating_add(1);
+            }
+            Accepted::Failed => return Some(peers),
+            Accepted::Done => return None,
+        }
+    }
+    None
+}
 
-// Checks that ports hand out two peers before they fail.
-fn check_ports<N: Net + Clock + Drop, R: Abort + Wait>(rt: &R, net: N) {
-    let mut ports = TcpPorts::new(net);
-    check_addresses(rt, &mut ports);
-    check_accepted(rt, ports.accept(rt));
-    check_accepted(rt, ports.accept(rt));
-    assert!(rt; is_failed(ports.accept(rt)));
+// How many peers ports over a network hand out, with the usual patience or with hardly any.
+fn peers_over<N: Net + Clock + Drop, R: Wait>(
+    rt: &R,
+    net: N,
+    is_hasty: bool,
+    want: &Talk,
+) -> Option<u32> {
+    let mut ports = if is_hasty {
+        let patience = Patience {
+            read: Duration::from_millis(40),
+            write: Duration::from_millis(30),
+        };
+        TcpPorts::with_patience(net, patience)
+    } else {
+        TcpPorts::new(net)
+    };
+    if !listens(&mut ports) {
+        return None;
+    }
+    peers_of(rt, &mut ports, want)
+}
+
+// How many peers are handed out where the network answers so, and what was seen of it.
+fn played<R: Wait>(rt: &R, answers: &[Answer], is_hasty: bool, want: &Talk) -> (Option<u32>, Seen) {
+    let seen = Seen::new();
+    let peers = peers_over(rt, PlayedNet::new(&seen, answers), is_hasty, want);
+    (peers, seen)
 }
 
 #[test]
 fn connections_are_handed_out_with_the_usual_patience(rt: HostRuntime) {
-    let seen = Seen::new();
-    check_ports(&rt, PlayedNet::new(&seen, CALM.as_slice()));
-    assert_eq!(rt; seen.accepts(), 3);
-    assert_eq!(rt; seen.told(), [2, 2 * 300_000, 2 * 60_000]);
-    assert_eq!(rt; seen.written(), 6);
+    let answers = [Answer::Stream, Answer::Stream];
+    let (peers, seen) = played(&rt, &answers, false, &PROMPT);
+    assert!(rt; peers == Some(2) && seen.accepts() == 3 && seen.written() == 6);
+    assert!(rt; seen.told() == [2, 2 * 300_000, 2 * 60_000]);
 }
 
-// What an accept answers first, before a stream, whether a peer is handed out then, and how many milliseconds the listener
+// What an accept answers first, before a stream, whether the stream is handed out then, and how many milliseconds the listener
 // rests before that.
 //
 // The system's numbers are, in order: interrupted, network down, network unreachable, connection aborted, reset, timed out and
@@ -90,58 +143,26 @@ static ROWS: [(Answer, bool, u64); 20] = [
     (Answer::Kind(ErrorKind::Other), false, 0),
 ];
 
-// Whether ports fail before they hand out a peer.
-fn fails_first<N: Net + Clock + Drop, R: Abort + Wait>(rt: &R, net: N) -> bool {
-    let mut ports = TcpPorts::new(net);
-    check_addresses(rt, &mut ports);
-    is_failed(ports.accept(rt))
-}
-
-fn check_row<R: Abort + Wait>(rt: &R, row: &(Answer, bool, u64)) {
+fn check_row<R: Abort + Wait>(rt: &R, number: usize, row: &(Answer, bool, u64)) {
     let (first, comes, rest) = *row;
-    let seen = Seen::new();
-    let answers = [first, Answer::Stream];
-    let net = PlayedNet::new(&seen, answers.as_slice());
-    assert!(rt; fails_first(rt, net) != comes);
-    assert_eq!(rt; seen.accepts(), if comes { 2 } else { 1 });
-    assert_eq!(rt; seen.rested(), rest);
+    let (peers, seen) = played(rt, &[first, Answer::Stream], false, &PROMPT);
+    let wanted = if comes { (1, 3) } else { (0, 1) };
+    assert!(rt;
+        peers == Some(wanted.0) && seen.accepts() == wanted.1,
+        "row {number}"
+    );
+    assert!(rt; seen.rested() == rest, "row {number}");
 }
 
 #[test]
 fn each_error_of_an_accept_is_passed_over_rested_after_or_a_fault(rt: HostRuntime) {
-    for row in ROWS.as_slice() {
-        check_row(&rt, row);
+    for number in 0..ROWS.len() {
+        check_row(&rt, number, &ROWS[number]);
     }
-}
-
-static LATE: [Answer; 1] = [Answer::Late];
-
-// Checks that a peer that keeps its worker waiting too long is at fault, and goes on being a peer.
-fn check_late<P: Source + Sink + Drop, R: Abort>(rt: &R, accepted: Accepted<P>) {
-    let Accepted::Peer(mut peer) = accepted else {
-        panic!(rt; "no peer");
-    };
-    let mut buf = [b'.'; 4];
-    assert!(rt; peer.read(&mut buf) == Taken::Failed);
-    assert!(rt; buf.as_slice() == b"....".as_slice());
-    assert!(rt; peer.write(b"abc") == Written::Failed(1));
-    assert!(rt; peer.read(&mut buf) == Taken::Got(2));
-}
-
-// Checks the first peer of ports that wait for less than that.
-fn check_impatient<N: Net + Clock + Drop, R: Abort + Wait>(rt: &R, net: N) {
-    let patience = Patience {
-        read: Duration::from_millis(40),
-        write: Duration::from_millis(30),
-    };
-    let mut ports = TcpPorts::with_patience(net, patience);
-    check_addresses(rt, &mut ports);
-    check_late(rt, ports.accept(rt));
 }
 
 #[test]
 fn a_wait_that_is_too_long_is_a_fault_of_the_peer(rt: HostRuntime) {
-    let seen = Seen::new();
-    check_impatient(&rt, PlayedNet::new(&seen, LATE.as_slice()));
-    assert_eq!(rt; seen.told(), [1, 40, 30]);
+    let (peers, seen) = played(&rt, &[Answer::Late], true, &LATE);
+    assert!(rt; peers == Some(1) && seen.told() == [1, 40, 30]);
 }

@@ -21,12 +21,8 @@ fn check_case<R: Abort + Threads + Wait + Sync>(rt: &R, alloc: Global, case: &Ca
     let bytes = case.bytes(alloc).expect(rt, "memory");
     let plain = put_plainly(rt, alloc, case, bytes.as_slice());
     let grouped = put_grouped(rt, alloc, case, bytes.as_slice());
-    check_same(rt, case, &grouped, &plain);
+    assert!(rt; grouped.is_as(&plain), "{} pages", case.pages);
     grouped
-}
-
-fn check_same<R: Abort>(rt: &R, case: &Case, grouped: &Outcome, plain: &Outcome) {
-    assert!(rt; grouped.is_as(plain), "{case:?}: {grouped:?}, {plain:?}");
 }
 
 // Each door fails at those calls alone, and then all of them.
@@ -86,7 +82,7 @@ fn so_does_a_store_on_threads(rt: HostRuntime) {
 // Checks that page 1 is the one that is named.
 fn check_lost<R: Abort + Threads + Wait + Sync>(rt: &R, alloc: Global, case: &Case) {
     let outcome = check_case(rt, alloc, case);
-    assert!(rt; matches!(outcome.taken, Err(1)), "{outcome:?}");
+    assert!(rt; matches!(outcome.taken, Err(1)));
 }
 
 // Two pages are lost. The groups of small updates are put in the order of their doors, so that those of the later page

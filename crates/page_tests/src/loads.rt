@@ -57,7 +57,7 @@ fn place_beside<R: Threads + Wait + Sync + Abort>(
 fn two_threads_leave_an_even_book(rt: HostRuntime) {
     let book = LoadBook::new(rt.alloc(), 3, 2).expect(&rt, "memory");
     let loads = SharedLoads::new(book);
-    assert_eq!(rt; place_beside(&rt, rt.alloc(), &loads), [1334, 1333, 1333]);
+    assert!(rt; place_beside(&rt, rt.alloc(), &loads) == [1334, 1333, 1333]);
 }
 
 #[test]

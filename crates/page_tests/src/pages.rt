@@ -15,18 +15,15 @@ use std::thread::Threads;
 use tree_geom::PageSize;
 
 // The calls of the doors 1 to 3 that are to fail.
-#[derive(Clone, Copy)]
-struct Failing<'a>(&'a [u64], &'a [u64], &'a [u64]);
+type Failing = [&'static [u64]; 3];
 
-impl Failing<'_> {
-    fn maker<R: Abort + AllocGlobal>(&self, rt: &R) -> FlakyMaker {
-        let mut lists = Vec::with_capacity(rt.alloc(), 3).expect(rt, "memory");
-        for calls in [self.0, self.1, self.2] {
-            let calls = calls.to_vec(rt.alloc()).expect(rt, "memory");
-            lists.push(calls).expect(rt, "memory");
-        }
-        FlakyMaker::new(rt.alloc(), lists)
+fn maker_of<R: Abort + AllocGlobal>(rt: &R, failing: &Failing) -> FlakyMaker {
+    let mut lists = Vec::with_capacity(rt.alloc(), 3).expect(rt, "memory");
+    for calls in failing {
+        let calls = calls.to_vec(rt.alloc()).expect(rt, "memory");
+        lists.push(calls).expect(rt, "memory");
     }
+    FlakyMaker::new(rt.alloc(), lists)
 }
 
 // The houses of three providers.
@@ -85,87 +82,44 @@ fn store_six<D: BesideDoor, R: Abort + AllocGlobal + Threads + Wait + Sync>(
     store_at(rt, doors, houses, 4, b"abcdef", 2)
 }
 
-// The page that was lost, behind as many as were stored before it.
-fn lost<R: Abort>(rt: &R, stored: Result<Pages, StoreFault>) -> Option<u64> {
-    match stored {
-        Ok(_) => None,
-        Err(StoreFault::PageFault { page, before }) => {
-            assert_eq!(rt; u64::from(before.count()), page);
-            Some(page)
-        }
-        Err(StoreFault::NoMemory) => panic!(rt; "no memory"),
-    }
-}
+// The page that is lost where such calls fail.
+const LOST: [(Failing, u64); 3] = [
+    ([&[1, 2], &[1, 2], &[1, 2]], 0),
+    ([&[1], &[1], &[]], 0),
+    ([&[2], &[], &[1]], 1),
+];
 
-// Checks which page is lost where such calls fail.
-fn check_lost<R: Abort + AllocGlobal + Threads + Wait + Sync>(
-    rt: &R,
-    failing: Failing,
-    page: Option<u64>,
-) {
-    let houses = three_houses(rt);
-    let mut maker = failing.maker(rt);
-    let mut doors = three_doors(rt, &mut maker);
-    let stored = store_six(rt, &mut doors, &houses);
-    assert_eq!(rt; lost(rt, stored), page);
-    doors.back(&mut maker);
+// Whether this page was lost, behind as many as were stored before it.
+fn is_lost(stored: &Result<Pages, StoreFault>, want: u64) -> bool {
+    match stored {
+        Err(StoreFault::PageFault { page, before }) => {
+            *page == want && u64::from(before.count()) == want
+        }
+        _ => false,
+    }
 }
 
 #[test]
 fn a_fault_names_the_first_page_that_no_door_took(rt: HostRuntime) {
-    let every: &[u64] = &[1, 2];
-    check_lost(&rt, Failing(every, every, every), Some(0));
-    check_lost(&rt, Failing(&[1], &[1], &[]), Some(0));
-    check_lost(&rt, Failing(&[2], &[], &[1]), Some(1));
-    check_lost(&rt, Failing(&[1], &[], &[1]), None);
-    check_lost(&rt, Failing(&[], &[], &[]), None);
-}
-
-// The providers of a page's replicas.
-fn providers_of<R: Abort + AllocGlobal>(rt: &R, page: &StoredPage) -> Vec<u32> {
-    let mut providers = Vec::with_capacity(rt.alloc(), 8).expect(rt, "memory");
-    for i in 0..page.replica_count() {
-        providers
-            .push(page.replica(i).provider())
-            .expect(rt, "memory");
+    let houses = three_houses(&rt);
+    for (failing, page) in &LOST {
+        let mut doors = three_doors(&rt, &mut maker_of(&rt, failing));
+        let stored = store_six(&rt, &mut doors, &houses);
+        assert!(rt; is_lost(&stored, *page), "page {page}");
     }
-    providers
 }
 
-fn check_providers<R: Abort + AllocGlobal>(rt: &R, page: &StoredPage, want: &[u32]) {
-    let providers = providers_of(rt, page);
-    assert_eq!(rt; providers.as_slice(), want);
-}
-
-// Checks the providers of both pages of six bytes.
-fn check_six<R: Abort + AllocGlobal>(rt: &R, pages: &Pages, first: &[u32], second: &[u32]) {
-    assert_eq!(rt; pages.count(), 2);
-    assert_eq!(rt; pages.len(), 6);
-    check_providers(rt, pages.page(0), first);
-    check_providers(rt, pages.page(1), second);
-}
-
-// Checks the providers of both pages where such calls fail.
-fn check_replicas<R: Abort + AllocGlobal + Threads + Wait + Sync>(
-    rt: &R,
-    failing: Failing,
-    first: &[u32],
-    second: &[u32],
-) {
-    let houses = three_houses(rt);
-    let mut maker = failing.maker(rt);
-    let mut doors = three_doors(rt, &mut maker);
-    let pages = store_six(rt, &mut doors, &houses).expect(rt, "stored");
-    check_six(rt, &pages, first, second);
-    doors.back(&mut maker);
-}
-
-#[test]
-fn replicas_stand_where_a_door_took_the_page(rt: HostRuntime) {
-    check_replicas(&rt, Failing(&[], &[], &[]), &[1, 2], &[3, 1]);
-    check_replicas(&rt, Failing(&[1], &[], &[]), &[2], &[3, 1]);
-    check_replicas(&rt, Failing(&[2], &[], &[]), &[1, 2], &[3]);
-    check_replicas(&rt, Failing(&[], &[1], &[1]), &[1], &[1]);
+// Whether the page's replicas are at these providers.
+fn is_at(page: &StoredPage, providers: &[u32]) -> bool {
+    if page.replica_count() as usize != providers.len() {
+        return false;
+    }
+    for i in 0..page.replica_count() {
+        if page.replica(i).provider() != providers[i as usize] {
+            return false;
+        }
+    }
+    true
 }
 
 // The whole page, or none where no door gave it.
@@ -190,67 +144,138 @@ fn fetched<R: Abort + AllocGlobal, D: Door>(
     }
 }
 
-// Checks the bytes of the whole page, or that no door gives it.
-fn check_fetched<R: Abort + AllocGlobal, D: Door>(
+// The calls that fail, the providers of both pages of six bytes, which of the pages are read back, and the faults that the
+// doors count.
+#[derive(Clone, Copy)]
+struct Stored {
+    failing: Failing,
+    providers: [&'static [u32]; 2],
+    read: [bool; 2],
+    faults: u64,
+}
+
+// Door 1 puts both pages before its first get, the others one each.
+const STORED: [Stored; 9] = [
+    Stored {
+        failing: [&[], &[], &[]],
+        providers: [&[1, 2], &[3, 1]],
+        read: [true, true],
+        faults: 0,
+    },
+    Stored {
+        failing: [&[1], &[], &[]],
+        providers: [&[2], &[3, 1]],
+        read: [true, true],
+        faults: 1,
+    },
+    Stored {
+        failing: [&[2], &[], &[]],
+        providers: [&[1, 2], &[3]],
+        read: [true, true],
+        faults: 1,
+    },
+    Stored {
+        failing: [&[], &[1], &[1]],
+        providers: [&[1], &[1]],
+        read: [true, true],
+        faults: 2,
+    },
+    Stored {
+        failing: [&[1], &[], &[1]],
+        providers: [&[2], &[1]],
+        read: [true, true],
+        faults: 2,
+    },
+    Stored {
+        failing: [&[3], &[], &[]],
+        providers: [&[1, 2], &[3, 1]],
+        read: [true, true],
+        faults: 1,
+    },
+    Stored {
+        failing: [&[3], &[2], &[]],
+        providers: [&[1, 2], &[3, 1]],
+        read: [false, true],
+        faults: 2,
+    },
+    Stored {
+        failing: [&[3, 4], &[2], &[2]],
+        providers: [&[1, 2], &[3, 1]],
+        read: [false, false],
+        faults: 4,
+    },
+    Stored {
+        failing: [&[], &[], &[2]],
+        providers: [&[1, 2], &[3, 1]],
+        read: [true, true],
+        faults: 1,
+    },
+];
+
+// Whether the page is at its providers, and is read back where it is to be.
+fn is_stored<R: Abort + AllocGlobal, D: Door>(
     rt: &R,
     doors: &mut Doors<D>,
     houses: &Houses,
     pages: &Pages,
     i: u32,
+    providers: &[u32],
     want: Option<&[u8]>,
-)
+) -> bool
     requires doors { length doors.old ≡ length houses.now }
     requires here { LieAmong houses.now pages.now.pages }
     requires page { i < length pages.now.pages }
     ensures { length doors.new ≡ length doors.old }
 {
-    let got = fetched(rt, doors, houses, pages, i);
-    assert_eq!(rt; got.as_ref().map(|bytes| bytes.as_slice()), want);
+    let is_read = match (fetched(rt, doors, houses, pages, i), want) {
+        (Some(bytes), Some(want)) => bytes.as_slice() == want,
+        (None, None) => true,
+        _ => false,
+    };
+    is_read && is_at(pages.page(i), providers)
 }
 
-// Checks the bytes of both pages of six bytes.
-fn check_both<R: Abort + AllocGlobal, D: Door>(
+// Whether both pages are.
+fn are_stored<R: Abort + AllocGlobal, D: Door>(
     rt: &R,
     doors: &mut Doors<D>,
     houses: &Houses,
     pages: &Pages,
-    first: Option<&[u8]>,
-    second: Option<&[u8]>,
-)
+    row: &Stored,
+) -> bool
     requires doors { length doors.old ≡ length houses.now }
     requires here { LieAmong houses.now pages.now.pages }
 {
-    assert_eq!(rt; pages.count(), 2);
-    check_fetched(rt, doors, houses, pages, 0, first);
-    check_fetched(rt, doors, houses, pages, 1, second);
+    let first: Option<&[u8]> = if row.read[0] { Some(b"abcd") } else { None };
+    let second: Option<&[u8]> = if row.read[1] { Some(b"ef") } else { None };
+    pages.count() == 2
+        && pages.len() == 6
+        && is_stored(rt, doors, houses, pages, 0, row.providers[0], first)
+        && is_stored(rt, doors, houses, pages, 1, row.providers[1], second)
 }
 
-// Checks the bytes of both pages where such calls fail, and the faults that the doors count.
-fn check_fetches<R: Abort + AllocGlobal + Threads + Wait + Sync>(
+fn check_stored<R: Abort + AllocGlobal + Threads + Wait + Sync>(
     rt: &R,
-    failing: Failing,
-    first: Option<&[u8]>,
-    second: Option<&[u8]>,
-    faults: u64,
+    number: usize,
+    row: &Stored,
 ) {
     let houses = three_houses(rt);
-    let mut maker = failing.maker(rt);
+    let mut maker = maker_of(rt, &row.failing);
     let mut doors = three_doors(rt, &mut maker);
     let pages = store_six(rt, &mut doors, &houses).expect(rt, "stored");
-    check_both(rt, &mut doors, &houses, &pages, first, second);
+    assert!(rt;
+        are_stored(rt, &mut doors, &houses, &pages, row),
+        "row {number}"
+    );
     doors.back(&mut maker);
-    assert_eq!(rt; maker.faults(), faults);
+    assert!(rt; maker.faults() == row.faults, "row {number}");
 }
 
 #[test]
 fn a_fetch_passes_to_the_second_replica(rt: HostRuntime) {
-    // Door 1 puts both pages before its first get, the others one each.
-    let (first, second): (Option<&[u8]>, Option<&[u8]>) = (Some(b"abcd"), Some(b"ef"));
-    check_fetches(&rt, Failing(&[], &[], &[]), first, second, 0);
-    check_fetches(&rt, Failing(&[3], &[], &[]), first, second, 1);
-    check_fetches(&rt, Failing(&[3], &[2], &[]), None, second, 2);
-    check_fetches(&rt, Failing(&[3, 4], &[2], &[2]), None, None, 4);
-    check_fetches(&rt, Failing(&[], &[], &[2]), first, second, 1);
+    for number in 0..STORED.len() {
+        check_stored(&rt, number, &STORED[number]);
+    }
 }
 
 // Checks the number of pages of a mebibyte, and the size and the last byte of the last of them.
@@ -266,13 +291,9 @@ fn check_pages<R: Abort + AllocGlobal, D: Door>(
     requires here { LieAmong houses.now pages.now.pages }
     requires some { 1 ≤ count }
 {
-    assert_eq!(rt; pages.count(), count);
-    assert_eq!(rt; pages.len(), 1_048_576);
+    assert!(rt; pages.count() == count && pages.len() == 1_048_576);
     let last = fetched(rt, doors, houses, pages, count - 1).expect(rt, "fetched");
-    assert_eq!(rt;
-        (last.len() as u64, last.last().copied()),
-        (page_size, Some(99))
-    );
+    assert!(rt; last.len() as u64 == page_size && last.last().copied() == Some(99));
 }
 
 // Checks a mebibyte that is cut into pages of this size.
@@ -290,7 +311,6 @@ fn check_cut<R: Abort + AllocGlobal + Threads + Wait + Sync>(
     let mut doors = three_doors(rt, &mut PlainMaker::new());
     let pages = store_at(rt, &mut doors, &houses, page_size, update, count).expect(rt, "stored");
     check_pages(rt, &mut doors, &houses, &pages, page_size, count);
-    doors.back(&mut PlainMaker::new());
 }
 
 #[test]
@@ -299,7 +319,7 @@ fn the_greatest_update_is_cut_at_the_page_size(rt: HostRuntime) {
     for i in 0..1_048_576u32 {
         update.push((i / 4 % 251) as u8).expect(&rt, "memory");
     }
-    assert_eq!(rt; update.len(), 1_048_576);
+    assert!(rt; update.len() == 1_048_576);
     check_cut(&rt, update.as_slice(), 4096, 256);
     check_cut(&rt, update.as_slice(), 4, 262_144);
 }
@@ -313,16 +333,29 @@ fn place_put<D: Door, R: Abort + Wait>(rt: &R, door: &mut D, house: &PageHouse) 
     }
 }
 
+// Checks which page of the house each of three puts adds, if any.
+fn check_puts<D: Door, R: Abort + Wait>(
+    rt: &R,
+    door: &mut D,
+    house: &PageHouse,
+    want: [Option<u64>; 3],
+) {
+    for added in want {
+        assert!(rt; place_put(rt, door, house) == added);
+    }
+}
+
 #[test]
 fn a_put_adds_one_page_and_a_failed_put_none(rt: HostRuntime) {
     let house = PageHouse::new(rt.alloc(), 1).expect(&rt, "memory");
-    let mut plain = PlainDoor::new();
-    assert_eq!(rt; place_put(&rt, &mut plain, &house), Some(0));
-    assert_eq!(rt; place_put(&rt, &mut plain, &house), Some(1));
+    check_puts(
+        &rt,
+        &mut PlainDoor::new(),
+        &house,
+        [Some(0), Some(1), Some(2)],
+    );
     let mut flaky = FlakyDoor::new(vec![in rt.alloc(); 2].expect(&rt, "memory"));
-    assert_eq!(rt; place_put(&rt, &mut flaky, &house), Some(2));
-    assert_eq!(rt; place_put(&rt, &mut flaky, &house), None);
-    assert_eq!(rt; place_put(&rt, &mut flaky, &house), Some(3));
+    check_puts(&rt, &mut flaky, &house, [Some(3), None, Some(4)]);
 }
 
 #[test]
@@ -330,7 +363,6 @@ fn a_page_is_handed_on(rt: HostRuntime) {
     let houses = three_houses(&rt);
     let mut doors = three_doors(&rt, &mut PlainMaker::new());
     let pages = store_at(&rt, &mut doors, &houses, 4, b"abc", 1).expect(&rt, "stored");
-    assert_eq!(rt; pages.count(), 1);
-    check_providers(&rt, &pages.into_page(), &[1, 2]);
-    doors.back(&mut PlainMaker::new());
+    assert!(rt; pages.count() == 1);
+    assert!(rt; is_at(&pages.into_page(), &[1, 2]));
 }

@@ -13,7 +13,7 @@ fn check_chosen<R: Abort>(rt: &R, loads: &[u64], replicas: u32, want: &[u32])
     requires enough { replicas ≤ length loads.now }
     requires limit { length loads.now ≤ 64 }
 {
-    assert_eq!(rt; choose(loads, replicas).chosen(), want);
+    assert!(rt; choose(loads, replicas).chosen() == want);
 }
 
 #[test]
@@ -30,14 +30,19 @@ fn chooses_by_load_and_then_by_number(rt: HostRuntime) {
     );
 }
 
+// Checks that the book is too full for so many pages.
+fn check_spent<R: Abort + AllocGlobal>(rt: &R, book: &mut LoadBook, pages: u32)
+    ensures { IsEven book.old.loads → IsEven book.new.loads }
+{
+    let refused = book.place(rt.alloc(), pages).err();
+    assert!(rt; refused == Some(PlaceFault::PlacesSpent));
+}
+
 #[test]
 fn a_full_book_places_nothing_more(rt: HostRuntime) {
     let half = 1 << 61;
     let mut book = LoadBook::with_loads(rt.alloc(), &[half, half], 1).expect(&rt, "memory");
-    assert_eq!(rt;
-        book.place(rt.alloc(), 1).err(),
-        Some(PlaceFault::PlacesSpent)
-    );
+    check_spent(&rt, &mut book, 1);
 }
 
 /// The placements of the next pages.
@@ -49,11 +54,10 @@ fn placed<R: Abort + AllocGlobal>(rt: &R, book: &mut LoadBook, pages: u32) -> Pl
 
 /// Checks the providers of each page.
 fn check_placed<R: Abort>(rt: &R, placed: &Placements, want: &[&[u32]]) {
-    assert_eq!(rt; placed.count() as usize, want.len());
+    assert!(rt; placed.count() as usize == want.len());
     for page in 0..placed.count() {
-        assert_eq!(rt;
-            placed.of(page).chosen(),
-            want[page as usize],
+        assert!(rt;
+            placed.of(page).chosen() == want[page as usize],
             "page {page}"
         );
     }
@@ -63,10 +67,7 @@ fn check_placed<R: Abort>(rt: &R, placed: &Placements, want: &[&[u32]]) {
 fn the_last_replica_is_placed_after_a_refusal(rt: HostRuntime) {
     let half = 1 << 61;
     let mut book = LoadBook::with_loads(rt.alloc(), &[half, half - 1], 1).expect(&rt, "memory");
-    assert_eq!(rt;
-        book.place(rt.alloc(), 2).err(),
-        Some(PlaceFault::PlacesSpent)
-    );
+    check_spent(&rt, &mut book, 2);
     check_placed(&rt, &placed(&rt, &mut book, 1), &[&[2]]);
 }
 

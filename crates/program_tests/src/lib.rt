@@ -1,31 +1,13 @@
-//! Tests of the program: the words of the command line, the text of the settings file and both together; and of `run`, what each
-//! command line, each settings file and each script come to, frames to a node, outputs and inputs that fail, and doors that do.
+//! Tests of the program that no call of it can show: which settings the words of the command line and the text of the settings file
+//! give, each alone and both together; and `run` over doors that fail, and over doors to page nodes.
 #![tactic(auto)]
 
 #[cfg(test)]
-mod command_lines;
-#[cfg(test)]
-mod files;
-#[cfg(test)]
-mod given;
-#[cfg(test)]
-mod lines;
-#[cfg(test)]
-mod measures;
+mod doors;
 #[cfg(test)]
 mod merged;
 #[cfg(test)]
-mod names;
-#[cfg(test)]
-mod node_doors;
-#[cfg(test)]
-mod nodes;
-#[cfg(test)]
 mod program;
-#[cfg(test)]
-mod run;
-#[cfg(test)]
-mod stores;
 #[cfg(test)]
 mod texts;
 #[cfg(test)]

@@ -2,10 +2,11 @@
 
 ghost use Rattle.std.specs.Prelude.{◌≡◌};
 
-use crate::given::words_of;
+use crate::words::words_of;
+use blob_model::Bytes;
 use blobseer_run::run;
 use page_fan::BesideDoor;
-use page_store::DoorMaker;
+use page_store::{DoorMaker, FlakyMaker};
 use ports::gate::FreeGate;
 use ports::mem_files::MemFiles;
 use ports::mem_listener::MemListener;
@@ -17,27 +18,19 @@ use std::process::Abort;
 use std::sync::Wait;
 use std::thread::Threads;
 
-/// More than any output of the tables has.
+/// More than any output here has.
 pub const ROOM: usize = 4096;
 
-/// What a run wrote, and how it ended.
-#[derive(Drop)]
-pub struct Ran {
-    pub out: MemSink,
-    pub err: MemSink,
+/// A command line, the text of the file `s`, the calls of each provider's doors that fail, the input, the output and the status. A
+/// door's calls are counted from 1.
+#[derive(Clone, Copy)]
+pub struct Row<'a> {
+    pub line: &'a str,
+    pub text: &'a str,
+    pub failing: &'a [&'a [u64]],
+    pub script: &'a str,
+    pub out: &'a str,
     pub status: u8,
-}
-
-/// The run of a script wrote these replies and this error, and ended with that status.
-pub fn check_ran<R: Abort>(rt: &R, ran: &Ran, replies: &[u8], err: &str, status: u8, script: &str) {
-    assert_eq!(rt; ran.out.bytes(), replies, "{script}");
-    check_end(rt, ran, err, status, script);
-}
-
-/// It wrote this error, and ended with that status.
-pub fn check_end<R: Abort>(rt: &R, ran: &Ran, err: &str, status: u8, script: &str) {
-    assert_eq!(rt; ran.status, status, "{script}");
-    assert_eq!(rt; ran.err.bytes(), err.as_bytes(), "{script}");
 }
 
 // A listener to which nobody comes.
@@ -45,14 +38,27 @@ fn nobody<'a>(alloc: Global) -> MemListener<Pair<'a, MemSource, MemSink>> {
     MemListener::new(String::new(alloc), VecDeque::new(alloc), Vec::new(alloc))
 }
 
-/// The status of a run with the words of a line. Nothing is said of it here, so that what `run` ensures stands in no goal of the
-/// tests.
-pub fn status_of<R: Wait + Threads + Sync + Abort, M: DoorMaker>(
+// Files of which one is called `s` and has this text.
+fn file_of<R: Abort>(rt: &R, alloc: Global, text: &str) -> MemFiles {
+    let mut files = BTreeMap::new(alloc);
+    let name = String::from_str(alloc, "s").expect(rt, "memory");
+    let bytes = text.as_bytes().to_vec(alloc).expect(rt, "memory");
+    let before: Result<Option<Bytes>, _> = files.insert(name, Bytes::of(bytes));
+    before.expect(rt, "memory");
+    MemFiles::new(alloc, files)
+}
+
+// An input in pieces of seven bytes.
+fn input_of<R: Abort>(rt: &R, alloc: Global, script: &str) -> MemSource {
+    let bytes = script.as_bytes().to_vec(alloc).expect(rt, "memory");
+    MemSource::new(bytes, 7, Vec::new(alloc))
+}
+
+// The status of a row's run. Nothing is said of it here, so that what `run` ensures stands in no goal of the tests.
+fn status_of<R: Wait + Threads + Sync + Abort, M: DoorMaker>(
     rt: &R,
     alloc: Global,
-    line: &str,
-    files: &mut MemFiles,
-    source: MemSource,
+    row: &Row,
     out: &mut MemSink,
     err: &mut MemSink,
     doors: &mut M,
@@ -61,9 +67,9 @@ where
     M::Door: BesideDoor + Drop + Send,
     requires { M.is_true doors.old }
 {
-    let words = words_of(rt, alloc, line);
-    let mut source = source;
-    let mut net = nobody(alloc);
+    let words = words_of(rt, alloc, row.line);
+    let mut source = input_of(rt, alloc, row.script);
+    let mut files = file_of(rt, alloc, row.text);
     run(
         rt,
         alloc,
@@ -71,44 +77,65 @@ where
         &mut source,
         out,
         err,
-        &mut net,
-        files,
+        &mut nobody(alloc),
+        &mut files,
         doors,
         &FreeGate,
     )
 }
 
-/// A run with the words of a line, over an input, an output that takes so many bytes, and doors of that maker.
-pub fn run_words<R: Wait + Threads + Sync + Abort, M: DoorMaker>(
+// The line that the error output gets.
+fn error_line(status: u8) -> &'static str {
+    match status {
+        8 => "blobseer: load ended early\n",
+        _ => "",
+    }
+}
+
+/// The program comes to what a row says, with doors of this maker.
+pub fn check_over<R: Wait + Threads + Sync + Abort, M: DoorMaker>(
     rt: &R,
     alloc: Global,
-    line: &str,
-    source: MemSource,
-    room: usize,
+    row: &Row,
     doors: &mut M,
-) -> Ran
+)
 where
     M::Door: BesideDoor + Drop + Send,
     requires { M.is_true doors.old }
 {
-    let mut out = MemSink::new(alloc, room).expect(rt, "memory");
+    let mut out = MemSink::new(alloc, ROOM).expect(rt, "memory");
     let mut err = MemSink::new(alloc, ROOM).expect(rt, "memory");
-    let mut files = MemFiles::new(alloc, BTreeMap::new(alloc));
-    let status = status_of(
-        rt, alloc, line, &mut files, source, &mut out, &mut err, doors,
-    );
-    Ran { out, err, status }
+    let status = status_of(rt, alloc, row, &mut out, &mut err, doors);
+    let line = row.line;
+    assert_eq!(rt; out.bytes(), row.out.as_bytes(), "{line}");
+    assert_eq!(rt; err.bytes(), error_line(status).as_bytes(), "{line}");
+    assert_eq!(rt; status, row.status, "{line}");
 }
 
-/// An input in pieces of that length, whose reads fail as told.
-pub fn memory_of<R: Abort>(
-    rt: &R,
-    alloc: Global,
-    input: &[u8],
-    piece: usize,
-    failing: &[bool],
-) -> MemSource {
-    let bytes = input.to_vec(alloc).expect(rt, "memory");
-    let failing = failing.to_vec(alloc).expect(rt, "memory");
-    MemSource::new(bytes, piece.max(1), failing)
+// A maker of doors that fail at a row's calls.
+fn maker_of<R: Abort>(rt: &R, alloc: Global, failing: &[&[u64]]) -> FlakyMaker {
+    let mut lists = Vec::new(alloc);
+    for calls in failing {
+        let list = calls.to_vec(alloc).expect(rt, "memory");
+        lists.push(list).expect(rt, "memory");
+    }
+    FlakyMaker::new(alloc, lists)
+}
+
+// The program comes to what a row says. How many calls of its doors failed.
+fn check_row<R: Wait + Threads + Sync + Abort>(rt: &R, alloc: Global, row: &Row) -> u64 {
+    let mut doors = maker_of(rt, alloc, row.failing);
+    check_over(rt, alloc, row, &mut doors);
+    let faults = doors.faults();
+    assert!(rt; row.status == 0 || faults > 0);
+    faults
+}
+
+/// The program comes to what each row says. How many calls of the last one's doors failed.
+pub fn check_rows<R: Wait + Threads + Sync + Abort>(rt: &R, alloc: Global, rows: &[Row]) -> u64 {
+    let mut faults = 0;
+    for row in rows {
+        faults = check_row(rt, alloc, row);
+    }
+    faults
 }

@@ -1,85 +1,195 @@
-//! The program over a command line, a settings file and a script in memory.
+//! Command lines, and the settings that they give.
 
-ghost use Rattle.std.specs.Prelude.{◌≡◌};
-
-use crate::program::{ROOM, Ran, memory_of, status_of};
-use blob_model::Bytes;
-use page_fan::BesideDoor;
-use page_store::{DoorMaker, PlainMaker};
-use ports::mem_files::MemFiles;
-use ports::memory::MemSink;
-use std::alloc::Global;
-use std::collections::BTreeMap;
+use settings::{Command, Given, Text, read_words};
+use std::alloc::{AllocError, Global};
 use std::process::Abort;
-use std::sync::Wait;
-use std::thread::Threads;
 
-/// The program wrote this text, ended with this status and told its line. The words and the settings file tell which run it was.
-pub fn check_ran<R: Abort>(rt: &R, ran: &Ran, out: &str, status: u8, line: &str, text: &str) {
-    assert_eq!(rt; ran.out.bytes(), out.as_bytes(), "{line} with {text}");
-    check_end(rt, ran, status, line, text);
+// Command lines, and what they give: the command and each setting.
+static ACCEPTED: [(&str, &str); 57] = [
+    ("run", "run"),
+    ("load", "load"),
+    ("node", "node"),
+    ("node --page 4", "node page=4"),
+    ("node --page=1048576", "node page=1048576"),
+    ("files", "files"),
+    (
+        "files --page 4 --providers 3 --replicas 2",
+        "files page=4 providers=3 replicas=2",
+    ),
+    (
+        "files --settings s --max-size=9 --max-open 3 --max-blobs 1 --max-versions 7",
+        "files max-size=9 max-versions=7 max-open=3 max-blobs=1 settings=s",
+    ),
+    ("serve --listen a:1", "serve listen=a:1"),
+    ("serve --listen=127.0.0.1:9", "serve listen=127.0.0.1:9"),
+    ("serve --listen nowhere", "serve listen=nowhere"),
+    ("serve --listen a=b", "serve listen=a=b"),
+    ("serve --listen=a=b", "serve listen=a=b"),
+    ("serve --listen=-", "serve listen=-"),
+    ("serve --listen=--workers", "serve listen=--workers"),
+    ("run --page 4", "run page=4"),
+    ("run --page=4", "run page=4"),
+    ("run --page 1048576", "run page=1048576"),
+    ("run --providers 1", "run providers=1"),
+    ("run --providers=64", "run providers=64"),
+    ("run --replicas 1", "run replicas=1"),
+    ("run --replicas 8", "run replicas=8"),
+    (
+        "run --providers 2 --replicas 3",
+        "run providers=2 replicas=3",
+    ),
+    ("run --max-size 1", "run max-size=1"),
+    ("run --max-size 1099511627776", "run max-size=1099511627776"),
+    ("run --max-versions=1", "run max-versions=1"),
+    ("run --max-versions 1048576", "run max-versions=1048576"),
+    ("run --max-open 1", "run max-open=1"),
+    ("run --max-open=64", "run max-open=64"),
+    ("run --max-blobs 1", "run max-blobs=1"),
+    ("run --max-blobs 65535", "run max-blobs=65535"),
+    (
+        "run --max-size 8 --max-versions 2 --max-blobs 1",
+        "run max-size=8 max-versions=2 max-blobs=1",
+    ),
+    ("run --settings s", "run settings=s"),
+    ("run --settings=s", "run settings=s"),
+    ("run --settings=-", "run settings=-"),
+    ("run --settings=--page", "run settings=--page"),
+    ("run --settings a=b", "run settings=a=b"),
+    ("run --settings==", "run settings=="),
+    ("run --settings help", "run settings=help"),
+    ("run --settings 8", "run settings=8"),
+    ("run --settings größe", "run settings=größe"),
+    ("load --workers=1", "load workers=1"),
+    ("load --workers 16", "load workers=16"),
+    ("load --seed 0", "load seed=0"),
+    (
+        "load --seed=18446744073709551615",
+        "load seed=18446744073709551615",
+    ),
+    ("load --ops 1", "load ops=1"),
+    ("load --ops=4096", "load ops=4096"),
+    (
+        "load --seed 7 --workers 4 --ops 100",
+        "load workers=4 seed=7 ops=100",
+    ),
+    (
+        "load --ops=100 --workers=4 --seed=7",
+        "load workers=4 seed=7 ops=100",
+    ),
+    (
+        "serve --connections 1 --listen :0",
+        "serve connections=1 listen=:0",
+    ),
+    (
+        "serve --listen :0 --connections=4294967295",
+        "serve connections=4294967295 listen=:0",
+    ),
+    (
+        "serve --settings s --page 8 --max-open 3 --listen h:80 --workers 5 --max-size 9 --connections 6 --max-blobs 1 --replicas 2 --max-versions 7 --providers 3",
+        "serve page=8 providers=3 replicas=2 max-size=9 max-versions=7 max-open=3 max-blobs=1 workers=5 connections=6 listen=h:80 settings=s",
+    ),
+    (
+        "load --page 16 --providers=5 --replicas 3 --settings=t --workers 2 --seed 10 --ops 20",
+        "load page=16 providers=5 replicas=3 workers=2 seed=10 ops=20 settings=t",
+    ),
+    ("watch", "watch"),
+    ("watch --readers 1", "watch readers=1"),
+    ("watch --readers=16", "watch readers=16"),
+    (
+        "watch --readers 3 --seed=8 --settings u --ops 30 --replicas 1 --providers=6 --page 32",
+        "watch page=32 providers=6 replicas=1 seed=8 ops=30 readers=3 settings=u",
+    ),
+];
+
+/// The words of a line, which stand between single spaces.
+pub fn words_of<R: Abort>(rt: &R, alloc: Global, line: &str) -> Vec<String> {
+    let mut words = Vec::new(alloc);
+    for part in line.split(' ') {
+        let word = String::from_str(alloc, part).expect(rt, "memory");
+        words.push(word).expect(rt, "memory");
+    }
+    words
 }
 
-fn check_end<R: Abort>(rt: &R, ran: &Ran, status: u8, line: &str, text: &str) {
-    let told = error_line(status).as_bytes();
-    assert_eq!(rt; ran.status, status, "{line} with {text}");
-    assert_eq!(rt; ran.err.bytes(), told, "{line} with {text}");
+fn word_of(command: Command) -> &'static str {
+    match command {
+        Command::Run => "run",
+        Command::Serve => "serve",
+        Command::Load => "load",
+        Command::Node => "node",
+        Command::Files => "files",
+        Command::Watch => "watch",
+    }
 }
 
-/// Files of which one is called `s` and has these bytes.
-pub fn file_of<R: Abort>(rt: &R, alloc: Global, bytes: &[u8]) -> MemFiles {
-    let mut files = BTreeMap::new(alloc);
-    let name = String::from_str(alloc, "s").expect(rt, "memory");
-    let bytes = bytes.to_vec(alloc).expect(rt, "memory");
-    let before: Result<Option<Bytes>, _> = files.insert(name, Bytes::of(bytes));
-    before.expect(rt, "memory");
-    MemFiles::new(alloc, files)
+fn wide(number: Option<u32>) -> Option<u64> {
+    match number {
+        Some(number) => Some(u64::from(number)),
+        None => None,
+    }
 }
 
-/// The program with the words of a line, over these files, a script, an error output that takes so many bytes, and doors of
-/// that maker.
-pub fn run_over<R: Wait + Threads + Sync + Abort, M: DoorMaker>(
-    rt: &R,
-    alloc: Global,
-    line: &str,
-    files: &mut MemFiles,
-    script: &str,
-    room: usize,
-    doors: &mut M,
-) -> Ran
-where
-    M::Door: BesideDoor + Drop + Send,
-    requires { M.is_true doors.old }
-{
-    let mut out = MemSink::new(alloc, ROOM).expect(rt, "memory");
-    let mut err = MemSink::new(alloc, room).expect(rt, "memory");
-    let source = memory_of(rt, alloc, script.as_bytes(), 64, &[]);
-    let status = status_of(rt, alloc, line, files, source, &mut out, &mut err, doors);
-    Ran { out, err, status }
+// The numbers that were given, by their names.
+fn numbers_of(given: &Given) -> [(&'static str, Option<u64>); 12] {
+    [
+        ("page", given.page),
+        ("providers", wide(given.providers)),
+        ("replicas", wide(given.replicas)),
+        ("max-size", given.max_size),
+        ("max-versions", given.max_versions),
+        ("max-open", given.max_open),
+        ("max-blobs", given.max_blobs),
+        ("workers", wide(given.workers)),
+        ("connections", wide(given.connections)),
+        ("seed", given.seed),
+        ("ops", wide(given.ops)),
+        ("readers", wide(given.readers)),
+    ]
 }
 
-/// The same over a file `s` of these bytes, with doors that don't fail.
-pub fn run_line<R: Wait + Threads + Sync + Abort>(
-    rt: &R,
-    alloc: Global,
-    line: &str,
-    file: &[u8],
-    script: &str,
-    room: usize,
-) -> Ran {
-    let mut files = file_of(rt, alloc, file);
-    let mut doors = PlainMaker::new();
-    run_over(rt, alloc, line, &mut files, script, room, &mut doors)
+fn add_number(line: &mut String, name: &str, number: Option<u64>) -> Result<(), AllocError> {
+    match number {
+        Some(number) => write!(line, " {name}={number}"),
+        None => Ok(()),
+    }
 }
 
-/// The line that the error output gets at a status.
-pub fn error_line(status: u8) -> &'static str {
-    match status {
-        1 => "blobseer: words refused\n",
-        2 => "blobseer: settings refused\n",
-        3 => "blobseer: read fault\n",
-        6 => "blobseer: listener fault\n",
-        8 => "blobseer: load ended early\n",
-        _ => "",
+fn add_text(line: &mut String, name: &str, text: &Option<Text>) -> Result<(), AllocError> {
+    match text {
+        Some(text) => {
+            let text = text.as_str();
+            write!(line, " {name}={text}")
+        }
+        None => Ok(()),
+    }
+}
+
+// Adds each setting that was given.
+fn add_given(line: &mut String, given: &Given) -> Result<(), AllocError> {
+    for (name, number) in numbers_of(given) {
+        add_number(line, name, number)?;
+    }
+    add_text(line, "listen", &given.listen)?;
+    add_text(line, "settings", &given.settings)
+}
+
+/// Each setting that was given, behind that beginning.
+pub fn line_of<R: Abort>(rt: &R, alloc: Global, begin: &str, given: &Given) -> String {
+    let mut line = String::from_str(alloc, begin).expect(rt, "memory");
+    add_given(&mut line, given).expect(rt, "memory");
+    line
+}
+
+fn check_row<R: Abort>(rt: &R, alloc: Global, line: &str, expected: &str) {
+    let words = words_of(rt, alloc, line);
+    let (command, given) = read_words(alloc, words.as_slice()).expect(rt, line);
+    let shown = line_of(rt, alloc, word_of(command), &given);
+    assert_eq!(rt; shown.as_str(), expected);
+}
+
+#[test]
+fn lines_give_a_command_and_settings(rt: HostRuntime) {
+    for (line, expected) in ACCEPTED.as_slice() {
+        check_row(&rt, rt.alloc(), line, expected);
     }
 }

@@ -1,7 +1,7 @@
 //! One peer more than the other workers and the queue can take.
 ghost use Rattle.std.specs.Prelude.{◌≡◌};
 
-use crate::store::{close_store, store_of};
+use crate::crowd::store_of;
 use blob_server::serve;
 use page_store::PlainMaker;
 use ports::gate::FreeGate;
@@ -154,7 +154,7 @@ fn all_that_can_wait_are_taken_and_the_first_worker_comes_back_from_one_that_is_
         16,
         CRUSH + 1,
     );
-    close_store(&rt, shared, owner);
+    assert!(rt; shared.close(owner).is_ok(), "a pass is out");
     assert!(rt; served == Ok(u64::from(CRUSH + 1)), "not all came");
     assert!(rt; !hall.ran_out.load(Ordering::SeqCst), "one waited in vain");
 }

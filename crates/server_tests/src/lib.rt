@@ -8,10 +8,8 @@ mod crush;
 #[cfg(test)]
 mod meeting;
 #[cfg(test)]
-mod program;
+mod peers;
 #[cfg(test)]
 mod rows;
-#[cfg(test)]
-mod store;
 #[cfg(test)]
 mod working;

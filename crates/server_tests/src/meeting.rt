@@ -1,11 +1,9 @@
 //! The program serves two connections beside each other.
 ghost use Rattle.std.specs.Prelude.{◌≡◌};
 
-use crate::program::{check_out, run_peers};
-use crate::store::{Line, two_giving};
+use crate::peers::{Line, run_peers};
 use ports::gate::{Gate, HoldGate, Point};
 use std::alloc::Global;
-use std::process::Abort;
 use std::sync::Wait;
 use std::sync::atomic::{AtomicU32, Ordering};
 use turn_lock::{Journaled, Pass};
@@ -56,22 +54,20 @@ impl Gate for MeetingGate {
     }
 }
 
-// A reply to a create and one to an append are as long for every blob and version.
-fn check_length<R: Abort>(rt: &R, alloc: Global, line: &Line) {
-    assert_eq!(rt; line.got(rt, alloc).len(), 2 * (13 + 29));
-}
-
 #[test]
 fn two_connections_wait_for_each_other(rt: HostRuntime) {
     let alloc: Global = rt.alloc();
     let asks = "00000001010000000a020000000000000001aa";
-    let mut lines = two_giving(&rt, alloc, asks, asks);
+    let one = Line::giving(&rt, alloc, asks, 3);
+    let other = Line::giving(&rt, alloc, asks, 3);
+    let mut lines = vec![in alloc; one, other].expect(&rt, "memory");
     let gate = MeetingGate::new();
-    let line = "serve --listen x:1 --workers 2 --connections 2";
-    let ran = run_peers(&rt, alloc, line, lines.as_mut_slice(), 64, &gate);
-    check_out(&rt, &ran, "served 2\n");
+    let words = "serve --listen x:1 --workers 2 --connections 2";
+    let ran = run_peers(&rt, alloc, words, lines.as_mut_slice(), 0, 64, &gate);
+    ran.check(&rt, words, "served 2\n", "", 0);
     assert!(rt; gate.met());
+    // A reply to a create and one to an append are as long for every blob and version.
     for line in &lines {
-        check_length(&rt, alloc, line);
+        assert!(rt; line.got(&rt, alloc).len() == 2 * (13 + 29));
     }
 }

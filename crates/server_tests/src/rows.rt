@@ -1,8 +1,6 @@
-//! What peers get, and how serving ends.
-ghost use Rattle.std.specs.Prelude.{◌≡◌, ◌≤◌};
+//! What peers get, what the program writes, and how serving ends.
 
-use crate::store::{Line, serve_anew, two_giving};
-use blob_server::ServeFault;
+use crate::peers::{Line, run_peers};
 use ports::gate::FreeGate;
 use std::alloc::Global;
 use std::process::Abort;
@@ -10,242 +8,278 @@ use std::sync::Wait;
 use std::thread::Threads;
 
 // What a peer gives, and what it gets.
-#[derive(Clone, Copy)]
-struct Exchange {
-    gives: &'static str,
-    gets: &'static str,
-}
+type Exchange = (&'static str, &'static str);
 
-// Two peers, one after the other.
+// The words of a line, the peers that come, the number of the accept that fails (0 is none), how many bytes the output takes, what both
+// outputs get, and how the program ends.
 #[derive(Clone, Copy)]
 struct Row {
-    name: &'static str,
-    first: Exchange,
-    second: Exchange,
-}
-
-static ROWS: [Row; 4] = [
-    Row {
-        name: "each peer gets its own replies",
-        first: Exchange {
-            gives: "00000001010000000c02000000000000000161626300000021070000000000000001000000000000000100000000000000000000000000000003",
-            gets: "0000000981000000000000000100000019820000000000000001000000000000000000000000000000030000000487616263",
-        },
-        second: Exchange {
-            gives: "0000000101",
-            gets: "00000009810000000000000002",
-        },
-    },
-    Row {
-        name: "the update of a peer that went away inside a frame is finished",
-        first: Exchange {
-            gives: "00000001010000000a040000000000000001aa000000",
-            gets: "0000000981000000000000000100000021840000000000000001000000000000000100000000000000000000000000000001",
-        },
-        second: Exchange {
-            gives: "000000090b0000000000000001",
-            gets: "000000198b000000000000000100000000000000010000000000000000",
-        },
-    },
-    Row {
-        name: "the tickets of each peer are numbered from 1",
-        first: Exchange {
-            gives: "00000001010000000a040000000000000001aa",
-            gets: "0000000981000000000000000100000021840000000000000001000000000000000100000000000000000000000000000001",
-        },
-        second: Exchange {
-            gives: "0000000a040000000000000001bb00000009060000000000000001",
-            gets: "0000002184000000000000000100000000000000020000000000000001000000000000000200000009860000000000000002",
-        },
-    },
-    Row {
-        name: "after a quit nothing is answered",
-        first: Exchange {
-            gives: "000000010d0000000101",
-            gets: "000000018d",
-        },
-        second: Exchange {
-            gives: "0000000101",
-            gets: "00000009810000000000000001",
-        },
-    },
-];
-
-// Two peers, served by one worker.
-fn serve_row<R: Threads + Wait + Sync + Abort>(rt: &R, alloc: Global, row: &Row) {
-    let mut lines = two_giving(rt, alloc, row.first.gives, row.second.gives);
-    let served = serve_anew(
-        rt,
-        alloc,
-        &FreeGate,
-        lines.as_mut_slice(),
-        Vec::new(alloc),
-        1,
-        2,
-    );
-    let name = row.name;
-    assert!(rt; served == Ok(2), "{name}");
-    check_all_got(
-        rt,
-        alloc,
-        lines.as_slice(),
-        &[row.first.gets, row.second.gets],
-    );
-}
-
-// The peers got these.
-fn check_all_got<R: Abort>(rt: &R, alloc: Global, lines: &[Line], wanted: &[&str]) {
-    for (line, want) in lines.iter().zip(wanted.iter()) {
-        line.check_got(rt, alloc, want);
-    }
-    assert!(rt; lines.len() == wanted.len());
-}
-
-#[test]
-fn peers_one_after_the_other(rt: HostRuntime) {
-    for row in ROWS.as_slice() {
-        serve_row(&rt, rt.alloc(), row);
-    }
-}
-
-// A frame that appends so many zeros, in digits, behind one that makes a blob.
-fn long_append<R: Abort>(rt: &R, alloc: Global, head: &str, count: u32) -> String {
-    let mut digits = String::from_str(alloc, "0000000101").expect(rt, "memory");
-    digits.push_str(head).expect(rt, "memory");
-    for _ in 0..count {
-        digits.push_str("00").expect(rt, "memory");
-    }
-    digits
-}
-
-// The first of two peers says hello. The next one's updates have a mebibyte again.
-#[test]
-fn the_next_peer_has_the_lesser_limit_again(rt: HostRuntime) {
-    let alloc: Global = rt.alloc();
-    let long = long_append(&rt, alloc, "0010000a020000000000000001", 1_048_577);
-    let mut lines = two_giving(&rt, alloc, "000000090e0000000000000002", long.as_str());
-    let none = Vec::new(alloc);
-    let served = serve_anew(&rt, alloc, &FreeGate, lines.as_mut_slice(), none, 1, 2);
-    assert!(rt; served == Ok(2));
-    let wanted = [
-        "000000098e0000000000000002",
-        "0000000981000000000000000100000011ff000000000000000b0000000000100001",
-    ];
-    check_all_got(&rt, alloc, lines.as_slice(), &wanted);
-}
-
-// Three peers, and a listener.
-#[derive(Clone, Copy)]
-struct Listening {
-    // The number of the accept that fails, from 1.
+    words: &'static str,
+    peers: &'static [Exchange],
     failing: usize,
-    connections: u32,
-    workers: u32,
-    served: Result<u64, ServeFault>,
-    // How many peers get a reply.
-    answered: usize,
+    room: usize,
+    out: &'static str,
+    err: &'static str,
+    status: u8,
 }
 
-static LISTENINGS: [Listening; 7] = [
-    Listening {
-        failing: 1,
-        connections: 3,
-        workers: 1,
-        served: Err(ServeFault::Listener),
-        answered: 0,
-    },
-    Listening {
-        failing: 2,
-        connections: 3,
-        workers: 1,
-        served: Err(ServeFault::Listener),
-        answered: 1,
-    },
-    Listening {
-        failing: 3,
-        connections: 3,
-        workers: 4,
-        served: Err(ServeFault::Listener),
-        answered: 2,
-    },
-    Listening {
+// The peers got what is theirs.
+fn check_got<R: Abort>(rt: &R, alloc: Global, lines: &[Line], peers: &[Exchange]) {
+    for (line, (gives, gets)) in lines.iter().zip(peers.iter()) {
+        assert!(rt; line.got(rt, alloc).as_str() == *gets, "{gives}");
+    }
+}
+
+fn check_row<R: Threads + Wait + Sync + Abort>(rt: &R, alloc: Global, row: &Row) {
+    let Row { words, peers, .. } = *row;
+    let mut lines = Vec::new(alloc);
+    for (gives, _) in peers {
+        let line = Line::giving(rt, alloc, gives, 3);
+        lines.push(line).expect(rt, "memory");
+    }
+    let ends = lines.as_mut_slice();
+    let ran = run_peers(rt, alloc, words, ends, row.failing, row.room, &FreeGate);
+    ran.check(rt, words, row.out, row.err, row.status);
+    check_got(rt, alloc, lines.as_slice(), peers);
+}
+
+fn check_rows<R: Threads + Wait + Sync + Abort>(rt: &R, alloc: Global, rows: &[Row]) {
+    for row in rows {
+        check_row(rt, alloc, row);
+    }
+}
+
+// A peer that is refused an unknown blob at any time, by whichever worker; one that isn't served; and one that is refused a frame.
+const SERVED: Exchange = (
+    "00000009080000000000000009",
+    "00000011ff00000000000000010000000000000009",
+);
+
+const UNSERVED: Exchange = ("00000009080000000000000009", "");
+
+const REFUSED: Exchange = (
+    "000000010100000001320000000101",
+    "0000000981000000000000000100000009ff000000000000001300000009810000000000000002",
+);
+
+// Three peers, of which no accept fails.
+static LISTENINGS: [Row; 4] = [
+    Row {
+        words: "serve --listen x:1 --connections 3",
+        peers: &[SERVED, SERVED, SERVED],
         failing: 4,
-        connections: 3,
-        workers: 4,
-        served: Ok(3),
-        answered: 3,
+        room: 64,
+        out: "served 3\n",
+        err: "",
+        status: 0,
     },
-    Listening {
+    Row {
+        words: "serve --listen x:1 --connections 2",
+        peers: &[SERVED, SERVED, UNSERVED],
         failing: 0,
-        connections: 2,
-        workers: 4,
-        served: Ok(2),
-        answered: 2,
+        room: 64,
+        out: "served 2\n",
+        err: "",
+        status: 0,
     },
-    Listening {
+    Row {
+        words: "serve --listen x:1 --workers 1 --connections 9",
+        peers: &[SERVED, SERVED, SERVED],
         failing: 0,
-        connections: 9,
-        workers: 1,
-        served: Ok(3),
-        answered: 3,
+        room: 64,
+        out: "served 3\n",
+        err: "",
+        status: 0,
     },
-    Listening {
+    Row {
+        words: "serve --listen x:1 --workers 16 --connections 9",
+        peers: &[SERVED, SERVED, SERVED],
         failing: 0,
-        connections: 9,
-        workers: 16,
-        served: Ok(3),
-        answered: 3,
+        room: 64,
+        out: "served 3\n",
+        err: "",
+        status: 0,
     },
 ];
-
-// Which accepts fail: the one of that number, or none.
-fn failing_at<R: Abort>(rt: &R, alloc: Global, number: usize) -> Vec<bool> {
-    let mut failing = Vec::new(alloc);
-    for before in 0..4usize {
-        failing.push(before + 1 == number).expect(rt, "memory");
-    }
-    failing
-}
-
-// Three peers that make a blob each.
-fn three_makers<R: Abort>(rt: &R, alloc: Global) -> Vec<Line> {
-    let mut lines = Vec::new(alloc);
-    for _ in 0..3 {
-        lines
-            .push(Line::giving(rt, alloc, "0000000101"))
-            .expect(rt, "memory");
-    }
-    lines
-}
-
-// How many peers got a reply.
-fn answered(lines: &[Line]) -> usize {
-    lines.iter().filter(|line| line.got_some()).count()
-}
-
-fn listen_so<R: Threads + Wait + Sync + Abort>(rt: &R, alloc: Global, listening: &Listening) {
-    let (workers, connections) = (listening.workers, listening.connections);
-    assert!(rt;
-        workers >= 1 && workers <= 16 && connections >= 1,
-        "no such call"
-    );
-    let mut lines = three_makers(rt, alloc);
-    let served = serve_anew(
-        rt,
-        alloc,
-        &FreeGate,
-        lines.as_mut_slice(),
-        failing_at(rt, alloc, listening.failing),
-        workers,
-        connections,
-    );
-    assert!(rt; served == listening.served);
-    assert!(rt; answered(lines.as_slice()) == listening.answered);
-}
 
 #[test]
 fn serving_ends_as_the_listener_does(rt: HostRuntime) {
-    for listening in LISTENINGS.as_slice() {
-        listen_so(&rt, rt.alloc(), listening);
+    check_rows(&rt, rt.alloc(), LISTENINGS.as_slice());
+}
+
+// The peers that came before the accept that fails are served.
+static ACCEPTS: [Row; 6] = [
+    Row {
+        words: "serve --listen x:1 --workers 1",
+        peers: &[UNSERVED, UNSERVED, UNSERVED],
+        failing: 1,
+        room: 64,
+        out: "",
+        err: "blobseer: listener fault\n",
+        status: 6,
+    },
+    Row {
+        words: "serve --listen x:1 --workers 1",
+        peers: &[SERVED, UNSERVED, UNSERVED],
+        failing: 2,
+        room: 64,
+        out: "",
+        err: "blobseer: listener fault\n",
+        status: 6,
+    },
+    Row {
+        words: "serve --listen x:1 --workers 1",
+        peers: &[SERVED, SERVED, UNSERVED],
+        failing: 3,
+        room: 64,
+        out: "",
+        err: "blobseer: listener fault\n",
+        status: 6,
+    },
+    Row {
+        words: "serve --listen x:1 --workers 3 --connections 3",
+        peers: &[UNSERVED, UNSERVED, UNSERVED],
+        failing: 1,
+        room: 64,
+        out: "",
+        err: "blobseer: listener fault\n",
+        status: 6,
+    },
+    Row {
+        words: "serve --listen x:1 --workers 3 --connections 3",
+        peers: &[SERVED, UNSERVED, UNSERVED],
+        failing: 2,
+        room: 64,
+        out: "",
+        err: "blobseer: listener fault\n",
+        status: 6,
+    },
+    Row {
+        words: "serve --listen x:1 --workers 3 --connections 3",
+        peers: &[SERVED, SERVED, UNSERVED],
+        failing: 3,
+        room: 64,
+        out: "",
+        err: "blobseer: listener fault\n",
+        status: 6,
+    },
+];
+
+#[test]
+fn each_accept_fails_once(rt: HostRuntime) {
+    check_rows(&rt, rt.alloc(), ACCEPTS.as_slice());
+}
+
+// Two peers, and what the program tells of them.
+static PROGRAMS: [Row; 5] = [
+    Row {
+        words: "serve --connections=1 --listen=x:1",
+        peers: &[SERVED, UNSERVED],
+        failing: 0,
+        room: 64,
+        out: "served 1\n",
+        err: "",
+        status: 0,
+    },
+    // The listener has no more than two peers, of which the first is refused a frame too.
+    Row {
+        words: "serve --listen x:1",
+        peers: &[REFUSED, SERVED],
+        failing: 0,
+        room: 64,
+        out: "served 2\n",
+        err: "",
+        status: 0,
+    },
+    Row {
+        words: "serve --listen x:1 --workers 1",
+        peers: &[REFUSED, SERVED],
+        failing: 0,
+        room: 7,
+        out: "served ",
+        err: "blobseer: write fault\n",
+        status: 4,
+    },
+    // It can't listen at another address.
+    Row {
+        words: "serve --listen y:1",
+        peers: &[UNSERVED, UNSERVED],
+        failing: 0,
+        room: 64,
+        out: "",
+        err: "blobseer: listener fault\n",
+        status: 6,
+    },
+    Row {
+        words: "serve --workers 1",
+        peers: &[UNSERVED, UNSERVED],
+        failing: 0,
+        room: 64,
+        out: "",
+        err: "blobseer: words refused\n",
+        status: 1,
+    },
+];
+
+#[test]
+fn the_program_serves_and_tells_how_many(rt: HostRuntime) {
+    check_rows(&rt, rt.alloc(), PROGRAMS.as_slice());
+}
+
+// What a peer gives, each request and bad frames, and what it gets: in version 1, and in version 2.
+static STREAMS: [Exchange; 2] = [
+    (
+        "00000001010000000c020000000000000001616263000000000000000a040000000000000001640000000906000000000000000100000021070000\
+         000000000001000000000000000200000000000000000000000000000004000000130300000000000000010000000000000002ffee000000120500\
+         00000000000001000000000000000400000000090b0000000000000001000000110a00000000000000010000000000000004000000090800000000\
+         00000001000000110900000000000000010000000000000002000000110c00000000000000010000000000000003000000020d0d000000210f0000\
+         0000000000010000000000000001000000000000000200000000000000010000001110000000000000000100000000000000040000000806000000\
+         000000010000000a06000000000000000200000000090e00000000000000020000000902000000000000000100000012050102030405060708ffff\
+         ffffffffffff0000000001ff",
+        "00000009810000000000000001000000198200000000000000010000000000000000000000000000000300000009ff000000000000001300000021\
+         8400000000000000010000000000000002000000000000000300000000000000040000000986000000000000000200000005876162636400000019\
+         8300000000000000030000000000000002000000000000000400000021850000000000000002000000000000000400000000000000040000000000\
+         000005000000198b00000000000000040000000000000003000000000000000400000019ff00000000000000100000000000000004000000000000\
+         000400000011880000000000000003000000000000000400000009890000000000000004000000098c000000000000000200000009ff0000000000\
+         00001300000009ff000000000000001300000009ff000000000000001300000009ff000000000000001300000009ff000000000000001300000009\
+         ff000000000000001300000009ff000000000000000a00000011ff0000000000000001010203040506070800000009ff0000000000000013",
+    ),
+    (
+        "000000090e000000000000000200000001010000000c020000000000000001616263000000310f0000000000000001000000000000000100000000\
+         00000002000000000000000100000000000000000000000000000002000000110f00000000000000010000000000000001000000190f0000000000\
+         00000100000000000000010000000000000002000000220f0000000000000001000000000000000100000000000000020000000000000001000000\
+         000a040000000000000001aa0000001210000000000000000100000000000000020000000009100000000000000001000000111000000000000000\
+         010000000000000002000000090e00000000000000020000000a0e000000000000000200000000010e000000011100000000000000110900000000\
+         000000010000000000000002000000210700000000000000010000000000000002000000000000000200000000000000020000001110ffffffffff\
+         ffffff0000000000000000000000010d",
+        "000000098e000000000000000200000009810000000000000001000000198200000000000000010000000000000000000000000000000300000004\
+         8f63616200000009ff000000000000001300000009ff000000000000001300000009ff000000000000001300000021840000000000000001000000\
+         00000000020000000000000003000000000000000400000009ff000000000000001300000009ff0000000000000013000000099000000000000000\
+         0200000009ff000000000000001300000009ff000000000000001300000009ff000000000000001300000009ff000000000000001300000009ff00\
+         0000000000001300000009890000000000000004000000038763aa00000011ff0000000000000001ffffffffffffffff000000018d",
+    ),
+];
+
+// Checks what a peer gets that gives its bytes in pieces of this length.
+fn check_pieces<R: Threads + Wait + Sync + Abort>(
+    rt: &R,
+    alloc: Global,
+    exchange: &Exchange,
+    piece: usize,
+) {
+    let mut lines = vec![in alloc; Line::giving(rt, alloc, exchange.0, piece)].expect(rt, "memory");
+    let words = "serve --page 4 --listen x:1 --workers 1";
+    let peers = lines.as_mut_slice();
+    let ran = run_peers(rt, alloc, words, peers, 0, 64, &FreeGate);
+    ran.check(rt, words, "served 1\n", "", 0);
+    check_got(rt, alloc, lines.as_slice(), &[*exchange]);
+}
+
+#[test]
+fn frames_are_answered_in_pieces_of_any_length(rt: HostRuntime) {
+    for exchange in &STREAMS {
+        for before in 0..exchange.0.len() / 2 {
+            check_pieces(&rt, rt.alloc(), exchange, before + 1);
+        }
     }
 }

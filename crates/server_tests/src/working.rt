@@ -1,7 +1,7 @@
 //! The program runs the workers of a load beside each other.
 ghost use Rattle.std.specs.Prelude.{◌≡◌};
 
-use crate::program::{check_out, run_peers};
+use crate::peers::run_peers;
 use ports::gate::{Gate, HoldGate, Point};
 use std::alloc::Global;
 use std::sync::Wait;
@@ -63,10 +63,10 @@ fn two_workers_of_a_load_work_beside_each_other(rt: HostRuntime) {
     let alloc: Global = rt.alloc();
     let mut nobody = Vec::new(alloc);
     let gate = WorkersGate::new();
-    let line = "load --workers 2 --ops 3 --seed 0";
-    let ran = run_peers(&rt, alloc, line, nobody.as_mut_slice(), 128, &gate);
+    let words = "load --workers 2 --ops 3 --seed 0";
+    let ran = run_peers(&rt, alloc, words, nobody.as_mut_slice(), 0, 128, &gate);
     let lines =
         "load workers 2 ops 3 seed 0\nlog size 96 versions 6 in-order 2\ngrid size 96 versions 7 sum 960\n";
-    check_out(&rt, &ran, lines);
+    ran.check(&rt, words, lines, "", 0);
     assert!(rt; gate.met());
 }

@@ -1,11 +1,11 @@
 //! The calls of a session, each in a function that promises nothing but that the store stays: what the calls promise is proved of
-//! them, and would stand in every goal of these tests. All are of blob 1.
+//! them, and would stand in every goal of these tests. Where no blob is named it is blob 1.
 ghost use Rattle.std.specs.Prelude.{◌≡◌};
 
 use blob_model::{Outcome, Place, Refusal};
 use client_session::{HangUp, Session, Started, Updated};
 use page_store::PlainDoor;
-use ports::gate::Gate;
+use ports::gate::{FreeGate, Gate};
 use request_form::Fault;
 use std::process::Abort;
 use std::sync::Wait;
@@ -30,6 +30,20 @@ pub(crate) fn append<G: Gate, R: Threads + Wait + Sync>(
     ensures { session.new.store ≡ session.old.store }
 {
     session.append(rt, 1, bytes)
+}
+
+/// Updates blob 1 at once, and answers whether that was done.
+pub(crate) fn update<R: Threads + Wait + Sync>(
+    rt: &R,
+    session: &mut Session<'_, PlainDoor, FreeGate>,
+    place: Place,
+    bytes: &[u8],
+) -> bool {
+    let updated = match place {
+        Place::Append => session.append(rt, 1, bytes),
+        Place::WriteAt(offset) => session.write(rt, 1, offset, bytes),
+    };
+    matches!(updated, Ok(Updated::Done(_)))
 }
 
 /// Starts an append.
@@ -115,22 +129,23 @@ pub(crate) fn sync_wait<G: Gate, R: Wait>(
     synced_of(&outcome)
 }
 
-/// The two numbers that are told of the greatest published version: the version and its size.
-pub(crate) fn recent_of(outcome: &Outcome) -> Option<(u64, u64)> {
+// The two numbers that are told of the greatest published version: the version and its size.
+fn recent_of(outcome: &Outcome) -> Option<(u64, u64)> {
     match outcome {
         Outcome::Recent { version, size } => Some((*version, *size)),
         _ => None,
     }
 }
 
-/// The greatest published version, and its size.
+/// The greatest published version of a blob, and its size.
 pub(crate) fn recent<G: Gate, R: Wait>(
     rt: &R,
     session: &mut Session<'_, PlainDoor, G>,
+    blob: u64,
 ) -> Option<(u64, u64)>
     ensures { session.new.store ≡ session.old.store }
 {
-    let outcome = session.recent(rt, 1);
+    let outcome = session.recent(rt, blob);
     recent_of(&outcome)
 }
 
@@ -146,14 +161,15 @@ pub(crate) fn status_of(outcome: &Outcome) -> Option<(u64, u64, u64)> {
     }
 }
 
-/// How far the updates are, in the three numbers of a status.
+/// How far the updates of a blob are, in the three numbers of a status.
 pub(crate) fn status<G: Gate, R: Wait>(
     rt: &R,
     session: &mut Session<'_, PlainDoor, G>,
+    blob: u64,
 ) -> Option<(u64, u64, u64)>
     ensures { session.new.store ≡ session.old.store }
 {
-    let outcome = session.status(rt, 1);
+    let outcome = session.status(rt, blob);
     status_of(&outcome)
 }
 

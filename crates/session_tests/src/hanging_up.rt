@@ -1,15 +1,12 @@
-//! Sessions that hold tickets: how many a blob takes, and what becomes of them where a session ends.
+//! What becomes of the tickets of a session that gives them up, and of one that ends without doing so.
 ghost use Rattle.std.specs.Prelude.{◌≡◌};
 ghost use Rattle.client_session.specs.Sessions.{IsOwnerOf};
 
-use crate::calls::{
-    append, create, finish, hang_up, pending, refusal_of, repair, start, status, status_of,
-};
-use crate::store::{Two, closed, end_session, new_store, two_sessions};
+use crate::calls::{append, create, finish, hang_up, pending, repair, start, status, status_of};
+use crate::store::{Two, closed, end_session, store_of, two_sessions};
 use client_session::{HangUp, Owner, Session, Shared};
 use page_store::PlainDoor;
 use ports::gate::FreeGate;
-use request_form::Fault;
 use std::alloc::Global;
 use std::process::Abort;
 use std::sync::Wait;
@@ -40,35 +37,6 @@ fn append_times<R: Threads + Wait + Sync + Abort>(
     for _ in 0..times {
         append(rt, session, b"b").expect(rt, "an append");
     }
-}
-
-// How many of 64 updates the first session starts, and why it can't start one more, nor the second start or append one.
-fn start_too_many<R: Threads + Wait + Sync + Abort>(
-    rt: &R,
-    one: &mut Session<'_, PlainDoor, FreeGate>,
-    two: &mut Session<'_, PlainDoor, FreeGate>,
-) -> (u64, [Fault; 3]) {
-    create(rt, one).expect(rt, "a blob");
-    let started = start_times(rt, one, 64);
-    let same = refusal_of(rt, start(rt, one, b"a"));
-    let other = refusal_of(rt, start(rt, two, b"a"));
-    let appended = refusal_of(rt, append(rt, two, b"a"));
-    (started, [same, other, appended])
-}
-
-// The same of the first two sessions of a new store.
-fn refused_beside<R: Threads + Wait + Sync + Abort>(rt: &R, alloc: Global) -> (u64, [Fault; 3]) {
-    let (shared, mut owner) = new_store(rt, alloc);
-    let Two { mut one, mut two } = two_sessions(rt, alloc, &shared, &mut owner, &FreeGate);
-    start_too_many(rt, &mut one, &mut two)
-}
-
-#[test]
-fn sixty_four_updates_of_a_blob_are_open_at_once(rt: HostRuntime) {
-    let (started, faults) = refused_beside(&rt, rt.alloc());
-    let open = Fault::TooManyOpen { limit: 64 };
-    assert_eq!(rt; started, 64);
-    assert_eq!(rt; faults, [Fault::TooManyTickets, open, open]);
 }
 
 // Starts three updates and gives them up; then starts one more.
@@ -114,7 +82,7 @@ fn give_up_beside<R: Threads + Wait + Sync + Abort>(
     create(rt, one).expect(rt, "a blob");
     let beside = hang_up_beside(rt, one, two);
     let published = finish(rt, one, 1).expect(rt, "a finished update");
-    let status = status(rt, two);
+    let status = status(rt, two, 1);
     let again = hang_up(rt, one);
     GivenUp {
         beside,
@@ -125,7 +93,7 @@ fn give_up_beside<R: Threads + Wait + Sync + Abort>(
 }
 
 fn given_up<R: Threads + Wait + Sync + Abort>(rt: &R, alloc: Global) -> GivenUp {
-    let (shared, mut owner) = new_store(rt, alloc);
+    let (shared, mut owner) = store_of(rt, alloc, 4);
     let Two { mut one, mut two } = two_sessions(rt, alloc, &shared, &mut owner, &FreeGate);
     give_up_beside(rt, &mut one, &mut two)
 }
@@ -188,7 +156,7 @@ fn append_and_end<R: Threads + Wait + Sync + Abort>(
 {
     append(rt, &mut session, b"b").expect(rt, "an append");
     append(rt, &mut session, b"b").expect(rt, "an append");
-    let status = status(rt, &mut session);
+    let status = status(rt, &mut session, 1);
     let pending = pending(rt, &mut session, 4);
     let second = repair(rt, &mut session, 2).ok();
     let first = repair(rt, &mut session, 1).ok();
@@ -207,7 +175,7 @@ struct Left {
 }
 
 fn left_unfinished<R: Threads + Wait + Sync + Abort>(rt: &R, alloc: Global) -> Left {
-    let (shared, mut owner) = new_store(rt, alloc);
+    let (shared, mut owner) = store_of(rt, alloc, 4);
     let Two { one, two } = two_sessions(rt, alloc, &shared, &mut owner, &FreeGate);
     assert!(rt; start_and_end(rt, one, &shared, &mut owner));
     let (seen, pending, repaired) = append_and_end(rt, two, &shared, &mut owner);

@@ -1,9 +1,12 @@
-//! A blob that is written in small parts: every range of every version is read, beside flat bytes, and the node steps are counted.
+//! A blob that is written in small parts: every range of every version is read, and the node steps are counted. What is read then is
+//! shown by a script.
 
-use crate::session::{session_of, store_of};
+use crate::calls::{create, update};
+use crate::store::{new_session, store_of};
 use crate::visits::{Part, counted};
-use client_session::{Session, Updated};
-use page_store::{PlainDoor, PlainMaker};
+use blob_model::Place;
+use client_session::Session;
+use page_store::PlainDoor;
 use ports::gate::FreeGate;
 use std::alloc::Global;
 use std::process::Abort;
@@ -29,83 +32,32 @@ impl Dice {
     }
 }
 
-// Writes one byte, over another or behind the last.
-fn put<R: Abort>(rt: &R, content: &mut Vec<u8>, at: usize, byte: u8) {
-    match content.get_mut(at) {
-        Some(old) => *old = byte,
-        None => content.push(byte).expect(rt, "memory"),
-    }
-}
-
-// The bytes after a write of so many bytes that are all the same.
-fn written<R: Abort>(
-    rt: &R,
-    alloc: Global,
-    before: &[u8],
-    at: usize,
-    count: usize,
-    byte: u8,
-) -> Vec<u8> {
-    let mut content = before.to_vec(alloc).expect(rt, "memory");
-    for more in 0..count {
-        put(rt, &mut content, at.saturating_add(more), byte);
-    }
-    content
-}
-
-// Updates blob 1 at once.
-fn write<R: Threads + Wait + Sync>(
-    rt: &R,
-    session: &mut Session<'_, PlainDoor, FreeGate>,
-    at: usize,
-    bytes: &[u8],
-) -> bool {
-    let updated = session.write(rt, 1, at as u64, bytes);
-    matches!(updated, Ok(Updated::Done(_)))
-}
-
-// Writes one to three bytes somewhere among the first ten, and gives what the blob has then.
+// Writes one to three bytes somewhere among the first ten, and gives the size of the blob then.
 fn write_part<R: Threads + Wait + Sync + Abort>(
     rt: &R,
-    alloc: Global,
     session: &mut Session<'_, PlainDoor, FreeGate>,
     dice: &mut Dice,
-    before: &[u8],
+    before: u64,
     byte: u8,
-) -> Vec<u8> {
-    let at = dice.below(10) as usize;
-    let count = (dice.below(3) as usize).saturating_add(1);
+) -> u64 {
+    let at = dice.below(10);
+    let count = dice.below(3).saturating_add(1);
     let bytes = [byte; 3];
-    let bytes = bytes.get(..count).expect(rt, "at most three bytes");
-    assert!(rt; write(rt, session, at, bytes));
-    written(rt, alloc, before, at, count, byte)
+    let bytes = bytes
+        .get(..count as usize)
+        .expect(rt, "at most three bytes");
+    assert!(rt; update(rt, session, Place::WriteAt(at), bytes));
+    before.max(at.saturating_add(count))
 }
 
-// Whether a range of a version is read as these bytes, in as many node steps as are promised where the tree has three levels: for
-// each page the leaf, fifteen more that it leads to, and the way to it.
-fn reads_as<R: Threads + Wait + Sync + Abort>(
-    rt: &R,
-    session: &mut Session<'_, PlainDoor, FreeGate>,
-    version: u64,
-    offset: usize,
-    bytes: &[u8],
-) -> bool {
-    let count = bytes.len();
-    let part = Part {
-        version,
-        offset: offset as u64,
-        count: count as u64,
-    };
-    let (seen, steps) = counted(rt, session, part);
-    seen.as_slice() == bytes && steps <= most_steps(offset, count)
-}
-
-fn most_steps(offset: usize, count: usize) -> u64 {
-    if count == 0 {
+// The node steps that are promised where the tree has three levels: for each page the leaf, fifteen more that it leads to, and the
+// way to it.
+fn most_steps(part: Part) -> u64 {
+    if part.count == 0 {
         return 0;
     }
-    let last = offset.saturating_add(count).saturating_sub(1) / 4;
-    let pages = last.saturating_sub(offset / 4).saturating_add(1) as u64;
+    let last = part.offset.saturating_add(part.count).saturating_sub(1) / 4;
+    let pages = last.saturating_sub(part.offset / 4).saturating_add(1);
     pages.saturating_mul(17).saturating_add(4)
 }
 
@@ -114,15 +66,17 @@ fn check_from<R: Threads + Wait + Sync + Abort>(
     rt: &R,
     session: &mut Session<'_, PlainDoor, FreeGate>,
     version: u64,
-    content: &[u8],
-    offset: usize,
+    offset: u64,
+    size: u64,
 ) {
-    for end in offset..content.len().saturating_add(1) {
-        let bytes = content.get(offset..end).expect(rt, "a range");
-        assert!(rt;
-            reads_as(rt, session, version, offset, bytes),
-            "version {version} from {offset} to {end}"
-        );
+    for count in 0..size.saturating_sub(offset).saturating_add(1) {
+        let part = Part {
+            version,
+            offset,
+            count,
+        };
+        let (bytes, steps) = counted(rt, session, part);
+        assert!(rt; bytes.len() as u64 == count && steps <= most_steps(part));
     }
 }
 
@@ -131,50 +85,38 @@ fn check_version<R: Threads + Wait + Sync + Abort>(
     rt: &R,
     session: &mut Session<'_, PlainDoor, FreeGate>,
     version: u64,
-    content: &[u8],
+    size: u64,
 ) {
-    for offset in 0..content.len() {
-        check_from(rt, session, version, content, offset);
+    for offset in 0..size {
+        check_from(rt, session, version, offset, size);
     }
 }
 
-// Writes a blob, and gives the bytes of each of its versions, from 1 on.
+// Writes a blob, and gives the size of each of its versions, from 1 on.
 fn write_all<R: Threads + Wait + Sync + Abort>(
     rt: &R,
     alloc: Global,
     session: &mut Session<'_, PlainDoor, FreeGate>,
-) -> Vec<Vec<u8>> {
-    session.create(rt).expect(rt, "a blob");
-    assert!(rt; write(rt, session, 0, FIRST));
+) -> Vec<u64> {
+    create(rt, session).expect(rt, "a blob");
+    assert!(rt; update(rt, session, Place::Append, FIRST));
     let mut dice = Dice { state: 1 };
-    let mut content = FIRST.to_vec(alloc).expect(rt, "memory");
-    let mut contents = Vec::new(alloc);
+    let mut size = FIRST.len() as u64;
+    let mut sizes = vec![in alloc; size].expect(rt, "memory");
     for byte in 0..WRITES {
-        let next = write_part(rt, alloc, session, &mut dice, content.as_slice(), byte);
-        contents.push(content).expect(rt, "memory");
-        content = next;
+        size = write_part(rt, session, &mut dice, size, byte);
+        sizes.push(size).expect(rt, "memory");
     }
-    contents.push(content).expect(rt, "memory");
-    contents
-}
-
-fn check_all<R: Threads + Wait + Sync + Abort>(
-    rt: &R,
-    session: &mut Session<'_, PlainDoor, FreeGate>,
-    contents: &[Vec<u8>],
-) {
-    for (before, content) in contents.iter().enumerate() {
-        let version = (before as u64).saturating_add(1);
-        check_version(rt, session, version, content.as_slice());
-    }
+    sizes
 }
 
 #[test]
 fn a_page_that_is_changed_in_small_parts_stays_cheap_to_read(rt: HostRuntime) {
     let alloc = rt.alloc();
     let (shared, mut owner) = store_of(&rt, alloc, 4);
-    let mut maker = PlainMaker::new();
-    let mut session = session_of(&rt, alloc, &shared, &mut owner, &mut maker, &FreeGate);
-    let contents = write_all(&rt, alloc, &mut session);
-    check_all(&rt, &mut session, contents.as_slice());
+    let mut session = new_session(&rt, alloc, &shared, &mut owner, &FreeGate);
+    let sizes = write_all(&rt, alloc, &mut session);
+    for (before, size) in sizes.iter().enumerate() {
+        check_version(&rt, &mut session, before as u64 + 1, *size);
+    }
 }

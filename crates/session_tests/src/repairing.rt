@@ -1,10 +1,10 @@
-//! A session finishes what another one numbered, also where both finish it at once.
+//! A session finishes what another one numbered, while that finishes it too.
 
 use crate::calls::{append, create, finish, refusal_of, repair, start};
-use crate::store::{Two, new_store, two_sessions};
-use client_session::{Done, Session, Updated};
+use crate::store::{Two, store_of, two_sessions};
+use client_session::Session;
 use page_store::PlainDoor;
-use ports::gate::{FreeGate, Gate, HoldGate, Point};
+use ports::gate::{Gate, HoldGate, Point};
 use request_form::Fault;
 use std::alloc::Global;
 use std::process::Abort;
@@ -13,56 +13,6 @@ use std::sync::atomic::{AtomicBool, Ordering};
 use std::thread;
 use std::thread::Threads;
 use turn_lock::{Journaled, Pass};
-
-// What the second session is told that appends behind an update of the first, and finishes that; and what the first is told then.
-#[derive(Clone, Copy, Debug, PartialEq)]
-struct Repaired {
-    appended: Updated,
-    published: u64,
-    late: Fault,
-    again: Fault,
-}
-
-fn repair_beside<R: Threads + Wait + Sync + Abort>(
-    rt: &R,
-    one: &mut Session<'_, PlainDoor, FreeGate>,
-    two: &mut Session<'_, PlainDoor, FreeGate>,
-) -> Repaired {
-    create(rt, one).expect(rt, "a blob");
-    let started = start(rt, one, b"abc").expect(rt, "a ticket");
-    let appended = append(rt, two, b"de").expect(rt, "an append");
-    let published = repair(rt, two, 1).expect(rt, "a finished update");
-    let late = refusal_of(rt, finish(rt, one, started.ticket));
-    let again = refusal_of(rt, finish(rt, one, started.ticket));
-    Repaired {
-        appended,
-        published,
-        late,
-        again,
-    }
-}
-
-fn told_of_repair<R: Threads + Wait + Sync + Abort>(rt: &R, alloc: Global) -> Repaired {
-    let (shared, mut owner) = new_store(rt, alloc);
-    let Two { mut one, mut two } = two_sessions(rt, alloc, &shared, &mut owner, &FreeGate);
-    repair_beside(rt, &mut one, &mut two)
-}
-
-#[test]
-fn a_session_finishes_what_another_started(rt: HostRuntime) {
-    let second = Done {
-        version: 2,
-        at: 3,
-        size: 5,
-    };
-    let expected = Repaired {
-        appended: Updated::Done(second),
-        published: 2,
-        late: Fault::Already { version: 1 },
-        again: Fault::NoTicket { ticket: 1 },
-    };
-    assert_eq!(rt; told_of_repair(&rt, rt.alloc()), expected);
-}
 
 // Holds one caller once its update is woven, and tells that it came there.
 #[derive(Drop)]
@@ -152,7 +102,7 @@ fn writer_overtaken<R: Threads + Wait + Sync + Abort>(
     alloc: Global,
 ) -> (Fault, Option<u64>) {
     let gate = WovenGate::new(1);
-    let (shared, mut owner) = new_store(rt, alloc);
+    let (shared, mut owner) = store_of(rt, alloc, 4);
     let Two { mut one, mut two } = two_sessions(rt, alloc, &shared, &mut owner, &gate);
     overtake_writer(rt, &gate, &mut one, &mut two)
 }
@@ -194,7 +144,7 @@ fn mender_overtaken<R: Threads + Wait + Sync + Abort>(
     alloc: Global,
 ) -> (Fault, Option<u64>) {
     let gate = WovenGate::new(2);
-    let (shared, mut owner) = new_store(rt, alloc);
+    let (shared, mut owner) = store_of(rt, alloc, 4);
     let Two { mut one, mut two } = two_sessions(rt, alloc, &shared, &mut owner, &gate);
     overtake_mender(rt, &gate, &mut one, &mut two)
 }

@@ -8,23 +8,21 @@ mod script;
 ghost use Rattle.std.specs.Prelude.{◌≡◌};
 ghost use Rattle.client_session.specs.Sessions.{IsOwnerOf};
 
-use crate::calls::recent_of;
-use crate::sharing::client::{Client, Member, Naming, Note};
-use crate::sharing::replay::{check_history, ends_as, ends_at, has_size};
+use crate::calls::{recent, status};
+use crate::sharing::client::{Client, Member, Note};
+use crate::sharing::replay::{check_history, sizes_agree};
 use crate::sharing::script::{BASE, CLIENTS, Manner, sum_of};
-use crate::store::{closed, new_store};
+use crate::store::store_of;
 use blob_model::Place;
 use client_session::{Owner, Shared};
 use std::alloc::Global;
-use std::marker::Brand;
 use std::process::Abort;
 use std::sync::Wait;
 use std::thread;
 use std::thread::Threads;
-use version_manager::Desk;
 
 // Makes the three blobs, each with its first version.
-fn make_blobs<N: Naming, R: Threads + Wait + Sync + Abort>(rt: &R, founder: &mut Member<'_, N>) {
+fn make_blobs<R: Threads + Wait + Sync + Abort>(rt: &R, founder: &mut Member<'_>) {
     for _ in 0..3 {
         let blob = founder.create(rt).expect(rt, "a blob");
         let done = founder.update(rt, blob, Place::Append, BASE);
@@ -32,32 +30,14 @@ fn make_blobs<N: Naming, R: Threads + Wait + Sync + Abort>(rt: &R, founder: &mut
     }
 }
 
-// A session makes the blobs, and ends.
-fn found<N: Naming, R: Threads + Wait + Sync + Abort>(
-    rt: &R,
-    alloc: Global,
-    shared: &Shared,
-    owner: &mut Owner,
-)
-    requires store { shared.now ≡ N.store }
-    requires owner { IsOwnerOf shared.now owner.old }
-    ensures { IsOwnerOf shared.now owner.new }
-{
-    let mut founder = Member::<N>::new(rt, alloc, shared, owner);
-    make_blobs(rt, &mut founder);
-    founder.end(shared, owner);
-}
-
 // The clients, each with a session of its own.
-fn clients_of<'a, N: Naming, R: Abort>(
+fn clients_of<'a, R: Abort>(
     rt: &R,
     alloc: Global,
     shared: &'a Shared,
     owner: &mut Owner,
-) -> Vec<Client<'a, N>>
-    requires store { shared.now ≡ N.store }
+) -> Vec<Client<'a>>
     requires owner { IsOwnerOf shared.now owner.old }
-    ensures { IsOwnerOf shared.now owner.new }
 {
     let mut clients = Vec::new(alloc);
     for number in 0..CLIENTS {
@@ -74,11 +54,7 @@ fn clients_of<'a, N: Naming, R: Abort>(
 }
 
 // Each client goes through its script, beside the others. Whether all went well.
-fn work_all<N: Naming + Send + Sync, R: Threads + Wait + Sync>(
-    rt: &R,
-    clients: &mut [Client<'_, N>],
-    manner: Manner,
-) -> bool {
+fn work_all<R: Threads + Wait + Sync>(rt: &R, clients: &mut [Client<'_>], manner: Manner) -> bool {
     thread::for_each_mut(
         rt,
         clients,
@@ -88,52 +64,18 @@ fn work_all<N: Naming + Send + Sync, R: Threads + Wait + Sync>(
     clients.iter().all(|client| client.is_content)
 }
 
-// Ends a client, and adds what it was told.
-fn end_one<N: Naming, R: Abort>(
-    rt: &R,
-    client: Client<'_, N>,
-    shared: &Shared,
-    owner: &mut Owner,
-    all: &mut Vec<Note>,
-)
-    requires store { shared.now ≡ N.store }
-    requires owner { IsOwnerOf shared.now owner.old }
-    ensures { IsOwnerOf shared.now owner.new }
-{
-    let Client {
-        member,
-        mut notes,
-        ..
-    } = client;
-    member.end(shared, owner);
-    all.append(&mut notes).expect(rt, "memory");
-}
-
-// Ends the clients, and gives what they were told.
-fn end_all<N: Naming, R: Abort>(
-    rt: &R,
-    alloc: Global,
-    shared: &Shared,
-    owner: &mut Owner,
-    clients: Vec<Client<'_, N>>,
-) -> Vec<Note>
-    requires store { shared.now ≡ N.store }
-    requires owner { IsOwnerOf shared.now owner.old }
-    ensures { IsOwnerOf shared.now owner.new }
-{
+// What the clients were told. All end here, and what they hold is left.
+fn notes_of<R: Abort>(rt: &R, alloc: Global, clients: Vec<Client<'_>>) -> Vec<Note> {
     let mut all = Vec::new(alloc);
     for client in clients {
-        end_one(rt, client, shared, owner, &mut all);
+        let Client { mut notes, .. } = client;
+        all.append(&mut notes).expect(rt, "memory");
     }
     all
 }
 
 // Finishes the versions of a blob that aren't finished, in rising order. Whether all are finished then.
-fn mend_blob<N: Naming, R: Threads + Wait + Sync>(
-    rt: &R,
-    mender: &mut Member<'_, N>,
-    blob: u64,
-) -> bool {
+fn mend_blob<R: Threads + Wait + Sync>(rt: &R, mender: &mut Member<'_>, blob: u64) -> bool {
     for before in 1..sum_of(blob).last {
         if !mender.repair(rt, blob, before + 1) {
             return false;
@@ -142,19 +84,10 @@ fn mend_blob<N: Naming, R: Threads + Wait + Sync>(
     true
 }
 
-fn mend_blobs<N: Naming, R: Threads + Wait + Sync>(rt: &R, mender: &mut Member<'_, N>) -> bool {
-    for before in 0..3 {
-        if !mend_blob(rt, mender, before + 1) {
-            return false;
-        }
-    }
-    true
-}
-
 // Whether each version is read as its note says. The notes of careless clients say nothing before: they do so from here on.
-fn read_again<N: Naming, R: Threads + Wait + Sync>(
+fn read_again<R: Threads + Wait + Sync>(
     rt: &R,
-    reader: &mut Member<'_, N>,
+    reader: &mut Member<'_>,
     notes: &mut [Note],
     manner: Manner,
 ) -> bool {
@@ -170,123 +103,114 @@ fn read_again<N: Naming, R: Threads + Wait + Sync>(
     true
 }
 
-// A last session finishes what the clients left, and reads every version.
-fn end_with<N: Naming, R: Threads + Wait + Sync + Abort>(
-    rt: &R,
-    alloc: Global,
-    shared: &Shared,
-    owner: &mut Owner,
-    notes: &mut [Note],
-    manner: Manner,
-)
-    requires store { shared.now ≡ N.store }
-    requires owner { IsOwnerOf shared.now owner.old }
-    ensures { IsOwnerOf shared.now owner.new }
-{
-    let mut last = Member::<N>::new(rt, alloc, shared, owner);
-    assert!(rt; mend_blobs(rt, &mut last), "a version isn't finished");
-    assert!(rt;
-        read_again(rt, &mut last, notes, manner),
-        "a version is read as something else"
-    );
-    last.end(shared, owner);
+// Finishes what the clients left in the three blobs.
+fn mend_blobs<R: Threads + Wait + Sync>(rt: &R, mender: &mut Member<'_>) -> bool {
+    for before in 0..3 {
+        if !mend_blob(rt, mender, before + 1) {
+            return false;
+        }
+    }
+    true
 }
 
-// What the clients were told. All sessions have ended.
-fn share_in<N: Naming + Send + Sync, R: Threads + Wait + Sync + Abort>(
+// How many branches were made of a blob, whose history is what the notes say and the scripts add up to.
+fn check_blob<R: Wait + Abort>(
     rt: &R,
     alloc: Global,
-    shared: &Shared,
-    owner: &mut Owner,
+    reader: &mut Member<'_>,
+    notes: &[Note],
+    blob: u64,
+) -> u64 {
+    let sum = sum_of(blob);
+    check_history(rt, alloc, notes, blob, sum.last);
+    let ended = status(rt, &mut reader.session, blob);
+    assert_eq!(rt; ended, Some((sum.last, sum.last, 0)));
+    let newest = recent(rt, &mut reader.session, blob);
+    assert_eq!(rt; newest, Some((sum.last, sum.size as u64)));
+    sum.branches
+}
+
+// How many branches the scripts make. The three blobs and every note agree with the store.
+fn check_store<R: Wait + Abort>(
+    rt: &R,
+    alloc: Global,
+    reader: &mut Member<'_>,
+    notes: &[Note],
+) -> u64 {
+    let mut branches: u64 = 0;
+    for before in 0..3 {
+        let more = check_blob(rt, alloc, reader, notes, before + 1);
+        branches = branches.saturating_add(more);
+    }
+    assert!(rt; sizes_agree(rt, &mut reader.session, notes));
+    branches
+}
+
+// Whether a branch has no update but the one of its note.
+fn ends_there<R: Wait>(rt: &R, reader: &mut Member<'_>, note: &Note) -> bool {
+    let version = note.done.version;
+    status(rt, &mut reader.session, note.blob) == Some((version, version, 0))
+}
+
+// How many notes are of branches, each of which has no other update.
+fn check_branches<R: Wait + Abort>(rt: &R, reader: &mut Member<'_>, notes: &[Note]) -> u64 {
+    let mut count: u64 = 0;
+    for note in notes {
+        if note.blob > 3 {
+            assert!(rt; ends_there(rt, reader, note));
+            count = count.saturating_add(1);
+        }
+    }
+    count
+}
+
+// The founder of a store with three blobs finishes what the clients left, and reads every version. How many branches the scripts
+// make and the notes tell of, and what is known of the blob behind the last of them.
+fn check_shared<R: Threads + Wait + Sync + Abort>(
+    rt: &R,
+    alloc: Global,
+    founder: &mut Member<'_>,
+    clients: Vec<Client<'_>>,
     manner: Manner,
-) -> Vec<Note>
-    requires store { shared.now ≡ N.store }
-    requires owner { IsOwnerOf shared.now owner.old }
-    ensures { IsOwnerOf shared.now owner.new }
-{
-    found::<N, R>(rt, alloc, shared, owner);
-    let mut clients = clients_of::<N, R>(rt, alloc, shared, owner);
+) -> (u64, u64) {
+    let mut clients = clients;
     assert!(rt;
         work_all(rt, clients.as_mut_slice(), manner),
         "a client was told something else"
     );
-    let mut notes = end_all(rt, alloc, shared, owner, clients);
-    end_with::<N, R>(rt, alloc, shared, owner, notes.as_mut_slice(), manner);
-    notes
+    let mut notes = notes_of(rt, alloc, clients);
+    assert!(rt; mend_blobs(rt, founder), "a version isn't finished");
+    assert!(rt;
+        read_again(rt, founder, notes.as_mut_slice(), manner),
+        "a version is read as something else"
+    );
+    let branches = check_store(rt, alloc, founder, notes.as_slice());
+    (branches, check_branches(rt, founder, notes.as_slice()))
 }
 
-fn share<R: Threads + Wait + Sync + Abort>(
-    rt: &R,
-    alloc: Global,
-    shared: &Shared,
-    owner: &mut Owner,
-    manner: Manner,
-) -> Vec<Note>
-    requires { IsOwnerOf shared.now owner.old }
-    ensures { IsOwnerOf shared.now owner.new }
-{
-    share_in::<Brand, R>(rt, alloc, shared, owner, manner)
-}
-
-// How many branches were made of a blob, whose history is what the notes say and the scripts add up to.
-fn check_blob<R: Abort>(rt: &R, alloc: Global, desk: &Desk, notes: &[Note], blob: u64) -> u64 {
-    let sum = sum_of(blob);
-    check_history(rt, alloc, notes, blob, sum.last);
-    assert!(rt; ends_as(desk, blob, &sum), "blob {blob}");
-    sum.branches
-}
-
-// Whether the desk agrees with a note, where the note is of a branch also that this is the branch's only update.
-fn agrees(desk: &Desk, note: &Note) -> bool {
-    has_size(desk, note)
-        && (note.blob <= 3 || ends_at(desk, note.blob, note.done.version, note.done.size))
-}
-
-// How many notes are of branches.
-fn branch_notes(notes: &[Note]) -> usize {
-    notes.iter().filter(|note| note.blob > 3).count()
-}
-
-// What the clients of a new store were told, and its desk once they have ended.
-fn told_all<R: Threads + Wait + Sync + Abort>(
+// The same over a new store; and whether it has a blob behind the branches that the notes tell of.
+fn shared_by_all<R: Threads + Wait + Sync + Abort>(
     rt: &R,
     alloc: Global,
     manner: Manner,
-) -> (Vec<Note>, Desk) {
-    let (shared, mut owner) = new_store(rt, alloc);
-    let notes = share(rt, alloc, &shared, &mut owner, manner);
-    (notes, closed(rt, shared, owner))
-}
-
-// How many branches the scripts make. The three blobs and every note agree with the desk.
-fn check_branches<R: Abort>(rt: &R, alloc: Global, desk: &Desk, notes: &[Note]) -> u64 {
-    let mut branches: u64 = 0;
-    for before in 0..3 {
-        let more = check_blob(rt, alloc, desk, notes, before + 1);
-        branches = branches.saturating_add(more);
-    }
-    assert!(rt; notes.iter().all(|note| agrees(desk, note)));
-    branches
-}
-
-// Whether the desk has a blob of that number.
-fn has_blob(desk: &Desk, blob: u64) -> bool {
-    let recent = desk.recent(blob);
-    recent_of(&recent).is_some()
+) -> (u64, u64, bool) {
+    let (shared, mut owner) = store_of(rt, alloc, 4);
+    let mut founder = Member::new(rt, alloc, &shared, &mut owner);
+    make_blobs(rt, &mut founder);
+    let clients = clients_of(rt, alloc, &shared, &mut owner);
+    let (branches, told) = check_shared(rt, alloc, &mut founder, clients, manner);
+    let next = recent(rt, &mut founder.session, told.saturating_add(4));
+    (branches, told, next.is_some())
 }
 
 #[test]
 fn sixteen_sessions_write_parts_of_a_page_of_three_blobs(rt: HostRuntime) {
-    let (notes, desk) = told_all(&rt, rt.alloc(), Manner::Careful);
-    let branches = check_branches(&rt, rt.alloc(), &desk, notes.as_slice());
-    assert_eq!(rt; branch_notes(notes.as_slice()) as u64, branches);
-    assert!(rt; !has_blob(&desk, branches.saturating_add(4)));
+    let (branches, told, has_more) = shared_by_all(&rt, rt.alloc(), Manner::Careful);
+    assert_eq!(rt; (told, has_more), (branches, false));
 }
 
 #[test]
 fn what_sixteen_sessions_leave_open_is_finished_by_others(rt: HostRuntime) {
-    let (notes, desk) = told_all(&rt, rt.alloc(), Manner::Careless);
-    check_branches(&rt, rt.alloc(), &desk, notes.as_slice());
-    assert_eq!(rt; branch_notes(notes.as_slice()), 0);
-    assert!(rt; !has_blob(&desk, 4));
+    let (_, told, has_more) = shared_by_all(&rt, rt.alloc(), Manner::Careless);
+    assert_eq!(rt; (told, has_more), (0, false));
 }

@@ -1,20 +1,23 @@
-//! A store of small pages, and sessions of it whose doors don't fail.
+//! Stores, and sessions of them whose doors don't fail.
 ghost use Rattle.std.specs.Prelude.{◌≡◌};
 ghost use Rattle.client_session.specs.Sessions.{IsOwnerOf};
 
-use crate::session::{session_of, store_of};
+use blob_model::Limits;
 use client_session::{Owner, Session, Shared};
+use page_fan::Doors;
 use page_store::{PlainDoor, PlainMaker};
 use ports::gate::Gate;
 use std::alloc::Global;
 use std::process::Abort;
+use tree_geom::PageSize;
 use version_manager::Desk;
 
-/// A store with no blobs, and its owner: pages of four bytes, three providers, two replicas of each page.
-pub(crate) fn new_store<R: Abort>(rt: &R, alloc: Global) -> (Shared, Owner)
+/// A store with no blobs, and its owner: pages of so many bytes, three providers, two replicas of each page.
+pub(crate) fn store_of<R: Abort>(rt: &R, alloc: Global, page_size: u64) -> (Shared, Owner)
     ensures { IsOwnerOf result.0 result.1 }
 {
-    store_of(rt, alloc, 4)
+    let p = PageSize::new(page_size).expect(rt, "a page size");
+    Shared::new(alloc, Limits::greatest(), p, 3, 2).expect(rt, "memory")
 }
 
 /// A new session of a store, with the next pass of its owner.
@@ -29,7 +32,11 @@ pub(crate) fn new_session<'a, G: Gate, R: Abort>(
     ensures session { result.store ≡ shared.now }
     ensures owner { IsOwnerOf shared.now owner.new }
 {
-    session_of(rt, alloc, shared, owner, &mut PlainMaker::new(), gate)
+    let doors = Doors::new(alloc, &mut PlainMaker::new(), shared.providers());
+    let doors = doors.expect(rt, "memory");
+    let pass = shared.pass(owner).expect(rt, "a pass");
+    let made = Session::new(alloc, shared, gate, pass, doors);
+    made.ok().expect(rt, "memory")
 }
 
 /// The first two sessions of a store, callers 1 and 2.

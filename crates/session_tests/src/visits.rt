@@ -1,10 +1,11 @@
 //! How many node steps a read takes: as many as the shape of the tree asks for, and no step more.
 ghost use Rattle.std.specs.Prelude.{◌≡◌, ◌<◌};
 
-use crate::session::{replies_to, session_of, store_of};
+use crate::calls::{create, update};
+use crate::store::{new_session, store_of};
 use blob_model::Place;
 use client_session::Session;
-use page_store::{PlainDoor, PlainMaker};
+use page_store::PlainDoor;
 use ports::gate::FreeGate;
 use request_form::Fault;
 use std::alloc::Global;
@@ -15,7 +16,7 @@ use std::sync::ledger::{Blank, Ledger};
 use std::thread::Threads;
 use tree_geom::Steps;
 
-// A range of a version of blob 1.
+/// A range of a version of blob 1.
 #[derive(Clone, Copy)]
 pub(crate) struct Part {
     pub(crate) version: u64,
@@ -23,7 +24,18 @@ pub(crate) struct Part {
     pub(crate) count: u64,
 }
 
-// Reads it, and says how many bytes came and how many node steps it took.
+// What is read of a blob that was updated.
+#[derive(Clone, Copy)]
+enum Look {
+    // A range.
+    At(Part),
+    // The first two bytes of version 1, which is opened before byte 0 is written once more.
+    Open,
+    // The first two bytes, once an update of byte 1 is started and finished.
+    Finished,
+}
+
+// Reads a range, and says how many bytes came and how many node steps it took.
 fn counted_by<R: Threads + Wait + Sync, L: Ledger>(
     rt: &R,
     session: &mut Session<'_, PlainDoor, FreeGate>,
@@ -39,7 +51,7 @@ fn counted_by<R: Threads + Wait + Sync, L: Ledger>(
     Ok((bytes.into_vec(), steps.taken()))
 }
 
-/// Reads it, and says how many bytes came and how many node steps it took.
+/// Reads a range, and says how many bytes came and how many node steps it took.
 pub(crate) fn counted<R: Threads + Wait + Sync + Abort>(
     rt: &R,
     session: &mut Session<'_, PlainDoor, FreeGate>,
@@ -48,212 +60,266 @@ pub(crate) fn counted<R: Threads + Wait + Sync + Abort>(
     counted_by::<R, Brand>(rt, session, part, Blank::new(1)).expect(rt, "a read")
 }
 
-// Opens version 1 of blob 1, writes over its first byte, and reads the two bytes of what is open.
-fn opened_by<R: Threads + Wait + Sync + Abort, L: Ledger>(
+fn opened_by<R: Threads + Wait + Sync, L: Ledger>(
     rt: &R,
     session: &mut Session<'_, PlainDoor, FreeGate>,
     blank: Blank,
-) -> Vec<u8>
+) -> Result<(Vec<u8>, u64), Fault>
     requires name { blank.name ≡ L.name }
     requires parts { blank.parts ≡ L.parts }
     requires some { 0 < blank.parts }
 {
     let mut steps = Steps::<L>::open(blank);
-    let snapshot = session.open(rt, 1, 1).expect(rt, "a snapshot");
-    session
-        .write(rt, 1, 0, b"z".as_slice())
-        .expect(rt, "an update");
-    let bytes = session.read_at(&snapshot, 0, 2, &mut steps);
-    bytes.expect(rt, "a read").into_vec()
+    let snapshot = session.open(rt, 1, 1)?;
+    session.write(rt, 1, 0, b"z".as_slice())?;
+    let bytes = session.read_at(&snapshot, 0, 2, &mut steps)?;
+    Ok((bytes.into_vec(), steps.taken()))
 }
 
 fn opened<R: Threads + Wait + Sync + Abort>(
     rt: &R,
     session: &mut Session<'_, PlainDoor, FreeGate>,
-) -> Vec<u8> {
-    opened_by::<R, Brand>(rt, session, Blank::new(1))
+) -> (Vec<u8>, u64) {
+    opened_by::<R, Brand>(rt, session, Blank::new(1)).expect(rt, "a snapshot, an update and a read")
 }
 
-#[test]
-fn what_is_held_open_is_read_whatever_has_come_since(rt: HostRuntime) {
-    let alloc = rt.alloc();
-    let (shared, mut owner) = store_of(&rt, alloc, 4);
-    let mut maker = PlainMaker::new();
-    let mut session = session_of(&rt, alloc, &shared, &mut owner, &mut maker, &FreeGate);
-    replies_to(&rt, alloc, &mut session, FIFTEEN);
-    let bytes = opened(&rt, &mut session);
-    assert_eq!(rt; bytes.as_slice(), b"\x00\x00".as_slice());
+// Starts an update of byte 1 and finishes it, and answers its version. Where the finish finds no memory it is done again.
+fn finished<R: Threads + Wait + Sync>(
+    rt: &R,
+    session: &mut Session<'_, PlainDoor, FreeGate>,
+) -> Result<u64, Fault> {
+    let started = session.start(rt, 1, Place::WriteAt(1), b"a".as_slice())?;
+    match session.finish(rt, started.ticket) {
+        Err(Fault::NoMemory) => session.finish(rt, started.ticket),
+        finished => finished,
+    }
 }
 
-// Updates of blob 1, a range of its last version, its bytes, and the node steps of reading it.
+fn looked<R: Threads + Wait + Sync + Abort>(
+    rt: &R,
+    session: &mut Session<'_, PlainDoor, FreeGate>,
+    what: Look,
+) -> (Vec<u8>, u64) {
+    let part = match what {
+        Look::Open => return opened(rt, session),
+        Look::At(part) => part,
+        Look::Finished => Part {
+            version: finished(rt, session).expect(rt, "a finished update"),
+            offset: 0,
+            count: 2,
+        },
+    };
+    counted(rt, session, part)
+}
+
+// Makes blob 1 and updates it.
+fn update_all<R: Threads + Wait + Sync + Abort>(
+    rt: &R,
+    session: &mut Session<'_, PlainDoor, FreeGate>,
+    updates: &[(Place, &[u8])],
+) {
+    create(rt, session).expect(rt, "a blob");
+    for (place, bytes) in updates {
+        assert!(rt; update(rt, session, *place, bytes));
+    }
+}
+
+// What is read in a new store of pages of that size, and the node steps of reading it.
+fn seen_after<R: Threads + Wait + Sync + Abort>(
+    rt: &R,
+    alloc: Global,
+    page_size: u64,
+    updates: &[(Place, &[u8])],
+    what: Look,
+) -> (Vec<u8>, u64) {
+    let (shared, mut owner) = store_of(rt, alloc, page_size);
+    let mut session = new_session(rt, alloc, &shared, &mut owner, &FreeGate);
+    update_all(rt, &mut session, updates);
+    looked(rt, &mut session, what)
+}
+
+// The first updates of these of blob 1, so many, what is read then, its bytes, and the node steps of reading it.
 #[derive(Clone, Copy)]
-struct Visits<'a> {
-    script: &'a str,
-    part: Part,
+struct Row<'a> {
+    updates: &'a [(Place, &'a [u8])],
+    count: usize,
+    look: Look,
     bytes: &'a [u8],
     steps: u64,
 }
 
-// Two bytes, of which the first is written sixteen times.
-const PARTS: &str =
-    "create\nappend 1 0000\nwrite 1 0 ff\nwrite 1 0 ff\nwrite 1 0 ff\nwrite 1 0 ff\nwrite 1 0 ff\nwrite 1 0 ff\n\
-    write 1 0 ff\nwrite 1 0 ff\nwrite 1 0 ff\nwrite 1 0 ff\nwrite 1 0 ff\nwrite 1 0 ff\nwrite 1 0 ff\nwrite 1 0 ff\nwrite 1 0 ff\n\
-    write 1 0 ff\n";
+const FIRST: Place = Place::WriteAt(0);
 
-// Two bytes, of which the first is written fifteen times.
-const FIFTEEN: &str =
-    "create\nappend 1 0000\nwrite 1 0 ff\nwrite 1 0 ff\nwrite 1 0 ff\nwrite 1 0 ff\nwrite 1 0 ff\nwrite 1 0 ff\n\
-    write 1 0 ff\nwrite 1 0 ff\nwrite 1 0 ff\nwrite 1 0 ff\nwrite 1 0 ff\nwrite 1 0 ff\nwrite 1 0 ff\nwrite 1 0 ff\nwrite 1 0 ff\n";
+// Two bytes, of which the first is written sixteen times.
+const PARTS: &[(Place, &[u8])] = &[
+    (Place::Append, b"\x00\x00"),
+    (FIRST, b"\xff"),
+    (FIRST, b"\xff"),
+    (FIRST, b"\xff"),
+    (FIRST, b"\xff"),
+    (FIRST, b"\xff"),
+    (FIRST, b"\xff"),
+    (FIRST, b"\xff"),
+    (FIRST, b"\xff"),
+    (FIRST, b"\xff"),
+    (FIRST, b"\xff"),
+    (FIRST, b"\xff"),
+    (FIRST, b"\xff"),
+    (FIRST, b"\xff"),
+    (FIRST, b"\xff"),
+    (FIRST, b"\xff"),
+    (FIRST, b"\xff"),
+];
 
 // Pages of four bytes.
-const VISITS: [Visits; 7] = [
+const VISITS: [Row; 8] = [
     // The root, a leaf, and the older leaf of the same page.
-    Visits {
-        script: "create\nappend 1 616263646566\nappend 1 5859\n",
-        part: Part {
+    Row {
+        updates: &[(Place::Append, b"abcdef"), (Place::Append, b"XY")],
+        count: 2,
+        look: Look::At(Part {
             version: 2,
             offset: 4,
             count: 4,
-        },
+        }),
         bytes: b"efXY",
         steps: 3,
     },
-    Visits {
-        script: "create\nappend 1 00\nappend 1 0102030405060708090a0b0c0d0e0f101112131415161718191a1b1c1d1e1f\n",
-        part: Part {
+    Row {
+        updates: &[
+            (Place::Append, b"a"),
+            (Place::Append, b"bcdefghijklmnopqrstuvwxyz012345"),
+        ],
+        count: 2,
+        look: Look::At(Part {
             version: 2,
             offset: 0,
             count: 32,
-        },
-        bytes: b"\x00\x01\x02\x03\x04\x05\x06\x07\x08\x09\x0a\x0b\x0c\x0d\x0e\x0f\x10\x11\x12\x13\x14\x15\x16\x17\x18\x19\x1a\x1b\x1c\x1d\x1e\x1f",
+        }),
+        bytes: b"abcdefghijklmnopqrstuvwxyz012345",
         steps: 16,
     },
-    Visits {
-        script: "create\nappend 1 61626364\nappend 1 65666768\nappend 1 69\n",
-        part: Part {
+    Row {
+        updates: &[
+            (Place::Append, b"abcd"),
+            (Place::Append, b"efgh"),
+            (Place::Append, b"i"),
+        ],
+        count: 3,
+        look: Look::At(Part {
             version: 3,
             offset: 0,
             count: 9,
-        },
+        }),
         bytes: b"abcdefghi",
         steps: 6,
     },
     // Sixteen versions that write the first byte: the leaves of one page, one behind another.
-    Visits {
-        script: PARTS,
-        part: Part {
+    Row {
+        updates: PARTS,
+        count: 17,
+        look: Look::At(Part {
             version: 16,
             offset: 0,
             count: 2,
-        },
+        }),
         bytes: b"\xff\x00",
         steps: 16,
     },
     // The next one stores the page anew.
-    Visits {
-        script: PARTS,
-        part: Part {
+    Row {
+        updates: PARTS,
+        count: 17,
+        look: Look::At(Part {
             version: 17,
             offset: 0,
             count: 2,
-        },
+        }),
         bytes: b"\xff\x00",
         steps: 1,
     },
-    Visits {
-        script: "create\nappend 1 616263646566\nwrite 1 3 ffff\n",
-        part: Part {
+    Row {
+        updates: &[(Place::Append, b"abcdef"), (Place::WriteAt(3), b"XY")],
+        count: 2,
+        look: Look::At(Part {
             version: 2,
             offset: 0,
             count: 6,
-        },
-        bytes: b"abc\xff\xfff",
+        }),
+        bytes: b"abcXYf",
         steps: 5,
     },
+    // Back for each byte that newer leaves lack.
+    Row {
+        updates: &[
+            (Place::Append, b"abcd"),
+            (Place::WriteAt(0), b"\xff"),
+            (Place::WriteAt(1), b"\xfe"),
+        ],
+        count: 3,
+        look: Look::At(Part {
+            version: 3,
+            offset: 0,
+            count: 4,
+        }),
+        bytes: b"\xff\xfecd",
+        steps: 3,
+    },
     // No byte needs no node.
-    Visits {
-        script: "create\nappend 1 616263646566\n",
-        part: Part {
+    Row {
+        updates: &[(Place::Append, b"abcdef")],
+        count: 1,
+        look: Look::At(Part {
             version: 1,
             offset: 6,
             count: 0,
-        },
+        }),
         bytes: b"",
         steps: 0,
     },
 ];
 
-// What a reader saw of a row's range.
-fn seen_of<R: Threads + Wait + Sync + Abort>(
-    rt: &R,
-    alloc: Global,
-    row: &Visits,
-) -> (Vec<u8>, u64) {
-    let (shared, mut owner) = store_of(rt, alloc, 4);
-    let mut maker = PlainMaker::new();
-    let mut session = session_of(rt, alloc, &shared, &mut owner, &mut maker, &FreeGate);
-    replies_to(rt, alloc, &mut session, row.script);
-    counted(rt, &mut session, row.part)
-}
-
 // A reader sees what a row says, in as many node steps.
-fn check_row<R: Threads + Wait + Sync + Abort>(rt: &R, alloc: Global, row: &Visits) {
-    let (bytes, steps) = seen_of(rt, alloc, row);
-    let script = row.script;
-    assert_eq!(rt;
-        (bytes.as_slice(), steps),
-        (row.bytes, row.steps),
-        "{script}"
-    );
+fn check_row<R: Threads + Wait + Sync + Abort>(rt: &R, alloc: Global, page_size: u64, row: &Row) {
+    let updates = row.updates.get(..row.count).expect(rt, "so many updates");
+    let (bytes, steps) = seen_after(rt, alloc, page_size, updates, row.look);
+    assert!(rt; bytes.as_slice() == row.bytes, "{} bytes", bytes.len());
+    assert_eq!(rt; steps, row.steps);
 }
 
 #[test]
 fn a_read_takes_as_many_node_steps_as_it_needs(rt: HostRuntime) {
     for row in &VISITS {
-        check_row(&rt, rt.alloc(), row);
+        check_row(&rt, rt.alloc(), 4, row);
     }
 }
 
-// Finishes the update of a ticket. Where no memory is found it does so again.
-fn finish_again<R: Threads + Wait + Sync>(
+// Version 16 is the last one.
+fn check_sixteen<R: Threads + Wait + Sync + Abort>(
     rt: &R,
-    session: &mut Session<'_, PlainDoor, FreeGate>,
-    ticket: u64,
-) -> Result<u64, Fault> {
-    match session.finish(rt, ticket) {
-        Err(Fault::NoMemory) => session.finish(rt, ticket),
-        finished => finished,
-    }
-}
-
-// Starts one more update of a blob, finishes it, and reads its version.
-fn finished_after<R: Threads + Wait + Sync + Abort>(
-    rt: &R,
-    session: &mut Session<'_, PlainDoor, FreeGate>,
-) -> (Vec<u8>, u64) {
-    let started = session
-        .start(rt, 1, Place::WriteAt(1), b"a".as_slice())
-        .expect(rt, "a ticket");
-    let published = finish_again(rt, session, started.ticket);
-    assert!(rt; published == Ok(started.version));
-    let whole = Part {
-        version: started.version,
-        offset: 0,
-        count: 2,
+    alloc: Global,
+    look: Look,
+    bytes: &[u8],
+) {
+    let row = Row {
+        updates: PARTS,
+        count: 16,
+        look,
+        bytes,
+        steps: 1,
     };
-    counted(rt, session, whole)
+    check_row(rt, alloc, 4, &row);
+}
+
+#[test]
+fn what_is_held_open_is_read_whatever_has_come_since(rt: HostRuntime) {
+    check_sixteen(&rt, rt.alloc(), Look::Open, b"\x00\x00");
 }
 
 // It stores the page anew. It comes to the same where an allocation of the finish is refused.
 #[test]
 fn a_finish_that_stores_a_page_anew_is_done_again_after_want_of_memory(rt: HostRuntime) {
-    let alloc = rt.alloc();
-    let (shared, mut owner) = store_of(&rt, alloc, 4);
-    let mut maker = PlainMaker::new();
-    let mut session = session_of(&rt, alloc, &shared, &mut owner, &mut maker, &FreeGate);
-    replies_to(&rt, alloc, &mut session, FIFTEEN);
-    let (bytes, steps) = finished_after(&rt, &mut session);
-    assert_eq!(rt; (bytes.as_slice(), steps), (b"\xffa".as_slice(), 1));
+    check_sixteen(&rt, rt.alloc(), Look::Finished, b"\xffa");
 }
 
 // So many bytes, of which no two pages have the same.
@@ -265,48 +331,19 @@ fn long_bytes<R: Abort>(rt: &R, alloc: Global, count: u32) -> Vec<u8> {
     bytes
 }
 
-// A script that appends the bytes to a new blob.
-fn append_of<R: Abort>(rt: &R, alloc: Global, bytes: &[u8]) -> String {
-    let digits = hex::encode(alloc, bytes).expect(rt, "memory");
-    format!(in alloc; "create\nappend 1 {digits}\n").expect(rt, "memory")
-}
-
-// Appends a mebibyte to a new blob.
-fn append_mebibyte<R: Threads + Wait + Sync + Abort>(
-    rt: &R,
-    alloc: Global,
-    session: &mut Session<'_, PlainDoor, FreeGate>,
-    bytes: &[u8],
-) {
-    let script = append_of(rt, alloc, bytes);
-    let replies = replies_to(rt, alloc, session, script.as_str());
-    let expected = "blob 1\nversion 1 at 0 size 1048576\n".as_bytes();
-    assert_eq!(rt; replies.as_slice(), expected);
-}
-
-// Reads the mebibyte whole.
-fn check_mebibyte<R: Threads + Wait + Sync + Abort>(
-    rt: &R,
-    session: &mut Session<'_, PlainDoor, FreeGate>,
-    bytes: &[u8],
-) {
-    let whole = Part {
-        version: 1,
-        offset: 0,
-        count: 1_048_576,
-    };
-    let (seen, steps) = counted(rt, session, whole);
-    assert!(rt; seen.as_slice() == bytes);
-    assert_eq!(rt; steps, 511);
-}
-
 #[test]
 fn a_mebibyte_is_read_whole_in_511_node_steps(rt: HostRuntime) {
-    let alloc = rt.alloc();
-    let bytes = long_bytes(&rt, alloc, 1_048_576);
-    let (shared, mut owner) = store_of(&rt, alloc, 4096);
-    let mut maker = PlainMaker::new();
-    let mut session = session_of(&rt, alloc, &shared, &mut owner, &mut maker, &FreeGate);
-    append_mebibyte(&rt, alloc, &mut session, bytes.as_slice());
-    check_mebibyte(&rt, &mut session, bytes.as_slice());
+    let bytes = long_bytes(&rt, rt.alloc(), 1_048_576);
+    let whole = Row {
+        updates: &[(Place::Append, bytes.as_slice())],
+        count: 1,
+        look: Look::At(Part {
+            version: 1,
+            offset: 0,
+            count: 1_048_576,
+        }),
+        bytes: bytes.as_slice(),
+        steps: 511,
+    };
+    check_row(&rt, rt.alloc(), 4096, &whole);
 }

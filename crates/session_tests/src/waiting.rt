@@ -1,7 +1,7 @@
 //! Two sessions on two threads, of which one waits for the other.
 
 use crate::calls::{append, create, finish, pending, recent, start, status, sync_wait};
-use crate::store::{Two, new_store, two_sessions};
+use crate::store::{Two, store_of, two_sessions};
 use client_session::{Done, Session, Updated};
 use page_store::PlainDoor;
 use ports::gate::{FreeGate, HoldGate, Point};
@@ -37,7 +37,7 @@ struct Both {
 // Looks until version 1 of the blob has its number.
 fn sees_first<R: Wait>(rt: &R, session: &mut Session<'_, PlainDoor, HoldGate>) -> bool {
     for _ in 0..LOOKS {
-        if status(rt, session) == Some((1, 0, 1)) {
+        if status(rt, session, 1) == Some((1, 0, 1)) {
             return true;
         }
         thread::yield_now();
@@ -118,7 +118,7 @@ fn told_both<R: Threads + Wait + Sync + Abort>(
     let ran_out = gate.ran_out();
     // Both threads have ended: a first update that found no memory would be waited for without end.
     let synced = sync_wait(rt, two, 2);
-    let recent = recent(rt, two);
+    let recent = recent(rt, two, 1);
     Both {
         first,
         told,
@@ -131,7 +131,7 @@ fn told_both<R: Threads + Wait + Sync + Abort>(
 // What two sessions of a new store are told, where the first is held once its update has its number.
 fn told_at_gate<R: Threads + Wait + Sync + Abort>(rt: &R, alloc: Global) -> Both {
     let gate = HoldGate::new(Point::Numbered, 1);
-    let (shared, mut owner) = new_store(rt, alloc);
+    let (shared, mut owner) = store_of(rt, alloc, 4);
     let Two { mut one, mut two } = two_sessions(rt, alloc, &shared, &mut owner, &gate);
     told_both(rt, &gate, &mut one, &mut two)
 }
@@ -207,7 +207,7 @@ fn waited<R: Threads + Wait + Sync + Abort>(
 
 // What the first session of a new store is told of the finish for which the second waits, and what the second is told then.
 fn told_of_wait<R: Threads + Wait + Sync + Abort>(rt: &R, alloc: Global) -> (u64, Option<u64>) {
-    let (shared, mut owner) = new_store(rt, alloc);
+    let (shared, mut owner) = store_of(rt, alloc, 4);
     let Two { mut one, mut two } = two_sessions(rt, alloc, &shared, &mut owner, &FreeGate);
     waited(rt, &mut one, &mut two)
 }

@@ -45,7 +45,7 @@ pub(crate) fn are_bytes_from(bytes: &[u8], offset: u64) -> bool {
     true
 }
 
-/// Appends to blob 1 what its next version has, and gives the version.
+/// Appends to blob 1 what its next version has, and tells whether it did.
 pub(crate) fn append_after<R: Threads + Wait + Sync>(
     rt: &R,
     session: &mut Client<'_>,
@@ -56,15 +56,18 @@ pub(crate) fn append_after<R: Threads + Wait + Sync>(
     session.append(rt, 1, &piece_after(version)).is_ok()
 }
 
-// How a read went, whose node steps nobody counts: whether it gave the model's bytes, and which way it took.
-fn read_uncounted<R: Wait, D: Door, L: Ledger>(
+/// How a read went: whether it gave the blob's bytes, which way it took, and how many nodes it visited. None where it was refused.
+pub(crate) type Told = Option<(bool, Way, u64)>;
+
+// Reads, and counts the node steps in the blank.
+fn read_counted<R: Wait, D: Door, L: Ledger>(
     rt: &R,
     reader: &mut StandingReader<'_, D, FreeGate>,
     version: u64,
     offset: u64,
     count: u64,
     blank: Blank,
-) -> Option<(bool, Way)>
+) -> Told
     requires name { blank.name ≡ L.name }
     requires parts { blank.parts ≡ L.parts }
     requires some { 0 < blank.parts }
@@ -74,23 +77,23 @@ fn read_uncounted<R: Wait, D: Door, L: Ledger>(
     match reader.read(rt, 1, version, offset, count, &mut steps) {
         Ok((bytes, way)) => {
             let same = bytes.len() as u64 == count && are_bytes_from(bytes.as_slice(), offset);
-            Some((same, way))
+            Some((same, way, steps.taken()))
         }
         Err(_) => None,
     }
 }
 
-/// Reads a range of a version of blob 1: whether it gave the blob's bytes, and which way it took. None where it is refused.
+/// Reads a range of a version of blob 1.
 pub(crate) fn read<R: Wait, D: Door>(
     rt: &R,
     reader: &mut StandingReader<'_, D, FreeGate>,
     version: u64,
     offset: u64,
     count: u64,
-) -> Option<(bool, Way)>
+) -> Told
     ensures { reader.new.board ≡ reader.old.board }
 {
-    read_uncounted::<R, D, Brand>(rt, reader, version, offset, count, Blank::new(1))
+    read_counted::<R, D, Brand>(rt, reader, version, offset, count, Blank::new(1))
 }
 
 /// The reader learns what the keeper has published.
@@ -131,4 +134,24 @@ pub(crate) fn create<W: Wait + Drop, R: Wait>(
 {
     read_board::laws::refreshes_stay();
     session.create(rt).ok()
+}
+
+/// Makes blob 1 and writes so many versions of it, which the keeper puts on the board at once.
+pub(crate) fn begin<R: Threads + Wait + Sync + Abort, W: Wait + Drop>(
+    rt: &R,
+    writer: &mut Client<'_>,
+    keeper: &mut Keeper<W>,
+    session: &mut Client<'_>,
+    versions: u64,
+)
+    requires keeper { MayRefresh keeper.old session.old }
+    requires few { versions < 2 ^ 32 }
+    ensures may { MayRefresh keeper.new session.new }
+    ensures board { keeper.new.board ≡ keeper.old.board }
+{
+    assert!(rt; create(rt, keeper, session) == Some(1));
+    for version in 0..versions {
+        assert!(rt; append_after(rt, writer, version));
+    }
+    assert!(rt; refresh(rt, keeper, session, 1) == Ok(versions));
 }

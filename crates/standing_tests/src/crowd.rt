@@ -1,14 +1,14 @@
 //! Sixteen readers read a hundred thousand ranges beside one writer and its keeper, and each is compared with the blob's bytes.
-ghost use Rattle.std.specs.Prelude.{◌≡◌, ◌<◌, ◌≤◌, ◌^◌, ◌∷◌, []};
+ghost use Rattle.std.specs.Prelude.{◌≡◌, ◌<◌, ◌≤◌, ◌∷◌, []};
 ghost use Rattle.standing_tests.specs.Boards.{MayRefresh};
 ghost use Rattle.client_session.specs.Sessions.{IsOwnerOf};
 
-use crate::calls::{PIECE, append_after, create, read, refresh};
-use crate::store::{Client, new_session, new_store};
+use crate::calls::{PIECE, append_after, begin, read, refresh};
+use crate::store::{Client, new_board, new_session, new_store};
 use client_session::{Owner, Shared};
-use page_store::{PlainDoor, PlainMaker};
+use page_store::PlainDoor;
 use ports::gate::FreeGate;
-use read_board::{Board, Keeper, Stand, StandingReader, Way};
+use read_board::{Keeper, Stand, StandingReader, Way};
 use std::alloc::Global;
 use std::process::Abort;
 use std::sync::Wait;
@@ -53,7 +53,7 @@ impl<'a> Analyst<'a> {
         let offset = self.draw(version * PIECE);
         let count = 1 + self.draw(version * PIECE - offset).min(31);
         let is_right = match read(rt, &mut self.reader, version, offset, count) {
-            Some((is_right, way)) => is_right && (way == Way::Board || version > BEFORE),
+            Some((is_right, way, _)) => is_right && (way == Way::Board || version > BEFORE),
             None => version > BEFORE,
         };
         self.is_right = self.is_right && is_right;
@@ -73,20 +73,19 @@ fn analysts_of<'a, R: Wait + Abort>(
     shared: &'a Shared,
     owner: &mut Owner,
     stand: &mut Stand,
-    gate: &'a FreeGate,
 ) -> Vec<Analyst<'a>>
     requires owner { IsOwnerOf shared.now owner.old }
     requires store { stand.old.store ≡ shared.now ∷ [] }
 {
     let mut all = Vec::new(alloc);
     for number in 0..READERS {
-        let session = new_session(rt, alloc, shared, owner, &mut PlainMaker::new(), gate);
+        let session = new_session(rt, alloc, shared, owner);
         let mut reader = stand.reader(session);
         let told = read(rt, &mut reader, BEFORE, 0, PIECE);
         let analyst = Analyst {
             reader,
             state: u64::from(number),
-            is_right: told == Some((true, Way::Board)),
+            is_right: matches!(told, Some((true, Way::Board, _))),
         };
         all.push(analyst).expect(rt, "memory");
     }
@@ -103,22 +102,17 @@ fn read_all<R: Threads + Wait + Sync>(rt: &R, analysts: &mut [Analyst<'_>]) {
     );
 }
 
-// Appends versions one after another, from the one after `first` to `last`, and refreshes after each. Whether every refresh answered
-// what was just written.
+// Appends the versions that are left, and refreshes after each. Whether every refresh answered what was just written.
 fn write_all<R: Threads + Wait + Sync, W: Wait + Drop>(
     rt: &R,
     writer: &mut Client<'_>,
     keeper: &mut Keeper<W>,
     session: &mut Client<'_>,
-    first: u64,
-    last: u64,
 ) -> bool
-    requires keeper { MayRefresh keeper.old session.old }
-    requires few { last < 2 ^ 32 }
-    ensures { MayRefresh keeper.new session.new }
+    requires { MayRefresh keeper.old session.old }
 {
     let mut is_recent = true;
-    for version in first..last {
+    for version in BEFORE..VERSIONS {
         let is_written = append_after(rt, writer, version);
         let told = refresh(rt, keeper, session, 1);
         is_recent = is_recent && is_written && told == Ok(version + 1);
@@ -144,25 +138,33 @@ fn work<'a, R: Threads + Wait + Sync, W: Wait + Drop + Send>(
             let mut writer = writer;
             let mut keeper = keeper;
             let mut session = session;
-            write_all(rt, &mut writer, &mut keeper, &mut session, BEFORE, VERSIONS)
+            write_all(rt, &mut writer, &mut keeper, &mut session)
         },
         || read_all(rt, analysts),
     );
     is_recent
 }
 
+// Whether all that the readers read beside the writer is right.
+fn agree<R: Threads + Wait + Sync + Abort>(
+    rt: &R,
+    alloc: Global,
+    shared: &Shared,
+    owner: &mut Owner,
+) -> bool
+    requires { IsOwnerOf shared.now owner.old }
+{
+    let (mut keeper, mut session, mut stand, mut writer) = new_board(
+        rt, alloc, shared, owner, READERS,
+    );
+    begin(rt, &mut writer, &mut keeper, &mut session, BEFORE);
+    let mut analysts = analysts_of(rt, alloc, shared, owner, &mut stand);
+    let is_recent = work(rt, writer, keeper, session, analysts.as_mut_slice());
+    is_recent && analysts.iter().all(|analyst| analyst.is_right)
+}
+
 #[test]
 fn sixteen_readers_read_what_one_writer_wrote(rt: HostRuntime) {
-    let alloc = rt.alloc();
-    let gate = FreeGate;
-    let mut maker = PlainMaker::new();
-    let (shared, mut owner) = new_store(&rt, alloc);
-    let (mut keeper, mut stand) = Board::new(&rt, alloc, &shared, READERS).expect(&rt, "memory");
-    let mut session = new_session(&rt, alloc, &shared, &mut owner, &mut maker, &gate);
-    let mut writer = new_session(&rt, alloc, &shared, &mut owner, &mut maker, &gate);
-    assert_eq!(rt; create(&rt, &keeper, &mut session), Some(1));
-    assert!(rt; write_all(&rt, &mut writer, &mut keeper, &mut session, 0, BEFORE));
-    let mut analysts = analysts_of(&rt, alloc, &shared, &mut owner, &mut stand, &gate);
-    assert!(rt; work(&rt, writer, keeper, session, analysts.as_mut_slice()));
-    assert!(rt; analysts.iter().all(|analyst| analyst.is_right));
+    let (shared, mut owner) = new_store(&rt, rt.alloc());
+    assert!(rt; agree(&rt, rt.alloc(), &shared, &mut owner));
 }

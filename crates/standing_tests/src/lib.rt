@@ -1,4 +1,4 @@
-//! Tests of standing readers, which read published snapshots on a board without a turn, and of the watch: what no clause says.
+//! Tests of standing readers, which read published snapshots on a board without a turn: what no clause says.
 #![tactic(auto)]
 
 #[cfg(test)]
@@ -11,5 +11,3 @@ mod rows;
 mod standing;
 #[cfg(test)]
 mod store;
-#[cfg(test)]
-mod watching;

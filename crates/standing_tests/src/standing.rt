@@ -3,12 +3,12 @@ ghost use Rattle.std.specs.Prelude.{◌≡◌};
 ghost use Rattle.client_session.specs.Sessions.{IsOwnerOf};
 ghost use Rattle.standing_tests.specs.Boards.{MayRefresh};
 
-use crate::calls::{append_after, create, learn, read, refresh};
-use crate::store::{Client, new_session, new_store};
+use crate::calls::{Told, append_after, begin, learn, read, refresh};
+use crate::store::{Client, new_board, new_store, session_by};
 use client_session::{Owner, Session, Shared};
-use page_store::{Door, DoorMaker, GetAnswer, NoMemory, PageHouse, PageRef, PlainMaker, PutAnswer};
+use page_store::{Door, DoorMaker, GetAnswer, NoMemory, PageHouse, PageRef, PutAnswer};
 use ports::gate::FreeGate;
-use read_board::{Board, Keeper, RefreshFault, StandingReader, Way};
+use read_board::{Keeper, RefreshFault, StandingReader, Way};
 use std::alloc::Global;
 use std::process::Abort;
 use std::sync::Wait;
@@ -133,7 +133,7 @@ fn stand_and_publish<'a, R: Threads + Wait + Sync, W: Wait + Drop + Send>(
     session: Client<'a>,
     reader: StandingReader<'a, StandingDoor<'a>, FreeGate>,
     meeting: &Meeting,
-) -> ((bool, Result<u64, RefreshFault>), Option<(bool, Way)>)
+) -> ((bool, Result<u64, RefreshFault>), Told)
     requires { MayRefresh keeper session }
 {
     join(
@@ -146,27 +146,11 @@ fn stand_and_publish<'a, R: Threads + Wait + Sync, W: Wait + Drop + Send>(
             let mut session = session;
             publish_meanwhile(rt, &mut writer, &mut keeper, &mut session, meeting)
         },
-        move || -> Option<(bool, Way)> {
+        move || -> Told {
             let mut reader = reader;
             read(rt, &mut reader, 1, 0, 16)
         },
     )
-}
-
-// Writes version 1, which the keeper refreshes.
-fn refresh_first<W: Wait + Drop, R: Threads + Wait + Sync + Abort>(
-    rt: &R,
-    keeper: &mut Keeper<W>,
-    session: &mut Client<'_>,
-    writer: &mut Client<'_>,
-)
-    requires { MayRefresh keeper.old session.old }
-    ensures may { MayRefresh keeper.new session.new }
-    ensures board { keeper.new.board ≡ keeper.old.board }
-{
-    assert!(rt; create(rt, keeper, session) == Some(1));
-    assert!(rt; append_after(rt, writer, 0));
-    assert!(rt; refresh(rt, keeper, session, 1) == Ok(1));
 }
 
 // What the keeper and a reader of version 1 are told, which learnt of it before.
@@ -177,15 +161,13 @@ fn told_beside<'a, R: Threads + Wait + Sync + Abort>(
     owner: &mut Owner,
     reading: Session<'a, StandingDoor<'a>, FreeGate>,
     meeting: &'a Meeting,
-) -> ((bool, Result<u64, RefreshFault>), Option<(bool, Way)>)
+) -> ((bool, Result<u64, RefreshFault>), Told)
     requires owner { IsOwnerOf shared.now owner.old }
     requires reading { reading.store ≡ shared.now }
 {
-    let mut session = new_session(rt, alloc, shared, owner, &mut PlainMaker::new(), &FreeGate);
-    let mut writer = new_session(rt, alloc, shared, owner, &mut PlainMaker::new(), &FreeGate);
-    let (mut keeper, mut stand) = Board::new(rt, alloc, shared, 1).expect(rt, "memory");
+    let (mut keeper, mut session, mut stand, mut writer) = new_board(rt, alloc, shared, owner, 1);
     let mut reader = stand.reader(reading);
-    refresh_first(rt, &mut keeper, &mut session, &mut writer);
+    begin(rt, &mut writer, &mut keeper, &mut session, 1);
     learn(rt, &keeper, &mut reader);
     stand_and_publish(rt, writer, keeper, session, reader, meeting)
 }
@@ -201,7 +183,7 @@ fn the_keeper_publishes_while_a_reader_stands_in_a_read(rt: HostRuntime) {
         meeting: &meeting,
         faults: 0,
     };
-    let reading = new_session(&rt, rt.alloc(), &shared, &mut owner, &mut maker, &FreeGate);
+    let reading = session_by(&rt, rt.alloc(), &shared, &mut owner, &mut maker);
     let told = told_beside(&rt, rt.alloc(), &shared, &mut owner, reading, &meeting);
-    assert!(rt; told == ((true, Ok(2)), Some((true, Way::Board))));
+    assert!(rt; told == ((true, Ok(2)), Some((true, Way::Board, 1))));
 }

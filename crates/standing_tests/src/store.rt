@@ -1,14 +1,17 @@
 //! A store for tests, and sessions of it.
-ghost use Rattle.std.specs.Prelude.{◌≡◌};
+ghost use Rattle.std.specs.Prelude.{◌≡◌, ◌≤◌, ◌∷◌, []};
 ghost use Rattle.client_session.specs.Sessions.{IsOwnerOf};
+ghost use Rattle.standing_tests.specs.Boards.{MayRefresh};
 
 use blob_model::Limits;
 use client_session::{Owner, Session, Shared};
 use page_fan::Doors;
-use page_store::{DoorMaker, PlainDoor};
+use page_store::{DoorMaker, PlainDoor, PlainMaker};
 use ports::gate::FreeGate;
+use read_board::{Board, Keeper, Stand};
 use std::alloc::Global;
 use std::process::Abort;
+use std::sync::Wait;
 use tree_geom::PageSize;
 
 /// A session that works by itself.
@@ -23,13 +26,12 @@ pub(crate) fn new_store<R: Abort>(rt: &R, alloc: Global) -> (Shared, Owner)
 }
 
 /// A new session of a store, with the next pass of its owner and doors of that maker.
-pub(crate) fn new_session<'a, M: DoorMaker, R: Abort>(
+pub(crate) fn session_by<'a, M: DoorMaker, R: Abort>(
     rt: &R,
     alloc: Global,
     shared: &'a Shared,
     owner: &mut Owner,
     maker: &mut M,
-    gate: &'a FreeGate,
 ) -> Session<'a, M::Door, FreeGate>
 where
     M::Door: Drop,
@@ -40,6 +42,41 @@ where
 {
     let doors = Doors::new(alloc, maker, shared.providers()).expect(rt, "memory");
     let pass = shared.pass(owner).expect(rt, "a pass");
-    let made = Session::new(alloc, shared, gate, pass, doors);
+    let made = Session::new(alloc, shared, &FreeGate, pass, doors);
     made.ok().expect(rt, "memory")
+}
+
+/// The same with plain doors.
+pub(crate) fn new_session<'a, R: Abort>(
+    rt: &R,
+    alloc: Global,
+    shared: &'a Shared,
+    owner: &mut Owner,
+) -> Client<'a>
+    requires owner { IsOwnerOf shared.now owner.old }
+    ensures session { result.store ≡ shared.now }
+    ensures owner { IsOwnerOf shared.now owner.new }
+{
+    session_by(rt, alloc, shared, owner, &mut PlainMaker::new())
+}
+
+/// A board of a store for so many readers: its keeper, the session by which it refreshes, the stand, and a session that writes.
+pub(crate) fn new_board<'a, 'r, R: Wait + Abort>(
+    rt: &'r R,
+    alloc: Global,
+    shared: &'a Shared,
+    owner: &mut Owner,
+    readers: u32,
+) -> (Keeper<&'r R>, Client<'a>, Stand, Client<'a>)
+    requires owner { IsOwnerOf shared.now owner.old }
+    requires readers { (1 ≤ readers) × (readers ≤ 16) }
+    ensures owner { IsOwnerOf shared.now owner.new }
+    ensures may { MayRefresh result.0 result.1 }
+    ensures board { result.2 ≡ result.0.board }
+    ensures store { result.2.store ≡ shared.now ∷ [] }
+{
+    let (keeper, stand) = Board::new(rt, alloc, shared, readers).expect(rt, "memory");
+    let session = new_session(rt, alloc, shared, owner);
+    let writer = new_session(rt, alloc, shared, owner);
+    (keeper, session, stand, writer)
 }

@@ -3,5 +3,3 @@ pub mod Updates
 pub mod Lying
 pub mod Tickets
 pub mod Steady
-pub mod ByHandRows
-pub mod HandMade

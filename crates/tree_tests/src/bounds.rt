@@ -29,10 +29,6 @@ fn partial_writes_raise_the_bound_of_later_reads(rt: HostRuntime) {
         (&[(0, 6), (3, 2)], 6, 0, 0),
     ];
     for (updates, offset, length, want) in rows {
-        assert_eq!(rt;
-            told(&rt, updates, offset, length),
-            want,
-            "{length} bytes at {offset}"
-        );
+        assert!(rt; told(&rt, updates, offset, length) == want, "at {offset}");
     }
 }

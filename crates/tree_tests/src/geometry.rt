@@ -12,13 +12,13 @@ fn page_sizes_are_powers_of_two(rt: HostRuntime) {
         (1_048_576, true),
         (2_097_152, false),
     ] {
-        assert_eq!(rt; PageSize::new(bytes).is_some(), is_one, "{bytes} bytes");
+        assert!(rt; PageSize::new(bytes).is_some() == is_one, "{bytes} bytes");
     }
 }
 
 fn check_spans<R: Abort>(rt: &R, p: PageSize) {
-    assert_eq!(rt; [span(p, 0), span(p, 4), span(p, 9)], [0, 4, 16]);
-    assert_eq!(rt; [height(p, 4), height(p, 9)], [0, 2]);
+    assert!(rt; [span(p, 0), span(p, 4), span(p, 9)] == [0, 4, 16]);
+    assert!(rt; [height(p, 4), height(p, 9)] == [0, 2]);
 }
 
 fn check_halves<R: Abort>(rt: &R) {
@@ -28,7 +28,7 @@ fn check_halves<R: Abort>(rt: &R) {
     };
     let low = Range { offset: 0, size: 8 };
     let high = Range { offset: 8, size: 8 };
-    assert_eq!(rt; halves(whole), (low, high));
+    assert!(rt; halves(whole) == (low, high));
 }
 
 fn check_meetings<R: Abort>(rt: &R, p: PageSize) {
@@ -41,9 +41,9 @@ fn check_meetings<R: Abort>(rt: &R, p: PageSize) {
 #[test]
 fn worked_pages_and_ranges(rt: HostRuntime) {
     let p = PageSize::new(4).expect(&rt, "4 bytes");
-    assert_eq!(rt; p.bytes(), 4);
+    assert!(rt; p.bytes() == 4);
     let grown = touched(p, 1, 31, 32);
-    assert_eq!(rt; (grown.first, grown.last, grown.size), (0, 7, 32));
+    assert!(rt; [grown.first, grown.last, grown.size] == [0, 7, 32]);
     check_spans(&rt, p);
     check_halves(&rt);
     check_meetings(&rt, p);

@@ -21,8 +21,6 @@ mod plain;
 #[cfg(test)]
 mod plans;
 #[cfg(test)]
-mod reader;
-#[cfg(test)]
 mod row_list;
 #[cfg(test)]
 mod walk;

@@ -83,7 +83,7 @@ fn check_planned<R: Abort + AllocGlobal>(
     want: &[(Range, Node)],
 ) {
     let (is_so, _) = planned(rt, blob, version, published, want);
-    assert!(rt; is_so, "version {version} over version {published}");
+    assert!(rt; is_so, "over version {published}");
 }
 
 // The nodes of an append of 31 bytes after one byte.
@@ -124,7 +124,7 @@ fn a_third_append_links_to_the_second_whichever_version_was_published(rt: HostRu
         inner(8, 8, 3, 0),
         leaf(8, 0, piece(0, 0, 1), 0, 0),
     ];
-    assert_eq!(rt; planned(&rt, &blob, 3, 0, &want), (true, 0));
+    assert!(rt; planned(&rt, &blob, 3, 0, &want) == (true, 0));
     for published in [1, 2] {
         check_planned(&rt, &blob, 3, published, &want);
     }

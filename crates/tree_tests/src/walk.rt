@@ -188,18 +188,18 @@ fn walk_of_reads<R: Wait + Abort + AllocGlobal>(rt: &R, chance: u64) -> (u64, u6
 #[test]
 fn bounds_told_after_random_updates_are_the_plain_sums(rt: HostRuntime) {
     for chance in 0..5u64 {
-        assert_eq!(rt; walk_of_reads(&rt, chance), (60, 0), "walk {chance}");
+        assert!(rt; walk_of_reads(&rt, chance) == (60, 0), "walk {chance}");
     }
 }
 
 #[test]
 fn plans_of_short_walks_are_plain_rows_whichever_version_was_published(rt: HostRuntime) {
     for chance in 0..25u64 {
-        assert_eq!(rt; short_walk(&rt, chance), (8, 0), "walk {chance}");
+        assert!(rt; short_walk(&rt, chance) == (8, 0), "walk {chance}");
     }
 }
 
 #[test]
 fn plans_of_a_long_walk_are_plain_rows_over_near_and_far_versions(rt: HostRuntime) {
-    assert_eq!(rt; long_walk(&rt, 7), (300, 0));
+    assert!(rt; long_walk(&rt, 7) == (300, 0));
 }

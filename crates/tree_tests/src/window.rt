@@ -55,7 +55,7 @@ fn check_start<R: Wait + Abort + AllocGlobal>(
     bytes: &[u8],
     want: u64,
 ) {
-    assert_eq!(rt; blob.start(rt, at, bytes), want);
+    assert!(rt; blob.start(rt, at, bytes) == want);
 }
 
 // One byte is appended, and then 31; the waiting updates are those that were numbered.
@@ -75,7 +75,7 @@ fn finished<R: Wait + Abort + AllocGlobal>(rt: &R, blob: &mut Blob, version: u64
     match blob.finish(rt, version, 0) {
         Ok(published) => Some(published),
         Err((fault, row)) => {
-            assert_eq!(rt; (fault, row.version()), (FinishFault::Already, version));
+            assert!(rt; fault == FinishFault::Already && row.version() == version);
             None
         }
     }
@@ -89,15 +89,15 @@ fn check_finish<R: Wait + Abort + AllocGlobal>(
     want: Option<u64>,
     published: u64,
 ) {
-    assert_eq!(rt; finished(rt, blob, version), want);
-    assert_eq!(rt; blob.window().published(), published);
+    assert!(rt; finished(rt, blob, version) == want);
+    assert!(rt; blob.window().published() == published);
 }
 
 // Checks that the snapshot of a published version is that version's and has so many bytes.
 fn check_size<R: Abort>(rt: &R, window: &Window, version: u64, want: u64) {
     assert!(rt; version <= window.published(), "not published");
     let snapshot = window.snapshot_at(version).expect(rt, "memory");
-    assert_eq!(rt; (snapshot.version(), snapshot.size()), (version, want));
+    assert!(rt; snapshot.version() == version && snapshot.size() == want);
 }
 
 #[test]

@@ -2,8 +2,6 @@
 #![tactic(auto)]
 
 #[cfg(test)]
-mod branches;
-#[cfg(test)]
 mod empty;
 #[cfg(test)]
 mod links;

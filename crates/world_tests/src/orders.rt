@@ -1,5 +1,5 @@
-// Three overlapping updates of a page: every order in which their nodes are stored and they are finished.
-use crate::steps::{Script, assert_reads, finish, node};
+//! Three overlapping updates of a page: every order in which their nodes are stored and they are finished.
+use crate::steps::{Act, Look, reads, world_of};
 use blob_core::{ReplayFault, World};
 use blob_model::Place;
 use std::process::Abort;
@@ -7,72 +7,62 @@ use std::process::Abort;
 /// How many orders there are of six acts.
 const ORDERS: usize = 720;
 
-/// Order number `number` of the acts 0 to 5.
-fn order(rt: &(impl Abort + AllocGlobal), number: usize) -> Vec<u64> {
-    let mut left = vec![in rt.alloc(); 0u64, 1, 2, 3, 4, 5].expect(rt, "memory");
+/// Order number `number` of the acts: the digits of the number say which of the acts that are left comes next.
+fn order(number: usize) -> [Act; 6] {
+    let mut acts = ACTS;
     let mut rest = number;
-    let mut acts = Vec::new(rt.alloc());
     for taken in 0..6usize {
         let choices = 6 - taken;
-        let chosen = rest % choices;
-        rest /= choices;
-        if chosen < left.len() {
-            acts.push(left.remove(chosen)).expect(rt, "memory");
+        let chosen = taken.saturating_add(rest % choices);
+        if chosen < acts.len() {
+            acts.swap(taken, chosen);
         }
+        rest /= choices;
     }
     acts
 }
 
-/// Four bytes, two over the middle, and two over the end; then the acts. Acts 0 to 2 store the node of version 1 to 3, and acts
-/// 3 to 5 finish it.
-fn overlapping(rt: &(impl Abort + AllocGlobal), acts: &[u64]) -> Script {
-    let mut script = Script::of_one_blob(rt);
-    script.page(rt, 1, &[1, 2, 3, 4]);
-    script.page(rt, 2, &[5, 6]);
-    script.page(rt, 3, &[7, 8]);
-    script.update(rt, 1, Place::Append, &[1]);
-    script.update(rt, 1, Place::WriteAt(1), &[2]);
-    script.update(rt, 1, Place::WriteAt(2), &[3]);
-    for act in acts {
-        let step = if *act < 3 {
-            node(1, *act + 1, 0, 4)
-        } else {
-            finish(1, *act - 2)
-        };
-        script.step(rt, step);
-    }
-    script
+/// Four bytes, two over the middle, and two over the end.
+const OVERLAPPING: [Act; 7] = [
+    Act::Create,
+    Act::Page(1, &[1, 2, 3, 4]),
+    Act::Page(2, &[5, 6]),
+    Act::Page(3, &[7, 8]),
+    Act::Update(1, Place::Append, &[1]),
+    Act::Update(1, Place::WriteAt(1), &[2]),
+    Act::Update(1, Place::WriteAt(2), &[3]),
+];
+
+/// Acts 0 to 2 store the node of version 1 to 3, and acts 3 to 5 finish it.
+const ACTS: [Act; 6] = [
+    Act::Put(1, 1, 0, 4),
+    Act::Put(1, 2, 0, 4),
+    Act::Put(1, 3, 0, 4),
+    Act::Finish(1, 1),
+    Act::Finish(1, 2),
+    Act::Finish(1, 3),
+];
+
+/// What is read where all are published.
+const LOOKS: [Look; 2] = [
+    (1, 3, 0, 4, Some(&[1, 5, 7, 8])),
+    (1, 2, 0, 4, Some(&[1, 5, 6, 4])),
+];
+
+/// Whether the world ends in the bytes of the three updates.
+fn ends_so<R: Abort + AllocGlobal>(rt: &R, world: &World) -> bool {
+    world.published(1) == Some(3) && reads(rt, world, &LOOKS[0]) && reads(rt, world, &LOOKS[1])
 }
 
-/// Asserts that a world ends in the bytes of the three updates.
-fn assert_ends(rt: &(impl Abort + AllocGlobal), world: &World) {
-    assert_eq!(rt; world.published(1), Some(3));
-    assert_reads(rt, world, (1, 3), 0, &[1, 5, 7, 8]);
-    assert_reads(rt, world, (1, 2), 0, &[1, 5, 6, 4]);
-}
-
-/// Asserts that the fault is of one of the acts.
-fn assert_refused(rt: &impl Abort, fault: ReplayFault) {
-    match fault {
-        ReplayFault::NotPossible(step) => assert!(rt; step > 7, "step {step}"),
-        ReplayFault::NoMemory => panic!(rt; "no memory"),
-    }
-}
-
-/// Whether the order is allowed; then it ends in the bytes of the three updates.
-fn is_allowed(rt: &(impl Abort + AllocGlobal), number: usize) -> bool {
-    let acts = order(rt, number);
-    assert_eq!(rt; acts.len(), 6);
-    match overlapping(rt, acts.as_slice()).replay(rt) {
-        Ok(world) => {
-            assert_ends(rt, &world);
-            true
-        }
-        Err(fault) => {
-            assert_refused(rt, fault);
-            false
-        }
-    }
+/// Whether the order is allowed; then it ends in the bytes of the three updates, and else the fault is of one of its acts.
+fn is_allowed<R: Abort + AllocGlobal>(rt: &R, number: usize) -> bool {
+    let (is_allowed, is_right) = match world_of(rt, &OVERLAPPING, &order(number)) {
+        Ok(world) => (true, ends_so(rt, &world)),
+        Err(ReplayFault::NotPossible(step)) => (false, step > 7),
+        Err(ReplayFault::NoMemory) => (false, false),
+    };
+    assert!(rt; is_right, "order {number}");
+    is_allowed
 }
 
 #[test]
@@ -84,5 +74,5 @@ fn each_order_that_is_allowed_ends_in_the_same_bytes(rt: HostRuntime) {
         }
     }
     // each update's node comes before its finish in one of two of the orders: 720 / 8
-    assert_eq!(rt; allowed, 90);
+    assert!(rt; allowed == 90);
 }

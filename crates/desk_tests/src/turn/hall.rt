@@ -87,10 +87,10 @@ pub struct Work {
 }
 
 fn write_round<N: Naming, R: Wait>(rt: &R, hall: &Hall<N>, text: &Arc<Text, Global>, texts: usize) {
-    let Some(pass) = hall.desk.lock(rt).pass(&hall.turn) else {
+    let Some(mut pass) = hall.desk.lock(rt).pass(&hall.turn) else {
         return;
     };
-    let (pass, _) = write_times(rt, &hall.turn, pass, text, texts);
+    write_times(rt, &hall.turn, &mut pass, text, texts);
     hall.desk.lock(rt).take_back(&hall.turn, pass);
 }
 

@@ -7,7 +7,7 @@ use std::alloc::{AllocError, Global};
 use std::process::Abort;
 
 /// An update over four providers, and the two calls at which each door fails, that of provider 1 first. 0 is no call.
-#[derive(Clone, Copy, Debug)]
+#[derive(Clone, Copy)]
 pub(crate) struct Case {
     pub(crate) pages: u32,
     pub(crate) replicas: u32,
@@ -17,7 +17,7 @@ pub(crate) struct Case {
 
 /// What an update comes to: the providers of each page's replicas, with a 0 after each page, or the first page that has
 /// none; and how many calls of each door failed.
-#[derive(Debug, Drop)]
+#[derive(Drop)]
 pub(crate) struct Outcome {
     pub(crate) taken: Result<Vec<u32>, u64>,
     pub(crate) faults: Vec<u64>,
@@ -52,7 +52,7 @@ impl Case {
         ensures known { All (All (IsProvider 4)) result }
     {
         let replicas = self.replicas;
-        assert!(rt; replicas >= 1 && replicas <= 4, "{replicas} replicas");
+        assert!(rt; replicas >= 1 && replicas <= 4);
         let mut book = LoadBook::new(alloc, 4, replicas).expect(rt, "memory");
         book.place(alloc, self.pages).expect(rt, "memory")
     }

@@ -45,10 +45,7 @@ fn add_page<R: Abort>(
     let page = pages.page(i);
     let mut doors = four_doors(alloc, &mut PlainMaker::new()).expect(rt, "memory");
     let mut out = vec![in alloc; 0u8; page.len() as usize].expect(rt, "memory");
-    assert!(rt;
-        fetch(&mut doors, houses, page, 0, out.as_mut_slice()),
-        "not read"
-    );
+    assert!(rt; fetch(&mut doors, houses, page, 0, out.as_mut_slice()));
     bytes.extend_from_slice(out.as_slice()).expect(rt, "memory");
 }
 
@@ -144,10 +141,7 @@ fn put_by<R: Abort + Threads + Wait + Sync>(
     let placements = case.placed(rt, alloc);
     let p = PageSize::new(case.page_size).expect(rt, "a page size");
     let room = u64::from(placements.count()) * p.bytes();
-    assert!(rt;
-        !bytes.is_empty() && bytes.len() as u64 <= room,
-        "the bytes of the pages"
-    );
+    assert!(rt; !bytes.is_empty() && bytes.len() as u64 <= room);
     let stored = store(rt, alloc, doors, houses, p, bytes, &placements);
     judged(rt, alloc, houses, stored, bytes)
 }

@@ -30,11 +30,8 @@ fn put_at<R: Abort + Wait>(
 )
     requires { length houses.now ≡ 4 }
 {
-    assert!(rt; provider >= 1 && provider <= 4, "provider {provider}");
-    assert!(rt;
-        !page.is_empty() && page.len() <= MAX_PAGE,
-        "the bytes of a page"
-    );
+    assert!(rt; provider >= 1 && provider <= 4);
+    assert!(rt; !page.is_empty() && page.len() <= MAX_PAGE);
     let door = doors.get_mut(provider as usize - 1).expect(rt, "a door");
     match door.put(rt, houses.house(provider), page) {
         PutAnswer::Stored(_) => taken.push(provider).expect(rt, "memory"),

@@ -1,73 +1,38 @@
 //! A client of a shared store, and what it was told.
-ghost use Rattle.std.specs.Prelude.{◌≡◌};
 ghost use Rattle.client_session.specs.Sessions.{IsOwnerOf};
 
 use crate::sharing::script::{BASE, Dice, MOST, Manner, Next, STEPS, Step};
-use crate::store::{end_session, new_session};
+use crate::store::new_session;
 use blob_model::{Bytes, Outcome, Place};
 use client_session::{Done, Owner, Session, Shared, Started, Updated};
 use page_store::PlainDoor;
 use ports::gate::FreeGate;
 use request_form::{Fault, Reply, Request, Service};
 use std::alloc::Global;
-use std::marker::{Brand, PhantomData};
 use std::process::Abort;
 use std::sync::Wait;
 use std::thread::Threads;
 
-/// Which store it is. Each call of a program picks it.
-pub(crate) trait Naming {
-    ghost use Rattle.client_session.specs.Sessions.{StoreState};
-
-    ghost store: { StoreState };
-}
-
-impl Naming for Brand {
-    ghost use Rattle.std.specs.Prelude.{[]};
-    ghost use Rattle.blob_model.specs.Limits.{greatest};
-
-    ghost store = { record {
-      lock = record { words = 0; slots = 0; views_name = 0; atom = 0; block = 0; offset = 0; slot_names = [] };
-      fixed = record { limits = greatest; page_size = 4; houses = []; nodes = [] };
-      providers = 0;
-      replicas = 0;
-    } };
-}
-
-/// A session of that store.
+/// A session of the store.
 #[derive(Drop)]
-pub(crate) struct Member<'a, N: Naming> {
-    session: Session<'a, PlainDoor, FreeGate>,
-    of: PhantomData<N>,
-    ghost mine: { session.store ≡ N.store },
+pub(crate) struct Member<'a> {
+    pub(crate) session: Session<'a, PlainDoor, FreeGate>,
 }
 
-impl<'a, N: Naming> Member<'a, N> {
+impl<'a> Member<'a> {
     /// A session with the next pass of the store.
     pub(crate) fn new<R: Abort>(
         rt: &R,
         alloc: Global,
         shared: &'a Shared,
         owner: &mut Owner,
-    ) -> Member<'a, N>
-        requires store { shared.now ≡ N.store }
+    ) -> Member<'a>
         requires owner { IsOwnerOf shared.now owner.old }
         ensures { IsOwnerOf shared.now owner.new }
     {
         Member {
             session: new_session(rt, alloc, shared, owner, &FreeGate),
-            of: PhantomData,
         }
-    }
-
-    /// Gives the pass back to the store.
-    pub(crate) fn end(self, shared: &Shared, owner: &mut Owner)
-        requires store { shared.now ≡ N.store }
-        requires owner { IsOwnerOf shared.now owner.old }
-        ensures { IsOwnerOf shared.now owner.new }
-    {
-        let Member { session, of: _ } = self;
-        end_session(session, shared, owner);
     }
 
     /// Makes a blob.
@@ -277,8 +242,8 @@ impl Note {
 
 /// A session, its number, and what it was told.
 #[derive(Drop)]
-pub(crate) struct Client<'a, N: Naming> {
-    pub(crate) member: Member<'a, N>,
+pub(crate) struct Client<'a> {
+    pub(crate) member: Member<'a>,
     /// Where its notes lie.
     pub(crate) alloc: Global,
     /// Its number, which is each byte that it writes.
@@ -289,7 +254,7 @@ pub(crate) struct Client<'a, N: Naming> {
     pub(crate) is_content: bool,
 }
 
-impl<'a, N: Naming> Client<'a, N> {
+impl<'a> Client<'a> {
     /// Goes through its steps.
     pub(crate) fn work<R: Threads + Wait + Sync>(&mut self, rt: &R, manner: Manner) {
         let done = match manner {

@@ -1,12 +1,14 @@
 //! The history that the notes of all clients tell, played again over flat bytes.
 
-use crate::calls::{recent_of, status_of};
 use crate::sharing::client::Note;
-use crate::sharing::script::{BASE, Sum};
+use crate::sharing::script::BASE;
 use blob_model::{Outcome, Place};
+use client_session::Session;
+use page_store::PlainDoor;
+use ports::gate::FreeGate;
 use std::alloc::Global;
 use std::process::Abort;
-use version_manager::Desk;
+use std::sync::Wait;
 
 // The update that made the version, where one client was told of it, and no other.
 fn only_note(notes: &[Note], blob: u64, version: u64) -> Option<&Note> {
@@ -78,22 +80,28 @@ pub(crate) fn check_history<R: Abort>(rt: &R, alloc: Global, notes: &[Note], blo
     }
 }
 
-/// Whether the desk has the size of the update's version.
-pub(crate) fn has_size(desk: &Desk, note: &Note) -> bool {
-    match desk.size(note.blob, note.done.version) {
+// Whether a version has the size that its note tells.
+fn size_agrees<R: Wait>(
+    rt: &R,
+    session: &mut Session<'_, PlainDoor, FreeGate>,
+    note: &Note,
+) -> bool {
+    match session.size(rt, note.blob, note.done.version) {
         Outcome::Size(size) => size == note.done.size,
         _ => false,
     }
 }
 
-/// Whether the version is the blob's last, and is published, with so many bytes.
-pub(crate) fn ends_at(desk: &Desk, blob: u64, version: u64, size: u64) -> bool {
-    let status = desk.status(blob);
-    let recent = desk.recent(blob);
-    status_of(&status) == Some((version, version, 0)) && recent_of(&recent) == Some((version, size))
-}
-
-/// Whether the desk ends the blob as the scripts add up.
-pub(crate) fn ends_as(desk: &Desk, blob: u64, sum: &Sum) -> bool {
-    ends_at(desk, blob, sum.last, sum.size as u64)
+/// Whether each version has the size that its note tells.
+pub(crate) fn sizes_agree<R: Wait>(
+    rt: &R,
+    session: &mut Session<'_, PlainDoor, FreeGate>,
+    notes: &[Note],
+) -> bool {
+    for note in notes {
+        if !size_agrees(rt, session, note) {
+            return false;
+        }
+    }
+    true
 }

@@ -1,0 +1,118 @@
+//! Peers in memory, and the program that serves them.
+
+use blobseer_run::run;
+use page_store::PlainMaker;
+use ports::gate::Gate;
+use ports::mem_files::MemFiles;
+use ports::mem_listener::MemListener;
+use ports::memory::{MemSink, MemSource};
+use ports::pair::Pair;
+use std::alloc::Global;
+use std::collections::{BTreeMap, VecDeque};
+use std::process::Abort;
+use std::sync::Wait;
+use std::thread::Threads;
+
+// More bytes than the replies to any peer here have, and than the program writes.
+const ROOM: usize = 1 << 16;
+
+/// Both ends of a peer in memory.
+#[derive(Drop)]
+pub(crate) struct Line {
+    source: MemSource,
+    sink: MemSink,
+}
+
+impl Line {
+    /// A peer that gives the bytes that these digits spell, in pieces of that length.
+    pub(crate) fn giving<R: Abort>(rt: &R, alloc: Global, digits: &str, piece: usize) -> Line {
+        assert!(rt; piece > 0);
+        let bytes = hex::decode(alloc, digits).expect(rt, "digits");
+        Line {
+            source: MemSource::new(bytes, piece, Vec::new(alloc)),
+            sink: MemSink::new(alloc, ROOM).expect(rt, "memory"),
+        }
+    }
+
+    /// What the peer got, in digits.
+    pub(crate) fn got<R: Abort>(&self, rt: &R, alloc: Global) -> String {
+        hex::encode(alloc, self.sink.bytes()).expect(rt, "memory")
+    }
+}
+
+/// A listener at this address, to which peers come that borrow these ends. The accept of that number fails, from 1; 0 is none.
+pub(crate) fn listener_of<'a, R: Abort>(
+    rt: &R,
+    alloc: Global,
+    address: &str,
+    lines: &'a mut [Line],
+    failing: usize,
+) -> MemListener<Pair<'a, MemSource, MemSink>> {
+    let mut peers = VecDeque::new(alloc);
+    for Line { source, sink } in lines.iter_mut() {
+        peers.push_back(Pair { source, sink }).expect(rt, "memory");
+    }
+    let mut plan = Vec::new(alloc);
+    for before in 0..failing {
+        plan.push(before + 1 == failing).expect(rt, "memory");
+    }
+    let address = String::from_str(alloc, address).expect(rt, "memory");
+    MemListener::new(address, peers, plan)
+}
+
+/// What the program wrote, and how it ended.
+#[derive(Drop)]
+pub(crate) struct Ran {
+    out: MemSink,
+    err: MemSink,
+    status: u8,
+}
+
+impl Ran {
+    /// Checks that the program wrote these texts, and ended so.
+    pub(crate) fn check<R: Abort>(&self, rt: &R, words: &str, out: &str, err: &str, status: u8) {
+        let is_so = self.out.bytes() == out.as_bytes()
+            && self.err.bytes() == err.as_bytes()
+            && self.status == status;
+        assert!(rt; is_so, "{words}");
+    }
+}
+
+// The words of a line, which stand between single spaces.
+fn words_of<R: Abort>(rt: &R, alloc: Global, line: &str) -> Vec<String> {
+    let mut words = Vec::new(alloc);
+    for word in line.split(' ') {
+        let word = String::from_str(alloc, word).expect(rt, "memory");
+        words.push(word).expect(rt, "memory");
+    }
+    words
+}
+
+/// The program with the words of a line, over an empty script, no files, a listener at the address `x:1` to which these peers come
+/// and whose accept of that number fails, and an output that takes so many bytes.
+pub(crate) fn run_peers<R: Threads + Wait + Sync + Abort, G: Gate + Sync>(
+    rt: &R,
+    alloc: Global,
+    words: &str,
+    lines: &mut [Line],
+    failing: usize,
+    room: usize,
+    gate: &G,
+) -> Ran {
+    let words = words_of(rt, alloc, words);
+    let mut out = MemSink::new(alloc, room).expect(rt, "memory");
+    let mut err = MemSink::new(alloc, ROOM).expect(rt, "memory");
+    let status = run(
+        rt,
+        alloc,
+        words.as_slice(),
+        &mut MemSource::new(Vec::new(alloc), 64, Vec::new(alloc)),
+        &mut out,
+        &mut err,
+        &mut listener_of(rt, alloc, "x:1", lines, failing),
+        &mut MemFiles::new(alloc, BTreeMap::new(alloc)),
+        &mut PlainMaker::new(),
+        gate,
+    );
+    Ran { out, err, status }
+}
