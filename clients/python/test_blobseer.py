@@ -1,82 +1,21 @@
 """Tests of the client against the built server, and against servers that answer wrongly.
 
-The program is that of the variable BLOBSEER, or crates/blobseer/out/blobseer of this repository.
+The program is that of the variable BLOBSEER_PROGRAM, or crates/blobseer/out/blobseer of this repository.
 """
 import concurrent.futures
 import contextlib
 import io
 import os
-import pathlib
 import random
-import re
-import shlex
 import socket
 import struct
 import subprocess
-import sys
 import threading
 import time
 import unittest
 
 import blobseer
-
-HERE = pathlib.Path(__file__).resolve().parent
-PROGRAM = shlex.split(os.environ.get("BLOBSEER", str(HERE.parent.parent / "crates/blobseer/out/blobseer")))
-CLIENT = [sys.executable, str(HERE / "blobseer.py")]
-
-
-def free_port():
-    with socket.socket() as one:
-        one.bind(("127.0.0.1", 0))
-        return one.getsockname()[1]
-
-
-class Server:
-    """A server on a port of its own, which is killed at the end of the block."""
-
-    def __init__(self, *words):
-        self.address = "127.0.0.1:%d" % free_port()
-        self.process = subprocess.Popen([*PROGRAM, "serve", "--listen", self.address, *words], stdout=subprocess.DEVNULL)
-
-    def __enter__(self):
-        host, port = self.address.split(":")
-        for _ in range(600):
-            with contextlib.suppress(ConnectionRefusedError):
-                socket.create_connection((host, int(port))).close()
-                return self
-            time.sleep(0.05)
-        raise RuntimeError("the server doesn't listen")
-
-    def __exit__(self, *_):
-        self.process.kill()
-        self.process.wait()
-
-    def memory(self):
-        """The bytes of memory that the server has now."""
-        status = pathlib.Path("/proc/%d/status" % self.process.pid).read_text()
-        return 1024 * int(re.search(r"^VmRSS:\s*(\d+) kB$", status, re.MULTILINE).group(1))
-
-
-@contextlib.contextmanager
-def played(*replies):
-    """A server that takes one connection, sends these bytes for whatever comes, and closes."""
-    with socket.create_server(("127.0.0.1", 0)) as listener:
-        def serve():
-            peer, _ = listener.accept()
-            with peer:
-                for reply in replies:
-                    peer.recv(65536)
-                    peer.sendall(reply)
-
-        thread = threading.Thread(target=serve)
-        thread.start()
-        yield listener.getsockname()
-        thread.join()
-
-
-def frame(operation, *numbers, data=b""):
-    body = struct.pack(">B%dQ" % len(numbers), operation, *numbers) + data
-    return struct.pack(">I", len(body)) + body
+from helpers import CLIENT, PROGRAM, ProgramCase, Server, frame, free_port, host_and_port, played
 
 
 class Requests(unittest.TestCase):
@@ -142,7 +81,7 @@ class Requests(unittest.TestCase):
         self.assertEqual(self.store.status(log).held, 2)
 
     def test_frames_that_are_no_request(self):
-        with socket.create_connection(self.store._socket.getpeername()) as peer:
+        with socket.create_connection(host_and_port(self.server)) as peer:
             stream = peer.makefile("rb")
             peer.sendall(struct.pack(">I", 2097153) + bytes(2097153) + frame(14, 2) + frame(1)[:5])
             self.assertEqual(stream.read(4 + 17), frame(255, 18, 2097153))
@@ -150,7 +89,7 @@ class Requests(unittest.TestCase):
             self.assertEqual(stream.read(5)[4], 129)
 
     def test_frames_of_version_2(self):
-        with socket.create_connection(self.store._socket.getpeername()) as peer:
+        with socket.create_connection(host_and_port(self.server)) as peer:
             stream = peer.makefile("rb")
             peer.sendall(frame(14, 2) + frame(1))
             self.assertEqual(stream.read(13), frame(142, 2))
@@ -206,8 +145,7 @@ class Requests(unittest.TestCase):
         for number in range(14):
             self.store.write(log, 0, b"\xff")
         held = self.store.start_write(log, 0, b"\xaa")
-        host, port = self.server.address.split(":")
-        with socket.create_connection((host, int(port))) as lost:
+        with socket.create_connection(host_and_port(self.server)) as lost:
             lost.sendall(frame(3, log, 1, data=b"\xbb") + frame(13))
             while lost.recv(4096):
                 pass
@@ -376,7 +314,7 @@ class Together(unittest.TestCase):
             if draw.random() < 0.3:
                 store.quit()
             elif draw.random() < 0.5:
-                store._socket.sendall(frame(2, 1, data=b"cut")[:-1])
+                store._session.live().socket.sendall(frame(2, 1, data=b"cut")[:-1])
             store.close()
 
     def check(self, store, blob, updates, reads):
@@ -421,15 +359,14 @@ class Settings(unittest.TestCase):
     def test_as_many_workers_as_were_asked_for(self):
         for workers in (2, 3, 5):
             with self.subTest(workers=workers), contextlib.ExitStack() as open_peers, Server("--workers", str(workers)) as server:
-                host, port = server.address.split(":")
-                peers = [open_peers.enter_context(socket.create_connection((host, int(port)))) for _ in range(workers)]
+                peers = [open_peers.enter_context(socket.create_connection(host_and_port(server))) for _ in range(workers)]
                 for peer in peers:
                     peer.sendall(frame(1))
                 for peer in peers[:-1]:
                     peer.settimeout(60)
                     self.assertTrue(peer.recv(64))
                 peers[-1].settimeout(1)
-                self.assertRaises(TimeoutError, peers[-1].recv, 64)
+                self.assertRaises(socket.timeout, peers[-1].recv, 64)
                 peers[0].close()
                 peers[-1].settimeout(60)
                 self.assertTrue(peers[-1].recv(64))
@@ -552,12 +489,7 @@ class WrongServers(unittest.TestCase):
             self.assertRaises(blobseer.ConnectionLost, store.recent, log)
 
 
-class Program(unittest.TestCase):
-    def ran(self, address, *words, data=b"", status=0):
-        done = subprocess.run([*CLIENT, address, *words], input=data, capture_output=True, timeout=300)
-        self.assertEqual(done.returncode, status, done.stderr)
-        return done.stdout if status == 0 else done.stderr.decode()
-
+class Program(ProgramCase, unittest.TestCase):
     def test_each_command(self):
         with Server() as server:
             data = os.urandom(3000000)
@@ -574,11 +506,11 @@ class Program(unittest.TestCase):
             self.assertEqual(self.ran(address, "status", "1"), b"assigned 4 published 4 held 0\n")
             self.assertEqual(self.ran(address, "branch", "1", "1"), b"blob 2\n")
             self.assertEqual(self.ran(address, "wait", "1", "4"), b"published 4\n")
-            self.assertEqual(self.ran(address, "size", "1", status=2).split(":")[0], "usage")
+            self.assertEqual(self.ran(address, "size", "1", status=2).split(":")[:2], ["blobseer", " argument COMMAND"])
             self.assertEqual(self.ran(address, "read", "9", status=1), "blobseer: refused: no-blob 9\n")
             self.assertEqual(self.ran(address, "read", "1", "9", status=1), "blobseer: refused: not-published 9 4\n")
             self.assertEqual(self.ran(address, "read", "1", "1", "1048577", status=1), "blobseer: refused: range-past-size 1048577 1048576\n")
-            self.assertEqual(self.ran("nowhere", "create", status=2).split(":")[0], "usage")
+            self.assertEqual(self.ran("nowhere", "create", status=2).split(":")[:2], ["blobseer", " argument HOST"])
 
     def test_a_wait_ends_or_repairs(self):
         with Server() as server, blobseer.connect(server.address) as other:
