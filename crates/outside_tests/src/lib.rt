@@ -17,3 +17,5 @@ mod memory;
 mod played;
 #[cfg(test)]
 mod tcp;
+#[cfg(test)]
+mod waiting;

@@ -16,6 +16,9 @@ pub(crate) enum Answer {
     Late,
     /// The same, which can't be told how long it may wait.
     Deaf,
+    /// A stream without an end, which gives or takes at most `piece` bytes at once, and keeps each read and each write waiting for
+    /// so many milliseconds.
+    Slow { read: u64, write: u64, piece: usize },
     /// An error of this kind.
     Kind(ErrorKind),
     /// An error with this number of the system's.
@@ -31,6 +34,7 @@ pub(crate) struct Seen {
     write_patience: AtomicU64,
     written: AtomicU64,
     rested: AtomicU64,
+    clock: AtomicU64,
 }
 
 impl Seen {
@@ -43,6 +47,7 @@ impl Seen {
             write_patience: AtomicU64::new(0),
             written: AtomicU64::new(0),
             rested: AtomicU64::new(0),
+            clock: AtomicU64::new(0),
         }
     }
 
@@ -70,16 +75,31 @@ impl Seen {
     pub(crate) fn rested(&self) -> u64 {
         self.rested.load(Ordering::SeqCst)
     }
+
+    /// How many milliseconds the clock shows: those that it was slept by, and those that reads and writes waited for.
+    pub(crate) fn clock(&self) -> u64 {
+        self.clock.load(Ordering::SeqCst)
+    }
+
+    // A call that may wait for `timeout` milliseconds waits for `pause`. False where that is too long.
+    fn waits(&self, pause: u64, timeout: &AtomicU64) -> bool {
+        let most = timeout.load(Ordering::SeqCst);
+        self.clock.fetch_add(pause.min(most), Ordering::SeqCst);
+        pause <= most
+    }
+}
+
+fn millis_of(time: Duration) -> u64 {
+    u64::try_from(time.as_millis()).unwrap_or(u64::MAX)
 }
 
 // Adds a time to a count of milliseconds.
 fn add_millis(count: &AtomicU64, time: Duration) {
-    let millis = u64::try_from(time.as_millis()).unwrap_or(u64::MAX);
-    count.fetch_add(millis, Ordering::SeqCst);
+    count.fetch_add(millis_of(time), Ordering::SeqCst);
 }
 
 /// A network with the port 7000.
-#[derive(Drop)]
+#[derive(Clone, Copy)]
 pub(crate) struct PlayedNet<'a> {
     seen: &'a Seen,
     answers: &'a [Answer],
@@ -105,6 +125,11 @@ pub(crate) struct PlayedStream<'a> {
     late_reads: usize,
     late_write: Option<usize>,
     left: usize,
+    read_pause: u64,
+    write_pause: u64,
+    piece: usize,
+    read_timeout: AtomicU64,
+    write_timeout: AtomicU64,
 }
 
 impl<'a> Net for PlayedNet<'a> {
@@ -129,7 +154,7 @@ impl<'a> Net for PlayedNet<'a> {
 
 impl<'a> Clock for PlayedNet<'a> {
     fn monotonic(&self) -> io::Result<Duration> {
-        Ok(Duration::from_millis(self.seen.rested()))
+        Ok(Duration::from_millis(self.seen.clock()))
     }
 
     fn since_1970(&self) -> io::Result<Duration> {
@@ -138,19 +163,45 @@ impl<'a> Clock for PlayedNet<'a> {
 
     fn sleep(&self, duration: Duration) {
         add_millis(&self.seen.rested, duration);
+        add_millis(&self.seen.clock, duration);
     }
 }
 
 impl<'a> PlayedListener<'a> {
-    fn stream(&self, is_deaf: bool, is_late: bool) -> io::Result<(PlayedStream<'a>, SocketAddr)> {
-        let stream = PlayedStream {
+    // A stream that gives so many bytes and then ends, and takes one at a time.
+    fn stream(&self, left: usize) -> PlayedStream<'a> {
+        PlayedStream {
             seen: self.seen,
-            is_deaf,
-            late_reads: if is_late { 1 } else { 0 },
-            late_write: if is_late { Some(1) } else { None },
-            left: 2,
-        };
-        Ok((stream, SocketAddr::from(([127, 0, 0, 1], 7001))))
+            is_deaf: false,
+            late_reads: 0,
+            late_write: None,
+            left,
+            read_pause: 0,
+            write_pause: 0,
+            piece: 1,
+            read_timeout: AtomicU64::new(0),
+            write_timeout: AtomicU64::new(0),
+        }
+    }
+
+    // A stream of two bytes.
+    fn short_stream(&self, is_deaf: bool, is_late: bool) -> PlayedStream<'a> {
+        let mut stream = self.stream(2);
+        stream.is_deaf = is_deaf;
+        if is_late {
+            stream.late_reads = 1;
+            stream.late_write = Some(1);
+        }
+        stream
+    }
+
+    // A stream that gives and takes so many bytes at once after such pauses.
+    fn slow_stream(&self, read: u64, write: u64, piece: usize) -> PlayedStream<'a> {
+        let mut stream = self.stream(usize::MAX);
+        stream.read_pause = read;
+        stream.write_pause = write;
+        stream.piece = piece;
+        stream
     }
 }
 
@@ -159,14 +210,16 @@ impl<'a> OpenListener for PlayedListener<'a> {
 
     fn accept(&self) -> io::Result<(PlayedStream<'a>, SocketAddr)> {
         let call = self.seen.accepts.fetch_add(1, Ordering::SeqCst);
-        match self.answers.get(call as usize) {
-            None => Err(io::Error::from(ErrorKind::Other)),
-            Some(Answer::Stream) => self.stream(false, false),
-            Some(Answer::Late) => self.stream(false, true),
-            Some(Answer::Deaf) => self.stream(true, false),
-            Some(Answer::Kind(kind)) => Err(io::Error::from(*kind)),
-            Some(Answer::Number(number)) => Err(io::Error::from_raw_os_error(*number)),
-        }
+        let stream = match self.answers.get(call as usize) {
+            None => return Err(io::Error::from(ErrorKind::Other)),
+            Some(Answer::Stream) => self.short_stream(false, false),
+            Some(Answer::Late) => self.short_stream(false, true),
+            Some(Answer::Deaf) => self.short_stream(true, false),
+            Some(Answer::Slow { read, write, piece }) => self.slow_stream(*read, *write, *piece),
+            Some(Answer::Kind(kind)) => return Err(io::Error::from(*kind)),
+            Some(Answer::Number(number)) => return Err(io::Error::from_raw_os_error(*number)),
+        };
+        Ok((stream, SocketAddr::from(([127, 0, 0, 1], 7001))))
     }
 }
 
@@ -184,6 +237,7 @@ impl<'a> OpenStream for PlayedStream<'a> {
         }
         if let Some(time) = dur {
             add_millis(&self.seen.read_patience, time);
+            self.read_timeout.store(millis_of(time), Ordering::SeqCst);
         }
         Ok(())
     }
@@ -191,6 +245,7 @@ impl<'a> OpenStream for PlayedStream<'a> {
     fn set_write_timeout(&self, dur: Option<Duration>) -> io::Result<()> {
         if let Some(time) = dur {
             add_millis(&self.seen.write_patience, time);
+            self.write_timeout.store(millis_of(time), Ordering::SeqCst);
         }
         Ok(())
     }
@@ -214,9 +269,17 @@ impl<'a> Read for PlayedStream<'a> {
             self.late_reads -= 1;
             return Err(io::Error::from(ErrorKind::WouldBlock));
         }
-        let n = self.left.min(buf.len());
+        if !self.seen.waits(self.read_pause, &self.read_timeout) {
+            return Err(io::Error::from(ErrorKind::WouldBlock));
+        }
+        let most = if self.read_pause == 0 {
+            self.left
+        } else {
+            self.piece
+        };
+        let n = most.min(buf.len());
         buf[..n].fill(b'h');
-        self.left -= n;
+        self.left = self.left.saturating_sub(n);
         Ok(n)
     }
 }
@@ -228,7 +291,10 @@ impl<'a> Write for PlayedStream<'a> {
             Some(calls) => self.late_write = Some(calls - 1),
             None => {}
         }
-        let n = bytes.len().min(1);
+        if !self.seen.waits(self.write_pause, &self.write_timeout) {
+            return Err(io::Error::from(ErrorKind::WouldBlock));
+        }
+        let n = bytes.len().min(self.piece);
         self.seen.written.fetch_add(n as u64, Ordering::SeqCst);
         Ok(n)
     }

@@ -4,8 +4,9 @@ ghost use Rattle.std.specs.Bool.{OnTrue};
 
 use crate::played::{Answer, PlayedNet, Seen};
 use ports::listener::{Accepted, Listener};
+use ports::patience::Patience;
 use ports::stream::{Sink, Source, Taken, Written};
-use ports::tcp::{Patience, TcpPorts};
+use ports::tcp::TcpPorts;
 use std::io::ErrorKind;
 use std::net::Net;
 use std::process::Abort;
@@ -78,7 +79,7 @@ where
 }
 
 // How many peers ports over a network hand out, with the usual patience or with hardly any.
-fn peers_over<N: Net + Clock + Drop, R: Wait>(
+fn peers_over<N: Net + Clock + Copy, R: Wait>(
     rt: &R,
     net: N,
     is_hasty: bool,
@@ -88,6 +89,8 @@ fn peers_over<N: Net + Clock + Drop, R: Wait>(
         let patience = Patience {
             read: Duration::from_millis(40),
             write: Duration::from_millis(30),
+            first: Duration::from_millis(1),
+            rate: 1,
         };
         TcpPorts::with_patience(net, patience)
     } else {

@@ -3,3 +3,4 @@ pub mod Memory
 pub mod Listener
 pub mod Files
 pub mod Accepting
+pub mod Waiting

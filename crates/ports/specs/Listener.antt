@@ -1,5 +1,5 @@
 -- What a listener's calls do, by their answers.
-use Rattle.std.specs.Prelude.{◌≡◌, ℕ, Bool, true, false, List, [], ◌∷◌, Option, None, Some, IfSome}
+use Rattle.std.specs.Prelude.{◌≡◌, ℕ, Bool, true, false, List, [], ◌∷◌, Option, None, Some, IfSome, ⊤}
 use Rattle.ports.specs.declared.listener.Accepted.{Accepted}
 use Rattle.ports.specs.declared.listener.Accepted.TheVariants as Answers
 
@@ -29,6 +29,12 @@ module _ {P : Type 0} where
   accept_faults (Answers.Peer p) = 0
   accept_faults Answers.Done = 0
   accept_faults Answers.Failed = 1
+
+  -- that of a peer that an accept handed out
+  abbrev pub OnPeer : Accepted P → (P → Type 0) → Type 0
+  OnPeer (Answers.Peer p) Is = Is p
+  OnPeer Answers.Done Is = ⊤
+  OnPeer Answers.Failed Is = ⊤
 
   -- the peers that an accept handed out
   abbrev pub peers_in : Accepted P → ℕ

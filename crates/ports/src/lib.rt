@@ -5,6 +5,7 @@
 ghost use Rattle.std.specs.Prelude.{◌≡◌};
 
 mod accept;
+mod account;
 pub mod files;
 pub mod gate;
 pub mod host;
@@ -13,6 +14,7 @@ pub mod mem_files;
 pub mod mem_listener;
 pub mod memory;
 pub mod pair;
+pub mod patience;
 mod plan;
 pub mod reader;
 pub mod stream;

@@ -29,6 +29,17 @@ pub trait Ends {
     ghost objects: { Self → List GName };
 }
 
+/// What is known of the connection, the reader or the writer under a stream. It has no calls.
+pub trait Connection {
+    ghost use Rattle.std.specs.Prelude.{ℕ, List, Option};
+
+    /// What it has left to read.
+    ghost unread: { Self → Option (List ℕ) };
+
+    /// What it holds of writes.
+    ghost held: { Self → Option (List ℕ) };
+}
+
 /// The answer of a read.
 #[derive(Clone, Copy, Debug, PartialEq, Eq)]
 pub enum Taken {

@@ -1,14 +1,16 @@
-ghost use Rattle.std.specs.Prelude.{◌≡◌, ◌*◌, ◌^◌, ◌<◌, true, false, length};
+ghost use Rattle.std.specs.Prelude.{◌≡◌, ◌<◌, [], Some, true, false, length};
 ghost use Rattle.faults.specs.Counts.{RoseBy, count_after};
 ghost use Rattle.std.specs.Duration.{as_nanos};
 ghost use Rattle.std.specs.Io.KnownBytes.{Appends, Consumes};
-ghost use Rattle.ports.specs.Listener.{refusals, accept_faults, peers_in, done_after, OnListening};
+ghost use Rattle.ports.specs.Listener.{refusals, accept_faults, peers_in, done_after, OnListening, OnPeer};
 ghost use Rattle.ports.specs.Stream.{taken_bytes, appended_bytes, IsPiece, EndsAtEnd, CountsEnd, LeavesOut, read_fault_count, write_fault_count};
 
 use crate::accept::{Retry, is_short, retry_after};
+use crate::account::Accounted;
 use crate::listener::{Accepted, Listener};
+use crate::patience::{Patience, PatientStream};
 use crate::reader::{LONG_PIECE, PIECE, read_front};
-use crate::stream::{Ends, Sink, Source, Taken, Written};
+use crate::stream::{Connection, Ends, Sink, Source, Taken, Written};
 use crate::writer::write_front;
 use faults::count_up;
 use std::io::{Read, Write};
@@ -17,25 +19,15 @@ use std::sync::Wait;
 use std::thread;
 use std::time::{Clock, Duration};
 
-/// What is known of the connection under a peer. It has no calls.
-pub trait Connection {
-    ghost use Rattle.std.specs.Prelude.{ℕ, List, Option};
-
-    /// What its reader has left.
-    ghost unread: { Self → Option (List ℕ) };
-
-    /// What its writer holds.
-    ghost held: { Self → Option (List ℕ) };
-}
-
-/// A connection as a stream. Of a socket it is not known what goes through it; of a connection that tells what it has left
-/// and what it holds, no byte is lost, doubled or changed.
+/// A connection as a stream. It tells what it gave and what was written: the bytes that its reads of the connection gave, and those
+/// that the connection took. Of a socket it is not known what the other end sent and got; of a connection that tells what it has
+/// left and what it holds, no byte is lost, doubled or changed.
 ///
 /// It reads as `ReaderSource` does and writes as `WriterSink` does: what a signal interrupted is no fault and
 /// is tried again. Where a read gave 8,192 bytes or more, the next one asks for up to 65,536 at once.
 #[derive(Drop)]
 pub struct TcpPeer<S> {
-    stream: S,
+    stream: Accounted<S>,
     gives_much: bool,
     read_faults: u64,
     write_faults: u64,
@@ -45,6 +37,8 @@ pub struct TcpPeer<S> {
 impl<S: Read + Write> TcpPeer<S> {
     /// A peer over this connection, with no fault counted.
     pub fn new(stream: S) -> TcpPeer<S>
+        ensures given { ⟦<TcpPeer<S> as Ends>⟧.given result ≡ Some [] }
+        ensures written { ⟦<TcpPeer<S> as Ends>⟧.written result ≡ Some [] }
         ensures unread { ⟦<TcpPeer<S> as Connection>⟧.unread result ≡ S.remaining stream }
         ensures held { ⟦<TcpPeer<S> as Connection>⟧.held result ≡ S.contents stream }
         ensures read_faults { ⟦<TcpPeer<S> as Ends>⟧.read_faults result ≡ 0 }
@@ -52,7 +46,7 @@ impl<S: Read + Write> TcpPeer<S> {
         ensures ends { ⟦<TcpPeer<S> as Ends>⟧.ends result ≡ 0 }
     {
         TcpPeer {
-            stream,
+            stream: Accounted::new(stream),
             gives_much: false,
             read_faults: 0,
             write_faults: 0,
@@ -62,19 +56,19 @@ impl<S: Read + Write> TcpPeer<S> {
 }
 
 impl<S: Read + Write> Connection for TcpPeer<S> {
-    ghost unread = { λ p. S.remaining p.stream };
+    ghost unread = { λ p. S.remaining p.stream.stream };
 
-    ghost held = { λ p. S.contents p.stream };
+    ghost held = { λ p. S.contents p.stream.stream };
 }
 
 impl<S: Read + Write> Ends for TcpPeer<S> {
-    ghost use Rattle.std.specs.Prelude.{None, []};
+    ghost use Rattle.std.specs.Prelude.{None, Some, []};
 
-    ghost given = { λ p. None };
+    ghost given = { λ p. Some p.stream.given };
 
     ghost left = { λ p. None };
 
-    ghost written = { λ p. None };
+    ghost written = { λ p. Some p.stream.written };
 
     ghost read_faults = { λ p. p.read_faults };
 
@@ -92,8 +86,10 @@ impl<S: Read + Write> Source for TcpPeer<S> {
 
         // What each source ensures.
         ensures piece { IsPiece buf.old buf.new result }
+        ensures given { Appends (⟦<TcpPeer<S> as Ends>⟧.given self.old) (⟦<TcpPeer<S> as Ends>⟧.given self.new) (taken_bytes buf.new result) }
         ensures read_faults { RoseBy (read_fault_count result) (⟦<TcpPeer<S> as Ends>⟧.read_faults self.old) (⟦<TcpPeer<S> as Ends>⟧.read_faults self.new) }
         ensures ends { CountsEnd result (⟦<TcpPeer<S> as Ends>⟧.ends self.old) (⟦<TcpPeer<S> as Ends>⟧.ends self.new) }
+        ensures written { ⟦<TcpPeer<S> as Ends>⟧.written self.new ≡ ⟦<TcpPeer<S> as Ends>⟧.written self.old }
         ensures write_faults { ⟦<TcpPeer<S> as Ends>⟧.write_faults self.new ≡ ⟦<TcpPeer<S> as Ends>⟧.write_faults self.old }
 
         // The bytes that it takes of the connection, and that only a fault counts one.
@@ -120,7 +116,9 @@ impl<S: Read + Write> Sink for TcpPeer<S> {
     fn write(&mut self, bytes: &[u8]) -> Written
         // What each sink ensures.
         ensures part { LeavesOut bytes.now result }
+        ensures written { Appends (⟦<TcpPeer<S> as Ends>⟧.written self.old) (⟦<TcpPeer<S> as Ends>⟧.written self.new) (appended_bytes bytes.now result) }
         ensures write_faults { RoseBy (write_fault_count result) (⟦<TcpPeer<S> as Ends>⟧.write_faults self.old) (⟦<TcpPeer<S> as Ends>⟧.write_faults self.new) }
+        ensures given { ⟦<TcpPeer<S> as Ends>⟧.given self.new ≡ ⟦<TcpPeer<S> as Ends>⟧.given self.old }
         ensures read_faults { ⟦<TcpPeer<S> as Ends>⟧.read_faults self.new ≡ ⟦<TcpPeer<S> as Ends>⟧.read_faults self.old }
         ensures ends { ⟦<TcpPeer<S> as Ends>⟧.ends self.new ≡ ⟦<TcpPeer<S> as Ends>⟧.ends self.old }
 
@@ -137,35 +135,13 @@ impl<S: Read + Write> Sink for TcpPeer<S> {
     }
 }
 
-/// How long a connection may keep its worker waiting. A wait that is longer is a fault of that connection.
-#[derive(Clone, Copy, Debug, PartialEq, Eq)]
-pub struct Patience {
-    /// For the next bytes.
-    pub read: Duration,
-    /// For room for the next bytes.
-    pub write: Duration,
-}
-
-impl Patience {
-    /// 300 seconds for a read and 60 for a write.
-    pub fn usual() -> Patience
-        ensures read { as_nanos result.read ≡ 300 * 10 ^ 9 }
-        ensures write { as_nanos result.write ≡ 60 * 10 ^ 9 }
-    {
-        Patience {
-            read: Duration::from_secs(300),
-            write: Duration::from_secs(60),
-        }
-    }
-}
-
 /// A listener over TCP. It never answers that it has no more peers, and where it listens is not known.
 ///
 /// A wait that a signal interrupted, and a connection that was gone before it was handed out, are no faults: it waits on.
 /// Where the system lacks memory, files or buffers for the next connection, it tries again every 10 milliseconds. What is
 /// written to a peer leaves at once. A connection that can't be told how long it may wait is dropped as if it were gone.
 #[derive(Drop)]
-pub struct TcpPorts<N: Net + Clock> {
+pub struct TcpPorts<N: Net + Clock + Copy> {
     net: N,
     patience: Patience,
     listener: Option<N::Listener>,
@@ -173,7 +149,7 @@ pub struct TcpPorts<N: Net + Clock> {
     faults: u64,
 }
 
-impl<N: Net + Clock> TcpPorts<N> {
+impl<N: Net + Clock + Copy> TcpPorts<N> {
     /// A listener on this network, which doesn't listen yet, and whose connections have the usual patience.
     pub fn new(net: N) -> TcpPorts<N>
         ensures listens { ⟦<TcpPorts<N> as Listener>⟧.listens result ≡ false }
@@ -204,30 +180,25 @@ impl<N: Net + Clock> TcpPorts<N> {
 // How long it rests where the system lacks something.
 const REST_MILLIS: u64 = 10;
 
-// Tells a connection that its packets aren't kept back, and how long it may wait. Whether it will keep to that.
-fn is_told<S: OpenStream>(stream: &S, patience: Patience) -> bool {
-    // A peer whose packets are kept back is slow, and a peer all the same.
-    let _ = stream.set_nodelay(true);
-    stream.set_read_timeout(Some(patience.read)).is_ok()
-        && stream.set_write_timeout(Some(patience.write)).is_ok()
-}
-
 // The next connection that keeps to this patience. None where the listener failed.
-fn next_stream<C: Clock, L: OpenListener>(
-    clock: &C,
+fn next_stream<C: Clock + Copy, L: OpenListener>(
+    clock: C,
     listener: &L,
     patience: Patience,
-) -> Option<L::Stream>
+) -> Option<PatientStream<C, L::Stream>>
 where
     L::Stream: OpenStream,
 {
     for _ in 0..u64::MAX {
         match listener.accept() {
-            Ok((stream, _)) if is_told(&stream, patience) => return Some(stream),
-            Ok(_) => {}
+            Ok((stream, _)) => {
+                if let Ok(stream) = PatientStream::new(clock, stream, patience) {
+                    return Some(stream);
+                }
+            }
             Err(error) => match retry_after(error.kind(), is_short(error.raw_os_error())) {
                 Retry::AtOnce => {}
-                Retry::AfterRest => thread::sleep(clock, Duration::from_millis(REST_MILLIS)),
+                Retry::AfterRest => thread::sleep(&clock, Duration::from_millis(REST_MILLIS)),
                 Retry::Never => return None,
             },
         }
@@ -235,11 +206,11 @@ where
     None
 }
 
-impl<N: Net + Clock> Listener for TcpPorts<N> {
+impl<N: Net + Clock + Copy> Listener for TcpPorts<N> {
     ghost use Rattle.std.specs.Prelude.{None};
     ghost use Rattle.std.specs.Option.{is_some};
 
-    type Peer = TcpPeer<N::Stream>;
+    type Peer = TcpPeer<PatientStream<N, N::Stream>>;
 
     ghost faults = { λ l. l.faults };
 
@@ -274,7 +245,7 @@ impl<N: Net + Clock> Listener for TcpPorts<N> {
     }
 
     /// Waits for the next connection. Only a fault counts one.
-    fn accept<R: Wait>(&mut self, _rt: &R) -> Accepted<TcpPeer<N::Stream>>
+    fn accept<R: Wait>(&mut self, _rt: &R) -> Accepted<TcpPeer<PatientStream<N, N::Stream>>>
         requires { ⟦<TcpPorts<N> as Listener>⟧.listens self.old ≡ true }
 
         // What each listener ensures.
@@ -282,14 +253,16 @@ impl<N: Net + Clock> Listener for TcpPorts<N> {
         ensures listens { ⟦<TcpPorts<N> as Listener>⟧.listens self.new ≡ true }
         ensures handed { ⟦<TcpPorts<N> as Listener>⟧.handed self.new ≡ count_after (peers_in result) (⟦<TcpPorts<N> as Listener>⟧.handed self.old) }
 
-        // That only a fault counts one, and that there is always a next one.
+        // That nothing went through the connection yet, that only a fault counts one, and that there is always a next one.
+        ensures none_given { OnPeer result (λ p. ⟦<TcpPeer<PatientStream<N, N::Stream>> as Ends>⟧.given p ≡ Some []) }
+        ensures none_written { OnPeer result (λ p. ⟦<TcpPeer<PatientStream<N, N::Stream>> as Ends>⟧.written p ≡ Some []) }
         ensures count { ⟦<TcpPorts<N> as Listener>⟧.faults self.new ≡ count_after (accept_faults result) (⟦<TcpPorts<N> as Listener>⟧.faults self.old) }
         ensures never_done { done_after result false ≡ false }
     {
         let Some(listener) = &self.listener else {
             unreachable!()
         };
-        match next_stream(&self.net, listener, self.patience) {
+        match next_stream(self.net, listener, self.patience) {
             Some(stream) => {
                 self.handed = count_up(self.handed);
                 Accepted::Peer(TcpPeer::new(stream))
