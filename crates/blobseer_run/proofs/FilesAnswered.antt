@@ -8,11 +8,14 @@ use Rattle.blob_model.specs.Store as Stores
 use Rattle.blob_model.specs.Store.{Blob, published}
 use Rattle.blob_model.specs.Answer as Answer
 use Rattle.blob_model.specs.Answer.{refuse}
+use Rattle.blob_model.specs.declared.call.Place.TheVariants.{Append}
 use Rattle.blob_model.specs.declared.call.Call.TheVariants as Calls
+use Rattle.blob_model.specs.declared.call.Event.{Event}
 use Rattle.blob_model.specs.declared.call.Outcome.TheVariants as Outcomes
 use Rattle.blob_model.specs.declared.call.Refusal.TheVariants as Refusals
 use Rattle.request_form.specs.Session.{Session, HeldTicket, IsNobody, sees, store_at, outcome_at, ticket_at}
-use Rattle.request_form.specs.Answers.{Unless, OutOfMemory, CreateAnswer, UpdateAnswer, ReadAnswer, FinishHindered, ReportAnswer, FinishAnswer, Answers, update_fault, read_fault, max_read, max_tickets}
+use Rattle.request_form.specs.Turns.{Tickets, Turn, refuses, AfterGap}
+use Rattle.request_form.specs.Answers.{Unless, AddTurn, ReadTurn, UnnumberedTurn, FinishTurn, UpdateAnswer, FinishAnswer, Answers, update_fault, read_fault, max_read, max_tickets}
 use Rattle.request_form.specs.Replies.{reply_of, page_faults}
 use Rattle.request_form.specs.declared.form.Request.{Request}
 use Rattle.request_form.specs.declared.form.Request.TheVariants as Requests
@@ -55,8 +58,8 @@ same_store f = ap (λ (s : Session). with_store f s) (same_sees f.store)
 looks : (f : Files) → LooksAtNames nobody f f
 looks f = record { others = []; is_gap = refl; is = same_names f }
 
-starved : (s : Session) → OutOfMemory IsNobody s (Replies.Refused Faults.NoMemory) s
-starved s = record { others = []; is_gap = refl; said = refl; seen = same_sees s }
+starved : (s : Session) (May : List Event → Turn → Type 0) → May [] (refuses Faults.NoMemory) → AfterGap IsNobody s May (Replies.Refused Faults.NoMemory) s
+starved s May may = record { others = []; is_gap = refl; turn = refuses Faults.NoMemory; may = may; said = refl; seen = same_sees s }
 
 asks : (f : Files) (request : Request) (told : Reply) → Answers IsNobody f.store request told f.store → AsksStore nobody f request told f
 asks f request told a = record { after = f.store; answers = a; is = refl }
@@ -97,14 +100,14 @@ unfolding is_calm
 read_calm count = either (nat_lt max_read count) is_calm (Some (Faults.ReadTooLong count)) None refl tt
 
 append_idle : (f : Files) (blob : ℕ) (bytes : List ℕ) → Idle (λ fault. Answers IsNobody f.store (Requests.Append blob bytes) (Replies.Refused fault) f.store)
-append_idle f blob bytes = unless_idle (update_fault f.store bytes) f.store _ (calm_at (update_fault f.store bytes) (update_calm f.store bytes)) (UpdateAnswer.out_of_memory (starved f.store))
+append_idle f blob bytes = unless_idle (update_fault f.store bytes) f.store _ (calm_at (update_fault f.store bytes) (update_calm f.store bytes)) (UpdateAnswer.once (starved f.store (UnnumberedTurn f.store blob Append bytes) UnnumberedTurn.out_of_memory))
 
 read_idle : (f : Files) (blob version offset count : ℕ) → Idle (λ fault. Answers IsNobody f.store (Requests.Read blob version offset count) (Replies.Refused fault) f.store)
-read_idle f blob version offset count = unless_idle (read_fault count) f.store _ (calm_at (read_fault count) (read_calm count)) (ReadAnswer.out_of_memory (starved f.store))
+read_idle f blob version offset count = unless_idle (read_fault count) f.store _ (calm_at (read_fault count) (read_calm count)) (starved f.store (ReadTurn f.store blob version offset count) ReadTurn.out_of_memory)
 
 finish_held : (s : Session) (ticket : ℕ) (o : Option HeldTicket) → Idle (λ fault. FinishAnswer IsNobody s ticket o (Replies.Refused fault) s)
 finish_held s ticket None = record { fault = Faults.NoTicket ticket; calm = refl; answer = (refl, refl) }
-finish_held s ticket (Some t) = record { fault = Faults.NoMemory; calm = refl; answer = ReportAnswer.hindered (FinishHindered.out_of_memory (starved s)) }
+finish_held s ticket (Some t) = record { fault = Faults.NoMemory; calm = refl; answer = starved s (FinishTurn s t.blob t.version (λ published. Replies.Finished published) (Tickets.drop t.number) Tickets.stay) FinishTurn.out_of_memory }
 
 -- ---- a reply to each item
 
@@ -156,7 +159,7 @@ enter_calm path EnterFaults.NoMemory = refl
 on_free : (f : Files) (path : List ℕ) (o : Option EnterFault) → Part (λ reply. OnFree nobody path f o reply f) file_fault_count
 on_free f path None = record {
   reply = store_fault Faults.NoMemory;
-  answer = MakesFile.not_created Faults.NoMemory (asks f Requests.Create (Replies.Refused Faults.NoMemory) (CreateAnswer.out_of_memory (starved f.store))) refl;
+  answer = MakesFile.not_created Faults.NoMemory (asks f Requests.Create (Replies.Refused Faults.NoMemory) (starved f.store (AddTurn f.store Calls.Create) AddTurn.out_of_memory)) refl;
   calm = refl;
 }
 on_free f path (Some fault) = record { reply = enter_refused path fault; answer = (refl, refl); calm = enter_calm path fault }

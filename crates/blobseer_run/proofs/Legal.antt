@@ -22,7 +22,8 @@ use Rattle.blob_model.specs.declared.call.Outcome.TheVariants as Outcomes
 use Rattle.blob_model.specs.declared.call.Refusal.{Refusal}
 use Rattle.blob_model.specs.declared.call.Refusal.TheVariants as Refusals
 use Rattle.request_form.specs.Session.{Fixed, Session, HeldTicket, IsNobody, sees, holds, ticket_at, without_ticket, drops, without_version, lets_go, takes_up_to}
-use Rattle.request_form.specs.Answers.{Updated, Started, CreateAnswer, UpdateAnswer, WholeUpdate, FinishHindered, ReportAnswer, FinishAnswer, BranchAnswer, ReadAnswer, ReadManyAnswer, RepairAnswer, LookAnswer, Unless, update_fault, read_fault, ranges_fault, Answers}
+use Rattle.request_form.specs.Turns.{Tickets, Turn, with_tickets, and_made}
+use Rattle.request_form.specs.Answers.{AddTurn, ReadTurn, ReadManyTurn, FinishTurn, RepairTurn, UnnumberedTurn, StartTurn, StartedTurn, WholeTurn, UpdateAnswer, StartAnswer, WholeAnswer, FinishAnswer, LookAnswer, Unless, update_fault, read_fault, ranges_fault, Answers}
 use Rattle.request_form.specs.HangUp.{AllNumbered}
 use Rattle.request_form.specs.Transcript.{ItemReply, Run, first_session}
 use Rattle.request_form.specs.declared.form.Request.{Request}
@@ -272,15 +273,6 @@ numbered_without : (s : Store) (ts : List HeldTicket) (number : ℕ) → AllNumb
 numbered_without s [] number h = tt
 numbered_without s (t ∷ ts) number h = without_if s (t.number == number) t ts (without_ticket ts number) h.0 h.1 (numbered_without s ts number h.1)
 
-found_if : (s : Store) (b : Bool) (t found : HeldTicket) (o : Option HeldTicket) → (if b then Some t else o) ≡ Some found → IsNumbered (blob_at s t.blob) t.version → (o ≡ Some found → IsNumbered (blob_at s found.blob) found.version) →
-    IsNumbered (blob_at s found.blob) found.version
-found_if s true t found o e h k = let P : HeldTicket → Type 0 = λ x. IsNumbered (blob_at s x.blob) x.version in subst P (same_Some t found e) h
-found_if s false t found o e h k = k e
-
-numbered_held : (s : Store) (ts : List HeldTicket) (number : ℕ) (found : HeldTicket) → AllNumbered s ts → ticket_at ts number ≡ Some found → IsNumbered (blob_at s found.blob) found.version
-numbered_held s [] number found h e = absurd (none-some found e)
-numbered_held s (t ∷ ts) number found h e = found_if s (t.number == number) t found (ticket_at ts number) e h.0 (numbered_held s ts number found h.1)
-
 numbered_without_version : (s : Store) (ts : List HeldTicket) (blob version : ℕ) → AllNumbered s ts → AllNumbered s (without_version ts blob version)
 numbered_without_version s [] blob version h = tt
 numbered_without_version s (t ∷ ts) blob version h =
@@ -352,17 +344,18 @@ module _ (stay : OldVersionsStay) where
     same_well : (s' : Session) → s' ≡ s → GoesWell s s'
     same_well s' e = goes_to s s' s e refl good
 
-    create_well : (s' : Session) (reply : Reply) → CreateAnswer IsNobody s reply s' → GoesWell s s'
-    create_well s' reply (CreateAnswer.created a) =
-        sees_well s' _ (sound_event s.fixed.limits s.seen a.others (Events.Create s.caller) a.is_gap good.sound (record { may = tt; accepted = ap is_refused a.done })) a.seen
-    create_well s' reply (CreateAnswer.refused a) = none_well s' a.others a.is_gap a.seen
-    create_well s' reply (CreateAnswer.out_of_memory a) = none_well s' a.others a.is_gap a.seen
+    create_well : (s' : Session) (others : List Event) → others ≡ [] → (turn : Turn) → AddTurn s Calls.Create others turn → s' ≡ with_tickets turn.tickets (sees s (and_made others turn.made)) → GoesWell s s'
+    create_well s' others alone _ (AddTurn.added blob e) seen =
+        sees_well s' _ (sound_event s.fixed.limits s.seen others (Events.Create s.caller) alone good.sound (record { may = tt; accepted = ap is_refused e })) seen
+    create_well s' others alone _ (AddTurn.refused refusal e) seen = none_well s' others alone seen
+    create_well s' others alone _ AddTurn.out_of_memory seen = none_well s' others alone seen
 
-    branch_well : (s' : Session) (blob version : ℕ) (reply : Reply) → BranchAnswer IsNobody s blob version reply s' → GoesWell s s'
-    branch_well s' blob version reply (BranchAnswer.branched a) =
-        sees_well s' _ (sound_event s.fixed.limits s.seen a.others (Events.Branch s.caller blob version) a.is_gap good.sound (record { may = tt; accepted = ap is_refused a.done })) a.seen
-    branch_well s' blob version reply (BranchAnswer.refused a) = none_well s' a.others a.is_gap a.seen
-    branch_well s' blob version reply (BranchAnswer.out_of_memory a) = none_well s' a.others a.is_gap a.seen
+    branch_well : (s' : Session) (blob version : ℕ) (others : List Event) → others ≡ [] → (turn : Turn) → AddTurn s (Calls.Branch blob version) others turn
+        → s' ≡ with_tickets turn.tickets (sees s (and_made others turn.made)) → GoesWell s s'
+    branch_well s' blob version others alone _ (AddTurn.added branch e) seen =
+        sees_well s' _ (sound_event s.fixed.limits s.seen others (Events.Branch s.caller blob version) alone good.sound (record { may = tt; accepted = ap is_refused e })) seen
+    branch_well s' blob version others alone _ (AddTurn.refused refusal e) seen = none_well s' others alone seen
+    branch_well s' blob version others alone _ AddTurn.out_of_memory seen = none_well s' others alone seen
 
     -- what the session has seen once it numbered an update, after what others did and before it
     module _ (blob : ℕ) (place : Place) (bytes : List ℕ) (others later : List Event) (alone : others ≡ []) (alone_later : later ≡ []) (version at size : ℕ)
@@ -394,9 +387,9 @@ module _ (stay : OldVersionsStay) where
       finished_sound = sound_more s.fixed.limits _ (Events.Finish s.caller blob version) assigned_sound (record { may = latest.numbered; accepted = latest.accepted })
 
       -- as the cases of an answer write it
-      updated_sound : IsSound s.fixed.limits (s.seen ++ (others ++ assigns ∷ (later ++ (if finishes blob version later then [] else Events.Finish s.caller blob version ∷ []))))
+      updated_sound : IsSound s.fixed.limits (s.seen ++ (others ++ assigns ∷ (later ++ Events.Finish s.caller blob version ∷ [])))
       updated_sound =
-          let P : List Event → Type 0 = λ es. IsSound s.fixed.limits (s.seen ++ (others ++ assigns ∷ (es ++ (if finishes blob version es then [] else Events.Finish s.caller blob version ∷ [])))) in
+          let P : List Event → Type 0 = λ es. IsSound s.fixed.limits (s.seen ++ (others ++ assigns ∷ (es ++ Events.Finish s.caller blob version ∷ []))) in
           subst P (sym alone_later) (sound_as s.fixed.limits _ _ (append_assoc (s.seen ++ others) (assigns ∷ []) (Events.Finish s.caller blob version ∷ []) ∙ append_assoc s.seen others _) finished_sound)
 
       -- the version is held
@@ -412,34 +405,46 @@ module _ (stay : OldVersionsStay) where
           } in
           subst P (sym alone_later) made
 
-    updated_well : (s' : Session) (blob : ℕ) (place : Place) (bytes : List ℕ) (done : ℕ → ℕ → ℕ → Reply) (reply : Reply) → 1 ≤ length bytes → Updated IsNobody s blob place bytes done reply s' → GoesWell s s'
-    updated_well s' blob place bytes done reply some a =
-        sees_well s' _ (updated_sound blob place bytes a.others a.later a.is_gap a.is_gap_later a.version a.at a.size a.numbered some) a.seen
+      -- the turn after the numbering
+      whole_then : (s' : Session) (turn : Turn) → WholeTurn s blob place version at size (others ++ assigns ∷ later) later turn
+          → s' ≡ with_tickets turn.tickets (sees s (others ++ assigns ∷ and_made later turn.made)) → GoesWell s s'
+      whole_then s' _ (WholeTurn.finished open_ ready) seen = sees_well s' _ updated_sound seen
+      whole_then s' _ (WholeTurn.found finished) seen = absurd (false≢true (sym (ap (λ (es : List Event). finishes blob version es) alone_later) ∙ finished))
+      whole_then s' _ (WholeTurn.held_back open_ folds) seen = goes_to s s' _ seen refl kept_good
+      whole_then s' _ WholeTurn.out_of_memory seen = goes_to s s' _ seen refl kept_good
 
-    whole_well : (s' : Session) (blob : ℕ) (place : Place) (bytes : List ℕ) (done : ℕ → ℕ → ℕ → Reply) (started : ℕ → ℕ → ℕ → ℕ → Reply) (reply : Reply) → 1 ≤ length bytes →
-        WholeUpdate IsNobody s blob place bytes done started reply s' → GoesWell s s'
-    whole_well s' blob place bytes done started reply some (WholeUpdate.updated a) = updated_well s' blob place bytes done reply some a
-    whole_well s' blob place bytes done started reply some (WholeUpdate.held_back a) =
-        goes_to s s' _ a.seen refl (kept_good blob place bytes a.others a.later a.is_gap a.is_gap_later a.version a.at a.size a.numbered some)
+      started_then : (s' : Session) (turn : Turn) → StartedTurn s blob version at size (others ++ assigns ∷ later) later turn
+          → s' ≡ with_tickets turn.tickets (sees s (others ++ assigns ∷ and_made later turn.made)) → GoesWell s s'
+      started_then s' _ StartedTurn.out_of_memory seen = goes_to s s' _ seen refl kept_good
 
-    started_well : (s' : Session) (blob : ℕ) (place : Place) (bytes : List ℕ) (started : ℕ → ℕ → ℕ → ℕ → Reply) (reply : Reply) → 1 ≤ length bytes → Started IsNobody s blob place bytes started reply s' → GoesWell s s'
-    started_well s' blob place bytes started reply some a =
-        goes_to s s' _ a.seen refl (kept_good blob place bytes a.others [] a.is_gap refl a.version a.at a.size a.numbered some)
+    unnumbered_well : (s' : Session) (blob : ℕ) (place : Place) (bytes : List ℕ) (others : List Event) → others ≡ [] → (turn : Turn) → UnnumberedTurn s blob place bytes others turn
+        → s' ≡ with_tickets turn.tickets (sees s (and_made others turn.made)) → GoesWell s s'
+    unnumbered_well s' blob place bytes others alone _ (UnnumberedTurn.refused refusal e) seen = none_well s' others alone seen
+    unnumbered_well s' blob place bytes others alone _ UnnumberedTurn.out_of_memory seen = none_well s' others alone seen
+    unnumbered_well s' blob place bytes others alone _ (UnnumberedTurn.not_stored page is_page stored) seen = none_well s' others alone seen
 
-    update_well : (s' : Session) (blob : ℕ) (place : Place) (bytes : List ℕ) (reply : Reply) (Does : Type 0) → 1 ≤ length bytes → (Does → GoesWell s s') →
-        UpdateAnswer IsNobody s blob place bytes Does reply s' → GoesWell s s'
-    update_well s' blob place bytes reply Does some f (UpdateAnswer.does a) = f a
-    update_well s' blob place bytes reply Does some f (UpdateAnswer.refused a) = none_well s' a.others a.is_gap a.seen
-    update_well s' blob place bytes reply Does some f (UpdateAnswer.out_of_memory a) = none_well s' a.others a.is_gap a.seen
-    update_well s' blob place bytes reply Does some f (UpdateAnswer.kept a) =
-        goes_to s s' _ a.seen refl (kept_good blob place bytes a.others a.later a.is_gap a.is_gap_later a.version a.at a.size a.numbered some)
-    update_well s' blob place bytes reply Does some f (UpdateAnswer.not_stored a) = none_well s' a.others a.is_gap a.seen
+    starting_well : (s' : Session) (blob : ℕ) (place : Place) (bytes : List ℕ) → 1 ≤ length bytes → (others : List Event) → others ≡ [] → (turn : Turn) → StartTurn s blob place bytes others turn
+        → s' ≡ with_tickets turn.tickets (sees s (and_made others turn.made)) → GoesWell s s'
+    starting_well s' blob place bytes some others alone _ (StartTurn.started version at size e) seen =
+        goes_to s s' _ seen refl (kept_good blob place bytes others [] alone refl version at size e some)
+    starting_well s' blob place bytes some others alone turn (StartTurn.unnumbered _ may) seen = unnumbered_well s' blob place bytes others alone turn may seen
 
-    read_well : (s' : Session) (blob version offset count : ℕ) (reply : Reply) → ReadAnswer IsNobody s blob version offset count reply s' → GoesWell s s'
-    read_well s' blob version offset count reply (ReadAnswer.content a) = none_well s' a.others a.is_gap a.seen
-    read_well s' blob version offset count reply (ReadAnswer.refused a) = none_well s' a.others a.is_gap a.seen
-    read_well s' blob version offset count reply (ReadAnswer.out_of_memory a) = none_well s' a.others a.is_gap a.seen
-    read_well s' blob version offset count reply (ReadAnswer.not_read a) = none_well s' a.others a.is_gap a.seen
+    whole_well : (s' : Session) (blob : ℕ) (place : Place) (bytes : List ℕ) (reply : Reply) → 1 ≤ length bytes → WholeAnswer IsNobody s blob place bytes reply s' → GoesWell s s'
+    whole_well s' blob place bytes reply some (UpdateAnswer.once a) = unnumbered_well s' blob place bytes a.others a.is_gap a.turn a.may a.seen
+    whole_well s' blob place bytes reply some (UpdateAnswer.twice a) =
+        whole_then blob place bytes a.others a.later a.is_gap a.is_gap_later a.version a.at a.size a.numbered some s' a.turn a.may a.seen
+
+    start_well : (s' : Session) (blob : ℕ) (place : Place) (bytes : List ℕ) (reply : Reply) → 1 ≤ length bytes → StartAnswer IsNobody s blob place bytes reply s' → GoesWell s s'
+    start_well s' blob place bytes reply some (UpdateAnswer.once a) = starting_well s' blob place bytes some a.others a.is_gap a.turn a.may a.seen
+    start_well s' blob place bytes reply some (UpdateAnswer.twice a) =
+        started_then blob place bytes a.others a.later a.is_gap a.is_gap_later a.version a.at a.size a.numbered some s' a.turn a.may a.seen
+
+    read_well : (s' : Session) (blob version offset count : ℕ) (others : List Event) → others ≡ [] → (turn : Turn) → ReadTurn s blob version offset count others turn
+        → s' ≡ with_tickets turn.tickets (sees s (and_made others turn.made)) → GoesWell s s'
+    read_well s' blob version offset count others alone _ (ReadTurn.content bytes e) seen = none_well s' others alone seen
+    read_well s' blob version offset count others alone _ (ReadTurn.refused refusal e) seen = none_well s' others alone seen
+    read_well s' blob version offset count others alone _ ReadTurn.out_of_memory seen = none_well s' others alone seen
+    read_well s' blob version offset count others alone _ (ReadTurn.not_read bytes e some page meets) seen = none_well s' others alone seen
 
     look_well : (s' : Session) (call : Call) (reply : Reply) → LookAnswer IsNobody s call reply s' → GoesWell s s'
     look_well s' call reply a = none_well s' a.others a.is_gap a.seen
@@ -448,69 +453,71 @@ module _ (stay : OldVersionsStay) where
     drops_well s' more number sound e =
         goes_to s s' (drops (sees s more) number) e refl (record { sound = sound; held = numbered_without (store_of s.fixed.limits (s.seen ++ more)) s.tickets number (sees_good more sound).held })
 
-    hindered_well : (s' : Session) (blob version : ℕ) (reply : Reply) → FinishHindered IsNobody s blob version reply s' → GoesWell s s'
-    hindered_well s' blob version reply (FinishHindered.out_of_memory a) = none_well s' a.others a.is_gap a.seen
-    hindered_well s' blob version reply (FinishHindered.waits a) = none_well s' a.others a.is_gap a.seen
-    hindered_well s' blob version reply (FinishHindered.not_folded a) = none_well s' a.others a.is_gap a.seen
-
     lets_go_well : (s' : Session) (more : List Event) (blob version : ℕ) → IsSound s.fixed.limits (s.seen ++ more) → s' ≡ lets_go (sees s more) blob version → GoesWell s s'
     lets_go_well s' more blob version sound e =
         goes_to s s' (lets_go (sees s more) blob version) e refl
         (record { sound = sound; held = numbered_without_version (store_of s.fixed.limits (s.seen ++ more)) s.tickets blob version (sees_good more sound).held })
 
-    repair_well : (s' : Session) (blob version : ℕ) (reply : Reply) → RepairAnswer IsNobody s blob version reply s' → GoesWell s s'
-    repair_well s' blob version reply (RepairAnswer.repaired a) =
-        let may = repairable (blob_at (store_of s.fixed.limits (s.seen ++ a.others)) blob) blob version a.may in
-        lets_go_well s' _ blob version (sound_event s.fixed.limits s.seen a.others (Events.Finish s.caller blob version) a.is_gap good.sound (record { may = may; accepted = ap is_refused a.done })) a.seen
-    repair_well s' blob version reply (RepairAnswer.finished a) = lets_go_well s' a.others blob version (sound_none s.fixed.limits s.seen a.others a.is_gap good.sound) a.seen
-    repair_well s' blob version reply (RepairAnswer.refused a) = none_well s' a.others a.is_gap a.seen
-    repair_well s' blob version reply (RepairAnswer.hindered a) = hindered_well s' blob version reply a
+    -- a finish, after which the tickets are these where the update is finished by then
+    finishing_well : (s' : Session) (blob version : ℕ) (says : ℕ → Reply) (settled : Tickets)
+        → ((more : List Event) → IsSound s.fixed.limits (s.seen ++ more) → s' ≡ with_tickets settled (sees s more) → GoesWell s s')
+        → (others : List Event) → others ≡ [] → (turn : Turn) → FinishTurn s blob version says settled Tickets.stay others turn
+        → s' ≡ with_tickets turn.tickets (sees s (and_made others turn.made)) → GoesWell s s'
+    finishing_well s' blob version says settled goes others alone _ (FinishTurn.finished published unfinished ready e) seen =
+        let may = repairable (blob_at (store_of s.fixed.limits (s.seen ++ others)) blob) blob version unfinished in
+        goes _ (sound_event s.fixed.limits s.seen others (Events.Finish s.caller blob version) alone good.sound (record { may = may; accepted = ap is_refused e })) seen
+    finishing_well s' blob version says settled goes others alone _ (FinishTurn.found e) seen = goes others (sound_none s.fixed.limits s.seen others alone good.sound) seen
+    finishing_well s' blob version says settled goes others alone _ (FinishTurn.waits held unfinished folds e) seen = none_well s' others alone seen
+    finishing_well s' blob version says settled goes others alone _ (FinishTurn.not_folded page unfinished fold ready) seen = none_well s' others alone seen
+    finishing_well s' blob version says settled goes others alone _ FinishTurn.out_of_memory seen = none_well s' others alone seen
 
-    many_well : (s' : Session) (blob version : ℕ) (ranges : List (ℕ × ℕ)) (reply : Reply) → ReadManyAnswer IsNobody s blob version ranges reply s' → GoesWell s s'
-    many_well s' blob version ranges reply (ReadManyAnswer.contents a) = none_well s' a.others a.is_gap a.seen
-    many_well s' blob version ranges reply (ReadManyAnswer.refused a) = none_well s' a.others a.is_gap a.seen
-    many_well s' blob version ranges reply (ReadManyAnswer.out_of_memory a) = none_well s' a.others a.is_gap a.seen
-    many_well s' blob version ranges reply (ReadManyAnswer.not_read a) = none_well s' a.others a.is_gap a.seen
+    repair_well : (s' : Session) (blob version : ℕ) (others : List Event) → others ≡ [] → (turn : Turn) → RepairTurn s blob version others turn
+        → s' ≡ with_tickets turn.tickets (sees s (and_made others turn.made)) → GoesWell s s'
+    repair_well s' blob version others alone turn (RepairTurn.finish _ may) seen =
+        finishing_well s' blob version _ (Tickets.let_go blob version) (λ more sound e. lets_go_well s' more blob version sound e) others alone turn may seen
+    repair_well s' blob version others alone _ (RepairTurn.refused refusal e other) seen = none_well s' others alone seen
+
+    many_well : (s' : Session) (blob version : ℕ) (ranges : List (ℕ × ℕ)) (others : List Event) → others ≡ [] → (turn : Turn) → ReadManyTurn s blob version ranges others turn
+        → s' ≡ with_tickets turn.tickets (sees s (and_made others turn.made)) → GoesWell s s'
+    many_well s' blob version ranges others alone _ (ReadManyTurn.contents bytes e) seen = none_well s' others alone seen
+    many_well s' blob version ranges others alone _ (ReadManyTurn.refused earlier later range bytes split first refusal e) seen = none_well s' others alone seen
+    many_well s' blob version ranges others alone _ ReadManyTurn.out_of_memory seen = none_well s' others alone seen
+    many_well s' blob version ranges others alone _ (ReadManyTurn.not_read bytes e range there some page meets) seen = none_well s' others alone seen
 
     hello_well : (s' : Session) (limit : ℕ) → s' ≡ takes_up_to s limit → GoesWell s s'
     hello_well s' limit e = goes_to s s' (takes_up_to s limit) e refl (record { sound = good.sound; held = good.held })
 
-    finish_well : (s' : Session) (number : ℕ) (o : Option HeldTicket) (reply : Reply) → ticket_at s.tickets number ≡ o → FinishAnswer IsNobody s number o reply s' → GoesWell s s'
-    finish_well s' number None reply e a = same_well s' a.1
-    finish_well s' number (Some t) reply e (ReportAnswer.reported a) =
-        let none : s.seen ++ a.others ≡ s.seen = ap (λ (es : List Event). s.seen ++ es) a.is_gap ∙ append-nil s.seen in
-        let P : List Event → Type 0 = λ es. IsNumbered (blob_at (store_of s.fixed.limits es) t.blob) t.version in
-        let may : P (s.seen ++ a.others) = subst P (sym none) (numbered_held (store_of s.fixed.limits s.seen) s.tickets number t good.held e) in
-        drops_well s' _ t.number (sound_event s.fixed.limits s.seen a.others (Events.Finish s.caller t.blob t.version) a.is_gap good.sound (record { may = may; accepted = ap is_refused a.done })) a.seen
-    finish_well s' number (Some t) reply e (ReportAnswer.finished a) = drops_well s' a.others t.number (sound_none s.fixed.limits s.seen a.others a.is_gap good.sound) a.seen
-    finish_well s' number (Some t) reply e (ReportAnswer.hindered a) = hindered_well s' t.blob t.version reply a
+    finish_well : (s' : Session) (number : ℕ) (o : Option HeldTicket) (reply : Reply) → FinishAnswer IsNobody s number o reply s' → GoesWell s s'
+    finish_well s' number None reply a = same_well s' a.1
+    finish_well s' number (Some t) reply a =
+        finishing_well s' t.blob t.version _ (Tickets.drop t.number) (λ more sound e. drops_well s' more t.number sound e) a.others a.is_gap a.turn a.may a.seen
 
     unless_well : (s' : Session) (reply : Reply) (A : Type 0) (fault fault' : Option Fault) → fault' ≡ fault → (fault' ≡ None → A → GoesWell s s') → Unless fault s reply s' A → GoesWell s s'
     unless_well s' reply A None fault' e f h = f e h
     unless_well s' reply A (Some fault) fault' e f h = same_well s' h.1
 
     request_well : (s' : Session) (request : Request) (reply : Reply) → Answers IsNobody s request reply s' → GoesWell s s'
-    request_well s' Requests.Create reply a = create_well s' reply a
+    request_well s' Requests.Create reply a = create_well s' a.others a.is_gap a.turn a.may a.seen
     request_well s' (Requests.Append blob bytes) reply a =
-        unless_well s' reply _ (update_fault s bytes) (update_fault s bytes) refl (λ free h. update_well s' blob Append bytes reply _ (some_bytes s bytes free) (whole_well s' blob Append bytes _ _ reply (some_bytes s bytes free)) h) a
+        unless_well s' reply _ (update_fault s bytes) (update_fault s bytes) refl (λ free h. whole_well s' blob Append bytes reply (some_bytes s bytes free) h) a
     request_well s' (Requests.Write blob offset bytes) reply a =
-        unless_well s' reply _ (update_fault s bytes) (update_fault s bytes) refl (λ free h. update_well s' blob (WriteAt offset) bytes reply _ (some_bytes s bytes free) (whole_well s' blob (WriteAt offset) bytes _ _ reply (some_bytes s bytes free)) h) a
+        unless_well s' reply _ (update_fault s bytes) (update_fault s bytes) refl (λ free h. whole_well s' blob (WriteAt offset) bytes reply (some_bytes s bytes free) h) a
     request_well s' (Requests.StartAppend blob bytes) reply a =
-        unless_well s' reply _ (update_fault s bytes) (update_fault s bytes) refl (λ free h. update_well s' blob Append bytes reply _ (some_bytes s bytes free) (started_well s' blob Append bytes _ reply (some_bytes s bytes free)) h) a
+        unless_well s' reply _ (update_fault s bytes) (update_fault s bytes) refl (λ free h. start_well s' blob Append bytes reply (some_bytes s bytes free) h) a
     request_well s' (Requests.StartWrite blob offset bytes) reply a =
-        unless_well s' reply _ (update_fault s bytes) (update_fault s bytes) refl (λ free h. update_well s' blob (WriteAt offset) bytes reply _ (some_bytes s bytes free) (started_well s' blob (WriteAt offset) bytes _ reply (some_bytes s bytes free)) h) a
-    request_well s' (Requests.Finish number) reply a = finish_well s' number (ticket_at s.tickets number) reply refl a
+        unless_well s' reply _ (update_fault s bytes) (update_fault s bytes) refl (λ free h. start_well s' blob (WriteAt offset) bytes reply (some_bytes s bytes free) h) a
+    request_well s' (Requests.Finish number) reply a = finish_well s' number (ticket_at s.tickets number) reply a
     request_well s' (Requests.Read blob version offset count) reply a =
-        unless_well s' reply _ (read_fault count) (read_fault count) refl (λ free h. read_well s' blob version offset count reply h) a
+        unless_well s' reply _ (read_fault count) (read_fault count) refl (λ free h. read_well s' blob version offset count h.others h.is_gap h.turn h.may h.seen) a
     request_well s' (Requests.Recent blob) reply a = look_well s' (Calls.Recent blob) reply a
     request_well s' (Requests.Size blob version) reply a = look_well s' (Calls.Size blob version) reply a
     request_well s' (Requests.Sync blob version) reply a = look_well s' (Calls.Sync blob version) reply a
     request_well s' (Requests.Status blob) reply a = look_well s' (Calls.Status blob) reply a
-    request_well s' (Requests.Branch blob version) reply a = branch_well s' blob version reply a
+    request_well s' (Requests.Branch blob version) reply a = branch_well s' blob version a.others a.is_gap a.turn a.may a.seen
     request_well s' (Requests.Hello version) reply a = hello_well s' _ a.1
     request_well s' (Requests.ReadMany blob version ranges) reply a =
-        unless_well s' reply _ (ranges_fault 0 ranges) (ranges_fault 0 ranges) refl (λ free h. many_well s' blob version ranges reply h) a
-    request_well s' (Requests.Repair blob version) reply a = repair_well s' blob version reply a
+        unless_well s' reply _ (ranges_fault 0 ranges) (ranges_fault 0 ranges) refl (λ free h. many_well s' blob version ranges h.others h.is_gap h.turn h.may h.seen) a
+    request_well s' (Requests.Repair blob version) reply a = repair_well s' blob version a.others a.is_gap a.turn a.may a.seen
     request_well s' Requests.Quit reply a = same_well s' a.1
 
     item_well : (s' : Session) (item : Heard) (reply : Reply) → ItemReply IsNobody s item reply s' → GoesWell s s'

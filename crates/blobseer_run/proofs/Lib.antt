@@ -16,3 +16,4 @@ pub mod PeersServed
 pub mod Early
 pub mod Lendings
 pub mod Measures
+pub mod Known

@@ -1,5 +1,5 @@
 -- What a run's session was served, from what its store says.
-use Rattle.std.proofs.Common.{◌≡◌, ℕ, List, [], ◌++◌, sum_by, refl, sym, ◌∙◌, ap, subst}
+use Rattle.std.proofs.Common.{◌≡◌, ℕ, false, List, [], ◌++◌, sum_by, refl, sym, ◌∙◌, ap, subst}
 use Rattle.std.specs.Prelude.{Option, Some, Result, Ok, Err, IfOk}
 use Rattle.blob_model.specs.Limits.{Bounds}
 use Rattle.blob_model.specs.declared.call.Event.{Event}
@@ -46,7 +46,7 @@ lines_back {D} faults f pass back doors doors' input written same all =
 
 module _ {D : Type 0} (faults : D → ℕ) (store : StoreState) (pass back : PassView Event DeskFixed) (doors doors' : List D) (start stop : SessionState D) (before after : Input) (written written' : Option (List ℕ)) (end : End) where
   abbrev new : SessionState D
-  new = record { store = store; caller = pass.caller; log = pass.seen; held = []; next = 1; doors = doors; limit = max_update }
+  new = record { store = store; caller = pass.caller; log = pass.seen; held = []; next = 1; doors = doors; limit = max_update; looks_first = false; turns = pass.turns }
 
   abbrev ServedFrom : SessionState D → List ℕ → Type 0
   ServedFrom s fed = Served said (record { session = session_of s; faults = sum_by faults s.doors; written = written }) (λ more. heard (fed ++ more)) before after input_limit (record { session = session_of stop; faults = sum_by faults stop.doors; written = written' }) end

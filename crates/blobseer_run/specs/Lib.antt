@@ -16,3 +16,4 @@ pub mod Filing
 pub mod Run
 pub mod Legal
 pub mod Serving
+pub mod Known

@@ -59,7 +59,7 @@ fn serve_session<R: Wait + Threads + Sync, S: Source, K: Sink, D: BesideDoor, G:
         (record { given = S.given script.new; left = S.left script.new; ends = S.ends script.new })
         (events result.1.seen) result.2.seen (sum_by D.faults result.3) (K.written out.new) result.0 }
     ensures pass { IsPassOf shared.now result.1 }
-    ensures names { result.2 ≡ record names_pass { seen = result.2.seen } }
+    ensures names { result.2 ≡ record names_pass { seen = result.2.seen; turns = result.2.turns } }
     ensures doors { length result.3 ≡ shared.now.providers }
     ensures read_faults { RoseBy (end_read_faults result.0) (S.read_faults script.old) (S.read_faults script.new) }
     ensures write_faults { RoseBy (end_write_faults result.0) (K.write_faults out.old) (K.write_faults out.new) }

@@ -1,5 +1,6 @@
 //! Laws of transcripts, and of the program's own doors.
 
+ghost use Rattle.blobseer_run.specs.Known.{ScriptsAreTold};
 ghost use Rattle.blobseer_run.specs.Legal.{LegalAlone, AlwaysSays};
 ghost use Rattle.blobseer_run.specs.Script.{IsCalm};
 
@@ -20,4 +21,10 @@ pub fn transcripts_are_legal()
 /// The doors that lie in the process never fail, so that over them no reply of a run is a page fault.
 pub fn plain_doors_are_calm()
     ensures { IsCalm ⟦<PlainDoor as Door>⟧.faults }
+{}
+
+/// Over an input and an output that tell themselves, as the program's own do, the command `run` answered all the bytes that its reads of
+/// the input gave, and what it said of them is all that the output took: neither is left open.
+pub fn scripts_are_told<D: Door>()
+    ensures { ScriptsAreTold (IsCalm D.faults) }
 {}

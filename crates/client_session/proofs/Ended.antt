@@ -1,8 +1,8 @@
 -- What becomes of an update that was numbered, and then finished or not.
-use Rattle.std.proofs.Common.{◌≡◌, ◌≢◌, refl, sym, ◌∙◌, ap, subst, ℕ, ◌-◌, ◌≤◌, ◌||◌, Bool, true, false, if◌then◌else◌, List, [], ◌∷◌, ◌++◌, append_assoc, append-nil, Some, arith}
+use Rattle.std.proofs.Common.{◌≡◌, ◌≢◌, refl, sym, ◌∙◌, ap, subst, ℕ, ◌-◌, ◌≤◌, ◌||◌, Bool, true, false, if◌then◌else◌, List, [], ◌∷◌, ◌++◌, append_assoc, Some, None, arith}
 use Rattle.std.specs.Prelude.{Contains}
 use Rattle.blob_model.specs.Limits.{Bounds}
-use Rattle.blob_model.specs.Store.{Blob, blob_at, assigned, is_finished}
+use Rattle.blob_model.specs.Store.{Store, Blob, blob_at, assigned, is_finished}
 use Rattle.blob_model.specs.History.{AllOther, finishes, store_of}
 use Rattle.blob_model.specs.declared.call.Place.{Place}
 use Rattle.blob_model.specs.declared.call.Call.TheVariants as Calls
@@ -11,13 +11,17 @@ use Rattle.blob_model.specs.declared.call.Event.TheVariants as Events
 use Rattle.blob_model.specs.declared.call.Outcome.TheVariants as Outcomes
 use Rattle.blob_model.specs.declared.call.Refusal.TheVariants as Refusals
 use Rattle.blob_model.proofs.Marks.{finished_by}
-use Rattle.request_form.specs.Session.{Session, store_at, outcome_at, sees, holds}
-use Rattle.request_form.specs.Answers.{RepairAnswer, FinishHindered, Updated, HeldBack, TicketKept, folds_in}
+use Rattle.request_form.specs.Session.{Session, store_at, outcome_at, sees}
+use Rattle.request_form.specs.Turns.{Tickets, Turn, refuses, with_tickets, and_made, AfterGap}
+use Rattle.request_form.specs.Answers.{FinishTurn, RepairTurn, WholeTurn, UpdateAnswer, WholeAnswer, Folds, IsReady, folds_in, keeps}
+use Rattle.request_form.specs.Replies.{update_reply, start_reply}
+use Rattle.request_form.proofs.Runs.{changed_grows}
+use Rattle.blob_model.specs.Answer.{answer, repair_refusal}
 use Rattle.request_form.specs.declared.form.Reply.{Reply}
 use Rattle.request_form.specs.declared.form.Reply.TheVariants as Replies
 use Rattle.request_form.specs.declared.form.Fault.{Fault}
 use Rattle.request_form.specs.declared.form.Fault.TheVariants as Faults
-use Rattle.client_session.proofs.StoreAnswers.{IsThere, found_already, may_be_finished, finish_unfinished}
+use Rattle.client_session.proofs.StoreAnswers.{IsThere, found_already, may_be_finished}
 use Rattle.client_session.proofs.Lifted.{unheld, then_holds, OnlyAlready}
 
 -- the version was numbered in that history, and isn't finished there
@@ -41,8 +45,7 @@ same_fault f g e = cc
 module _ (s x : Session) (blob : ℕ) (place : Place) (bytes : List ℕ) (version at size : ℕ) (others : List Event) (is_gap : AllOther s.caller others)
     (numbered : outcome_at s others (Calls.Assign blob place bytes) ≡ Outcomes.Assigned version at size)
     (open_ : IsOpenIn s.fixed.limits (s.seen ++ (others ++ Events.Assign s.caller blob place bytes ∷ [])) blob version)
-    (only : OnlyAlready (sees s (others ++ Events.Assign s.caller blob place bytes ∷ [])) blob version)
-    (done : ℕ → ℕ → ℕ → Reply) (started : ℕ → ℕ → ℕ → ℕ → Reply) where
+    (only : OnlyAlready (sees s (others ++ Events.Assign s.caller blob place bytes ∷ [])) blob version) where
   abbrev assigns : List Event
   assigns = others ++ Events.Assign s.caller blob place bytes ∷ []
 
@@ -50,132 +53,121 @@ module _ (s x : Session) (blob : ℕ) (place : Place) (bytes : List ℕ) (versio
   mid = sees s assigns
 
   -- all that came in between
-  all_seen : (later : List Event) → x.seen ≡ (s.seen ++ assigns) ++ later → x.seen ≡ s.seen ++ (others ++ Events.Assign s.caller blob place bytes ∷ later)
-  all_seen later is = is ∙ (append_assoc s.seen assigns later ∙ ap (λ (h : List Event). s.seen ++ h) (append_assoc others (Events.Assign s.caller blob place bytes ∷ []) later))
+  both_seen : (later : List Event) → (s.seen ++ assigns) ++ later ≡ s.seen ++ (others ++ Events.Assign s.caller blob place bytes ∷ later)
+  both_seen later = append_assoc s.seen assigns later ∙ ap (λ (h : List Event). s.seen ++ h) (append_assoc others (Events.Assign s.caller blob place bytes ∷ []) later)
 
-  then_seen : (later : List Event) → x.seen ≡ (s.seen ++ assigns) ++ later → then_holds s x.seen s.tickets ≡ sees s (others ++ Events.Assign s.caller blob place bytes ∷ later)
-  then_seen later is = ap (λ (h : List Event). then_holds s h s.tickets) (all_seen later is)
+  abbrev front : List Event → List Event
+  front later = others ++ Events.Assign s.caller blob place bytes ∷ later
 
-  then_held : (later : List Event) → x.seen ≡ (s.seen ++ assigns) ++ later
-      → holds (then_holds s x.seen s.tickets) blob version ≡ holds (sees s (others ++ Events.Assign s.caller blob place bytes ∷ later)) blob version
-  then_held later is = ap (λ (y : Session). holds y blob version) (then_seen later is)
+  store_then : (later : List Event) → store_at mid later ≡ store_at s (front later)
+  store_then later = ap (store_of s.fixed.limits) (both_seen later)
 
-  seen_of : (y : Session) → x ≡ y → x.seen ≡ y.seen
-  seen_of y is = ap (λ (z : Session). z.seen) is
+  -- the turn after the numbering came to this
+  pub record Then (turn : Turn) : Type 0 where
+    pub later : List Event
+    pub is_gap_later : AllOther s.caller later
+    pub may : WholeTurn s blob place version at size (front later) later turn
+    pub seen : x.seen ≡ s.seen ++ (others ++ Events.Assign s.caller blob place bytes ∷ and_made later turn.made)
 
-  -- it was finished
-  pub ends_done : (published : ℕ) → RepairAnswer AllOther (unheld mid) blob version (Replies.Repaired published) x
-      → Updated AllOther s blob place bytes done (done version at size) (then_holds s x.seen s.tickets)
-  ends_done published (RepairAnswer.repaired a) =
-      let there = may_be_finished (store_at mid a.others) blob version a.may in
-      let fin : finishes blob version a.others ≡ false =
-      finishes_is s.fixed.limits (s.seen ++ assigns) a.others blob version false open_ (record { b = there.b; is = there.is; holds = there.holds.1 }) in
-      let reply : Bool → Reply = λ y. if y then Replies.Refused (Faults.Already version) else done version at size in
-      let end : Bool → List Event = λ y. others ++ Events.Assign s.caller blob place bytes ∷ (a.others ++ (if y then [] else Events.Finish s.caller blob version ∷ [])) in
-      record {
+  pub then_answer : (turn : Turn) → Then turn → (s' : Session) → s' ≡ with_tickets turn.tickets (then_holds s x.seen s.tickets) → WholeAnswer AllOther s blob place bytes turn.said s'
+  then_answer turn t s' is =
+      UpdateAnswer.twice record {
         others = others;
-        later = a.others;
+        later = t.later;
         is_gap = is_gap;
-        is_gap_later = a.is_gap;
+        is_gap_later = t.is_gap_later;
         version = version;
         at = at;
         size = size;
         numbered = numbered;
-        said = ap reply (sym fin);
-        seen = then_seen (a.others ++ Events.Finish s.caller blob version ∷ []) (seen_of _ a.seen) ∙ ap (λ (y : Bool). sees s (end y)) (sym fin);
+        turn = turn;
+        may = t.may;
+        said = refl;
+        seen = is ∙ ap (λ (h : List Event). with_tickets turn.tickets (then_holds s h s.tickets)) t.seen;
       }
-  ends_done published (RepairAnswer.finished a) = let never : ⊥ = (let e = a.said in cc) in absurd never
-  ends_done published (RepairAnswer.refused a) = let never : ⊥ = (let e = a.said in cc) in absurd never
-  ends_done published (RepairAnswer.hindered (FinishHindered.out_of_memory a)) = let never : ⊥ = (let e = a.said in cc) in absurd never
-  ends_done published (RepairAnswer.hindered (FinishHindered.waits a)) = let never : ⊥ = (let e = a.said in cc) in absurd never
-  ends_done published (RepairAnswer.hindered (FinishHindered.not_folded a)) = let never : ⊥ = (let e = a.said in cc) in absurd never
+
+  abbrev done : Turn
+  done = record { said = update_reply place version at size; made = Events.Finish s.caller blob version ∷ []; tickets = Tickets.stay }
+
+  abbrev held_back : Turn
+  held_back = record { said = start_reply place s.next version at size; made = []; tickets = Tickets.hold blob version }
+
+  folds_then : (later : List Event) → Folds s (front later) blob version → Folds (unheld mid) later blob version
+  folds_then later folds none = folds (ap (λ (y : Store). folds_in s.fixed.page y blob version) (sym (store_then later)) ∙ none)
+
+  folds_back : (later : List Event) → Folds (unheld mid) later blob version → Folds s (front later) blob version
+  folds_back later folds none = folds (ap (λ (y : Store). folds_in s.fixed.page y blob version) (store_then later) ∙ none)
+
+  ready_back : (later : List Event) → IsReady (unheld mid) later blob version → IsReady s (front later) blob version
+  ready_back later e = ap (λ (y : Store). (answer y s.caller (Calls.Sync blob (version - 1))).1) (sym (store_then later)) ∙ e
+
+  -- it wasn't finished meanwhile
+  open_then : (later : List Event) → repair_refusal (store_at mid later) blob version ≡ None → finishes blob version later ≡ false
+  open_then later e =
+      let there = may_be_finished (store_at mid later) blob version e in
+      finishes_is s.fixed.limits (s.seen ++ assigns) later blob version false open_ (record { b = there.b; is = there.is; holds = there.holds.1 })
+
+  seen_then : (turn : Turn) (later : List Event) → x ≡ with_tickets turn.tickets (sees (unheld mid) (and_made later turn.made)) → x.seen ≡ s.seen ++ (others ++ Events.Assign s.caller blob place bytes ∷ and_made later turn.made)
+  seen_then turn later e = (changed_grows turn.tickets (unheld mid) (and_made later turn.made) x e).seen ∙ both_seen (and_made later turn.made)
+
+  -- it was finished
+  done_by : (published : ℕ) (later : List Event) → AllOther s.caller later → (turn : Turn) → RepairTurn (unheld mid) blob version later turn → Replies.Repaired published ≡ turn.said
+      → x ≡ with_tickets turn.tickets (sees (unheld mid) (and_made later turn.made)) → Then done
+  done_by published later gap _ (RepairTurn.finish _ (FinishTurn.finished p unfinished ready e)) said seen =
+      record {
+        later = later;
+        is_gap_later = gap;
+        may = WholeTurn.finished (open_then later unfinished) (λ folds. ready_back later (ready (folds_then later folds)));
+        seen = seen_then (record { said = Replies.Repaired p; made = Events.Finish s.caller blob version ∷ []; tickets = Tickets.let_go blob version }) later seen;
+      }
+  done_by published later gap _ (RepairTurn.finish _ (FinishTurn.found e)) said seen = let never : ⊥ = cc in absurd never
+  done_by published later gap _ (RepairTurn.finish _ (FinishTurn.waits held unfinished folds e)) said seen = let never : ⊥ = cc in absurd never
+  done_by published later gap _ (RepairTurn.finish _ (FinishTurn.not_folded page unfinished fold ready)) said seen = let never : ⊥ = cc in absurd never
+  done_by published later gap _ (RepairTurn.finish _ FinishTurn.out_of_memory) said seen = let never : ⊥ = cc in absurd never
+  done_by published later gap _ (RepairTurn.refused refusal e other) said seen = let never : ⊥ = cc in absurd never
+
+  pub ends_done : (published : ℕ) → AfterGap AllOther (unheld mid) (RepairTurn (unheld mid) blob version) (Replies.Repaired published) x → Then done
+  ends_done published a = done_by published a.others a.is_gap a.turn a.may a.said a.seen
 
   -- Or it wasn't: others finished it, or no memory was found, or it is held back. The fault tells which.
   pub data NotFinished (fault : Fault) : Type 0 where
-    found : fault ≡ Faults.Already version → Updated AllOther s blob place bytes done (Replies.Refused fault) (then_holds s x.seen s.tickets) → NotFinished fault
-    starved : fault ≡ Faults.NoMemory → TicketKept AllOther s blob place bytes (Replies.Refused (Faults.NoMemoryTicket s.next)) (holds (then_holds s x.seen s.tickets) blob version) → NotFinished fault
+    found : fault ≡ Faults.Already version → Then (refuses (Faults.Already version)) → NotFinished fault
+    starved : fault ≡ Faults.NoMemory → Then (keeps s blob version) → NotFinished fault
     waits : (held : ℕ) → fault ≡ Faults.Pending (version - 1) held → (more : List Event) → x.seen ≡ mid.seen ++ more
-        → outcome_at mid more (Calls.Sync blob (version - 1)) ≡ Outcomes.Refused (Refusals.Pending (version - 1) held)
-        → HeldBack AllOther s blob place bytes started (started s.next version at size) (holds (then_holds s x.seen s.tickets) blob version) → NotFinished fault
-    not_folded : (page : ℕ) → fault ≡ Faults.PageFault page → HeldBack AllOther s blob place bytes started (started s.next version at size) (holds (then_holds s x.seen s.tickets) blob version)
-        → NotFinished fault
+        → outcome_at mid more (Calls.Sync blob (version - 1)) ≡ Outcomes.Refused (Refusals.Pending (version - 1) held) → Then held_back → NotFinished fault
+    not_folded : (page : ℕ) → fault ≡ Faults.PageFault page → Then held_back → NotFinished fault
 
   some_of : (page : ℕ) (pages : List ℕ) → Contains pages page → pages ≢ []
   some_of page [] (i, lt, is) e = omega (arith, lt)
   some_of page (p ∷ ps) among e = let never : ⊥ = cc in never
 
-  -- it stores pages anew in the store that has seen all of it
-  held_folds : (later : List Event) → folds_in s.fixed.page (store_at mid later) blob version ≢ []
-      → folds_in s.fixed.page (store_at s (others ++ Events.Assign s.caller blob place bytes ∷ later)) blob version ≢ []
-  held_folds later some =
-      let same : (s.seen ++ assigns) ++ later ≡ s.seen ++ (others ++ Events.Assign s.caller blob place bytes ∷ later) =
-      append_assoc s.seen assigns later ∙ ap (λ (h : List Event). s.seen ++ h) (append_assoc others (Events.Assign s.caller blob place bytes ∷ []) later) in
-      subst (λ (h : List Event). folds_in s.fixed.page (store_of s.fixed.limits h) blob version ≢ []) same some
+  not_by : (fault : Fault) (later : List Event) → AllOther s.caller later → (turn : Turn) → RepairTurn (unheld mid) blob version later turn → Replies.Refused fault ≡ turn.said
+      → x ≡ with_tickets turn.tickets (sees (unheld mid) (and_made later turn.made)) → NotFinished fault
+  not_by fault later gap _ (RepairTurn.finish _ (FinishTurn.finished p unfinished ready e)) said seen = let never : ⊥ = cc in absurd never
+  not_by fault later gap _ (RepairTurn.finish _ (FinishTurn.found e)) said seen =
+      NotFinished.found (same_fault fault (Faults.Already version) said) (record {
+        later = later;
+        is_gap_later = gap;
+        may = WholeTurn.found (finishes_is s.fixed.limits (s.seen ++ assigns) later blob version true open_ (found_already (store_at mid later) blob version version e).1);
+        seen = seen_then (refuses (Faults.Already version)) later seen;
+      })
+  not_by fault later gap _ (RepairTurn.finish _ (FinishTurn.waits held unfinished folds e)) said seen =
+      NotFinished.waits held (same_fault fault (Faults.Pending (version - 1) held) said) later (ap (λ (z : Session). z.seen) seen) e (record {
+        later = later;
+        is_gap_later = gap;
+        may = WholeTurn.held_back (open_then later unfinished) (folds_back later folds);
+        seen = seen_then (refuses Faults.NoMemory) later seen;
+      })
+  not_by fault later gap _ (RepairTurn.finish _ (FinishTurn.not_folded page unfinished fold ready)) said seen =
+      NotFinished.not_folded page (same_fault fault (Faults.PageFault page) said) (record {
+        later = later;
+        is_gap_later = gap;
+        may = WholeTurn.held_back (open_then later unfinished) (folds_back later (some_of page _ fold));
+        seen = seen_then (refuses Faults.NoMemory) later seen;
+      })
+  not_by fault later gap _ (RepairTurn.finish _ FinishTurn.out_of_memory) said seen =
+      NotFinished.starved (same_fault fault Faults.NoMemory said) (record { later = later; is_gap_later = gap; may = WholeTurn.out_of_memory; seen = seen_then (refuses Faults.NoMemory) later seen })
+  not_by fault later gap _ (RepairTurn.refused refusal e other) said seen = absurd (other (only later refusal e))
 
-  pub ends_not : (fault : Fault) → RepairAnswer AllOther (unheld mid) blob version (Replies.Refused fault) x → NotFinished fault
-  ends_not fault (RepairAnswer.repaired a) = let never : ⊥ = (let e = a.said in cc) in absurd never
-  ends_not fault (RepairAnswer.refused a) = absurd (a.other (only a.others a.refusal a.refused))
-  ends_not fault (RepairAnswer.finished a) =
-      let same : fault ≡ Faults.Already version = same_fault fault (Faults.Already version) a.said in
-      let fin : finishes blob version a.others ≡ true =
-      finishes_is s.fixed.limits (s.seen ++ assigns) a.others blob version true open_ (found_already (store_at mid a.others) blob version version a.refused).1 in
-      let reply : Bool → Reply = λ y. if y then Replies.Refused (Faults.Already version) else done version at size in
-      let end : Bool → List Event = λ y. others ++ Events.Assign s.caller blob place bytes ∷ (a.others ++ (if y then [] else Events.Finish s.caller blob version ∷ [])) in
-      NotFinished.found same record {
-        others = others;
-        later = a.others;
-        is_gap = is_gap;
-        is_gap_later = a.is_gap;
-        version = version;
-        at = at;
-        size = size;
-        numbered = numbered;
-        said = a.said ∙ ap reply (sym fin);
-        seen =
-            then_seen a.others (seen_of _ a.seen)
-            ∙ (ap (λ (es : List Event). sees s (others ++ Events.Assign s.caller blob place bytes ∷ es)) (sym (append-nil a.others))
-            ∙ ap (λ (y : Bool). sees s (end y)) (sym fin));
-      }
-  ends_not fault (RepairAnswer.hindered (FinishHindered.out_of_memory a)) =
-      NotFinished.starved (same_fault fault Faults.NoMemory a.said) record {
-        others = others;
-        later = a.others;
-        is_gap = is_gap;
-        is_gap_later = a.is_gap;
-        version = version;
-        at = at;
-        size = size;
-        numbered = numbered;
-        said = refl;
-        seen = then_held a.others (seen_of _ a.seen);
-      }
-  ends_not fault (RepairAnswer.hindered (FinishHindered.waits a)) =
-      NotFinished.waits a.held (same_fault fault (Faults.Pending (version - 1) a.held) a.said) a.others (seen_of _ a.seen) a.waits record {
-        others = others;
-        later = a.others;
-        is_gap = is_gap;
-        is_gap_later = a.is_gap;
-        version = version;
-        at = at;
-        size = size;
-        numbered = numbered;
-        unfinished = finishes_is s.fixed.limits (s.seen ++ assigns) a.others blob version false open_ (finish_unfinished (store_at mid a.others) s.caller blob version a.unfinished);
-        folds = held_folds a.others a.folds;
-        said = refl;
-        seen = then_held a.others (seen_of _ a.seen);
-      }
-  ends_not fault (RepairAnswer.hindered (FinishHindered.not_folded a)) =
-      NotFinished.not_folded a.page (same_fault fault (Faults.PageFault a.page) a.said) record {
-        others = others;
-        later = a.others;
-        is_gap = is_gap;
-        is_gap_later = a.is_gap;
-        version = version;
-        at = at;
-        size = size;
-        numbered = numbered;
-        unfinished = finishes_is s.fixed.limits (s.seen ++ assigns) a.others blob version false open_ (finish_unfinished (store_at mid a.others) s.caller blob version a.unfinished);
-        folds = held_folds a.others (some_of a.page _ a.folds);
-        said = refl;
-        seen = then_held a.others (seen_of _ a.seen);
-      }
+  pub ends_not : (fault : Fault) → AfterGap AllOther (unheld mid) (RepairTurn (unheld mid) blob version) (Replies.Refused fault) x → NotFinished fault
+  ends_not fault a = not_by fault a.others a.is_gap a.turn a.may a.said a.seen

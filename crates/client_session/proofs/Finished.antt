@@ -4,7 +4,7 @@ use Rattle.std.specs.Prelude.{Contains}
 use Rattle.std.proofs.lemmas.List.{map-append}
 use Rattle.blob_model.specs.Store.{Store, Blob, blob_at, assigned, published, is_finished}
 use Rattle.blob_model.specs.Answer.{answer, repair_refusal}
-use Rattle.blob_model.specs.History.{AllOther, is_refused, store_of}
+use Rattle.blob_model.specs.History.{AllOther, store_of}
 use Rattle.blob_model.specs.declared.call.Call.{Call}
 use Rattle.blob_model.specs.declared.call.Call.TheVariants as Calls
 use Rattle.blob_model.specs.declared.call.Event.{Event}
@@ -21,14 +21,16 @@ use Rattle.tree_weaver.specs.declared.folding.WeaveFault.{WeaveFault}
 use Rattle.tree_weaver.specs.declared.folding.WeaveFault.TheVariants as WeaveFaults
 use Rattle.version_manager.specs.Desks.{IsTicketOf, updates_in, updates_or_none, published_or_none, finished_or_not, OnRefused, store_now, ticket_refusal}
 use Rattle.turn_lock.specs.Shown.{PassView, Turned}
+use Rattle.version_manager.specs.Folds.{IsInOrder}
 use Rattle.version_manager.specs.Laws.{GapsAreOfOthers}
 use Rattle.version_manager.specs.Log.{Changed, Finishes, Reissued, IsLog, IsWaitingTicket, events, desk_at, outcome_in}
-use Rattle.version_manager.specs.Stays.{ticket_stays}
+use Rattle.version_manager.specs.Stays.{ticket_stays, in_order_stays}
 use Rattle.version_manager.specs.declared.journal.DeskFixed.{DeskFixed}
 use Rattle.version_manager.specs.declared.fault.DeskFault.{DeskFault}
 use Rattle.version_manager.specs.declared.fault.DeskFault.TheVariants as DeskFaults
 use Rattle.request_form.specs.Session.{Session, store_at, outcome_at, sees}
-use Rattle.request_form.specs.Answers.{RepairAnswer, FinishHindered, max_update, folds_in}
+use Rattle.request_form.specs.Turns.{refuses, AfterGap}
+use Rattle.request_form.specs.Answers.{FinishTurn, RepairTurn, Folds, IsReady, max_update, folds_in}
 use Rattle.request_form.specs.Replies.{fault_of, page_faults}
 use Rattle.request_form.specs.declared.form.Reply.TheVariants as Replies
 use Rattle.request_form.specs.declared.form.Fault.{Fault}
@@ -37,11 +39,11 @@ use Rattle.client_session.specs.Results.{desk_fault, weave_fault, repair_reply}
 use Rattle.client_session.specs.Finishing.{bare, Finishing, LookedFresh, NotWoven}
 use Rattle.client_session.specs.Sessions.{Went}
 use Rattle.client_session.proofs.Answering.{sees-nothing}
-use Rattle.client_session.proofs.Folding.{folds_of_ticket, folds_told}
+use Rattle.client_session.proofs.Folding.{folds_of_ticket, folds_there, folds_told}
 use Rattle.client_session.proofs.Gapped.{finish_later}
 use Rattle.client_session.proofs.Opened.{waiting_ticket_here}
-use Rattle.client_session.proofs.StoreAnswers.{IsThere, found_already, may_by_published, already_by_refused, finish_taken, before_waits, before_ready}
-use Rattle.client_session.proofs.Turns.{Took, took, seen_gap, seen_event}
+use Rattle.client_session.proofs.StoreAnswers.{IsThere, found_already, may_by_published, already_by_refused, refusal_of_numbered, before_waits, before_ready}
+use Rattle.client_session.proofs.Turns.{Took, took, seen_gap, seen_event, went_changed}
 
 -- the store of a history and a gap
 pub store_of_gap : (f : DeskFixed) (log gap : List (ℕ × Event)) → store_of f.limits (events log ++ events gap) ≡ store_of f.limits (events (log ++ gap))
@@ -70,16 +72,30 @@ module _ (f : DeskFixed) (caller : ℕ) (log log' : List (ℕ × Event)) (t : Nu
   at_gap : (gap : List (ℕ × Event)) → repair_refusal (store_at (bare f caller log) (events gap)) t.blob t.version ≡ repair_refusal (store_of f.limits (events (log ++ gap))) t.blob t.version
   at_gap gap = ap (λ (s : Store). repair_refusal s t.blob t.version) (store_of_gap f log gap)
 
-  pub report_done : {E : Type 0} (fault : E → DeskFault) (published : ℕ)
+  -- where it stores pages anew, the version before it is published then
+  ready_then : (gap : List (ℕ × Event)) → IsInOrder f.page_size (store_of f.limits (events log)) t.blob t.version → Folds (bare f caller log) (events gap) t.blob t.version
+      → IsReady (bare f caller log) (events gap) t.blob t.version
+  ready_then gap order folds =
+      let s : Store = store_of f.limits (events (log ++ gap)) in
+      let was : IsThere s t.blob (λ b. t.version ≤ assigned b) = there gap in
+      let numbered = (ticket_stays t log gap f ticket).numbered in
+      let F : Store → Type 0 = λ x. folds_in f.page_size x t.blob t.version ≢ [] in
+      let anew : F s = subst F (store_of_gap f log gap) folds in
+      let last = in_order_stays f log gap t.blob t.version ticket.numbered order (λ none. anew (folds_there f.page_size s t.blob t.version some numbered ∙ none)) in
+      outcome_of f caller log gap (Calls.Sync t.blob (t.version - 1))
+      ∙ before_ready s caller t.blob (t.version - 1) (record { b = was.b; is = was.is; holds = (omega (arith, last, ap published_or_none was.is), omega (arith, was.holds)) })
+
+  pub report_done : {E : Type 0} (fault : E → DeskFault) (published : ℕ) → IsInOrder f.page_size (store_of f.limits (events log)) t.blob t.version
       → Took caller log log' (λ before after. Changed f (Calls.Finish t.blob t.version) (Events.Finish caller t.blob t.version) (λ n. Outcomes.Published n) fault before caller (Ok published) after)
       → Finishing f caller log t.blob t.version (Ok published) log'
-  report_done fault published took =
-      RepairAnswer.repaired record {
+  report_done fault published order took =
+      record {
         others = events took.gap;
         is_gap = took.others;
-        published = published;
-        may = at_gap took.gap ∙ may_by_published (store_of f.limits (events (log ++ took.gap))) caller t.blob t.version published (there took.gap) took.gives.done;
-        done = outcome_of f caller log took.gap (Calls.Finish t.blob t.version) ∙ took.gives.done;
+        turn = _;
+        may = RepairTurn.finish _ (FinishTurn.finished published
+            (at_gap took.gap ∙ may_by_published (store_of f.limits (events (log ++ took.gap))) caller t.blob t.version published (there took.gap) took.gives.done) (ready_then took.gap order)
+            (outcome_of f caller log took.gap (Calls.Finish t.blob t.version) ∙ took.gives.done));
         said = refl;
         seen = seen_event f caller log log' took.gap (Events.Finish caller t.blob t.version) [] 1 max_update took.gives.added;
       }
@@ -88,20 +104,25 @@ module _ (f : DeskFixed) (caller : ℕ) (log log' : List (ℕ × Event)) (t : Nu
       → OnRefused why (λ refusal. outcome_in f (log ++ gap) caller (Calls.Finish t.blob t.version) ≡ Outcomes.Refused refusal) → Finishing f caller log t.blob t.version (Err (desk_fault why)) log'
   not_reported gap (DeskFaults.Refused refusal) others same refused =
       let by = already_by_refused (store_of f.limits (events (log ++ gap))) caller t.blob t.version refusal (there gap) refused in
-      RepairAnswer.finished record {
+      record {
         others = events gap;
         is_gap = others;
-        refused = at_gap gap ∙ by.1;
+        turn = _;
+        may = RepairTurn.finish _ (FinishTurn.found (at_gap gap ∙ by.1));
         said = ap (λ (r : Refusal). Replies.Refused (fault_of r)) by.0;
         seen = seen_gap f caller log log' gap [] 1 max_update same;
       }
   not_reported gap DeskFaults.NoMemory others same refused =
-      RepairAnswer.hindered (FinishHindered.out_of_memory record { others = events gap; is_gap = others; said = refl; seen = seen_gap f caller log log' gap [] 1 max_update same })
+      record { others = events gap; is_gap = others; turn = _; may = RepairTurn.finish _ FinishTurn.out_of_memory; said = refl; seen = seen_gap f caller log log' gap [] 1 max_update same }
 
   pub report_not_done : {E : Type 0} (fault : E → DeskFault) (e : E)
       → Took caller log log' (λ before after. Changed f (Calls.Finish t.blob t.version) (Events.Finish caller t.blob t.version) (λ (n : ℕ). Outcomes.Published n) fault before caller (Err e) after)
       → Finishing f caller log t.blob t.version (Err (desk_fault (fault e))) log'
   report_not_done fault e took = not_reported took.gap (fault e) took.others took.gives.same took.gives.refused
+
+-- no memory was found, and nothing was done
+pub starved : (f : DeskFixed) (caller : ℕ) (log : List (ℕ × Event)) (blob version : ℕ) → Finishing f caller log blob version (Err Faults.NoMemory) log
+starved f caller log blob version = record { others = []; is_gap = tt; turn = _; may = RepairTurn.finish _ FinishTurn.out_of_memory; said = refl; seen = sees-nothing (bare f caller log) }
 
 -- what the session says of the desk's answer to a finish
 abbrev pub report_said : {R : Type 0} → Result ℕ (DeskFault × R) → Result ℕ Fault
@@ -109,37 +130,51 @@ report_said (Ok published) = Ok published
 report_said (Err e) = Err (desk_fault e.0)
 
 pub report_took : {R : Type 0} (f : DeskFixed) (caller : ℕ) (log log' : List (ℕ × Event)) (t : NumberedUpdate) (row : R) (said : Result ℕ (DeskFault × R)) → 1 ≤ t.version → IsTicketOf (desk_at f log) t
+    → IsInOrder f.page_size (store_of f.limits (events log)) t.blob t.version
     → Took caller log log' (λ before after. Changed f (Calls.Finish t.blob t.version) (Events.Finish caller t.blob t.version) (λ (n : ℕ). Outcomes.Published n) (λ (e : DeskFault × R). e.0) before caller said after
     × Finishes f t row before after said)
     → Finishing f caller log t.blob t.version (report_said said) log'
-report_took f caller log log' t row (Ok published) some ticket took =
-    report_done f caller log log' t some ticket (λ (e : DeskFault × _). e.0) published (record { gap = took.gap; others = took.others; gives = took.gives.0 })
-report_took f caller log log' t row (Err e) some ticket took =
+report_took f caller log log' t row (Ok published) some ticket order took =
+    report_done f caller log log' t some ticket (λ (e : DeskFault × _). e.0) published order (record { gap = took.gap; others = took.others; gives = took.gives.0 })
+report_took f caller log log' t row (Err e) some ticket order took =
     report_not_done f caller log log' t some ticket (λ (x : DeskFault × _). x.0) e (record { gap = took.gap; others = took.others; gives = took.gives.0 })
 
 pub report_turned : {R : Type 0} → GapsAreOfOthers → (f : DeskFixed) (v w : PassView Event DeskFixed) (t : NumberedUpdate) → 1 ≤ t.version → IsTicketOf (desk_at f v.seen) t
+    → IsInOrder f.page_size (store_of f.limits (events v.seen)) t.blob t.version
     → (row : R) (said : Result ℕ (DeskFault × R)) → v.fixed ≡ Some f
     → Turned (λ before f after. Changed f (Calls.Finish t.blob t.version) (Events.Finish v.caller t.blob t.version) (λ (n : ℕ). Outcomes.Published n) (λ (e : DeskFault × R). e.0) before v.caller said after
     × Finishes f t row before after said) v w
     → Finishing f v.caller v.seen t.blob t.version (report_said said) w.seen
-report_turned {R = R} law f v w t some ticket row said fixed turned =
-    report_took f v.caller v.seen w.seen t row said some ticket
+report_turned {R = R} law f v w t some ticket order row said fixed turned =
+    report_took f v.caller v.seen w.seen t row said some ticket order
     (took law f v w
     (λ before g after. Changed g (Calls.Finish t.blob t.version) (Events.Finish v.caller t.blob t.version) (λ (n : ℕ). Outcomes.Published n) (λ (e : DeskFault × R). e.0) before v.caller said after
     × Finishes g t row before after said)
     fixed (λ before after x. x.0.log) turned)
+
+pub went_reported : {R : Type 0} → GapsAreOfOthers → (f : DeskFixed) (v w : PassView Event DeskFixed) (t : NumberedUpdate) (row : R) (said : Result ℕ (DeskFault × R)) → v.fixed ≡ Some f
+    → Turned (λ before f after. Changed f (Calls.Finish t.blob t.version) (Events.Finish v.caller t.blob t.version) (λ (n : ℕ). Outcomes.Published n) (λ (e : DeskFault × R). e.0) before v.caller said after
+    × Finishes f t row before after said) v w
+    → Went f v.seen w.seen
+went_reported {R = R} law f v w t row said fixed turned =
+    let x = took law f v w
+    (λ before g after. Changed g (Calls.Finish t.blob t.version) (Events.Finish v.caller t.blob t.version) (λ (n : ℕ). Outcomes.Published n) (λ (e : DeskFault × R). e.0) before v.caller said after
+    × Finishes g t row before after said)
+    fixed (λ before after x. x.0.log) turned in
+    went_changed f v.caller v.seen w.seen (Calls.Finish t.blob t.version) (Events.Finish v.caller t.blob t.version) (λ (n : ℕ). Outcomes.Published n) (λ (e : DeskFault × R). e.0) said
+    (record { gap = x.gap; others = x.others; gives = x.gives.0 })
 
 -- ---- a look that finds no ticket
 module _ (f : DeskFixed) (caller : ℕ) (log log' : List (ℕ × Event)) (blob version : ℕ) where
   refused_by : (gap : List (ℕ × Event)) (refusal : Refusal) → AllOther caller (events gap) → log' ≡ log ++ gap → repair_refusal (store_of f.limits (events log')) blob version ≡ Some refusal
       → refusal ≢ Refusals.Already version → Finishing f caller log blob version (Err (fault_of refusal)) log'
   refused_by gap refusal others same refused other =
-      RepairAnswer.refused record {
+      record {
         others = events gap;
         is_gap = others;
-        refusal = refusal;
-        refused = ap (λ (s : Store). repair_refusal s blob version) (store_of_gap f log gap ∙ ap (λ (l : List (ℕ × Event)). store_of f.limits (events l)) (sym same)) ∙ refused;
-        other = other;
+        turn = refuses (fault_of refusal);
+        may = RepairTurn.refused refusal
+            (ap (λ (s : Store). repair_refusal s blob version) (store_of_gap f log gap ∙ ap (λ (l : List (ℕ × Event)). store_of f.limits (events l)) (sym same)) ∙ refused) other;
         said = refl;
         seen = seen_gap f caller log log' gap [] 1 max_update same;
       }
@@ -147,27 +182,20 @@ module _ (f : DeskFixed) (caller : ℕ) (log log' : List (ℕ × Event)) (blob v
   not_found : (gap : List (ℕ × Event)) (why : DeskFault) → AllOther caller (events gap) → log' ≡ log ++ gap
       → OnRefused why (λ refusal. repair_refusal (store_now (desk_at f log')) blob version ≡ Some refusal) → Finishing f caller log blob version (Err (desk_fault why)) log'
   not_found gap DeskFaults.NoMemory others same refused =
-      RepairAnswer.hindered (FinishHindered.out_of_memory record { others = events gap; is_gap = others; said = refl; seen = seen_gap f caller log log' gap [] 1 max_update same })
+      record { others = events gap; is_gap = others; turn = _; may = RepairTurn.finish _ FinishTurn.out_of_memory; said = refl; seen = seen_gap f caller log log' gap [] 1 max_update same }
   not_found gap (DeskFaults.Refused (Refusals.Already v)) others same refused =
       let is : v ≡ version = (found_already (store_of f.limits (events log')) blob version v refused).0 in
-      RepairAnswer.finished record {
+      record {
         others = events gap;
         is_gap = others;
-        refused =
-            ap (λ (s : Store). repair_refusal s blob version) (store_of_gap f log gap ∙ ap (λ (l : List (ℕ × Event)). store_of f.limits (events l)) (sym same))
-            ∙ (refused ∙ ap (λ (n : ℕ). Some (Refusals.Already n)) is);
+        turn = _;
+        may = RepairTurn.finish _ (FinishTurn.found
+            (ap (λ (s : Store). repair_refusal s blob version) (store_of_gap f log gap ∙ ap (λ (l : List (ℕ × Event)). store_of f.limits (events l)) (sym same))
+            ∙ (refused ∙ ap (λ (n : ℕ). Some (Refusals.Already n)) is)));
         said = ap (λ (n : ℕ). Replies.Refused (Faults.Already n)) is;
         seen = seen_gap f caller log log' gap [] 1 max_update same;
       }
-  not_found gap (DeskFaults.Refused (Refusals.NoBlob b)) others same refused = refused_by gap (Refusals.NoBlob b) others same refused (λ e. cc)
-  not_found gap (DeskFaults.Refused (Refusals.NotPublished v p)) others same refused = refused_by gap (Refusals.NotPublished v p) others same refused (λ e. cc)
-  not_found gap (DeskFaults.Refused (Refusals.OffsetPastSize o s)) others same refused = refused_by gap (Refusals.OffsetPastSize o s) others same refused (λ e. cc)
-  not_found gap (DeskFaults.Refused (Refusals.BlobTooBig e' l)) others same refused = refused_by gap (Refusals.BlobTooBig e' l) others same refused (λ e. cc)
-  not_found gap (DeskFaults.Refused (Refusals.TooManyVersions l)) others same refused = refused_by gap (Refusals.TooManyVersions l) others same refused (λ e. cc)
-  not_found gap (DeskFaults.Refused (Refusals.TooManyOpen l)) others same refused = refused_by gap (Refusals.TooManyOpen l) others same refused (λ e. cc)
-  not_found gap (DeskFaults.Refused (Refusals.TooManyBlobs l)) others same refused = refused_by gap (Refusals.TooManyBlobs l) others same refused (λ e. cc)
-  not_found gap (DeskFaults.Refused (Refusals.RangePastSize e' s)) others same refused = refused_by gap (Refusals.RangePastSize e' s) others same refused (λ e. cc)
-  not_found gap (DeskFaults.Refused (Refusals.Pending v h)) others same refused = refused_by gap (Refusals.Pending v h) others same refused (λ e. cc)
+  not_found gap (DeskFaults.Refused refusal) others same refused = refused_by gap refusal others same refused (λ e. cc)
 
   pub look_failed : (why : DeskFault) → LookedFresh f caller log blob version (Err why) log' → Finishing f caller log blob version (Err (desk_fault why)) log'
   look_failed why look = not_found look.gap why look.others look.same look.refused
@@ -178,7 +206,7 @@ module _ (f : DeskFixed) (caller : ℕ) (log log' : List (ℕ × Event)) (blob v
   after_look found said log'' look a =
       let mid : bare f caller log' ≡ sees (bare f caller log) (events look.gap) = seen_gap f caller log log' look.gap [] 1 max_update look.same in
       finish_later (bare f caller log) (events look.gap) look.others blob version (repair_reply said) (bare f caller log'')
-      (subst (λ (s : Session). RepairAnswer AllOther s blob version (repair_reply said) (bare f caller log'')) mid a)
+      (subst (λ (s : Session). AfterGap AllOther s (RepairTurn s blob version) (repair_reply said) (bare f caller log'')) mid a)
 
 -- ---- a fresh ticket whose update isn't woven
 record IsWaiting (store : Store) (blob version rows : ℕ) : Type 0 where
@@ -208,10 +236,10 @@ module _ (f : DeskFixed) (caller : ℕ) (log : List (ℕ × Event)) (blob versio
   here : (P : Store → Type 0) → P store → P (store_at (bare f caller log) [])
   here P p = subst P still p
 
-  not_refused : is_refused (outcome_at (bare f caller log) [] (Calls.Finish blob version)) ≡ false
-  not_refused =
-      here (λ (s : Store). is_refused (answer s caller (Calls.Finish blob version)).1 ≡ false)
-      (finish_taken store caller blob version (record { b = waits_there.b; is = waits_there.is; holds = waits_there.unfinished }))
+  may_finish : repair_refusal (store_at (bare f caller log) []) blob version ≡ None
+  may_finish =
+      here (λ (s : Store). repair_refusal s blob version ≡ None)
+      (refusal_of_numbered store blob version false (record { b = waits_there.b; is = waits_there.is; holds = (waits_there.numbered, waits_there.unfinished) }))
 
   folds_are : (P : List ℕ → Type 0) → P (folds_of_ticket f log t) → P (folds_in f.page_size (store_at (bare f caller log) []) blob version)
   folds_are P p =
@@ -221,37 +249,33 @@ module _ (f : DeskFixed) (caller : ℕ) (log : List (ℕ × Event)) (blob versio
 
   pub not_woven : (fault : Fault) → NotWoven t fault → Finishing f caller log blob version (Err fault) log
   not_woven fault (NotWoven.no_memory is) =
-      RepairAnswer.hindered (FinishHindered.out_of_memory record { others = []; is_gap = tt; said = ap (λ (x : Fault). Replies.Refused x) is; seen = sees-nothing (bare f caller log) })
+      record { others = []; is_gap = tt; turn = _; may = RepairTurn.finish _ FinishTurn.out_of_memory; said = ap (λ (x : Fault). Replies.Refused x) is; seen = sees-nothing (bare f caller log) }
   not_woven fault (NotWoven.waits is below some) =
       let n : IsWaiting store blob version (length t.snapshot.rows) = waits_there in
-      RepairAnswer.hindered (FinishHindered.waits record {
+      record {
         others = [];
         is_gap = tt;
-        held = length t.snapshot.rows + 1;
-        unfinished = not_refused;
-        folds = folds_are (λ pages. pages ≢ []) (some _ w.ticket.stands);
-        waits =
-            here (λ (s : Store). (answer s caller (Calls.Sync blob (version - 1))).1 ≡ Outcomes.Refused (Refusals.Pending (version - 1) (length t.snapshot.rows + 1)))
+        turn = _;
+        may = RepairTurn.finish _ (FinishTurn.waits (length t.snapshot.rows + 1) may_finish (folds_are (λ pages. pages ≢ []) (some _ w.ticket.stands))
+            (here (λ (s : Store). (answer s caller (Calls.Sync blob (version - 1))).1 ≡ Outcomes.Refused (Refusals.Pending (version - 1) (length t.snapshot.rows + 1)))
             (before_waits store caller blob (version - 1)
             (record { b = n.b; is = n.is; holds = (omega (arith, n.published_is, below, w.version_is), omega (arith, n.numbered)) })
-            ∙ ap (λ (k : ℕ). Outcomes.Refused (Refusals.Pending (version - 1) (k + 1))) n.published_is);
+            ∙ ap (λ (k : ℕ). Outcomes.Refused (Refusals.Pending (version - 1) (k + 1))) n.published_is)));
         said = ap (λ (x : Fault). Replies.Refused x) is ∙ ap (λ (v : ℕ). Replies.Refused (Faults.Pending (v - 1) (length t.snapshot.rows + 1))) w.version_is;
         seen = sees-nothing (bare f caller log);
-      })
+      }
   not_woven fault (NotWoven.lost page is ready among) =
       let n : IsWaiting store blob version (length t.snapshot.rows) = waits_there in
-      RepairAnswer.hindered (FinishHindered.not_folded record {
+      record {
         others = [];
         is_gap = tt;
-        page = page;
-        unfinished = not_refused;
-        folds = folds_are (λ pages. Contains pages page) (among _ w.ticket.stands);
-        ready =
-            here (λ (s : Store). (answer s caller (Calls.Sync blob (version - 1))).1 ≡ Outcomes.Synced (version - 1))
-            (before_ready store caller blob (version - 1) (record { b = n.b; is = n.is; holds = (omega (arith, n.published_is, ready, w.version_is), omega (arith, n.numbered)) }));
+        turn = _;
+        may = RepairTurn.finish _ (FinishTurn.not_folded page may_finish (folds_are (λ pages. Contains pages page) (among _ w.ticket.stands))
+            (here (λ (s : Store). (answer s caller (Calls.Sync blob (version - 1))).1 ≡ Outcomes.Synced (version - 1))
+            (before_ready store caller blob (version - 1) (record { b = n.b; is = n.is; holds = (omega (arith, n.published_is, ready, w.version_is), omega (arith, n.numbered)) }))));
         said = ap (λ (x : Fault). Replies.Refused x) is;
         seen = sees-nothing (bare f caller log);
-      })
+      }
 
 -- ---- a look for a fresh ticket
 module _ (f : DeskFixed) (caller : ℕ) (log log' : List (ℕ × Event)) (blob version : ℕ) where

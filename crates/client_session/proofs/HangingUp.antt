@@ -14,14 +14,17 @@ use Rattle.border_hints.specs.Numbered.{NumberedUpdate, IsTicketAmong, own_touch
 use Rattle.version_manager.specs.Desks.{finished_or_not, updates_or_none, updates_in}
 use Rattle.version_manager.specs.Log.{desk_at, events}
 use Rattle.version_manager.specs.declared.journal.DeskFixed.{DeskFixed}
-use Rattle.request_form.specs.Session.{Session, HeldTicket, drops, ticket_at, without_ticket}
+use Rattle.request_form.specs.Session.{Session, HeldTicket, sees, drops, ticket_at, without_ticket}
 use Rattle.faults.specs.Counts.{RoseBy}
-use Rattle.request_form.specs.Answers.{FinishAnswer, FinishHindered, ReportAnswer}
+use Rattle.request_form.specs.Turns.{Tickets, Turn, with_tickets, and_made}
+use Rattle.request_form.specs.Answers.{FinishTurn, FinishAnswer}
+use Rattle.request_form.specs.declared.form.Reply.TheVariants as Replies
 use Rattle.request_form.specs.Replies.{fault_count}
 use Rattle.request_form.specs.HangUp.{GivenUp, GivesUp, HungUp, IsFinishedIn, AllNumbered, AllFinished, GivenUpCounts, given_up_counts, tells_finished, tells_no_memory, tells_pending, tells_page_fault, begins_anew}
 use Rattle.request_form.specs.Laws.{GivingUpGoesOn, HungUpAreFinished}
 use Rattle.request_form.proofs.HangUps.{count_more}
 use Rattle.request_form.specs.declared.form.Reply.{Reply}
+use Rattle.client_session.specs.TurnCounts.{UpTo}
 use Rattle.client_session.specs.Sessions.{SessionState, Continues, session_of}
 use Rattle.session_parts.specs.Tickets.{OpenUpdate, ticket_of, tickets_of}
 use Rattle.client_session.specs.SessionInvariant.{IsOpen}
@@ -35,7 +38,11 @@ first_found t ts = rw (eq-eqb t.number t.number refl) refl
 first_left : (t : HeldTicket) (ts : List HeldTicket) → without_ticket (t ∷ ts) t.number ≡ ts
 first_left t ts = rw (eq-eqb t.number t.number refl) refl
 
-report_of : (s : Session) (t : HeldTicket) (ts : List HeldTicket) (reply : Reply) (s' : Session) → s.tickets ≡ t ∷ ts → FinishAnswer AllOther s t.number (ticket_at s.tickets t.number) reply s' → ReportAnswer AllOther s t reply s'
+-- a finish of the first ticket
+abbrev First : Session → HeldTicket → Reply → Session → Type 0
+First s t reply s' = FinishAnswer AllOther s t.number (Some t) reply s'
+
+report_of : (s : Session) (t : HeldTicket) (ts : List HeldTicket) (reply : Reply) (s' : Session) → s.tickets ≡ t ∷ ts → FinishAnswer AllOther s t.number (ticket_at s.tickets t.number) reply s' → First s t reply s'
 report_of s t ts reply s' is a =
     subst (λ (o : Option HeldTicket). FinishAnswer AllOther s t.number o reply s') (ap (λ (hs : List HeldTicket). ticket_at hs t.number) is ∙ first_found t ts) a
 
@@ -66,66 +73,76 @@ ways_told reply = cond (tells_finished reply) 1 0 + cond (tells_no_memory reply)
 abbrev FaultsAre : Reply → Type 0
 FaultsAre reply = fault_count reply ≡ cond (tells_page_fault reply) 1 0
 
+module _ (s : Session) (t : HeldTicket) (others : List Event) where
+  -- Given up, a ticket's finish says the same, and the ticket is given up in any case.
+  record GivesUpBy (turn : Turn) : Type 0 where
+    pub may : FinishTurn s t.blob t.version (λ published. Replies.Finished published) (Tickets.drop t.number) (Tickets.drop t.number) others
+        (record { said = turn.said; made = turn.made; tickets = Tickets.drop t.number })
+    pub once : ways_told turn.said ≡ 1
+    pub faults : FaultsAre turn.said
+    pub calm : tells_hindered turn.said ≡ false → turn.tickets ≡ Tickets.drop t.number
+    pub hindered : tells_hindered turn.said ≡ true → turn.tickets ≡ Tickets.stay
+
+  gives_up_by : (turn : Turn) → FinishTurn s t.blob t.version (λ published. Replies.Finished published) (Tickets.drop t.number) Tickets.stay others turn → GivesUpBy turn
+  gives_up_by _ (FinishTurn.finished published unfinished ready e) = record {
+    may = FinishTurn.finished published unfinished ready e;
+    once = refl;
+    faults = refl;
+    calm = λ no. refl;
+    hindered = λ yes. absurd (false≢true yes);
+  }
+  gives_up_by _ (FinishTurn.found e) = record { may = FinishTurn.found e; once = refl; faults = refl; calm = λ no. refl; hindered = λ yes. absurd (false≢true yes) }
+  gives_up_by _ (FinishTurn.waits held unfinished folds e) = record {
+    may = FinishTurn.waits held unfinished folds e;
+    once = refl;
+    faults = refl;
+    calm = λ no. absurd (false≢true (sym no));
+    hindered = λ yes. refl;
+  }
+  gives_up_by _ (FinishTurn.not_folded page unfinished fold ready) = record {
+    may = FinishTurn.not_folded page unfinished fold ready;
+    once = refl;
+    faults = refl;
+    calm = λ no. absurd (false≢true (sym no));
+    hindered = λ yes. refl;
+  }
+  gives_up_by _ FinishTurn.out_of_memory = record { may = FinishTurn.out_of_memory; once = refl; faults = refl; calm = λ no. absurd (false≢true (sym no)); hindered = λ yes. refl }
+
 module _ (s : Session) (t : HeldTicket) (ts : List HeldTicket) (is : s.tickets ≡ t ∷ ts) (reply : Reply) (mid : Session) where
-  hindered_told : FinishHindered AllOther s t.blob t.version reply mid → tells_hindered reply ≡ true
-  hindered_told (FinishHindered.out_of_memory x) = ap tells_hindered x.said
-  hindered_told (FinishHindered.waits x) = ap tells_hindered x.said
-  hindered_told (FinishHindered.not_folded x) = ap tells_hindered x.said
+  -- what is seen of a turn that keeps its tickets, and of one that gives this one up
+  seen_with : (a : First s t reply mid) (tickets : Tickets) → a.turn.tickets ≡ tickets → mid ≡ with_tickets tickets (sees s (and_made a.others a.turn.made))
+  seen_with a tickets e = a.seen ∙ ap (λ (x : Tickets). with_tickets x (sees s (and_made a.others a.turn.made))) e
 
-  hindered_once : FinishHindered AllOther s t.blob t.version reply mid → ways_told reply ≡ 1
-  hindered_once (FinishHindered.out_of_memory x) = ap ways_told x.said
-  hindered_once (FinishHindered.waits x) = ap ways_told x.said
-  hindered_once (FinishHindered.not_folded x) = ap ways_told x.said
-
-  hindered_faults : FinishHindered AllOther s t.blob t.version reply mid → FaultsAre reply
-  hindered_faults (FinishHindered.out_of_memory x) = subst FaultsAre (sym x.said) refl
-  hindered_faults (FinishHindered.waits x) = subst FaultsAre (sym x.said) refl
-  hindered_faults (FinishHindered.not_folded x) = subst FaultsAre (sym x.said) refl
-
-  hindered_same : FinishHindered AllOther s t.blob t.version reply mid → mid.tickets ≡ s.tickets
-  hindered_same (FinishHindered.out_of_memory x) = ap (λ (y : Session). y.tickets) x.seen
-  hindered_same (FinishHindered.waits x) = ap (λ (y : Session). y.tickets) x.seen
-  hindered_same (FinishHindered.not_folded x) = ap (λ (y : Session). y.tickets) x.seen
+  given_up_by : (a : First s t reply mid) (s' : Session) → s' ≡ with_tickets (Tickets.drop t.number) (sees s (and_made a.others a.turn.made)) → GivesUpOne s t ts reply s'
+  given_up_by a s' seen =
+      let g : GivesUpBy s t a.others a.turn = gives_up_by s t a.others a.turn a.may in
+      record {
+        given_up = record { others = a.others; is_gap = a.is_gap; turn = record { said = a.turn.said; made = a.turn.made; tickets = Tickets.drop t.number }; may = g.may; said = a.said; seen = seen };
+        left = ap (λ (y : Session). y.tickets) seen ∙ dropped_left s t ts is;
+        once = ap ways_told a.said ∙ g.once;
+        faults = subst FaultsAre (sym a.said) g.faults;
+      }
 
   -- the finish of the first ticket was done, or found done
-  gone_by : tells_hindered reply ≡ false → ReportAnswer AllOther s t reply mid → GivesUpOne s t ts reply mid
-  gone_by calm (ReportAnswer.reported x) = record {
-    given_up = GivenUp.reported x;
-    left = ap (λ (y : Session). y.tickets) x.seen ∙ dropped_left s t ts is;
-    once = ap ways_told x.said;
-    faults = subst FaultsAre (sym x.said) refl;
-  }
-  gone_by calm (ReportAnswer.finished x) = record {
-    given_up = GivenUp.found_finished x;
-    left = ap (λ (y : Session). y.tickets) x.seen ∙ dropped_left s t ts is;
-    once = ap ways_told x.said;
-    faults = subst FaultsAre (sym x.said) refl;
-  }
-  gone_by calm (ReportAnswer.hindered x) = absurd (false≢true (sym calm ∙ hindered_told x))
+  gone_by : (a : First s t reply mid) → tells_hindered reply ≡ false → GivesUpOne s t ts reply mid
+  gone_by a calm =
+      given_up_by a mid (seen_with a (Tickets.drop t.number) ((gives_up_by s t a.others a.turn a.may).calm (sym (ap tells_hindered a.said) ∙ calm)))
 
   pub one_gone : FinishAnswer AllOther s t.number (ticket_at s.tickets t.number) reply mid → tells_hindered reply ≡ false → GivesUpOne s t ts reply mid
-  one_gone a calm = gone_by calm (report_of s t ts reply mid is a)
+  one_gone a calm = gone_by (report_of s t ts reply mid is a) calm
 
-  -- it was hindered
-  hindered_by : tells_hindered reply ≡ true → ReportAnswer AllOther s t reply mid → FinishHindered AllOther s t.blob t.version reply mid
-  hindered_by told (ReportAnswer.reported x) = absurd (false≢true (sym (ap tells_hindered x.said) ∙ told))
-  hindered_by told (ReportAnswer.finished x) = absurd (false≢true (sym (ap tells_hindered x.said) ∙ told))
-  hindered_by told (ReportAnswer.hindered x) = x
+  -- it was hindered: the same tickets are held
+  kept_by : (a : First s t reply mid) → tells_hindered reply ≡ true → mid ≡ sees s (and_made a.others a.turn.made)
+  kept_by a told = seen_with a Tickets.stay ((gives_up_by s t a.others a.turn a.may).hindered (sym (ap tells_hindered a.said) ∙ told))
 
-  -- after that the same tickets are held
   pub same_tickets : FinishAnswer AllOther s t.number (ticket_at s.tickets t.number) reply mid → tells_hindered reply ≡ true → mid.tickets ≡ t ∷ ts
-  same_tickets a told = hindered_same (hindered_by told (report_of s t ts reply mid is a)) ∙ is
+  same_tickets a told = ap (λ (y : Session). y.tickets) (kept_by (report_of s t ts reply mid is a) told) ∙ is
 
   -- and it is dropped
   pub one_dropped : FinishAnswer AllOther s t.number (ticket_at s.tickets t.number) reply mid → tells_hindered reply ≡ true → (s' : Session) → s' ≡ drops mid t.number → GivesUpOne s t ts reply s'
   one_dropped a told s' dropped =
-      let h : FinishHindered AllOther s t.blob t.version reply mid = hindered_by told (report_of s t ts reply mid is a) in
-      record {
-        given_up = GivenUp.dropped (record { mid = mid; hindered = h; dropped = dropped });
-        left = ap (λ (y : Session). y.tickets) dropped ∙ dropped_left mid t ts (hindered_same h ∙ is);
-        once = hindered_once h;
-        faults = hindered_faults h;
-      }
+      let b : First s t reply mid = report_of s t ts reply mid is a in
+      given_up_by b s' (dropped ∙ ap (λ (y : Session). drops y t.number) (kept_by b told))
 
 -- ---- what is finished then
 none_below : (x y : Bool) → (x ≡ true → y ≡ true) → cond x 1 0 ≤ cond y 1 0
@@ -211,12 +228,13 @@ module _ {D : Type 0} (faults : D → ℕ) where
     each_once = omega arith;
     faults_rose = record { later = omega arith; by = λ few. omega arith };
     goes_on = record { store = refl; caller = refl; begins = ([], sym (append-nil s.log)) };
+    turns = record { least = omega arith; most = omega arith };
   }
 
   pub giving_more : GivingUpGoesOn → (a b d : SessionState D) (counts : GivenUpCounts) (reply : Reply) (t : HeldTicket) (ts : List HeldTicket) → GivingUp faults a b counts → (session_of b).tickets ≡ t ∷ ts
-      → GivesUpOne (session_of b) t ts reply (session_of d) → length b.held ≡ length d.held + 1 → RoseBy (fault_count reply) (sum_by faults b.doors) (sum_by faults d.doors) → Continues b d
+      → GivesUpOne (session_of b) t ts reply (session_of d) → length b.held ≡ length d.held + 1 → RoseBy (fault_count reply) (sum_by faults b.doors) (sum_by faults d.doors) → Continues b d → UpTo 2 b.turns d.turns
       → GivingUp faults a d (counted counts reply)
-  giving_more law a b d counts reply t ts g is one fewer rose goes = record {
+  giving_more law a b d counts reply t ts g is one fewer rose goes turns = record {
     gone = g.gone ++ t ∷ [];
     replies = g.replies ++ reply ∷ [];
     split = g.split ∙ (ap (λ (hs : List HeldTicket). g.gone ++ hs) (is ∙ ap (λ (hs : List HeldTicket). t ∷ hs) (sym one.left)) ∙ sym (append_assoc g.gone (t ∷ []) (session_of d).tickets));
@@ -226,6 +244,7 @@ module _ {D : Type 0} (faults : D → ℕ) where
     faults_rose = rose_both counts.page_fault (cond (tells_page_fault reply) 1 0) (sum_by faults a.doors) (sum_by faults b.doors) (sum_by faults d.doors) g.faults_rose
         (subst (λ (n : ℕ). RoseBy n (sum_by faults b.doors) (sum_by faults d.doors)) one.faults rose);
     goes_on = goes_both a b d g.goes_on goes;
+    turns = record { least = omega (arith, g.turns.least, turns.least); most = omega (arith, g.turns.most, turns.most, fewer, g.each_once) };
   }
 
   none_left : (xs : List HeldTicket) → length xs ≤ 0 → xs ≡ []

@@ -18,3 +18,4 @@ pub mod Waiting
 pub mod HangingUp
 pub mod ManyRanges
 pub mod Losses
+pub mod TurnCounts

@@ -9,16 +9,17 @@ use Rattle.blob_model.specs.declared.call.Event.TheVariants as Events
 use Rattle.blob_model.specs.declared.call.Refusal.{Refusal}
 use Rattle.blob_model.specs.declared.call.Refusal.TheVariants as Refusals
 use Rattle.request_form.specs.Session.{Session, HeldTicket, store_at, sees, without_ticket, without_version}
-use Rattle.request_form.specs.Answers.{RepairAnswer, FinishHindered, ReportAnswer, UpdateAnswer, max_update}
+use Rattle.request_form.specs.Turns.{Tickets, Turn, refuses, with_tickets, and_made, AfterGap}
+use Rattle.request_form.proofs.Runs.{changed_grows}
+use Rattle.request_form.specs.Answers.{FinishTurn, RepairTurn, UnnumberedTurn, FinishAnswer, max_update}
 use Rattle.request_form.specs.Replies.{fault_of}
 use Rattle.request_form.specs.declared.form.Reply.{Reply}
 use Rattle.request_form.specs.declared.form.Reply.TheVariants as Replies
 use Rattle.request_form.specs.declared.form.Fault.{Fault}
 use Rattle.request_form.specs.declared.form.Fault.TheVariants as Faults
-use Rattle.client_session.proofs.StoreAnswers.{found_already, finish_already}
+use Rattle.client_session.proofs.StoreAnswers.{found_already}
 use Rattle.client_session.specs.Results.{finish_reply, repair_reply}
 use Rattle.client_session.specs.Finishing.{settles}
-use Rattle.client_session.specs.Numbering.{NotNumberedFor}
 
 -- the session without its tickets
 abbrev pub unheld : Session → Session
@@ -58,96 +59,90 @@ other_settles store blob version (Refusals.Already v) e other = absurd (other (a
 other_settles store blob version (Refusals.RangePastSize e' s) e other = refl
 other_settles store blob version (Refusals.Pending v h) e other = refl
 
-hindered_settles : (s x : Session) (blob version : ℕ) (said : Result ℕ Fault) → FinishHindered AllOther s blob version (repair_reply said) x → settles said ≡ false
-hindered_settles s x blob version said (FinishHindered.out_of_memory a) = refused_settles said Faults.NoMemory false refl a.said
-hindered_settles s x blob version said (FinishHindered.waits a) = refused_settles said (Faults.Pending (version - 1) a.held) false refl a.said
-hindered_settles s x blob version said (FinishHindered.not_folded a) = refused_settles said (Faults.PageFault a.page) false refl a.said
-
 -- ---- with tickets
-module _ (s x : Session) where
-  -- it has seen more
-  goes : (more : List Event) → x.seen ≡ s.seen ++ more → then_holds s x.seen s.tickets ≡ sees s more
-  goes more is = ap (λ (h : List Event). then_holds s h s.tickets) is
+-- the tickets after it, by whether it is settled
+abbrev pub left_if : Bool → List HeldTicket → List HeldTicket → List HeldTicket
+left_if settled left held = if settled then left else held
 
-  seen_of : (y : Session) → x ≡ y → x.seen ≡ y.seen
-  seen_of y is = ap (λ (z : Session). z.seen) is
+module _ (s x : Session) (said : Result ℕ Fault) where
+  seen_by : (tickets : Tickets) (left : List HeldTicket) (b : Bool) (more : List Event) → settles said ≡ b → x.seen ≡ s.seen ++ more
+      → with_tickets tickets (sees s more) ≡ then_holds s (s.seen ++ more) (left_if b left s.tickets)
+      → then_holds s x.seen (left_if (settles said) left s.tickets) ≡ with_tickets tickets (sees s more)
+  seen_by tickets left b more is seen e =
+      ap (λ (h : List Event). then_holds s h (left_if (settles said) left s.tickets)) seen
+      ∙ (ap (λ (t : Bool). then_holds s (s.seen ++ more) (left_if t left s.tickets)) is ∙ sym e)
 
-  pub hindered : (blob version : ℕ) (reply reply' : Reply) → ((fault : Fault) → reply ≡ Replies.Refused fault → reply' ≡ Replies.Refused fault)
-      → FinishHindered AllOther (unheld s) blob version reply x → FinishHindered AllOther s blob version reply' (then_holds s x.seen s.tickets)
-  hindered blob version reply reply' says (FinishHindered.out_of_memory a) =
-      FinishHindered.out_of_memory record { others = a.others; is_gap = a.is_gap; said = says Faults.NoMemory a.said; seen = goes a.others (seen_of _ a.seen) }
-  hindered blob version reply reply' says (FinishHindered.waits a) =
-      FinishHindered.waits record {
-        others = a.others;
-        is_gap = a.is_gap;
-        held = a.held;
-        unfinished = a.unfinished;
-        folds = a.folds;
-        waits = a.waits;
-        said = says (Faults.Pending (version - 1) a.held) a.said;
-        seen = goes a.others (seen_of _ a.seen);
+  -- A finish by the session without its tickets is one by the session with them, which says it in its own way.
+  module _ (blob version : ℕ) (says : ℕ → Reply) (settled : Tickets) (left : List HeldTicket) (keeps : (more : List Event) → with_tickets settled (sees s more) ≡ then_holds s (s.seen ++ more) left)
+      (others : List Event) (reply : Reply) where
+    abbrev Lifts : Turn → Type 0
+    Lifts turn = FinishTurn s blob version says settled Tickets.stay others turn × ((reply ≡ turn.said)
+        × (then_holds s x.seen (left_if (settles said) left s.tickets) ≡ with_tickets turn.tickets (sees s (and_made others turn.made))))
+
+    finish_lifts : (done : (published : ℕ) → repair_reply said ≡ Replies.Repaired published → reply ≡ says published)
+        → (refused : (fault : Fault) → repair_reply said ≡ Replies.Refused fault → reply ≡ Replies.Refused fault) → (turn : Turn)
+        → FinishTurn (unheld s) blob version (λ published. Replies.Repaired published) (Tickets.let_go blob version) Tickets.stay others turn
+        → repair_reply said ≡ turn.said → x.seen ≡ s.seen ++ and_made others turn.made → (t : Turn) × Lifts t
+    finish_lifts done refused _ (FinishTurn.finished published unfinished ready e) told seen = (
+      record { said = says published; made = Events.Finish s.caller blob version ∷ []; tickets = settled },
+      (
+        FinishTurn.finished published unfinished ready e,
+        (done published told, seen_by settled left true (others ++ Events.Finish s.caller blob version ∷ []) (repaired_settles said published told) seen (keeps (others ++ Events.Finish s.caller blob version ∷ []))),
+      ),
+    )
+    finish_lifts done refused _ (FinishTurn.found e) told seen = (
+      record { said = Replies.Refused (Faults.Already version); made = []; tickets = settled },
+      (FinishTurn.found e, (refused (Faults.Already version) told, seen_by settled left true others (refused_settles said (Faults.Already version) true refl told) seen (keeps others))),
+    )
+    finish_lifts done refused _ (FinishTurn.waits held unfinished folds e) told seen = (
+      record { said = Replies.Refused (Faults.Pending (version - 1) held); made = []; tickets = Tickets.stay },
+      (
+        FinishTurn.waits held unfinished folds e,
+        (refused (Faults.Pending (version - 1) held) told, seen_by Tickets.stay left false others (refused_settles said (Faults.Pending (version - 1) held) false refl told) seen refl),
+      ),
+    )
+    finish_lifts done refused _ (FinishTurn.not_folded page unfinished fold ready) told seen = (
+      record { said = Replies.Refused (Faults.PageFault page); made = []; tickets = Tickets.stay },
+      (
+        FinishTurn.not_folded page unfinished fold ready,
+        (refused (Faults.PageFault page) told, seen_by Tickets.stay left false others (refused_settles said (Faults.PageFault page) false refl told) seen refl),
+      ),
+    )
+    finish_lifts done refused _ FinishTurn.out_of_memory told seen = (
+      record { said = Replies.Refused Faults.NoMemory; made = []; tickets = Tickets.stay },
+      (FinishTurn.out_of_memory, (refused Faults.NoMemory told, seen_by Tickets.stay left false others (refused_settles said Faults.NoMemory false refl told) seen refl)),
+    )
+
+-- a turn that leaves the tickets of a session without any leaves what was seen
+seen_after : (s x : Session) (turn : Turn) (others : List Event) → x ≡ with_tickets turn.tickets (sees (unheld s) (and_made others turn.made)) → x.seen ≡ s.seen ++ and_made others turn.made
+seen_after s x turn others e = (changed_grows turn.tickets (unheld s) (and_made others turn.made) x e).seen
+
+-- a repair
+module _ (s x : Session) (blob version : ℕ) (said : Result ℕ Fault) where
+  abbrev left_by : List HeldTicket
+  left_by = without_version s.tickets blob version
+
+  abbrev Lifted : Type 0
+  Lifted = AfterGap AllOther s (RepairTurn s blob version) (repair_reply said) (then_holds s x.seen (if settles said then left_by else s.tickets))
+
+  repair_by : (others : List Event) → AllOther s.caller others → (turn : Turn) → RepairTurn (unheld s) blob version others turn → repair_reply said ≡ turn.said
+      → x.seen ≡ s.seen ++ and_made others turn.made → Lifted
+  repair_by others gap turn (RepairTurn.finish _ t) told seen =
+      let (u, l) = finish_lifts s x said blob version (λ published. Replies.Repaired published) (Tickets.let_go blob version) left_by (λ more. refl) others (repair_reply said)
+      (λ published e. e) (λ fault e. e) turn t told seen in
+      record { others = others; is_gap = gap; turn = u; may = RepairTurn.finish u l.0; said = l.1.0; seen = l.1.1 }
+  repair_by others gap _ (RepairTurn.refused refusal e other) told seen =
+      record {
+        others = others;
+        is_gap = gap;
+        turn = refuses (fault_of refusal);
+        may = RepairTurn.refused refusal e other;
+        said = told;
+        seen = seen_by s x said Tickets.stay left_by false others (refused_settles said (fault_of refusal) false (other_settles (store_at s others) blob version refusal e other) told) seen refl;
       }
-  hindered blob version reply reply' says (FinishHindered.not_folded a) =
-      FinishHindered.not_folded record {
-        others = a.others;
-        is_gap = a.is_gap;
-        page = a.page;
-        unfinished = a.unfinished;
-        folds = a.folds;
-        ready = a.ready;
-        said = says (Faults.PageFault a.page) a.said;
-        seen = goes a.others (seen_of _ a.seen);
-      }
 
-  -- the tickets after it, by whether it is settled, and where it isn't
-  kept : (left : List HeldTicket) (settled : Bool) → settled ≡ false → then_holds s x.seen (if settled then left else s.tickets) ≡ then_holds s x.seen s.tickets
-  kept left settled is = ap (λ (b : Bool). then_holds s x.seen (if b then left else s.tickets)) is
-
-  given_up : (left : List HeldTicket) (settled : Bool) (more : List Event) → settled ≡ true → x.seen ≡ s.seen ++ more
-      → then_holds s x.seen (if settled then left else s.tickets) ≡ then_holds s (s.seen ++ more) left
-  given_up left settled more is seen =
-      ap (λ (b : Bool). then_holds s x.seen (if b then left else s.tickets)) is ∙ ap (λ (h : List Event). then_holds s h left) seen
-
-  -- a repair
-  module _ (blob version : ℕ) (said : Result ℕ Fault) where
-    abbrev left_by : List HeldTicket
-    left_by = without_version s.tickets blob version
-
-    pub repair_lifts : RepairAnswer AllOther (unheld s) blob version (repair_reply said) x
-        → RepairAnswer AllOther s blob version (repair_reply said) (then_holds s x.seen (if settles said then left_by else s.tickets))
-    repair_lifts (RepairAnswer.repaired a) =
-        RepairAnswer.repaired record {
-          others = a.others;
-          is_gap = a.is_gap;
-          published = a.published;
-          may = a.may;
-          done = a.done;
-          said = a.said;
-          seen = given_up left_by (settles said) (a.others ++ Events.Finish s.caller blob version ∷ []) (repaired_settles said a.published a.said) (seen_of _ a.seen);
-        }
-    repair_lifts (RepairAnswer.finished a) =
-        RepairAnswer.finished record {
-          others = a.others;
-          is_gap = a.is_gap;
-          refused = a.refused;
-          said = a.said;
-          seen = given_up left_by (settles said) a.others (refused_settles said (Faults.Already version) true refl a.said) (seen_of _ a.seen);
-        }
-    repair_lifts (RepairAnswer.refused a) =
-        RepairAnswer.refused record {
-          others = a.others;
-          is_gap = a.is_gap;
-          refusal = a.refusal;
-          refused = a.refused;
-          other = a.other;
-          said = a.said;
-          seen =
-              kept left_by (settles said) (refused_settles said (fault_of a.refusal) false (other_settles (store_at s a.others) blob version a.refusal a.refused a.other) a.said)
-              ∙ goes a.others (seen_of _ a.seen);
-        }
-    repair_lifts (RepairAnswer.hindered a) =
-        subst (λ (s' : Session). RepairAnswer AllOther s blob version (repair_reply said) s') (sym (kept left_by (settles said) (hindered_settles (unheld s) x blob version said a)))
-        (RepairAnswer.hindered (hindered blob version (repair_reply said) (repair_reply said) (λ fault e. e) a))
+  pub repair_lifts : AfterGap AllOther (unheld s) (RepairTurn (unheld s) blob version) (repair_reply said) x → Lifted
+  repair_lifts a = repair_by a.others a.is_gap a.turn a.may a.said (seen_after s x a.turn a.others a.seen)
 
 -- ---- a version that was numbered
 -- where it can't be finished, it is finished
@@ -158,36 +153,33 @@ module _ (s x : Session) (t : HeldTicket) (said : Result ℕ Fault) (only : Only
   abbrev left_of : List HeldTicket
   left_of = without_ticket s.tickets t.number
 
-  pub report_lifts : RepairAnswer AllOther (unheld s) t.blob t.version (repair_reply said) x
-      → ReportAnswer AllOther s t (finish_reply said) (then_holds s x.seen (if settles said then left_of else s.tickets))
-  report_lifts (RepairAnswer.repaired a) =
-      ReportAnswer.reported record {
-        others = a.others;
-        is_gap = a.is_gap;
-        published = a.published;
-        done = a.done;
-        said = repaired_finishes said a.published a.said;
-        seen = given_up s x left_of (settles said) (a.others ++ Events.Finish s.caller t.blob t.version ∷ []) (repaired_settles said a.published a.said) (seen_of s x _ a.seen);
-      }
-  report_lifts (RepairAnswer.finished a) =
-      ReportAnswer.finished record {
-        others = a.others;
-        is_gap = a.is_gap;
-        refused = finish_already (store_at s a.others) s.caller t.blob t.version (found_already (store_at s a.others) t.blob t.version t.version a.refused).1;
-        said = refused_finishes said (Faults.Already t.version) a.said;
-        seen = given_up s x left_of (settles said) a.others (refused_settles said (Faults.Already t.version) true refl a.said) (seen_of s x _ a.seen);
-      }
-  report_lifts (RepairAnswer.refused a) = absurd (a.other (only a.others a.refusal a.refused))
-  report_lifts (RepairAnswer.hindered a) =
-      subst (λ (s' : Session). ReportAnswer AllOther s t (finish_reply said) s') (sym (kept s x left_of (settles said) (hindered_settles (unheld s) x t.blob t.version said a)))
-      (ReportAnswer.hindered (hindered s x t.blob t.version (repair_reply said) (finish_reply said) (refused_finishes said) a))
+  abbrev Reports : Type 0
+  Reports = FinishAnswer AllOther s t.number (Some t) (finish_reply said) (then_holds s x.seen (if settles said then left_of else s.tickets))
+
+  report_by : (others : List Event) → AllOther s.caller others → (turn : Turn) → RepairTurn (unheld s) t.blob t.version others turn → repair_reply said ≡ turn.said
+      → x.seen ≡ s.seen ++ and_made others turn.made → Reports
+  report_by others gap turn (RepairTurn.finish _ f) told seen =
+      let (u, l) = finish_lifts s x said t.blob t.version (λ published. Replies.Finished published) (Tickets.drop t.number) left_of (λ more. refl) others (finish_reply said)
+      (λ published e. repaired_finishes said published e) (λ fault e. refused_finishes said fault e) turn f told seen in
+      record { others = others; is_gap = gap; turn = u; may = l.0; said = l.1.0; seen = l.1.1 }
+  report_by others gap _ (RepairTurn.refused refusal e other) told seen = absurd (other (only others refusal e))
+
+  pub report_lifts : AfterGap AllOther (unheld s) (RepairTurn (unheld s) t.blob t.version) (repair_reply said) x → Reports
+  report_lifts a = report_by a.others a.is_gap a.turn a.may a.said (seen_after s x a.turn a.others a.seen)
 
 -- ---- an update that isn't numbered
-module _ (s x : Session) (blob : ℕ) (place : Place) (bytes : List ℕ) (fault : Fault) where
-  pub unnumbered_lifts : NotNumberedFor (unheld s) blob place bytes fault x → UpdateAnswer AllOther s blob place bytes ⊥ (Replies.Refused fault) (then_holds s x.seen s.tickets)
-  unnumbered_lifts (NotNumberedFor.refused a) =
-      UpdateAnswer.refused record { others = a.others; is_gap = a.is_gap; refusal = a.refusal; refused = a.refused; said = a.said; seen = goes s x a.others (seen_of s x _ a.seen) }
-  unnumbered_lifts (NotNumberedFor.out_of_memory a) =
-      UpdateAnswer.out_of_memory record { others = a.others; is_gap = a.is_gap; said = a.said; seen = goes s x a.others (seen_of s x _ a.seen) }
-  unnumbered_lifts (NotNumberedFor.not_stored a) =
-      UpdateAnswer.not_stored record { others = a.others; is_gap = a.is_gap; page = a.page; is_page = a.is_page; said = a.said; seen = goes s x a.others (seen_of s x _ a.seen) }
+module _ (s x : Session) (blob : ℕ) (place : Place) (bytes : List ℕ) (reply : Reply) where
+  abbrev Unnumbered : Type 0
+  Unnumbered = AfterGap AllOther s (UnnumberedTurn s blob place bytes) reply (then_holds s x.seen s.tickets)
+
+  unnumbered_by : (others : List Event) → AllOther s.caller others → (turn : Turn) → UnnumberedTurn (unheld s) blob place bytes others turn → reply ≡ turn.said
+      → x.seen ≡ s.seen ++ and_made others turn.made → Unnumbered
+  unnumbered_by others gap _ (UnnumberedTurn.refused refusal e) told seen =
+      record { others = others; is_gap = gap; turn = _; may = UnnumberedTurn.refused refusal e; said = told; seen = ap (λ (h : List Event). then_holds s h s.tickets) seen }
+  unnumbered_by others gap _ UnnumberedTurn.out_of_memory told seen =
+      record { others = others; is_gap = gap; turn = _; may = UnnumberedTurn.out_of_memory; said = told; seen = ap (λ (h : List Event). then_holds s h s.tickets) seen }
+  unnumbered_by others gap _ (UnnumberedTurn.not_stored page is stored) told seen =
+      record { others = others; is_gap = gap; turn = _; may = UnnumberedTurn.not_stored page is stored; said = told; seen = ap (λ (h : List Event). then_holds s h s.tickets) seen }
+
+  pub unnumbered_lifts : AfterGap AllOther (unheld s) (UnnumberedTurn (unheld s) blob place bytes) reply x → Unnumbered
+  unnumbered_lifts a = unnumbered_by a.others a.is_gap a.turn a.may a.said (seen_after s x a.turn a.others a.seen)

@@ -20,7 +20,7 @@ use Rattle.version_manager.specs.declared.journal.DeskFixed.{DeskFixed}
 use Rattle.version_manager.specs.declared.fault.DeskFault.{DeskFault}
 use Rattle.version_manager.specs.declared.fault.DeskFault.TheVariants as DeskFaults
 use Rattle.request_form.specs.Session.{Session, outcome_at}
-use Rattle.request_form.specs.Answers.{Answers, AreContents, ReadManyAnswer, Unless, ranges_fault}
+use Rattle.request_form.specs.Answers.{AfterGap, Answers, AreContents, ReadManyTurn, Unless, ranges_fault}
 use Rattle.request_form.specs.declared.form.Request.TheVariants as Requests
 use Rattle.request_form.specs.declared.form.Reply.{Reply}
 use Rattle.request_form.specs.declared.form.Reply.TheVariants as Replies
@@ -73,25 +73,20 @@ not_both r bytes e = cc
 module _ (f : DeskFixed) (caller : ℕ) (log log' gap : List (ℕ × Event)) (others : AllOther caller (events gap)) (same : log' ≡ log ++ gap) (held : List OpenUpdate) (next limit blob version : ℕ) where
   -- the version isn't there: the first range is refused
   refused_ranges : (fault : DeskFault) (ranges : List (ℕ × ℕ)) → 1 ≤ length ranges → OnRefused fault (λ r. outcome_in f (log ++ gap) caller (Calls.Size blob version) ≡ Outcomes.Refused r)
-      → ReadManyAnswer AllOther (session_at f caller log held next limit) blob version ranges (Replies.Refused (desk_fault fault)) (session_at f caller log' held next limit)
+      → AfterGap AllOther (session_at f caller log held next limit) (ReadManyTurn (session_at f caller log held next limit) blob version ranges) (Replies.Refused (desk_fault fault)) (session_at f caller log' held next limit)
   refused_ranges fault [] some e = absurd (omega arith)
   refused_ranges (DeskFaults.Refused r) (range ∷ ranges) some e =
-      ReadManyAnswer.refused record {
+      record {
         others = events gap;
         is_gap = others;
-        before = [];
-        range = range;
-        after = ranges;
-        bytes = [];
-        joins = refl;
-        first = refl;
-        refusal = r;
-        refused = outcome_of_gap f caller log log' gap held next limit (Calls.Read blob version range.0 range.1) ∙ read_refused f (log ++ gap) caller blob version range.0 range.1 r e;
+        turn = _;
+        may = ReadManyTurn.refused [] ranges range [] refl refl r
+            (outcome_of_gap f caller log log' gap held next limit (Calls.Read blob version range.0 range.1) ∙ read_refused f (log ++ gap) caller blob version range.0 range.1 r e);
         said = refl;
         seen = seen_gap f caller log log' gap held next limit same;
       }
   refused_ranges DeskFaults.NoMemory (range ∷ ranges) some e =
-      ReadManyAnswer.out_of_memory record { others = events gap; is_gap = others; said = refl; seen = seen_gap f caller log log' gap held next limit same }
+      record { others = events gap; is_gap = others; turn = _; may = ReadManyTurn.out_of_memory; said = refl; seen = seen_gap f caller log log' gap held next limit same }
 
   -- the version is there, with so many bytes
   module _ (n : ℕ) (there : outcome_in f (log ++ gap) caller (Calls.Size blob version) ≡ Outcomes.Size n) where
@@ -151,52 +146,43 @@ module _ (f : DeskFixed) (caller : ℕ) (log log' gap : List (ℕ × Event)) (ot
         ]
 
     failed_ranges : (ranges : List (ℕ × ℕ)) (fault : Fault) → RangesCause f.page_size updates version ranges fault
-        → ReadManyAnswer AllOther (session_at f caller log held next limit) blob version ranges (Replies.Refused fault) (session_at f caller log' held next limit)
+        → AfterGap AllOther (session_at f caller log held next limit) (ReadManyTurn (session_at f caller log held next limit) blob version ranges) (Replies.Refused fault) (session_at f caller log' held next limit)
     failed_ranges ranges fault (RangesCause.past end is first) =
         let p : FirstPast ranges end = first_of ranges end first in
         let size : ℕ = size_of updates version in
-        ReadManyAnswer.refused record {
+        record {
           others = events gap;
           is_gap = others;
-          before = p.before;
-          range = p.range;
-          after = p.after;
-          bytes = joined (content updates version) p.before;
-          joins = p.joins;
-          first = p.first;
-          refusal = Refusals.RangePastSize (p.range.0 + p.range.1) size;
-          refused = outcome_of_gap f caller log log' gap held next limit (Calls.Read blob version p.range.0 p.range.1)
-              ∙ read_past f (log ++ gap) caller blob version p.range.0 p.range.1 n there p.past;
+          turn = _;
+          may = ReadManyTurn.refused p.before p.after p.range (joined (content updates version) p.before) p.joins p.first (Refusals.RangePastSize (p.range.0 + p.range.1) size)
+              (outcome_of_gap f caller log log' gap held next limit (Calls.Read blob version p.range.0 p.range.1)
+              ∙ read_past f (log ++ gap) caller blob version p.range.0 p.range.1 n there p.past);
           said = ap Replies.Refused (is ∙ ap (λ (e : ℕ). Faults.RangePastSize e size) p.end_is);
           seen = seen_gap f caller log log' gap held next limit same;
         }
     failed_ranges ranges fault (RangesCause.lost page is none met) =
-        ReadManyAnswer.not_read record {
+        record {
           others = events gap;
           is_gap = others;
-          bytes = joined (content updates version) ranges;
-          would = all_within ranges none;
-          range = met.range;
-          among = met.among;
-          some = met.met.some;
-          page = page;
-          begins = met.met.begins;
-          ends = met.met.ends;
+          turn = _;
+          may = ReadManyTurn.not_read (joined (content updates version) ranges) (all_within ranges none) met.range met.among met.met.some page
+              (record { begins = met.met.begins; ends = met.met.ends });
           said = ap Replies.Refused is;
           seen = seen_gap f caller log log' gap held next limit same;
         }
     failed_ranges ranges fault (RangesCause.no_memory is) =
-        ReadManyAnswer.out_of_memory record { others = events gap; is_gap = others; said = ap Replies.Refused is; seen = seen_gap f caller log log' gap held next limit same }
+        record { others = events gap; is_gap = others; turn = _; may = ReadManyTurn.out_of_memory; said = ap Replies.Refused is; seen = seen_gap f caller log log' gap held next limit same }
 
     -- what ranges of the opened version give
     ranges_answer : (ranges : List (ℕ × ℕ)) (said : Result (List ℕ) Fault) → ReadsRanges f.page_size updates version ranges said
-        → ReadManyAnswer AllOther (session_at f caller log held next limit) blob version ranges (contents_reply said) (session_at f caller log' held next limit)
+        → AfterGap AllOther (session_at f caller log held next limit) (ReadManyTurn (session_at f caller log held next limit) blob version ranges) (contents_reply said) (session_at f caller log' held next limit)
     ranges_answer ranges (Ok bytes) r =
-        ReadManyAnswer.contents record {
+        record {
           others = events gap;
           is_gap = others;
-          bytes = bytes;
-          done = subst (λ (b : List ℕ). AreContents (session_at f caller log held next limit) (events gap) blob version ranges b) (sym r.bytes) (all_within ranges r.within);
+          turn = _;
+          may = ReadManyTurn.contents bytes
+              (subst (λ (b : List ℕ). AreContents (session_at f caller log held next limit) (events gap) blob version ranges b) (sym r.bytes) (all_within ranges r.within));
           said = refl;
           seen = seen_gap f caller log log' gap held next limit same;
         }
@@ -239,12 +225,12 @@ module _ {D : Type 0} (s s1 : SessionState D) (blob version : ℕ) (ranges : Lis
       let there : outcome_in f (s.log ++ o.gap) s.caller (Calls.Size blob version) ≡ Outcomes.Size (size_now v) =
       subst (λ (l : List (ℕ × Event)). outcome_in f l s.caller (Calls.Size blob version) ≡ Outcomes.Size (size_now v)) o.log o.done
       in
-      let answer : ReadManyAnswer AllOther (session_of s) blob version ranges (contents_reply said) (seen_to s s1.log) =
+      let answer : AfterGap AllOther (session_of s) (ReadManyTurn (session_of s) blob version ranges) (contents_reply said) (seen_to s s1.log) =
       ranges_answer f s.caller s.log s1.log o.gap o.others o.log s.held s.next s.limit blob version (size_now v) there ranges said r'
       in
       let now : session_of s' ≡ seen_to s s1.log = ap (λ (x : SessionState D). session_of x) stays ∙ ap (λ (x : SessionState D). session_of x) o.same in
       subst (λ (x : Session). Answers AllOther (session_of s) (Requests.ReadMany blob version ranges) (contents_reply said) x) (sym now)
-      (few_together (ranges_fault 0 ranges) (session_of s) (contents_reply said) (seen_to s s1.log) (ReadManyAnswer AllOther (session_of s) blob version ranges (contents_reply said) (seen_to s s1.log)) few answer)
+      (few_together (ranges_fault 0 ranges) (session_of s) (contents_reply said) (seen_to s s1.log) (AfterGap AllOther (session_of s) (ReadManyTurn (session_of s) blob version ranges) (contents_reply said) (seen_to s s1.log)) few answer)
 
   pub unopened_ranges : (fault : Fault) → 1 ≤ length ranges → Opening s blob version (Err fault) s1
       → Answers AllOther (session_of s) (Requests.ReadMany blob version ranges) (contents_reply (Err fault)) (session_of s1)
@@ -255,14 +241,14 @@ module _ {D : Type 0} (s s1 : SessionState D) (blob version : ℕ) (ranges : Lis
       subst (λ (l : List (ℕ × Event)). OnRefused why (λ r. outcome_in f l s.caller (Calls.Size blob version) ≡ Outcomes.Refused r)) o.log o.refused.refused
       in
       let reply : Reply = Replies.Refused (desk_fault why) in
-      let answer : ReadManyAnswer AllOther (session_of s) blob version ranges reply (seen_to s s1.log) =
+      let answer : AfterGap AllOther (session_of s) (ReadManyTurn (session_of s) blob version ranges) reply (seen_to s s1.log) =
       refused_ranges f s.caller s.log s1.log o.gap o.others o.log s.held s.next s.limit blob version why ranges some refused
       in
       let now : session_of s1 ≡ seen_to s s1.log = ap (λ (x : SessionState D). session_of x) o.same in
       let same : reply ≡ Replies.Refused fault = ap Replies.Refused (sym o.refused.said) in
       subst (λ (x : Session). Answers AllOther (session_of s) (Requests.ReadMany blob version ranges) (contents_reply (Err fault)) x) (sym now)
       (subst (λ (x : Reply). Answers AllOther (session_of s) (Requests.ReadMany blob version ranges) x (seen_to s s1.log)) same
-      (few_together (ranges_fault 0 ranges) (session_of s) reply (seen_to s s1.log) (ReadManyAnswer AllOther (session_of s) blob version ranges reply (seen_to s s1.log)) few answer))
+      (few_together (ranges_fault 0 ranges) (session_of s) reply (seen_to s s1.log) (AfterGap AllOther (session_of s) (ReadManyTurn (session_of s) blob version ranges) reply (seen_to s s1.log)) few answer))
 
   -- no node was met where a range is refused
   pub no_step_opened : (s' : SessionState D) (v : Version) → Opening s blob version (Ok v) s1 → s' ≡ record s1 { doors = s'.doors } → (before after : ℕ)
@@ -300,7 +286,7 @@ pub too_long_together : {D : Type 0} (s : SessionState D) (blob version count : 
     → Answers AllOther (session_of s) (Requests.ReadMany blob version ranges) (contents_reply (Err (Faults.ReadTooLong count))) (session_of s)
 too_long_together s blob version count ranges is =
     let reply : Reply = Replies.Refused (Faults.ReadTooLong count) in
-    subst (λ (o : Option Fault). Unless o (session_of s) reply (session_of s) (ReadManyAnswer AllOther (session_of s) blob version ranges reply (session_of s))) (sym is) (refl, refl)
+    subst (λ (o : Option Fault). Unless o (session_of s) reply (session_of s) (AfterGap AllOther (session_of s) (ReadManyTurn (session_of s) blob version ranges) reply (session_of s))) (sym is) (refl, refl)
 
 -- ---- what the walks gave
 none_if : (o : Option ℕ) → ((end : ℕ) → o ≡ Some end → ⊥) → o ≡ None

@@ -1,5 +1,5 @@
 -- Numbering an update: a first look, its pages stored, and its number; each told of the session without its tickets.
-use Rattle.std.proofs.Common.{◌≡◌, refl, sym, ◌∙◌, ap, subst, ℕ, ◌+◌, ◌*◌, ◌<◌, ◌≤◌, List, [], ◌∷◌, ◌++◌, append_assoc, length, length-append, Option, None, Ok, Err, arith}
+use Rattle.std.proofs.Common.{◌≡◌, ◌≢◌, inl, inr, refl, sym, ◌∙◌, ap, subst, ℕ, ◌+◌, ◌*◌, ◌<◌, ◌≤◌, Bool, List, [], ◌∷◌, ◌++◌, append_assoc, length, length-append, Option, Some, None, Ok, Err, arith}
 use Rattle.std.specs.Prelude.{IfOk}
 use Rattle.std.proofs.lemmas.List.{map-append}
 use Rattle.blob_model.specs.Answer.{answer}
@@ -33,29 +33,49 @@ use Rattle.client_session.specs.SessionInvariant.{IsTicketHere}
 use Rattle.client_session.specs.Numbering.{LookedAhead, NotNumberedFor, Numbering}
 use Rattle.client_session.proofs.Gapped.{others_both, unnumbered_later}
 use Rattle.client_session.proofs.Opened.{new_ticket_here}
-use Rattle.client_session.proofs.Turns.{Took, NotDone, took, not_done, seen_gap}
+use Rattle.client_session.proofs.Turns.{Took, took, not_done, outcome_of_gap, seen_gap}
+use Rattle.blob_model.specs.History.{is_refused}
+use Rattle.request_form.specs.Replies.{page_faults, fault_of}
+use Rattle.request_form.specs.Answers.{UnnumberedTurn, IsStoredThen}
+use Rattle.request_form.specs.declared.form.Fault.TheVariants as Faults
 
 -- ---- what isn't prepared
-module _ (f : DeskFixed) (caller : ℕ) (log log' : List (ℕ × Event)) (blob : ℕ) (place : Place) (bytes : List ℕ) where
-  -- a refusal is what others' events made of it, and so is none
-  pub ahead_none : (said : Option Refusal) → LookedAhead f caller log blob place bytes said log' → LookedAhead f caller log blob place bytes None log'
-  ahead_none said look = record { gap = look.gap; others = look.others; same = look.same; refused = tt }
-
-  pub not_stored : (fault : StoreFault) → LookedAhead f caller log blob place bytes None log' → OnPageFault fault (λ i. f.page_size * i < length bytes)
-      → NotNumberedFor (bare f caller log) blob place bytes (store_fault fault) (bare f caller log')
-  not_stored (StoreFaults.PageFault page before) look is_page =
-      NotNumberedFor.not_stored record {
+module _ (f : DeskFixed) (caller : ℕ) (log log' : List (ℕ × Event)) (looks_first : Bool) (blob : ℕ) (place : Place) (bytes : List ℕ) where
+  pub ahead_refused : (refusal : Refusal) → LookedAhead f caller log looks_first blob place bytes (Some refusal) log' → NotNumberedFor (bare f caller log) blob place bytes (fault_of refusal) (bare f caller log')
+  ahead_refused refusal look =
+      record {
         others = events look.gap;
         is_gap = look.others;
-        page = page;
-        is_page = is_page;
+        turn = _;
+        may = UnnumberedTurn.refused refusal (outcome_of_gap f caller log log' look.gap [] 1 max_update (Calls.Assign blob place bytes) ∙ look.refused);
+        said = refl;
+        seen = seen_gap f caller log log' look.gap [] 1 max_update look.same;
+      }
+
+  -- the bytes are stored behind the look
+  stored_then : (look : LookedAhead f caller log looks_first blob place bytes None log') → IsStoredThen (bare f caller log) blob place bytes (events look.gap)
+  stored_then look =
+      elim look.free [
+        | inl none ↦ inl (ap events none)
+        | inr (looked, free) ↦ inr (ap is_refused (outcome_of_gap f caller log log' look.gap [] 1 max_update (Calls.Assign blob place bytes)) ∙ free)
+      ]
+
+  pub not_stored : (fault : StoreFault) → LookedAhead f caller log looks_first blob place bytes None log' → OnPageFault fault (λ i. f.page_size * i < length bytes)
+      → NotNumberedFor (bare f caller log) blob place bytes (store_fault fault) (bare f caller log')
+  not_stored (StoreFaults.PageFault page before) look is_page =
+      record {
+        others = events look.gap;
+        is_gap = look.others;
+        turn = _;
+        may = UnnumberedTurn.not_stored page is_page (stored_then look);
         said = refl;
         seen = seen_gap f caller log log' look.gap [] 1 max_update look.same;
       }
   not_stored StoreFaults.NoMemory look is_page =
-      NotNumberedFor.out_of_memory record { others = events look.gap; is_gap = look.others; said = refl; seen = seen_gap f caller log log' look.gap [] 1 max_update look.same }
+      record { others = events look.gap; is_gap = look.others; turn = _; may = UnnumberedTurn.out_of_memory; said = refl; seen = seen_gap f caller log log' look.gap [] 1 max_update look.same }
 
-  -- ---- the numbering
+-- ---- the numbering
+module _ (f : DeskFixed) (caller : ℕ) (log log' : List (ℕ × Event)) (blob : ℕ) (place : Place) (bytes : List ℕ) where
   pub numbered : (cut : Cut) (t : NumberedUpdate) → IsWellNumbered t → LieAmong f.houses cut.pages
       → Took caller log log' (λ before after. Changed f (Calls.Assign blob place bytes) (Events.Assign caller blob place bytes) (λ (x : NumberedUpdate). Outcomes.Assigned x.version x.at x.size) (λ (x : DeskFault). x) before caller (Ok t) after
       × IfOk {E = DeskFault} (Ok t) (λ x. IsNewTicket f blob caller cut before after x))
@@ -76,21 +96,26 @@ module _ (f : DeskFixed) (caller : ℕ) (log log' : List (ℕ × Event)) (blob :
         unfinished = subst (λ (b : ℕ). IsUnfinished (desk_at f log') b t.version) (sym n.blob_is) took.gives.1.unfinished;
       }
 
-  as_unnumbered : (fault : Fault) → NotDone f caller log log' (Calls.Assign blob place bytes) [] 1 max_update (Replies.Refused fault) → NotNumberedFor (bare f caller log) blob place bytes fault (bare f caller log')
-  as_unnumbered fault (NotDone.refused a) = NotNumberedFor.refused a
-  as_unnumbered fault (NotDone.out_of_memory a) = NotNumberedFor.out_of_memory a
-
   pub not_numbered : {A : Type 0} (tells : A → Outcome) (fault : DeskFault)
       → Took caller log log' (λ before after. Changed f (Calls.Assign blob place bytes) (Events.Assign caller blob place bytes) tells (λ (x : DeskFault). x) before caller (Err fault) after)
       → NotNumberedFor (bare f caller log) blob place bytes (desk_fault fault) (bare f caller log')
   not_numbered tells fault took =
-      as_unnumbered (desk_fault fault) (not_done f caller log log' (Calls.Assign blob place bytes) [] 1 max_update took.gap fault took.others took.gives.same took.gives.refused)
+      not_done f caller log log' (Calls.Assign blob place bytes) [] 1 max_update (UnnumberedTurn (bare f caller log) blob place bytes) (λ front refusal e. UnnumberedTurn.refused refusal e)
+      (λ front. UnnumberedTurn.out_of_memory) took.gap fault took.others took.gives.same took.gives.refused
+
+-- a fault for which the outside didn't fail is no lost page
+calm_page : (fault : Fault) → page_faults fault ≡ 0 → (page : ℕ) → Replies.Refused fault ≢ Replies.Refused (Faults.PageFault page)
+calm_page fault calm page e =
+    let same : fault ≡ Faults.PageFault page = cc in
+    let one : page_faults fault ≡ 1 = ap page_faults same in
+    omega (arith, one, calm)
 
 -- ---- both, one after the other
-module _ (f : DeskFixed) (caller : ℕ) (log mid log' : List (ℕ × Event)) (blob : ℕ) (place : Place) (bytes : List ℕ) (look : LookedAhead f caller log blob place bytes None mid) where
-  pub not_numbered_both : (fault : Fault) → NotNumberedFor (bare f caller mid) blob place bytes fault (bare f caller log') → NotNumberedFor (bare f caller log) blob place bytes fault (bare f caller log')
-  not_numbered_both fault a =
-      unnumbered_later (bare f caller log) (events look.gap) look.others blob place bytes fault (bare f caller log')
+module _ (f : DeskFixed) (caller : ℕ) (log mid log' : List (ℕ × Event)) (looks_first : Bool) (blob : ℕ) (place : Place) (bytes : List ℕ) (look : LookedAhead f caller log looks_first blob place bytes None mid) where
+  pub not_numbered_both : (fault : Fault) → page_faults fault ≡ 0 → NotNumberedFor (bare f caller mid) blob place bytes fault (bare f caller log')
+      → NotNumberedFor (bare f caller log) blob place bytes fault (bare f caller log')
+  not_numbered_both fault calm a =
+      unnumbered_later (bare f caller log) (events look.gap) look.others blob place bytes (Replies.Refused fault) (bare f caller log') (calm_page fault calm)
       (subst (λ (s : Session). NotNumberedFor s blob place bytes fault (bare f caller log')) (seen_gap f caller log mid look.gap [] 1 max_update look.same) a)
 
   module _ (t : NumberedUpdate) (n : Numbering f caller mid blob place bytes t log') where

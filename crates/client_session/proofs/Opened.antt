@@ -1,6 +1,6 @@
 -- What a ticket, and a held update, give to a session's calls.
 use Rattle.std.proofs.Common.{◌≡◌, refl, sym, ◌∙◌, ap, subst, ℕ, ◌≤◌, List, [], ◌++◌, length, Option, Some, None, arith}
-use Rattle.std.specs.Prelude.{IfSome}
+use Rattle.std.specs.Prelude.{IfSome, option_map}
 use Rattle.std.proofs.lemmas.List.{map-append}
 use Rattle.blob_model.specs.Content.{Update, content}
 use Rattle.blob_model.specs.Store.{Store, Blob, blob_at, empty_store}
@@ -8,32 +8,45 @@ use Rattle.blob_model.specs.History.{store_of}
 use Rattle.blob_model.specs.declared.call.Event.{Event}
 use Rattle.blob_model.proofs.Marks.{published_within}
 use Rattle.blob_model.proofs.Stays.{store_kept, store_from-append}
+use Rattle.page_store.specs.House.{House}
 use Rattle.page_store.specs.Stored.{Cut, LieAmong}
 use Rattle.node_store.specs.UpdateRows.{UpdateRow}
 use Rattle.border_hints.specs.Numbered.{NumberedUpdate}
 use Rattle.border_hints.specs.Numbered.{IsValidTicket as IsWellNumbered}
 use Rattle.session_parts.specs.Tickets.{OpenUpdate}
+use Rattle.tree_weaver.specs.Anew.{StoresNoneAnew}
 use Rattle.tree_weaver.specs.Woven.{IsWoven}
 use Rattle.version_manager.specs.Desks.{updates_in, updates_or_none, published_or_none}
+use Rattle.version_manager.specs.Folds.{IsInOrder}
 use Rattle.version_manager.specs.Log.{MayFinish, IsNewTicket, IsWaitingTicket, desk_at, events}
 use Rattle.version_manager.specs.Stays.{ticket_stays}
 use Rattle.version_manager.specs.declared.journal.DeskFixed.{DeskFixed}
 use Rattle.client_session.specs.Finishing.{TicketsStayHere}
 use Rattle.client_session.specs.SessionInvariant.{IsOpen, IsTicketHere}
+use Rattle.client_session.proofs.Folding.{none_in_order}
 
 -- an open update with its row may be finished
 pub may_finish : (f : DeskFixed) (log : List (ℕ × Event)) (o : OpenUpdate) (row : UpdateRow) → IsOpen f log o → o.row ≡ Some row → MayFinish o.ticket row log f
 may_finish f log o row open_ is = subst (λ (x : Option UpdateRow). IfSome x (λ r. MayFinish o.ticket r log f)) is open_.row
 
--- so may one that was woven by a ticket that is here
-pub may_finish_woven : (f : DeskFixed) (log : List (ℕ × Event)) (t : NumberedUpdate) (row : UpdateRow) → IsTicketHere f log t → IsWoven f.nodes f.houses t row → MayFinish t row log f
-may_finish_woven f log t row h woven = record {
+-- so may one that was woven by a ticket that is here, where it is in order
+pub may_finish_woven : (f : DeskFixed) (log : List (ℕ × Event)) (t : NumberedUpdate) (row : UpdateRow) → IsTicketHere f log t → IsWoven f.nodes f.houses t row
+    → IsInOrder f.page_size (store_of f.limits (events log)) t.blob t.version → MayFinish t row log f
+may_finish_woven f log t row h woven order = record {
   ticket = h.ticket;
   row_for = woven.for f.page_size (updates_in (desk_at f log) t.blob)
       (record { page_size = h.ticket.page_size; numbered = h.ticket.numbered; stands = h.ticket.stands; bytes = h.ticket.bytes; before = h.bytes });
   under = woven.under;
   here = woven.here;
+  in_order = order;
 }
+
+-- and so one that was woven at once, if it was
+pub may_finish_if_woven : {A : Type 0} (value : A → UpdateRow) (row : Option A) (f : DeskFixed) (log : List (ℕ × Event)) (t : NumberedUpdate) → IsTicketHere f log t
+    → IfSome row (λ r. (houses : List House) → LieAmong houses t.pages.pages → IsWoven f.nodes houses t (value r)) → IfSome row (λ _. StoresNoneAnew t)
+    → IfSome (option_map value row) (λ r. MayFinish t r log f)
+may_finish_if_woven value None f log t h woven none = tt
+may_finish_if_woven value (Some r) f log t h woven none = may_finish_woven f log t (value r) h (woven f.houses h.here.pages) (none_in_order f log t h.ticket none)
 
 -- ---- what a blob's updates leave stays, as they go on
 content_longer : (f : DeskFixed) (h more : List Event) (blob v : ℕ) (o : Option Blob) → blob_at (store_of f.limits h) blob ≡ o → v ≤ length (updates_or_none o)

@@ -19,7 +19,7 @@ use Rattle.version_manager.specs.declared.journal.DeskFixed.{DeskFixed}
 use Rattle.version_manager.specs.declared.fault.DeskFault.{DeskFault}
 use Rattle.version_manager.specs.declared.fault.DeskFault.TheVariants as DeskFaults
 use Rattle.request_form.specs.Session.{Session}
-use Rattle.request_form.specs.Answers.{Answers, ReadAnswer, Unless, read_fault, max_read}
+use Rattle.request_form.specs.Answers.{AfterGap, Answers, ReadTurn, Unless, read_fault, max_read}
 use Rattle.request_form.specs.declared.form.Request.TheVariants as Requests
 use Rattle.request_form.specs.declared.form.Reply.{Reply}
 use Rattle.request_form.specs.declared.form.Reply.TheVariants as Replies
@@ -75,7 +75,7 @@ reads_range p version offset count us (Err RangeFaults.NoMemory) few is within r
 
 -- the version was opened, or wasn't
 pub opening_told : {D : Type 0} (s : SessionState D) (log' : List (ℕ × Event)) (blob version : ℕ) (r : Result Version DeskFault)
-    → Took s.caller s.log log' (λ before after. Opened s.store.fixed blob version before s.caller r after) → Opening s blob version (opened_of r) (record s { log = log' })
+    → Took s.caller s.log log' (λ before after. Opened s.store.fixed blob version before s.caller r after) → Opening s blob version (opened_of r) (record s { log = log'; turns = s.turns + 1 })
 opening_told s log' blob version (Ok v) t =
     let here = subst (λ (l : List (ℕ × Event)). IsSnapshotOf s.store.fixed l blob version v) (sym t.gives.same) t.gives.snapshot in
     record {
@@ -83,6 +83,7 @@ opening_told s log' blob version (Ok v) t =
       others = t.others;
       log = t.gives.same;
       same = refl;
+      one_turn = refl;
       done = subst (λ (l : List (ℕ × Event)). outcome_in s.store.fixed l s.caller (Calls.Size blob version) ≡ Outcomes.Size (size_now v)) (sym t.gives.same) t.gives.done;
       snapshot = here;
       of_store = record { here = here.here; page_size = here.page_size };
@@ -93,6 +94,7 @@ opening_told s log' blob version (Err fault) t = record {
   others = t.others;
   log = t.gives.same;
   same = refl;
+  one_turn = refl;
   done = tt;
   snapshot = tt;
   of_store = tt;
@@ -110,69 +112,69 @@ not_both r bytes e = cc
 module _ (f : DeskFixed) (caller : ℕ) (log log' gap : List (ℕ × Event)) (others : AllOther caller (events gap)) (same : log' ≡ log ++ gap) (held : List OpenUpdate) (next limit blob version offset count : ℕ) where
   -- the version isn't there
   pub refused_read : (fault : DeskFault) → OnRefused fault (λ r. outcome_in f (log ++ gap) caller (Calls.Size blob version) ≡ Outcomes.Refused r)
-      → ReadAnswer AllOther (session_at f caller log held next limit) blob version offset count (Replies.Refused (desk_fault fault)) (session_at f caller log' held next limit)
+      → AfterGap AllOther (session_at f caller log held next limit) (ReadTurn (session_at f caller log held next limit) blob version offset count) (Replies.Refused (desk_fault fault)) (session_at f caller log' held next limit)
   refused_read (DeskFaults.Refused r) e =
-      ReadAnswer.refused record {
+      record {
         others = events gap;
         is_gap = others;
-        refusal = r;
-        refused = outcome_of_gap f caller log log' gap held next limit (Calls.Read blob version offset count) ∙ read_refused f (log ++ gap) caller blob version offset count r e;
+        turn = _;
+        may = ReadTurn.refused r (outcome_of_gap f caller log log' gap held next limit (Calls.Read blob version offset count) ∙ read_refused f (log ++ gap) caller blob version offset count r e);
         said = refl;
         seen = seen_gap f caller log log' gap held next limit same;
       }
-  refused_read DeskFaults.NoMemory e = ReadAnswer.out_of_memory record { others = events gap; is_gap = others; said = refl; seen = seen_gap f caller log log' gap held next limit same }
+  refused_read DeskFaults.NoMemory e = record { others = events gap; is_gap = others; turn = _; may = ReadTurn.out_of_memory; said = refl; seen = seen_gap f caller log log' gap held next limit same }
 
   -- the version is there, with so many bytes
   module _ (n : ℕ) (there : outcome_in f (log ++ gap) caller (Calls.Size blob version) ≡ Outcomes.Size n) where
     -- the bytes of the range
     pub content_read : (bytes : List ℕ) → offset + count ≤ size_of (updates_in (desk_at f (log ++ gap)) blob) version
         → bytes ≡ take count (drop offset (content (updates_in (desk_at f (log ++ gap)) blob) version))
-        → ReadAnswer AllOther (session_at f caller log held next limit) blob version offset count (Replies.Content bytes) (session_at f caller log' held next limit)
+        → AfterGap AllOther (session_at f caller log held next limit) (ReadTurn (session_at f caller log held next limit) blob version offset count) (Replies.Content bytes) (session_at f caller log' held next limit)
     content_read bytes within is =
-        ReadAnswer.content record {
+        record {
           others = events gap;
           is_gap = others;
-          bytes = bytes;
-          done = outcome_of_gap f caller log log' gap held next limit (Calls.Read blob version offset count)
-              ∙ (read_within f (log ++ gap) caller blob version offset count n there within ∙ ap Outcomes.Content (sym is));
+          turn = _;
+          may = ReadTurn.content bytes
+              (outcome_of_gap f caller log log' gap held next limit (Calls.Read blob version offset count)
+              ∙ (read_within f (log ++ gap) caller blob version offset count n there within ∙ ap Outcomes.Content (sym is)));
           said = refl;
           seen = seen_gap f caller log log' gap held next limit same;
         }
 
     -- a range that was not read
     failed_read : (fault : Fault) → count ≤ max_read → RangeCause f.page_size (updates_in (desk_at f (log ++ gap)) blob) version offset count fault
-        → ReadAnswer AllOther (session_at f caller log held next limit) blob version offset count (Replies.Refused fault) (session_at f caller log' held next limit)
+        → AfterGap AllOther (session_at f caller log held next limit) (ReadTurn (session_at f caller log held next limit) blob version offset count) (Replies.Refused fault) (session_at f caller log' held next limit)
     failed_read fault few (RangeCause.too_long is long) = absurd (omega (arith, few, long))
     failed_read fault few (RangeCause.past is few' past) =
-        ReadAnswer.refused record {
+        record {
           others = events gap;
           is_gap = others;
-          refusal = Refusals.RangePastSize (offset + count) (size_of (updates_in (desk_at f (log ++ gap)) blob) version);
-          refused = outcome_of_gap f caller log log' gap held next limit (Calls.Read blob version offset count) ∙ read_past f (log ++ gap) caller blob version offset count n there past;
+          turn = _;
+          may = ReadTurn.refused (Refusals.RangePastSize (offset + count) (size_of (updates_in (desk_at f (log ++ gap)) blob) version))
+              (outcome_of_gap f caller log log' gap held next limit (Calls.Read blob version offset count) ∙ read_past f (log ++ gap) caller blob version offset count n there past);
           said = ap Replies.Refused is;
           seen = seen_gap f caller log log' gap held next limit same;
         }
     failed_read fault few (RangeCause.lost page is few' within met) =
         let bytes : List ℕ = take count (drop offset (content (updates_in (desk_at f (log ++ gap)) blob) version)) in
         let some : 0 < length bytes = omega (arith, count_within (content (updates_in (desk_at f (log ++ gap)) blob) version) offset count within, met.some) in
-        ReadAnswer.not_read record {
+        record {
           others = events gap;
           is_gap = others;
-          bytes = bytes;
-          would = outcome_of_gap f caller log log' gap held next limit (Calls.Read blob version offset count) ∙ read_within f (log ++ gap) caller blob version offset count n there within;
-          some = some;
-          page = page;
-          begins = met.begins;
-          ends = met.ends;
+          turn = _;
+          may = ReadTurn.not_read bytes
+              (outcome_of_gap f caller log log' gap held next limit (Calls.Read blob version offset count) ∙ read_within f (log ++ gap) caller blob version offset count n there within) some page
+              (record { begins = met.begins; ends = met.ends });
           said = ap Replies.Refused is;
           seen = seen_gap f caller log log' gap held next limit same;
         }
     failed_read fault few (RangeCause.no_memory is) =
-        ReadAnswer.out_of_memory record { others = events gap; is_gap = others; said = ap Replies.Refused is; seen = seen_gap f caller log log' gap held next limit same }
+        record { others = events gap; is_gap = others; turn = _; may = ReadTurn.out_of_memory; said = ap Replies.Refused is; seen = seen_gap f caller log log' gap held next limit same }
 
     -- what a range of the opened version gives
     pub range_answer : (said : Result (List ℕ) Fault) → count ≤ max_read → ReadsRange f.page_size (updates_in (desk_at f (log ++ gap)) blob) version offset count said
-        → ReadAnswer AllOther (session_at f caller log held next limit) blob version offset count (read_reply said) (session_at f caller log' held next limit)
+        → AfterGap AllOther (session_at f caller log held next limit) (ReadTurn (session_at f caller log held next limit) blob version offset count) (read_reply said) (session_at f caller log' held next limit)
     range_answer (Ok bytes) few r = content_read bytes r.within r.bytes
     range_answer (Err fault) few r = failed_read fault few r.cause
 
@@ -211,12 +213,12 @@ module _ {D : Type 0} (s s1 : SessionState D) (blob version offset count : ℕ) 
       let there : outcome_in f (s.log ++ o.gap) s.caller (Calls.Size blob version) ≡ Outcomes.Size (size_now v) =
       subst (λ (l : List (ℕ × Event)). outcome_in f l s.caller (Calls.Size blob version) ≡ Outcomes.Size (size_now v)) o.log o.done
       in
-      let answer : ReadAnswer AllOther (session_of s) blob version offset count (read_reply said) (seen_to s s1.log) =
+      let answer : AfterGap AllOther (session_of s) (ReadTurn (session_of s) blob version offset count) (read_reply said) (seen_to s s1.log) =
       range_answer f s.caller s.log s1.log o.gap o.others o.log s.held s.next s.limit blob version offset count (size_now v) there said few r'
       in
       let now : session_of s' ≡ seen_to s s1.log = ap (λ (x : SessionState D). session_of x) stays ∙ ap (λ (x : SessionState D). session_of x) o.same in
       subst (λ (x : Session). Answers AllOther (session_of s) (Requests.Read blob version offset count) (read_reply said) x) (sym now)
-      (few_enough (session_of s) count (read_reply said) (seen_to s s1.log) (ReadAnswer AllOther (session_of s) blob version offset count (read_reply said) (seen_to s s1.log)) few answer)
+      (few_enough (session_of s) count (read_reply said) (seen_to s s1.log) (AfterGap AllOther (session_of s) (ReadTurn (session_of s) blob version offset count) (read_reply said) (seen_to s s1.log)) few answer)
 
   pub unopened_read : (fault : Fault) → Opening s blob version (Err fault) s1
       → Answers AllOther (session_of s) (Requests.Read blob version offset count) (read_reply (Err fault)) (session_of s1)
@@ -226,7 +228,7 @@ module _ {D : Type 0} (s s1 : SessionState D) (blob version offset count : ℕ) 
       let refused : OnRefused why (λ r. outcome_in f (s.log ++ o.gap) s.caller (Calls.Size blob version) ≡ Outcomes.Refused r) =
       subst (λ (l : List (ℕ × Event)). OnRefused why (λ r. outcome_in f l s.caller (Calls.Size blob version) ≡ Outcomes.Refused r)) o.log o.refused.refused
       in
-      let answer : ReadAnswer AllOther (session_of s) blob version offset count (Replies.Refused (desk_fault why)) (seen_to s s1.log) =
+      let answer : AfterGap AllOther (session_of s) (ReadTurn (session_of s) blob version offset count) (Replies.Refused (desk_fault why)) (seen_to s s1.log) =
       refused_read f s.caller s.log s1.log o.gap o.others o.log s.held s.next s.limit blob version offset count why refused
       in
       let reply : Reply = Replies.Refused (desk_fault why) in
@@ -234,7 +236,7 @@ module _ {D : Type 0} (s s1 : SessionState D) (blob version offset count : ℕ) 
       let same : reply ≡ Replies.Refused fault = ap Replies.Refused (sym o.refused.said) in
       subst (λ (x : Session). Answers AllOther (session_of s) (Requests.Read blob version offset count) (read_reply (Err fault)) x) (sym now)
       (subst (λ (x : Reply). Answers AllOther (session_of s) (Requests.Read blob version offset count) x (seen_to s s1.log)) same
-      (few_enough (session_of s) count reply (seen_to s s1.log) (ReadAnswer AllOther (session_of s) blob version offset count reply (seen_to s s1.log)) few answer))
+      (few_enough (session_of s) count reply (seen_to s s1.log) (AfterGap AllOther (session_of s) (ReadTurn (session_of s) blob version offset count) reply (seen_to s s1.log)) few answer))
 
   -- no node was met where the read is refused
   pub no_step_opened : (s' : SessionState D) (v : Version) → Opening s blob version (Ok v) s1 → s' ≡ record s1 { doors = s'.doors } → (before after : ℕ)

@@ -43,7 +43,7 @@ holding_stays f log log' held next begins h = record {
 }
 
 -- the pass after a turn
-pub pass_after : (store : StoreState) (pass pass' : PassView Event DeskFixed) → IsPassOf store pass → pass' ≡ record pass { seen = pass'.seen } → Went store.fixed pass.seen pass'.seen → IsPassOf store pass'
+pub pass_after : (store : StoreState) (pass pass' : PassView Event DeskFixed) → IsPassOf store pass → pass' ≡ record pass { seen = pass'.seen; turns = pass'.turns } → Went store.fixed pass.seen pass'.seen → IsPassOf store pass'
 pass_after store pass pass' is same went = record {
   lock = ap (λ (p : PassView Event DeskFixed). p.lock) same ∙ is.lock;
   fixed = ap (λ (p : PassView Event DeskFixed). p.fixed) same ∙ is.fixed;
@@ -52,7 +52,7 @@ pass_after store pass pass' is same went = record {
 
 -- the session after a turn, with what it holds
 module _ {D : Type 0} (is_true : D → Type 0) (store : StoreState) (pass pass' : PassView Event DeskFixed) (doors : List D) (room : List Bool) where
-  pub session_with : (held held' : List OpenUpdate) (next next' : ℕ) → IsSession is_true store pass held next doors room → pass' ≡ record pass { seen = pass'.seen }
+  pub session_with : (held held' : List OpenUpdate) (next next' : ℕ) → IsSession is_true store pass held next doors room → pass' ≡ record pass { seen = pass'.seen; turns = pass'.turns }
       → Went store.fixed pass.seen pass'.seen → IsHolding store.fixed pass'.seen held' next' → IsSession is_true store pass' held' next' doors room
   session_with held held' next next' s same went holding = record {
     pass_is = pass_after store pass pass' s.pass_is same went;
@@ -63,7 +63,7 @@ module _ {D : Type 0} (is_true : D → Type 0) (store : StoreState) (pass pass' 
     marks = s.marks;
   }
 
-  pub session_after : (held : List OpenUpdate) (next : ℕ) → IsSession is_true store pass held next doors room → pass' ≡ record pass { seen = pass'.seen } → Went store.fixed pass.seen pass'.seen
+  pub session_after : (held : List OpenUpdate) (next : ℕ) → IsSession is_true store pass held next doors room → pass' ≡ record pass { seen = pass'.seen; turns = pass'.turns } → Went store.fixed pass.seen pass'.seen
       → IsSession is_true store pass' held next doors room
   session_after held next s same went = session_with held held next next s same went (holding_stays store.fixed pass.seen pass'.seen held next went.begins s.holding)
 
@@ -81,7 +81,7 @@ session_doors is_true store pass held next doors doors' room room' count true_ m
 
 -- after turns, with doors and room as good as before
 pub session_equipped : {D : Type 0} (is_true : D → Type 0) (store : StoreState) (pass pass' : PassView Event DeskFixed) (held : List OpenUpdate) (next : ℕ) (doors doors' : List D) (room room' : List Bool)
-    → IsSession is_true store pass held next doors room → pass' ≡ record pass { seen = pass'.seen } → Went store.fixed pass.seen pass'.seen → IsEquipped is_true store doors' room'
+    → IsSession is_true store pass held next doors room → pass' ≡ record pass { seen = pass'.seen; turns = pass'.turns } → Went store.fixed pass.seen pass'.seen → IsEquipped is_true store doors' room'
     → IsSession is_true store pass' held next doors' room'
 session_equipped is_true store pass pass' held next doors doors' room room' s same went ready = record {
   pass_is = pass_after store pass pass' s.pass_is same went;

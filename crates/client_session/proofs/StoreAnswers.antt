@@ -108,13 +108,6 @@ unfinished_by store (Some b) blob version is e =
 pub finish_unfinished : (store : Store) (caller blob version : ℕ) → is_refused (answer store caller (Calls.Finish blob version)).1 ≡ false → IsThere store blob (λ b. is_finished b version ≡ false)
 finish_unfinished store caller blob version e = unfinished_by store (blob_at store blob) blob version refl e
 
--- ---- an update that isn't finished
--- its finish isn't refused
-pub finish_taken : (store : Store) (caller blob version : ℕ) → IsThere store blob (λ b. is_finished b version ≡ false) → is_refused (answer store caller (Calls.Finish blob version)).1 ≡ false
-finish_taken store caller blob version t =
-    ap (λ (o : Option Blob). is_refused (finish_by store blob version o).1) t.is
-    ∙ ap (λ (x : Bool). is_refused (finish_test store x version (with_blob store blob (finish t.b version), Outcomes.Published (published (finish t.b version)))).1) t.holds
-
 -- a numbered version above the published one waits
 pub before_waits : (store : Store) (caller blob version : ℕ) (t : IsThere store blob (λ b. (published b < version) × (version ≤ assigned b)))
     → (answer store caller (Calls.Sync blob version)).1 ≡ Outcomes.Refused (Refusals.Pending version (published t.b + 1))

@@ -17,7 +17,11 @@ use Rattle.version_manager.specs.declared.fault.DeskFault.{DeskFault}
 use Rattle.version_manager.specs.declared.fault.DeskFault.TheVariants as DeskFaults
 use Rattle.request_form.specs.Session.{Session, sees, outcome_at}
 use Rattle.request_form.specs.Replies.{reply_of}
-use Rattle.request_form.specs.Answers.{Refused, OutOfMemory, LookAnswer}
+use Rattle.blob_model.specs.declared.call.Refusal.{Refusal}
+use Rattle.request_form.specs.Turns.{Turn, refuses, AfterGap}
+use Rattle.request_form.specs.Answers.{LookAnswer}
+use Rattle.request_form.specs.Replies.{fault_of}
+use Rattle.request_form.specs.declared.form.Fault.TheVariants as Faults
 use Rattle.request_form.specs.declared.form.Reply.{Reply}
 use Rattle.request_form.specs.declared.form.Reply.TheVariants as Replies
 use Rattle.session_parts.specs.Tickets.{OpenUpdate}
@@ -82,21 +86,20 @@ module _ (f : DeskFixed) (caller : ℕ) (log log' : List (ℕ × Event)) where
     seen = seen_gap t.gap held next limit t.gives.same;
   }
 
-  -- A call that was not done: the store refused it, or no memory was found.
-  pub data NotDone (call : Call) (held : List OpenUpdate) (next limit : ℕ) (reply : Reply) : Type 0 where
-    refused : Refused AllOther (session_at f caller log held next limit) call reply (session_at f caller log' held next limit) → NotDone call held next limit reply
-    out_of_memory : OutOfMemory AllOther (session_at f caller log held next limit) reply (session_at f caller log' held next limit) → NotDone call held next limit reply
-
-  pub not_done : (call : Call) (held : List OpenUpdate) (next limit : ℕ) (gap : List (ℕ × Event)) (fault : DeskFault) → AllOther caller (events gap) → log' ≡ log ++ gap
-      → OnRefused fault (λ refusal. outcome_in f (log ++ gap) caller call ≡ Outcomes.Refused refusal) → NotDone call held next limit (Replies.Refused (desk_fault fault))
-  not_done call held next limit gap (DeskFaults.Refused refusal) others is why =
-      NotDone.refused record {
+  -- A call that was not done: the store refused it, or no memory was found. Such turns may come.
+  pub not_done : (call : Call) (held : List OpenUpdate) (next limit : ℕ) (May : List Event → Turn → Type 0)
+      → ((front : List Event) (refusal : Refusal) → outcome_at (session_at f caller log held next limit) front call ≡ Outcomes.Refused refusal → May front (refuses (fault_of refusal)))
+      → ((front : List Event) → May front (refuses Faults.NoMemory)) → (gap : List (ℕ × Event)) (fault : DeskFault) → AllOther caller (events gap) → log' ≡ log ++ gap
+      → OnRefused fault (λ refusal. outcome_in f (log ++ gap) caller call ≡ Outcomes.Refused refusal)
+      → AfterGap AllOther (session_at f caller log held next limit) May (Replies.Refused (desk_fault fault)) (session_at f caller log' held next limit)
+  not_done call held next limit May refused starved gap (DeskFaults.Refused refusal) others is why =
+      record {
         others = events gap;
         is_gap = others;
-        refusal = refusal;
-        refused = outcome_of_gap gap held next limit call ∙ why;
+        turn = refuses (fault_of refusal);
+        may = refused (events gap) refusal (outcome_of_gap gap held next limit call ∙ why);
         said = refl;
         seen = seen_gap gap held next limit is;
       }
-  not_done call held next limit gap DeskFaults.NoMemory others is why =
-      NotDone.out_of_memory record { others = events gap; is_gap = others; said = refl; seen = seen_gap gap held next limit is }
+  not_done call held next limit May refused starved gap DeskFaults.NoMemory others is why =
+      record { others = events gap; is_gap = others; turn = refuses Faults.NoMemory; may = starved (events gap); said = refl; seen = seen_gap gap held next limit is }

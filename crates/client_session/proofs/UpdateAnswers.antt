@@ -20,7 +20,8 @@ use Rattle.version_manager.specs.Desks.{IsTicketOf, updates_in, updates_or_none,
 use Rattle.version_manager.specs.Log.{desk_at, events}
 use Rattle.version_manager.specs.declared.journal.DeskFixed.{DeskFixed}
 use Rattle.request_form.specs.Session.{Session, HeldTicket, store_at, sees, holds}
-use Rattle.request_form.specs.Answers.{UpdateAnswer, WholeUpdate, Started, Updated, HeldBack, TicketKept, RepairAnswer, Unless, Answers}
+use Rattle.request_form.specs.Turns.{Turn, with_tickets, AfterGap}
+use Rattle.request_form.specs.Answers.{RepairTurn, UnnumberedTurn, StartTurn, StartedTurn, UpdateAnswer, StartAnswer, WholeAnswer, Unless, Answers}
 use Rattle.request_form.specs.Answers.{update_fault, update_faults, held_back_faults, is_waiting_in, folds_in}
 use Rattle.request_form.specs.Replies.{page_faults, fault_count}
 use Rattle.request_form.specs.declared.form.Reply.{Reply}
@@ -35,10 +36,11 @@ use Rattle.client_session.specs.Results.{repair_reply, updated_reply}
 use Rattle.client_session.specs.Sessions.{SessionState, session_of}
 use Rattle.client_session.specs.SessionInvariant.{IsTicketHere}
 use Rattle.client_session.specs.Finishing.{bare, Finishing}
-use Rattle.client_session.specs.Updates.{UpdateDone, StartDone, WasNumbered, IsHeldNext, IsKept, held_next, update_request, start_request, update_reply, start_reply}
+use Rattle.client_session.specs.Looking.{looks_then}
+use Rattle.client_session.specs.Updates.{WasNumbered, IsHeldNext, IsKept, held_next, update_request, start_request, update_reply, start_reply}
 use Rattle.client_session.proofs.StoreAnswers.{IsThere, only_already, pending_waits}
 use Rattle.client_session.proofs.Lifted.{unheld, then_holds, OnlyAlready}
-use Rattle.client_session.proofs.Ended.{IsOpenIn, NotFinished, ends_done, ends_not}
+use Rattle.client_session.proofs.Ended.{IsOpenIn, Then, NotFinished, then_answer, ends_done, ends_not}
 use Rattle.client_session.proofs.Finished.{numbered_there}
 use Rattle.client_session.proofs.Folding.{folds_told}
 
@@ -52,47 +54,49 @@ held_more m m' t row is =
 
 -- ---- an update
 -- what is done where the session itself doesn't refuse
-pub update_done : (s : Session) (blob : ℕ) (place : Place) (bytes : List ℕ) (reply : Reply) (s' : Session) → update_fault s bytes ≡ None → UpdateDone s blob place bytes reply s' → Answers AllOther s (update_request blob place bytes) reply s'
-update_done s blob Append bytes reply s' none answer = subst (λ (o : Option Fault). Unless o s reply s' (UpdateDone s blob Append bytes reply s')) (sym none) answer
-update_done s blob (WriteAt offset) bytes reply s' none answer = subst (λ (o : Option Fault). Unless o s reply s' (UpdateDone s blob (WriteAt offset) bytes reply s')) (sym none) answer
+not_refused : (o : Option Fault) (s : Session) (reply : Reply) (s' : Session) (Answer : Type 0) → o ≡ None → Answer → Unless o s reply s' Answer
+not_refused None s reply s' Answer none answer = answer
+not_refused (Some fault) s reply s' Answer none answer = let never : ⊥ = cc in absurd never
 
-pub start_done : (s : Session) (blob : ℕ) (place : Place) (bytes : List ℕ) (reply : Reply) (s' : Session) → update_fault s bytes ≡ None → StartDone s blob place bytes reply s' → Answers AllOther s (start_request blob place bytes) reply s'
-start_done s blob Append bytes reply s' none answer = subst (λ (o : Option Fault). Unless o s reply s' (StartDone s blob Append bytes reply s')) (sym none) answer
-start_done s blob (WriteAt offset) bytes reply s' none answer = subst (λ (o : Option Fault). Unless o s reply s' (StartDone s blob (WriteAt offset) bytes reply s')) (sym none) answer
+by_place : (s : Session) (blob : ℕ) (place : Place) (bytes : List ℕ) (reply : Reply) (s' : Session)
+    → Unless (update_fault s bytes) s reply s' (WholeAnswer AllOther s blob place bytes reply s') → Answers AllOther s (update_request blob place bytes) reply s'
+by_place s blob Append bytes reply s' answer = answer
+by_place s blob (WriteAt offset) bytes reply s' answer = answer
+
+start_by_place : (s : Session) (blob : ℕ) (place : Place) (bytes : List ℕ) (reply : Reply) (s' : Session)
+    → Unless (update_fault s bytes) s reply s' (StartAnswer AllOther s blob place bytes reply s') → Answers AllOther s (start_request blob place bytes) reply s'
+start_by_place s blob Append bytes reply s' answer = answer
+start_by_place s blob (WriteAt offset) bytes reply s' answer = answer
+
+pub update_done : (s : Session) (blob : ℕ) (place : Place) (bytes : List ℕ) (reply : Reply) (s' : Session) → update_fault s bytes ≡ None → WholeAnswer AllOther s blob place bytes reply s'
+    → Answers AllOther s (update_request blob place bytes) reply s'
+update_done s blob place bytes reply s' none answer = by_place s blob place bytes reply s' (not_refused (update_fault s bytes) s reply s' _ none answer)
+
+pub start_done : (s : Session) (blob : ℕ) (place : Place) (bytes : List ℕ) (reply : Reply) (s' : Session) → update_fault s bytes ≡ None → StartAnswer AllOther s blob place bytes reply s'
+    → Answers AllOther s (start_request blob place bytes) reply s'
+start_done s blob place bytes reply s' none answer = start_by_place s blob place bytes reply s' (not_refused (update_fault s bytes) s reply s' _ none answer)
 
 -- what isn't numbered isn't done, whatever would be done
-unnumbered : {A : Type 0} (s : Session) (blob : ℕ) (place : Place) (bytes : List ℕ) (reply : Reply) (s' : Session)
-    → UpdateAnswer AllOther s blob place bytes ⊥ reply s' → UpdateAnswer AllOther s blob place bytes A reply s'
-unnumbered s blob place bytes reply s' (UpdateAnswer.does never) = absurd never
-unnumbered s blob place bytes reply s' (UpdateAnswer.refused a) = UpdateAnswer.refused a
-unnumbered s blob place bytes reply s' (UpdateAnswer.out_of_memory a) = UpdateAnswer.out_of_memory a
-unnumbered s blob place bytes reply s' (UpdateAnswer.kept a) = UpdateAnswer.kept a
-unnumbered s blob place bytes reply s' (UpdateAnswer.not_stored a) = UpdateAnswer.not_stored a
+unless_as : (Answer Other : Type 0) (o : Option Fault) (s : Session) (reply : Reply) (s' : Session) → (Answer → Other) → Unless o s reply s' Answer → Unless o s reply s' Other
+unless_as Answer Other None s reply s' f a = f a
+unless_as Answer Other (Some fault) s reply s' f a = a
 
-unless_unnumbered : (A : Type 0) (o : Option Fault) (s : Session) (blob : ℕ) (place : Place) (bytes : List ℕ) (reply : Reply) (s' : Session)
-    → Unless o s reply s' (UpdateAnswer AllOther s blob place bytes ⊥ reply s') → Unless o s reply s' (UpdateAnswer AllOther s blob place bytes A reply s')
-unless_unnumbered A None s blob place bytes reply s' a = unnumbered s blob place bytes reply s' a
-unless_unnumbered A (Some fault) s blob place bytes reply s' a = a
+abbrev NotNumberedBy : Session → ℕ → Place → List ℕ → Fault → Session → Type 0
+NotNumberedBy s blob place bytes fault s' = AfterGap AllOther s (UnnumberedTurn s blob place bytes) (Replies.Refused fault) s'
 
 pub update_not_done : (s : Session) (blob : ℕ) (place : Place) (bytes : List ℕ) (fault : Fault) (s' : Session)
-    → Unless (update_fault s bytes) s (Replies.Refused fault) s' (UpdateAnswer AllOther s blob place bytes ⊥ (Replies.Refused fault) s')
-    → Answers AllOther s (update_request blob place bytes) (Replies.Refused fault) s'
-update_not_done s blob Append bytes fault s' a =
-    unless_unnumbered (WholeUpdate AllOther s blob Append bytes (update_reply Append) (start_reply Append) (Replies.Refused fault) s') (update_fault s bytes)
-    s blob Append bytes (Replies.Refused fault) s' a
-update_not_done s blob (WriteAt offset) bytes fault s' a =
-    unless_unnumbered (WholeUpdate AllOther s blob (WriteAt offset) bytes (update_reply (WriteAt offset)) (start_reply (WriteAt offset)) (Replies.Refused fault) s') (update_fault s bytes)
-    s blob (WriteAt offset) bytes (Replies.Refused fault) s' a
+    → Unless (update_fault s bytes) s (Replies.Refused fault) s' (NotNumberedBy s blob place bytes fault s') → Answers AllOther s (update_request blob place bytes) (Replies.Refused fault) s'
+update_not_done s blob place bytes fault s' a =
+    by_place s blob place bytes (Replies.Refused fault) s' (unless_as _ _ (update_fault s bytes) s (Replies.Refused fault) s' (λ (x : NotNumberedBy s blob place bytes fault s'). UpdateAnswer.once x) a)
+
+as_start : (s : Session) (blob : ℕ) (place : Place) (bytes : List ℕ) (fault : Fault) (s' : Session) → NotNumberedBy s blob place bytes fault s' → StartAnswer AllOther s blob place bytes (Replies.Refused fault) s'
+as_start s blob place bytes fault s' a =
+    UpdateAnswer.once record { others = a.others; is_gap = a.is_gap; turn = a.turn; may = StartTurn.unnumbered a.turn a.may; said = a.said; seen = a.seen }
 
 pub start_not_done : (s : Session) (blob : ℕ) (place : Place) (bytes : List ℕ) (fault : Fault) (s' : Session)
-    → Unless (update_fault s bytes) s (Replies.Refused fault) s' (UpdateAnswer AllOther s blob place bytes ⊥ (Replies.Refused fault) s')
-    → Answers AllOther s (start_request blob place bytes) (Replies.Refused fault) s'
-start_not_done s blob Append bytes fault s' a =
-    unless_unnumbered (Started AllOther s blob Append bytes (start_reply Append) (Replies.Refused fault) s') (update_fault s bytes)
-    s blob Append bytes (Replies.Refused fault) s' a
-start_not_done s blob (WriteAt offset) bytes fault s' a =
-    unless_unnumbered (Started AllOther s blob (WriteAt offset) bytes (start_reply (WriteAt offset)) (Replies.Refused fault) s') (update_fault s bytes)
-    s blob (WriteAt offset) bytes (Replies.Refused fault) s' a
+    → Unless (update_fault s bytes) s (Replies.Refused fault) s' (NotNumberedBy s blob place bytes fault s') → Answers AllOther s (start_request blob place bytes) (Replies.Refused fault) s'
+start_not_done s blob place bytes fault s' a =
+    start_by_place s blob place bytes (Replies.Refused fault) s' (unless_as _ _ (update_fault s bytes) s (Replies.Refused fault) s' (as_start s blob place bytes fault s') a)
 
 -- the outside didn't fail for an update that is finished at once, nor for one that is started
 pub update_rose : (s : Session) (blob : ℕ) (place : Place) (version at size a b : ℕ) → a ≤ b → RoseBy (update_faults s blob (update_reply place version at size)) a b
@@ -154,9 +158,9 @@ module _ {D : Type 0} (s mid : SessionState D) (blob : ℕ) (place : Place) (byt
   holding_it s' is =
       is ∙ (ap (λ (x : Session). holds x t.blob t.version) n.seen ∙ ap (λ (b : ℕ). holds (sees (session_of s) assigns) b t.version) n.blob_is)
 
-  pub start_kept : (s' : Session) → s' ≡ holds (session_of mid) t.blob t.version → StartDone (session_of s) blob place bytes (Replies.Refused (Faults.NoMemoryTicket s.next)) s'
+  pub start_kept : (s' : Session) → s' ≡ holds (session_of mid) t.blob t.version → StartAnswer AllOther (session_of s) blob place bytes (Replies.Refused (Faults.NoMemoryTicket s.next)) s'
   start_kept s' is =
-      UpdateAnswer.kept record {
+      UpdateAnswer.twice record {
         others = n.others;
         later = [];
         is_gap = n.is_gap;
@@ -165,22 +169,15 @@ module _ {D : Type 0} (s mid : SessionState D) (blob : ℕ) (place : Place) (byt
         at = t.at;
         size = t.size;
         numbered = n.outcome;
+        turn = _;
+        may = StartedTurn.out_of_memory;
         said = refl;
         seen = holding_it s' is;
       }
 
-  pub start_held : (s' : Session) → s' ≡ holds (session_of mid) t.blob t.version → StartDone (session_of s) blob place bytes (start_reply place s.next t.version t.at t.size) s'
+  pub start_held : (s' : Session) → s' ≡ holds (session_of mid) t.blob t.version → StartAnswer AllOther (session_of s) blob place bytes (start_reply place s.next t.version t.at t.size) s'
   start_held s' is =
-      UpdateAnswer.does record {
-        others = n.others;
-        is_gap = n.is_gap;
-        version = t.version;
-        at = t.at;
-        size = t.size;
-        numbered = n.outcome;
-        said = refl;
-        seen = holding_it s' is;
-      }
+      UpdateAnswer.once record { others = n.others; is_gap = n.is_gap; turn = _; may = StartTurn.started t.version t.at t.size n.outcome; said = refl; seen = holding_it s' is }
 
   -- ---- and then finished, or not
   open_mid : IsOpenIn (session_of mid).fixed.limits (session_of mid).seen t.blob t.version
@@ -198,25 +195,24 @@ module _ {D : Type 0} (s mid : SessionState D) (blob : ℕ) (place : Place) (byt
       (subst (λ (x : Session). OnlyAlready x t.blob t.version) n.seen
       (only_already_of mid.store.fixed mid.caller mid.log (session_of mid) t.blob t.version refl refl n.unfinished.some n.unfinished.numbered))
 
-  module _ (m : SessionState D) (rest : m ≡ record mid { log = m.log; doors = m.doors }) where
+  module _ (m : SessionState D) (rest : m ≡ record mid { log = m.log; doors = m.doors; turns = m.turns }) where
     -- its finish, told of the session that saw the numbering
     finish_then : (said : Result ℕ Fault) → Finishing mid.store.fixed mid.caller mid.log t.blob t.version said m.log
-        → RepairAnswer AllOther (unheld (sees (session_of s) assigns)) blob t.version (repair_reply said) (bare mid.store.fixed mid.caller m.log)
+        → AfterGap AllOther (unheld (sees (session_of s) assigns)) (RepairTurn (unheld (sees (session_of s) assigns)) blob t.version) (repair_reply said) (bare mid.store.fixed mid.caller m.log)
     finish_then said a =
-        subst (λ (b : ℕ). RepairAnswer AllOther (unheld (sees (session_of s) assigns)) b t.version (repair_reply said) (bare mid.store.fixed mid.caller m.log)) n.blob_is
-        (subst (λ (x : Session). RepairAnswer AllOther (unheld x) t.blob t.version (repair_reply said) (bare mid.store.fixed mid.caller m.log)) n.seen a)
+        subst (λ (b : ℕ). AfterGap AllOther (unheld (sees (session_of s) assigns)) (RepairTurn (unheld (sees (session_of s) assigns)) b t.version) (repair_reply said) (bare mid.store.fixed mid.caller m.log)) n.blob_is
+        (subst (λ (x : Session). AfterGap AllOther (unheld x) (RepairTurn (unheld x) t.blob t.version) (repair_reply said) (bare mid.store.fixed mid.caller m.log)) n.seen a)
 
     -- and the session after it
     after_is : session_of m ≡ then_holds (session_of s) (events m.log) (session_of s).tickets
     after_is = ap session_of rest ∙ ap (λ (y : Session). then_holds y (events m.log) y.tickets) n.seen
 
     pub update_finished : (published : ℕ) → Finishing mid.store.fixed mid.caller mid.log t.blob t.version (Ok published) m.log
-        → UpdateDone (session_of s) blob place bytes (update_reply place t.version t.at t.size) (session_of m)
+        → WholeAnswer AllOther (session_of s) blob place bytes (update_reply place t.version t.at t.size) (session_of m)
     update_finished published a =
-        UpdateAnswer.does (WholeUpdate.updated
-        (subst (λ (y : Session). Updated AllOther (session_of s) blob place bytes (update_reply place) (update_reply place t.version t.at t.size) y) (sym after_is)
-        (ends_done (session_of s) (bare mid.store.fixed mid.caller m.log) blob place bytes t.version t.at t.size n.others n.is_gap n.outcome open_then only_then (update_reply place) (start_reply place) published
-        (finish_then (Ok published) a))))
+        let x : Session = bare mid.store.fixed mid.caller m.log in
+        then_answer (session_of s) x blob place bytes t.version t.at t.size n.others n.is_gap n.outcome open_then only_then _
+        (ends_done (session_of s) x blob place bytes t.version t.at t.size n.others n.is_gap n.outcome open_then only_then published (finish_then (Ok published) a)) (session_of m) after_is
 
     -- ---- not finished, and kept
     next_then : m.next ≡ s.next
@@ -230,13 +226,14 @@ module _ {D : Type 0} (s mid : SessionState D) (blob : ℕ) (place : Place) (byt
 
     -- what is said of it, and how often the outside failed then
     pub record Kept (said : Result Whole Fault) (s' : SessionState D) (fault : Fault) (a b : ℕ) : Type 0 where
-      pub answer : UpdateDone (session_of s) blob place bytes (updated_reply place said) (session_of s')
+      pub answer : WholeAnswer AllOther (session_of s) blob place bytes (updated_reply place said) (session_of s')
       pub faults : RoseBy (page_faults fault) a b → RoseBy (update_faults (session_of s') blob (updated_reply place said)) a b
       pub same : s' ≡ record m { held = s'.held; next = s'.next }
+      pub taken : (before : Bool) → looks_then before said ≡ false
 
     module _ (said : Result Whole Fault) (s' : SessionState D) (a b : ℕ) where
-      says : (reply : Reply) → updated_reply place said ≡ reply → UpdateDone (session_of s) blob place bytes reply (session_of s') → UpdateDone (session_of s) blob place bytes (updated_reply place said) (session_of s')
-      says reply is x = subst (λ (r : Reply). UpdateDone (session_of s) blob place bytes r (session_of s')) (sym is) x
+      says : (reply : Reply) → updated_reply place said ≡ reply → WholeAnswer AllOther (session_of s) blob place bytes reply (session_of s') → WholeAnswer AllOther (session_of s) blob place bytes (updated_reply place said) (session_of s')
+      says reply is x = subst (λ (r : Reply). WholeAnswer AllOther (session_of s) blob place bytes r (session_of s')) (sym is) x
 
       rose : (reply : Reply) → updated_reply place said ≡ reply → RoseBy (update_faults (session_of s') blob reply) a b → RoseBy (update_faults (session_of s') blob (updated_reply place said)) a b
       rose reply is x = subst (λ (r : Reply). RoseBy (update_faults (session_of s') blob r) a b) (sym is) x
@@ -256,60 +253,64 @@ module _ {D : Type 0} (s mid : SessionState D) (blob : ℕ) (place : Place) (byt
           ap (λ (y : Session). store_at y []) same ∙ ap (store_of s.store.fixed.limits) (append-nil (events m.log) ∙ seen) in
           ap (λ (y : Store). is_waiting_in y blob v) there ∙ w
 
-      pub kept_by : (fault : Fault) → NotFinished (session_of s) (bare mid.store.fixed mid.caller m.log) blob place bytes t.version t.at t.size n.others n.is_gap n.outcome open_then only_then (update_reply place) (start_reply place) fault
+      -- the answer that a turn after the numbering comes to
+      answered : (turn : Turn) → Then (session_of s) (bare mid.store.fixed mid.caller m.log) blob place bytes t.version t.at t.size n.others n.is_gap n.outcome open_then only_then turn
+          → session_of s' ≡ with_tickets turn.tickets (then_holds (session_of s) (events m.log) (session_of s).tickets) → updated_reply place said ≡ turn.said
+          → WholeAnswer AllOther (session_of s) blob place bytes (updated_reply place said) (session_of s')
+      answered turn u is reply =
+          says turn.said reply
+          (then_answer (session_of s) (bare mid.store.fixed mid.caller m.log) blob place bytes t.version t.at t.size n.others n.is_gap n.outcome open_then only_then turn u (session_of s') is)
+
+      pub kept_by : (fault : Fault) → NotFinished (session_of s) (bare mid.store.fixed mid.caller m.log) blob place bytes t.version t.at t.size n.others n.is_gap n.outcome open_then only_then fault
           → IsKept m t fault said s' → Kept said s' fault a b
       kept_by fault (NotFinished.found is u) kept =
           let k = subst (λ (x : Fault). IsKept m t x said s') is kept in
-          let reply : updated_reply place said ≡ Replies.Refused fault = ap (updated_reply place) k.0 ∙ ap (λ (x : Fault). Replies.Refused x) (sym is) in
+          let reply : updated_reply place said ≡ Replies.Refused (Faults.Already t.version) = ap (updated_reply place) k.0 in
           record {
-            answer =
-                says (Replies.Refused fault) reply (UpdateAnswer.does (WholeUpdate.updated
-                (subst (λ (y : Session). Updated AllOther (session_of s) blob place bytes (update_reply place) (Replies.Refused fault) y) (sym (ap session_of k.1 ∙ after_is)) u)));
-            faults = λ r. rose (Replies.Refused fault) reply r;
+            answer = answered _ u (ap session_of k.1 ∙ after_is) reply;
+            faults = λ r. rose (Replies.Refused (Faults.Already t.version)) reply (subst (λ (x : Fault). RoseBy (page_faults x) a b) is r);
             same = subst (λ (x : SessionState D). x ≡ record m { held = x.held; next = x.next }) (sym k.1) refl;
+            taken = λ before. ap (λ (r : Result Whole Fault). looks_then before r) k.0;
           }
       kept_by fault (NotFinished.starved is u) kept =
           let k = subst (λ (x : Fault). IsKept m t x said s') is kept in
           let reply : updated_reply place said ≡ Replies.Refused (Faults.NoMemoryTicket s.next) = ap (updated_reply place) k.0 ∙ ap (λ (i : ℕ). Replies.Refused (Faults.NoMemoryTicket i)) next_then in
           record {
-            answer =
-                says (Replies.Refused (Faults.NoMemoryTicket s.next)) reply (UpdateAnswer.kept
-                (subst (λ (y : Session). TicketKept AllOther (session_of s) blob place bytes (Replies.Refused (Faults.NoMemoryTicket s.next)) y) (sym (held_then s' k.1)) u));
+            answer = answered _ u (held_then s' k.1) reply;
             faults = λ r. rose (Replies.Refused (Faults.NoMemoryTicket s.next)) reply (subst (λ (x : Fault). RoseBy (page_faults x) a b) is r);
             same = held_same k.1;
+            taken = λ before. ap (λ (r : Result Whole Fault). looks_then before r) k.0;
           }
       kept_by fault (NotFinished.waits held is more seen waits u) kept =
           let k = subst (λ (x : Fault). IsKept m t x said s') is kept in
           let reply = held_says k.0 in
           record {
-            answer =
-                says (start_reply place s.next t.version t.at t.size) reply (UpdateAnswer.does (WholeUpdate.held_back
-                (subst (λ (y : Session). HeldBack AllOther (session_of s) blob place bytes (start_reply place) (start_reply place s.next t.version t.at t.size) y) (sym (held_then s' k.1)) u)));
+            answer = answered _ u (held_then s' k.1) reply;
             faults =
                 λ r. rose (start_reply place s.next t.version t.at t.size) reply
                 (held_faults (session_of s') blob place s.next t.version t.at t.size a b
                 (none_rose (is_waiting_in (store_at (session_of s') []) blob (t.version - 1)) a b (waits_last s' k.1 more seen (t.version - 1) (pending_waits _ s.caller blob (t.version - 1) (t.version - 1) held waits))
                 (subst (λ (x : Fault). RoseBy (page_faults x) a b) is r)));
             same = held_same k.1;
+            taken = λ before. ap (λ (r : Result Whole Fault). looks_then before r) k.0;
           }
       kept_by fault (NotFinished.not_folded page is u) kept =
           let k = subst (λ (x : Fault). IsKept m t x said s') is kept in
           let reply = held_says k.0 in
           record {
-            answer =
-                says (start_reply place s.next t.version t.at t.size) reply (UpdateAnswer.does (WholeUpdate.held_back
-                (subst (λ (y : Session). HeldBack AllOther (session_of s) blob place bytes (start_reply place) (start_reply place s.next t.version t.at t.size) y) (sym (held_then s' k.1)) u)));
+            answer = answered _ u (held_then s' k.1) reply;
             faults =
                 λ r. rose (start_reply place s.next t.version t.at t.size) reply
                 (held_faults (session_of s') blob place s.next t.version t.at t.size a b
                 (weaken (is_waiting_in (store_at (session_of s') []) blob (t.version - 1)) a b (subst (λ (x : Fault). RoseBy (page_faults x) a b) is r)));
             same = held_same k.1;
+            taken = λ before. ap (λ (r : Result Whole Fault). looks_then before r) k.0;
           }
 
       pub kept : (fault : Fault) → Finishing mid.store.fixed mid.caller mid.log t.blob t.version (Err fault) m.log → IsKept m t fault said s' → Kept said s' fault a b
       kept fault x k =
           kept_by fault
-          (ends_not (session_of s) (bare mid.store.fixed mid.caller m.log) blob place bytes t.version t.at t.size n.others n.is_gap n.outcome open_then only_then (update_reply place) (start_reply place) fault
+          (ends_not (session_of s) (bare mid.store.fixed mid.caller m.log) blob place bytes t.version t.at t.size n.others n.is_gap n.outcome open_then only_then fault
           (finish_then (Err fault) x)) k
 
 -- a count that rose by so much later on rose by so much

@@ -1,5 +1,5 @@
 -- A session that waits, look by look.
-use Rattle.std.proofs.Common.{◌≡◌, refl, sym, ◌∙◌, ap, subst, ℕ, List, [], ◌∷◌, ◌++◌, append_assoc, append-nil}
+use Rattle.std.proofs.Common.{◌≡◌, refl, sym, ◌∙◌, ap, subst, ℕ, ◌+◌, List, [], ◌∷◌, ◌++◌, append_assoc, append-nil, arith}
 use Rattle.blob_model.specs.Answer.{answer}
 use Rattle.blob_model.specs.History.{AllOther, store_of}
 use Rattle.blob_model.specs.declared.call.Call.{Call}
@@ -25,12 +25,12 @@ pub goes_both : {D : Type 0} (a b d : SessionState D) → Continues a b → Cont
 goes_both a b d x y = record { store = y.store ∙ x.store; caller = y.caller ∙ x.caller; begins = begins_both a.log b.log d.log x.begins y.begins }
 
 -- but for what it has seen the session is the same, twice over
-pub rest_both : {D : Type 0} (a b d : SessionState D) → b ≡ record a { log = b.log } → d ≡ record b { log = d.log } → d ≡ record a { log = d.log }
-rest_both {D = D} a b d x y = y ∙ ap (λ (s : SessionState D). record s { log = d.log }) x
+pub rest_both : {D : Type 0} (a b d : SessionState D) → b ≡ record a { log = b.log; turns = b.turns } → d ≡ record b { log = d.log; turns = d.turns } → d ≡ record a { log = d.log; turns = d.turns }
+rest_both {D = D} a b d x y = y ∙ ap (λ (s : SessionState D). record s { log = d.log; turns = d.turns }) x
 
 module _ {D : Type 0} where
   pub waits_start : (s : SessionState D) → Waits s s
-  waits_start s = record { others = []; is_gap = tt; seen = sees-nothing (session_of s); rest = refl; begins = ([], sym (append-nil s.log)) }
+  waits_start s = record { others = []; is_gap = tt; seen = sees-nothing (session_of s); rest = refl; turns = omega arith; begins = ([], sym (append-nil s.log)) }
 
   -- one look more
   pub looks_on : (a b d : SessionState D) (call : Call) (reply : Reply) → Waits a b → LookAnswer AllOther (session_of b) call reply (session_of d) → LookAnswer AllOther (session_of a) call reply (session_of d)
@@ -47,17 +47,18 @@ module _ {D : Type 0} where
         seen = look.seen ∙ (ap (λ (s : Session). sees s look.others) w.seen ∙ sees_both (session_of a) w.others look.others);
       }
 
-  pub waits_on : (a b d : SessionState D) (call : Call) (reply : Reply) → Waits a b → LookAnswer AllOther (session_of b) call reply (session_of d) → d ≡ record b { log = d.log } → Begins b.log d.log → Waits a d
-  waits_on a b d call reply w look rest begins =
+  pub waits_on : (a b d : SessionState D) (call : Call) (reply : Reply) → Waits a b → LookAnswer AllOther (session_of b) call reply (session_of d) → d ≡ record b { log = d.log; turns = d.turns } → d.turns ≡ b.turns + 1 → Begins b.log d.log → Waits a d
+  waits_on a b d call reply w look rest turn begins =
       let joined = looks_on a b d call reply w look in
       record {
         others = joined.others;
         is_gap = joined.is_gap;
         seen = joined.seen;
         rest = rest_both a b d w.rest rest;
+        turns = omega (arith, w.turns, turn);
         begins = begins_both a.log b.log d.log w.begins begins;
       }
 
   -- and so it goes on
-  pub waited : (a d : SessionState D) → d ≡ record a { log = d.log } → Begins a.log d.log → Continues a d
+  pub waited : (a d : SessionState D) → d ≡ record a { log = d.log; turns = d.turns } → Begins a.log d.log → Continues a d
   waited a d rest begins = record { store = ap (λ (s : SessionState D). s.store) rest; caller = ap (λ (s : SessionState D). s.caller) rest; begins = begins }

@@ -14,7 +14,7 @@ use Rattle.version_manager.specs.Log.{IsWaitingTicket, desk_at, events}
 use Rattle.version_manager.specs.declared.journal.DeskFixed.{DeskFixed}
 use Rattle.version_manager.specs.declared.fault.DeskFault.{DeskFault}
 use Rattle.request_form.specs.Session.{Session}
-use Rattle.request_form.specs.Answers.{RepairAnswer, max_update}
+use Rattle.request_form.specs.Answers.{AfterGap, RepairTurn, max_update}
 use Rattle.request_form.specs.declared.form.Fault.{Fault}
 use Rattle.request_form.specs.declared.form.Fault.TheVariants as Faults
 use Rattle.client_session.specs.Results.{desk_fault, repair_reply}
@@ -28,7 +28,7 @@ bare f caller log = record { fixed = record { limits = f.limits; page = f.page_s
 
 -- it finishes an update, whoever numbered it
 abbrev pub Finishing : DeskFixed → ℕ → List (ℕ × Event) → ℕ → ℕ → Result ℕ Fault → List (ℕ × Event) → Type 0
-Finishing f caller log blob version said log' = RepairAnswer AllOther (bare f caller log) blob version (repair_reply said) (bare f caller log')
+Finishing f caller log blob version said log' = AfterGap AllOther (bare f caller log) (RepairTurn (bare f caller log) blob version) (repair_reply said) (bare f caller log')
 
 -- the update is finished, by the session or by others: no ticket of it is wanted any more
 abbrev pub settles : Result ℕ Fault → Bool
@@ -63,7 +63,8 @@ pub record Issuing {D : Type 0} (s : SessionState D) (blob version : ℕ) (said 
   pub gap : List (ℕ × Event)
   pub others : AllOther s.caller (events gap)
   pub log : s'.log ≡ s.log ++ gap
-  pub same : s' ≡ record s { log = s'.log }
+  pub same : s' ≡ record s { log = s'.log; turns = s'.turns }
+  pub one_turn : s'.turns ≡ s.turns + 1
   pub ticket : IfOk said (IsWaitingTicket s.store.fixed s'.log blob version)
   pub here : IfOk said (IsTicketHere s.store.fixed s'.log)
   pub refused : IfErr said (NotIssued s.store.fixed s'.log blob version)

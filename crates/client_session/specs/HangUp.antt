@@ -1,5 +1,5 @@
 -- Hanging up, ticket by ticket.
-use Rattle.std.specs.Prelude.{◌≡◌, ℕ, ◌+◌, List, ◌++◌, Bool, cond, ◌||◌, length, count_by, sum_by}
+use Rattle.std.specs.Prelude.{◌≡◌, ℕ, ◌+◌, ◌-◌, ◌*◌, List, ◌++◌, Bool, cond, ◌||◌, length, count_by, sum_by}
 use Rattle.faults.specs.Counts.{RoseBy}
 use Rattle.blob_model.specs.Store.{blob_at}
 use Rattle.blob_model.specs.History.{AllOther, store_of}
@@ -10,6 +10,7 @@ use Rattle.request_form.specs.Replies.{fault_count}
 use Rattle.request_form.specs.declared.form.Reply.{Reply}
 use Rattle.session_parts.specs.declared.done.HangUp.{HangUp}
 use Rattle.client_session.specs.Sessions.{SessionState, Continues, session_of}
+use Rattle.client_session.specs.TurnCounts.{UpTo}
 
 -- whether the version of that ticket is finished in the store of all that the session has seen
 abbrev pub is_finished_seen : Session → HeldTicket → Bool
@@ -57,3 +58,4 @@ pub record GivingUp {D : Type 0} (faults : D → ℕ) (old new : SessionState D)
   pub each_once : all_counted counts + length new.held ≡ length old.held
   pub faults_rose : RoseBy counts.page_fault (sum_by faults old.doors) (sum_by faults new.doors)
   pub goes_on : Continues old new
+  pub turns : UpTo (2 * (length old.held - length new.held)) old.turns new.turns

@@ -1,4 +1,5 @@
 pub mod Tickets
+pub mod TurnCounts
 pub mod Sessions
 pub mod SessionInvariant
 pub mod Updates
@@ -9,3 +10,4 @@ pub mod Opening
 pub mod Finishing
 pub mod Numbering
 pub mod Losses
+pub mod Looking

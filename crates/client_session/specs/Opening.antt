@@ -33,7 +33,8 @@ pub record Opening {D : Type 0} (s : SessionState D) (blob version : ℕ) (said 
   pub gap : List (ℕ × Event)
   pub others : AllOther s.caller (events gap)
   pub log : s'.log ≡ s.log ++ gap
-  pub same : s' ≡ record s { log = s'.log }
+  pub same : s' ≡ record s { log = s'.log; turns = s'.turns }
+  pub one_turn : s'.turns ≡ s.turns + 1
   pub done : IfOk said (λ v. outcome_in s.store.fixed s'.log s.caller (Calls.Size blob version) ≡ Outcomes.Size (size_now v))
   pub snapshot : IfOk said (IsSnapshotOf s.store.fixed s'.log blob version)
   pub of_store : IfOk said (IsOfStore s.store)

@@ -1,5 +1,5 @@
 -- A store that sessions share, and a session of it: what their clauses see.
-use Rattle.std.specs.Prelude.{◌≡◌, ◌≢◌, ℕ, ◌<◌, List, [], ◌++◌, Some, None, sum_by, Contains}
+use Rattle.std.specs.Prelude.{◌≡◌, ◌≢◌, ℕ, ◌<◌, Bool, List, [], ◌++◌, Some, None, sum_by, Contains}
 use Rattle.atomic_table.specs.Seated.{TableId}
 use Rattle.blob_model.specs.Content.{Update}
 use Rattle.blob_model.specs.Store.{blob_at}
@@ -49,7 +49,8 @@ pub record Went (f : DeskFixed) (log log' : List (ℕ × Event)) : Type 0 where
   pub log_is : IsLog f log'
 
 -- A session: its store, its caller, the history that it has seen, each event with its caller, the updates that it has numbered
--- and not yet finished, the number of the next one, its doors, and the most bytes of an update.
+-- and not yet finished, the number of the next one, its doors, the most bytes of an update, whether the store refused the last update
+-- that it tried, so that it looks first at the next ones, and how many turns it has had.
 pub record SessionState (D : Type 0) : Type 0 where
   pub store : StoreState
   pub caller : ℕ
@@ -58,6 +59,8 @@ pub record SessionState (D : Type 0) : Type 0 where
   pub next : ℕ
   pub doors : List D
   pub limit : ℕ
+  pub looks_first : Bool
+  pub turns : ℕ
 
 -- a session as the definition of its answers sees it
 abbrev pub session_at : DeskFixed → ℕ → List (ℕ × Event) → List OpenUpdate → ℕ → ℕ → Session
@@ -75,7 +78,7 @@ session_of s = session_at s.store.fixed s.caller s.log s.held s.next s.limit
 
 -- the pass that the session works with
 abbrev pub pass_of : {D : Type 0} → SessionState D → PassView Event DeskFixed
-pass_of s = record { lock = s.store.lock; caller = s.caller; seen = s.log; fixed = Some s.store.fixed }
+pass_of s = record { lock = s.store.lock; caller = s.caller; seen = s.log; fixed = Some s.store.fixed; turns = s.turns }
 
 -- what no call of a session changes, and what it has seen only grows
 pub record Continues {D : Type 0} (old new : SessionState D) : Type 0 where

@@ -11,14 +11,14 @@ use Rattle.border_hints.specs.Numbered.{NumberedUpdate}
 use Rattle.version_manager.specs.Desks.{IsUnfinished}
 use Rattle.version_manager.specs.Log.{desk_at}
 use Rattle.request_form.specs.Session.{Session, outcome_at, sees}
-use Rattle.request_form.specs.Answers.{Started, WholeUpdate, UpdateAnswer, Unless, update_fault}
+use Rattle.request_form.specs.Answers.{AfterGap, UnnumberedTurn, Unless, update_fault}
 use Rattle.request_form.specs.declared.form.Request.{Request}
 use Rattle.request_form.specs.declared.form.Request.TheVariants as Requests
 use Rattle.request_form.specs.declared.form.Reply.{Reply}
 use Rattle.request_form.specs.declared.form.Reply.TheVariants as Replies
 use Rattle.request_form.specs.declared.form.Fault.{Fault}
 use Rattle.request_form.specs.declared.form.Fault.TheVariants as Faults
-pub use Rattle.session_parts.specs.Replies.{update_reply, start_reply}
+pub use Rattle.request_form.specs.Replies.{update_reply, start_reply}
 use Rattle.session_parts.specs.declared.done.Started.{Started as HeldUpdate}
 use Rattle.session_parts.specs.declared.done.Updated.{Updated}
 use Rattle.session_parts.specs.declared.done.Updated.TheVariants as WholeUpdates
@@ -35,21 +35,11 @@ abbrev pub start_request : ℕ → Place → List ℕ → Request
 start_request blob Append bytes = Requests.StartAppend blob bytes
 start_request blob (WriteAt offset) bytes = Requests.StartWrite blob offset bytes
 
--- an update that is finished at once or held back, and that the session itself doesn't refuse
-abbrev pub UpdateDone : Session → ℕ → Place → List ℕ → Reply → Session → Type 0
-UpdateDone s blob place bytes reply s' =
-    UpdateAnswer AllOther s blob place bytes (WholeUpdate AllOther s blob place bytes (update_reply place) (start_reply place) reply s') reply s'
-
--- an update that is finished later, and that the session itself doesn't refuse
-abbrev pub StartDone : Session → ℕ → Place → List ℕ → Reply → Session → Type 0
-StartDone s blob place bytes reply s' =
-    UpdateAnswer AllOther s blob place bytes (Started AllOther s blob place bytes (start_reply place) reply s') reply s'
-
 -- An update that wasn't numbered: the session itself refuses it, or its pages weren't stored, or the store refuses it.
 abbrev pub NotNumbered : {D : Type 0} → SessionState D → ℕ → Place → List ℕ → Fault → SessionState D → Type 0
 NotNumbered s blob place bytes fault s' =
     Unless (update_fault (session_of s) bytes) (session_of s) (Replies.Refused fault) (session_of s')
-    (UpdateAnswer AllOther (session_of s) blob place bytes ⊥ (Replies.Refused fault) (session_of s'))
+    (AfterGap AllOther (session_of s) (UnnumberedTurn (session_of s) blob place bytes) (Replies.Refused fault) (session_of s'))
 
 -- An update was numbered after others' events, and nothing else has changed but the doors' counts. It may be held next.
 pub record WasNumbered {D : Type 0} (s : SessionState D) (blob : ℕ) (place : Place) (bytes : List ℕ) (t : NumberedUpdate) (s' : SessionState D) : Type 0 where

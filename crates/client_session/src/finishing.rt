@@ -1,5 +1,5 @@
 // Numbered updates are finished: by the session that numbered them, or by another one.
-ghost use Rattle.std.specs.Prelude.{◌≡◌, ℕ, ◌+◌, ◌<◌, ◌≤◌, [], length, map, sum_by, All, Some, IfOk, IfErr, slice_get};
+ghost use Rattle.std.specs.Prelude.{◌≡◌, ◌⊎◌, ℕ, ◌+◌, ◌<◌, ◌≤◌, [], length, map, sum_by, All, Some, IfOk, IfErr, slice_get};
 ghost use Rattle.std.specs.Arc.{arc_value};
 ghost use denote.Param.Send.{IsSync};
 ghost use Rattle.faults.specs.Counts.{RoseBy};
@@ -9,13 +9,14 @@ ghost use Rattle.request_form.specs.Session.{without_version};
 ghost use Rattle.request_form.specs.Answers.{Answers};
 ghost use Rattle.request_form.specs.declared.form.Request.TheVariants as Requests;
 ghost use Rattle.version_manager.specs.Log.{MayFinish, IsWaitingTicket};
-ghost use Rattle.tree_weaver.specs.Anew.{FoldFailed};
+ghost use Rattle.tree_weaver.specs.Anew.{FoldFailed, StoresNoneAnew};
 ghost use Rattle.session_parts.specs.Tickets.{OpenUpdate, tickets_of};
 ghost use Rattle.tree_weaver.specs.Woven.{IsWoven};
 ghost use Rattle.client_session.specs.Losses.{IfPageLost, LostAnew, LostOfHeld};
 ghost use Rattle.client_session.specs.Results.{weave_fault, finish_reply, repair_reply};
 ghost use Rattle.client_session.specs.Sessions.{IsPassOf, Went, session_of, Continues};
 ghost use Rattle.client_session.specs.SessionInvariant.{IsTicketHere};
+ghost use Rattle.client_session.specs.TurnCounts.{UpTo, TakesTurns, FinishTurns, RowTurns, HeldTurns};
 ghost use Rattle.client_session.specs.Finishing.{bare, Finishing, settles, IsEquipped, LookedFresh, Issuing, NotWoven, IsFreshHere, weaving_faults};
 
 use crate::session::{Session, fault_of};
@@ -60,7 +61,8 @@ fn report<R: Wait>(
 ) -> Result<u64, Fault>
     requires pass { IsPassOf shared.now pass.old }
     requires may { MayFinish ticket.now (arc_value row) pass.old.seen shared.now.fixed }
-    ensures pass { pass.new ≡ record pass.old { seen = pass.new.seen } }
+    ensures pass { pass.new ≡ record pass.old { seen = pass.new.seen; turns = pass.new.turns } }
+    ensures one_turn { pass.new.turns ≡ pass.old.turns + 1 }
     ensures went { Went shared.now.fixed pass.old.seen pass.new.seen }
     ensures finishing { Finishing shared.now.fixed pass.old.caller pass.old.seen ticket.now.blob ticket.now.version result pass.new.seen }
     ensures calm { fault_count (repair_reply result) ≡ 0 }
@@ -85,7 +87,8 @@ fn fresh_ticket<R: Wait>(
     version: u64,
 ) -> Result<Ticket, DeskFault>
     requires pass { IsPassOf shared.now pass.old }
-    ensures pass { pass.new ≡ record pass.old { seen = pass.new.seen } }
+    ensures pass { pass.new ≡ record pass.old { seen = pass.new.seen; turns = pass.new.turns } }
+    ensures one_turn { pass.new.turns ≡ pass.old.turns + 1 }
     ensures went { Went shared.now.fixed pass.old.seen pass.new.seen }
     ensures looked { LookedFresh shared.now.fixed pass.old.caller pass.old.seen blob version result pass.new.seen }
 {
@@ -113,6 +116,7 @@ fn woven_or_why<D: BesideDoor, R: Threads + Wait + Sync>(
     requires ready { IsEquipped D.is_true shared.now doors.old room.old }
     requires here { IsFreshHere shared.now.fixed ticket.now }
     ensures woven { IfOk result (λ row. IsWoven shared.now.fixed.nodes shared.now.fixed.houses ticket.now (arc_value row)) }
+    ensures knows { IfOk result (λ _. StoresNoneAnew ticket.now ⊎ (length ticket.now.snapshot.rows + 1 ≡ ticket.now.version)) }
     ensures why { IfErr result (NotWoven ticket.now) }
     ensures failed { IfErr result (λ fault. IfPageLost fault
         (FoldFailed ticket.now shared.now.providers shared.now.replicas (map D.faults doors.old) (map D.faults doors.new))) }
@@ -161,7 +165,8 @@ fn finish_fresh<D: BesideDoor, G: Gate, R: Threads + Wait + Sync>(
     requires sync { IsSync R.row }
     requires pass { IsPassOf shared.now pass.old }
     requires ready { IsEquipped D.is_true shared.now doors.old room.old }
-    ensures pass { pass.new ≡ record pass.old { seen = pass.new.seen } }
+    ensures pass { pass.new ≡ record pass.old { seen = pass.new.seen; turns = pass.new.turns } }
+    ensures turns { TakesTurns result 2 pass.old.turns pass.new.turns }
     ensures went { Went shared.now.fixed pass.old.seen pass.new.seen }
     ensures finishing { Finishing shared.now.fixed pass.old.caller pass.old.seen blob version result pass.new.seen }
     ensures failed { IfErr result (λ fault. IfPageLost fault (LostAnew shared.now pass.new.seen blob version (map D.faults doors.old) (map D.faults doors.new))) }
@@ -196,7 +201,9 @@ fn finish_by<D: BesideDoor, G: Gate, R: Threads + Wait + Sync>(
     requires pass { IsPassOf shared.now pass.old }
     requires ready { IsEquipped D.is_true shared.now doors.old room.old }
     requires ticket { IsTicketHere shared.now.fixed pass.old.seen ticket.now }
-    ensures pass { pass.new ≡ record pass.old { seen = pass.new.seen } }
+    ensures pass { pass.new ≡ record pass.old { seen = pass.new.seen; turns = pass.new.turns } }
+    ensures turns { UpTo 2 pass.old.turns pass.new.turns }
+    ensures finish_turns { IfOk result (λ _. FinishTurns ticket.now pass.old.turns pass.new.turns) }
     ensures went { Went shared.now.fixed pass.old.seen pass.new.seen }
     ensures finishing { Finishing shared.now.fixed pass.old.caller pass.old.seen ticket.now.blob ticket.now.version result pass.new.seen }
     ensures failed { IfErr result (λ fault. IfPageLost fault
@@ -238,7 +245,8 @@ impl<'a, D: BesideDoor, G: Gate> Session<'a, D, G> {
             (LostAnew self.old.store self.new.log blob version (map D.faults self.old.doors) (map D.faults self.new.doors))) }
         ensures faults { RoseBy (fault_count (repair_reply result)) (sum_by D.faults self.old.doors) (sum_by D.faults self.new.doors) }
         ensures goes_on { Continues self.old self.new }
-        ensures rest { self.new ≡ record self.old { log = self.new.log; doors = self.new.doors } }
+        ensures rest { self.new ≡ record self.old { log = self.new.log; doors = self.new.doors; turns = self.new.turns } }
+        ensures turns { TakesTurns result 2 self.old.turns self.new.turns }
     {
         finish_fresh(
             rt,
@@ -266,7 +274,9 @@ impl<'a, D: BesideDoor, G: Gate> Session<'a, D, G> {
             (LostAnew self.old.store self.new.log ticket.now.blob ticket.now.version (map D.faults self.old.doors) (map D.faults self.new.doors))) }
         ensures faults { RoseBy (fault_count (repair_reply result)) (sum_by D.faults self.old.doors) (sum_by D.faults self.new.doors) }
         ensures goes_on { Continues self.old self.new }
-        ensures rest { self.new ≡ record self.old { log = self.new.log; doors = self.new.doors } }
+        ensures rest { self.new ≡ record self.old { log = self.new.log; doors = self.new.doors; turns = self.new.turns } }
+        ensures turns { UpTo 2 self.old.turns self.new.turns }
+        ensures finish_turns { IfOk result (λ _. FinishTurns ticket.now self.old.turns self.new.turns) }
     {
         finish_by(
             rt,
@@ -290,7 +300,9 @@ impl<'a, D: BesideDoor, G: Gate> Session<'a, D, G> {
             (LostAnew self.old.store self.new.log o.ticket.blob o.ticket.version (map D.faults self.old.doors) (map D.faults self.new.doors))) }
         ensures faults { RoseBy (fault_count (repair_reply result)) (sum_by D.faults self.old.doors) (sum_by D.faults self.new.doors) }
         ensures goes_on { Continues self.old self.new }
-        ensures rest { self.new ≡ record self.old { log = self.new.log; doors = self.new.doors } }
+        ensures rest { self.new ≡ record self.old { log = self.new.log; doors = self.new.doors; turns = self.new.turns } }
+        ensures turns { UpTo 2 self.old.turns self.new.turns }
+        ensures row_turns { (o : OpenUpdate) → slice_get self.old.held index ≡ Some o → IfOk result (λ _. RowTurns o.row self.old.turns self.new.turns) }
     {
         let open = self.held.at(index);
         let (blob, version) = (open.ticket().blob(), open.ticket().version());
@@ -317,6 +329,9 @@ impl<'a, D: BesideDoor, G: Gate> Session<'a, D, G> {
             (LostOfHeld self.old.store self.new.log self.old.held ticket (map D.faults self.old.doors) (map D.faults self.new.doors))) }
         ensures faults { RoseBy (fault_count (finish_reply result)) (sum_by D.faults self.old.doors) (sum_by D.faults self.new.doors) }
         ensures goes_on { Continues self.old self.new }
+        ensures turns { UpTo 2 self.old.turns self.new.turns }
+        ensures held_turns { IfOk result (λ _. HeldTurns self.old.held ticket self.old.turns self.new.turns) }
+        ensures looks { self.new.looks_first ≡ self.old.looks_first }
     {
         let Some(index) = self.held.find(ticket) else {
             return Err(Fault::NoTicket { ticket });
@@ -344,6 +359,9 @@ impl<'a, D: BesideDoor, G: Gate> Session<'a, D, G> {
             (LostAnew self.old.store self.new.log ticket.now.blob ticket.now.version (map D.faults self.old.doors) (map D.faults self.new.doors))) }
         ensures faults { RoseBy (fault_count (repair_reply result)) (sum_by D.faults self.old.doors) (sum_by D.faults self.new.doors) }
         ensures goes_on { Continues self.old self.new }
+        ensures turns { UpTo 2 self.old.turns self.new.turns }
+        ensures finish_turns { IfOk result (λ _. FinishTurns ticket.now self.old.turns self.new.turns) }
+        ensures looks { self.new.looks_first ≡ self.old.looks_first }
     {
         let finished = self.finish_by(rt, ticket);
         if is_settled(&finished) {
@@ -370,6 +388,8 @@ impl<'a, D: BesideDoor, G: Gate> Session<'a, D, G> {
             (LostAnew self.old.store self.new.log blob version (map D.faults self.old.doors) (map D.faults self.new.doors))) }
         ensures faults { RoseBy (fault_count (repair_reply result)) (sum_by D.faults self.old.doors) (sum_by D.faults self.new.doors) }
         ensures goes_on { Continues self.old self.new }
+        ensures turns { TakesTurns result 2 self.old.turns self.new.turns }
+        ensures looks { self.new.looks_first ≡ self.old.looks_first }
     {
         let finished = self.finish_anew(rt, blob, version);
         if is_settled(&finished) {

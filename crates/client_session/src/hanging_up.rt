@@ -1,5 +1,5 @@
 // A session gives up the tickets that it holds.
-ghost use Rattle.std.specs.Prelude.{◌≡◌, ◌+◌, ◌<◌, ◌≤◌, [], ◌∷◌, ℕ, length, List, Bool, sum_by, All};
+ghost use Rattle.std.specs.Prelude.{◌≡◌, ◌+◌, ◌*◌, ◌<◌, ◌≤◌, [], ◌∷◌, ℕ, length, List, Bool, false, sum_by, All};
 ghost use denote.Param.Send.{IsSync};
 ghost use Rattle.faults.specs.Counts.{RoseBy};
 ghost use Rattle.blob_model.specs.History.{AllOther};
@@ -8,6 +8,7 @@ ghost use Rattle.request_form.specs.HangUp.{HungUp};
 ghost use Rattle.request_form.specs.Replies.{fault_count};
 ghost use Rattle.client_session.specs.Results.{finish_reply};
 ghost use Rattle.client_session.specs.Sessions.{session_of, Continues};
+ghost use Rattle.client_session.specs.TurnCounts.{UpTo};
 ghost use Rattle.session_parts.specs.Tickets.{Rise, tickets_of};
 ghost use Rattle.client_session.specs.HangUp.{GivesUpOne, finished_seen, counts_of, counted, all_counted, tells_hindered};
 
@@ -59,9 +60,11 @@ impl<'a, D: BesideDoor, G: Gate> Session<'a, D, G> {
         ensures faults { RoseBy result.page_fault (sum_by D.faults self.old.doors) (sum_by D.faults self.new.doors) }
         ensures rising { Rise (tickets_of self.old.held) self.old.next }
         ensures none_held { self.new.held ≡ [] }
+        ensures looks { self.new.looks_first ≡ false }
         ensures doors_stay { length self.new.doors ≡ length self.old.doors }
         ensures truth_stays { All D.is_true self.new.doors }
         ensures goes_on { Continues self.old self.new }
+        ensures turns { UpTo (2 * length self.old.held) self.old.turns self.new.turns }
     {
         request_form::laws::giving_up_goes_on();
         request_form::laws::hung_up_are_finished();
@@ -80,6 +83,7 @@ impl<'a, D: BesideDoor, G: Gate> Session<'a, D, G> {
         }
         self.next = 1;
         self.limit = UpdateLimit::AtFirst;
+        self.looks_first = false;
         counts
     }
 
@@ -92,6 +96,7 @@ impl<'a, D: BesideDoor, G: Gate> Session<'a, D, G> {
         ensures fewer { length self.old.held ≡ length self.new.held + 1 }
         ensures faults { RoseBy (fault_count (finish_reply result)) (sum_by D.faults self.old.doors) (sum_by D.faults self.new.doors) }
         ensures goes_on { Continues self.old self.new }
+        ensures turns { UpTo 2 self.old.turns self.new.turns }
     {
         let number = self.held.at(0).number();
         let finished = self.finish(rt, number);

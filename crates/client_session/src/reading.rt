@@ -62,7 +62,9 @@ impl<'a, D: Door, G: Gate> Session<'a, D, G> {
         ensures answers { Answers AllOther (session_of self.old) (Requests.ReadMany blob version ranges.now) (contents_reply result) (session_of self.new) }
         ensures faults { RoseBy (fault_count (contents_reply result)) (sum_by D.faults self.old.doors) (sum_by D.faults self.new.doors) }
         ensures goes_on { Continues self.old self.new }
-        ensures rest { self.new ≡ record self.old { log = self.new.log; doors = self.new.doors } }
+        ensures rest { self.new ≡ record self.old { log = self.new.log; doors = self.new.doors; turns = self.new.turns } }
+        ensures one_turn { ranges_fault 0 ranges.now ≡ None → self.new.turns ≡ self.old.turns + 1 }
+        ensures no_turn { ranges_fault 0 ranges.now ≢ None → self.new.turns ≡ self.old.turns }
         ensures steps { steps.new ≤ steps.old + all_visits_seen (session_of self.new) blob version ranges.now }
         ensures failed { IfErr result (λ fault. IfPageLost fault
             (LostInRanges self.old.store self.new.log blob version ranges.now (map D.faults self.old.doors) (map D.faults self.new.doors))) }

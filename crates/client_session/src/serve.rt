@@ -7,6 +7,7 @@ ghost use Rattle.request_form.specs.Replies.{fault_count};
 ghost use Rattle.request_form.specs.Answers.{Answers, update_faults};
 ghost use Rattle.request_form.specs.declared.form.Request.TheVariants as Requests;
 ghost use Rattle.client_session.specs.Sessions.{StoreState, session_of};
+ghost use Rattle.client_session.specs.TurnCounts.{UpTo};
 ghost use Rattle.client_session.specs.Results.{read_reply, contents_reply};
 ghost use Rattle.client_session.specs.Updates.{update_request, start_request};
 
@@ -41,6 +42,7 @@ fn read_uncounted<D: Door, G: Gate, R: Wait, L: Ledger>(
     requires some { 0 < blank.parts }
     ensures answers { Answers AllOther (session_of session.old) (Requests.Read blob version offset count) (read_reply result) (session_of session.new) }
     ensures faults { RoseBy (fault_count (read_reply result)) (sum_by D.faults session.old.doors) (sum_by D.faults session.new.doors) }
+    ensures turns { UpTo 1 session.old.turns session.new.turns }
     ensures store { session.new.store ≡ session.old.store }
 {
     let mut steps = Steps::<L>::open(blank);
@@ -61,6 +63,7 @@ fn read_many_uncounted<D: Door, G: Gate, R: Wait, L: Ledger>(
     requires some { 0 < blank.parts }
     ensures answers { Answers AllOther (session_of session.old) (Requests.ReadMany blob version ranges.now) (contents_reply result) (session_of session.new) }
     ensures faults { RoseBy (fault_count (contents_reply result)) (sum_by D.faults session.old.doors) (sum_by D.faults session.new.doors) }
+    ensures turns { UpTo 1 session.old.turns session.new.turns }
     ensures store { session.new.store ≡ session.old.store }
 {
     let mut steps = Steps::<L>::open(blank);
@@ -79,6 +82,7 @@ impl<'a, D: BesideDoor, G: Gate> Session<'a, D, G> {
         requires sync { IsSync R.row }
         ensures answers { Answers AllOther (session_of self.old) (update_request blob place bytes) result (session_of self.new) }
         ensures faults { RoseBy (update_faults (session_of self.new) blob result) (sum_by D.faults self.old.doors) (sum_by D.faults self.new.doors) }
+        ensures turns { UpTo 4 self.old.turns self.new.turns }
         ensures store { self.new.store ≡ self.old.store }
     {
         let done = match place {
@@ -99,6 +103,7 @@ impl<'a, D: BesideDoor, G: Gate> Session<'a, D, G> {
         requires sync { IsSync R.row }
         ensures answers { Answers AllOther (session_of self.old) (start_request blob place bytes) result (session_of self.new) }
         ensures faults { RoseBy (fault_count result) (sum_by D.faults self.old.doors) (sum_by D.faults self.new.doors) }
+        ensures turns { UpTo 2 self.old.turns self.new.turns }
         ensures store { self.new.store ≡ self.old.store }
     {
         said_of_start(place, self.start(rt, blob, place, bytes.as_slice()))
@@ -115,6 +120,7 @@ impl<'a, D: BesideDoor, G: Gate> Session<'a, D, G> {
     ) -> Reply
         ensures answers { Answers AllOther (session_of self.old) (Requests.Read blob version offset count) result (session_of self.new) }
         ensures faults { RoseBy (fault_count result) (sum_by D.faults self.old.doors) (sum_by D.faults self.new.doors) }
+        ensures turns { UpTo 1 self.old.turns self.new.turns }
         ensures store { self.new.store ≡ self.old.store }
     {
         let blank = Blank::new(1);
@@ -133,6 +139,7 @@ impl<'a, D: BesideDoor, G: Gate> Session<'a, D, G> {
     ) -> Reply
         ensures answers { Answers AllOther (session_of self.old) (Requests.ReadMany blob version ranges) result (session_of self.new) }
         ensures faults { RoseBy (fault_count result) (sum_by D.faults self.old.doors) (sum_by D.faults self.new.doors) }
+        ensures turns { UpTo 1 self.old.turns self.new.turns }
         ensures store { self.new.store ≡ self.old.store }
     {
         let blank = Blank::new(1);
@@ -146,6 +153,8 @@ impl<'a, D: BesideDoor, G: Gate> Service for Session<'a, D, G> {
     ghost session = { λ s. session_of s };
 
     ghost faults = { λ s. sum_by D.faults s.doors };
+
+    ghost turns = { λ s. s.turns };
 
     ghost Kept = { StoreState };
 

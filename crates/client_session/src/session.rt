@@ -100,6 +100,10 @@ fn is_pending(outcome: &Outcome) -> bool
 /// then its own event. A call that is refused, and one that finds no memory before an update is numbered, enters nothing. It
 /// holds no turn when a call returns, nor when the gate is called. A call that makes and finishes no update leaves the held tickets with their
 /// rows as they are, and one that reads no bytes the doors too.
+///
+/// An update's pages are stored before it is numbered, and stay stored where the store refuses to number it. So a session looks first
+/// whether the store would refuse an update of more than one page; and where it was refused one, it looks first at each of its next
+/// updates, until one is numbered or it hangs up. Where a look is refused no page is stored.
 pub struct Session<'a, D: Door, G: Gate> {
     pub(crate) alloc: Global,
     pub(crate) shared: &'a Shared,
@@ -110,6 +114,8 @@ pub struct Session<'a, D: Door, G: Gate> {
     pub(crate) next: u64,
     pub(crate) room: ReadRoom,
     pub(crate) limit: UpdateLimit,
+    // the store refused the last update that was tried
+    pub(crate) looks_first: bool,
 }
 
 // By hand, so that it is one call wherever a session is let go: a derived drop stands, with all its calls, at each such place.
@@ -125,6 +131,7 @@ impl<'a, D: Door + Drop, G: Gate> Drop for Session<'a, D, G> {
             next: _,
             room: _,
             limit: _,
+            looks_first: _,
         } = self;
     }
 }
@@ -136,7 +143,7 @@ impl<'a, D: Door, G: Gate> Model for Session<'a, D, G> {
 
     ghost Value = { SessionState D };
 
-    ghost view = { λ s. record { store = s.shared.now; caller = s.pass.caller; log = s.pass.seen; held = s.held; next = s.next; doors = s.doors; limit = longest s.limit } };
+    ghost view = { λ s. record { store = s.shared.now; caller = s.pass.caller; log = s.pass.seen; held = s.held; next = s.next; doors = s.doors; limit = longest s.limit; looks_first = s.looks_first; turns = s.pass.turns } };
 
     ghost invariant = { λ s. IsSession D.is_true s.shared.now s.pass s.held s.next s.doors s.room };
 }
@@ -155,7 +162,7 @@ impl<'a, D: Door, G: Gate> Session<'a, D, G> {
         requires pass { IsPassOf shared.now pass }
         requires served { length doors ≡ shared.now.providers }
         requires true_doors { All D.is_true doors }
-        ensures session { IfOk result (λ s. s ≡ record { store = shared.now; caller = pass.caller; log = pass.seen; held = []; next = 1; doors = doors; limit = max_update }) }
+        ensures session { IfOk result (λ s. s ≡ record { store = shared.now; caller = pass.caller; log = pass.seen; held = []; next = 1; doors = doors; limit = max_update; looks_first = false; turns = pass.turns }) }
         ensures pass_back { IfErr result (λ e. e.0 ≡ pass) }
         ensures doors_back { IfErr result (λ e. e.1 ≡ doors) }
     {
@@ -176,6 +183,7 @@ impl<'a, D: Door, G: Gate> Session<'a, D, G> {
             next: 1,
             room,
             limit: UpdateLimit::AtFirst,
+            looks_first: false,
         })
     }
 
@@ -197,6 +205,7 @@ impl<'a, D: Door, G: Gate> Session<'a, D, G> {
             next: _,
             room: _,
             limit: _,
+            looks_first: _,
         } = self;
         (pass, doors)
     }
@@ -216,7 +225,8 @@ impl<'a, D: Door, G: Gate> Session<'a, D, G> {
         ensures answers { Answers AllOther (session_of self.old) Requests.Create (create_reply result) (session_of self.new) }
         ensures faults { RoseBy (fault_count (create_reply result)) (sum_by D.faults self.old.doors) (sum_by D.faults self.new.doors) }
         ensures goes_on { Continues self.old self.new }
-        ensures rest { self.new ≡ record self.old { log = self.new.log } }
+        ensures rest { self.new ≡ record self.old { log = self.new.log; turns = self.new.turns } }
+        ensures one_turn { self.new.turns ≡ self.old.turns + 1 }
     {
         version_manager::laws::gaps_are_of_others();
         let shared = self.shared;
@@ -228,7 +238,8 @@ impl<'a, D: Door, G: Gate> Session<'a, D, G> {
         ensures answers { Answers AllOther (session_of self.old) (Requests.Branch blob version) (branch_reply result) (session_of self.new) }
         ensures faults { RoseBy (fault_count (branch_reply result)) (sum_by D.faults self.old.doors) (sum_by D.faults self.new.doors) }
         ensures goes_on { Continues self.old self.new }
-        ensures rest { self.new ≡ record self.old { log = self.new.log } }
+        ensures rest { self.new ≡ record self.old { log = self.new.log; turns = self.new.turns } }
+        ensures one_turn { self.new.turns ≡ self.old.turns + 1 }
     {
         version_manager::laws::gaps_are_of_others();
         let shared = self.shared;
@@ -240,7 +251,8 @@ impl<'a, D: Door, G: Gate> Session<'a, D, G> {
         ensures answers { Answers AllOther (session_of self.old) (Requests.Recent blob) (reply_of result) (session_of self.new) }
         ensures faults { RoseBy (fault_count (reply_of result)) (sum_by D.faults self.old.doors) (sum_by D.faults self.new.doors) }
         ensures goes_on { Continues self.old self.new }
-        ensures rest { self.new ≡ record self.old { log = self.new.log } }
+        ensures rest { self.new ≡ record self.old { log = self.new.log; turns = self.new.turns } }
+        ensures one_turn { self.new.turns ≡ self.old.turns + 1 }
     {
         version_manager::laws::gaps_are_of_others();
         let shared = self.shared;
@@ -252,7 +264,8 @@ impl<'a, D: Door, G: Gate> Session<'a, D, G> {
         ensures answers { Answers AllOther (session_of self.old) (Requests.Size blob version) (reply_of result) (session_of self.new) }
         ensures faults { RoseBy (fault_count (reply_of result)) (sum_by D.faults self.old.doors) (sum_by D.faults self.new.doors) }
         ensures goes_on { Continues self.old self.new }
-        ensures rest { self.new ≡ record self.old { log = self.new.log } }
+        ensures rest { self.new ≡ record self.old { log = self.new.log; turns = self.new.turns } }
+        ensures one_turn { self.new.turns ≡ self.old.turns + 1 }
     {
         version_manager::laws::gaps_are_of_others();
         let shared = self.shared;
@@ -264,7 +277,8 @@ impl<'a, D: Door, G: Gate> Session<'a, D, G> {
         ensures answers { Answers AllOther (session_of self.old) (Requests.Sync blob version) (reply_of result) (session_of self.new) }
         ensures faults { RoseBy (fault_count (reply_of result)) (sum_by D.faults self.old.doors) (sum_by D.faults self.new.doors) }
         ensures goes_on { Continues self.old self.new }
-        ensures rest { self.new ≡ record self.old { log = self.new.log } }
+        ensures rest { self.new ≡ record self.old { log = self.new.log; turns = self.new.turns } }
+        ensures one_turn { self.new.turns ≡ self.old.turns + 1 }
     {
         version_manager::laws::gaps_are_of_others();
         let shared = self.shared;
@@ -276,7 +290,8 @@ impl<'a, D: Door, G: Gate> Session<'a, D, G> {
         ensures answers { Answers AllOther (session_of self.old) (Requests.Status blob) (reply_of result) (session_of self.new) }
         ensures faults { RoseBy (fault_count (reply_of result)) (sum_by D.faults self.old.doors) (sum_by D.faults self.new.doors) }
         ensures goes_on { Continues self.old self.new }
-        ensures rest { self.new ≡ record self.old { log = self.new.log } }
+        ensures rest { self.new ≡ record self.old { log = self.new.log; turns = self.new.turns } }
+        ensures one_turn { self.new.turns ≡ self.old.turns + 1 }
     {
         version_manager::laws::gaps_are_of_others();
         let shared = self.shared;
@@ -290,7 +305,8 @@ impl<'a, D: Door, G: Gate> Session<'a, D, G> {
         ensures settled { IsSettled result }
         ensures faults { RoseBy (fault_count (reply_of result)) (sum_by D.faults self.old.doors) (sum_by D.faults self.new.doors) }
         ensures goes_on { Continues self.old self.new }
-        ensures rest { self.new ≡ record self.old { log = self.new.log } }
+        ensures rest { self.new ≡ record self.old { log = self.new.log; turns = self.new.turns } }
+        ensures turns { self.old.turns < self.new.turns }
     {
         for _ in rt.forever() {
             let finishes = self.shared.notices().count();
@@ -322,7 +338,9 @@ impl<'a, D: Door, G: Gate> Session<'a, D, G> {
         ensures answers { Answers AllOther (session_of self.old) (Requests.Read blob version offset count) (read_reply result) (session_of self.new) }
         ensures faults { RoseBy (fault_count (read_reply result)) (sum_by D.faults self.old.doors) (sum_by D.faults self.new.doors) }
         ensures goes_on { Continues self.old self.new }
-        ensures rest { self.new ≡ record self.old { log = self.new.log; doors = self.new.doors } }
+        ensures rest { self.new ≡ record self.old { log = self.new.log; doors = self.new.doors; turns = self.new.turns } }
+        ensures one_turn { count ≤ max_read → self.new.turns ≡ self.old.turns + 1 }
+        ensures no_turn { max_read < count → self.new.turns ≡ self.old.turns }
         ensures steps { steps.new ≤ steps.old + visits_seen (session_of self.new) blob version offset count }
         ensures failed { IfErr result (λ fault. IfPageLost fault
             (LostInRead self.old.store self.new.log blob version offset count (map D.faults self.old.doors) (map D.faults self.new.doors))) }

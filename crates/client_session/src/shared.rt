@@ -190,7 +190,7 @@ impl Shared {
     pub fn pass(&self, owner: &mut Owner) -> Result<Pass, PassFault>
         requires { IsOwnerOf self.now owner.old }
         ensures too_many { IsErr result ↔ (owner.old.made ≡ 1024) }
-        ensures pass { IfOk result (λ p. p ≡ record { lock = self.now.lock; caller = owner.old.made + 1; seen = owner.old.seen; fixed = Some self.now.fixed }) }
+        ensures pass { IfOk result (λ p. p ≡ record { lock = self.now.lock; caller = owner.old.made + 1; seen = owner.old.seen; fixed = Some self.now.fixed; turns = 0 }) }
         ensures pass_is { IfOk result (λ p. IsPassOf self.now p) }
         ensures own { IfOk result (λ p. entries_by p.caller p.seen ≡ []) }
         ensures counts { OnOk result (owner.new ≡ record owner.old { made = owner.old.made + 1; out = owner.old.out + 1 }) }

@@ -1,5 +1,5 @@
 // The updates of a session: started, or finished at once.
-ghost use Rattle.std.specs.Prelude.{◌≡◌, ◌≢◌, ℕ, ◌+◌, ◌<◌, ◌≤◌, [], ◌∷◌, ◌++◌, length, map, sum_by, All};
+ghost use Rattle.std.specs.Prelude.{◌≡◌, ◌≢◌, ℕ, ◌+◌, ◌<◌, ◌≤◌, Bool, [], ◌∷◌, ◌++◌, length, map, sum_by, All};
 ghost use Rattle.std.specs.Prelude.{IfOk, IfErr, IfNone, IfSome, OnOk, option_map, None};
 ghost use Rattle.std.specs.Arc.{arc_value};
 ghost use denote.Param.Send.{IsSync};
@@ -18,7 +18,9 @@ ghost use Rattle.client_session.specs.SessionInvariant.{IsOpen, IsTicketHere};
 ghost use Rattle.client_session.specs.Results.{store_fault, started_reply, updated_reply};
 ghost use Rattle.client_session.specs.Sessions.{IsPassOf, Went, session_of, Continues};
 ghost use Rattle.client_session.specs.Finishing.{bare};
+ghost use Rattle.client_session.specs.TurnCounts.{look_turns, numbering_turns, TakesTurns, UpdateTurns, DoneTurns, IsNotDone};
 ghost use Rattle.client_session.specs.Losses.{IfPageLost, LostFirst};
+ghost use Rattle.client_session.specs.Looking.{looks_after, looks_then, LostBehindLook};
 ghost use Rattle.client_session.specs.Numbering.{LookedAhead, NotNumberedFor, Numbering};
 ghost use Rattle.client_session.specs.Updates.{update_request, start_request, start_reply, WasNumbered, NotNumbered, IsKept};
 
@@ -46,6 +48,7 @@ fn fault_of_update(limit: u64, held: usize, bytes: &[u8]) -> Option<Fault>
     ensures some { IfNone result (1 ≤ length bytes.now) }
     ensures few { IfNone result (length bytes.now ≤ limit) }
     ensures room { IfNone result (held ≢ 64) }
+    ensures untried { IfSome result (λ fault. (before : Bool) → looks_after before fault ≡ before) }
 {
     let length = bytes.len() as u64;
     if length == 0 {
@@ -70,12 +73,29 @@ fn fault_of_storing(fault: StoreFault) -> Fault
     }
 }
 
-// Looks whether the store would refuse the update, before any page of it is stored. An update of one page is not looked for: its
-// numbering tells that as soon.
+// Whether a session looks first at its next update, after one with that fault.
+fn looks_after(before: bool, fault: &Fault) -> bool
+    ensures { result ≡ looks_after before fault.now }
+{
+    match fault {
+        Fault::NoBlob { .. }
+        | Fault::OffsetPastSize { .. }
+        | Fault::BlobTooBig { .. }
+        | Fault::TooManyVersions { .. }
+        | Fault::TooManyOpen { .. } => true,
+        Fault::Already { .. } | Fault::NoMemoryTicket { .. } => false,
+        _ => before,
+    }
+}
+
+// Looks whether the store would refuse the update, before any page of it is stored. For an update of one page its numbering tells that
+// as soon, and only that page stays stored for nothing: it is looked for where the session was refused before, so that refusals one
+// after another leave no more than that.
 fn look_ahead<R: Wait>(
     rt: &R,
     shared: &Shared,
     pass: &mut Pass,
+    looks_first: bool,
     blob: u64,
     place: Place,
     bytes: &[u8],
@@ -83,13 +103,15 @@ fn look_ahead<R: Wait>(
     requires pass { IsPassOf shared.now pass.old }
     requires some { 1 ≤ length bytes.now }
     requires few { length bytes.now ≤ 16777216 }
-    ensures pass { pass.new ≡ record pass.old { seen = pass.new.seen } }
+    ensures pass { pass.new ≡ record pass.old { seen = pass.new.seen; turns = pass.new.turns } }
+    ensures turns { pass.new.turns ≡ pass.old.turns + look_turns looks_first shared.now.fixed.page_size (length bytes.now) }
+    ensures unseen { look_turns looks_first shared.now.fixed.page_size (length bytes.now) ≡ 0 → pass.new.seen ≡ pass.old.seen }
     ensures went { Went shared.now.fixed pass.old.seen pass.new.seen }
-    ensures looked { LookedAhead shared.now.fixed pass.old.caller pass.old.seen blob place bytes.now result pass.new.seen }
+    ensures looked { LookedAhead shared.now.fixed pass.old.caller pass.old.seen looks_first blob place bytes.now result pass.new.seen }
 {
     version_manager::laws::gaps_are_of_others();
     let length = bytes.len() as u64;
-    if length <= u64::from(shared.page_size().bytes()) {
+    if !looks_first && length <= u64::from(shared.page_size().bytes()) {
         return None;
     }
     shared.desk().refusal_of(rt, pass, blob, place, length)
@@ -102,6 +124,7 @@ fn prepare<D: BesideDoor, R: Threads + Wait + Sync>(
     shared: &Shared,
     pass: &mut Pass,
     doors: &mut Doors<D>,
+    looks_first: bool,
     blob: u64,
     place: Place,
     bytes: &[u8],
@@ -111,9 +134,11 @@ fn prepare<D: BesideDoor, R: Threads + Wait + Sync>(
     requires served { length doors.old ≡ shared.now.providers }
     requires some { 1 ≤ length bytes.now }
     requires few { length bytes.now ≤ 16777216 }
-    ensures pass { pass.new ≡ record pass.old { seen = pass.new.seen } }
+    ensures pass { pass.new ≡ record pass.old { seen = pass.new.seen; turns = pass.new.turns } }
+    ensures turns { pass.new.turns ≡ pass.old.turns + look_turns looks_first shared.now.fixed.page_size (length bytes.now) }
+    ensures unseen { look_turns looks_first shared.now.fixed.page_size (length bytes.now) ≡ 0 → pass.new.seen ≡ pass.old.seen }
     ensures went { Went shared.now.fixed pass.old.seen pass.new.seen }
-    ensures looked { LookedAhead shared.now.fixed pass.old.caller pass.old.seen blob place bytes.now None pass.new.seen }
+    ensures looked { IfOk result (λ _. LookedAhead shared.now.fixed pass.old.caller pass.old.seen looks_first blob place bytes.now None pass.new.seen) }
     ensures bytes { IfOk result (λ pages. bytes_of_pages (arc_value pages).pages ≡ bytes.now) }
     ensures ready { IfOk result (λ pages. MayAssign (arc_value pages) shared.now.fixed) }
     ensures refused { IfErr result (λ fault. NotNumberedFor (bare shared.now.fixed pass.old.caller pass.old.seen) blob place bytes.now fault (bare shared.now.fixed pass.old.caller pass.new.seen)) }
@@ -123,7 +148,7 @@ fn prepare<D: BesideDoor, R: Threads + Wait + Sync>(
     ensures count { length doors.new ≡ length doors.old }
     ensures truth_stays { All D.is_true doors.old → All D.is_true doors.new }
 {
-    if let Some(refusal) = look_ahead(rt, shared, pass, blob, place, bytes) {
+    if let Some(refusal) = look_ahead(rt, shared, pass, looks_first, blob, place, bytes) {
         return Err(Fault::of(refusal));
     }
     match store_bytes(
@@ -151,7 +176,8 @@ fn number_stored<R: Wait>(
 ) -> Result<Ticket, Fault>
     requires pass { IsPassOf shared.now pass.old }
     requires ready { MayAssign (arc_value pages.now) shared.now.fixed }
-    ensures pass { pass.new ≡ record pass.old { seen = pass.new.seen } }
+    ensures pass { pass.new ≡ record pass.old { seen = pass.new.seen; turns = pass.new.turns } }
+    ensures one_turn { pass.new.turns ≡ pass.old.turns + 1 }
     ensures went { Went shared.now.fixed pass.old.seen pass.new.seen }
     ensures numbered { IfOk result (λ t. Numbering shared.now.fixed pass.old.caller pass.old.seen blob place (bytes_of_pages (arc_value pages.now).pages) t pass.new.seen) }
     ensures refused { IfErr result (λ fault. NotNumberedFor (bare shared.now.fixed pass.old.caller pass.old.seen) blob place (bytes_of_pages (arc_value pages.now).pages) fault
@@ -181,10 +207,13 @@ impl<'a, D: BesideDoor, G: Gate> Session<'a, D, G> {
         ensures numbered { IfOk result (λ t. WasNumbered self.old blob place bytes.now t self.new) }
         ensures refused { IfErr result (λ fault. NotNumbered self.old blob place bytes.now fault self.new) }
         ensures first_lost { IfErr result (λ fault. IfPageLost fault (LostFirst self.old.store bytes.now (map D.faults self.old.doors) (map D.faults self.new.doors))) }
+        ensures lost_behind { IfErr result (λ fault. IfPageLost fault (λ _. LostBehindLook self.old (length bytes.now) self.new)) }
+        ensures looks { self.new.looks_first ≡ looks_then self.old.looks_first result }
         ensures risen { IfErr result (λ fault. RoseBy (page_faults fault) (sum_by D.faults self.old.doors) (sum_by D.faults self.new.doors)) }
         ensures never_falls { sum_by D.faults self.old.doors ≤ sum_by D.faults self.new.doors }
         ensures goes_on { Continues self.old self.new }
-        ensures rest { self.new ≡ record self.old { log = self.new.log; doors = self.new.doors } }
+        ensures rest { self.new ≡ record self.old { log = self.new.log; doors = self.new.doors; looks_first = self.new.looks_first; turns = self.new.turns } }
+        ensures turns { TakesTurns result (numbering_turns self.old.looks_first self.old.store.fixed.page_size (length bytes.now)) self.old.turns self.new.turns }
     {
         if let Some(fault) = fault_of_update(self.limit.bytes(), self.held.count(), bytes) {
             return Err(fault);
@@ -196,19 +225,27 @@ impl<'a, D: BesideDoor, G: Gate> Session<'a, D, G> {
             shared,
             &mut self.pass,
             &mut self.doors,
+            self.looks_first,
             blob,
             place,
             bytes,
         ) {
             Ok(pages) => pages,
-            Err(fault) => return Err(fault),
+            Err(fault) => {
+                self.looks_first = looks_after(self.looks_first, &fault);
+                return Err(fault);
+            }
         };
         match number_stored(rt, shared, &mut self.pass, blob, place, &pages) {
             Ok(ticket) => {
+                self.looks_first = false;
                 self.gate.at(rt, Point::Numbered, &self.pass);
                 Ok(ticket)
             }
-            Err(fault) => Err(fault),
+            Err(fault) => {
+                self.looks_first = looks_after(self.looks_first, &fault);
+                Err(fault)
+            }
         }
     }
 
@@ -228,8 +265,9 @@ impl<'a, D: BesideDoor, G: Gate> Session<'a, D, G> {
     /// Stores and numbers an update of a blob, and holds it under the session's next ticket number, until it is finished. Its tree is
     /// woven too, unless it stores pages of the blob anew: `finish` weaves such an update, since it must read the version before.
     ///
-    /// The refusals come in this order: no bytes, more than the session's limit, 64 tickets held; for an update of more than one page
-    /// then those that a first look at the store finds, and no page is stored; then the first page that no door of its placement took, or
+    /// The refusals come in this order: no bytes, more than the session's limit, 64 tickets held; for an update of more than one page,
+    /// and for any where the store refused the last one that this session tried, those that a first look at the store finds, and no page
+    /// is stored; then the first page that no door of its placement took, or
     /// want of memory;
     /// then the store's refusals at the numbering. Want of memory once it is numbered is `NoMemoryTicket`: it is held all the same, and
     /// `finish` goes on with it. After any other refusal the store is as before, but for pages that may lie unused at providers.
@@ -245,8 +283,11 @@ impl<'a, D: BesideDoor, G: Gate> Session<'a, D, G> {
         ensures woven { IfOk result (λ started. folds_in self.new.store.fixed.page_size (store_at (session_of self.new) []) blob started.version ≡ []
             → HasRow self.new.held started.ticket) }
         ensures first_lost { IfErr result (λ fault. IfPageLost fault (LostFirst self.old.store bytes.now (map D.faults self.old.doors) (map D.faults self.new.doors))) }
+        ensures lost_behind { IfErr result (λ fault. IfPageLost fault (λ _. LostBehindLook self.old (length bytes.now) self.new)) }
+        ensures looks { self.new.looks_first ≡ looks_then self.old.looks_first result }
         ensures faults { RoseBy (fault_count (started_reply place result)) (sum_by D.faults self.old.doors) (sum_by D.faults self.new.doors) }
         ensures goes_on { Continues self.old self.new }
+        ensures turns { TakesTurns result (numbering_turns self.old.looks_first self.old.store.fixed.page_size (length bytes.now)) self.old.turns self.new.turns }
     {
         let ticket = match self.number(rt, blob, place, bytes) {
             Ok(ticket) => ticket,
@@ -280,8 +321,13 @@ impl<'a, D: BesideDoor, G: Gate> Session<'a, D, G> {
         requires sync { IsSync R.row }
         ensures answers { Answers AllOther (session_of self.old) (Requests.Append blob bytes.now) (updated_reply Append result) (session_of self.new) }
         ensures first_lost { IfErr result (λ fault. IfPageLost fault (LostFirst self.old.store bytes.now (map D.faults self.old.doors) (map D.faults self.new.doors))) }
+        ensures lost_behind { IfErr result (λ fault. IfPageLost fault (λ _. LostBehindLook self.old (length bytes.now) self.new)) }
+        ensures looks { self.new.looks_first ≡ looks_then self.old.looks_first result }
         ensures faults { RoseBy (update_faults (session_of self.new) blob (updated_reply Append result)) (sum_by D.faults self.old.doors) (sum_by D.faults self.new.doors) }
         ensures goes_on { Continues self.old self.new }
+        ensures turns { UpdateTurns result (numbering_turns self.old.looks_first self.old.store.fixed.page_size (length bytes.now)) self.old.turns self.new.turns }
+        ensures done_turns { DoneTurns result (folds_in self.new.store.fixed.page_size (store_at (session_of self.new) []) blob)
+            (numbering_turns self.old.looks_first self.old.store.fixed.page_size (length bytes.now)) self.old.turns self.new.turns }
     {
         self.update(rt, blob, Place::Append, bytes)
     }
@@ -298,8 +344,13 @@ impl<'a, D: BesideDoor, G: Gate> Session<'a, D, G> {
         requires sync { IsSync R.row }
         ensures answers { Answers AllOther (session_of self.old) (Requests.Write blob offset bytes.now) (updated_reply (WriteAt offset) result) (session_of self.new) }
         ensures first_lost { IfErr result (λ fault. IfPageLost fault (LostFirst self.old.store bytes.now (map D.faults self.old.doors) (map D.faults self.new.doors))) }
+        ensures lost_behind { IfErr result (λ fault. IfPageLost fault (λ _. LostBehindLook self.old (length bytes.now) self.new)) }
+        ensures looks { self.new.looks_first ≡ looks_then self.old.looks_first result }
         ensures faults { RoseBy (update_faults (session_of self.new) blob (updated_reply (WriteAt offset) result)) (sum_by D.faults self.old.doors) (sum_by D.faults self.new.doors) }
         ensures goes_on { Continues self.old self.new }
+        ensures turns { UpdateTurns result (numbering_turns self.old.looks_first self.old.store.fixed.page_size (length bytes.now)) self.old.turns self.new.turns }
+        ensures done_turns { DoneTurns result (folds_in self.new.store.fixed.page_size (store_at (session_of self.new) []) blob)
+            (numbering_turns self.old.looks_first self.old.store.fixed.page_size (length bytes.now)) self.old.turns self.new.turns }
     {
         self.update(rt, blob, Place::WriteAt(offset), bytes)
     }
@@ -315,8 +366,13 @@ impl<'a, D: BesideDoor, G: Gate> Session<'a, D, G> {
         requires sync { IsSync R.row }
         ensures answers { Answers AllOther (session_of self.old) (update_request blob place bytes.now) (updated_reply place result) (session_of self.new) }
         ensures first_lost { IfErr result (λ fault. IfPageLost fault (LostFirst self.old.store bytes.now (map D.faults self.old.doors) (map D.faults self.new.doors))) }
+        ensures lost_behind { IfErr result (λ fault. IfPageLost fault (λ _. LostBehindLook self.old (length bytes.now) self.new)) }
+        ensures looks { self.new.looks_first ≡ looks_then self.old.looks_first result }
         ensures faults { RoseBy (update_faults (session_of self.new) blob (updated_reply place result)) (sum_by D.faults self.old.doors) (sum_by D.faults self.new.doors) }
         ensures goes_on { Continues self.old self.new }
+        ensures turns { UpdateTurns result (numbering_turns self.old.looks_first self.old.store.fixed.page_size (length bytes.now)) self.old.turns self.new.turns }
+        ensures done_turns { DoneTurns result (folds_in self.new.store.fixed.page_size (store_at (session_of self.new) []) blob)
+            (numbering_turns self.old.looks_first self.old.store.fixed.page_size (length bytes.now)) self.old.turns self.new.turns }
     {
         let ticket = match self.number(rt, blob, place, bytes) {
             Ok(ticket) => ticket,
@@ -340,6 +396,7 @@ impl<'a, D: Door, G: Gate> Session<'a, D, G> {
         requires room { length self.old.held < 64 }
         requires drawn { self.old.next ≤ length self.old.log }
         ensures kept { IsKept self.old ticket fault result self.new }
+        ensures not_done { IsNotDone result }
         ensures calm { IfErr result (λ fault. page_faults fault ≡ 0) }
     {
         let (version, at, size) = (ticket.version(), ticket.at(), ticket.size());

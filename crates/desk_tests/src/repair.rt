@@ -5,7 +5,8 @@ ghost use Rattle.page_store.specs.Stored.{LieAmong};
 ghost use Rattle.node_store.specs.UpdateRows.{IsRowIn};
 ghost use Rattle.blob_model.specs.Content.{content};
 ghost use Rattle.snapshot.specs.Versions.{NodesLieIn, updates_of};
-ghost use Rattle.version_manager.specs.Desks.{IsTicketOf, IsRowFor, updates_in};
+ghost use Rattle.version_manager.specs.Desks.{IsTicketOf, IsRowFor, store_now, updates_in};
+ghost use Rattle.version_manager.specs.Folds.{IsInOrder};
 
 use crate::desk::{CALLER, three_waiting};
 use blob_model::{Place, Refusal};
@@ -49,6 +50,7 @@ fn row_of<R: Wait + Abort>(
     ensures row { IsRowFor desk.now ticket.now (arc_value result) }
     ensures under { (arc_value result).blob ≡ ticket.now.blob }
     ensures here { IsRowIn desk.now.nodes desk.now.houses (arc_value result) }
+    ensures in_order { IsInOrder desk.now.page_size (store_now desk.now) ticket.now.blob ticket.now.version }
 {
     match weave(rt, alloc, ticket, nodes) {
         Ok(Some(row)) => row,

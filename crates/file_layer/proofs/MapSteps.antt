@@ -10,7 +10,7 @@ use Rattle.range_log.specs.Rows.{folds_of}
 use Rattle.blob_model.specs.Content.{Update, size_of}
 use Rattle.blob_model.specs.Limits.{Bounds}
 use Rattle.blob_model.specs.Store.{Store, Blob, empty_store, blob_at, with_blob, and_blob, and_update, assigned, published, held, size_now, size_with, is_finished, finish}
-use Rattle.blob_model.specs.Answer.{Answered, answer, refuse, first_refusal, unless_refused, in_blob, too_many_blobs, not_published, not_numbered, pending, already, range_past_size, offset_past_size, blob_too_big, too_many_versions, too_many_open, bytes_of}
+use Rattle.blob_model.specs.Answer.{Answered, answer, refuse, first_refusal, unless_refused, in_blob, too_many_blobs, not_published, not_numbered, pending, already, range_past_size, offset_past_size, blob_too_big, too_many_versions, too_many_open, repair_refusal, bytes_of}
 use Rattle.blob_model.specs.History.{store_from, store_of, is_refused, finishes}
 use Rattle.blob_model.specs.declared.call.Place.TheVariants.{Append}
 use Rattle.blob_model.specs.declared.call.Call.{Call}
@@ -23,7 +23,8 @@ use Rattle.blob_model.specs.declared.call.Refusal.{Refusal}
 use Rattle.blob_model.specs.declared.call.Refusal.TheVariants as Refusals
 use Rattle.version_manager.proofs.Stores.{store_from-append, in_blob_here, store_limits}
 use Rattle.request_form.specs.Session.{Session, HeldTicket, IsNobody, sees, holds, drops, ticket_at, without_ticket, store_at, outcome_at}
-use Rattle.request_form.specs.Answers.{Unless, CreateAnswer, UpdateAnswer, WholeUpdate, ReadAnswer, FinishAnswer, ReportAnswer, FinishHindered, update_fault, read_fault, folds_in, max_update, max_tickets}
+use Rattle.request_form.specs.Turns.{Tickets, Turn, with_tickets, and_made, AfterGap}
+use Rattle.request_form.specs.Answers.{Unless, AddTurn, ReadTurn, UnnumberedTurn, WholeTurn, FinishTurn, UpdateAnswer, WholeAnswer, FinishAnswer, update_fault, read_fault, folds_in, max_update, max_tickets}
 use Rattle.request_form.specs.Replies.{fault_of, reply_of}
 use Rattle.request_form.specs.declared.form.Request.TheVariants as Requests
 use Rattle.request_form.specs.declared.form.Reply.{Reply}
@@ -167,25 +168,26 @@ module _ (f : Files) (things : Things) (holds' : List HeldAppend) (st : Stands f
     said_as : (told : Reply) (t : Reply) (reply x : FileReply) → told ≡ t → file_reply told ≡ Some reply → file_reply t ≡ Some x → reply ≡ x
     said_as told t reply x e says is = same_Some reply x (sym says ∙ ap file_reply e ∙ is)
 
-    read_says : (version offset count : ℕ) (told : Reply) (s' : Session) (reply : FileReply) → ReadAnswer IsNobody s blob version offset count told s' → file_reply told ≡ Some reply → ReadSays m b version offset count reply × (s' ≡ s)
-    read_says version offset count told s' reply (ReadAnswer.content c) says =
-        let g = read_goes version offset count c.bytes (outcome c.others (Calls.Read blob version offset count) _ c.is_gap c.done) in
-        (ReadSays.given g.0 (said_as told (Replies.Content c.bytes) reply (Says.Content c.bytes) c.said says refl ∙ ap (λ (l : List ℕ). Says.Content l) g.1), still s' c.others c.is_gap c.seen)
-    read_says version offset count told s' reply (ReadAnswer.refused c) says =
-        let g = read_stops version offset count c.refusal (outcome c.others (Calls.Read blob version offset count) _ c.is_gap c.refused) in
-        (ReadSays.refused c.refusal g (said_as told (Replies.Refused (fault_of c.refusal)) reply (store_fault (fault_of c.refusal)) c.said says refl), still s' c.others c.is_gap c.seen)
-    read_says version offset count told s' reply (ReadAnswer.out_of_memory c) says =
-        (ReadSays.out_of_memory (said_as told (Replies.Refused Faults.NoMemory) reply (store_fault Faults.NoMemory) c.said says refl), still s' c.others c.is_gap c.seen)
-    read_says version offset count told s' reply (ReadAnswer.not_read c) says =
-        let g = read_goes version offset count c.bytes (outcome c.others (Calls.Read blob version offset count) _ c.is_gap c.would) in (
-          ReadSays.not_read g.0 (subst (λ (l : List ℕ). 0 < length l) g.1 c.some) c.page c.begins c.ends (said_as told (Replies.Refused (Faults.PageFault c.page)) reply (store_fault (Faults.PageFault c.page)) c.said says refl),
-          still s' c.others c.is_gap c.seen,
+    read_turn : (version offset count : ℕ) (told : Reply) (s' : Session) (reply : FileReply) (others : List Event) → others ≡ [] → (turn : Turn) → ReadTurn s blob version offset count others turn → told ≡ turn.said
+        → s' ≡ with_tickets turn.tickets (sees s (and_made others turn.made)) → file_reply told ≡ Some reply → ReadSays m b version offset count reply × (s' ≡ s)
+    read_turn version offset count told s' reply others none _ (ReadTurn.content bytes e) said seen says =
+        let g = read_goes version offset count bytes (outcome others (Calls.Read blob version offset count) _ none e) in
+        (ReadSays.given g.0 (said_as told (Replies.Content bytes) reply (Says.Content bytes) said says refl ∙ ap (λ (l : List ℕ). Says.Content l) g.1), still s' others none seen)
+    read_turn version offset count told s' reply others none _ (ReadTurn.refused refusal e) said seen says =
+        let g = read_stops version offset count refusal (outcome others (Calls.Read blob version offset count) _ none e) in
+        (ReadSays.refused refusal g (said_as told (Replies.Refused (fault_of refusal)) reply (store_fault (fault_of refusal)) said says refl), still s' others none seen)
+    read_turn version offset count told s' reply others none _ ReadTurn.out_of_memory said seen says =
+        (ReadSays.out_of_memory (said_as told (Replies.Refused Faults.NoMemory) reply (store_fault Faults.NoMemory) said says refl), still s' others none seen)
+    read_turn version offset count told s' reply others none _ (ReadTurn.not_read bytes e some page meets) said seen says =
+        let g = read_goes version offset count bytes (outcome others (Calls.Read blob version offset count) _ none e) in (
+          ReadSays.not_read g.0 (subst (λ (l : List ℕ). 0 < length l) g.1 some) page meets.begins meets.ends (said_as told (Replies.Refused (Faults.PageFault page)) reply (store_fault (Faults.PageFault page)) said says refl),
+          still s' others none seen,
         )
 
-    read_unless : (o : Option Fault) (version offset count : ℕ) (told : Reply) (s' : Session) (reply : FileReply) (f' : Files) → Unless o s told s' (ReadAnswer IsNobody s blob version offset count told s') → file_reply told ≡ Some reply
+    read_unless : (o : Option Fault) (version offset count : ℕ) (told : Reply) (s' : Session) (reply : FileReply) (f' : Files) → Unless o s told s' (AfterGap IsNobody s (ReadTurn s blob version offset count) told s') → file_reply told ≡ Some reply
         → f' ≡ with_store f s' → Stepped f' (λ m'. UnlessFault o m reply m' (ReadSays m b version offset count reply × (m' ≡ m)))
     read_unless None version offset count told s' reply f' h says is =
-        let r = read_says version offset count told s' reply h says in
+        let r = read_turn version offset count told s' reply h.others h.is_gap h.turn h.may h.said h.seen says in
         unchanged f' (λ m'. ReadSays m b version offset count reply × (m' ≡ m)) (is ∙ ap (λ (x : Session). with_store f x) r.1) (r.0, refl)
     read_unless (Some fault) version offset count told s' reply f' h says is =
         unchanged f' (λ m'. SaysFault m fault reply m') (is ∙ ap (λ (x : Session). with_store f x) h.1) (said_as told (Replies.Refused fault) reply (store_fault fault) h.0 says refl, refl)
@@ -308,10 +310,10 @@ module _ (f : Files) (things : Things) (holds' : List HeldAppend) (st : Stands f
     seen_numbered bytes others later none none_later = ap (λ (l : List Event). l ++ number_event bytes ∷ later) none ∙ ap (λ (l : List Event). number_event bytes ∷ l) none_later
 
     seen_finished : (bytes : List ℕ) (version : ℕ) (others later : List Event) → others ≡ [] → later ≡ []
-        → others ++ number_event bytes ∷ (later ++ (if finishes blob version later then [] else finish_event version ∷ [])) ≡ number_event bytes ∷ finish_event version ∷ []
+        → others ++ number_event bytes ∷ (later ++ finish_event version ∷ []) ≡ number_event bytes ∷ finish_event version ∷ []
     seen_finished bytes version others later none none_later =
-        ap (λ (l : List Event). l ++ number_event bytes ∷ (later ++ (if finishes blob version later then [] else finish_event version ∷ []))) none
-        ∙ ap (λ (l : List Event). number_event bytes ∷ (l ++ (if finishes blob version l then [] else finish_event version ∷ []))) none_later
+        ap (λ (l : List Event). l ++ number_event bytes ∷ (later ++ finish_event version ∷ [])) none
+        ∙ ap (λ (l : List Event). number_event bytes ∷ (l ++ finish_event version ∷ [])) none_later
 
     abbrev at_end : ℕ → List ℕ → FileReply
     at_end version bytes = Says.Appended version (size_now b) (size_now b + length bytes)
@@ -349,43 +351,49 @@ module _ (f : Files) (things : Things) (holds' : List HeldAppend) (st : Stands f
         ∙ ap (λ (o : Option Blob). let l : List ℕ = elim o [ None ↦ [] | Some x ↦ folds_of s.fixed.page (extents x.updates) version ] in l) (numbered_changes bytes version at size g).here
         ∙ ap (λ (n : ℕ). folds_of s.fixed.page (extents (and_update b (u bytes)).updates) n) g.number
 
-    append_does : (bytes : List ℕ) (told : Reply) (s' : Session) (reply : FileReply) (f' : Files)
-        → UpdateAnswer IsNobody s blob Append bytes
-        (WholeUpdate IsNobody s blob Append bytes (λ version at size. Replies.Appended version at size) (λ ticket version at size. Replies.AppendStarted ticket version at size) told s') told s'
+    -- it isn't numbered
+    append_first : (bytes : List ℕ) (told : Reply) (s' : Session) (reply : FileReply) (f' : Files) (others : List Event) → others ≡ [] → (turn : Turn) → UnnumberedTurn s blob Append bytes others turn → told ≡ turn.said
+        → s' ≡ with_tickets turn.tickets (sees s (and_made others turn.made)) → file_reply told ≡ Some reply → f' ≡ with_store f s' → Stepped f' (λ m'. AppendSays m path b bytes reply m')
+    append_first bytes told s' reply f' others none _ (UnnumberedTurn.refused refusal e) said seen says is =
+        let stop = assign_stops bytes refusal (outcome others (Calls.Assign blob Append bytes) _ none e) in
+        unchanged f' (λ m'. AppendSays m path b bytes reply m') (still_files f' s' others is none seen)
+        (AppendSays.refused refusal stop (said_as told (Replies.Refused (fault_of refusal)) reply (store_fault (fault_of refusal)) said says refl, refl))
+    append_first bytes told s' reply f' others none _ UnnumberedTurn.out_of_memory said seen says is =
+        unchanged f' (λ m'. AppendSays m path b bytes reply m') (still_files f' s' others is none seen)
+        (AppendSays.out_of_memory (said_as told (Replies.Refused Faults.NoMemory) reply (store_fault Faults.NoMemory) said says refl, refl))
+    append_first bytes told s' reply f' others none _ (UnnumberedTurn.not_stored page is_page stored) said seen says is =
+        unchanged f' (λ m'. AppendSays m path b bytes reply m') (still_files f' s' others is none seen)
+        (AppendSays.not_stored page is_page (said_as told (Replies.Refused (Faults.PageFault page)) reply (store_fault (Faults.PageFault page)) said says refl, refl))
+
+    -- it is numbered, and then comes another turn
+    module _ (bytes : List ℕ) (version at size : ℕ) (others later : List Event) (none : others ≡ []) (none_later : later ≡ []) (g : Goes bytes version at size) where
+      append_then : (told : Reply) (s' : Session) (reply : FileReply) (f' : Files) (turn : Turn) → WholeTurn s blob Append version at size (others ++ number_event bytes ∷ later) later turn → told ≡ turn.said
+          → s' ≡ with_tickets turn.tickets (sees s (others ++ number_event bytes ∷ and_made later turn.made)) → file_reply told ≡ Some reply → f' ≡ with_store f s' → Stepped f' (λ m'. AppendSays m path b bytes reply m')
+      append_then told s' reply f' _ (WholeTurn.finished open_ ready) said seen says is =
+          let next : s' ≡ sees s (number_event bytes ∷ finish_event version ∷ []) = seen ∙ ap (λ (l : List Event). sees s l) (seen_finished bytes version others later none none_later) in
+          put_step (finish (and_update b (u bytes)) v) (s.seen ++ number_event bytes ∷ finish_event version ∷ []) s.tickets s.next holds' f' (λ m'. AppendSays m path b bytes reply m')
+          (is ∙ ap (λ (x : Session). with_store f x) next) (finished_changes bytes version at size g)
+          (held_kept things (put_in things path (finish (and_update b (u bytes)) v)) (puts_keep things path (finish (and_update b (u bytes)) v)) s.tickets holds' st.tickets)
+          (AppendSays.done g.free (said_as told (Replies.Appended version at size) reply (Says.Appended version at size) said says refl ∙ appended_reply bytes version at size g) refl)
+      append_then told s' reply f' _ (WholeTurn.found finished) said seen says is =
+          absurd (false≢true (sym (ap (λ (l : List Event). finishes blob version l) none_later) ∙ finished))
+      append_then told s' reply f' _ (WholeTurn.held_back open_ folds) said seen says is =
+          held_step bytes version at size others later s' f' (λ m'. AppendSays m path b bytes reply m') g none none_later seen is
+          (AppendSays.held_back g.free (λ no. folds (folds_here bytes version at size others later g none none_later ∙ no))
+          (said_as told (Replies.AppendStarted s.next version at size) reply (Says.Started s.next version at size) said says refl ∙ started_reply bytes s.next version at size g) refl)
+      append_then told s' reply f' _ WholeTurn.out_of_memory said seen says is =
+          held_step bytes version at size others later s' f' (λ m'. AppendSays m path b bytes reply m') g none none_later seen is
+          (AppendSays.kept g.free (said_as told (Replies.Refused (Faults.NoMemoryTicket s.next)) reply (store_fault (Faults.NoMemoryTicket s.next)) said says refl) refl)
+
+    append_does : (bytes : List ℕ) (told : Reply) (s' : Session) (reply : FileReply) (f' : Files) → WholeAnswer IsNobody s blob Append bytes told s'
         → file_reply told ≡ Some reply → f' ≡ with_store f s' → Stepped f' (λ m'. AppendSays m path b bytes reply m')
-    append_does bytes told s' reply f' (UpdateAnswer.does (WholeUpdate.updated c)) says is =
-        let g = assign_goes bytes c.version c.at c.size (outcome c.others (Calls.Assign blob Append bytes) _ c.is_gap c.numbered) in
-        let next : s' ≡ sees s (number_event bytes ∷ finish_event c.version ∷ []) = c.seen ∙ ap (λ (l : List Event). sees s l) (seen_finished bytes c.version c.others c.later c.is_gap c.is_gap_later) in
-        let said : told ≡ Replies.Appended c.version c.at c.size =
-        c.said ∙ ap (λ (l : List Event). if finishes blob c.version l then Replies.Refused (Faults.Already c.version) else Replies.Appended c.version c.at c.size) c.is_gap_later in
-        put_step (finish (and_update b (u bytes)) v) (s.seen ++ number_event bytes ∷ finish_event c.version ∷ []) s.tickets s.next holds' f' (λ m'. AppendSays m path b bytes reply m')
-        (is ∙ ap (λ (x : Session). with_store f x) next) (finished_changes bytes c.version c.at c.size g)
-        (held_kept things (put_in things path (finish (and_update b (u bytes)) v)) (puts_keep things path (finish (and_update b (u bytes)) v)) s.tickets holds' st.tickets)
-        (AppendSays.done g.free (said_as told (Replies.Appended c.version c.at c.size) reply (Says.Appended c.version c.at c.size) said says refl ∙ appended_reply bytes c.version c.at c.size g) refl)
-    append_does bytes told s' reply f' (UpdateAnswer.does (WholeUpdate.held_back c)) says is =
-        let g = assign_goes bytes c.version c.at c.size (outcome c.others (Calls.Assign blob Append bytes) _ c.is_gap c.numbered) in
-        held_step bytes c.version c.at c.size c.others c.later s' f' (λ m'. AppendSays m path b bytes reply m') g c.is_gap c.is_gap_later c.seen is
-        (AppendSays.held_back g.free (λ none. c.folds (folds_here bytes c.version c.at c.size c.others c.later g c.is_gap c.is_gap_later ∙ none))
-        (said_as told (Replies.AppendStarted s.next c.version c.at c.size) reply (Says.Started s.next c.version c.at c.size) c.said says refl ∙ started_reply bytes s.next c.version c.at c.size g) refl)
-    append_does bytes told s' reply f' (UpdateAnswer.refused c) says is =
-        let stop = assign_stops bytes c.refusal (outcome c.others (Calls.Assign blob Append bytes) _ c.is_gap c.refused) in
-        unchanged f' (λ m'. AppendSays m path b bytes reply m') (still_files f' s' c.others is c.is_gap c.seen)
-        (AppendSays.refused c.refusal stop (said_as told (Replies.Refused (fault_of c.refusal)) reply (store_fault (fault_of c.refusal)) c.said says refl, refl))
-    append_does bytes told s' reply f' (UpdateAnswer.out_of_memory c) says is =
-        unchanged f' (λ m'. AppendSays m path b bytes reply m') (still_files f' s' c.others is c.is_gap c.seen)
-        (AppendSays.out_of_memory (said_as told (Replies.Refused Faults.NoMemory) reply (store_fault Faults.NoMemory) c.said says refl, refl))
-    append_does bytes told s' reply f' (UpdateAnswer.kept c) says is =
-        let g = assign_goes bytes c.version c.at c.size (outcome c.others (Calls.Assign blob Append bytes) _ c.is_gap c.numbered) in
-        held_step bytes c.version c.at c.size c.others c.later s' f' (λ m'. AppendSays m path b bytes reply m') g c.is_gap c.is_gap_later c.seen is
-        (AppendSays.kept g.free (said_as told (Replies.Refused (Faults.NoMemoryTicket s.next)) reply (store_fault (Faults.NoMemoryTicket s.next)) c.said says refl) refl)
-    append_does bytes told s' reply f' (UpdateAnswer.not_stored c) says is =
-        unchanged f' (λ m'. AppendSays m path b bytes reply m') (still_files f' s' c.others is c.is_gap c.seen)
-        (AppendSays.not_stored c.page c.is_page (said_as told (Replies.Refused (Faults.PageFault c.page)) reply (store_fault (Faults.PageFault c.page)) c.said says refl, refl))
+    append_does bytes told s' reply f' (UpdateAnswer.once a) says is = append_first bytes told s' reply f' a.others a.is_gap a.turn a.may a.said a.seen says is
+    append_does bytes told s' reply f' (UpdateAnswer.twice a) says is =
+        append_then bytes a.version a.at a.size a.others a.later a.is_gap a.is_gap_later (assign_goes bytes a.version a.at a.size (outcome a.others (Calls.Assign blob Append bytes) _ a.is_gap a.numbered))
+        told s' reply f' a.turn a.may a.said a.seen says is
 
     append_unless : (o : Option Fault) (bytes : List ℕ) (told : Reply) (s' : Session) (reply : FileReply) (f' : Files)
-        → Unless o s told s'
-        (UpdateAnswer IsNobody s blob Append bytes
-        (WholeUpdate IsNobody s blob Append bytes (λ version at size. Replies.Appended version at size) (λ ticket version at size. Replies.AppendStarted ticket version at size) told s') told s')
+        → Unless o s told s' (WholeAnswer IsNobody s blob Append bytes told s')
         → file_reply told ≡ Some reply → f' ≡ with_store f s' → Stepped f' (λ m'. UnlessFault o m reply m' (AppendSays m path b bytes reply m'))
     append_unless None bytes told s' reply f' h says is = append_does bytes told s' reply f' h says is
     append_unless (Some fault) bytes told s' reply f' h says is =
@@ -414,10 +422,6 @@ module _ (f : Files) (things : Things) (holds' : List HeldAppend) (st : Stands f
     unmarked true r e = absurd (none-some r (sym e))
     unmarked false r e = refl
 
-    marked : (c : Bool) (r q : Refusal) → (if c then Some r else None) ≡ Some q → c ≡ true
-    marked true r q e = refl
-    marked false r q e = absurd (none-some q e)
-
     published_is : (n k : ℕ) → Outcomes.Published n ≡ Outcomes.Published k → k ≡ n
     published_is n k e = cc
 
@@ -425,10 +429,6 @@ module _ (f : Files) (things : Things) (holds' : List HeldAppend) (st : Stands f
     finish_goes version x h ok =
         let g = goes now (first_refusal (already b version ∷ [])) (with_blob now blob (finish b version), Outcomes.Published (published (finish b version))) x (ap (λ (a : Answered). a.1) (sym (finish_is version)) ∙ h) ok in
         (unmarked (is_finished b version) (Refusals.Already version) g.0, g.1)
-
-    finish_stops : (version : ℕ) (r : Refusal) → (answer now s.caller (Calls.Finish blob version)).1 ≡ Outcomes.Refused r → is_finished b version ≡ true
-    finish_stops version r h =
-        marked (is_finished b version) (Refusals.Already version) r (stops now (first_refusal (already b version ∷ [])) (with_blob now blob (finish b version), Outcomes.Published (published (finish b version))) r (ap (λ (a : Answered). a.1) (sym (finish_is version)) ∙ h) refl)
 
     folds_there : (version : ℕ) (others : List Event) → others ≡ [] → folds_in s.fixed.page (store_at s others) blob version ≡ folds_at m b version
     folds_there version others none =
@@ -447,6 +447,16 @@ module _ (f : Files) (things : Things) (holds' : List HeldAppend) (st : Stands f
     ready_is : (c d : Bool) (r q : Refusal) → (if c then Some r else (if d then Some q else None)) ≡ None → d ≡ false
     ready_is true d r q e = absurd (none-some r (sym e))
     ready_is false d r q e = unmarked d q e
+
+    already_is : (c d : Bool) (n p k : ℕ) → (if c then Some (Refusals.NotPublished n p) else (if d then Some (Refusals.Already n) else None)) ≡ Some (Refusals.Already k) → d ≡ true
+    already_is true d n p k e = absurd (let ok : ⊥ = cc in ok)
+    already_is false true n p k e = refl
+    already_is false false n p k e = absurd (none-some (Refusals.Already k) e)
+
+    -- why nobody may finish it
+    repair_is : (version : ℕ) → repair_refusal now blob version ≡ first_refusal (not_numbered b version ∷ already b version ∷ [])
+    repair_is version =
+        ap (λ (o : Option Blob). let r : Option Refusal = elim o [ None ↦ Some (Refusals.NoBlob blob) | Some x ↦ first_refusal (not_numbered x version ∷ already x version ∷ []) ] in r) there
 
     waits_then : (version k : ℕ) → (answer now s.caller (Calls.Sync blob version)).1 ≡ Outcomes.Refused (Refusals.Pending version k) → (published b < version) × (k ≡ held b)
     waits_then version k h =
@@ -471,63 +481,64 @@ module _ (f : Files) (things : Things) (holds' : List HeldAppend) (st : Stands f
       sync_on : (others : List Event) (version : ℕ) (x : Outcome) → others ≡ [] → outcome_at s others (Calls.Sync t.blob version) ≡ x → (answer now s.caller (Calls.Sync blob version)).1 ≡ x
       sync_on others version x none h = ap (λ (n : ℕ). (answer now s.caller (Calls.Sync n version)).1) (sym same) ∙ outcome others (Calls.Sync t.blob version) x none h
 
-      unfinished : (others : List Event) → others ≡ [] → is_refused (outcome_at s others (Calls.Finish t.blob t.version)) ≡ false → is_finished b t.version ≡ false
-      unfinished others none h = (finish_goes t.version _ (on_blob others _ none refl) h).0
+      repair_on : (others : List Event) (o : Option Refusal) → others ≡ [] → repair_refusal (store_at s others) t.blob t.version ≡ o → repair_refusal now blob t.version ≡ o
+      repair_on others o none h =
+          ap (λ (n : ℕ). repair_refusal now n t.version) (sym same) ∙ ap (λ (l : List Event). repair_refusal (store_of s.fixed.limits l) t.blob t.version) (sym (same_seen others none)) ∙ h
 
-      hindered_step : (told : Reply) (s' : Session) (reply : FileReply) (f' : Files) → FinishHindered IsNobody s t.blob t.version told s' → file_reply told ≡ Some reply → f' ≡ with_store f s'
-          → Stepped f' (λ m'. FinishSays m h0 b reply m')
-      hindered_step told s' reply f' (FinishHindered.out_of_memory c) says is =
-          unchanged f' (λ m'. FinishSays m h0 b reply m') (still_files f' s' c.others is c.is_gap c.seen)
-          (FinishSays.out_of_memory (said_as told (Replies.Refused Faults.NoMemory) reply (store_fault Faults.NoMemory) c.said says refl, refl))
-      hindered_step told s' reply f' (FinishHindered.waits c) says is =
-          let w = waits_then (t.version - 1) c.held (sync_on c.others (t.version - 1) _ c.is_gap c.waits) in
-          let folds = ap (λ (n : ℕ). folds_in s.fixed.page (store_at s c.others) n t.version) same ∙ folds_there t.version c.others c.is_gap in
-          unchanged f' (λ m'. FinishSays m h0 b reply m') (still_files f' s' c.others is c.is_gap c.seen)
-          (FinishSays.waits (unfinished c.others c.is_gap c.unfinished) (λ none. c.folds (folds ∙ none)) w.0 (
-            said_as told (Replies.Refused (Faults.Pending (t.version - 1) c.held)) reply (store_fault (Faults.Pending (t.version - 1) c.held)) c.said says refl
-                ∙ ap (λ (n : ℕ). store_fault (Faults.Pending (t.version - 1) n)) w.1,
-            refl,
-          ))
-      hindered_step told s' reply f' (FinishHindered.not_folded c) says is =
-          let folds = ap (λ (n : ℕ). folds_in s.fixed.page (store_at s c.others) n t.version) same ∙ folds_there t.version c.others c.is_gap in
-          unchanged f' (λ m'. FinishSays m h0 b reply m') (still_files f' s' c.others is c.is_gap c.seen)
-          (FinishSays.not_folded (unfinished c.others c.is_gap c.unfinished) c.page (subst (λ (l : List ℕ). Contains l c.page) folds c.folds) (ready_then (t.version - 1) (sync_on c.others (t.version - 1) _ c.is_gap c.ready))
-          (said_as told (Replies.Refused (Faults.PageFault c.page)) reply (store_fault (Faults.PageFault c.page)) c.said says refl, refl))
+      unfinished : (others : List Event) → others ≡ [] → repair_refusal (store_at s others) t.blob t.version ≡ None → is_finished b t.version ≡ false
+      unfinished others none h = ready_is (nat_lt (assigned b) t.version) (is_finished b t.version) _ _ (sym (repair_is t.version) ∙ repair_on others None none h)
+
+      folds_on : (others : List Event) → others ≡ [] → folds_in s.fixed.page (store_at s others) t.blob t.version ≡ folds_at m b t.version
+      folds_on others none = ap (λ (n : ℕ). folds_in s.fixed.page (store_at s others) n t.version) same ∙ folds_there t.version others none
 
       -- the ticket is given up
       dropped_held : (new : Things) → Keeps things new → AreHeld new (without_ticket s.tickets t.number) (without_held holds' t.number)
       dropped_held new keeps = held_without new s.tickets holds' t.number (held_kept things new keeps s.tickets holds' st.tickets)
 
-      report_step : (told : Reply) (s' : Session) (reply : FileReply) (f' : Files) → ReportAnswer IsNobody s t told s' → file_reply told ≡ Some reply → f' ≡ with_store f s'
-          → Stepped f' (λ m'. FinishSays m h0 b reply m')
-      report_step told s' reply f' (ReportAnswer.reported c) says is =
+      report_turn : (told : Reply) (s' : Session) (reply : FileReply) (f' : Files) (others : List Event) → others ≡ [] → (turn : Turn)
+          → FinishTurn s t.blob t.version (λ published. Replies.Finished published) (Tickets.drop t.number) Tickets.stay others turn → told ≡ turn.said
+          → s' ≡ with_tickets turn.tickets (sees s (and_made others turn.made)) → file_reply told ≡ Some reply → f' ≡ with_store f s' → Stepped f' (λ m'. FinishSays m h0 b reply m')
+      report_turn told s' reply f' others none _ (FinishTurn.finished published open_ ready e) said saw says is =
           let w = t.version in
-          let done = finish_goes w (Outcomes.Published c.published) (on_blob c.others _ c.is_gap c.done) refl in
+          let done = finish_goes w (Outcomes.Published published) (on_blob others _ none e) refl in
           let b' = finish b w in
           let seen : List Event = s.seen ++ finish_event w ∷ [] in
           let next : s' ≡ seeing s seen (without_ticket s.tickets t.number) s.next =
-          c.seen
-          ∙ ap (λ (l : List Event). drops (sees s (l ++ Events.Finish s.caller t.blob w ∷ [])) t.number) c.is_gap
+          saw
+          ∙ ap (λ (l : List Event). drops (sees s (l ++ Events.Finish s.caller t.blob w ∷ [])) t.number) none
           ∙ ap (λ (n : ℕ). drops (sees s (Events.Finish s.caller n w ∷ [])) t.number) same in
           let changes : Changes now blob b' (store_of s.fixed.limits seen) =
           subst (λ (x : Store). Changes now blob b' x) (sym (after (finish_event w ∷ []))) (finish_changes now s.caller blob w b there some) in
           put_step b' seen (without_ticket s.tickets t.number) s.next (without_held holds' t.number) f' (λ m'. FinishSays m h0 b reply m') (is ∙ ap (λ (x : Session). with_store f x) next) changes
           (dropped_held (put_in things path b') (puts_keep things path b'))
           (FinishSays.done done.0
-          (said_as told (Replies.Finished c.published) reply (Says.Finished c.published) c.said says refl ∙ ap (λ (n : ℕ). Says.Finished n) (published_is _ _ done.1)) refl)
-      report_step told s' reply f' (ReportAnswer.finished c) says is =
-          let next : s' ≡ seeing s s.seen (without_ticket s.tickets t.number) s.next = c.seen ∙ ap (λ (l : List Event). seeing s l (without_ticket s.tickets t.number) s.next) (same_seen c.others c.is_gap) in
-          let g : Files = with_store f (seeing s s.seen (without_ticket s.tickets t.number) s.next) in
-          let found_it = finish_stops t.version (Refusals.Already t.version) (on_blob c.others _ c.is_gap c.refused) in
-          let stands : Stands g things (without_held holds' t.number) =
+          (said_as told (Replies.Finished published) reply (Says.Finished published) said says refl ∙ ap (λ (n : ℕ). Says.Finished n) (published_is _ _ done.1)) refl)
+      report_turn told s' reply f' others none _ (FinishTurn.found e) said saw says is =
+          let next : s' ≡ seeing s s.seen (without_ticket s.tickets t.number) s.next = saw ∙ ap (λ (l : List Event). seeing s l (without_ticket s.tickets t.number) s.next) (same_seen others none) in
+          let found_it = already_is (nat_lt (assigned b) t.version) (is_finished b t.version) t.version (published b) t.version (sym (repair_is t.version) ∙ repair_on others _ none e) in
+          let stands : Stands (with_store f (seeing s s.seen (without_ticket s.tickets t.number) s.next)) things (without_held holds' t.number) =
           record { limit = st.limit; names = st.names; once = st.once; files = st.files; tickets = held_without things s.tickets holds' t.number st.tickets } in
           subst (λ (x : Files). Stepped x (λ m'. FinishSays m h0 b reply m')) (sym (is ∙ ap (λ (x : Session). with_store f x) next)) (record {
             things = things;
             held = without_held holds' t.number;
             stands = stands;
-            says = FinishSays.found_finished found_it (said_as told (Replies.Refused (Faults.Already t.version)) reply (store_fault (Faults.Already t.version)) c.said says refl) refl;
+            says = FinishSays.found_finished found_it (said_as told (Replies.Refused (Faults.Already t.version)) reply (store_fault (Faults.Already t.version)) said says refl) refl;
           })
-      report_step told s' reply f' (ReportAnswer.hindered h) says is = hindered_step told s' reply f' h says is
+      report_turn told s' reply f' others none _ (FinishTurn.waits held' open_ folds e) said saw says is =
+          let w = waits_then (t.version - 1) held' (sync_on others (t.version - 1) _ none e) in
+          unchanged f' (λ m'. FinishSays m h0 b reply m') (still_files f' s' others is none saw)
+          (FinishSays.waits (unfinished others none open_) (λ no. folds (folds_on others none ∙ no)) w.0 (
+            said_as told (Replies.Refused (Faults.Pending (t.version - 1) held')) reply (store_fault (Faults.Pending (t.version - 1) held')) said says refl
+                ∙ ap (λ (n : ℕ). store_fault (Faults.Pending (t.version - 1) n)) w.1,
+            refl,
+          ))
+      report_turn told s' reply f' others none _ (FinishTurn.not_folded page open_ fold ready) said saw says is =
+          unchanged f' (λ m'. FinishSays m h0 b reply m') (still_files f' s' others is none saw)
+          (FinishSays.not_folded (unfinished others none open_) page (subst (λ (l : List ℕ). Contains l page) (folds_on others none) fold) (ready_then (t.version - 1) (sync_on others (t.version - 1) _ none ready))
+          (said_as told (Replies.Refused (Faults.PageFault page)) reply (store_fault (Faults.PageFault page)) said says refl, refl))
+      report_turn told s' reply f' others none _ FinishTurn.out_of_memory said saw says is =
+          unchanged f' (λ m'. FinishSays m h0 b reply m') (still_files f' s' others is none saw)
+          (FinishSays.out_of_memory (said_as told (Replies.Refused Faults.NoMemory) reply (store_fault Faults.NoMemory) said says refl, refl))
 
   -- ---- a finish of a ticket
 
@@ -545,7 +556,7 @@ module _ (f : Files) (things : Things) (holds' : List HeldAppend) (st : Stands f
       unchanged f' (λ m'. SaysFault m (Faults.NoTicket number) reply m') (next ∙ ap (λ (x : Session). with_store f x) h.1)
       (same_Some reply (store_fault (Faults.NoTicket number)) (sym says ∙ ap file_reply h.0), refl)
   ticket_step number (Some t) (Some h) is told s' reply f' answer says next =
-      let step = report_step h.path t.blob is.content is.there t refl is.some told s' reply f' answer says next in
+      let step = report_turn h.path t.blob is.content is.there t refl is.some told s' reply f' answer.others answer.is_gap answer.turn answer.may answer.said answer.seen says next in
       subst (λ (x : HeldAppend). Stepped f' (λ m'. HeldSays m x (thing_at things x.path) reply m')) (append_is t h is)
       (also f' (λ m'. FinishSays m (record { ticket = t.number; path = h.path; version = t.version }) is.content reply m')
       (λ m'. HeldSays m (record { ticket = t.number; path = h.path; version = t.version }) (thing_at things h.path) reply m') (λ m' said. held_says (record { ticket = t.number; path = h.path; version = t.version }) (thing_at things h.path) t.blob is.content reply m' is.there said) step)
@@ -726,28 +737,34 @@ module _ (f : Files) (things : Things) (holds' : List HeldAppend) (st : Stands f
   created_is : (blob other : ℕ) → Replies.Created blob ≡ Replies.Created other → other ≡ blob
   created_is blob other e = cc
 
-  no_file : (path : List ℕ) (fault : Fault) (reply : FileReply) (s' : Session) (f' : Files) → CreateAnswer IsNobody s (Replies.Refused fault) s' → f' ≡ with_store f s' → reply ≡ store_fault fault → Stepped f' (λ m'. FileSays m path reply m')
-  no_file path fault reply s' f' (CreateAnswer.created c) is says = absurd (no_creation fault c.blob c.said)
-  no_file path fault reply s' f' (CreateAnswer.refused c) is says =
-      let stop = create_stops c.refusal (outcome c.others Calls.Create _ c.is_gap c.refused) in
-      unchanged f' (λ m'. FileSays m path reply m') (still_files f' s' c.others is c.is_gap c.seen)
-      (FileSays.refused stop.0 (fault_reply fault reply (fault_of c.refusal) says c.said ∙ ap (λ (r : Refusal). store_fault (fault_of r)) stop.1, refl))
-  no_file path fault reply s' f' (CreateAnswer.out_of_memory c) is says =
-      unchanged f' (λ m'. FileSays m path reply m') (still_files f' s' c.others is c.is_gap c.seen) (FileSays.out_of_memory (fault_reply fault reply Faults.NoMemory says c.said, refl))
+  no_file : (path : List ℕ) (fault : Fault) (reply : FileReply) (s' : Session) (f' : Files) (others : List Event) → others ≡ [] → (turn : Turn) → AddTurn s Calls.Create others turn → Replies.Refused fault ≡ turn.said
+      → s' ≡ with_tickets turn.tickets (sees s (and_made others turn.made)) → f' ≡ with_store f s' → reply ≡ store_fault fault → Stepped f' (λ m'. FileSays m path reply m')
+  no_file path fault reply s' f' others none _ (AddTurn.added blob e) said seen is says = absurd (no_creation fault blob said)
+  no_file path fault reply s' f' others none _ (AddTurn.refused refusal e) said seen is says =
+      let stop = create_stops refusal (outcome others Calls.Create _ none e) in
+      unchanged f' (λ m'. FileSays m path reply m') (still_files f' s' others is none seen)
+      (FileSays.refused stop.0 (fault_reply fault reply (fault_of refusal) says said ∙ ap (λ (r : Refusal). store_fault (fault_of r)) stop.1, refl))
+  no_file path fault reply s' f' others none _ AddTurn.out_of_memory said seen is says =
+      unchanged f' (λ m'. FileSays m path reply m') (still_files f' s' others is none seen) (FileSays.out_of_memory (fault_reply fault reply Faults.NoMemory says said, refl))
 
-  new_blob : (path : List ℕ) → new_fault m path ≡ None → (mid : Files) (blob : ℕ) (said : Result (Unit {0}) EnterFault) (s' : Session) (reply : FileReply) (f' : Files) → CreateAnswer IsNobody s (Replies.Created blob) s'
+  new_blob : (path : List ℕ) → new_fault m path ≡ None → (mid : Files) (blob : ℕ) (said : Result (Unit {0}) EnterFault) (s' : Session) (reply : FileReply) (f' : Files) (others : List Event) → others ≡ [] → (turn : Turn)
+      → AddTurn s Calls.Create others turn → Replies.Created blob ≡ turn.said → s' ≡ with_tickets turn.tickets (sees s (and_made others turn.made))
       → mid ≡ with_store f s' → EntersNames nobody mid path (Nameds.File blob) said f' → reply ≡ entered_reply (Says.File path blob) path said → Stepped f' (λ m'. FileSays m path reply m')
-  new_blob path free mid blob said s' reply f' (CreateAnswer.created c) is enters says =
-      let next : mid ≡ grown = is ∙ ap (λ (x : Session). with_store f x) (c.seen ∙ ap (λ (l : List Event). sees s (l ++ Events.Create s.caller ∷ [])) c.is_gap) in
+  new_blob path free mid blob said s' reply f' others none _ (AddTurn.added added e) told seen is enters says =
+      let next : mid ≡ grown = is ∙ ap (λ (x : Session). with_store f x) (seen ∙ ap (λ (l : List Event). sees s (l ++ Events.Create s.caller ∷ [])) none) in
       let here : EntersNames nobody grown path (Nameds.File blob) said f' = subst (λ (g : Files). EntersNames nobody g path (Nameds.File blob) said f') next enters in
-      let made : Made blob = subst Made (created_is blob c.blob c.said) (created c.blob (outcome c.others Calls.Create _ c.is_gap c.done)) in
+      let made : Made blob = subst Made (created_is blob added told) (created added (outcome others Calls.Create _ none e)) in
       make_enters blob made path free said here.others here.after reply f' here.is_gap here.enters here.is says
-  new_blob path free mid blob said s' reply f' (CreateAnswer.refused c) is enters says = absurd (no_creation (fault_of c.refusal) blob (sym c.said))
-  new_blob path free mid blob said s' reply f' (CreateAnswer.out_of_memory c) is enters says = absurd (no_creation Faults.NoMemory blob (sym c.said))
+  new_blob path free mid blob said s' reply f' others none _ (AddTurn.refused refusal e) told seen is enters says = absurd (no_creation (fault_of refusal) blob (sym told))
+  new_blob path free mid blob said s' reply f' others none _ AddTurn.out_of_memory told seen is enters says = absurd (no_creation Faults.NoMemory blob (sym told))
 
   make_free : (path : List ℕ) → new_fault m path ≡ None → (reply : FileReply) (f' : Files) → MakesFile nobody f path reply f' → Stepped f' (λ m'. FileSays m path reply m')
-  make_free path free reply f' (MakesFile.not_created fault asks says) = no_file path fault reply asks.after f' asks.answers asks.is says
-  make_free path free reply f' (MakesFile.created mid blob said asks enters says) = new_blob path free mid blob said asks.after reply f' asks.answers asks.is enters says
+  make_free path free reply f' (MakesFile.not_created fault asks says) =
+      let a = asks.answers in
+      no_file path fault reply asks.after f' a.others a.is_gap a.turn a.may a.said a.seen asks.is says
+  make_free path free reply f' (MakesFile.created mid blob said asks enters says) =
+      let a = asks.answers in
+      new_blob path free mid blob said asks.after reply f' a.others a.is_gap a.turn a.may a.said a.seen asks.is enters says
 
   make_at : (path : List ℕ) (o : Option EnterFault) → new_fault m path ≡ o → (reply : FileReply) (f' : Files) → OnFree nobody path f o reply f' → Stepped f' (λ m'. MakeSays m path o reply m')
   make_at path None e reply f' h = make_free path e reply f' h

@@ -20,7 +20,7 @@ files_of s = record { store = session_of s.session; providers = length s.session
 -- The store, the names and the callers stay, and what was seen only grows.
 pub record GoesOn {D : Type 0} (old new : FileState D) : Type 0 where
   pub session : Continues old.session new.session
-  pub names : new.names ≡ record old.names { seen = new.names.seen }
+  pub names : new.names ≡ record old.names { seen = new.names.seen; turns = new.names.turns }
 
 -- the reply that a line got: where no memory was found for the names, or for what is said of them, that is one too
 abbrev pub said_of : Result FileReply NoMemory → FileReply

@@ -130,7 +130,7 @@ impl<'a, D: Door, G: Gate> FileSession<'a, D, G> {
         ensures looks { LooksAtNames among_others (files_of self.old) (files_of self.new) }
         ensures found { result ≡ blob_at self.new.names.seen path.now }
         ensures session { self.new.session ≡ self.old.session }
-        ensures names { self.new.names ≡ record self.old.names { seen = self.new.names.seen } }
+        ensures names { self.new.names ≡ record self.old.names { seen = self.new.names.seen; turns = self.new.names.turns } }
     {
         let names = self.names;
         names.with_turn(rt, &mut self.pass, Find { path })
@@ -141,7 +141,7 @@ impl<'a, D: Door, G: Gate> FileSession<'a, D, G> {
         ensures looks { LooksAtNames among_others (files_of self.old) (files_of self.new) }
         ensures found { result ≡ stat_at self.new.names.seen path.now }
         ensures session { self.new.session ≡ self.old.session }
-        ensures names { self.new.names ≡ record self.old.names { seen = self.new.names.seen } }
+        ensures names { self.new.names ≡ record self.old.names { seen = self.new.names.seen; turns = self.new.names.turns } }
     {
         let names = self.names;
         names.with_turn(rt, &mut self.pass, Look { path })
@@ -152,7 +152,7 @@ impl<'a, D: Door, G: Gate> FileSession<'a, D, G> {
         ensures looks { LooksAtNames among_others (files_of self.old) (files_of self.new) }
         ensures lists { Lists self.new.names.seen path.now result }
         ensures session { self.new.session ≡ self.old.session }
-        ensures names { self.new.names ≡ record self.old.names { seen = self.new.names.seen } }
+        ensures names { self.new.names ≡ record self.old.names { seen = self.new.names.seen; turns = self.new.names.turns } }
     {
         let names = self.names;
         names.with_turn(rt, &mut self.pass, List { path })
@@ -163,7 +163,7 @@ impl<'a, D: Door, G: Gate> FileSession<'a, D, G> {
         ensures looks { LooksAtNames among_others (files_of self.old) (files_of self.new) }
         ensures foresees { result ≡ enter_fault self.new.names.seen path.now }
         ensures session { self.new.session ≡ self.old.session }
-        ensures names { self.new.names ≡ record self.old.names { seen = self.new.names.seen } }
+        ensures names { self.new.names ≡ record self.old.names { seen = self.new.names.seen; turns = self.new.names.turns } }
     {
         let names = self.names;
         names.with_turn(rt, &mut self.pass, Foresee { path })
@@ -173,7 +173,7 @@ impl<'a, D: Door, G: Gate> FileSession<'a, D, G> {
     fn enter<R: Wait>(&mut self, rt: &R, path: &Path, named: Named) -> Result<(), EnterFault>
         ensures enters { EntersNames among_others (files_of self.old) path.now named result (files_of self.new) }
         ensures session { self.new.session ≡ self.old.session }
-        ensures names { self.new.names ≡ record self.old.names { seen = self.new.names.seen } }
+        ensures names { self.new.names ≡ record self.old.names { seen = self.new.names.seen; turns = self.new.names.turns } }
     {
         let names = self.names;
         names.with_turn(rt, &mut self.pass, Enter { path, named })

@@ -1,5 +1,5 @@
 -- A read of an older version by a refresh.
-use Rattle.std.proofs.Common.{◌≡◌, ℕ, zero, suc, ◌+◌, ◌^◌, ◌≤◌, List, [], length, take, Result, Ok, Err, refl, ap, sym, ◌∙◌, subst, arith, length-take-le, append-nil}
+use Rattle.std.proofs.Common.{◌≡◌, ℕ, zero, suc, ◌+◌, ◌^◌, ◌≤◌, ◌<◌, List, [], length, take, Result, Ok, Err, refl, ap, sym, ◌∙◌, subst, arith, length-take-le, append-nil}
 use Rattle.std.proofs.lemmas.List.Elements.{All-take}
 use Rattle.blob_model.specs.Content.{Update}
 use Rattle.tree_geom.specs.Geometry.{IsPageSize}
@@ -16,7 +16,7 @@ use Rattle.client_session.specs.Opening.{IsOfStore, ReadsRange}
 use Rattle.client_session.specs.Results.{read_reply}
 use Rattle.client_session.specs.Sessions.{SessionState, StoreState, session_of, Continues, visits_seen, NoStepIfRefused, AnswersAsPublished}
 use Rattle.blob_model.specs.History.{AllOther}
-use Rattle.request_form.specs.Answers.{Answers}
+use Rattle.request_form.specs.Answers.{Answers, max_read}
 use Rattle.request_form.specs.declared.form.Request.TheVariants as Requests
 use Rattle.read_board.specs.declared.refresh.Refresh.{Refresh}
 use Rattle.read_board.specs.Refreshes.{updates_of, version_of}
@@ -85,9 +85,10 @@ pub turn_read : {D : Type 0} (s s' : SessionState D) (blob version offset count 
     → Answers AllOther (session_of s) (Requests.Read blob version offset count) (read_reply said) (session_of s')
     → AnswersAsPublished (session_of s') (record { blob = blob; version = version; offset = offset; count = count }) (read_reply said)
     → after ≤ before + visits_seen (session_of s') blob version offset count → NoStepIfRefused (session_of s') blob version offset count before after
+    → (count ≤ max_read → s'.turns ≡ s.turns + 1) → (max_read < count → s'.turns ≡ s.turns)
     → ByTurn s blob version offset count (said_by Ways.Turn said) s' before after
-turn_read s s' blob version offset count (Ok bytes) before after answers stays steps no_step = record { way = refl; answers = answers; stays = stays; steps = steps; no_step = no_step }
-turn_read s s' blob version offset count (Err fault) before after answers stays steps no_step = record { way = tt; answers = answers; stays = stays; steps = steps; no_step = no_step }
+turn_read s s' blob version offset count (Ok bytes) before after answers stays steps no_step turn none = record { way = refl; answers = answers; stays = stays; steps = steps; no_step = no_step; one_turn = turn; no_turn = none }
+turn_read s s' blob version offset count (Err fault) before after answers stays steps no_step turn none = record { way = tt; answers = answers; stays = stays; steps = steps; no_step = no_step; one_turn = turn; no_turn = none }
 
 pub same_bytes : (way : Way) (said : Result (List ℕ) Fault) → bytes_said (said_by way said) ≡ said
 same_bytes way (Ok bytes) = refl

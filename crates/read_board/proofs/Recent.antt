@@ -90,7 +90,7 @@ holds_opened f log caller blob v snapshot done is =
 
 -- ---- the two turns of a refresh
 module _ {D : Type 0} (s s1 : SessionState D) (blob : ℕ) where
-  pub look : (said : Outcome) → LookAnswer AllOther (session_of s) (Calls.Recent blob) (reply_of said) (session_of s1) → s1 ≡ record s { log = s1.log } → HasLooked s s1
+  pub look : (said : Outcome) → LookAnswer AllOther (session_of s) (Calls.Recent blob) (reply_of said) (session_of s1) → s1 ≡ record s { log = s1.log; turns = s1.turns } → HasLooked s s1
   look said a rest = record { others = a.others; is_gap = a.is_gap; seen = a.seen; rest = rest }
 
   -- the store that the first turn saw
@@ -107,13 +107,13 @@ module _ {D : Type 0} (s s1 : SessionState D) (blob : ℕ) where
 
   module _ (v n : ℕ) (on : Continues s s1) (a : LookAnswer AllOther (session_of s) (Calls.Recent blob) (reply_of (Outcomes.Recent v n)) (session_of s1)) (s2 : SessionState D) (said : Result Version Fault)
       (o : Opening s1 blob v said s2) where
-    pub then_opened : s1 ≡ record s { log = s1.log } → HasLooked s s2
+    pub then_opened : s1 ≡ record s { log = s1.log; turns = s1.turns } → HasLooked s s2
     then_opened rest = record {
       others = a.others ++ events o.gap;
       is_gap = all_other s.caller a.others (events o.gap) a.is_gap (subst (λ (k : ℕ). AllOther k (events o.gap)) on.caller o.others);
       seen = ap (λ (x : SessionState D). session_of x) o.same
           ∙ (seen_gap s1.store.fixed s1.caller s1.log s2.log o.gap s1.held s1.next s1.limit o.log ∙ (ap (λ (x : Session). sees x (events o.gap)) a.seen ∙ sees_on (session_of s) a.others (events o.gap)));
-      rest = o.same ∙ ap (λ (x : SessionState D). record x { log = s2.log }) rest;
+      rest = o.same ∙ ap (λ (x : SessionState D). record x { log = s2.log; turns = s2.turns }) rest;
     }
 
     there : (b : Blob) × (blob_at (store_of s.store.fixed.limits (events s1.log)) blob ≡ Some b) × (v ≡ published b)

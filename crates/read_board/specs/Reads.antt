@@ -1,9 +1,9 @@
 -- What a standing reader's read gives, by the board or by a turn.
-use Rattle.std.specs.Prelude.{◌≡◌, ℕ, ◌+◌, ◌≤◌, Bool, true, false, List, Option, Some, None, Result, Ok, Err, IfOk}
+use Rattle.std.specs.Prelude.{◌≡◌, ℕ, ◌+◌, ◌<◌, ◌≤◌, Bool, true, false, List, Option, Some, None, Result, Ok, Err, IfOk}
 use Rattle.blob_model.specs.History.{AllOther}
 use Rattle.range_log.specs.Updates.{extents}
 use Rattle.range_log.specs.Visits.{visits}
-use Rattle.request_form.specs.Answers.{Answers}
+use Rattle.request_form.specs.Answers.{Answers, max_read}
 use Rattle.request_form.specs.declared.form.Request.TheVariants as Requests
 use Rattle.request_form.specs.declared.form.Fault.{Fault}
 use Rattle.client_session.specs.Results.{read_reply}
@@ -29,7 +29,7 @@ abbrev pub goes_by : Bool → List Refresh → ℕ → ℕ → Option Refresh
 goes_by true list blob version = covering (on_board blob list) version
 goes_by false list blob version = None
 
--- By the board: no turn was taken, so what the session has seen stays, and the bytes are those of the refresh's updates, or the range isn't read for its cause.
+-- By the board: no turn was taken, so what the session has seen stays and its count of turns too, and the bytes are those of the refresh's updates, or the range isn't read for its cause.
 pub record ByBoard {D : Type 0} (on : Refresh) (s : SessionState D) (version offset count : ℕ) (said : Result (List ℕ × Way) Fault) (s' : SessionState D) (before after : ℕ) : Type 0 where
   pub way : IfOk said (λ r. r.1 ≡ Ways.Board)
   pub session : s' ≡ record s { doors = s'.doors }
@@ -43,6 +43,8 @@ pub record ByTurn {D : Type 0} (s : SessionState D) (blob version offset count :
   pub stays : AnswersAsPublished (session_of s') (record { blob = blob; version = version; offset = offset; count = count }) (read_reply (bytes_said said))
   pub steps : after ≤ before + visits_seen (session_of s') blob version offset count
   pub no_step : NoStepIfRefused (session_of s') blob version offset count before after
+  pub one_turn : count ≤ max_read → s'.turns ≡ s.turns + 1
+  pub no_turn : max_read < count → s'.turns ≡ s.turns
 
 -- a read goes by that refresh, or by a turn where there is none
 abbrev pub Goes : {D : Type 0} → Option Refresh → SessionState D → ℕ → ℕ → ℕ → ℕ → Result (List ℕ × Way) Fault → SessionState D → ℕ → ℕ → Type 0

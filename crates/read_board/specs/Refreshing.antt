@@ -31,12 +31,12 @@ pub record Holds (f : DeskFixed) (log : List (ℕ × Event)) (r : Refresh) : Typ
 abbrev pub AllHold : DeskFixed → List (ℕ × Event) → List Refresh → Type 0
 AllHold f log rs = All (Holds f log) rs
 
--- a session has seen others' events and no event of its own, and all else of it stays, its doors too
+-- a session has seen others' events and no event of its own, and all else of it stays, its doors too, but for its count of turns
 pub record HasLooked {D : Type 0} (s s' : SessionState D) : Type 0 where
   pub others : List Event
   pub is_gap : AllOther s.caller others
   pub seen : session_of s' ≡ sees (session_of s) others
-  pub rest : s' ≡ record s { log = s'.log }
+  pub rest : s' ≡ record s { log = s'.log; turns = s'.turns }
 
 -- the version is the greatest published one of the blob in a history between what the session had seen and what it has seen
 pub record IsRecent {D : Type 0} (s s' : SessionState D) (blob version : ℕ) : Type 0 where

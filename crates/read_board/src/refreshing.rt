@@ -2,6 +2,7 @@
 ghost use Rattle.std.specs.Prelude.{◌≡◌, ◌↔◌, ◌∷◌, [], IfOk, IfErr, Err};
 ghost use Rattle.client_session.specs.Opening.{IsOfStore};
 ghost use Rattle.client_session.specs.Sessions.{Continues};
+ghost use Rattle.client_session.specs.TurnCounts.{TakesTurns};
 ghost use Rattle.read_board.specs.Refreshes.{IsFullFor, version_of};
 ghost use Rattle.read_board.specs.Refreshing.{Holds, AllHold, HasLooked, IsRecent, IsNotThere, Refreshed, LeftPending};
 ghost use Rattle.read_board.specs.Causes.{RefreshCause};
@@ -24,6 +25,7 @@ fn open_recent<'a, D: Door, G: Gate, W: Wait>(
 ) -> Result<Refresh, Fault>
     ensures looked { HasLooked session.old session.new }
     ensures goes_on { Continues session.old session.new }
+    ensures turns { TakesTurns result 2 session.old.turns session.new.turns }
     ensures blob { IfOk result (λ r. r.blob ≡ blob) }
     ensures of_store { IfOk result (λ r. IsOfStore session.old.store r.snapshot) }
     ensures holds { IfOk result (Holds session.old.store.fixed session.new.log) }
@@ -67,6 +69,7 @@ impl<R: Wait + Drop> Keeper<R> {
         ensures hold { AllHold session.new.store.fixed session.new.log self.new.all }
         ensures looked { HasLooked session.old session.new }
         ensures goes_on { Continues session.old session.new }
+        ensures turns { TakesTurns result 2 session.old.turns session.new.turns }
         ensures board { self.new.board ≡ self.old.board }
     {
         if self.room_for(blob).is_none() {

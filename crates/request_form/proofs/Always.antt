@@ -1,11 +1,17 @@
 -- There is always a run with nobody else there, in which nothing outside fails, and no memory is wanting where the tickets are numbered.
-use Rattle.std.proofs.Common.{◌≡◌, ℕ, ◌+◌, ◌==◌, ◌&&◌, nat_lt, Bool, true, false, if◌then◌else◌, List, [], ◌∷◌, ◌++◌, length, refl, ◌∙◌, ap, subst, append-nil, zero-add}
+use Rattle.std.proofs.Common.{◌≡◌, ℕ, ◌+◌, ◌-◌, ◌≤◌, ◌==◌, nat_lt, Bool, true, false, if◌then◌else◌, List, [], ◌∷◌, ◌++◌, length, refl, sym, ◌∙◌, ap, subst, append-nil, zero-add, arith}
 use Rattle.std.specs.Prelude.{Option, Some, None, IfSome}
+use Rattle.std.proofs.lemmas.Bool.{false≢true}
+use Rattle.std.proofs.lemmas.Bool.Decides.{nat_tests}
 use Rattle.blob_model.specs.Content.{offset_of}
-use Rattle.blob_model.specs.Store.{Store, Blob, blob_at, with_blob, assigned, published, size_now, size_with, finish, is_finished}
-use Rattle.blob_model.specs.Answer.{Answered, answer, refuse, unless_refused, bytes_of, already, not_numbered, first_refusal, repair_refusal}
+use Rattle.blob_model.specs.Store.{Store, Blob, blob_at, empty_store, assigned, published, size_now, size_with, is_finished}
+use Rattle.blob_model.specs.Answer.{Answered, answer, refuse, bytes_of}
 use Rattle.blob_model.specs.History.{IsNumbered, store_of}
+use Rattle.blob_model.specs.Limits.{Bounds}
 use Rattle.blob_model.specs.Laws.{OldVersionsStay}
+use Rattle.blob_model.proofs.Stays.{store_from-append}
+use Rattle.range_log.specs.Updates.{extents}
+use Rattle.range_log.specs.Rows.{folds_of}
 use Rattle.blob_model.specs.declared.call.Event.{Event}
 use Rattle.blob_model.specs.declared.call.Event.TheVariants as Events
 use Rattle.blob_model.specs.declared.call.Place.{Place}
@@ -24,53 +30,15 @@ use Rattle.request_form.specs.declared.form.Heard.{Heard}
 use Rattle.request_form.specs.declared.form.Heard.TheVariants.{Asked, Wrong}
 use Rattle.request_form.specs.declared.form.Fault.{Fault}
 use Rattle.request_form.specs.declared.form.Fault.TheVariants as Faults
-use Rattle.request_form.specs.Session.{Session, HeldTicket, store_at, outcome_at, sees, holds, ticket_at, without_ticket, without_version, drops, lets_go, takes_up_to, IsNobody}
-use Rattle.request_form.specs.Replies.{fault_of, reply_of, page_faults, fault_count}
+use Rattle.request_form.specs.Session.{Fixed, Session, HeldTicket, store_at, outcome_at, sees, holds, ticket_at, IsNobody}
+use Rattle.request_form.specs.Replies.{fault_of, reply_of, added_reply, update_reply, start_reply, page_faults, fault_count}
 use Rattle.request_form.specs.Stream.{AllWellHeard}
+use Rattle.request_form.specs.Turns.{Tickets, Turn, tells, refuses, with_tickets, and_made}
+use Rattle.request_form.specs.Answers.{Class, class_of, is_waiting_in, update_fault, read_fault, ranges_fault, update_faults, class_faults, max_read, max_tickets}
 use Rattle.request_form.specs.HangUp.{AllNumbered}
-use Rattle.request_form.specs.Answers.{Answers, Unless, AreContents, OutOfMemory, CreateAnswer, UpdateAnswer, WholeUpdate, Started, FinishHindered, ReportAnswer, FinishAnswer, BranchAnswer, ReadAnswer, ReadManyAnswer, RepairAnswer, LookAnswer, update_fault, read_fault, ranges_fault, update_faults, answer_faults, max_update_greater, max_read, max_tickets}
-use Rattle.request_form.specs.Transcript.{Run, item_faults, faults_of, starves, NoneStarves}
-
--- ---- tickets whose blob is there
-abbrev AllThere : Store → List HeldTicket → Type 0
-AllThere store [] = Unit {0}
-AllThere store (ticket ∷ tickets) = ((b : Blob) × (blob_at store ticket.blob ≡ Some b)) × AllThere store tickets
-
-numbered_there : (o : Option Blob) (version : ℕ) → IsNumbered o version → (b : Blob) × (o ≡ Some b)
-numbered_there None version none = absurd none
-numbered_there (Some b) version n = (b, refl)
-
-pub all_there : (store : Store) (tickets : List HeldTicket) → AllNumbered store tickets → AllThere store tickets
-all_there store [] all = tt
-all_there store (t ∷ ts) all = (numbered_there (blob_at store t.blob) t.version all.0, all_there store ts all.1)
-
-there_more : (store : Store) (tickets : List HeldTicket) (ticket : HeldTicket) (b : Blob) → AllThere store tickets → blob_at store ticket.blob ≡ Some b → AllThere store (tickets ++ ticket ∷ [])
-there_more store [] ticket b all at = ((b, at), tt)
-there_more store (t ∷ ts) ticket b all at = (all.0, there_more store ts ticket b all.1 at)
-
-there_if : (same : Bool) (store : Store) (t : HeldTicket) (ts rest : List HeldTicket) → AllThere store (t ∷ ts) → AllThere store rest → AllThere store (if same then ts else t ∷ rest)
-there_if true store t ts rest all later = all.1
-there_if false store t ts rest all later = (all.0, later)
-
-there_without : (store : Store) (tickets : List HeldTicket) (number : ℕ) → AllThere store tickets → AllThere store (without_ticket tickets number)
-there_without store [] number all = tt
-there_without store (t ∷ ts) number all = there_if (t.number == number) store t ts (without_ticket ts number) all (there_without store ts number all.1)
-
-there_let_go : (store : Store) (tickets : List HeldTicket) (blob version : ℕ) → AllThere store tickets → AllThere store (without_version tickets blob version)
-there_let_go store [] blob version all = tt
-there_let_go store (t ∷ ts) blob version all = there_if (t.blob == blob && t.version == version) store t ts (without_version ts blob version) all (there_let_go store ts blob version all.1)
-
-there_by : (store : Store) (t ticket : HeldTicket) (rest : Option HeldTicket) (same : Bool) → (b : Blob) × (blob_at store t.blob ≡ Some b) → (rest ≡ Some ticket → (b : Blob) × (blob_at store ticket.blob ≡ Some b))
-    → (if same then Some t else rest) ≡ Some ticket → (b : Blob) × (blob_at store ticket.blob ≡ Some b)
-there_by store t ticket rest true here later e =
-    let same : t ≡ ticket = cc in
-    subst (λ (x : HeldTicket). (b : Blob) × (blob_at store x.blob ≡ Some b)) same here
-there_by store t ticket rest false here later e = later e
-
--- the ticket of that number, if one is held, is one of them
-there_at : (store : Store) (tickets : List HeldTicket) (number : ℕ) (ticket : HeldTicket) → AllThere store tickets → ticket_at tickets number ≡ Some ticket → (b : Blob) × (blob_at store ticket.blob ≡ Some b)
-there_at store [] number ticket all e = let never : ⊥ = cc in absurd never
-there_at store (t ∷ ts) number ticket all e = there_by store t ticket (ticket_at ts number) (t.number == number) all.0 (there_at store ts number ticket all.1) e
+use Rattle.request_form.specs.Transcript.{item_faults, faults_of, starves, NoneStarves}
+use Rattle.request_form.proofs.Numbered.{IsLast, all_numbered_later, numbered_more, numbered_without, numbered_let_go, numbered_at, last_numbered}
+use Rattle.request_form.proofs.Told.{Told, told, after, after_numbering, add_turn, read_turn, many_turn, range_turn, any, finish_tests, finish_turn, report_turn, repair_turn, start_turn, whole_tests, whole_turn, update_told, held_told, unless, class_told, request_told, replies_told, last_told, told_is}
 
 -- ---- what a store answers, by whether it refuses
 data Shape (done said : Outcome) : Type 0 where
@@ -107,54 +75,6 @@ module _ (s : Store) (caller : ℕ) where
 
   read_shape : (blob version offset count : ℕ) → InBlob s blob (λ b. Outcomes.Content (bytes_of b version offset count)) (answer s caller (Calls.Read blob version offset count)).1
   read_shape blob version offset count = in_blob_shape s blob (blob_at s blob) _ _ refl (λ b. unless_shape s _ _)
-
--- a finish, and one by whichever session
-data FinishShape (s : Store) (blob version : ℕ) (said : Outcome) : Type 0 where
-  made : (published : ℕ) → said ≡ Outcomes.Published published → FinishShape s blob version said
-  found : said ≡ Outcomes.Refused (Refusals.Already version) → FinishShape s blob version said
-  none : blob_at s blob ≡ None → FinishShape s blob version said
-
-data RepairShape (version : ℕ) (refusal : Option Refusal) (said : Outcome) : Type 0 where
-  made : (published : ℕ) → refusal ≡ None → said ≡ Outcomes.Published published → RepairShape version refusal said
-  found : refusal ≡ Some (Refusals.Already version) → RepairShape version refusal said
-  none : (r : Refusal) → refusal ≡ Some r → (r ≡ Refusals.Already version → ⊥) → RepairShape version refusal said
-
-finish_in : (done : Bool) (s : Store) (blob version n : ℕ) (a : Answered) → a.1 ≡ Outcomes.Published n
-    → FinishShape s blob version (let x : Answered = elim (if done then Some (Refusals.Already version) else None) [ Some r ↦ refuse s r | None ↦ a ] in x).1
-finish_in true s blob version n a e = FinishShape.found refl
-finish_in false s blob version n a e = FinishShape.made n e
-
-finish_by : (s : Store) (blob version : ℕ) (o : Option Blob) → blob_at s blob ≡ o
-    → FinishShape s blob version (let a : Answered =
-    elim o [
-      | None ↦ refuse s (Refusals.NoBlob blob)
-      | Some b ↦ unless_refused s (already b version ∷ []) (with_blob s blob (finish b version), Outcomes.Published (published (finish b version)))
-    ] in a).1
-finish_by s blob version None at = FinishShape.none at
-finish_by s blob version (Some b) at = finish_in (is_finished b version) s blob version (published (finish b version)) _ refl
-
-finish_shape : (s : Store) (caller blob version : ℕ) → FinishShape s blob version (answer s caller (Calls.Finish blob version)).1
-finish_shape s caller blob version = finish_by s blob version (blob_at s blob) refl
-
-repair_in : (low done : Bool) (s : Store) (version n m : ℕ) (a : Answered) → a.1 ≡ Outcomes.Published n
-    → RepairShape version (if low then Some (Refusals.NotPublished version m) else (if done then Some (Refusals.Already version) else None))
-    (let x : Answered = elim (if done then Some (Refusals.Already version) else None) [ Some r ↦ refuse s r | None ↦ a ] in x).1
-repair_in true done s version n m a e = RepairShape.none (Refusals.NotPublished version m) refl (λ same. let never : ⊥ = cc in never)
-repair_in false true s version n m a e = RepairShape.found refl
-repair_in false false s version n m a e = RepairShape.made n refl e
-
-repair_by : (s : Store) (blob version : ℕ) (o : Option Blob)
-    → RepairShape version (let r : Option Refusal = elim o [ None ↦ Some (Refusals.NoBlob blob) | Some b ↦ first_refusal (not_numbered b version ∷ already b version ∷ []) ] in r)
-    (let a : Answered =
-    elim o [
-      | None ↦ refuse s (Refusals.NoBlob blob)
-      | Some b ↦ unless_refused s (already b version ∷ []) (with_blob s blob (finish b version), Outcomes.Published (published (finish b version)))
-    ] in a).1
-repair_by s blob version None = RepairShape.none (Refusals.NoBlob blob) refl (λ same. let never : ⊥ = cc in never)
-repair_by s blob version (Some b) = repair_in (nat_lt (assigned b) version) (is_finished b version) s version (published (finish b version)) (published b) _ refl
-
-repair_shape : (s : Store) (caller blob version : ℕ) → RepairShape version (repair_refusal s blob version) (answer s caller (Calls.Finish blob version)).1
-repair_shape s caller blob version = repair_by s blob version (blob_at s blob)
 
 -- ---- faults that are none of the outside, nor of memory
 abbrev IsMild : Fault → Type 0
@@ -201,271 +121,291 @@ ranges_mild : (sum : ℕ) (ranges : List (ℕ × ℕ)) → MildIf (ranges_fault 
 ranges_mild sum [] = tt
 ranges_mild sum (range ∷ ranges) = mild_if (nat_lt max_read (sum + range.1)) _ _ (refl, refl) (ranges_mild (sum + range.1) ranges)
 
--- ---- an answer for which the outside didn't fail, and, where the tickets' blobs are there, no memory was wanting
-abbrev now : Session → Store
+-- ---- what is told, for which the outside didn't fail, and, where the tickets are numbered, no memory was wanting
+abbrev pub now : Session → Store
 now s = store_of s.fixed.limits s.seen
 
-record Good (s : Session) (count : Session → Reply → ℕ) (Answer : Reply → Session → Type 0) : Type 0 where
-  pub reply : Reply
-  pub next : Session
-  pub is : Answer reply next
-  pub calm : count next reply ≡ 0
-  pub fed : AllThere (now s) s.tickets → starves reply ≡ false
-  pub there : AllThere (now s) s.tickets → AllThere (now next) next.tickets
+abbrev AreNumbered : Session → Type 0
+AreNumbered s = AllNumbered (now s) s.tickets
+
+record Good (s : Session) (count : Session → Reply → ℕ) (t : Told) : Type 0 where
+  pub calm : count t.next t.reply ≡ 0
+  pub fed : AreNumbered s → starves t.reply ≡ false
+  pub numbered : AreNumbered s → AreNumbered t.next
+
+-- a ticket that is held next is of a version that is numbered by then
+abbrev HeldIsNumbered : Store → Tickets → Type 0
+HeldIsNumbered store (Tickets.hold blob version) = IsNumbered (blob_at store blob) version
+HeldIsNumbered store _ = Unit {0}
+
+record GoodTurn (s : Session) (turn : Turn) : Type 0 where
+  pub calm : fault_count turn.said ≡ 0
+  pub fed : AreNumbered s → starves turn.said ≡ false
+  pub held : HeldIsNumbered (store_of s.fixed.limits (s.seen ++ and_made [] turn.made)) turn.tickets
 
 -- the counts of faults that a reply alone tells
-abbrev told : Session → Reply → ℕ
-told next reply = fault_count reply
+abbrev counted : Session → Reply → ℕ
+counted next reply = fault_count reply
 
-unless_good : (o : Option Fault) (s : Session) (count : Session → Reply → ℕ) (Answer : Reply → Session → Type 0) → MildIf o → ((fault : Fault) → count s (Replies.Refused fault) ≡ page_faults fault)
-    → Good s count Answer → Good s count (λ (r : Reply) (s' : Session). Unless o s r s' (Answer r s'))
-unless_good (Some fault) s count Answer mild counts p = record { reply = Replies.Refused fault; next = s; is = (refl, refl); calm = counts fault ∙ mild.0; fed = λ all. mild.1; there = λ all. all }
-unless_good None s count Answer mild counts p = record { reply = p.reply; next = p.next; is = p.is; calm = p.calm; fed = p.fed; there = p.there }
+same_good : (s next : Session) (count : Session → Reply → ℕ) (reply : Reply) → next.seen ≡ s.seen → next.fixed ≡ s.fixed → next.tickets ≡ s.tickets → count next reply ≡ 0 → starves reply ≡ false
+    → Good s count (told reply next)
+same_good s next count reply seen fixed tickets calm fed = record {
+  calm = calm;
+  fed = λ all. fed;
+  numbered = λ all.
+      subst (λ (l : List HeldTicket). AllNumbered (now next) l) (sym tickets)
+      (subst (λ (l : List Event). AllNumbered (store_of next.fixed.limits l) s.tickets) (sym seen)
+      (subst (λ (b : Bounds). AllNumbered (store_of b s.seen) s.tickets) (sym (ap (λ (f : Fixed). f.limits) fixed)) all));
+}
 
--- the bytes of many ranges, or the first that is refused
-data Ranges (s : Session) (blob version : ℕ) (ranges : List (ℕ × ℕ)) : Type 0 where
-  given : (bytes : List ℕ) → AreContents s [] blob version ranges bytes → Ranges s blob version ranges
-  refused : (before : List (ℕ × ℕ)) (range : ℕ × ℕ) (after : List (ℕ × ℕ)) (bytes : List ℕ) (r : Refusal) → ranges ≡ before ++ range ∷ after → AreContents s [] blob version before bytes
-      → outcome_at s [] (Calls.Read blob version range.0 range.1) ≡ Outcomes.Refused r → Ranges s blob version ranges
+unless_good : (o : Option Fault) (s : Session) (count : Session → Reply → ℕ) (t : Told) → MildIf o → ((fault : Fault) → count s (Replies.Refused fault) ≡ page_faults fault)
+    → Good s count t → Good s count (unless o s t)
+unless_good (Some fault) s count t mild counts good = same_good s s count (Replies.Refused fault) refl refl refl (counts fault ∙ mild.0) mild.1
+unless_good None s count t mild counts good = good
+
+not_below : (n version : ℕ) → version ≡ n → nat_lt n (version - 1) ≡ false
+not_below n version e = grind (arith, nat_tests)
+
+not_above : (n version : ℕ) → version ≤ n → nat_lt n version ≡ true → ⊥
+not_above n version le lt = grind (arith, nat_tests)
+
+-- a ticket's version is there
+there_numbered : (o : Option Blob) (version : ℕ) → IsNumbered o version → (o ≡ None → ⊥) × ((b : Blob) → o ≡ Some b → nat_lt (assigned b) version ≡ true → ⊥)
+there_numbered None version n = absurd n
+there_numbered (Some c) version n =
+    ((λ none. (let never : ⊥ = cc in never)), (λ b same low. (let is : c ≡ b = cc in not_above (assigned b) version (subst (λ (x : Blob). version ≤ assigned x) is n.1) low)))
+
+-- the replies to updates
+start_calm : (place : Place) (ticket version at size : ℕ) → (fault_count (start_reply place ticket version at size) ≡ 0) × (starves (start_reply place ticket version at size) ≡ false)
+start_calm Append ticket version at size = (refl, refl)
+start_calm (WriteAt offset) ticket version at size = (refl, refl)
+
+whole_calm : (next : Session) (blob : ℕ) (place : Place) (version at size : ℕ)
+    → (update_faults next blob (update_reply place version at size) ≡ 0) × (starves (update_reply place version at size) ≡ false)
+whole_calm next blob Append version at size = (refl, refl)
+whole_calm next blob (WriteAt offset) version at size = (refl, refl)
+
+held_calm : (next : Session) (blob : ℕ) (place : Place) (ticket version at size : ℕ) → is_waiting_in (store_at next []) blob (version - 1) ≡ true
+    → update_faults next blob (start_reply place ticket version at size) ≡ 0
+held_calm next blob Append ticket version at size waits = ap (λ (t : Bool). (let n : ℕ = if t then 0 else 1 in n)) waits
+held_calm next blob (WriteAt offset) ticket version at size waits = ap (λ (t : Bool). (let n : ℕ = if t then 0 else 1 in n)) waits
+
+-- a class that some request has
+abbrev IsOfRequest : Class → Type 0
+IsOfRequest (Class.adds Calls.Create) = Unit {0}
+IsOfRequest (Class.adds (Calls.Branch blob version)) = Unit {0}
+IsOfRequest (Class.adds _) = ⊥
+IsOfRequest _ = Unit {0}
+
+of_request : (request : Request) → IsOfRequest (class_of request)
+of_request Requests.Create = tt
+of_request (Requests.Branch blob version) = tt
+of_request _ = tt
+
+refused_good : (s : Session) (refusal : Refusal) → GoodTurn s (tells (Replies.Refused (fault_of refusal)))
+refused_good s refusal = record { calm = (refusal_mild refusal).0; fed = λ all. (refusal_mild refusal).1; held = tt }
 
 module _ (stay : OldVersionsStay) (s : Session) where
-  blob_later : (h more : List Event) (blob : ℕ) (b : Blob) → blob_at (store_of s.fixed.limits h) blob ≡ Some b → (new : Blob) × (blob_at (store_of s.fixed.limits (h ++ more)) blob ≡ Some new)
-  blob_later h more blob b at = let (new, is, same) = stay s.fixed.limits h more blob b at in (new, is)
+  later_numbered : (t : Tickets) (more : List Event) → HeldIsNumbered (store_of s.fixed.limits (s.seen ++ more)) t → AreNumbered s → AreNumbered (with_tickets t (sees s more))
+  later_numbered Tickets.stay more held all = all_numbered_later stay s.fixed.limits s.seen more (s.seen ++ more) s.tickets refl all
+  later_numbered (Tickets.hold blob version) more held all =
+      numbered_more (store_of s.fixed.limits (s.seen ++ more)) s.tickets _ (all_numbered_later stay s.fixed.limits s.seen more (s.seen ++ more) s.tickets refl all) held
+  later_numbered (Tickets.drop number) more held all =
+      numbered_without (store_of s.fixed.limits (s.seen ++ more)) s.tickets number (all_numbered_later stay s.fixed.limits s.seen more (s.seen ++ more) s.tickets refl all)
+  later_numbered (Tickets.let_go blob version) more held all =
+      numbered_let_go (store_of s.fixed.limits (s.seen ++ more)) s.tickets blob version (all_numbered_later stay s.fixed.limits s.seen more (s.seen ++ more) s.tickets refl all)
 
-  later : (h more : List Event) (tickets : List HeldTicket) → AllThere (store_of s.fixed.limits h) tickets → AllThere (store_of s.fixed.limits (h ++ more)) tickets
-  later h more [] all = tt
-  later h more (t ∷ ts) all = (blob_later h more t.blob all.0.0 all.0.1, later h more ts all.1)
+  turn_good : (turn : Turn) → GoodTurn s turn → Good s counted (after s turn)
+  turn_good turn good = record { calm = good.calm; fed = good.fed; numbered = later_numbered turn.tickets (and_made [] turn.made) good.held }
 
-  -- the session sees more, and that is all
-  seen_more : (count : Session → Reply → ℕ) (Answer : Reply → Session → Type 0) (more : List Event) (reply : Reply) → Answer reply (sees s more) → count (sees s more) reply ≡ 0 → starves reply ≡ false → Good s count Answer
-  seen_more count Answer more reply is calm fed = record { reply = reply; next = sees s more; is = is; calm = calm; fed = λ all. fed; there = later s.seen more s.tickets }
-
-  look_good : (call : Call) → Good s told (λ (r : Reply) (s' : Session). LookAnswer IsNobody s call r s')
-  look_good call =
-      let mild = outcome_mild (outcome_at s [] call) in
-      seen_more told _ [] (reply_of (outcome_at s [] call)) (record { others = []; is_gap = refl; said = refl; seen = refl }) mild.0 mild.1
-
-  create_by : Shape (Outcomes.Blob (length (store_at s []).blobs + 1)) (outcome_at s [] Calls.Create) → Good s told (λ (r : Reply) (s' : Session). CreateAnswer IsNobody s r s')
-  create_by (Shape.made e) =
-      seen_more told _ (Events.Create s.caller ∷ []) (Replies.Created _) (CreateAnswer.created record { others = []; is_gap = refl; blob = _; done = e; said = refl; seen = refl }) refl refl
-  create_by (Shape.refused r e) =
-      seen_more told _ [] (Replies.Refused (fault_of r)) (CreateAnswer.refused record { others = []; is_gap = refl; refusal = r; refused = e; said = refl; seen = refl }) (refusal_mild r).0 (refusal_mild r).1
+  -- ---- looks, reads and new blobs
+  add_by : (call : Call) (blob : ℕ) → Shape (Outcomes.Blob blob) (outcome_at s [] call) → fault_count (added_reply call blob) ≡ 0 → starves (added_reply call blob) ≡ false
+      → GoodTurn s (add_turn s call (outcome_at s [] call))
+  add_by call blob (Shape.made e) calm fed = subst (λ (o : Outcome). GoodTurn s (add_turn s call o)) (sym e) (record { calm = calm; fed = λ all. fed; held = tt })
+  add_by call blob (Shape.refused r e) calm fed = subst (λ (o : Outcome). GoodTurn s (add_turn s call o)) (sym e) (refused_good s r)
 
   branch_by : (blob version : ℕ) (tells : Blob → ℕ) → InBlob (store_at s []) blob (λ b. Outcomes.Blob (tells b)) (outcome_at s [] (Calls.Branch blob version))
-      → Good s told (λ (r : Reply) (s' : Session). BranchAnswer IsNobody s blob version r s')
-  branch_by blob version tells (InBlob.made b at e) =
-      seen_more told _ (Events.Branch s.caller blob version ∷ []) (Replies.Branched (tells b)) (BranchAnswer.branched record { others = []; is_gap = refl; branch = tells b; done = e; said = refl; seen = refl }) refl refl
-  branch_by blob version tells (InBlob.refused r e) =
-      seen_more told _ [] (Replies.Refused (fault_of r)) (BranchAnswer.refused record { others = []; is_gap = refl; refusal = r; refused = e; said = refl; seen = refl }) (refusal_mild r).0 (refusal_mild r).1
+      → GoodTurn s (add_turn s (Calls.Branch blob version) (outcome_at s [] (Calls.Branch blob version)))
+  branch_by blob version tells (InBlob.made b at e) = add_by (Calls.Branch blob version) (tells b) (Shape.made e) refl refl
+  branch_by blob version tells (InBlob.refused r e) = add_by (Calls.Branch blob version) 0 (Shape.refused r e) refl refl
 
   read_by : (blob version offset count : ℕ) → InBlob (store_at s []) blob (λ b. Outcomes.Content (bytes_of b version offset count)) (outcome_at s [] (Calls.Read blob version offset count))
-      → Good s told (λ (r : Reply) (s' : Session). ReadAnswer IsNobody s blob version offset count r s')
-  read_by blob version offset count (InBlob.made b at e) =
-      seen_more told _ [] (Replies.Content (bytes_of b version offset count)) (ReadAnswer.content record { others = []; is_gap = refl; bytes = bytes_of b version offset count; done = e; said = refl; seen = refl }) refl refl
-  read_by blob version offset count (InBlob.refused r e) =
-      seen_more told _ [] (Replies.Refused (fault_of r)) (ReadAnswer.refused record { others = []; is_gap = refl; refusal = r; refused = e; said = refl; seen = refl }) (refusal_mild r).0 (refusal_mild r).1
+      → GoodTurn s (read_turn (outcome_at s [] (Calls.Read blob version offset count)))
+  read_by blob version offset count (InBlob.made b at e) = subst (λ (o : Outcome). GoodTurn s (read_turn o)) (sym e) (record { calm = refl; fed = λ all. refl; held = tt })
+  read_by blob version offset count (InBlob.refused r e) = subst (λ (o : Outcome). GoodTurn s (read_turn o)) (sym e) (refused_good s r)
 
-  -- ---- an update, which is finished at once, or started
-  module _ (blob : ℕ) (place : Place) (bytes : List ℕ) (v a z : Blob → ℕ) where
-    abbrev Numbers : Type 0
-    Numbers = InBlob (store_at s []) blob (λ b. Outcomes.Assigned (v b) (a b) (z b)) (outcome_at s [] (Calls.Assign blob place bytes))
+  range_by : (blob version : ℕ) (range : ℕ × ℕ) (ranges : List (ℕ × ℕ)) (bytes : List ℕ) (tells : Blob → List ℕ)
+      → InBlob (store_at s []) blob (λ b. Outcomes.Content (tells b)) (outcome_at s [] (Calls.Read blob version range.0 range.1))
+      → ((more : List ℕ) → GoodTurn s (many_turn s blob version ranges more)) → GoodTurn s (many_turn s blob version (range ∷ ranges) bytes)
+  range_by blob version range ranges bytes tells (InBlob.made b at e) goes = subst (λ (o : Outcome). GoodTurn s (range_turn s blob version ranges bytes o)) (sym e) (goes (bytes ++ tells b))
+  range_by blob version range ranges bytes tells (InBlob.refused r e) goes = subst (λ (o : Outcome). GoodTurn s (range_turn s blob version ranges bytes o)) (sym e) (refused_good s r)
 
-    refused_good : (count : Session → Reply → ℕ) (Does : Reply → Session → Type 0) (r : Refusal) → ((next : Session) (fault : Fault) → count next (Replies.Refused fault) ≡ page_faults fault)
-        → outcome_at s [] (Calls.Assign blob place bytes) ≡ Outcomes.Refused r → Good s count (λ (r : Reply) (s' : Session). UpdateAnswer IsNobody s blob place bytes (Does r s') r s')
-    refused_good count Does r counts e =
-        seen_more count _ [] (Replies.Refused (fault_of r)) (UpdateAnswer.refused record { others = []; is_gap = refl; refusal = r; refused = e; said = refl; seen = refl }) (counts _ _ ∙ (refusal_mild r).0) (refusal_mild r).1
+  many_good : (blob version : ℕ) (ranges : List (ℕ × ℕ)) (bytes : List ℕ) → GoodTurn s (many_turn s blob version ranges bytes)
+  many_good blob version [] bytes = record { calm = refl; fed = λ all. refl; held = tt }
+  many_good blob version (range ∷ ranges) bytes =
+      range_by blob version range ranges bytes _ (read_shape (store_at s []) s.caller blob version range.0 range.1) (λ more. many_good blob version ranges more)
 
-    whole_by : (done : ℕ → ℕ → ℕ → Reply) (started : ℕ → ℕ → ℕ → ℕ → Reply) → ((next : Session) (x y w : ℕ) → (update_faults next blob (done x y w) ≡ 0) × (starves (done x y w) ≡ false)) → Numbers
-        → Good s (λ (next : Session) (r : Reply). update_faults next blob r) (λ (r : Reply) (s' : Session). UpdateAnswer IsNobody s blob place bytes (WholeUpdate IsNobody s blob place bytes done started r s') r s')
-    whole_by done started mild (InBlob.made b at e) =
-        seen_more (λ (next : Session) (r : Reply). update_faults next blob r) _ (Events.Assign s.caller blob place bytes ∷ Events.Finish s.caller blob (v b) ∷ []) (done (v b) (a b) (z b))
-        (UpdateAnswer.does (WholeUpdate.updated record {
-          others = [];
-          later = [];
-          is_gap = refl;
-          is_gap_later = refl;
-          version = v b;
-          at = a b;
-          size = z b;
-          numbered = e;
-          said = refl;
-          seen = refl;
-        })) (mild (sees s (Events.Assign s.caller blob place bytes ∷ Events.Finish s.caller blob (v b) ∷ [])) _ _ _).0 (mild s _ _ _).1
-    whole_by done started mild (InBlob.refused r e) = refused_good (λ (next : Session) (r : Reply). update_faults next blob r) _ r (λ next fault. refl) e
+  -- ---- finishes, which change the tickets in a way that holds none
+  module _ (blob version : ℕ) (says : ℕ → Reply) (settled hindered : Tickets) (missing : Refusal → Turn)
+      (calm : (n : ℕ) → fault_count (says n) ≡ 0) (fed : (n : ℕ) → starves (says n) ≡ false)
+      (first : (store : Store) → HeldIsNumbered store settled) (second : (store : Store) → HeldIsNumbered store hindered) where
+    tests_good : (b : Blob) (low done early : Bool) (pages : List ℕ) → (low ≡ true → GoodTurn s (missing (Refusals.NotPublished version (published b))))
+        → GoodTurn s (finish_tests s blob version says settled hindered missing b low done (let t : Bool = elim early [ true ↦ any pages | false ↦ false ] in t))
+    tests_good b true done early pages misses = misses refl
+    tests_good b false true early pages misses = record { calm = refl; fed = λ all. refl; held = first (store_of s.fixed.limits (s.seen ++ [])) }
+    tests_good b false false true [] misses = record { calm = calm _; fed = λ all. fed _; held = first (store_of s.fixed.limits (s.seen ++ Events.Finish s.caller blob version ∷ [])) }
+    tests_good b false false true (page ∷ pages) misses = record { calm = refl; fed = λ all. refl; held = second (store_of s.fixed.limits (s.seen ++ [])) }
+    tests_good b false false false pages misses = record { calm = calm _; fed = λ all. fed _; held = first (store_of s.fixed.limits (s.seen ++ Events.Finish s.caller blob version ∷ [])) }
 
-    started_by : (started : ℕ → ℕ → ℕ → ℕ → Reply) → ((n x y w : ℕ) → (fault_count (started n x y w) ≡ 0) × (starves (started n x y w) ≡ false)) → Numbers
-        → Good s told (λ (r : Reply) (s' : Session). UpdateAnswer IsNobody s blob place bytes (Started IsNobody s blob place bytes started r s') r s')
-    started_by started mild (InBlob.made b at e) =
-        let events : List Event = Events.Assign s.caller blob place bytes ∷ [] in
-        let was : blob_at (now s) blob ≡ Some b = subst (λ (l : List Event). blob_at (store_of s.fixed.limits l) blob ≡ Some b) (append-nil s.seen) at in
-        let still = blob_later s.seen events blob b was in
+    finish_good : (o : Option Blob) → (o ≡ None → GoodTurn s (missing (Refusals.NoBlob blob)))
+        → ((b : Blob) → o ≡ Some b → nat_lt (assigned b) version ≡ true → GoodTurn s (missing (Refusals.NotPublished version (published b))))
+        → GoodTurn s (finish_turn s blob version says settled hindered missing o)
+    finish_good None misses low = misses refl
+    finish_good (Some b) misses low =
+        tests_good b (nat_lt (assigned b) version) (is_finished b version) (nat_lt (published b) (version - 1)) (folds_of s.fixed.page (extents b.updates) version) (low b refl)
+
+  repair_good : (blob version : ℕ) → GoodTurn s (repair_turn s blob version)
+  repair_good blob version =
+      finish_good blob version (λ n. Replies.Repaired n) (Tickets.let_go blob version) Tickets.stay (λ refusal. refuses (fault_of refusal)) (λ n. refl) (λ n. refl) (λ store. tt)
+      (λ store. tt) (blob_at (store_at s []) blob)
+      (λ none. refused_good s (Refusals.NoBlob blob)) (λ b at low. refused_good s (Refusals.NotPublished version (published b)))
+
+  -- of a ticket that is held, the version is numbered
+  report_by : (ticket : HeldTicket) (o : Option Blob) → (AreNumbered s → IsNumbered o ticket.version)
+      → GoodTurn s (finish_turn s ticket.blob ticket.version (λ n. Replies.Finished n) (Tickets.drop ticket.number) Tickets.stay (λ refusal. refuses Faults.NoMemory) o)
+  report_by ticket o there =
+      finish_good ticket.blob ticket.version (λ n. Replies.Finished n) (Tickets.drop ticket.number) Tickets.stay (λ refusal. refuses Faults.NoMemory) (λ n. refl) (λ n. refl) (λ store. tt)
+      (λ store. tt) o
+      (λ none. record { calm = refl; fed = λ all. absurd ((there_numbered o ticket.version (there all)).0 none); held = tt })
+      (λ b at low. record { calm = refl; fed = λ all. absurd ((there_numbered o ticket.version (there all)).1 b at low); held = tt })
+
+  report_good : (number : ℕ) (ticket : HeldTicket) → ticket_at s.tickets number ≡ Some ticket → Good s counted (after s (report_turn s ticket))
+  report_good number ticket held =
+      let good : GoodTurn s (report_turn s ticket) =
+      report_by ticket (blob_at (store_at s []) ticket.blob)
+      (λ all. subst (λ (l : List Event). IsNumbered (blob_at (store_of s.fixed.limits l) ticket.blob) ticket.version) (sym (append-nil s.seen)) (numbered_at (now s) s.tickets number ticket all held)) in
+      turn_good (report_turn s ticket) good
+
+  -- ---- updates
+  was_there : (blob : ℕ) (place : Place) (bytes : List ℕ) (version at size : ℕ) → outcome_at s [] (Calls.Assign blob place bytes) ≡ Outcomes.Assigned version at size
+      → IsLast (store_at s (Events.Assign s.caller blob place bytes ∷ [])) blob version
+  was_there blob place bytes version at size e =
+      let now_is : (answer (now s) s.caller (Calls.Assign blob place bytes)).1 ≡ Outcomes.Assigned version at size =
+      subst (λ (l : List Event). (answer (store_of s.fixed.limits l) s.caller (Calls.Assign blob place bytes)).1 ≡ Outcomes.Assigned version at size) (append-nil s.seen) e in
+      subst (λ (st : Store). IsLast st blob version) (sym (store_from-append (empty_store s.fixed.limits) s.seen (Events.Assign s.caller blob place bytes ∷ [])))
+      (last_numbered (now s) s.caller blob place bytes version at size now_is)
+
+  last_is_numbered : (store : Store) (blob version : ℕ) → IsLast store blob version → 1 ≤ version → IsNumbered (blob_at store blob) version
+  last_is_numbered store blob version (b, there, is) some = subst (λ (o : Option Blob). IsNumbered o version) (sym there) (some, (let le : version ≤ assigned b = omega (arith, is) in le))
+
+  -- where it is started, and where it is finished or held back
+  start_by : (blob : ℕ) (place : Place) (bytes : List ℕ) (v a z : Blob → ℕ) → ((b : Blob) → 1 ≤ v b)
+      → InBlob (store_at s []) blob (λ b. Outcomes.Assigned (v b) (a b) (z b)) (outcome_at s [] (Calls.Assign blob place bytes))
+      → GoodTurn s (start_turn s blob place bytes (outcome_at s [] (Calls.Assign blob place bytes)))
+  start_by blob place bytes v a z some (InBlob.made b at e) =
+      let last : IsLast (store_at s (Events.Assign s.caller blob place bytes ∷ [])) blob (v b) = was_there blob place bytes (v b) (a b) (z b) e in
+      subst (λ (o : Outcome). GoodTurn s (start_turn s blob place bytes o)) (sym e) (record {
+        calm = (start_calm place s.next (v b) (a b) (z b)).0;
+        fed = λ all. (start_calm place s.next (v b) (a b) (z b)).1;
+        held = last_is_numbered (store_at s (Events.Assign s.caller blob place bytes ∷ [])) blob (v b) last (some b);
+      })
+  start_by blob place bytes v a z some (InBlob.refused r e) = subst (λ (o : Outcome). GoodTurn s (start_turn s blob place bytes o)) (sym e) (refused_good s r)
+
+  module _ (blob : ℕ) (place : Place) (bytes : List ℕ) (version at size : ℕ) where
+    abbrev front : List Event
+    front = Events.Assign s.caller blob place bytes ∷ []
+
+    abbrev Fine : Turn → Type 0
+    Fine turn = Good s (λ (next : Session) (r : Reply). update_faults next blob r) (after_numbering s (Events.Assign s.caller blob place bytes) turn)
+
+    finished_fine : Fine (record { said = update_reply place version at size; made = Events.Finish s.caller blob version ∷ []; tickets = Tickets.stay })
+    finished_fine = record {
+      calm = (whole_calm (sees s (Events.Assign s.caller blob place bytes ∷ Events.Finish s.caller blob version ∷ [])) blob place version at size).0;
+      fed = λ all. (whole_calm s blob place version at size).1;
+      numbered = later_numbered Tickets.stay (Events.Assign s.caller blob place bytes ∷ Events.Finish s.caller blob version ∷ []) tt;
+    }
+
+    -- by the blob's marks, where this is its last version
+    tests_fine : (b : Blob) (low early : Bool) (pages : List ℕ) → blob_at (store_at s front) blob ≡ Some b → low ≡ false → nat_lt (published b) (version - 1) ≡ early
+        → IsNumbered (blob_at (store_at s front) blob) version → Fine (whole_tests s blob place version at size low (let t : Bool = elim early [ true ↦ any pages | false ↦ false ] in t))
+    tests_fine b true early pages there none is n = absurd (false≢true (sym none))
+    tests_fine b false true [] there none is n = finished_fine
+    tests_fine b false true (page ∷ pages) there none is n =
+        let next : Session = holds (sees s front) blob version in
+        let still : blob_at (store_at next []) blob ≡ Some b =
+        subst (λ (l : List Event). blob_at (store_of s.fixed.limits l) blob ≡ Some b) (sym (append-nil (s.seen ++ front))) there in
+        let waits : is_waiting_in (store_at next []) blob (version - 1) ≡ true =
+        ap (λ (o : Option Blob). (let t : Bool = elim o [ None ↦ false | Some b ↦ nat_lt (published b) (version - 1) ] in t)) still ∙ is in
         record {
-          reply = started s.next (v b) (a b) (z b);
-          next = holds (sees s events) blob (v b);
-          is = UpdateAnswer.does record { others = []; is_gap = refl; version = v b; at = a b; size = z b; numbered = e; said = refl; seen = refl };
-          calm = (mild s.next (v b) (a b) (z b)).0;
-          fed = λ all. (mild s.next (v b) (a b) (z b)).1;
-          there = λ all. there_more (now (sees s events)) s.tickets _ still.0 (later s.seen events s.tickets all) still.1;
+          calm = held_calm next blob place s.next version at size waits;
+          fed = λ all. (start_calm place s.next version at size).1;
+          numbered = later_numbered (Tickets.hold blob version) front n;
         }
-    started_by started mild (InBlob.refused r e) = refused_good told _ r (λ next fault. refl) e
+    tests_fine b false false pages there none is n = finished_fine
 
-  -- ---- a finish
-  starved : OutOfMemory IsNobody s (Replies.Refused Faults.NoMemory) (sees s [])
-  starved = record { others = []; is_gap = refl; said = refl; seen = refl }
+    whole_fine : IsLast (store_at s front) blob version → 1 ≤ version → Fine (whole_turn s blob place version at size (blob_at (store_at s front) blob))
+    whole_fine last some =
+        let b : Blob = last.0 in
+        let low : nat_lt (assigned b) (version - 1) ≡ false = not_below (assigned b) version last.2 in
+        subst (λ (o : Option Blob). Fine (whole_turn s blob place version at size o)) (sym last.1)
+        (tests_fine b (nat_lt (assigned b) (version - 1)) (nat_lt (published b) (version - 1)) (folds_of s.fixed.page (extents b.updates) version) last.1 low refl
+        (last_is_numbered (store_at s front) blob version last some))
 
-  finish_of : (number : ℕ) (ticket : HeldTicket) → ticket_at s.tickets number ≡ Some ticket → FinishShape (store_at s []) ticket.blob ticket.version (outcome_at s [] (Calls.Finish ticket.blob ticket.version))
-      → Good s told (λ (r : Reply) (s' : Session). ReportAnswer IsNobody s ticket r s')
-  finish_of number ticket held (FinishShape.made n e) =
-      let events : List Event = Events.Finish s.caller ticket.blob ticket.version ∷ [] in
-      record {
-        reply = Replies.Finished n;
-        next = drops (sees s events) ticket.number;
-        is = ReportAnswer.reported record { others = []; is_gap = refl; published = n; done = e; said = refl; seen = refl };
-        calm = refl;
-        fed = λ all. refl;
-        there = λ all. there_without (now (sees s events)) s.tickets ticket.number (later s.seen events s.tickets all);
-      }
-  finish_of number ticket held (FinishShape.found e) =
-      record {
-        reply = Replies.Refused (Faults.Already ticket.version);
-        next = drops (sees s []) ticket.number;
-        is = ReportAnswer.finished record { others = []; is_gap = refl; refused = e; said = refl; seen = refl };
-        calm = refl;
-        fed = λ all. refl;
-        there = λ all. there_without (now (sees s [])) s.tickets ticket.number (later s.seen [] s.tickets all);
-      }
-  finish_of number ticket held (FinishShape.none at) =
-      record {
-        reply = Replies.Refused Faults.NoMemory;
-        next = sees s [];
-        is = ReportAnswer.hindered (FinishHindered.out_of_memory starved);
-        calm = refl;
-        fed = λ all.
-            let gone : blob_at (now s) ticket.blob ≡ None = subst (λ (l : List Event). blob_at (store_of s.fixed.limits l) ticket.blob ≡ None) (append-nil s.seen) at in
-            let here = there_at (now s) s.tickets number ticket all held in
-            let is : blob_at (now s) ticket.blob ≡ Some here.0 = here.1 in
-            let never : ⊥ = cc in
-            absurd never;
-        there = later s.seen [] s.tickets;
-      }
-
-  finish_good : (number : ℕ) (o : Option HeldTicket) → ticket_at s.tickets number ≡ o → Good s told (λ (r : Reply) (s' : Session). FinishAnswer IsNobody s number o r s')
-  finish_good number None held = record { reply = Replies.Refused (Faults.NoTicket number); next = s; is = (refl, refl); calm = refl; fed = λ all. refl; there = λ all. all }
-  finish_good number (Some ticket) held =
-      let g = finish_of number ticket held (finish_shape (store_at s []) s.caller ticket.blob ticket.version) in
-      record { reply = g.reply; next = g.next; is = g.is; calm = g.calm; fed = g.fed; there = g.there }
-
-  repair_of : (blob version : ℕ) → RepairShape version (repair_refusal (store_at s []) blob version) (outcome_at s [] (Calls.Finish blob version)) → Good s told (λ (r : Reply) (s' : Session). RepairAnswer IsNobody s blob version r s')
-  repair_of blob version (RepairShape.made n may e) =
-      let events : List Event = Events.Finish s.caller blob version ∷ [] in
-      record {
-        reply = Replies.Repaired n;
-        next = lets_go (sees s events) blob version;
-        is = RepairAnswer.repaired record { others = []; is_gap = refl; published = n; may = may; done = e; said = refl; seen = refl };
-        calm = refl;
-        fed = λ all. refl;
-        there = λ all. there_let_go (now (sees s events)) s.tickets blob version (later s.seen events s.tickets all);
-      }
-  repair_of blob version (RepairShape.found e) =
-      record {
-        reply = Replies.Refused (Faults.Already version);
-        next = lets_go (sees s []) blob version;
-        is = RepairAnswer.finished record { others = []; is_gap = refl; refused = e; said = refl; seen = refl };
-        calm = refl;
-        fed = λ all. refl;
-        there = λ all. there_let_go (now (sees s [])) s.tickets blob version (later s.seen [] s.tickets all);
-      }
-  repair_of blob version (RepairShape.none r e other) =
-      seen_more told _ [] (Replies.Refused (fault_of r)) (RepairAnswer.refused record { others = []; is_gap = refl; refusal = r; refused = e; other = other; said = refl; seen = refl }) (refusal_mild r).0 (refusal_mild r).1
-
-  -- ---- many ranges
-  one_more : (blob version : ℕ) (range : ℕ × ℕ) (ranges : List (ℕ × ℕ)) (tells : Blob → List ℕ) → InBlob (store_at s []) blob (λ b. Outcomes.Content (tells b)) (outcome_at s [] (Calls.Read blob version range.0 range.1))
-      → Ranges s blob version ranges → Ranges s blob version (range ∷ ranges)
-  one_more blob version range ranges tells (InBlob.refused r e) rest = Ranges.refused [] range ranges [] r refl refl e
-  one_more blob version range ranges tells (InBlob.made b at e) (Ranges.given bytes are) = Ranges.given (tells b ++ bytes) (tells b, e, (bytes, are, refl))
-  one_more blob version range ranges tells (InBlob.made b at e) (Ranges.refused before other after bytes r joins first denied) =
-      Ranges.refused (range ∷ before) other after (tells b ++ bytes) r (ap (λ (l : List (ℕ × ℕ)). range ∷ l) joins) (tells b, e, (bytes, first, refl)) denied
-
-  ranges_of : (blob version : ℕ) (ranges : List (ℕ × ℕ)) → Ranges s blob version ranges
-  ranges_of blob version [] = Ranges.given [] refl
-  ranges_of blob version (range ∷ ranges) = one_more blob version range ranges (λ b. bytes_of b version range.0 range.1) (read_shape (store_at s []) s.caller blob version range.0 range.1) (ranges_of blob version ranges)
-
-  many_by : (blob version : ℕ) (ranges : List (ℕ × ℕ)) → Ranges s blob version ranges → Good s told (λ (r : Reply) (s' : Session). ReadManyAnswer IsNobody s blob version ranges r s')
-  many_by blob version ranges (Ranges.given bytes are) =
-      seen_more told _ [] (Replies.Contents bytes) (ReadManyAnswer.contents record { others = []; is_gap = refl; bytes = bytes; done = are; said = refl; seen = refl }) refl refl
-  many_by blob version ranges (Ranges.refused before range after bytes r joins first denied) =
-      seen_more told _ [] (Replies.Refused (fault_of r)) (ReadManyAnswer.refused record {
-        others = [];
-        is_gap = refl;
-        before = before;
-        range = range;
-        after = after;
-        bytes = bytes;
-        joins = joins;
-        first = first;
-        refusal = r;
-        refused = denied;
-        said = refl;
-        seen = refl;
-      }) (refusal_mild r).0 (refusal_mild r).1
+  update_by : (blob : ℕ) (place : Place) (bytes : List ℕ) (v a z : Blob → ℕ) → ((b : Blob) → 1 ≤ v b)
+      → InBlob (store_at s []) blob (λ b. Outcomes.Assigned (v b) (a b) (z b)) (outcome_at s [] (Calls.Assign blob place bytes))
+      → Good s (λ (next : Session) (r : Reply). update_faults next blob r) (update_told s blob place bytes (outcome_at s [] (Calls.Assign blob place bytes)))
+  update_by blob place bytes v a z some (InBlob.made b at e) =
+      subst (λ (o : Outcome). Good s (λ (next : Session) (r : Reply). update_faults next blob r) (update_told s blob place bytes o)) (sym e)
+      (whole_fine blob place bytes (v b) (a b) (z b) (was_there blob place bytes (v b) (a b) (z b) e) (some b))
+  update_by blob place bytes v a z some (InBlob.refused r e) =
+      subst (λ (o : Outcome). Good s (λ (next : Session) (r : Reply). update_faults next blob r) (update_told s blob place bytes o)) (sym e)
+      (record { calm = (refusal_mild r).0; fed = λ all. (refusal_mild r).1; numbered = later_numbered Tickets.stay [] tt })
 
   -- ---- each request
-  abbrev SomeAnswer : Request → Type 0
-  SomeAnswer request = Good s (λ (next : Session) (r : Reply). answer_faults next request r) (λ (r : Reply) (s' : Session). Answers IsNobody s request r s')
+  abbrev ClassGood : Class → Type 0
+  ClassGood c = Good s (λ (next : Session) (r : Reply). class_faults next c r) (class_told s c)
 
-  answer_good : (request : Request) → SomeAnswer request
-  answer_good Requests.Create = create_by (create_shape (store_at s []) s.caller)
-  answer_good (Requests.Append blob bytes) =
+  held_good : (number : ℕ) (o : Option HeldTicket) → ticket_at s.tickets number ≡ o → Good s counted (held_told s number o)
+  held_good number None held = same_good s s counted (Replies.Refused (Faults.NoTicket number)) refl refl refl refl refl
+  held_good number (Some ticket) held = report_good number ticket held
+
+  class_good : (c : Class) → IsOfRequest c → ClassGood c
+  class_good Class.greets is = same_good s _ counted (Replies.HelloIs 2) refl refl refl refl refl
+  class_good Class.quits is = same_good s _ counted Replies.Bye refl refl refl refl refl
+  class_good (Class.looks call) is =
+      let mild = outcome_mild (outcome_at s [] call) in
+      turn_good (tells (reply_of (outcome_at s [] call))) (record { calm = mild.0; fed = λ all. mild.1; held = tt })
+  class_good (Class.adds Calls.Create) is = turn_good _ (add_by Calls.Create _ (create_shape (store_at s []) s.caller) refl refl)
+  class_good (Class.adds (Calls.Branch blob version)) is = turn_good _ (branch_by blob version _ (branch_shape (store_at s []) s.caller blob version))
+  class_good (Class.adds _) none = absurd none
+  class_good (Class.reads blob version offset count) is =
+      unless_good (read_fault count) s _ _ (read_mild count) (λ fault. refl) (turn_good _ (read_by blob version offset count (read_shape (store_at s []) s.caller blob version offset count)))
+  class_good (Class.reads_many blob version ranges) is = unless_good (ranges_fault 0 ranges) s _ _ (ranges_mild 0 ranges) (λ fault. refl) (turn_good _ (many_good blob version ranges []))
+  class_good (Class.starts blob place bytes) is =
       unless_good (update_fault s bytes) s _ _ (update_mild s bytes) (λ fault. refl)
-      (whole_by blob Append bytes _ _ _ (λ version at size. Replies.Appended version at size) (λ ticket version at size. Replies.AppendStarted ticket version at size) (λ next x y w. (refl, refl)) (assign_shape (store_at s []) s.caller blob Append bytes))
-  answer_good (Requests.Write blob offset bytes) =
+      (turn_good _ (start_by blob place bytes _ _ _ (λ b. (let le : 1 ≤ assigned b + 1 = omega arith in le)) (assign_shape (store_at s []) s.caller blob place bytes)))
+  class_good (Class.updates blob place bytes) is =
       unless_good (update_fault s bytes) s _ _ (update_mild s bytes) (λ fault. refl)
-      (whole_by blob (WriteAt offset) bytes _ _ _ (λ version at size. Replies.Wrote version at size) (λ ticket version at size. Replies.WriteStarted ticket version at size) (λ next x y w. (refl, refl)) (assign_shape (store_at s []) s.caller blob (WriteAt offset) bytes))
-  answer_good (Requests.StartAppend blob bytes) =
-      unless_good (update_fault s bytes) s _ _ (update_mild s bytes) (λ fault. refl)
-      (started_by blob Append bytes _ _ _ (λ ticket version at size. Replies.AppendStarted ticket version at size) (λ n x y w. (refl, refl)) (assign_shape (store_at s []) s.caller blob Append bytes))
-  answer_good (Requests.StartWrite blob offset bytes) =
-      unless_good (update_fault s bytes) s _ _ (update_mild s bytes) (λ fault. refl)
-      (started_by blob (WriteAt offset) bytes _ _ _ (λ ticket version at size. Replies.WriteStarted ticket version at size) (λ n x y w. (refl, refl)) (assign_shape (store_at s []) s.caller blob (WriteAt offset) bytes))
-  answer_good (Requests.Finish number) = finish_good number (ticket_at s.tickets number) refl
-  answer_good (Requests.Read blob version offset count) =
-      unless_good (read_fault count) s _ _ (read_mild count) (λ fault. refl) (read_by blob version offset count (read_shape (store_at s []) s.caller blob version offset count))
-  answer_good (Requests.Recent blob) = look_good (Calls.Recent blob)
-  answer_good (Requests.Size blob version) = look_good (Calls.Size blob version)
-  answer_good (Requests.Sync blob version) = look_good (Calls.Sync blob version)
-  answer_good (Requests.Status blob) = look_good (Calls.Status blob)
-  answer_good (Requests.Branch blob version) = branch_by blob version _ (branch_shape (store_at s []) s.caller blob version)
-  answer_good (Requests.Hello version) = record { reply = Replies.HelloIs 2; next = takes_up_to s max_update_greater; is = (refl, refl); calm = refl; fed = λ all. refl; there = λ all. all }
-  answer_good (Requests.ReadMany blob version ranges) = unless_good (ranges_fault 0 ranges) s _ _ (ranges_mild 0 ranges) (λ fault. refl) (many_by blob version ranges (ranges_of blob version ranges))
-  answer_good (Requests.Repair blob version) = repair_of blob version (repair_shape (store_at s []) s.caller blob version)
-  answer_good Requests.Quit = record { reply = Replies.Bye; next = s; is = (refl, refl); calm = refl; fed = λ all. refl; there = λ all. all }
+      (update_by blob place bytes _ _ _ (λ b. (let le : 1 ≤ assigned b + 1 = omega arith in le)) (assign_shape (store_at s []) s.caller blob place bytes))
+  class_good (Class.reports number) is = held_good number (ticket_at s.tickets number) refl
+  class_good (Class.repairs blob version) is = turn_good _ (repair_good blob version)
 
 -- ---- and each list of items
-pub record GoodRun (s : Session) (items : List Heard) : Type 0 where
-  pub replies : List Reply
-  pub last : Session
-  pub run : Run IsNobody s items replies last
-  pub calm : AllWellHeard items → faults_of IsNobody s items replies last run ≡ 0
-  pub fed : AllThere (now s) s.tickets → NoneStarves items replies
+module _ (stay : OldVersionsStay) where
+  pub all_calm : (s : Session) (items : List Heard) → AllWellHeard items → faults_of IsNobody s items (replies_told s items) (last_told s items) (told_is s items) ≡ 0
+  unfolding told_is
+  all_calm s [] well = refl
+  all_calm s (Asked request ∷ items) well =
+      let t : Told = request_told s request in
+      let first : item_faults t.next (Asked request) t.reply ≡ 0 = (class_good stay s (class_of request) (of_request request)).calm in
+      rw first (rw (zero-add (faults_of IsNobody t.next items (replies_told t.next items) (last_told t.next items) (told_is t.next items))) (all_calm t.next items well.1))
+  all_calm s (Wrong fault ∷ items) well =
+      let first : item_faults s (Wrong fault) (Replies.Refused fault) ≡ 0 = well.0 in
+      rw first (rw (zero-add (faults_of IsNobody s items (replies_told s items) (last_told s items) (told_is s items))) (all_calm s items well.1))
 
-pub run_possible : OldVersionsStay → (s : Session) (items : List Heard) → GoodRun s items
-run_possible stay s [] = record { replies = []; last = s; run = refl; calm = λ well. refl; fed = λ all. tt }
-run_possible stay s (Asked request ∷ items) =
-    let p = answer_good stay s request in
-    let q = run_possible stay p.next items in
-    record {
-      replies = p.reply ∷ q.replies;
-      last = q.last;
-      run = (p.next, p.is, q.run);
-      calm = λ well. let first : item_faults p.next (Asked request) p.reply ≡ 0 = p.calm in rw first (rw (zero-add (faults_of IsNobody p.next items q.replies q.last q.run)) (q.calm well.1));
-      fed = λ all. (p.fed all, q.fed (p.there all));
-    }
-run_possible stay s (Wrong fault ∷ items) =
-    let q = run_possible stay s items in
-    record {
-      replies = Replies.Refused fault ∷ q.replies;
-      last = q.last;
-      run = (s, (refl, refl), q.run);
-      calm = λ well. let first : item_faults s (Wrong fault) (Replies.Refused fault) ≡ 0 = well.0 in rw first (rw (zero-add (faults_of IsNobody s items q.replies q.last q.run)) (q.calm well.1));
-      fed = λ all. q.fed all;
-    }
+  pub all_fed : (s : Session) (items : List Heard) → AllNumbered (now s) s.tickets → NoneStarves items (replies_told s items)
+  all_fed s [] all = tt
+  all_fed s (Asked request ∷ items) all =
+      let good = class_good stay s (class_of request) (of_request request) in
+      (good.fed all, all_fed (request_told s request).next items (good.numbered all))
+  all_fed s (Wrong fault ∷ items) all = all_fed s items all

@@ -12,8 +12,12 @@ use Rattle.request_form.specs.declared.form.Fault.TheVariants as Faults
 use Rattle.request_form.specs.Session.{Session, IsNobody, sees, drops}
 use Rattle.request_form.specs.Transcript.{first_session}
 use Rattle.request_form.specs.Own.{events_made}
-use Rattle.request_form.specs.Answers.{FinishHindered}
-use Rattle.request_form.specs.HangUp.{GivenUp, HungUp, begins_anew, finishes_made}
+use Rattle.range_log.specs.Depths.{fold_number, depth_by}
+use Rattle.range_log.specs.Extents.{touches}
+use Rattle.range_log.specs.Rows.{folds_by}
+use Rattle.range_log.specs.Updates.{extents}
+use Rattle.request_form.specs.Answers.{FinishTurn}
+use Rattle.request_form.specs.HangUp.{HungUp, begins_anew, finishes_made}
 use Rattle.request_form.proofs.Told.{request_told}
 
 abbrev alone : Session
@@ -33,12 +37,17 @@ row =
     Requests.Create ∷ Requests.StartAppend 1 (170 ∷ []) ∷ Requests.Append 1 (187 ∷ 204 ∷ []) ∷ Requests.Sync 1 2 ∷ Requests.Append 7 (1 ∷ []) ∷ Requests.Finish 1
     ∷ Requests.Finish 1 ∷ Requests.Write 1 0 (1 ∷ []) ∷ Requests.StartWrite 1 1 (2 ∷ []) ∷ Requests.Read 1 3 0 3 ∷ Requests.Branch 1 3 ∷ Requests.Branch 1 4 ∷ Requests.Quit ∷ []
 
-row_made : made_after alone row
-    ≡ Events.Create 1 ∷ Events.Assign 1 1 Append (170 ∷ []) ∷ Events.Assign 1 1 Append (187 ∷ 204 ∷ []) ∷ Events.Finish 1 1 2 ∷ Events.Finish 1 1 1
+abbrev row_events : List Event
+row_events =
+    Events.Create 1 ∷ Events.Assign 1 1 Append (170 ∷ []) ∷ Events.Assign 1 1 Append (187 ∷ 204 ∷ []) ∷ Events.Finish 1 1 2 ∷ Events.Finish 1 1 1
     ∷ Events.Assign 1 1 (WriteAt 0) (1 ∷ []) ∷ Events.Finish 1 1 3 ∷ Events.Assign 1 1 (WriteAt 1) (2 ∷ []) ∷ Events.Branch 1 1 3 ∷ []
+
+row_made : made_after alone row ≡ row_events
+unfolding fold_number depth_by touches folds_by extents
 row_made = refl
 
-row_seen : (told_after alone row).seen ≡ made_after alone row
+row_seen : (told_after alone row).seen ≡ row_events
+unfolding fold_number depth_by touches folds_by extents
 row_seen = refl
 
 -- an update that others finished, and one for which no memory was found once it was numbered
@@ -77,11 +86,11 @@ hung_up = record {
   mid = third_given;
   gives_up = (
     first_given,
-    GivenUp.reported (record { others = []; is_gap = refl; published = 2; done = refl; said = refl; seen = refl }),
+    record { others = []; is_gap = refl; turn = _; may = FinishTurn.finished 2 refl (λ folds. refl) refl; said = refl; seen = refl },
     (
       second_given,
-      GivenUp.found_finished (record { others = []; is_gap = refl; refused = refl; said = refl; seen = refl }),
-      (third_given, GivenUp.dropped (record { mid = sees second_given []; hindered = FinishHindered.out_of_memory (record { others = []; is_gap = refl; said = refl; seen = refl }); dropped = refl }), refl),
+      record { others = []; is_gap = refl; turn = _; may = FinishTurn.found refl; said = refl; seen = refl },
+      (third_given, record { others = []; is_gap = refl; turn = _; may = FinishTurn.out_of_memory; said = refl; seen = refl }, refl),
     ),
   );
   counts_are = refl;

@@ -5,12 +5,15 @@ use Rattle.std.proofs.lemmas.Bool.{eq-eqb}
 use Rattle.std.proofs.lemmas.List.Sums.{sum_by-cons, sum_by_push}
 use Rattle.blob_model.specs.History.{AllOther}
 use Rattle.request_form.specs.declared.form.Reply.{Reply}
-use Rattle.request_form.specs.Session.{Session, HeldTicket, without_ticket}
-use Rattle.request_form.specs.Answers.{Gap, FinishHindered}
+use Rattle.request_form.specs.declared.form.Reply.TheVariants as Replies
+use Rattle.blob_model.specs.declared.call.Event.{Event}
+use Rattle.request_form.specs.Session.{Session, HeldTicket, sees, without_ticket}
+use Rattle.request_form.specs.Turns.{Gap, Tickets, Turn, with_tickets, and_made}
+use Rattle.request_form.specs.Answers.{FinishTurn}
 use Rattle.request_form.specs.Own.{Makes, finish_made}
-use Rattle.request_form.specs.HangUp.{Dropped, GivenUp, GivesUp, GivenUpCounts, given_up_counts, tells_finished, tells_no_memory, tells_pending, tells_page_fault, finishes_made}
+use Rattle.request_form.specs.HangUp.{GivenUp, GivesUp, GivenUpCounts, given_up_counts, tells_finished, tells_no_memory, tells_pending, tells_page_fault, finishes_made}
 use Rattle.request_form.specs.Laws.{GivingUpGoesOn, HangUpsHold}
-use Rattle.request_form.proofs.Own.{makes_none, Makes-trans, reported_makes, found_finished_makes, hindered_finish_makes}
+use Rattle.request_form.proofs.Own.{makes_none, Makes-trans, once_makes, finish_tells}
 
 pub given_up_more : GivingUpGoesOn
 given_up_more s [] [] mid ticket reply s' e one = (s', subst (λ (x : Session). GivenUp AllOther x ticket reply s') e one, refl)
@@ -27,53 +30,43 @@ count_more tells replies reply = sum_by_push (λ r. cond (tells r) 1 0) replies 
 first_without : (ticket : HeldTicket) (tickets : List HeldTicket) → without_ticket (ticket ∷ tickets) ticket.number ≡ tickets
 first_without ticket tickets = ap (λ (t : Bool). if t then tickets else ticket ∷ without_ticket tickets ticket.number) (eq-eqb ticket.number ticket.number refl)
 
+-- its reply is counted once
+abbrev counted : Reply → ℕ
+counted r = cond (tells_finished r) 1 0 + cond (tells_no_memory r) 1 0 + cond (tells_pending r) 1 0 + cond (tells_page_fault r) 1 0
+
+module _ (s : Session) (ticket : HeldTicket) (front : List Event) where
+  abbrev pub Given : Turn → Type 0
+  Given turn = FinishTurn s ticket.blob ticket.version (λ published. Replies.Finished published) (Tickets.drop ticket.number) (Tickets.drop ticket.number) front turn
+
+  given_drops : (turn : Turn) → Given turn → turn.tickets ≡ Tickets.drop ticket.number
+  given_drops _ (FinishTurn.finished published unfinished ready e) = refl
+  given_drops _ (FinishTurn.found e) = refl
+  given_drops _ (FinishTurn.waits held unfinished folds e) = refl
+  given_drops _ (FinishTurn.not_folded page unfinished folds ready) = refl
+  given_drops _ FinishTurn.out_of_memory = refl
+
+  given_counted : (turn : Turn) → Given turn → counted turn.said ≡ 1
+  given_counted _ (FinishTurn.finished published unfinished ready e) = refl
+  given_counted _ (FinishTurn.found e) = refl
+  given_counted _ (FinishTurn.waits held unfinished folds e) = refl
+  given_counted _ (FinishTurn.not_folded page unfinished folds ready) = refl
+  given_counted _ FinishTurn.out_of_memory = refl
+
 module _ (s s' : Session) (ticket : HeldTicket) (reply : Reply) where
-  dropped_makes : Dropped AllOther s ticket reply s' → Makes s (finish_made s.caller ticket reply) s'
-  dropped_makes d =
-      let m = hindered_finish_makes s d.mid ticket reply d.hindered in
-      record {
-        fixed = ap (λ (x : Session). x.fixed) d.dropped ∙ m.fixed;
-        caller = ap (λ (x : Session). x.caller) d.dropped ∙ m.caller;
-        more = m.more;
-        seen = ap (λ (x : Session). x.seen) d.dropped ∙ m.seen;
-        own_after = rw (ap (λ (x : Session). x.seen) d.dropped) m.own_after;
-      }
+  pub given_up_makes : GivenUp AllOther s ticket reply s' → Makes s (finish_made s.caller ticket.blob ticket.version reply) s'
+  given_up_makes a =
+      once_makes s s' _ (λ r. finish_made s.caller ticket.blob ticket.version r) reply
+      (λ front turn t. finish_tells s front ticket.blob ticket.version _ _ _ (λ published. refl) turn t) a
 
-  pub given_up_makes : GivenUp AllOther s ticket reply s' → Makes s (finish_made s.caller ticket reply) s'
-  given_up_makes (GivenUp.reported t) = reported_makes s s' ticket reply t
-  given_up_makes (GivenUp.found_finished t) = found_finished_makes s s' ticket reply t
-  given_up_makes (GivenUp.dropped d) = dropped_makes d
-
-  hindered_tickets : (gap : Gap) (blob version : ℕ) → FinishHindered gap s blob version reply s' → s'.tickets ≡ s.tickets
-  hindered_tickets gap blob version (FinishHindered.out_of_memory t) = ap (λ (x : Session). x.tickets) t.seen
-  hindered_tickets gap blob version (FinishHindered.waits t) = ap (λ (x : Session). x.tickets) t.seen
-  hindered_tickets gap blob version (FinishHindered.not_folded t) = ap (λ (x : Session). x.tickets) t.seen
-
-module _ (s s' : Session) (ticket : HeldTicket) (reply : Reply) where
   -- it was the first of those that are held
   given_up_tickets : (gap : Gap) (tickets : List HeldTicket) → s.tickets ≡ ticket ∷ tickets → GivenUp gap s ticket reply s' → s'.tickets ≡ tickets
-  given_up_tickets gap tickets e (GivenUp.reported t) =
-      ap (λ (x : Session). x.tickets) t.seen ∙ (ap (λ (l : List HeldTicket). without_ticket l ticket.number) e ∙ first_without ticket tickets)
-  given_up_tickets gap tickets e (GivenUp.found_finished t) =
-      ap (λ (x : Session). x.tickets) t.seen ∙ (ap (λ (l : List HeldTicket). without_ticket l ticket.number) e ∙ first_without ticket tickets)
-  given_up_tickets gap tickets e (GivenUp.dropped d) =
-      ap (λ (x : Session). x.tickets) d.dropped
-      ∙ (ap (λ (l : List HeldTicket). without_ticket l ticket.number) (hindered_tickets s d.mid ticket reply gap ticket.blob ticket.version d.hindered)
-      ∙ (ap (λ (l : List HeldTicket). without_ticket l ticket.number) e ∙ first_without ticket tickets))
-
-  -- its reply is counted once
-  abbrev counted : Reply → ℕ
-  counted r = cond (tells_finished r) 1 0 + cond (tells_no_memory r) 1 0 + cond (tells_pending r) 1 0 + cond (tells_page_fault r) 1 0
-
-  hindered_counted : (gap : Gap) (blob version : ℕ) (mid : Session) → FinishHindered gap s blob version reply mid → counted reply ≡ 1
-  hindered_counted gap blob version mid (FinishHindered.out_of_memory t) = ap counted t.said
-  hindered_counted gap blob version mid (FinishHindered.waits t) = ap counted t.said
-  hindered_counted gap blob version mid (FinishHindered.not_folded t) = ap counted t.said
+  given_up_tickets gap tickets e a =
+      let is : s' ≡ with_tickets (Tickets.drop ticket.number) (sees s (and_made a.others a.turn.made)) =
+      a.seen ∙ ap (λ (t : Tickets). with_tickets t (sees s (and_made a.others a.turn.made))) (given_drops s ticket a.others a.turn a.may) in
+      ap (λ (x : Session). x.tickets) is ∙ (ap (λ (l : List HeldTicket). without_ticket l ticket.number) e ∙ first_without ticket tickets)
 
   given_up_counted : (gap : Gap) → GivenUp gap s ticket reply s' → counted reply ≡ 1
-  given_up_counted gap (GivenUp.reported t) = ap counted t.said
-  given_up_counted gap (GivenUp.found_finished t) = ap counted t.said
-  given_up_counted gap (GivenUp.dropped d) = hindered_counted gap ticket.blob ticket.version d.mid d.hindered
+  given_up_counted gap a = ap counted a.said ∙ given_counted s ticket a.others a.turn a.may
 
 -- ---- all of them
 gives_up_tickets : (gap : Gap) (s : Session) (tickets : List HeldTicket) (replies : List Reply) (s' : Session) → s.tickets ≡ tickets → GivesUp gap s tickets replies s' → s'.tickets ≡ []
@@ -104,7 +97,7 @@ gives_up_makes s [] [] s' same = makes_none s s' same
 gives_up_makes s (t ∷ ts) (r ∷ rs) s' (mid, first, rest) =
     let a = given_up_makes s mid t r first in
     let b : Makes mid (finishes_made s.caller ts rs) s' = subst (λ (c : ℕ). Makes mid (finishes_made c ts rs) s') a.caller (gives_up_makes mid ts rs s' rest) in
-    Makes-trans s mid s' (finish_made s.caller t r) (finishes_made s.caller ts rs) a b
+    Makes-trans s mid s' (finish_made s.caller t.blob t.version r) (finishes_made s.caller ts rs) a b
 gives_up_makes s [] (r ∷ rs) s' none = absurd none
 gives_up_makes s (t ∷ ts) [] s' none = absurd none
 

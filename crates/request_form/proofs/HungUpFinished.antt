@@ -1,23 +1,25 @@
 -- What hanging up counts as finished is finished.
-use Rattle.std.proofs.Common.{◌≡◌, ℕ, ◌≤◌, ◌==◌, ◌&&◌, ◌||◌, Bool, true, false, if◌then◌else◌, List, [], ◌∷◌, ◌++◌, length, refl, sym, ap, subst, ◌∙◌, arith, length-append}
+use Rattle.std.proofs.Common.{◌≡◌, ℕ, ◌==◌, ◌&&◌, ◌||◌, nat_lt, Bool, true, false, if◌then◌else◌, List, [], ◌∷◌, ◌++◌, refl, sym, ap, subst, ◌∙◌}
 use Rattle.std.specs.Prelude.{Option, Some, None}
 use Rattle.std.proofs.lemmas.Bool.{eq-eqb, false≢true}
-use Rattle.blob_model.specs.Content.{Update}
 use Rattle.blob_model.specs.Limits.{Bounds}
-use Rattle.blob_model.specs.Store.{Store, Blob, blob_at, with_blob, assigned, published, finish, is_finished}
-use Rattle.blob_model.specs.Answer.{Answered, refuse, unless_refused, already}
-use Rattle.blob_model.specs.History.{AllOther, IsNumbered, finishes, store_of}
+use Rattle.blob_model.specs.Store.{Store, Blob, blob_at, assigned, published, is_finished}
+use Rattle.blob_model.specs.Answer.{first_refusal, not_numbered, already}
+use Rattle.blob_model.specs.History.{AllOther, finishes, store_of}
 use Rattle.blob_model.specs.Laws.{OldVersionsStay, FinishedByEvents}
 use Rattle.blob_model.specs.declared.call.Event.{Event}
 use Rattle.blob_model.specs.declared.call.Event.TheVariants as Events
-use Rattle.blob_model.specs.declared.call.Outcome.TheVariants as Outcomes
+use Rattle.blob_model.specs.declared.call.Refusal.{Refusal}
 use Rattle.blob_model.specs.declared.call.Refusal.TheVariants as Refusals
 use Rattle.request_form.specs.declared.form.Reply.{Reply}
 use Rattle.request_form.specs.Session.{Fixed, Session, HeldTicket, store_at}
-use Rattle.request_form.specs.Answers.{FinishHindered}
+use Rattle.request_form.specs.Turns.{Turn, and_made}
+use Rattle.request_form.specs.Answers.{FinishTurn}
 use Rattle.request_form.specs.HangUp.{GivenUp, GivesUp, tells_finished, IsFinishedIn, AllNumbered, AllFinished}
 use Rattle.request_form.specs.Laws.{HungUpAreFinished}
-use Rattle.request_form.proofs.HangUps.{given_up_makes, gives_up_makes}
+use Rattle.request_form.proofs.Numbered.{Numbered, numbered, numbered_later, all_numbered_later}
+use Rattle.request_form.proofs.Runs.{turn_grows}
+use Rattle.request_form.proofs.HangUps.{Given, given_up_makes, gives_up_makes}
 
 or_true : (t : Bool) → (t || true) ≡ true
 or_true true = refl
@@ -33,56 +35,25 @@ finishes_last caller blob version (Events.Finish c other v ∷ xs) =
     ap (λ (t : Bool). ((other == blob) && (v == version)) || t) (finishes_last caller blob version xs) ∙ or_true ((other == blob) && (v == version))
 finishes_last caller blob version (Events.Branch c other v ∷ xs) = finishes_last caller blob version xs
 
--- a numbered version of a blob
-record Numbered (store : Store) (ticket : HeldTicket) : Type 0 where
-  b : Blob
-  at : blob_at store ticket.blob ≡ Some b
-  some : 1 ≤ ticket.version
-  within : ticket.version ≤ assigned b
-
-some_numbered : (o : Option Blob) (version : ℕ) → IsNumbered o version → (b : Blob) × (o ≡ Some b) × (1 ≤ version) × (version ≤ assigned b)
-some_numbered None version none = absurd none
-some_numbered (Some b) version n = (b, refl, n.0, n.1)
-
-numbered : (store : Store) (ticket : HeldTicket) → IsNumbered (blob_at store ticket.blob) ticket.version → Numbered store ticket
-numbered store ticket n = let (b, at, some, within) = some_numbered (blob_at store ticket.blob) ticket.version n in record { b = b; at = at; some = some; within = within }
-
-is_numbered : (store : Store) (ticket : HeldTicket) → Numbered store ticket → IsNumbered (blob_at store ticket.blob) ticket.version
-is_numbered store ticket n = subst (λ (o : Option Blob). IsNumbered o ticket.version) (sym n.at) (n.some, n.within)
-
 same_blob : (o : Option Blob) (a b : Blob) → o ≡ Some a → o ≡ Some b → a ≡ b
 same_blob o a b p q = cc
 
 -- ---- a finish that is refused as it was done before
-already_then : (t : Bool) (store : Store) (version : ℕ) (done : Answered) (n : ℕ) → done.1 ≡ Outcomes.Published n
-    → (let a : Answered = elim (if t then Some (Refusals.Already version) else None) [ Some r ↦ refuse store r | None ↦ done ] in a).1 ≡ Outcomes.Refused (Refusals.Already version) → t ≡ true
-already_then true store version done n is e = refl
-already_then false store version done n is e = let never : ⊥ = cc in absurd never
+refused_already : (low done : Bool) (version least : ℕ)
+    → (if low then Some (Refusals.NotPublished version least) else (if done then Some (Refusals.Already version) else None)) ≡ Some (Refusals.Already version) → done ≡ true
+refused_already true done version least e = let never : ⊥ = cc in absurd never
+refused_already false true version least e = refl
+refused_already false false version least e = let never : ⊥ = cc in absurd never
 
 found_in : (store : Store) (ticket : HeldTicket) (o : Option Blob) → blob_at store ticket.blob ≡ o
-    → (let a : Answered =
-    elim o [
-      | None ↦ refuse store (Refusals.NoBlob ticket.blob)
-      | Some b ↦
-          unless_refused store (already b ticket.version ∷ []) (with_blob store ticket.blob (finish b ticket.version), Outcomes.Published (published (finish b ticket.version)))
-    ] in a).1 ≡ Outcomes.Refused (Refusals.Already ticket.version) → IsFinishedIn store ticket
+    → (let r : Option Refusal =
+    elim o [ None ↦ Some (Refusals.NoBlob ticket.blob) | Some b ↦ first_refusal (not_numbered b ticket.version ∷ already b ticket.version ∷ []) ] in r)
+    ≡ Some (Refusals.Already ticket.version) → IsFinishedIn store ticket
 found_in store ticket None at e = let never : ⊥ = cc in absurd never
-found_in store ticket (Some b) at e = (b, at, already_then (is_finished b ticket.version) store ticket.version _ _ refl e)
+found_in store ticket (Some b) at e = (b, at, refused_already (nat_lt (assigned b) ticket.version) (is_finished b ticket.version) ticket.version (published b) e)
 
 -- ---- later
 module _ (stay : OldVersionsStay) (by_events : FinishedByEvents) (limits : Bounds) where
-  numbered_later : (h more h' : List Event) (ticket : HeldTicket) → h' ≡ h ++ more → Numbered (store_of limits h) ticket → Numbered (store_of limits h') ticket
-  numbered_later h more h' ticket e n =
-      let (new, at, stays) = stay limits h more ticket.blob n.b n.at in
-      let longer : length new.updates ≡ length (n.b.updates ++ stays.later) = ap (λ (us : List Update). length us) stays.updates in
-      subst (λ (x : List Event). Numbered (store_of limits x) ticket) (sym e)
-      (record { b = new; at = at; some = n.some; within = omega (arith, n.within, longer, length-append n.b.updates stays.later) })
-
-  all_numbered_later : (h more h' : List Event) (tickets : List HeldTicket) → h' ≡ h ++ more → AllNumbered (store_of limits h) tickets → AllNumbered (store_of limits h') tickets
-  all_numbered_later h more h' [] e all = tt
-  all_numbered_later h more h' (t ∷ ts) e all =
-      (is_numbered (store_of limits h') t (numbered_later h more h' t e (numbered (store_of limits h) t all.0)), all_numbered_later h more h' ts e all.1)
-
   -- a numbered version is finished later where it was, or where an event finishes it
   marked_later : (h more h' : List Event) (ticket : HeldTicket) → h' ≡ h ++ more → (n : Numbered (store_of limits h) ticket)
       → (is_finished n.b ticket.version || finishes ticket.blob ticket.version more) ≡ true → IsFinishedIn (store_of limits h') ticket
@@ -104,20 +75,22 @@ module _ (stay : OldVersionsStay) (by_events : FinishedByEvents) (limits : Bound
       (ap (λ (t : Bool). is_finished n.b ticket.version || t) (finishes_last caller ticket.blob ticket.version others) ∙ or_true (is_finished n.b ticket.version))
 
 -- ---- tickets that are given up
-hindered_tells : (s mid : Session) (blob version : ℕ) (reply : Reply) → FinishHindered AllOther s blob version reply mid → tells_finished reply ≡ false
-hindered_tells s mid blob version reply (FinishHindered.out_of_memory t) = ap (λ (r : Reply). tells_finished r) t.said
-hindered_tells s mid blob version reply (FinishHindered.waits t) = ap (λ (r : Reply). tells_finished r) t.said
-hindered_tells s mid blob version reply (FinishHindered.not_folded t) = ap (λ (r : Reply). tells_finished r) t.said
-
 module _ (stay : OldVersionsStay) (by_events : FinishedByEvents) where
+  finished_turn : (s : Session) (seen : List Event) (ticket : HeldTicket) (front : List Event) (turn : Turn) → Numbered (store_of s.fixed.limits s.seen) ticket → Given s ticket front turn
+      → seen ≡ s.seen ++ and_made front turn.made → tells_finished turn.said ≡ true → IsFinishedIn (store_of s.fixed.limits seen) ticket
+  finished_turn s seen ticket front _ n (FinishTurn.finished published unfinished ready e) is told =
+      finished_by_last stay by_events s.fixed.limits s.seen front s.caller seen ticket is n
+  finished_turn s seen ticket front _ n (FinishTurn.found e) is told =
+      subst (λ (x : List Event). IsFinishedIn (store_of s.fixed.limits x) ticket) (sym is) (found_in (store_at s front) ticket (blob_at (store_at s front) ticket.blob) refl e)
+  finished_turn s seen ticket front _ n (FinishTurn.waits held unfinished folds e) is told = absurd (false≢true told)
+  finished_turn s seen ticket front _ n (FinishTurn.not_folded page unfinished folds ready) is told = absurd (false≢true told)
+  finished_turn s seen ticket front _ n FinishTurn.out_of_memory is told = absurd (false≢true told)
+
   finished_then : (s mid : Session) (ticket : HeldTicket) (reply : Reply) → Numbered (store_of s.fixed.limits s.seen) ticket → GivenUp AllOther s ticket reply mid
       → tells_finished reply ≡ true → IsFinishedIn (store_of s.fixed.limits mid.seen) ticket
-  finished_then s mid ticket reply n (GivenUp.reported t) told =
-      finished_by_last stay by_events s.fixed.limits s.seen t.others s.caller mid.seen ticket (ap (λ (x : Session). x.seen) t.seen) n
-  finished_then s mid ticket reply n (GivenUp.found_finished t) told =
-      let found : IsFinishedIn (store_at s t.others) ticket = found_in (store_at s t.others) ticket (blob_at (store_at s t.others) ticket.blob) refl t.refused in
-      subst (λ (x : List Event). IsFinishedIn (store_of s.fixed.limits x) ticket) (sym (ap (λ (x : Session). x.seen) t.seen)) found
-  finished_then s mid ticket reply n (GivenUp.dropped d) told = absurd (false≢true (sym (hindered_tells s d.mid ticket.blob ticket.version reply d.hindered) ∙ told))
+  finished_then s mid ticket reply n a told =
+      finished_turn s mid.seen ticket a.others a.turn n a.may (turn_grows AllOther s (λ front turn. Given s ticket front turn) reply mid a).seen
+      (sym (ap (λ (r : Reply). tells_finished r) a.said) ∙ told)
 
   all_finished : (s : Session) (tickets : List HeldTicket) (replies : List Reply) (s' : Session) → GivesUp AllOther s tickets replies s'
       → AllNumbered (store_of s.fixed.limits s.seen) tickets → AllFinished (store_of s.fixed.limits s'.seen) tickets replies
@@ -126,8 +99,8 @@ module _ (stay : OldVersionsStay) (by_events : FinishedByEvents) where
       let one = given_up_makes s mid t r first in
       let later = gives_up_makes mid ts rs s' rest in
       let n : Numbered (store_of s.fixed.limits s.seen) t = numbered (store_of s.fixed.limits s.seen) t all.0 in
-      let still : Numbered (store_of s.fixed.limits mid.seen) t = numbered_later stay by_events s.fixed.limits s.seen one.more mid.seen t one.seen n in
-      let others : AllNumbered (store_of s.fixed.limits mid.seen) ts = all_numbered_later stay by_events s.fixed.limits s.seen one.more mid.seen ts one.seen all.1 in
+      let still : Numbered (store_of s.fixed.limits mid.seen) t = numbered_later stay s.fixed.limits s.seen one.more mid.seen t one.seen n in
+      let others : AllNumbered (store_of s.fixed.limits mid.seen) ts = all_numbered_later stay s.fixed.limits s.seen one.more mid.seen ts one.seen all.1 in
       let limits : mid.fixed.limits ≡ s.fixed.limits = ap (λ (x : Fixed). x.limits) one.fixed in
       let more : AllFinished (store_of mid.fixed.limits s'.seen) ts rs =
       all_finished mid ts rs s' rest (subst (λ (l : Bounds). AllNumbered (store_of l mid.seen) ts) (sym limits) others) in (

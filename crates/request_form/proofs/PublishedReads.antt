@@ -1,5 +1,5 @@
 -- Reads of published versions stay what they are.
-use Rattle.std.proofs.Common.{◌≡◌, ℕ, ◌+◌, ◌≤◌, nat_lt, Bool, true, false, if◌then◌else◌, List, [], ◌∷◌, ◌++◌, length, take, drop, refl, sym, ap, ◌∙◌, arith}
+use Rattle.std.proofs.Common.{◌≡◌, ℕ, ◌+◌, ◌≤◌, nat_lt, Bool, true, false, if◌then◌else◌, List, [], ◌∷◌, ◌++◌, length, take, drop, refl, sym, ap, subst, ◌∙◌, arith}
 use Rattle.std.specs.Prelude.{Option, Some, None}
 use Rattle.std.proofs.lemmas.Bool.{false≢true}
 use Rattle.std.proofs.lemmas.Bool.Decides.{nat_tests}
@@ -19,10 +19,13 @@ use Rattle.request_form.specs.declared.form.Reply.{Reply}
 use Rattle.request_form.specs.declared.form.Reply.TheVariants as Replies
 use Rattle.request_form.specs.declared.form.Fault.TheVariants as Faults
 use Rattle.request_form.specs.Replies.{reply_of}
-use Rattle.request_form.specs.Session.{Session, outcome_at, sees}
-use Rattle.request_form.specs.Answers.{Unless, ReadAnswer, max_read}
+use Rattle.request_form.specs.Session.{Session, outcome_at}
+use Rattle.request_form.specs.Turns.{Turn, and_made, AfterGap}
+use Rattle.request_form.specs.Answers.{Unless, ReadTurn, max_read}
 use Rattle.request_form.specs.PublishedReads.{IsPublishedIn, Range, Tells, read_outcome}
 use Rattle.request_form.specs.Laws.{PublishedReadsStay, PublishedReadsAgree}
+use Rattle.request_form.proofs.Runs.{turn_grows}
+use Rattle.request_form.proofs.Own.{read_tells}
 
 -- ---- what a store answers
 -- the range's bytes of a content, or what is refused
@@ -72,25 +75,34 @@ module _ (stay : OldVersionsStay) (numbered : PublishedAreNumbered) where
   too_long_told outcome count true reply s s' Answer f u = Tells.too_long u.0
   too_long_told outcome count false reply s s' Answer f u = f u
 
-  read_told : (outcome : Outcome) (range : Range) (reply : Reply) (s s' : Session)
-      → ((others : List Event) → s' ≡ sees s others → outcome_at s others (Calls.Read range.blob range.version range.offset range.count) ≡ outcome)
-      → ReadAnswer AllOther s range.blob range.version range.offset range.count reply s' → Tells outcome range.count reply
-  read_told outcome range reply s s' same (ReadAnswer.content t) = Tells.outcome_told (t.said ∙ ap (λ (o : Outcome). reply_of o) (sym t.done ∙ same t.others t.seen))
-  read_told outcome range reply s s' same (ReadAnswer.refused t) = Tells.outcome_told (t.said ∙ ap (λ (o : Outcome). reply_of o) (sym t.refused ∙ same t.others t.seen))
-  read_told outcome range reply s s' same (ReadAnswer.out_of_memory t) = Tells.out_of_memory t.said
-  read_told outcome range reply s s' same (ReadAnswer.not_read t) = Tells.not_read t.page t.said
+  turn_told : (range : Range) (s : Session) (front : List Event) (turn : Turn) → ReadTurn s range.blob range.version range.offset range.count front turn
+      → Tells (outcome_at s front (Calls.Read range.blob range.version range.offset range.count)) range.count turn.said
+  turn_told range s front _ (ReadTurn.content bytes e) = Tells.outcome_told (ap (λ (o : Outcome). reply_of o) (sym e))
+  turn_told range s front _ (ReadTurn.refused refusal e) = Tells.outcome_told (ap (λ (o : Outcome). reply_of o) (sym e))
+  turn_told range s front _ ReadTurn.out_of_memory = Tells.out_of_memory refl
+  turn_told range s front _ (ReadTurn.not_read bytes e some page meets) = Tells.not_read page refl
+
+  read_told : (range : Range) (s : Session) (reply : Reply) (s' : Session) (outcome : Outcome)
+      → ((others : List Event) → s'.seen ≡ s.seen ++ others → outcome_at s others (Calls.Read range.blob range.version range.offset range.count) ≡ outcome)
+      → AfterGap AllOther s (ReadTurn s range.blob range.version range.offset range.count) reply s' → Tells outcome range.count reply
+  read_told range s reply s' outcome same a =
+      let no : a.turn.made ≡ [] = sym (read_tells s a.others range.blob range.version range.offset range.count a.turn a.may).is in
+      let seen : s'.seen ≡ s.seen ++ a.others =
+      (turn_grows AllOther s _ reply s' a).seen ∙ ap (λ (l : List Event). s.seen ++ and_made a.others l) no in
+      subst (λ (r : Reply). Tells outcome range.count r) (sym a.said)
+      (subst (λ (o : Outcome). Tells o range.count a.turn.said) (same a.others seen) (turn_told range s a.others a.turn a.may))
 
   pub reads_stay : PublishedReadsStay
   reads_stay limits history range reply is r =
       let s : Session = r.before in
-      let same : (others : List Event) → r.after ≡ sees s others
+      let same : (others : List Event) → r.after.seen ≡ s.seen ++ others
       → outcome_at s others (Calls.Read range.blob range.version range.offset range.count) ≡ read_outcome (store_of limits history) range =
       λ others e.
-      let seen : s.seen ++ others ≡ history ++ r.more = sym (ap (λ (x : Session). x.seen) e) ∙ r.seen in
+      let seen : s.seen ++ others ≡ history ++ r.more = sym e ∙ r.seen in
       ap (λ (l : Bounds). read_outcome (store_of l (s.seen ++ others)) range) r.limits_are
       ∙ (ap (λ (h : List Event). read_outcome (store_of limits h) range) seen ∙ same_read limits history r.more range is) in
       too_long_told (read_outcome (store_of limits history) range) range.count (nat_lt max_read range.count) reply s r.after _
-      (read_told (read_outcome (store_of limits history) range) range reply s r.after same) r.answered
+      (read_told range s reply r.after (read_outcome (store_of limits history) range) same) r.answered
 
   content_told : (outcome : Outcome) (count : ℕ) (bytes : List ℕ) → Tells outcome count (Replies.Content bytes) → Replies.Content bytes ≡ reply_of outcome
   content_told outcome count bytes (Tells.outcome_told e) = e

@@ -1,6 +1,6 @@
 -- Worked rows, computed from the definitions alone. The tests of lines, frames and sessions go through the same rows.
 use Rattle.std.specs.Prelude.{◌≡◌, ◌≢◌, ℕ, ◌+◌, List, [], ◌∷◌, ◌++◌, replicate, Some, None, refl}
-use Rattle.std.proofs.Common.{arith}
+use Rattle.std.proofs.Common.{inl, inr, arith}
 use Rattle.blob_model.specs.Limits.{Bounds, greatest}
 use Rattle.blob_model.specs.declared.call.Event.TheVariants as Events
 use Rattle.blob_model.specs.declared.call.Place.TheVariants.{WriteAt, Append}
@@ -15,7 +15,11 @@ use Rattle.request_form.specs.declared.form.Heard.TheVariants.{Asked, Wrong}
 use Rattle.request_form.specs.declared.form.Fault.TheVariants as Faults
 use Rattle.blob_model.specs.History.{AllOther}
 use Rattle.request_form.specs.Session.{Session, HeldTicket, IsNobody, sees, holds, ticket_at, without_ticket}
-use Rattle.request_form.specs.Answers.{Updated, Reported, FoundFinished, LookAnswer, update_fault, ranges_fault, answer_faults, max_update}
+use Rattle.range_log.specs.Depths.{fold_number, depth_by}
+use Rattle.range_log.specs.Extents.{touches}
+use Rattle.range_log.specs.Rows.{folds_by}
+use Rattle.range_log.specs.Updates.{extents}
+use Rattle.request_form.specs.Answers.{AfterTwoGaps, FinishTurn, IsStoredThen, WholeTurn, FinishAnswer, LookAnswer, update_fault, ranges_fault, answer_faults, max_update}
 use Rattle.request_form.specs.Transcript.{Transcript, first_session}
 use Rattle.request_form.proofs.Told.{replies_told, told_is, request_told}
 
@@ -49,6 +53,7 @@ finish_out_of_order : replies
     (Create ∷ StartAppend 1 (170 ∷ []) ∷ StartAppend 1 (187 ∷ []) ∷ Finish 2 ∷ Status 1 ∷ Read 1 2 0 2 ∷ Finish 1 ∷ Read 1 2 0 2 ∷ [])
     ≡ Created 1 ∷ AppendStarted 1 1 0 1 ∷ AppendStarted 2 2 1 2 ∷ Finished 0 ∷ StatusIs 2 0 1 ∷ Refused (Faults.NotPublished 2 0)
     ∷ Finished 2 ∷ Content (170 ∷ 187 ∷ []) ∷ []
+unfolding fold_number depth_by touches folds_by extents
 finish_out_of_order = refl
 
 -- a finished ticket is given up
@@ -56,11 +61,13 @@ ticket_given_up : replies
     (Create ∷ StartAppend 1 (170 ∷ []) ∷ StartAppend 1 (187 ∷ []) ∷ Finish 2 ∷ Sync 1 2 ∷ Sync 1 3 ∷ Finish 1 ∷ Sync 1 2 ∷ Finish 1 ∷ [])
     ≡ Created 1 ∷ AppendStarted 1 1 0 1 ∷ AppendStarted 2 2 1 2 ∷ Finished 0 ∷ Refused (Faults.Pending 2 1) ∷ Refused (Faults.NotPublished 3 0)
     ∷ Finished 2 ∷ Synced 2 ∷ Refused (Faults.NoTicket 1) ∷ []
+unfolding fold_number depth_by touches folds_by extents
 ticket_given_up = refl
 
 unaligned_starts : replies
     (Create ∷ StartAppend 1 (0 ∷ []) ∷ StartAppend 1 thirty_one ∷ Finish 2 ∷ Finish 1 ∷ Read 1 2 0 32 ∷ [])
     ≡ Created 1 ∷ AppendStarted 1 1 0 1 ∷ AppendStarted 2 2 1 32 ∷ Finished 0 ∷ Finished 2 ∷ Content (0 ∷ thirty_one) ∷ []
+unfolding fold_number depth_by touches folds_by extents
 unaligned_starts = refl
 
 -- a write at the size, and one past it
@@ -74,6 +81,7 @@ started_write : replies
     (Create ∷ StartAppend 1 abcdef ∷ Write 1 0 (1 ∷ []) ∷ StartWrite 1 1 (2 ∷ []) ∷ Finish 1 ∷ Finish 2 ∷ Read 1 3 0 6 ∷ [])
     ≡ Created 1 ∷ AppendStarted 1 1 0 6 ∷ Wrote 2 0 6 ∷ WriteStarted 2 3 1 6 ∷ Finished 2 ∷ Finished 3
     ∷ Content (1 ∷ 2 ∷ 99 ∷ 100 ∷ 101 ∷ 102 ∷ []) ∷ []
+unfolding fold_number depth_by touches folds_by extents
 started_write = refl
 
 looks : replies (Create ∷ Read 1 0 0 0 ∷ Size 1 0 ∷ Recent 1 ∷ Status 1 ∷ Size 1 1 ∷ Recent 2 ∷ Status 2 ∷ Sync 2 0 ∷ Size 2 0 ∷ [])
@@ -139,6 +147,7 @@ waiting_refuse : replies_within few_open
     (Create ∷ StartAppend 1 (170 ∷ []) ∷ StartAppend 1 (187 ∷ []) ∷ StartAppend 1 (204 ∷ []) ∷ Finish 2 ∷ StartAppend 1 (204 ∷ []) ∷ Finish 1 ∷ StartAppend 1 (204 ∷ []) ∷ [])
     ≡ Created 1 ∷ AppendStarted 1 1 0 1 ∷ AppendStarted 2 2 1 2 ∷ Refused (Faults.TooManyOpen 2) ∷ Finished 0 ∷ Refused (Faults.TooManyOpen 2)
     ∷ Finished 2 ∷ AppendStarted 3 3 2 3 ∷ []
+unfolding fold_number depth_by touches folds_by extents
 waiting_refuse = refl
 
 -- what is no request has its fault as reply, and what stands behind a Quit has none
@@ -181,20 +190,20 @@ started_once : Session
 started_once = holds (sees (session_with greatest) (Events.Create 1 ∷ Events.Assign 1 1 Append (97 ∷ []) ∷ [])) 1 1
 
 -- another caller has finished the update: that is told, and the ticket is given up
-finished_by_another : FoundFinished AllOther started_once (ticket 1) (Refused (Faults.Already 1))
+finished_by_another : FinishAnswer AllOther started_once 1 (Some (ticket 1)) (Refused (Faults.Already 1))
     (record { fixed = started_once.fixed; caller = 1; seen = started_once.seen ++ Events.Finish 2 1 1 ∷ []; tickets = []; next = 2; limit = max_update })
 unfolding started_once
-finished_by_another = record { others = Events.Finish 2 1 1 ∷ []; is_gap = (two_is_other, tt); refused = refl; said = refl; seen = refl }
+finished_by_another = record { others = Events.Finish 2 1 1 ∷ []; is_gap = (two_is_other, tt); turn = _; may = FinishTurn.found refl; said = refl; seen = refl }
 
 -- another caller's append is finished and waits for the session's own update, which then publishes both
-report_publishes_both : Reported AllOther started_once (ticket 1) (Finished 2)
+report_publishes_both : FinishAnswer AllOther started_once 1 (Some (ticket 1)) (Finished 2)
     (record { fixed = started_once.fixed; caller = 1; seen = started_once.seen ++ Events.Assign 2 1 Append (98 ∷ []) ∷ Events.Finish 2 1 2 ∷ Events.Finish 1 1 1 ∷ []; tickets = []; next = 2; limit = max_update })
 unfolding started_once
 report_publishes_both = record {
   others = Events.Assign 2 1 Append (98 ∷ []) ∷ Events.Finish 2 1 2 ∷ [];
   is_gap = (two_is_other, (two_is_other, tt));
-  published = 2;
-  done = refl;
+  turn = _;
+  may = FinishTurn.finished 2 refl (λ folds. refl) refl;
   said = refl;
   seen = refl;
 }
@@ -204,8 +213,16 @@ look_sees_others : LookAnswer AllOther started_once (Calls.Sync 1 2) (Refused (F
 unfolding started_once
 look_sees_others = record { others = Events.Assign 2 1 Append (98 ∷ []) ∷ Events.Finish 2 1 2 ∷ []; is_gap = (two_is_other, (two_is_other, tt)); said = refl; seen = refl }
 
+-- the byte of an update is stored behind a look, once another has made the blob; behind a look that the store refuses none is
+stored_behind_a_look : IsStoredThen (session_with greatest) 1 Append (97 ∷ []) (Events.Create 2 ∷ [])
+stored_behind_a_look = inr refl
+
+none_stored_where_refused : IsStoredThen (session_with greatest) 2 Append (97 ∷ []) (Events.Create 2 ∷ []) → ⊥
+none_stored_where_refused (inl none) = cc
+none_stored_where_refused (inr free) = cc
+
 -- an update that another finishes before its own session does
-write_finished_by_another : Updated AllOther started_once 1 (WriteAt 0) (99 ∷ []) (λ v a z. Wrote v a z) (Refused (Faults.Already 2))
+write_finished_by_another : AfterTwoGaps AllOther started_once 1 (WriteAt 0) (99 ∷ []) (WholeTurn started_once 1 (WriteAt 0)) (Refused (Faults.Already 2))
     (sees started_once (Events.Assign 1 1 (WriteAt 0) (99 ∷ []) ∷ Events.Finish 2 1 2 ∷ []))
 unfolding started_once
 write_finished_by_another = record {
@@ -217,6 +234,8 @@ write_finished_by_another = record {
   at = 0;
   size = 1;
   numbered = refl;
+  turn = _;
+  may = WholeTurn.found refl;
   said = refl;
   seen = refl;
 }

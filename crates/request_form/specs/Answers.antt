@@ -1,7 +1,8 @@
-use Rattle.std.specs.Prelude.{◌≡◌, ◌≢◌, ℕ, ◌+◌, ◌-◌, ◌*◌, ◌<◌, ◌==◌, nat_lt, Bool, false, if◌then◌else◌, List, [], ◌∷◌, ◌++◌, length, Option, Some, None, Contains}
+-- What a session may answer. Requests are told by classes: a request of a new kind of look, say, is a line of `class_of`.
+use Rattle.std.specs.Prelude.{◌≡◌, ◌≢◌, ◌⊎◌, ℕ, ◌+◌, ◌-◌, ◌*◌, ◌<◌, ◌==◌, nat_lt, Bool, true, false, if◌then◌else◌, List, [], ◌∷◌, ◌++◌, length, Option, Some, None, Contains}
 use Rattle.blob_model.specs.Store.{Store, blob_at, published}
 use Rattle.blob_model.specs.Answer.{repair_refusal}
-use Rattle.blob_model.specs.History.{finishes, is_refused}
+use Rattle.blob_model.specs.History.{event_of, finishes, is_refused}
 use Rattle.range_log.specs.Updates.{extents}
 use Rattle.range_log.specs.Rows.{folds_of}
 use Rattle.blob_model.specs.declared.call.Place.{Place}
@@ -19,8 +20,9 @@ use Rattle.request_form.specs.declared.form.Reply.{Reply}
 use Rattle.request_form.specs.declared.form.Reply.TheVariants as Replies
 use Rattle.request_form.specs.declared.form.Fault.{Fault}
 use Rattle.request_form.specs.declared.form.Fault.TheVariants as Faults
-use Rattle.request_form.specs.Replies.{fault_of, reply_of, fault_count}
-use Rattle.request_form.specs.Session.{Session, HeldTicket, store_at, outcome_at, sees, holds, ticket_at, drops, lets_go, takes_up_to}
+use Rattle.request_form.specs.Replies.{fault_of, reply_of, fault_count, added_reply, update_reply, start_reply}
+use Rattle.request_form.specs.Session.{Session, HeldTicket, store_at, outcome_at, sees, ticket_at, takes_up_to}
+pub use Rattle.request_form.specs.Turns.{Gap, Tickets, Turn, tells, refuses, AfterGap, AfterTwoGaps}
 
 -- the most bytes of an update at first, and those once a client has said hello
 abbrev pub max_update : ℕ
@@ -37,324 +39,118 @@ max_read = 16777216
 abbrev pub max_tickets : ℕ
 max_tickets = 64
 
--- A gap is what others may do before a session's next turn: events of other callers, or none where nobody else is there.
-abbrev pub Gap : Type 1
-Gap = ℕ → List Event → Type 0
-
--- ---- the ways in which a reply comes: others' events first, then the session's own, and what it has seen then
-
--- the store refuses the call
-pub record Refused (gap : Gap) (s : Session) (call : Call) (reply : Reply) (s' : Session) : Type 0 where
-  pub others : List Event
-  pub is_gap : gap s.caller others
-  pub refusal : Refusal
-  pub refused : outcome_at s others call ≡ Outcomes.Refused refusal
-  pub said : reply ≡ Replies.Refused (fault_of refusal)
-  pub seen : s' ≡ sees s others
-
--- no memory was found, and nothing is done
-pub record OutOfMemory (gap : Gap) (s : Session) (reply : Reply) (s' : Session) : Type 0 where
-  pub others : List Event
-  pub is_gap : gap s.caller others
-  pub said : reply ≡ Replies.Refused Faults.NoMemory
-  pub seen : s' ≡ sees s others
-
--- a new blob
-pub record Created (gap : Gap) (s : Session) (reply : Reply) (s' : Session) : Type 0 where
-  pub others : List Event
-  pub is_gap : gap s.caller others
-  pub blob : ℕ
-  pub done : outcome_at s others Calls.Create ≡ Outcomes.Blob blob
-  pub said : reply ≡ Replies.Created blob
-  pub seen : s' ≡ sees s (others ++ Events.Create s.caller ∷ [])
-
--- An update that was numbered, and that is finished after what others do meanwhile, unless they have finished it. What is
--- said of it once it is finished tells its version, its offset and the blob's size.
-pub record Updated (gap : Gap) (s : Session) (blob : ℕ) (place : Place) (bytes : List ℕ) (done : ℕ → ℕ → ℕ → Reply) (reply : Reply) (s' : Session) : Type 0 where
-  pub others : List Event
-  pub later : List Event
-  pub is_gap : gap s.caller others
-  pub is_gap_later : gap s.caller later
-  pub version : ℕ
-  pub at : ℕ
-  pub size : ℕ
-  pub numbered : outcome_at s others (Calls.Assign blob place bytes) ≡ Outcomes.Assigned version at size
-  pub said : reply ≡ (if finishes blob version later then Replies.Refused (Faults.Already version) else done version at size)
-  pub seen : s'
-      ≡ sees s
-      (others
-      ++ Events.Assign s.caller blob place bytes
-      ∷ (later ++ (if finishes blob version later then [] else Events.Finish s.caller blob version ∷ [])))
-
--- An update that was numbered and isn't reported: the session holds it under its next ticket. What is said of it tells the
--- ticket, its version, its offset and the blob's size.
-pub record Started (gap : Gap) (s : Session) (blob : ℕ) (place : Place) (bytes : List ℕ) (started : ℕ → ℕ → ℕ → ℕ → Reply) (reply : Reply) (s' : Session) : Type 0 where
-  pub others : List Event
-  pub is_gap : gap s.caller others
-  pub version : ℕ
-  pub at : ℕ
-  pub size : ℕ
-  pub numbered : outcome_at s others (Calls.Assign blob place bytes) ≡ Outcomes.Assigned version at size
-  pub said : reply ≡ started s.next version at size
-  pub seen : s' ≡ holds (sees s (others ++ Events.Assign s.caller blob place bytes ∷ [])) blob version
-
--- an update that was numbered, and then no memory was found: the session holds it under its next ticket
-pub record TicketKept (gap : Gap) (s : Session) (blob : ℕ) (place : Place) (bytes : List ℕ) (reply : Reply) (s' : Session) : Type 0 where
-  pub others : List Event
-  pub later : List Event
-  pub is_gap : gap s.caller others
-  pub is_gap_later : gap s.caller later
-  pub version : ℕ
-  pub at : ℕ
-  pub size : ℕ
-  pub numbered : outcome_at s others (Calls.Assign blob place bytes) ≡ Outcomes.Assigned version at size
-  pub said : reply ≡ Replies.Refused (Faults.NoMemoryTicket s.next)
-  pub seen : s' ≡ holds (sees s (others ++ Events.Assign s.caller blob place bytes ∷ later)) blob version
-
--- No provider took a page of an update's bytes; pages are numbered from 0. The session may have looked before whether the store
--- would take the update.
-pub record PageNotStored (gap : Gap) (s : Session) (bytes : List ℕ) (reply : Reply) (s' : Session) : Type 0 where
-  pub others : List Event
-  pub is_gap : gap s.caller others
-  pub page : ℕ
-  pub is_page : s.fixed.page * page < length bytes
-  pub said : reply ≡ Replies.Refused (Faults.PageFault page)
-  pub seen : s' ≡ sees s others
-
--- the pages of a blob that its update of that number stores anew
+-- ---- updates that store pages of the blob anew
+-- the pages that the update of that number stores anew
 abbrev pub folds_in : ℕ → Store → ℕ → ℕ → List ℕ
 folds_in p store blob version = elim (blob_at store blob) [ None ↦ [] | Some b ↦ folds_of p (extents b.updates) version ]
 
--- An update that was numbered and stores pages of the blob anew, which couldn't be read, or stored, meanwhile: the session holds
--- it under its next ticket. What is said of it tells the ticket, its version, its offset and the blob's size.
-pub record HeldBack (gap : Gap) (s : Session) (blob : ℕ) (place : Place) (bytes : List ℕ) (started : ℕ → ℕ → ℕ → ℕ → Reply) (reply : Reply) (s' : Session) : Type 0 where
-  pub others : List Event
-  pub later : List Event
-  pub is_gap : gap s.caller others
-  pub is_gap_later : gap s.caller later
-  pub version : ℕ
-  pub at : ℕ
-  pub size : ℕ
-  pub numbered : outcome_at s others (Calls.Assign blob place bytes) ≡ Outcomes.Assigned version at size
-  pub unfinished : finishes blob version later ≡ false
-  pub folds : folds_in s.fixed.page (store_at s (others ++ Events.Assign s.caller blob place bytes ∷ later)) blob version ≢ []
-  pub said : reply ≡ started s.next version at size
-  pub seen : s' ≡ holds (sees s (others ++ Events.Assign s.caller blob place bytes ∷ later)) blob version
+-- The update stores some pages anew, once these events have come. They are read from the version before it.
+abbrev pub Folds : Session → List Event → ℕ → ℕ → Type 0
+Folds s front blob version = folds_in s.fixed.page (store_at s front) blob version ≢ []
 
--- An update that stores pages of the blob anew can't be finished while the version before it waits, since they are read from that.
-pub record FoldWaits (gap : Gap) (s : Session) (blob version : ℕ) (reply : Reply) (s' : Session) : Type 0 where
-  pub others : List Event
-  pub is_gap : gap s.caller others
-  pub held : ℕ
-  pub unfinished : is_refused (outcome_at s others (Calls.Finish blob version)) ≡ false
-  pub folds : folds_in s.fixed.page (store_at s others) blob version ≢ []
-  pub waits : outcome_at s others (Calls.Sync blob (version - 1)) ≡ Outcomes.Refused (Refusals.Pending (version - 1) held)
-  pub said : reply ≡ Replies.Refused (Faults.Pending (version - 1) held)
-  pub seen : s' ≡ sees s others
+-- the version before it is published by then
+abbrev pub IsReady : Session → List Event → ℕ → ℕ → Type 0
+IsReady s front blob version = outcome_at s front (Calls.Sync blob (version - 1)) ≡ Outcomes.Synced (version - 1)
 
--- no provider gave, or took, a page of the blob that an update stores anew
-pub record PageNotFolded (gap : Gap) (s : Session) (blob version : ℕ) (reply : Reply) (s' : Session) : Type 0 where
-  pub others : List Event
-  pub is_gap : gap s.caller others
-  pub page : ℕ
-  pub unfinished : is_refused (outcome_at s others (Calls.Finish blob version)) ≡ false
-  pub folds : Contains (folds_in s.fixed.page (store_at s others) blob version) page
-  pub ready : outcome_at s others (Calls.Sync blob (version - 1)) ≡ Outcomes.Synced (version - 1)
-  pub said : reply ≡ Replies.Refused (Faults.PageFault page)
-  pub seen : s' ≡ sees s others
+-- the update is numbered by then, and isn't finished
+abbrev pub IsUnfinishedAt : Session → List Event → ℕ → ℕ → Type 0
+IsUnfinishedAt s front blob version = repair_refusal (store_at s front) blob version ≡ None
 
--- the update of a ticket is reported, and the ticket given up
-pub record Reported (gap : Gap) (s : Session) (ticket : HeldTicket) (reply : Reply) (s' : Session) : Type 0 where
-  pub others : List Event
-  pub is_gap : gap s.caller others
-  pub published : ℕ
-  pub done : outcome_at s others (Calls.Finish ticket.blob ticket.version) ≡ Outcomes.Published published
-  pub said : reply ≡ Replies.Finished published
-  pub seen : s' ≡ drops (sees s (others ++ Events.Finish s.caller ticket.blob ticket.version ∷ [])) ticket.number
+-- ---- what a turn may come to, once these events have come
+-- a call that adds a blob, whose number is told
+pub data AddTurn (s : Session) (call : Call) (front : List Event) : Turn → Type 0 where
+  added : (blob : ℕ) → outcome_at s front call ≡ Outcomes.Blob blob → AddTurn s call front (record { said = added_reply call blob; made = event_of s.caller call; tickets = Tickets.stay })
+  refused : (refusal : Refusal) → outcome_at s front call ≡ Outcomes.Refused refusal → AddTurn s call front (refuses (fault_of refusal))
+  out_of_memory : AddTurn s call front (refuses Faults.NoMemory)
 
--- the update of a ticket was reported before, and the ticket is given up all the same
-pub record FoundFinished (gap : Gap) (s : Session) (ticket : HeldTicket) (reply : Reply) (s' : Session) : Type 0 where
-  pub others : List Event
-  pub is_gap : gap s.caller others
-  pub refused : outcome_at s others (Calls.Finish ticket.blob ticket.version) ≡ Outcomes.Refused (Refusals.Already ticket.version)
-  pub said : reply ≡ Replies.Refused (Faults.Already ticket.version)
-  pub seen : s' ≡ drops (sees s others) ticket.number
+-- a page that a range of bytes meets
+pub record Meets (p offset count page : ℕ) : Type 0 where
+  pub begins : p * page < offset + count
+  pub ends : offset < p * (page + 1)
 
--- a new blob with the past of another
-pub record Branched (gap : Gap) (s : Session) (blob version : ℕ) (reply : Reply) (s' : Session) : Type 0 where
-  pub others : List Event
-  pub is_gap : gap s.caller others
-  pub branch : ℕ
-  pub done : outcome_at s others (Calls.Branch blob version) ≡ Outcomes.Blob branch
-  pub said : reply ≡ Replies.Branched branch
-  pub seen : s' ≡ sees s (others ++ Events.Branch s.caller blob version ∷ [])
-
--- the bytes of a range
-pub record Content (gap : Gap) (s : Session) (blob version offset count : ℕ) (reply : Reply) (s' : Session) : Type 0 where
-  pub others : List Event
-  pub is_gap : gap s.caller others
-  pub bytes : List ℕ
-  pub done : outcome_at s others (Calls.Read blob version offset count) ≡ Outcomes.Content bytes
-  pub said : reply ≡ Replies.Content bytes
-  pub seen : s' ≡ sees s others
-
--- no provider gave a page that a range of at least one byte meets
-pub record PageNotRead (gap : Gap) (s : Session) (blob version offset count : ℕ) (reply : Reply) (s' : Session) : Type 0 where
-  pub others : List Event
-  pub is_gap : gap s.caller others
-  pub bytes : List ℕ
-  pub would : outcome_at s others (Calls.Read blob version offset count) ≡ Outcomes.Content bytes
-  pub some : 0 < length bytes
-  pub page : ℕ
-  pub begins : s.fixed.page * page < offset + count
-  pub ends : offset < s.fixed.page * (page + 1)
-  pub said : reply ≡ Replies.Refused (Faults.PageFault page)
-  pub seen : s' ≡ sees s others
+-- the bytes of a range; or no provider gave a page that it meets, if it has a byte
+pub data ReadTurn (s : Session) (blob version offset count : ℕ) (front : List Event) : Turn → Type 0 where
+  content : (bytes : List ℕ) → outcome_at s front (Calls.Read blob version offset count) ≡ Outcomes.Content bytes → ReadTurn s blob version offset count front (tells (Replies.Content bytes))
+  refused : (refusal : Refusal) → outcome_at s front (Calls.Read blob version offset count) ≡ Outcomes.Refused refusal
+      → ReadTurn s blob version offset count front (refuses (fault_of refusal))
+  out_of_memory : ReadTurn s blob version offset count front (refuses Faults.NoMemory)
+  not_read : (bytes : List ℕ) → outcome_at s front (Calls.Read blob version offset count) ≡ Outcomes.Content bytes → 0 < length bytes
+      → (page : ℕ) → Meets s.fixed.page offset count page → ReadTurn s blob version offset count front (refuses (Faults.PageFault page))
 
 -- the bytes of these ranges of a version, joined
 abbrev pub AreContents : Session → List Event → ℕ → ℕ → List (ℕ × ℕ) → List ℕ → Type 0
-AreContents s others blob version [] bytes = bytes ≡ []
-AreContents s others blob version (range ∷ ranges) bytes =
-    (first : List ℕ) × (outcome_at s others (Calls.Read blob version range.0 range.1) ≡ Outcomes.Content first)
-    × ((rest : List ℕ) × AreContents s others blob version ranges rest × (bytes ≡ first ++ rest))
+AreContents s front blob version [] bytes = bytes ≡ []
+AreContents s front blob version (range ∷ ranges) bytes =
+    (first : List ℕ) × (outcome_at s front (Calls.Read blob version range.0 range.1) ≡ Outcomes.Content first)
+    × ((rest : List ℕ) × AreContents s front blob version ranges rest × (bytes ≡ first ++ rest))
 
--- the bytes of many ranges, one behind the other
-pub record Contents (gap : Gap) (s : Session) (blob version : ℕ) (ranges : List (ℕ × ℕ)) (reply : Reply) (s' : Session) : Type 0 where
-  pub others : List Event
-  pub is_gap : gap s.caller others
-  pub bytes : List ℕ
-  pub done : AreContents s others blob version ranges bytes
-  pub said : reply ≡ Replies.Contents bytes
-  pub seen : s' ≡ sees s others
+-- the bytes of many ranges, one behind the other; or the first range that the store refuses; or no provider gave a page that one of them meets
+pub data ReadManyTurn (s : Session) (blob version : ℕ) (ranges : List (ℕ × ℕ)) (front : List Event) : Turn → Type 0 where
+  contents : (bytes : List ℕ) → AreContents s front blob version ranges bytes → ReadManyTurn s blob version ranges front (tells (Replies.Contents bytes))
+  refused : (before after : List (ℕ × ℕ)) (range : ℕ × ℕ) (bytes : List ℕ) → ranges ≡ before ++ range ∷ after → AreContents s front blob version before bytes
+      → (refusal : Refusal) → outcome_at s front (Calls.Read blob version range.0 range.1) ≡ Outcomes.Refused refusal
+      → ReadManyTurn s blob version ranges front (refuses (fault_of refusal))
+  out_of_memory : ReadManyTurn s blob version ranges front (refuses Faults.NoMemory)
+  not_read : (bytes : List ℕ) → AreContents s front blob version ranges bytes → (range : ℕ × ℕ) → Contains ranges range → 0 < range.1
+      → (page : ℕ) → Meets s.fixed.page range.0 range.1 page → ReadManyTurn s blob version ranges front (refuses (Faults.PageFault page))
 
--- the store refuses the read of one of many ranges, and of none before it
-pub record RangeRefused (gap : Gap) (s : Session) (blob version : ℕ) (ranges : List (ℕ × ℕ)) (reply : Reply) (s' : Session) : Type 0 where
-  pub others : List Event
-  pub is_gap : gap s.caller others
-  pub before : List (ℕ × ℕ)
-  pub range : ℕ × ℕ
-  pub after : List (ℕ × ℕ)
-  pub bytes : List ℕ
-  pub joins : ranges ≡ before ++ range ∷ after
-  pub first : AreContents s others blob version before bytes
-  pub refusal : Refusal
-  pub refused : outcome_at s others (Calls.Read blob version range.0 range.1) ≡ Outcomes.Refused refusal
-  pub said : reply ≡ Replies.Refused (fault_of refusal)
-  pub seen : s' ≡ sees s others
+-- A finish of a numbered update. After these tickets are changed in the first way, where it is finished by then, and else in the second.
+pub data FinishTurn (s : Session) (blob version : ℕ) (says : ℕ → Reply) (settled hindered : Tickets) (front : List Event) : Turn → Type 0 where
+  finished : (published : ℕ) → IsUnfinishedAt s front blob version → (Folds s front blob version → IsReady s front blob version)
+      → outcome_at s front (Calls.Finish blob version) ≡ Outcomes.Published published
+      → FinishTurn s blob version says settled hindered front (record { said = says published; made = Events.Finish s.caller blob version ∷ []; tickets = settled })
+  found : repair_refusal (store_at s front) blob version ≡ Some (Refusals.Already version)
+      → FinishTurn s blob version says settled hindered front (record { said = Replies.Refused (Faults.Already version); made = []; tickets = settled })
+  waits : (held : ℕ) → IsUnfinishedAt s front blob version → Folds s front blob version
+      → outcome_at s front (Calls.Sync blob (version - 1)) ≡ Outcomes.Refused (Refusals.Pending (version - 1) held)
+      → FinishTurn s blob version says settled hindered front (record { said = Replies.Refused (Faults.Pending (version - 1) held); made = []; tickets = hindered })
+  not_folded : (page : ℕ) → IsUnfinishedAt s front blob version → Contains (folds_in s.fixed.page (store_at s front) blob version) page → IsReady s front blob version
+      → FinishTurn s blob version says settled hindered front (record { said = Replies.Refused (Faults.PageFault page); made = []; tickets = hindered })
+  out_of_memory : FinishTurn s blob version says settled hindered front (record { said = Replies.Refused Faults.NoMemory; made = []; tickets = hindered })
 
--- no provider gave a page that one of many ranges, of at least one byte, meets
-pub record PageOfRangeNotRead (gap : Gap) (s : Session) (blob version : ℕ) (ranges : List (ℕ × ℕ)) (reply : Reply) (s' : Session) : Type 0 where
-  pub others : List Event
-  pub is_gap : gap s.caller others
-  pub bytes : List ℕ
-  pub would : AreContents s others blob version ranges bytes
-  pub range : ℕ × ℕ
-  pub among : Contains ranges range
-  pub some : 0 < range.1
-  pub page : ℕ
-  pub begins : s.fixed.page * page < range.0 + range.1
-  pub ends : range.0 < s.fixed.page * (page + 1)
-  pub said : reply ≡ Replies.Refused (Faults.PageFault page)
-  pub seen : s' ≡ sees s others
+-- a finish of an update that any session may finish; or there is no such update
+pub data RepairTurn (s : Session) (blob version : ℕ) (front : List Event) : Turn → Type 0 where
+  finish : (turn : Turn) → FinishTurn s blob version (λ published. Replies.Repaired published) (Tickets.let_go blob version) Tickets.stay front turn → RepairTurn s blob version front turn
+  refused : (refusal : Refusal) → repair_refusal (store_at s front) blob version ≡ Some refusal → refusal ≢ Refusals.Already version
+      → RepairTurn s blob version front (refuses (fault_of refusal))
 
--- An update that its session, or another one, had numbered is reported. The session gives up its ticket of it, where it holds one.
-pub record Repaired (gap : Gap) (s : Session) (blob version : ℕ) (reply : Reply) (s' : Session) : Type 0 where
-  pub others : List Event
-  pub is_gap : gap s.caller others
-  pub published : ℕ
-  pub may : repair_refusal (store_at s others) blob version ≡ None
-  pub done : outcome_at s others (Calls.Finish blob version) ≡ Outcomes.Published published
-  pub said : reply ≡ Replies.Repaired published
-  pub seen : s' ≡ lets_go (sees s (others ++ Events.Finish s.caller blob version ∷ [])) blob version
+-- Before its bytes are stored, a session may look once whether the store takes the update: what it would refuse then it doesn't store.
+abbrev pub IsStoredThen : Session → ℕ → Place → List ℕ → List Event → Type 0
+IsStoredThen s blob place bytes front = (front ≡ []) ⊎ (is_refused (outcome_at s front (Calls.Assign blob place bytes)) ≡ false)
 
--- it was reported before, and the ticket is given up all the same
-pub record FoundRepaired (gap : Gap) (s : Session) (blob version : ℕ) (reply : Reply) (s' : Session) : Type 0 where
-  pub others : List Event
-  pub is_gap : gap s.caller others
-  pub refused : repair_refusal (store_at s others) blob version ≡ Some (Refusals.Already version)
-  pub said : reply ≡ Replies.Refused (Faults.Already version)
-  pub seen : s' ≡ lets_go (sees s others) blob version
+-- An update that isn't numbered: the store refuses it, or no memory was found, or no provider took a page of its bytes. Those are numbered from 0.
+pub data UnnumberedTurn (s : Session) (blob : ℕ) (place : Place) (bytes : List ℕ) (front : List Event) : Turn → Type 0 where
+  refused : (refusal : Refusal) → outcome_at s front (Calls.Assign blob place bytes) ≡ Outcomes.Refused refusal → UnnumberedTurn s blob place bytes front (refuses (fault_of refusal))
+  out_of_memory : UnnumberedTurn s blob place bytes front (refuses Faults.NoMemory)
+  not_stored : (page : ℕ) → s.fixed.page * page < length bytes → IsStoredThen s blob place bytes front → UnnumberedTurn s blob place bytes front (refuses (Faults.PageFault page))
 
--- there is no such update
-pub record NoneToRepair (gap : Gap) (s : Session) (blob version : ℕ) (reply : Reply) (s' : Session) : Type 0 where
-  pub others : List Event
-  pub is_gap : gap s.caller others
-  pub refusal : Refusal
-  pub refused : repair_refusal (store_at s others) blob version ≡ Some refusal
-  pub other : refusal ≢ Refusals.Already version
-  pub said : reply ≡ Replies.Refused (fault_of refusal)
-  pub seen : s' ≡ sees s others
+-- an update that is numbered, and held under the next ticket
+pub data StartTurn (s : Session) (blob : ℕ) (place : Place) (bytes : List ℕ) (front : List Event) : Turn → Type 0 where
+  started : (version at size : ℕ) → outcome_at s front (Calls.Assign blob place bytes) ≡ Outcomes.Assigned version at size
+      → StartTurn s blob place bytes front
+      (record { said = start_reply place s.next version at size; made = Events.Assign s.caller blob place bytes ∷ []; tickets = Tickets.hold blob version })
+  unnumbered : (turn : Turn) → UnnumberedTurn s blob place bytes front turn → StartTurn s blob place bytes front turn
 
--- ---- which of them a request may have
+-- what is said of a numbered update for which no memory was found then: it is held under the next ticket
+abbrev pub keeps : Session → ℕ → ℕ → Turn
+keeps s blob version = record { said = Replies.Refused (Faults.NoMemoryTicket s.next); made = []; tickets = Tickets.hold blob version }
 
-pub data CreateAnswer (gap : Gap) (s : Session) (reply : Reply) (s' : Session) : Type 0 where
-  created : Created gap s reply s' → CreateAnswer gap s reply s'
-  refused : Refused gap s Calls.Create reply s' → CreateAnswer gap s reply s'
-  out_of_memory : OutOfMemory gap s reply s' → CreateAnswer gap s reply s'
+-- the turn after a start was numbered: memory was wanting
+pub data StartedTurn (s : Session) (blob : ℕ) (version at size : ℕ) (front later : List Event) : Turn → Type 0 where
+  out_of_memory : StartedTurn s blob version at size front later (keeps s blob version)
 
--- an update, which does what `Does` says where nothing hinders it
-pub data UpdateAnswer (gap : Gap) (s : Session) (blob : ℕ) (place : Place) (bytes : List ℕ) (Does : Type 0) (reply : Reply) (s' : Session) : Type 0 where
-  does : Does → UpdateAnswer gap s blob place bytes Does reply s'
-  refused : Refused gap s (Calls.Assign blob place bytes) reply s' → UpdateAnswer gap s blob place bytes Does reply s'
-  out_of_memory : OutOfMemory gap s reply s' → UpdateAnswer gap s blob place bytes Does reply s'
-  kept : TicketKept gap s blob place bytes reply s' → UpdateAnswer gap s blob place bytes Does reply s'
-  not_stored : PageNotStored gap s bytes reply s' → UpdateAnswer gap s blob place bytes Does reply s'
+-- The turn after an update was numbered, once more events have come. It is finished, or others had finished it meanwhile. If it stores pages anew it
+-- may be held back, where they couldn't be read or stored.
+pub data WholeTurn (s : Session) (blob : ℕ) (place : Place) (version at size : ℕ) (front later : List Event) : Turn → Type 0 where
+  finished : finishes blob version later ≡ false → (Folds s front blob version → IsReady s front blob version)
+      → WholeTurn s blob place version at size front later (record { said = update_reply place version at size; made = Events.Finish s.caller blob version ∷ []; tickets = Tickets.stay })
+  found : finishes blob version later ≡ true → WholeTurn s blob place version at size front later (refuses (Faults.Already version))
+  held_back : finishes blob version later ≡ false → Folds s front blob version
+      → WholeTurn s blob place version at size front later (record { said = start_reply place s.next version at size; made = []; tickets = Tickets.hold blob version })
+  out_of_memory : WholeTurn s blob place version at size front later (keeps s blob version)
 
-pub data ReadAnswer (gap : Gap) (s : Session) (blob version offset count : ℕ) (reply : Reply) (s' : Session) : Type 0 where
-  content : Content gap s blob version offset count reply s' → ReadAnswer gap s blob version offset count reply s'
-  refused : Refused gap s (Calls.Read blob version offset count) reply s' → ReadAnswer gap s blob version offset count reply s'
-  out_of_memory : OutOfMemory gap s reply s' → ReadAnswer gap s blob version offset count reply s'
-  not_read : PageNotRead gap s blob version offset count reply s' → ReadAnswer gap s blob version offset count reply s'
-
--- an update that is finished at once, or held back
-pub data WholeUpdate (gap : Gap) (s : Session) (blob : ℕ) (place : Place) (bytes : List ℕ) (done : ℕ → ℕ → ℕ → Reply) (started : ℕ → ℕ → ℕ → ℕ → Reply) (reply : Reply) (s' : Session) : Type 0 where
-  updated : Updated gap s blob place bytes done reply s' → WholeUpdate gap s blob place bytes done started reply s'
-  held_back : HeldBack gap s blob place bytes started reply s' → WholeUpdate gap s blob place bytes done started reply s'
-
--- Many ranges of a version.
-pub data ReadManyAnswer (gap : Gap) (s : Session) (blob version : ℕ) (ranges : List (ℕ × ℕ)) (reply : Reply) (s' : Session) : Type 0 where
-  contents : Contents gap s blob version ranges reply s' → ReadManyAnswer gap s blob version ranges reply s'
-  refused : RangeRefused gap s blob version ranges reply s' → ReadManyAnswer gap s blob version ranges reply s'
-  out_of_memory : OutOfMemory gap s reply s' → ReadManyAnswer gap s blob version ranges reply s'
-  not_read : PageOfRangeNotRead gap s blob version ranges reply s' → ReadManyAnswer gap s blob version ranges reply s'
-
--- a finish after which the ticket, if there is one, is still held
-pub data FinishHindered (gap : Gap) (s : Session) (blob version : ℕ) (reply : Reply) (s' : Session) : Type 0 where
-  out_of_memory : OutOfMemory gap s reply s' → FinishHindered gap s blob version reply s'
-  waits : FoldWaits gap s blob version reply s' → FinishHindered gap s blob version reply s'
-  not_folded : PageNotFolded gap s blob version reply s' → FinishHindered gap s blob version reply s'
-
--- a finish of a ticket that the session holds
-pub data ReportAnswer (gap : Gap) (s : Session) (ticket : HeldTicket) (reply : Reply) (s' : Session) : Type 0 where
-  reported : Reported gap s ticket reply s' → ReportAnswer gap s ticket reply s'
-  finished : FoundFinished gap s ticket reply s' → ReportAnswer gap s ticket reply s'
-  hindered : FinishHindered gap s ticket.blob ticket.version reply s' → ReportAnswer gap s ticket reply s'
-
--- a finish of that number, by the ticket that the session holds under it
-abbrev pub FinishAnswer : Gap → Session → ℕ → Option HeldTicket → Reply → Session → Type 0
-FinishAnswer gap s number None reply s' = (reply ≡ Replies.Refused (Faults.NoTicket number)) × (s' ≡ s)
-FinishAnswer gap s number (Some ticket) reply s' = ReportAnswer gap s ticket reply s'
-
--- a finish of an update that any session may finish
-pub data RepairAnswer (gap : Gap) (s : Session) (blob version : ℕ) (reply : Reply) (s' : Session) : Type 0 where
-  repaired : Repaired gap s blob version reply s' → RepairAnswer gap s blob version reply s'
-  finished : FoundRepaired gap s blob version reply s' → RepairAnswer gap s blob version reply s'
-  refused : NoneToRepair gap s blob version reply s' → RepairAnswer gap s blob version reply s'
-  hindered : FinishHindered gap s blob version reply s' → RepairAnswer gap s blob version reply s'
-
-pub data BranchAnswer (gap : Gap) (s : Session) (blob version : ℕ) (reply : Reply) (s' : Session) : Type 0 where
-  branched : Branched gap s blob version reply s' → BranchAnswer gap s blob version reply s'
-  refused : Refused gap s (Calls.Branch blob version) reply s' → BranchAnswer gap s blob version reply s'
-  out_of_memory : OutOfMemory gap s reply s' → BranchAnswer gap s blob version reply s'
-
--- a look at the store, which takes no memory: what the store answers is said, refused or not
-pub record LookAnswer (gap : Gap) (s : Session) (call : Call) (reply : Reply) (s' : Session) : Type 0 where
-  pub others : List Event
-  pub is_gap : gap s.caller others
-  pub said : reply ≡ reply_of (outcome_at s others call)
-  pub seen : s' ≡ sees s others
-
--- what the session itself refuses comes first, and leaves it
+-- ---- what the session itself refuses
+-- it comes first, and leaves the session
 abbrev pub Unless : Option Fault → Session → Reply → Session → Type 0 → Type 0
 Unless (Some fault) s reply s' Answer = (reply ≡ Replies.Refused fault) × (s' ≡ s)
 Unless None s reply s' Answer = Answer
@@ -376,36 +172,80 @@ abbrev pub ranges_fault : ℕ → List (ℕ × ℕ) → Option Fault
 ranges_fault sum [] = None
 ranges_fault sum (range ∷ ranges) = if nat_lt max_read (sum + range.1) then Some (Faults.ReadTooLong range.1) else ranges_fault (sum + range.1) ranges
 
+-- ---- the classes of requests
+pub data Class : Type 0 where
+  greets : Class
+  quits : Class
+  looks : Call → Class
+  adds : Call → Class
+  reads : ℕ → ℕ → ℕ → ℕ → Class
+  reads_many : ℕ → ℕ → List (ℕ × ℕ) → Class
+  starts : ℕ → Place → List ℕ → Class
+  updates : ℕ → Place → List ℕ → Class
+  reports : ℕ → Class
+  repairs : ℕ → ℕ → Class
+
+abbrev pub class_of : Request → Class
+class_of Requests.Create = Class.adds Calls.Create
+class_of (Requests.Append blob bytes) = Class.updates blob Append bytes
+class_of (Requests.Write blob offset bytes) = Class.updates blob (WriteAt offset) bytes
+class_of (Requests.StartAppend blob bytes) = Class.starts blob Append bytes
+class_of (Requests.StartWrite blob offset bytes) = Class.starts blob (WriteAt offset) bytes
+class_of (Requests.Finish ticket) = Class.reports ticket
+class_of (Requests.Read blob version offset count) = Class.reads blob version offset count
+class_of (Requests.Recent blob) = Class.looks (Calls.Recent blob)
+class_of (Requests.Size blob version) = Class.looks (Calls.Size blob version)
+class_of (Requests.Sync blob version) = Class.looks (Calls.Sync blob version)
+class_of (Requests.Status blob) = Class.looks (Calls.Status blob)
+class_of (Requests.Branch blob version) = Class.adds (Calls.Branch blob version)
+class_of (Requests.Hello version) = Class.greets
+class_of (Requests.ReadMany blob version ranges) = Class.reads_many blob version ranges
+class_of (Requests.Repair blob version) = Class.repairs blob version
+class_of Requests.Quit = Class.quits
+
+-- ---- the answers of each class
+-- a look at the store, which takes no memory: what the store answers is said, refused or not
+pub record LookAnswer (gap : Gap) (s : Session) (call : Call) (reply : Reply) (s' : Session) : Type 0 where
+  pub others : List Event
+  pub is_gap : gap s.caller others
+  pub said : reply ≡ reply_of (outcome_at s others call)
+  pub seen : s' ≡ sees s others
+
+-- an update: one turn, or its numbering and then another turn
+pub data UpdateAnswer (gap : Gap) (s : Session) (blob : ℕ) (place : Place) (bytes : List ℕ) (First : List Event → Turn → Type 0) (Second : ℕ → ℕ → ℕ → List Event → List Event → Turn → Type 0) (reply : Reply) (s' : Session) : Type 0 where
+  once : AfterGap gap s First reply s' → UpdateAnswer gap s blob place bytes First Second reply s'
+  twice : AfterTwoGaps gap s blob place bytes Second reply s' → UpdateAnswer gap s blob place bytes First Second reply s'
+
+-- one that is started, and one that is finished at once, where the session itself refuses neither
+abbrev pub StartAnswer : Gap → Session → ℕ → Place → List ℕ → Reply → Session → Type 0
+StartAnswer gap s blob place bytes reply s' = UpdateAnswer gap s blob place bytes (StartTurn s blob place bytes) (StartedTurn s blob) reply s'
+
+abbrev pub WholeAnswer : Gap → Session → ℕ → Place → List ℕ → Reply → Session → Type 0
+WholeAnswer gap s blob place bytes reply s' = UpdateAnswer gap s blob place bytes (UnnumberedTurn s blob place bytes) (WholeTurn s blob place) reply s'
+
+-- a finish of that number, by the ticket that the session holds under it
+abbrev pub FinishAnswer : Gap → Session → ℕ → Option HeldTicket → Reply → Session → Type 0
+FinishAnswer gap s number None reply s' = (reply ≡ Replies.Refused (Faults.NoTicket number)) × (s' ≡ s)
+FinishAnswer gap s number (Some ticket) reply s' =
+    AfterGap gap s (FinishTurn s ticket.blob ticket.version (λ published. Replies.Finished published) (Tickets.drop ticket.number) Tickets.stay) reply s'
+
+abbrev pub ClassAnswer : Gap → Session → Class → Reply → Session → Type 0
+ClassAnswer gap s Class.greets reply s' = (reply ≡ Replies.HelloIs 2) × (s' ≡ takes_up_to s max_update_greater)
+ClassAnswer gap s Class.quits reply s' = (reply ≡ Replies.Bye) × (s' ≡ s)
+ClassAnswer gap s (Class.looks call) reply s' = LookAnswer gap s call reply s'
+ClassAnswer gap s (Class.adds call) reply s' = AfterGap gap s (AddTurn s call) reply s'
+ClassAnswer gap s (Class.reads blob version offset count) reply s' =
+    Unless (read_fault count) s reply s' (AfterGap gap s (ReadTurn s blob version offset count) reply s')
+ClassAnswer gap s (Class.reads_many blob version ranges) reply s' =
+    Unless (ranges_fault 0 ranges) s reply s' (AfterGap gap s (ReadManyTurn s blob version ranges) reply s')
+ClassAnswer gap s (Class.starts blob place bytes) reply s' = Unless (update_fault s bytes) s reply s' (StartAnswer gap s blob place bytes reply s')
+ClassAnswer gap s (Class.updates blob place bytes) reply s' = Unless (update_fault s bytes) s reply s' (WholeAnswer gap s blob place bytes reply s')
+ClassAnswer gap s (Class.reports number) reply s' = FinishAnswer gap s number (ticket_at s.tickets number) reply s'
+ClassAnswer gap s (Class.repairs blob version) reply s' = AfterGap gap s (RepairTurn s blob version) reply s'
+
 -- A request and its reply take a session to the next one.
 abbrev pub Answers : Gap → Session → Request → Reply → Session → Type 0
-Answers gap s Requests.Create reply s' = CreateAnswer gap s reply s'
-Answers gap s (Requests.Append blob bytes) reply s' =
-    Unless (update_fault s bytes) s reply s'
-    (UpdateAnswer gap s blob Append bytes
-    (WholeUpdate gap s blob Append bytes (λ version at size. Replies.Appended version at size) (λ ticket version at size. Replies.AppendStarted ticket version at size) reply s') reply s')
-Answers gap s (Requests.Write blob offset bytes) reply s' =
-    Unless (update_fault s bytes) s reply s'
-    (UpdateAnswer gap s blob (WriteAt offset) bytes
-    (WholeUpdate gap s blob (WriteAt offset) bytes (λ version at size. Replies.Wrote version at size) (λ ticket version at size. Replies.WriteStarted ticket version at size) reply s') reply s')
-Answers gap s (Requests.StartAppend blob bytes) reply s' =
-    Unless (update_fault s bytes) s reply s'
-    (UpdateAnswer gap s blob Append bytes (Started gap s blob Append bytes (λ ticket version at size. Replies.AppendStarted ticket version at size) reply s') reply s')
-Answers gap s (Requests.StartWrite blob offset bytes) reply s' =
-    Unless (update_fault s bytes) s reply s'
-    (UpdateAnswer gap s blob (WriteAt offset) bytes (Started gap s blob (WriteAt offset) bytes (λ ticket version at size. Replies.WriteStarted ticket version at size) reply s') reply s')
-Answers gap s (Requests.Finish ticket) reply s' = FinishAnswer gap s ticket (ticket_at s.tickets ticket) reply s'
-Answers gap s (Requests.Read blob version offset count) reply s' =
-    Unless (read_fault count) s reply s' (ReadAnswer gap s blob version offset count reply s')
-Answers gap s (Requests.Recent blob) reply s' = LookAnswer gap s (Calls.Recent blob) reply s'
-Answers gap s (Requests.Size blob version) reply s' = LookAnswer gap s (Calls.Size blob version) reply s'
-Answers gap s (Requests.Sync blob version) reply s' = LookAnswer gap s (Calls.Sync blob version) reply s'
-Answers gap s (Requests.Status blob) reply s' = LookAnswer gap s (Calls.Status blob) reply s'
-Answers gap s (Requests.Branch blob version) reply s' = BranchAnswer gap s blob version reply s'
-Answers gap s (Requests.Hello version) reply s' = (reply ≡ Replies.HelloIs 2) × (s' ≡ takes_up_to s max_update_greater)
-Answers gap s (Requests.ReadMany blob version ranges) reply s' =
-    Unless (ranges_fault 0 ranges) s reply s' (ReadManyAnswer gap s blob version ranges reply s')
-Answers gap s (Requests.Repair blob version) reply s' = RepairAnswer gap s blob version reply s'
-Answers gap s Requests.Quit reply s' = (reply ≡ Replies.Bye) × (s' ≡ s)
+Answers gap s request reply s' = ClassAnswer gap s (class_of request) reply s'
 
 -- ---- how often the outside failed for an answer, after which the session is this one
 -- whether a version waits in a store
@@ -421,20 +261,9 @@ update_faults s blob (Replies.AppendStarted ticket version at size) = held_back_
 update_faults s blob (Replies.WriteStarted ticket version at size) = held_back_faults s blob version
 update_faults s blob reply = fault_count reply
 
+abbrev pub class_faults : Session → Class → Reply → ℕ
+class_faults s (Class.updates blob place bytes) reply = update_faults s blob reply
+class_faults s _ reply = fault_count reply
+
 abbrev pub answer_faults : Session → Request → Reply → ℕ
-answer_faults s Requests.Create reply = fault_count reply
-answer_faults s (Requests.Append blob bytes) reply = update_faults s blob reply
-answer_faults s (Requests.Write blob offset bytes) reply = update_faults s blob reply
-answer_faults s (Requests.StartAppend blob bytes) reply = fault_count reply
-answer_faults s (Requests.StartWrite blob offset bytes) reply = fault_count reply
-answer_faults s (Requests.Finish ticket) reply = fault_count reply
-answer_faults s (Requests.Read blob version offset count) reply = fault_count reply
-answer_faults s (Requests.Recent blob) reply = fault_count reply
-answer_faults s (Requests.Size blob version) reply = fault_count reply
-answer_faults s (Requests.Sync blob version) reply = fault_count reply
-answer_faults s (Requests.Status blob) reply = fault_count reply
-answer_faults s (Requests.Branch blob version) reply = fault_count reply
-answer_faults s (Requests.Hello version) reply = fault_count reply
-answer_faults s (Requests.ReadMany blob version ranges) reply = fault_count reply
-answer_faults s (Requests.Repair blob version) reply = fault_count reply
-answer_faults s Requests.Quit reply = fault_count reply
+answer_faults s request reply = class_faults s (class_of request) reply

@@ -6,21 +6,14 @@ use Rattle.blob_model.specs.declared.call.Event.{Event}
 use Rattle.request_form.specs.declared.form.Reply.{Reply}
 use Rattle.request_form.specs.declared.form.Reply.TheVariants as Replies
 use Rattle.request_form.specs.declared.form.Fault.TheVariants as Faults
-use Rattle.request_form.specs.Session.{Session, HeldTicket, drops}
-use Rattle.request_form.specs.Answers.{Gap, Reported, FoundFinished, FinishHindered, max_update}
+use Rattle.request_form.specs.Session.{Session, HeldTicket}
+use Rattle.request_form.specs.Answers.{Gap, Tickets, AfterGap, FinishTurn, max_update}
 use Rattle.request_form.specs.Own.{Makes, finish_made}
 
--- a ticket's finish was hindered, and the ticket is given up all the same
-pub record Dropped (gap : Gap) (s : Session) (ticket : HeldTicket) (reply : Reply) (s' : Session) : Type 0 where
-  pub mid : Session
-  pub hindered : FinishHindered gap s ticket.blob ticket.version reply mid
-  pub dropped : s' ≡ drops mid ticket.number
-
--- the ways in which a ticket is given up
-pub data GivenUp (gap : Gap) (s : Session) (ticket : HeldTicket) (reply : Reply) (s' : Session) : Type 0 where
-  reported : Reported gap s ticket reply s' → GivenUp gap s ticket reply s'
-  found_finished : FoundFinished gap s ticket reply s' → GivenUp gap s ticket reply s'
-  dropped : Dropped gap s ticket reply s' → GivenUp gap s ticket reply s'
+-- A ticket is given up: it is finished, as by a finish, but where that is hindered the ticket isn't kept.
+abbrev pub GivenUp : Gap → Session → HeldTicket → Reply → Session → Type 0
+GivenUp gap s ticket reply s' =
+    AfterGap gap s (FinishTurn s ticket.blob ticket.version (λ published. Replies.Finished published) (Tickets.drop ticket.number) (Tickets.drop ticket.number)) reply s'
 
 -- these tickets are given up in turn, each with its reply
 abbrev pub GivesUp : Gap → Session → List HeldTicket → List Reply → Session → Type 0
@@ -83,7 +76,7 @@ pub record HungUp (gap : Gap) (s : Session) (counts : GivenUpCounts) (s' : Sessi
 abbrev pub finishes_made : ℕ → List HeldTicket → List Reply → List Event
 finishes_made caller [] replies = []
 finishes_made caller (ticket ∷ tickets) [] = []
-finishes_made caller (ticket ∷ tickets) (reply ∷ replies) = finish_made caller ticket reply ++ finishes_made caller tickets replies
+finishes_made caller (ticket ∷ tickets) (reply ∷ replies) = finish_made caller ticket.blob ticket.version reply ++ finishes_made caller tickets replies
 
 -- No ticket is left, each one is counted once, and the finishes that these replies tell are the session's own events since.
 pub record LeavesNoTicket (s : Session) (counts : GivenUpCounts) (replies : List Reply) (s' : Session) : Type 0 where

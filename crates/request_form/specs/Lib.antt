@@ -1,7 +1,9 @@
 pub mod Operations
 pub mod Replies
 pub mod Session
+pub mod Turns
 pub mod Answers
+pub mod TurnsTaken
 pub mod Transcript
 pub mod Stream
 pub mod Own

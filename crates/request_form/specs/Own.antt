@@ -1,27 +1,26 @@
 -- What a request, by its reply, makes of a session's own events.
 use Rattle.std.specs.Prelude.{◌≡◌, ℕ, List, [], ◌∷◌, ◌++◌, Option, Some, None}
-use Rattle.blob_model.specs.History.{events_by}
+use Rattle.blob_model.specs.History.{events_by, event_of}
 use Rattle.blob_model.specs.declared.call.Place.{Place}
-use Rattle.blob_model.specs.declared.call.Place.TheVariants.{WriteAt, Append}
+use Rattle.blob_model.specs.declared.call.Call.{Call}
 use Rattle.blob_model.specs.declared.call.Event.{Event}
 use Rattle.blob_model.specs.declared.call.Event.TheVariants as Events
 use Rattle.request_form.specs.declared.form.Request.{Request}
-use Rattle.request_form.specs.declared.form.Request.TheVariants as Requests
 use Rattle.request_form.specs.declared.form.Reply.{Reply}
 use Rattle.request_form.specs.declared.form.Reply.TheVariants as Replies
 use Rattle.request_form.specs.declared.form.Fault.TheVariants as Faults
 use Rattle.request_form.specs.declared.form.Heard.{Heard}
 use Rattle.request_form.specs.declared.form.Heard.TheVariants.{Asked, Wrong}
 use Rattle.request_form.specs.Session.{Session, HeldTicket, ticket_at}
-use Rattle.request_form.specs.Answers.{Gap}
+use Rattle.request_form.specs.Answers.{Gap, Class, class_of}
 use Rattle.request_form.specs.Transcript.{Run}
 
--- a new blob that the reply tells
-abbrev pub create_made : ℕ → Reply → List Event
-create_made caller (Replies.Created blob) = Events.Create caller ∷ []
-create_made caller _ = []
+-- a call that adds a blob: its event, unless it was refused
+abbrev pub add_made : ℕ → Call → Reply → List Event
+add_made caller call (Replies.Refused fault) = []
+add_made caller call _ = event_of caller call
 
--- A whole update: its numbering and its finish. Where it is held, or others finished it, the numbering alone.
+-- An update: its numbering and its finish. Where it is held, or others finished it, the numbering alone.
 abbrev pub update_made : ℕ → ℕ → Place → List ℕ → Reply → List Event
 update_made caller blob place bytes (Replies.Appended version at size) = Events.Assign caller blob place bytes ∷ Events.Finish caller blob version ∷ []
 update_made caller blob place bytes (Replies.Wrote version at size) = Events.Assign caller blob place bytes ∷ Events.Finish caller blob version ∷ []
@@ -31,50 +30,28 @@ update_made caller blob place bytes (Replies.Refused (Faults.NoMemoryTicket tick
 update_made caller blob place bytes (Replies.Refused (Faults.Already version)) = Events.Assign caller blob place bytes ∷ []
 update_made caller blob place bytes _ = []
 
--- an update that is started: its numbering
-abbrev pub start_made : ℕ → ℕ → Place → List ℕ → Reply → List Event
-start_made caller blob place bytes (Replies.AppendStarted ticket version at size) = Events.Assign caller blob place bytes ∷ []
-start_made caller blob place bytes (Replies.WriteStarted ticket version at size) = Events.Assign caller blob place bytes ∷ []
-start_made caller blob place bytes (Replies.Refused (Faults.NoMemoryTicket ticket)) = Events.Assign caller blob place bytes ∷ []
-start_made caller blob place bytes _ = []
-
--- the finish of a ticket's update
-abbrev pub finish_made : ℕ → HeldTicket → Reply → List Event
-finish_made caller ticket (Replies.Finished published) = Events.Finish caller ticket.blob ticket.version ∷ []
-finish_made caller ticket _ = []
+-- a finish of that version
+abbrev pub finish_made : ℕ → ℕ → ℕ → Reply → List Event
+finish_made caller blob version (Replies.Finished published) = Events.Finish caller blob version ∷ []
+finish_made caller blob version (Replies.Repaired published) = Events.Finish caller blob version ∷ []
+finish_made caller blob version _ = []
 
 -- the finish by a number, of the ticket that is held under it
 abbrev pub held_made : ℕ → Option HeldTicket → Reply → List Event
 held_made caller None reply = []
-held_made caller (Some ticket) reply = finish_made caller ticket reply
+held_made caller (Some ticket) reply = finish_made caller ticket.blob ticket.version reply
 
-abbrev pub branch_made : ℕ → ℕ → ℕ → Reply → List Event
-branch_made caller blob version (Replies.Branched branch) = Events.Branch caller blob version ∷ []
-branch_made caller blob version _ = []
-
--- the finish of an update that any session may finish
-abbrev pub repair_made : ℕ → ℕ → ℕ → Reply → List Event
-repair_made caller blob version (Replies.Repaired published) = Events.Finish caller blob version ∷ []
-repair_made caller blob version _ = []
+abbrev pub class_made : Session → Class → Reply → List Event
+class_made s (Class.adds call) reply = add_made s.caller call reply
+class_made s (Class.starts blob place bytes) reply = update_made s.caller blob place bytes reply
+class_made s (Class.updates blob place bytes) reply = update_made s.caller blob place bytes reply
+class_made s (Class.reports number) reply = held_made s.caller (ticket_at s.tickets number) reply
+class_made s (Class.repairs blob version) reply = finish_made s.caller blob version reply
+class_made s _ reply = []
 
 -- the events that a session's request with this reply made, in order
 abbrev pub events_made : Session → Request → Reply → List Event
-events_made s Requests.Create reply = create_made s.caller reply
-events_made s (Requests.Append blob bytes) reply = update_made s.caller blob Append bytes reply
-events_made s (Requests.Write blob offset bytes) reply = update_made s.caller blob (WriteAt offset) bytes reply
-events_made s (Requests.StartAppend blob bytes) reply = start_made s.caller blob Append bytes reply
-events_made s (Requests.StartWrite blob offset bytes) reply = start_made s.caller blob (WriteAt offset) bytes reply
-events_made s (Requests.Finish ticket) reply = held_made s.caller (ticket_at s.tickets ticket) reply
-events_made s (Requests.Read blob version offset count) reply = []
-events_made s (Requests.Recent blob) reply = []
-events_made s (Requests.Size blob version) reply = []
-events_made s (Requests.Sync blob version) reply = []
-events_made s (Requests.Status blob) reply = []
-events_made s (Requests.Branch blob version) reply = branch_made s.caller blob version reply
-events_made s (Requests.Hello version) reply = []
-events_made s (Requests.ReadMany blob version ranges) reply = []
-events_made s (Requests.Repair blob version) reply = repair_made s.caller blob version reply
-events_made s Requests.Quit reply = []
+events_made s request reply = class_made s (class_of request) reply
 
 -- a wrong item makes none
 abbrev pub item_made : Session → Heard → Reply → List Event

@@ -1,4 +1,8 @@
 use Rattle.std.specs.Prelude.{ℕ}
+use Rattle.blob_model.specs.declared.call.Place.{Place}
+use Rattle.blob_model.specs.declared.call.Place.TheVariants.{WriteAt, Append}
+use Rattle.blob_model.specs.declared.call.Call.{Call}
+use Rattle.blob_model.specs.declared.call.Call.TheVariants as Calls
 use Rattle.blob_model.specs.declared.call.Refusal.{Refusal}
 use Rattle.blob_model.specs.declared.call.Refusal.TheVariants as Refusals
 use Rattle.blob_model.specs.declared.call.Outcome.{Outcome}
@@ -33,46 +37,27 @@ reply_of (Outcomes.Synced version) = Replies.Synced version
 reply_of (Outcomes.Status assigned published held) = Replies.StatusIs assigned published held
 reply_of (Outcomes.Refused refusal) = Replies.Refused (fault_of refusal)
 
+-- what is said of a blob that a call added
+abbrev pub added_reply : Call → ℕ → Reply
+added_reply (Calls.Branch blob version) added = Replies.Branched added
+added_reply _ added = Replies.Created added
+
+-- what is said of an update that was finished: its version, its offset and the blob's size
+abbrev pub update_reply : Place → ℕ → ℕ → ℕ → Reply
+update_reply Append version at size = Replies.Appended version at size
+update_reply (WriteAt offset) version at size = Replies.Wrote version at size
+
+-- what is said of one that was started: its ticket, its version, its offset and the blob's size
+abbrev pub start_reply : Place → ℕ → ℕ → ℕ → ℕ → Reply
+start_reply Append ticket version at size = Replies.AppendStarted ticket version at size
+start_reply (WriteAt offset) ticket version at size = Replies.WriteStarted ticket version at size
+
 -- how often the outside failed for a fault: a lost page is one
 abbrev pub page_faults : Fault → ℕ
-page_faults (Faults.NoBlob blob) = 0
-page_faults (Faults.NotPublished version published) = 0
-page_faults (Faults.OffsetPastSize offset size) = 0
-page_faults (Faults.BlobTooBig end limit) = 0
-page_faults (Faults.TooManyVersions limit) = 0
-page_faults (Faults.TooManyOpen limit) = 0
-page_faults (Faults.TooManyBlobs limit) = 0
-page_faults (Faults.Already version) = 0
-page_faults Faults.NoMemory = 0
-page_faults Faults.EmptyUpdate = 0
-page_faults (Faults.UpdateTooLong size) = 0
-page_faults (Faults.RangePastSize end size) = 0
-page_faults (Faults.NoTicket ticket) = 0
-page_faults Faults.TooManyTickets = 0
 page_faults (Faults.PageFault page) = 1
-page_faults (Faults.Pending version held) = 0
-page_faults Faults.Malformed = 0
-page_faults (Faults.FrameTooLong size) = 0
-page_faults Faults.BadFrame = 0
-page_faults (Faults.ReadTooLong size) = 0
-page_faults (Faults.NoMemoryTicket ticket) = 0
+page_faults _ = 0
 
 -- how often the outside failed for a reply, as far as the reply tells
 abbrev pub fault_count : Reply → ℕ
-fault_count (Replies.Created blob) = 0
-fault_count (Replies.Appended version at size) = 0
-fault_count (Replies.Wrote version at size) = 0
-fault_count (Replies.AppendStarted ticket version at size) = 0
-fault_count (Replies.WriteStarted ticket version at size) = 0
-fault_count (Replies.Finished published) = 0
-fault_count (Replies.Content bytes) = 0
-fault_count (Replies.RecentIs version size) = 0
-fault_count (Replies.SizeIs size) = 0
-fault_count (Replies.Synced version) = 0
-fault_count (Replies.StatusIs assigned published held) = 0
-fault_count (Replies.Branched blob) = 0
-fault_count (Replies.HelloIs version) = 0
-fault_count (Replies.Contents bytes) = 0
-fault_count (Replies.Repaired published) = 0
 fault_count (Replies.Refused fault) = page_faults fault
-fault_count Replies.Bye = 0
+fault_count _ = 0

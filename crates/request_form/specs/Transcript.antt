@@ -12,22 +12,8 @@ use Rattle.request_form.specs.Session.{Fixed, Session, IsNobody}
 use Rattle.request_form.specs.Answers.{Gap, Answers, max_update, answer_faults}
 
 abbrev pub is_quit : Request → Bool
-is_quit Requests.Create = false
-is_quit (Requests.Append blob bytes) = false
-is_quit (Requests.Write blob offset bytes) = false
-is_quit (Requests.StartAppend blob bytes) = false
-is_quit (Requests.StartWrite blob offset bytes) = false
-is_quit (Requests.Finish ticket) = false
-is_quit (Requests.Read blob version offset count) = false
-is_quit (Requests.Recent blob) = false
-is_quit (Requests.Size blob version) = false
-is_quit (Requests.Sync blob version) = false
-is_quit (Requests.Status blob) = false
-is_quit (Requests.Branch blob version) = false
-is_quit (Requests.Hello version) = false
-is_quit (Requests.ReadMany blob version ranges) = false
-is_quit (Requests.Repair blob version) = false
 is_quit Requests.Quit = true
+is_quit _ = false
 
 -- whether the item is the last that has a reply
 abbrev pub is_last : Heard → Bool

@@ -11,12 +11,16 @@ pub trait Service {
     ghost use Rattle.request_form.specs.Session.{Session};
     ghost use Rattle.request_form.specs.Answers.{Answers, answer_faults};
     ghost use Rattle.request_form.specs.Transcript.{is_quit};
+    ghost use Rattle.request_form.specs.TurnsTaken.{TakesTurns};
 
     /// Who asks, what it has seen, and the tickets that it holds.
     ghost session: { Self → Session };
 
     /// How often the outside has failed for it.
     ghost faults: { Self → ℕ };
+
+    /// How many turns it has taken at the state that its sessions share.
+    ghost turns: { Self → ℕ };
 
     /// What no answer changes, such as the store whose session it is.
     ghost Kept: { Type 0 } = { Unit {0} };
@@ -30,5 +34,6 @@ pub trait Service {
         requires sync { IsSync R.row }
         ensures answers { Answers AllOther (session self.old) request result (session self.new) }
         ensures faults { RoseBy (answer_faults (session self.new) request result) (faults self.old) (faults self.new) }
+        ensures turns { TakesTurns request (turns self.old) (turns self.new) }
         ensures kept { kept self.new ≡ kept self.old };
 }

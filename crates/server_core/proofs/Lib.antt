@@ -6,3 +6,4 @@ pub mod Conversed
 pub mod Served
 pub mod Exact
 pub mod Alone
+mod Told

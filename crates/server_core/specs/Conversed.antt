@@ -1,5 +1,5 @@
 -- How a stream of items ends, and what was answered then.
-use Rattle.std.specs.Prelude.{◌≡◌, ◌⊎◌, ℕ, ◌≢◌, ◌<◌, ◌≤◌, Bool, true, false, List, [], ◌++◌, length, Option, ⊤, flat_map}
+use Rattle.std.specs.Prelude.{◌≡◌, ◌⊎◌, ℕ, ◌≢◌, ◌<◌, ◌≤◌, Bool, true, false, List, [], ◌++◌, length, Option, Some, ⊤, flat_map}
 use Rattle.std.specs.Io.KnownBytes.{Appends, Consumes, IsAtEnd}
 use Rattle.faults.specs.Counts.{RoseBy}
 use Rattle.item_stream.specs.Items.{ItemStream}
@@ -128,6 +128,19 @@ abbrev pub ConversedExactly : {Item : Type 0} → Talk Item → Type 0
 ConversedExactly {Item = Item} talk = (old : PointOf talk.Session) (reads : List ℕ → ItemStream Item) (before after : Input) (limit : ℕ) (new : PointOf talk.Session) (end : End)
     → (held : Conversed talk old reads before after limit new end)
     → EndsExactly talk.is_last (reads held.taken) (length held.taken) limit held.items held.rest before.ends after.ends end
+
+-- What a stream tells of a conversation that it had, where it told what it had given and what was written before.
+pub record TellsAll (given taken written out : List ℕ) (given' written' : Option (List ℕ)) : Type 0 where
+  pub gave : given' ≡ Some (given ++ taken)
+  pub wrote : written' ≡ Some (written ++ out)
+
+-- A conversation over a stream that tells what it gave and what was written leaves neither open: the bytes that were taken are those that the stream gave in
+-- it, and what was put out is what was written in it.
+abbrev pub ConversedTold : {Item : Type 0} → Talk Item → Type 0
+ConversedTold {Item = Item} talk = (old : PointOf talk.Session) (reads : List ℕ → ItemStream Item) (before after : Input) (limit : ℕ) (new : PointOf talk.Session) (end : End)
+    → (held : Conversed talk old reads before after limit new end) (given written : List ℕ)
+    → before.given ≡ Some given → old.written ≡ Some written
+    → TellsAll given held.taken written held.progress.out after.given new.written
 
 -- what the end of a stream says of the item that it leaves over, where each whole one was answered
 abbrev pub FinishedAs : {Item : Type 0} → (Item → Bool) → ItemStream Item → List Item → List ℕ → End → Type 0

@@ -1,6 +1,6 @@
 //! Laws of a stream that was served.
 
-ghost use Rattle.server_core.specs.Conversed.{ConversedExactly};
+ghost use Rattle.server_core.specs.Conversed.{ConversedExactly, ConversedTold};
 ghost use Rattle.server_core.specs.Laws.{ServedExactly, ServedAlone};
 
 use crate::conversation::Conversation;
@@ -19,4 +19,9 @@ pub fn endings_hold()
 /// A conversation ended exactly as the bytes taken, the replies written and the count of ends say.
 pub fn conversations_end_exactly<C: Conversation>()
     ensures { ConversedExactly C.talk }
+{}
+
+/// A conversation over a stream that tells what it gave and what was written leaves neither open.
+pub fn conversations_are_told<C: Conversation>()
+    ensures { ConversedTold C.talk }
 {}

@@ -1,23 +1,13 @@
 -- The reply that each result of a session's call is.
 use Rattle.std.specs.Prelude.{ℕ, List, Result, Ok, Err}
 use Rattle.blob_model.specs.declared.call.Place.{Place}
-use Rattle.blob_model.specs.declared.call.Place.TheVariants.{WriteAt, Append}
 use Rattle.request_form.specs.declared.form.Reply.{Reply}
 use Rattle.request_form.specs.declared.form.Reply.TheVariants as Replies
 use Rattle.request_form.specs.declared.form.Fault.{Fault}
+use Rattle.request_form.specs.Replies.{update_reply, start_reply}
 use Rattle.session_parts.specs.declared.done.Started.{Started}
 use Rattle.session_parts.specs.declared.done.Updated.{Updated}
 use Rattle.session_parts.specs.declared.done.Updated.TheVariants as WholeUpdates
-
--- what is said of an update that was finished: its version, its offset and the blob's size
-abbrev pub update_reply : Place → ℕ → ℕ → ℕ → Reply
-update_reply Append version at size = Replies.Appended version at size
-update_reply (WriteAt offset) version at size = Replies.Wrote version at size
-
--- what is said of one that was started: its ticket, its version, its offset and the blob's size
-abbrev pub start_reply : Place → ℕ → ℕ → ℕ → ℕ → Reply
-start_reply Append ticket version at size = Replies.AppendStarted ticket version at size
-start_reply (WriteAt offset) ticket version at size = Replies.WriteStarted ticket version at size
 
 abbrev pub create_reply : Result ℕ Fault → Reply
 create_reply (Ok blob) = Replies.Created blob

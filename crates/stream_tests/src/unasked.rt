@@ -16,6 +16,8 @@ impl Service for Unasked {
 
     ghost faults = { λ s. 0 };
 
+    ghost turns = { λ s. 0 };
+
     ghost kept = { λ s. tt };
 
     fn answer<R: Wait + Threads + Sync>(&mut self, rt: &R, _request: Request) -> Reply {

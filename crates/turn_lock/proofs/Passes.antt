@@ -154,7 +154,7 @@ module _ {S E F : Type 0} (history : S → Log E) (fixed : S → F) where
       let own : entries_by c w.log ≡ entries_by c also = known.6 in
       let by_kept : (x : ℕ) → Contains b x → entries_by x seen ≡ entries_by x me.0.seen = λ x h. between x me.0.seen seen w.log lists.0 lists.2 (known.4 x h) in
       let by_it : entries_by c seen ≡ entries_by c also = between c also seen w.log lists.1 lists.2 own in
-      let v' : V = record { caller = me.0.caller; seen = longer me.0.seen (also_of me.0.stage); fixed = me.0.fixed; stage = settled_stage me.0.stage } in
+      let v' : V = record { caller = me.0.caller; seen = longer me.0.seen (also_of me.0.stage); fixed = me.0.fixed; turns = me.0.turns; stage = settled_stage me.0.stage } in
       let list : longer me.0.seen (also_of me.0.stage) ≡ seen = ap (λ (st : Stage E). longer me.0.seen (also_of st)) is in
       let st' : v'.stage ≡ Owns g (b ++ c ∷ []) = ap settled_stage is in
       let x : total numbers (set s.views id v') + 0 ≡ total numbers s.views + numbers_of v'.stage = moved numbers_of s.views id me.0 v' (Joins g b c also) at is in let x'' : numbers_of v'.stage ≡ 0 = ap numbers_of st' in
@@ -168,9 +168,9 @@ module _ {S E F : Type 0} (history : S → Log E) (fixed : S → F) where
       (λ (old : Contains b y). known.4 y old ∙ sym (by_kept y old))
       (λ (new : Contains (c ∷ []) y). subst (λ (n : ℕ). entries_by n w.log ≡ entries_by n seen) (only c y new) (own ∙ sym by_it))
       (Contains-append_cases b (c ∷ []) y h) in
-      let v'' : V = record { caller = me.0.caller; seen = seen; fixed = me.0.fixed; stage = settled_stage me.0.stage } in
+      let v'' : V = record { caller = me.0.caller; seen = seen; fixed = me.0.fixed; turns = me.0.turns; stage = settled_stage me.0.stage } in
       let told : Tells me.0.seen me.0.stage = subst (Tells me.0.seen) (sym is) (lists.0, lists.1, by_it, by_kept, (λ y late. none_before y seen w.log lists.2 (r.ungiven y (subst (λ (n : ℕ). IsUngiven n y) known.2 late))), subst (λ (n : ℕ). length b + 1 ≤ n) (sym known.2) room) in
-      let same : v' ≡ v'' = λ k. record { caller = me.0.caller; seen = list k; fixed = me.0.fixed; stage = settled_stage me.0.stage } in (
+      let same : v' ≡ v'' = λ k. record { caller = me.0.caller; seen = list k; fixed = me.0.fixed; turns = me.0.turns; stage = settled_stage me.0.stage } in (
         v',
         keeps,
         tt,

@@ -12,7 +12,7 @@ use Rattle.turn_lock.specs.declared.view.Known.{Known}
 use Rattle.turn_lock.specs.declared.view.Stage.TheVariants.{Idle, Waits, Inside}
 use Rattle.turn_lock.specs.History.{Log, Adds, entries_by}
 use Rattle.turn_lock.specs.Turns.{Facts, total, staged, Stands, IsKept, numbers_of, uses_of, turns_of, numbers, uses, turns, IsHome, IsOut, HasDrawn, JoinsAll}
-use Rattle.turn_lock.specs.Told.{Sat, drew, looked, booked, passed, Enters, entered, number_of}
+use Rattle.turn_lock.specs.Told.{Sat, drew, looked, booked, passed, rested, Enters, entered, number_of}
 use Rattle.turn_lock.proofs.Histories.{none_missed, added}
 use Rattle.turn_lock.proofs.Views.{total_has}
 use Rattle.turn_lock.proofs.Keeping.{after, moved, insider, few_wait, not_gone, moves, unchanged}
@@ -102,7 +102,7 @@ module _ {S E F : Type 0} (history : S → Log E) (fixed : S → F) where
   pub books : (slots id k : ℕ) (me : Sat S E F) (x : S) (n : ℕ) → me.0.stage ≡ Inside n → me.1 ≡ (0, x) ∷ [] → Adds me.0.caller me.0.seen (history x) → length (history x) ≡ length me.0.seen + k → length (history x) < 2 ^ 38
       → Allows Rule slots id me 2 (λ m. (m + k) % 18446744073709551616) (booked history (step slots 2 k 0 none) me)
   books slots id k me x n is carried adds longer short s r _ at _ = let w : Facts E F = r.facts in let known = subst (Stands w id me.0) is (r.each_seat id me.0 at) in
-      let v' : V = record { caller = me.0.caller; seen = history x; fixed = me.0.fixed; stage = me.0.stage } in
+      let v' : V = record { caller = me.0.caller; seen = history x; fixed = me.0.fixed; turns = me.0.turns; stage = me.0.stage } in
       let new = added me.0.caller me.0.seen (history x) adds in let ext : Log E = new.0 in
       let grown : history x ≡ w.log ++ ext = new.1 ∙ ap (λ l. l ++ ext) known.5 in
       let some_id : 0 < id = known.1.0 in
@@ -125,13 +125,13 @@ module _ {S E F : Type 0} (history : S → Log E) (fixed : S → F) where
             (inl (inl refl))
             (⊎_elim (λ (h : IsHome history fixed w s.homes). let z = h.0 in let o = known.6 in absurd (omega arith)) (λ h. inr h) r.slot),
         (λ x' carried'. let same : x ≡ x' = ap (λ (l : List (ℕ × S)). (get_or l 0 (0, x)).1) (sym carried ∙ carried') in
-            ap (λ (y : S). (record { caller = me.0.caller; seen = history y; fixed = me.0.fixed; stage = me.0.stage }, me.1)) same),
+            ap (λ (y : S). (record { caller = me.0.caller; seen = history y; fixed = me.0.fixed; turns = me.0.turns; stage = me.0.stage }, me.1)) same),
       )
 
   pub passes : (slots id : ℕ) (me : Sat S E F) (x : S) (n : ℕ) → me.0.stage ≡ Inside n → me.1 ≡ (0, x) ∷ [] → history x ≡ me.0.seen → me.0.fixed ≡ Some (fixed x)
       → Allows Rule slots id me 1 (λ m. (m + 1) % 18446744073709551616) (passed (step slots 1 1 0 none) me)
   passes slots id me x n is carried hist fix s r _ at _ = let w : Facts E F = r.facts in let known = subst (Stands w id me.0) is (r.each_seat id me.0 at) in
-      let v' : V = staged me.0 Idle in
+      let v' : V = rested me.0 in
       let a : total numbers (set s.views id v') + 1 ≡ total numbers s.views + 0 = moved numbers_of s.views id me.0 v' (Inside n) at is in
       let b : total uses (set s.views id v') + 1 ≡ total uses s.views + 1 = moved uses_of s.views id me.0 v' (Inside n) at is in
       let c : total turns (set s.views id v') + 1 ≡ total turns s.views + 0 = moved turns_of s.views id me.0 v' (Inside n) at is in

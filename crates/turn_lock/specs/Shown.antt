@@ -6,12 +6,13 @@ use Rattle.turn_lock.specs.declared.view.Known.{Known}
 use Rattle.turn_lock.specs.History.{Log, entries_by, Adds, LacksUngiven}
 use Rattle.turn_lock.specs.Told.{kept_of, IsOwner}
 
--- a pass: which lock it is of, its caller, the prefix of the history that it has seen, and the fixed data
+-- a pass: which lock it is of, its caller, the prefix of the history that it has seen, the fixed data, and how many turns it has had
 pub record PassView (E F : Type 0) : Type 0 where
   pub lock : TableId
   pub caller : ℕ
   pub seen : Log E
   pub fixed : Option F
+  pub turns : ℕ
 
 -- an owner: the same, with how many passes it made, how many of them are out, and the callers of those that it took back
 pub record OwnerView (E F : Type 0) : Type 0 where
@@ -24,7 +25,7 @@ pub record OwnerView (E F : Type 0) : Type 0 where
 
 module _ {S E F : Type 0} where
   abbrev pub view_of_pass : Seat S (Known E F) → ℕ → PassView E F
-  view_of_pass s caller = record { lock = s.table_id; caller = caller; seen = s.me.0.seen; fixed = s.me.0.fixed }
+  view_of_pass s caller = record { lock = s.table_id; caller = caller; seen = s.me.0.seen; fixed = s.me.0.fixed; turns = s.me.0.turns }
 
   abbrev pub view_of_owner : Seat S (Known E F) → ℕ → ℕ → OwnerView E F
   view_of_owner s made out = record { lock = s.table_id; made = made; out = out; seen = s.me.0.seen; fixed = s.me.0.fixed; kept = kept_of s.me.0.stage }

@@ -53,19 +53,23 @@ module _ {E : Type 0} where
   settled_stage (Joins g kept c also) = Owns g (kept ++ c ∷ [])
   settled_stage st = st
 
+-- at rest after one turn more
+abbrev pub rested : {E F : Type 0} → Known E F → Known E F
+rested v = record { caller = v.caller; seen = v.seen; fixed = v.fixed; turns = v.turns + 1; stage = Idle }
+
 module _ {S E F : Type 0} where
   -- draw: the seat waits with the number found
   abbrev pub drew : Step S → Sat S E F → ℕ → Sat S E F → Type 0
   drew st m r m' = (n : ℕ) × (r ≡ n % 18446744073709551616) × (m' ≡ (staged m.0 (Waits n), m.1))
 
-  -- pass on: the slot is given back, and the seat is at rest
+  -- pass on: the slot is given back, and the seat is at rest after one turn more
   abbrev pub passed : Step S → Sat S E F → ℕ → Sat S E F → Type 0
-  passed st m r m' = m' ≡ (staged m.0 Idle, [])
+  passed st m r m' = m' ≡ (rested m.0, [])
 
   module _ (history : S → Log E) where
     -- the seat has seen the state's history, and has the state
     abbrev pub entered : ℕ → Sat S E F → S → Sat S E F
-    entered n m x = (record { caller = m.0.caller; seen = history x; fixed = m.0.fixed; stage = Inside n }, (0, x) ∷ m.1)
+    entered n m x = (record { caller = m.0.caller; seen = history x; fixed = m.0.fixed; turns = m.0.turns; stage = Inside n }, (0, x) ∷ m.1)
 
     -- others alone have added to what the seat had seen
     abbrev pub Enters : (S → F) → ℕ → Sat S E F → Sat S E F → Type 0
@@ -78,12 +82,12 @@ module _ {S E F : Type 0} where
 
     -- book: the seat has seen the history of the state that it has
     abbrev pub booked : Step S → Sat S E F → ℕ → Sat S E F → Type 0
-    booked st m r m' = (x : S) → m.1 ≡ (0, x) ∷ [] → m' ≡ (record { caller = m.0.caller; seen = history x; fixed = m.0.fixed; stage = m.0.stage }, m.1)
+    booked st m r m' = (x : S) → m.1 ≡ (0, x) ∷ [] → m' ≡ (record { caller = m.0.caller; seen = history x; fixed = m.0.fixed; turns = m.0.turns; stage = m.0.stage }, m.1)
 
   -- The second half of a join: the two lists of the seat that joins are one, which begins with both. It has of the caller taken in what that caller had seen, and of each caller kept before what this seat had seen.
   abbrev pub settled : Step S → Sat S E F → ℕ → Sat S E F → Type 0
   settled st m r m' =
-      (m' ≡ (record { caller = m.0.caller; seen = longer m.0.seen (also_of m.0.stage); fixed = m.0.fixed; stage = settled_stage m.0.stage }, m.1))
+      (m' ≡ (record { caller = m.0.caller; seen = longer m.0.seen (also_of m.0.stage); fixed = m.0.fixed; turns = m.0.turns; stage = settled_stage m.0.stage }, m.1))
       × Begins m.0.seen m'.0.seen × Begins (also_of m.0.stage) m'.0.seen × (entries_by (joined_of m.0.stage) m'.0.seen ≡ entries_by (joined_of m.0.stage) (also_of m.0.stage))
       × ((c : ℕ) → Contains (kept_of m.0.stage) c → entries_by c m'.0.seen ≡ entries_by c m.0.seen)
       × LacksUngiven (given_of m.0.stage) m'.0.seen × (length (kept_of m.0.stage) + 1 ≤ given_of m.0.stage)
@@ -95,7 +99,7 @@ module _ {E F : Type 0} where
 
   -- split: what the owner has seen and its fixed data are the new seat's too, whose caller is the next number
   abbrev pub newcomer : Known E F → Known E F
-  newcomer v = record { caller = given_of v.stage + 1; seen = v.seen; fixed = v.fixed; stage = Idle }
+  newcomer v = record { caller = given_of v.stage + 1; seen = v.seen; fixed = v.fixed; turns = 0; stage = Idle }
 
   -- The first half of a join: the owner has the other's list beside its own, and keeps the caller.
   abbrev pub gathered : Known E F → Known E F → Known E F

@@ -66,15 +66,15 @@ pub record Facts (E F : Type 0) : Type 0 where
 
 module _ {E F : Type 0} where
   abbrev pub staged : Known E F → Stage E → Known E F
-  staged v st = record { caller = v.caller; seen = v.seen; fixed = v.fixed; stage = st }
+  staged v st = record { caller = v.caller; seen = v.seen; fixed = v.fixed; turns = v.turns; stage = st }
 
   -- the view of a seat that was taken back
   abbrev pub gone : Known E F
-  gone = record { caller = 0; seen = []; fixed = None; stage = Gone }
+  gone = record { caller = 0; seen = []; fixed = None; turns = 0; stage = Gone }
 
   -- the owner's view at the start
   abbrev pub opener : F → Known E F
-  opener f = record { caller = 0; seen = []; fixed = Some f; stage = Owns 0 [] }
+  opener f = record { caller = 0; seen = []; fixed = Some f; turns = 0; stage = Owns 0 [] }
 
   -- what was seen is a prefix of the whole list, and the fixed data are those of all
   abbrev pub IsTrueOf : Facts E F → Known E F → Type 0

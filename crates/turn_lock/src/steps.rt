@@ -3,7 +3,7 @@ ghost use Rattle.std.specs.Prelude.{◌≡◌, ◌+◌, ◌++◌, ◌%◌, ◌^�
 ghost use Rattle.turn_lock.specs.declared.view.Stage.TheVariants.{Idle, Waits, Inside, Owns};
 ghost use Rattle.turn_lock.specs.History.{entries_by, Begins, Adds, longer, LacksUngiven};
 ghost use Rattle.turn_lock.specs.Turns.{staged};
-ghost use Rattle.turn_lock.specs.Told.{number_of, kept_of, Enters, Ran, Turned, Stays, IsIdle, Closes, dealt, newcomer};
+ghost use Rattle.turn_lock.specs.Told.{number_of, kept_of, Enters, Ran, Turned, Stays, IsIdle, Closes, dealt, newcomer, rested};
 
 use crate::journal::{Act, Journaled};
 use crate::plays::{Book, Deal, Draw, Gather, Look, PassOn, Settle};
@@ -77,7 +77,7 @@ fn book<S: Journaled>(table: &TurnTable<S>, seat: &mut TurnSeat<S>, added: u64)
         × (length (S.history x) ≡ length seat.old.me.0.seen + added) × (length (S.history x) < 2 ^ 38) }
     ensures seat { Stays seat.old seat.new }
     ensures booked { (x : S) → seat.old.me.1 ≡ (0, x) ∷ []
-        → seat.new.me ≡ (record { caller = seat.old.me.0.caller; seen = S.history x; fixed = seat.old.me.0.fixed; stage = seat.old.me.0.stage }, seat.old.me.1) }
+        → seat.new.me ≡ (record { caller = seat.old.me.0.caller; seen = S.history x; fixed = seat.old.me.0.fixed; turns = seat.old.me.0.turns; stage = seat.old.me.0.stage }, seat.old.me.1) }
 {
     table.fetch_add::<Book>(seat, ENTRIES, added);
 }
@@ -89,7 +89,7 @@ fn pass_on<S: Journaled>(table: &TurnTable<S>, seat: &mut TurnSeat<S>)
     requires inside { seat.old.me.0.stage ≡ Inside (number_of seat.old.me.0.stage) }
     requires held { (x : S) × (seat.old.me.1 ≡ (0, x) ∷ []) × (S.history x ≡ seat.old.me.0.seen) × (seat.old.me.0.fixed ≡ Some (S.fixed x)) }
     ensures seat { Stays seat.old seat.new }
-    ensures passed { seat.new.me ≡ (staged seat.old.me.0 Idle, []) }
+    ensures passed { seat.new.me ≡ (rested seat.old.me.0, []) }
 {
     let number = table.fetch_add::<PassOn>(seat, PASSED, 1);
     if table.peek(DRAWN) != number.wrapping_add(1) {
@@ -109,7 +109,7 @@ pub fn take_turn<S: Journaled, A: Act<S>, R: Wait>(
     requires idle { IsIdle seat.old.me caller }
     requires ready { IfSome seat.old.me.0.fixed (λ f. A.ready act seat.old.me.0.seen f) }
     ensures seat { Stays seat.old seat.new }
-    ensures same { seat.new.me ≡ (record { caller = seat.old.me.0.caller; seen = seat.new.me.0.seen; fixed = seat.old.me.0.fixed; stage = Idle }, []) }
+    ensures same { seat.new.me ≡ (record { caller = seat.old.me.0.caller; seen = seat.new.me.0.seen; fixed = seat.old.me.0.fixed; turns = seat.old.me.0.turns + 1; stage = Idle }, []) }
     ensures turned { Turned (λ before f after. A.gives act before f caller result after) seat.old.me.0 seat.new.me.0 }
 {
     let number = draw(table, seat);

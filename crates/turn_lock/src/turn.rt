@@ -41,7 +41,7 @@ impl<S: Journaled> Model for Turn<S> {
     ghost invariant = { λ t. (t.table.shared.table_id.words ≡ 3) × (t.table.shared.table_id.slots ≡ 1) };
 }
 
-/// The right to take turns as one caller. It holds no turn between two calls. Contracts see its lock, its caller, the prefix of the history that it has seen, and the fixed data.
+/// The right to take turns as one caller. It holds no turn between two calls. Contracts see its lock, its caller, the prefix of the history that it has seen, the fixed data, and how many turns it has had.
 pub struct Pass<S: Journaled> {
     seat: TurnSeat<S>,
     caller: u32,
@@ -142,11 +142,12 @@ impl<S: Journaled + Drop> Turn<S> {
 impl<S: Journaled> Turn<S> {
     /// Waits until all turns that were drawn before are passed on, lets the act change the state, and answers what it answers.
     ///
-    /// The pass has then seen the whole history, at whose end the act's entry stands where it added one.
+    /// The pass has then seen the whole history, at whose end the act's entry stands where it added one, and has had one turn more.
     pub fn with_turn<A: Act<S>, R: Wait>(&self, rt: &R, pass: &mut Pass<S>, act: A) -> A::Answer
         requires turn { pass.old.lock ≡ self.now }
         requires ready { IfSome pass.old.fixed (λ f. A.ready act pass.old.seen f) }
-        ensures pass { pass.new ≡ record pass.old { seen = pass.new.seen } }
+        ensures pass { pass.new ≡ record pass.old { seen = pass.new.seen; turns = pass.new.turns } }
+        ensures one_turn { pass.new.turns ≡ pass.old.turns + 1 }
         ensures turned { Turned (λ before f after. A.gives act before f pass.old.caller result after) pass.old pass.new }
     {
         let caller = pass.caller;
@@ -190,12 +191,12 @@ impl<S: Journaled> Pass<S> {
 }
 
 impl<S: Journaled> Owner<S> {
-    /// A new pass, which has seen what the owner has. Its caller is how many passes were made up to now, this one too, so no caller
+    /// A new pass, which has seen what the owner has and has had no turn. Its caller is how many passes were made up to now, this one too, so no caller
     /// comes twice. After 1,024 passes there is none, whether they were taken back or not.
     pub fn pass(&mut self, turn: &Turn<S>) -> Result<Pass<S>, PassFault>
         requires { self.old.lock ≡ turn.now }
         ensures too_many { IsErr result ↔ (self.old.made ≡ 1024) }
-        ensures pass { IfOk result (λ p. p ≡ record { lock = turn.now; caller = self.old.made + 1; seen = self.old.seen; fixed = self.old.fixed }) }
+        ensures pass { IfOk result (λ p. p ≡ record { lock = turn.now; caller = self.old.made + 1; seen = self.old.seen; fixed = self.old.fixed; turns = 0 }) }
         ensures own { IfOk result (λ p. entries_by p.caller p.seen ≡ []) }
         ensures counts { OnOk result (self.new ≡ record self.old { made = self.old.made + 1; out = self.old.out + 1 }) }
         ensures refused { OnErr result (self.new ≡ self.old) }

@@ -25,6 +25,8 @@ pub struct Known<E, F> {
     pub seen: LinkedList<(u32, E)>,
     /// What no act changes. Only a seat that was taken back has none.
     pub fixed: Option<F>,
+    /// How many turns the seat has had: it drew their numbers and passed them on.
+    pub turns: u64,
     /// Where the seat stands.
     pub stage: Stage<E>,
 }

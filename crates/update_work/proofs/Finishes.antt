@@ -6,7 +6,7 @@ use Rattle.blob_model.specs.declared.call.Event.{Event}
 use Rattle.blob_model.specs.declared.call.Event.TheVariants as Events
 use Rattle.blob_model.specs.declared.call.Place.{Place}
 use Rattle.request_form.specs.Session.{Session, HeldTicket}
-use Rattle.request_form.specs.Answers.{ReportAnswer, Answers, max_update}
+use Rattle.request_form.specs.Answers.{Tickets, Answers, max_update}
 use Rattle.request_form.specs.HangUp.{GivenUp, GivesUp, GivenUpCounts, HungUp}
 use Rattle.request_form.specs.declared.form.Request.TheVariants as Requests
 use Rattle.request_form.specs.declared.form.Reply.{Reply}
@@ -154,11 +154,7 @@ reports_as s ticket a b (inr l) seen caller fixed limit = inr (leaves_as s (Even
 
 given_up : ReportsLeave → (s : Session) (ticket : HeldTicket) (reply : Reply) (s' : Session) → IsNumberedBy s.fixed.limits s.seen s.caller ticket.blob ticket.version
     → GivenUp AllOther s ticket reply s' → Reports s ticket s'
-given_up reports s ticket reply s' numbered (GivenUp.reported r) = reports s ticket reply s' numbered (ReportAnswer.reported r)
-given_up reports s ticket reply s' numbered (GivenUp.found_finished r) = reports s ticket reply s' numbered (ReportAnswer.finished r)
-given_up reports s ticket reply s' numbered (GivenUp.dropped d) =
-    reports_as s ticket d.mid s' (reports s ticket reply d.mid numbered (ReportAnswer.hindered d.hindered))
-    (ap (λ (x : Session). x.seen) d.dropped) (ap (λ (x : Session). x.caller) d.dropped) (ap (λ (x : Session). x.fixed) d.dropped) (λ was. ap (λ (x : Session). x.limit) d.dropped ∙ was)
+given_up reports s ticket reply s' numbered a = reports s ticket (Tickets.drop ticket.number) reply s' numbered a
 
 gives_none : (s : Session) (replies : List Reply) (s' : Session) → GivesUp AllOther s [] replies s' → s' ≡ s
 gives_none s [] s' same = same

@@ -9,7 +9,7 @@ use Rattle.blob_model.specs.declared.call.Place.{Place}
 use Rattle.blob_model.specs.declared.call.Place.TheVariants.{WriteAt, Append}
 use Rattle.faults.specs.Counts.{RoseBy}
 use Rattle.request_form.specs.Session.{Fixed, Session}
-use Rattle.request_form.specs.Answers.{Unless, LookAnswer, Answers, update_fault, update_faults, max_tickets}
+use Rattle.request_form.specs.Answers.{Unless, LookAnswer, WholeAnswer, Answers, update_fault, update_faults, max_tickets}
 use Rattle.request_form.specs.declared.form.Request.TheVariants as Requests
 use Rattle.request_form.specs.declared.form.Reply.{Reply}
 use Rattle.request_form.specs.declared.form.Reply.TheVariants as Replies
@@ -18,7 +18,7 @@ use Rattle.request_form.specs.declared.form.Fault.TheVariants as Faults
 use Rattle.session_parts.specs.declared.done.Updated.{Updated as Told}
 use Rattle.session_parts.specs.declared.done.Updated.TheVariants as WholeUpdates
 use Rattle.client_session.specs.Results.{updated_reply}
-use Rattle.client_session.specs.Updates.{update_reply, start_reply, UpdateDone}
+use Rattle.client_session.specs.Updates.{update_reply, start_reply}
 use Rattle.workload_law.specs.Ends.{Leaves, Holds, StopsAt, UpdateHindered, UpdateEnds, UpdatesEnd, LeavesAdd, StopsLater, HoldsLater, LooksLeaveNone, ticket_of}
 use Rattle.update_work.specs.Updates.{update_events, is_full, told_faults, IsOneUpdate, IsReady, IsUpdated, IsHeldBack, IsHindered, UpdateTried, HasWaited}
 
@@ -37,20 +37,20 @@ update_fits s bytes one ready =
 
 module _ (ends : UpdatesEnd) (s : Session) (blob : ℕ) (place : Place) (bytes : List ℕ) (told : Result Told Fault) (s' : Session) (fits : update_fault s bytes ≡ None) where
   pub once_append : place ≡ Append → Answers AllOther s (Requests.Append blob bytes) (updated_reply Append told) s'
-      → UpdateEnds s blob place bytes (update_reply place) (start_reply place) (updated_reply place told) s'
+      → UpdateEnds s blob place bytes (updated_reply place told) s'
   once_append is answers =
       let reply = updated_reply Append told in
-      let answer = subst (λ (f : Option Fault). Unless f s reply s' (UpdateDone s blob Append bytes reply s')) fits answers in
-      subst (λ (p : Place). UpdateEnds s blob p bytes (update_reply p) (start_reply p) (updated_reply p told) s') (sym is)
-      (ends s blob Append bytes (update_reply Append) (start_reply Append) reply s' answer)
+      let answer = subst (λ (f : Option Fault). Unless f s reply s' (WholeAnswer AllOther s blob Append bytes reply s')) fits answers in
+      subst (λ (p : Place). UpdateEnds s blob p bytes (updated_reply p told) s') (sym is)
+      (ends s blob Append bytes reply s' answer)
 
   pub once_write : (offset : ℕ) → place ≡ WriteAt offset → Answers AllOther s (Requests.Write blob offset bytes) (updated_reply (WriteAt offset) told) s'
-      → UpdateEnds s blob place bytes (update_reply place) (start_reply place) (updated_reply place told) s'
+      → UpdateEnds s blob place bytes (updated_reply place told) s'
   once_write offset is answers =
       let reply = updated_reply (WriteAt offset) told in
-      let answer = subst (λ (f : Option Fault). Unless f s reply s' (UpdateDone s blob (WriteAt offset) bytes reply s')) fits answers in
-      subst (λ (p : Place). UpdateEnds s blob p bytes (update_reply p) (start_reply p) (updated_reply p told) s') (sym is)
-      (ends s blob (WriteAt offset) bytes (update_reply (WriteAt offset)) (start_reply (WriteAt offset)) reply s' answer)
+      let answer = subst (λ (f : Option Fault). Unless f s reply s' (WholeAnswer AllOther s blob (WriteAt offset) bytes reply s')) fits answers in
+      subst (λ (p : Place). UpdateEnds s blob p bytes (updated_reply p told) s') (sym is)
+      (ends s blob (WriteAt offset) bytes reply s' answer)
 
 -- ---- counts
 
@@ -137,7 +137,7 @@ pub same_fault : (a b : Fault) → Replies.Refused a ≡ Replies.Refused b → a
 same_fault a b e = cc
 
 module _ (s : Session) (blob : ℕ) (place : Place) (bytes : List ℕ) (s' : Session) where
-  pub full_waited : (told : Result Told Fault) → UpdateEnds s blob place bytes (update_reply place) (start_reply place) (updated_reply place told) s' → is_full told ≡ true → HasWaited s s'
+  pub full_waited : (told : Result Told Fault) → UpdateEnds s blob place bytes (updated_reply place told) s' → is_full told ≡ true → HasWaited s s'
   full_waited (Ok (WholeUpdates.Done done)) ends full = absurd (let no : false ≡ true = full in cc)
   full_waited (Ok (WholeUpdates.Held started)) ends full = absurd (let no : false ≡ true = full in cc)
   full_waited (Err fault) (UpdateEnds.does version at size said l t) full = absurd (no_reply place version at size fault said)
@@ -166,7 +166,7 @@ module _ (adds : LeavesAdd) (later : StopsLater) (held_later : HoldsLater) (s mi
     stops = later s mid s' blob place bytes (ticket_of fault) waited.leaves waited.tickets stops;
   }
 
-  pub tried : (told : Result Told Fault) → UpdateEnds mid blob place bytes (update_reply place) (start_reply place) (updated_reply place told) s' → is_full told ≡ false
+  pub tried : (told : Result Told Fault) → UpdateEnds mid blob place bytes (updated_reply place told) s' → is_full told ≡ false
       → UpdateTried s blob place bytes told s'
   tried (Ok (WholeUpdates.Done done)) (UpdateEnds.does version at size said l t) full = tried_done version l t
   tried (Ok (WholeUpdates.Done done)) (UpdateEnds.held_back number version at size said some h) full = absurd (done_or_started place done.version done.at done.size number version at size said)

@@ -36,7 +36,7 @@ fn update_once<R: Threads + Wait + Sync, D: BesideDoor, G: Gate>(
     requires sync { IsSync R.row }
     requires bytes { IsOneUpdate bytes.now }
     requires ready { IsReady (session_of session.old) }
-    ensures ends { UpdateEnds (session_of session.old) blob place bytes.now (update_reply place) (start_reply place) (updated_reply place result) (session_of session.new) }
+    ensures ends { UpdateEnds (session_of session.old) blob place bytes.now (updated_reply place result) (session_of session.new) }
     ensures faults { RoseBy (told_faults result) (sum_by D.faults session.old.doors) (sum_by D.faults session.new.doors) }
     ensures goes_on { Continues session.old session.new }
 {

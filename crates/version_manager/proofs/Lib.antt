@@ -17,4 +17,5 @@ pub mod Gaps
 pub mod GapFinishes
 pub mod Origins
 pub mod Waits
+pub mod Orders
 pub mod Reissuing

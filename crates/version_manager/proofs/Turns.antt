@@ -2,7 +2,7 @@
 use Rattle.std.proofs.Common.{◌≡◌, ℕ, ◌<◌, ◌^◌, true, false, List, [], ◌∷◌, ◌++◌, length, refl, sym, ap, ◌∙◌, subst, inl, inr, arith}
 use Rattle.std.specs.Prelude.{◌⊎◌, Option, None, Some, Result, Ok, Err, IfOk, IfErr}
 use Rattle.std.proofs.lemmas.List.{map-append, length-map}
-use Rattle.blob_model.specs.History.{caller_of, is_refused, IsLegal}
+use Rattle.blob_model.specs.History.{caller_of, is_refused, store_of, IsLegal}
 use Rattle.blob_model.specs.declared.call.Call.{Call}
 use Rattle.blob_model.specs.declared.call.Call.TheVariants as Calls
 use Rattle.blob_model.specs.declared.call.Event.{Event}
@@ -18,7 +18,8 @@ use Rattle.border_hints.specs.Numbered.{NumberedUpdate}
 use Rattle.publisher.specs.Windows.{Numbered}
 use Rattle.version_manager.specs.declared.fault.DeskFault.{DeskFault}
 use Rattle.version_manager.specs.declared.journal.DeskFixed.{DeskFixed}
-use Rattle.version_manager.specs.Desks.{DeskState, OnRefused, OnNoMemory, IsTicketOf, IsRowFor, IsNumbering, IsUnfinished, HasHints, HasHintsBelow, refusal_in, ticket_refusal, with_event, outcome_now, updates_in, is_finished_in}
+use Rattle.version_manager.specs.Desks.{DeskState, OnRefused, OnNoMemory, IsTicketOf, IsRowFor, IsNumbering, IsUnfinished, HasHints, HasHintsBelow, refusal_in, ticket_refusal, with_event, store_now, outcome_now, updates_in, is_finished_in}
+use Rattle.version_manager.specs.Folds.{IsInOrder, AreInOrder}
 use Rattle.version_manager.specs.Origins.{LieUnderOrigins}
 use Rattle.version_manager.specs.Log.{IsLog, Looked, Changed, IsNewTicket, IsSnapshotOf, Opened, IsWaitingTicket, Reissued, Foreseen, Finishes, desk_at, events, tagged, tag, fixed_of}
 
@@ -62,14 +63,19 @@ ticket_here d t x = whole_ticket d t (subst (λ (s : DeskState). IsTicketOf s t)
 pub row_here : (d : DeskState) (t : NumberedUpdate) (row : UpdateRow) → IsRowFor (desk_at (fixed_of d) (tagged d.history)) t row → IsRowOf d.page_size (updates_in d t.blob) t.version row
 row_here d t row x = subst (λ (s : DeskState). IsRowOf s.page_size (updates_in s t.blob) t.version row) (at_now d) x
 
+pub order_here : (d : DeskState) (t : NumberedUpdate) → IsInOrder d.page_size (store_of d.limits (events (tagged d.history))) t.blob t.version → IsInOrder d.page_size (store_now d) t.blob t.version
+order_here d t x = subst (λ (h : List Event). IsInOrder d.page_size (store_of d.limits h) t.blob t.version) (events_tagged d.history) x
+
 -- ---- the history
-pub is_log : (d d' : DeskState) → fixed_of d' ≡ fixed_of d → IsLegal d'.limits d'.history → length d'.history < 2 ^ 38 → IsLog (fixed_of d) (tagged d'.history)
-is_log d d' e legal short =
+pub is_log : (d d' : DeskState) → fixed_of d' ≡ fixed_of d → IsLegal d'.limits d'.history → length d'.history < 2 ^ 38 → AreInOrder d'.page_size d'.limits d'.history → IsLog (fixed_of d) (tagged d'.history)
+is_log d d' e legal short order =
     let L : DeskState → Type 0 = λ s. IsLegal s.limits s.history in
+    let O : DeskState → Type 0 = λ s. AreInOrder s.page_size s.limits s.history in
     record {
       tags = ap tagged (sym (events_tagged d'.history));
       legal = subst L (sym (at_after d d' e)) legal;
       short = omega (arith, length-map d'.history tag, short);
+      in_order = subst O (sym (at_after d d' e)) order;
     }
 
 module _ {A E : Type 0} (d d' : DeskState) (event : Event) (r : Result A E) (ws : A → List Numbered) (new : IfOk r (λ a. d' ≡ with_event d event (ws a))) (same : IfErr r (λ _. d' ≡ d)) where
@@ -97,17 +103,17 @@ module _ {A E : Type 0} (d d' : DeskState) (event : Event) (r : Result A E) (ws 
   pub adds : (tagged d'.history ≡ tagged d.history) ⊎ ((e : Event) × (tagged d'.history ≡ tagged d.history ++ (caller_of event, e) ∷ []))
   adds = adds_by r (added_by r new) (same_by r same)
 
-  pub changed : (call : Call) (caller : ℕ) (tells : A → Outcome) (fault : E → DeskFault) → IsLegal d.limits d.history → length d.history < 2 ^ 38 → IsLegal d'.limits d'.history → length d'.history < 2 ^ 38
+  pub changed : (call : Call) (caller : ℕ) (tells : A → Outcome) (fault : E → DeskFault) → IsLegal d.limits d.history → length d.history < 2 ^ 38 → AreInOrder d.page_size d.limits d.history → IsLegal d'.limits d'.history → length d'.history < 2 ^ 38 → AreInOrder d'.page_size d'.limits d'.history
       → IfOk r (λ a. outcome_now d caller call ≡ tells a) → IfErr r (λ e. OnRefused (fault e) (λ x. outcome_now d caller call ≡ Outcomes.Refused x))
       → IfErr r (λ e. OnNoMemory (fault e) (is_refused (outcome_now d caller call) ≡ false))
       → Changed (fixed_of d) call event tells fault (tagged d.history) caller r (tagged d'.history)
-  changed call caller tells fault legal short legal' short' done refused memory =
+  changed call caller tells fault legal short order legal' short' order' done refused memory =
       let D : DeskState → Type 0 = λ s. IfOk r (λ a. outcome_now s caller call ≡ tells a) in
       let R : DeskState → Type 0 = λ s. IfErr r (λ e. OnRefused (fault e) (λ x. outcome_now s caller call ≡ Outcomes.Refused x)) in
       let M : DeskState → Type 0 = λ s. IfErr r (λ e. OnNoMemory (fault e) (is_refused (outcome_now s caller call) ≡ false)) in
       record {
-        log = is_log d d refl legal short;
-        log_after = is_log d d' fixed_stays legal' short';
+        log = is_log d d refl legal short order;
+        log_after = is_log d d' fixed_stays legal' short' order';
         done = subst D (sym (at_now d)) done;
         added = added_by r new;
         refused = subst R (sym (at_now d)) refused;
@@ -149,11 +155,11 @@ finishes d d' t row r e unfinished done already waits back =
     }
 
 -- ---- looks
-pub looked : (d : DeskState) (call : Call) (caller : ℕ) (said : Outcome) → IsLegal d.limits d.history → length d.history < 2 ^ 38 → ((c : ℕ) → said ≡ outcome_now d c call)
+pub looked : (d : DeskState) (call : Call) (caller : ℕ) (said : Outcome) → IsLegal d.limits d.history → length d.history < 2 ^ 38 → AreInOrder d.page_size d.limits d.history → ((c : ℕ) → said ≡ outcome_now d c call)
     → Looked (fixed_of d) call (tagged d.history) caller said (tagged d.history)
-looked d call caller said legal short is =
+looked d call caller said legal short order is =
     let P : DeskState → Type 0 = λ s. said ≡ outcome_now s caller call in
-    record { log = is_log d d refl legal short; same = refl; said_is = subst P (sym (at_now d)) (is caller) }
+    record { log = is_log d d refl legal short order; same = refl; said_is = subst P (sym (at_now d)) (is caller) }
 
 snapshot_by : (d : DeskState) (blob version : ℕ) (r : Result Version DeskFault) → IfOk r (λ s. s.blob ≡ blob) → IfOk r (λ s. length s.rows ≡ version) → IfOk r (λ s. s.page_size ≡ d.page_size)
     → IfOk r (λ s. TellUpdates d.page_size (updates_in d blob) s.rows) → IfOk r (λ s. IsVersionIn d.nodes d.houses s) → IfOk r (λ s. LieUnderOrigins d.history blob s.rows)
@@ -164,19 +170,19 @@ snapshot_by d blob version (Ok s) id rows page tells here origins =
     let O : List Event → Type 0 = λ l. LieUnderOrigins l blob s.rows in
     record { blob_is = id; rows = rows; page_size = page; tells = subst T (sym (at_now d)) tells; here = here; origins = subst O (sym (events_tagged d.history)) origins }
 
-pub opened : (d : DeskState) (blob version caller : ℕ) (r : Result Version DeskFault) → IsLegal d.limits d.history → length d.history < 2 ^ 38
+pub opened : (d : DeskState) (blob version caller : ℕ) (r : Result Version DeskFault) → IsLegal d.limits d.history → length d.history < 2 ^ 38 → AreInOrder d.page_size d.limits d.history
     → ((c : ℕ) → IfOk r (λ s. outcome_now d c (Calls.Size blob version) ≡ Outcomes.Size (size_now s)))
     → ((c : ℕ) → IfErr r (λ fault. OnRefused fault (λ x. outcome_now d c (Calls.Size blob version) ≡ Outcomes.Refused x)))
     → ((c : ℕ) → IfErr r (λ fault. OnNoMemory fault (is_refused (outcome_now d c (Calls.Size blob version)) ≡ false)))
     → IfOk r (λ s. s.blob ≡ blob) → IfOk r (λ s. length s.rows ≡ version) → IfOk r (λ s. s.page_size ≡ d.page_size)
     → IfOk r (λ s. TellUpdates d.page_size (updates_in d blob) s.rows) → IfOk r (λ s. IsVersionIn d.nodes d.houses s) → IfOk r (λ s. LieUnderOrigins d.history blob s.rows)
     → Opened (fixed_of d) blob version (tagged d.history) caller r (tagged d.history)
-opened d blob version caller r legal short size refused memory id rows page tells here origins =
+opened d blob version caller r legal short order size refused memory id rows page tells here origins =
     let D : DeskState → Type 0 = λ x. IfOk r (λ s. outcome_now x caller (Calls.Size blob version) ≡ Outcomes.Size (size_now s)) in
     let R : DeskState → Type 0 = λ x. IfErr r (λ fault. OnRefused fault (λ y. outcome_now x caller (Calls.Size blob version) ≡ Outcomes.Refused y)) in
     let M : DeskState → Type 0 = λ x. IfErr r (λ fault. OnNoMemory fault (is_refused (outcome_now x caller (Calls.Size blob version)) ≡ false)) in
     record {
-      log = is_log d d refl legal short;
+      log = is_log d d refl legal short order;
       same = refl;
       done = subst D (sym (at_now d)) (size caller);
       refused = subst R (sym (at_now d)) (refused caller);
@@ -198,16 +204,16 @@ waiting_ticket d blob version (Ok t) id is ticket hints here waits = record {
   unfinished = subst (λ (s : DeskState). IsUnfinished s blob version) (sym (at_now d)) (bare_unfinished d blob version waits);
 }
 
-pub reissued : (d : DeskState) (blob version : ℕ) (r : Result NumberedUpdate DeskFault) → IsLegal d.limits d.history → length d.history < 2 ^ 38
+pub reissued : (d : DeskState) (blob version : ℕ) (r : Result NumberedUpdate DeskFault) → IsLegal d.limits d.history → length d.history < 2 ^ 38 → AreInOrder d.page_size d.limits d.history
     → IfOk r (λ _. ticket_refusal d blob version ≡ None) → IfErr r (λ fault. OnRefused fault (λ x. ticket_refusal d blob version ≡ Some x)) → IfErr r (λ fault. OnNoMemory fault (ticket_refusal d blob version ≡ None))
     → IfOk r (λ t. t.blob ≡ blob) → IfOk r (λ t. t.version ≡ version) → IfOk r (λ t. IsTicketOf d t) → IfOk r (λ t. HasHintsBelow d blob t)
     → IfOk r (λ t. LieAmong d.houses t.pages.pages) → IfOk r (λ _. IsUnfinished d blob version) → Reissued (fixed_of d) blob version (tagged d.history) r (tagged d.history)
-reissued d blob version r legal short done refused memory id is ticket hints here waits =
+reissued d blob version r legal short order done refused memory id is ticket hints here waits =
     let D : DeskState → Type 0 = λ s. IfOk r (λ _. ticket_refusal s blob version ≡ None) in
     let R : DeskState → Type 0 = λ s. IfErr r (λ fault. OnRefused fault (λ x. ticket_refusal s blob version ≡ Some x)) in
     let M : DeskState → Type 0 = λ s. IfErr r (λ fault. OnNoMemory fault (ticket_refusal s blob version ≡ None)) in
     record {
-      log = is_log d d refl legal short;
+      log = is_log d d refl legal short order;
       same = refl;
       done = subst D (sym (at_now d)) done;
       refused = subst R (sym (at_now d)) refused;
@@ -216,8 +222,8 @@ reissued d blob version r legal short done refused memory id is ticket hints her
     }
 
 -- what would be refused
-pub foreseen : (d : DeskState) (blob : ℕ) (place : Place) (len caller : ℕ) (said : Option Refusal) → IsLegal d.limits d.history → length d.history < 2 ^ 38
+pub foreseen : (d : DeskState) (blob : ℕ) (place : Place) (len caller : ℕ) (said : Option Refusal) → IsLegal d.limits d.history → length d.history < 2 ^ 38 → AreInOrder d.page_size d.limits d.history
     → ((c : ℕ) (bytes : List ℕ) → length bytes ≡ len → said ≡ refusal_in (outcome_now d c (Calls.Assign blob place bytes))) → Foreseen (fixed_of d) blob place len (tagged d.history) caller said (tagged d.history)
-foreseen d blob place len caller said legal short is =
+foreseen d blob place len caller said legal short order is =
     let S : DeskState → Type 0 = λ s. (bytes : List ℕ) → length bytes ≡ len → said ≡ refusal_in (outcome_now s caller (Calls.Assign blob place bytes)) in
-    record { log = is_log d d refl legal short; same = refl; said_is = subst S (sym (at_now d)) (is caller) }
+    record { log = is_log d d refl legal short order; same = refl; said_is = subst S (sym (at_now d)) (is caller) }

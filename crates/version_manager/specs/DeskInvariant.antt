@@ -16,6 +16,7 @@ use Rattle.range_log.specs.Updates.{update_at, extent_of}
 use Rattle.publisher.specs.Windows.{Numbered, finished_of, published_of, WindowHolds}
 use Rattle.version_manager.specs.declared.waiting.WaitingUpdate.{WaitingUpdate}
 use Rattle.version_manager.specs.Desks.{LieIn, updates_or_none}
+use Rattle.version_manager.specs.Folds.{AreInOrder}
 use Rattle.version_manager.specs.Origins.{parents_of, KeepsOrigins}
 
 -- the window keeps the blob of that id: it stands for its updates, and tells which of them are finished; the blob is within the limits
@@ -68,9 +69,11 @@ pub record KeepsWaiting (limits : Bounds) (p : ℕ) (houses : List House) (histo
       → AreWaiting p houses (updates_or_none (blob_at (store_of limits history) (suc i))) w list
 
 -- The desk keeps its blobs and the updates that wait, its rows lie in its houses, each under the blob that its version was numbered in, and its history is short.
+-- Updates that store pages anew were finished in order.
 pub record IsDesk (limits : Bounds) (p : ℕ) (houses : List House) (nodes : List Shelves) (history : List Event) (windows : List Numbered) (lists : List (List WaitingUpdate)) : Type 0 where
   pub kept : KeepsDesk limits p history windows
   pub waits : KeepsWaiting limits p houses history windows lists
   pub lies : LieIn nodes houses windows
   pub origins : KeepsOrigins (parents_of history) windows
   pub short : length history < 2 ^ 38
+  pub in_order : AreInOrder p limits history

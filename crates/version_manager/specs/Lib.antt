@@ -2,6 +2,7 @@ pub mod Blobs
 pub mod Desks
 pub mod Entries
 pub mod DeskInvariant
+pub mod Folds
 pub mod Laws
 pub mod Log
 pub mod Origins

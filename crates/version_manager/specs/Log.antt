@@ -4,7 +4,7 @@ use Rattle.page_store.specs.Stored.{Cut, bytes_of_pages, LieAmong}
 use Rattle.node_store.specs.UpdateRows.{UpdateRow, IsRowIn}
 use Rattle.snapshot.specs.Versions.{Version, IsVersionIn, size_now}
 use Rattle.snapshot.specs.Laws.{TellUpdates}
-use Rattle.blob_model.specs.History.{caller_of, is_refused, IsLegal}
+use Rattle.blob_model.specs.History.{caller_of, is_refused, store_of, IsLegal}
 use Rattle.blob_model.specs.declared.call.Call.{Call}
 use Rattle.blob_model.specs.declared.call.Call.TheVariants as Calls
 use Rattle.blob_model.specs.declared.call.Event.{Event}
@@ -13,6 +13,7 @@ use Rattle.blob_model.specs.declared.call.Outcome.TheVariants as Outcomes
 use Rattle.blob_model.specs.declared.call.Place.{Place}
 use Rattle.blob_model.specs.declared.call.Refusal.{Refusal}
 use Rattle.border_hints.specs.Numbered.{NumberedUpdate}
+use Rattle.version_manager.specs.Folds.{IsInOrder, AreInOrder}
 use Rattle.version_manager.specs.Origins.{LieUnderOrigins}
 use Rattle.version_manager.specs.declared.fault.DeskFault.{DeskFault}
 use Rattle.version_manager.specs.declared.journal.DeskFixed.{DeskFixed}
@@ -36,11 +37,13 @@ fixed_of d = record { limits = d.limits; page_size = d.page_size; houses = d.hou
 abbrev pub desk_at : DeskFixed → List (ℕ × Event) → DeskState
 desk_at f log = record { limits = f.limits; page_size = f.page_size; houses = f.houses; nodes = f.nodes; history = events log; windows = [] }
 
--- it is the history of a desk with these fixed data: each entry has its caller, the events are legal, and they are fewer than 2^38
+-- It is the history of a desk with these fixed data: each entry has its caller, the events are legal, and they are fewer than 2^38. No update
+-- is finished that stores a page anew before the version before it is published.
 pub record IsLog (f : DeskFixed) (log : List (ℕ × Event)) : Type 0 where
   pub tags : log ≡ tagged (events log)
   pub legal : IsLegal f.limits (events log)
   pub short : length log < 2 ^ 38
+  pub in_order : AreInOrder f.page_size f.limits (events log)
 
 -- what the store of that history answers
 abbrev pub outcome_in : DeskFixed → List (ℕ × Event) → ℕ → Call → Outcome
@@ -82,12 +85,14 @@ pub record IsNewTicket (f : DeskFixed) (blob caller : ℕ) (pages : Cut) (before
   pub ticket : IsTicketOf (desk_at f after) t
   pub unfinished : IsUnfinished (desk_at f after) blob t.version
 
--- what a finish needs: the row of the ticket's update, stored under the ticket's blob, in the desk's houses
+-- What a finish needs: the row of the ticket's update, stored under the ticket's blob, in the desk's houses; and the version before it is
+-- published, if the update stores a page anew.
 pub record MayFinish (t : NumberedUpdate) (row : UpdateRow) (log : List (ℕ × Event)) (f : DeskFixed) : Type 0 where
   pub ticket : IsTicketOf (desk_at f log) t
   pub row_for : IsRowFor (desk_at f log) t row
   pub under : row.blob ≡ t.blob
   pub here : IsRowIn f.nodes f.houses row
+  pub in_order : IsInOrder f.page_size (store_of f.limits (events log)) t.blob t.version
 
 -- a finish: the version wasn't finished where it is done or finds no memory, and was where it is refused; the row comes back where
 -- it isn't done

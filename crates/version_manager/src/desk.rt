@@ -12,9 +12,10 @@ ghost use Rattle.blob_model.specs.History.{is_refused, IsLegal};
 ghost use Rattle.blob_model.specs.declared.call.Call.TheVariants as Calls;
 ghost use Rattle.blob_model.specs.declared.call.Event.TheVariants as Events;
 ghost use Rattle.blob_model.specs.declared.call.Outcome.TheVariants as Outcomes;
-ghost use Rattle.version_manager.specs.Desks.{empty_desk, outcome_now, updates_in, window_in, with_event, windows_with, windows_and};
+ghost use Rattle.version_manager.specs.Desks.{empty_desk, store_now, outcome_now, updates_in, window_in, with_event, windows_with, windows_and};
 ghost use Rattle.version_manager.specs.Desks.{is_finished_in, OnRefused, OnNoMemory, IsUnfinished, IsNumbering, IsTicketOf, IsRowFor, HasHints, HasHintsBelow};
 ghost use Rattle.version_manager.specs.Desks.{most_bytes, refusal_in, ticket_refusal, opens_below};
+ghost use Rattle.version_manager.specs.Folds.{IsInOrder, AreInOrder};
 ghost use Rattle.version_manager.specs.Origins.{LieUnderOrigins};
 
 use crate::blob::{branch_in, first_in, refusal_of_update, ticket_again, ticket_over};
@@ -40,7 +41,8 @@ const MAX_ENTRIES: u64 = (1 << 38) - 1;
 ///
 /// The history is legal, and the blobs are what it leaves. A call that is refused, and one that finds no memory, leaves the
 /// desk as before. The pages and nodes of the desk's versions lie in the houses that it was made for, the nodes of each version
-/// under the blob that it was numbered in. It has fewer than 2^38 entries.
+/// under the blob that it was numbered in. It has fewer than 2^38 entries. An update that stores pages of its blob anew is
+/// finished only once the version before it is published.
 pub struct Desk {
     alloc: Global,
     limits: Limits,
@@ -119,14 +121,16 @@ impl Desk {
         ensures limits { result ≡ self.now.limits }
         ensures legal { IsLegal self.now.limits self.now.history }
         ensures short { length self.now.history < 2 ^ 38 }
+        ensures in_order { AreInOrder self.now.page_size self.now.limits self.now.history }
     {
         self.limits
     }
 
-    /// The history is legal, and has fewer than 2^38 entries. For proofs: it does nothing.
+    /// The history is legal, has fewer than 2^38 entries, and its finishes are in order. For proofs: it does nothing.
     pub fn stands(&self)
         ensures legal { IsLegal self.now.limits self.now.history }
         ensures short { length self.now.history < 2 ^ 38 }
+        ensures in_order { AreInOrder self.now.page_size self.now.limits self.now.history }
     {
         let _limits = self.limits();
     }
@@ -241,7 +245,8 @@ impl Desk {
     }
 
     /// Finishes a ticket's update by its row, which is stored under the ticket's blob, and gives the version that is published
-    /// now. `Refused` exactly where the version is finished already. On an error the row comes back.
+    /// now. `Refused` exactly where the version is finished already. On an error the row comes back. The caller waits before it: an
+    /// update that stores pages of its blob anew is finished once the version before it is published.
     pub fn finish(
         &mut self,
         caller: u32,
@@ -252,6 +257,7 @@ impl Desk {
         requires row { IsRowFor self.old ticket.now (arc_value row) }
         requires under { (arc_value row).blob ≡ ticket.now.blob }
         requires here { IsRowIn self.old.nodes self.old.houses (arc_value row) }
+        requires in_order { IsInOrder self.old.page_size (store_now self.old) ticket.now.blob ticket.now.version }
         ensures published { IfOk result (λ published. outcome_now self.old caller (Calls.Finish ticket.now.blob ticket.now.version) ≡ Outcomes.Published published) }
         ensures new { IfOk result (λ _. self.new ≡ with_event self.old (Events.Finish caller ticket.now.blob ticket.now.version)
             (windows_with self.old ticket.now.blob (with_finished (window_in self.old ticket.now.blob) ticket.now.version (arc_value row)))) }

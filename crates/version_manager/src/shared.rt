@@ -84,7 +84,7 @@ impl SharedDesk {
     pub fn pass(&self, owner: &mut Owner) -> Result<Pass, PassFault>
         requires { owner.old.lock ≡ self.now }
         ensures too_many { IsErr result ↔ (owner.old.made ≡ 1024) }
-        ensures pass { IfOk result (λ p. p ≡ record { lock = self.now; caller = owner.old.made + 1; seen = owner.old.seen; fixed = owner.old.fixed }) }
+        ensures pass { IfOk result (λ p. p ≡ record { lock = self.now; caller = owner.old.made + 1; seen = owner.old.seen; fixed = owner.old.fixed; turns = 0 }) }
         ensures own { IfOk result (λ p. entries_by p.caller p.seen ≡ []) }
         ensures counts { OnOk result (owner.new ≡ record owner.old { made = owner.old.made + 1; out = owner.old.out + 1 }) }
         ensures refused { OnErr result (owner.new ≡ owner.old) }
@@ -130,7 +130,8 @@ impl SharedDesk {
     /// Makes an empty blob, in one turn, and gives its id.
     pub fn create<R: Wait>(&self, rt: &R, pass: &mut Pass) -> Result<u64, DeskFault>
         requires { pass.old.lock ≡ self.now }
-        ensures pass { pass.new ≡ record pass.old { seen = pass.new.seen } }
+        ensures pass { pass.new ≡ record pass.old { seen = pass.new.seen; turns = pass.new.turns } }
+        ensures one_turn { pass.new.turns ≡ pass.old.turns + 1 }
         ensures turned { let by = pass.old.caller in
             Turned (λ before f after. Changed f Calls.Create (Events.Create by) (λ blob. Outcomes.Blob blob) (λ fault. fault) before by result after) pass.old pass.new }
     {
@@ -149,7 +150,8 @@ impl SharedDesk {
     ) -> Result<Ticket, DeskFault>
         requires pass { pass.old.lock ≡ self.now }
         requires ready { IfSome pass.old.fixed (λ f. MayAssign (arc_value pages.now) f) }
-        ensures pass { pass.new ≡ record pass.old { seen = pass.new.seen } }
+        ensures pass { pass.new ≡ record pass.old { seen = pass.new.seen; turns = pass.new.turns } }
+        ensures one_turn { pass.new.turns ≡ pass.old.turns + 1 }
         ensures turned { let bytes = bytes_of_pages (arc_value pages.now).pages in let by = pass.old.caller in
             Turned (λ before f after.
             Changed f (Calls.Assign blob place bytes) (Events.Assign by blob place bytes) (λ t. Outcomes.Assigned t.version t.at t.size) (λ fault. fault) before by result after
@@ -159,7 +161,8 @@ impl SharedDesk {
     }
 
     /// Finishes a ticket's update by its row, in one turn, and gives the version that is published then. On an error the row
-    /// comes back. The ticket is of what the pass has seen.
+    /// comes back. The ticket is of what the pass has seen; and there the version before it is published, if the update stores pages
+    /// of its blob anew.
     pub fn finish<R: Wait>(
         &self,
         rt: &R,
@@ -169,7 +172,8 @@ impl SharedDesk {
     ) -> Result<u64, (DeskFault, Arc<Row>)>
         requires pass { pass.old.lock ≡ self.now }
         requires ready { IfSome pass.old.fixed (λ f. MayFinish ticket.now (arc_value row) pass.old.seen f) }
-        ensures pass { pass.new ≡ record pass.old { seen = pass.new.seen } }
+        ensures pass { pass.new ≡ record pass.old { seen = pass.new.seen; turns = pass.new.turns } }
+        ensures one_turn { pass.new.turns ≡ pass.old.turns + 1 }
         ensures turned { let t = ticket.now in let by = pass.old.caller in
             Turned (λ before f after. Changed f (Calls.Finish t.blob t.version) (Events.Finish by t.blob t.version) (λ published. Outcomes.Published published) (λ e. e.0) before by result after
             × Finishes f t row before after result) pass.old pass.new }
@@ -186,7 +190,8 @@ impl SharedDesk {
         version: u64,
     ) -> Result<u64, DeskFault>
         requires { pass.old.lock ≡ self.now }
-        ensures pass { pass.new ≡ record pass.old { seen = pass.new.seen } }
+        ensures pass { pass.new ≡ record pass.old { seen = pass.new.seen; turns = pass.new.turns } }
+        ensures one_turn { pass.new.turns ≡ pass.old.turns + 1 }
         ensures turned { let by = pass.old.caller in
             Turned (λ before f after. Changed f (Calls.Branch blob version) (Events.Branch by blob version) (λ id. Outcomes.Blob id) (λ fault. fault) before by result after) pass.old pass.new }
     {
@@ -202,7 +207,8 @@ impl SharedDesk {
         version: u64,
     ) -> Result<Snapshot, DeskFault>
         requires { pass.old.lock ≡ self.now }
-        ensures pass { pass.new ≡ record pass.old { seen = pass.new.seen } }
+        ensures pass { pass.new ≡ record pass.old { seen = pass.new.seen; turns = pass.new.turns } }
+        ensures one_turn { pass.new.turns ≡ pass.old.turns + 1 }
         ensures turned { Turned (λ before f after. Opened f blob version before pass.old.caller result after) pass.old pass.new }
     {
         self.turn.with_turn(rt, pass, Open { blob, version })
@@ -218,7 +224,8 @@ impl SharedDesk {
         version: u64,
     ) -> Result<Ticket, DeskFault>
         requires { pass.old.lock ≡ self.now }
-        ensures pass { pass.new ≡ record pass.old { seen = pass.new.seen } }
+        ensures pass { pass.new ≡ record pass.old { seen = pass.new.seen; turns = pass.new.turns } }
+        ensures one_turn { pass.new.turns ≡ pass.old.turns + 1 }
         ensures turned { Turned (λ before f after. Reissued f blob version before result after) pass.old pass.new }
     {
         self.turn.with_turn(rt, pass, Reissue { blob, version })
@@ -236,7 +243,8 @@ impl SharedDesk {
         requires lock { pass.old.lock ≡ self.now }
         requires some { 1 ≤ len }
         requires few { len ≤ most_bytes }
-        ensures pass { pass.new ≡ record pass.old { seen = pass.new.seen } }
+        ensures pass { pass.new ≡ record pass.old { seen = pass.new.seen; turns = pass.new.turns } }
+        ensures one_turn { pass.new.turns ≡ pass.old.turns + 1 }
         ensures turned { Turned (λ before f after. Foreseen f blob place len before pass.old.caller result after) pass.old pass.new }
     {
         self.turn.with_turn(rt, pass, Foresee { blob, place, len })
@@ -245,7 +253,8 @@ impl SharedDesk {
     /// The greatest published version of the blob and its size, in one turn.
     pub fn recent<R: Wait>(&self, rt: &R, pass: &mut Pass, blob: u64) -> Outcome
         requires { pass.old.lock ≡ self.now }
-        ensures pass { pass.new ≡ record pass.old { seen = pass.new.seen } }
+        ensures pass { pass.new ≡ record pass.old { seen = pass.new.seen; turns = pass.new.turns } }
+        ensures one_turn { pass.new.turns ≡ pass.old.turns + 1 }
         ensures turned { Turned (λ before f after. Looked f (Calls.Recent blob) before pass.old.caller result after) pass.old pass.new }
     {
         self.turn.with_turn(rt, pass, Recent { blob })
@@ -254,7 +263,8 @@ impl SharedDesk {
     /// The size of a published version, in one turn.
     pub fn size<R: Wait>(&self, rt: &R, pass: &mut Pass, blob: u64, version: u64) -> Outcome
         requires { pass.old.lock ≡ self.now }
-        ensures pass { pass.new ≡ record pass.old { seen = pass.new.seen } }
+        ensures pass { pass.new ≡ record pass.old { seen = pass.new.seen; turns = pass.new.turns } }
+        ensures one_turn { pass.new.turns ≡ pass.old.turns + 1 }
         ensures turned { Turned (λ before f after. Looked f (Calls.Size blob version) before pass.old.caller result after) pass.old pass.new }
     {
         self.turn.with_turn(rt, pass, Size { blob, version })
@@ -263,7 +273,8 @@ impl SharedDesk {
     /// Whether a numbered version is published, in one turn.
     pub fn sync<R: Wait>(&self, rt: &R, pass: &mut Pass, blob: u64, version: u64) -> Outcome
         requires { pass.old.lock ≡ self.now }
-        ensures pass { pass.new ≡ record pass.old { seen = pass.new.seen } }
+        ensures pass { pass.new ≡ record pass.old { seen = pass.new.seen; turns = pass.new.turns } }
+        ensures one_turn { pass.new.turns ≡ pass.old.turns + 1 }
         ensures turned { Turned (λ before f after. Looked f (Calls.Sync blob version) before pass.old.caller result after) pass.old pass.new }
     {
         self.turn.with_turn(rt, pass, Sync { blob, version })
@@ -272,7 +283,8 @@ impl SharedDesk {
     /// How far the blob's updates are, in one turn.
     pub fn status<R: Wait>(&self, rt: &R, pass: &mut Pass, blob: u64) -> Outcome
         requires { pass.old.lock ≡ self.now }
-        ensures pass { pass.new ≡ record pass.old { seen = pass.new.seen } }
+        ensures pass { pass.new ≡ record pass.old { seen = pass.new.seen; turns = pass.new.turns } }
+        ensures one_turn { pass.new.turns ≡ pass.old.turns + 1 }
         ensures turned { Turned (λ before f after. Looked f (Calls.Status blob) before pass.old.caller result after) pass.old pass.new }
     {
         self.turn.with_turn(rt, pass, Status { blob })

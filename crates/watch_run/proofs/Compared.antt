@@ -19,7 +19,7 @@ use Rattle.turn_lock.proofs.Histories.{begins_both}
 use Rattle.version_manager.specs.Desks.{updates_in, updates_or_none}
 use Rattle.version_manager.specs.Log.{desk_at, events}
 use Rattle.version_manager.specs.declared.journal.DeskFixed.{DeskFixed}
-use Rattle.request_form.specs.Answers.{Unless, ReadAnswer, Answers, max_read}
+use Rattle.request_form.specs.Answers.{Turn, AfterGap, ReadTurn, Unless, Answers, max_read}
 use Rattle.request_form.specs.PublishedReads.{IsPublishedIn, Tells, read_outcome}
 use Rattle.request_form.specs.Replies.{reply_of, fault_of}
 use Rattle.request_form.specs.Session.{Session}
@@ -112,13 +112,16 @@ same_content a b e = cc
 short_read : (s s' : Session) (version count : ℕ) (fault : Fault) → count ≤ max_read → Answers AllOther s (Requests.Read 1 version 0 count) (Replies.Refused fault) s' → fault ≡ Faults.ReadTooLong count → ⊥
 short_read s s' version count fault few answers is = by_test (nat_lt max_read count) refl answers
   where
+    by_turn : (others : List Event) (turn : Turn) → ReadTurn s 1 version 0 count others turn → Replies.Refused fault ≡ turn.said → ⊥
+    by_turn others _ (ReadTurn.content bytes e) said = cc
+    by_turn others _ (ReadTurn.refused refusal e) said = not_too_long refusal count (sym (same_fault fault (fault_of refusal) said) ∙ is)
+    by_turn others _ ReadTurn.out_of_memory said = (let no : Faults.NoMemory ≡ Faults.ReadTooLong count = sym (same_fault fault Faults.NoMemory said) ∙ is in cc)
+    by_turn others _ (ReadTurn.not_read bytes e some page meets) said = (let no : Faults.PageFault page ≡ Faults.ReadTooLong count = sym (same_fault fault (Faults.PageFault page) said) ∙ is in cc)
+
     by_test : (t : Bool) → nat_lt max_read count ≡ t
-        → Unless (if t then Some (Faults.ReadTooLong count) else None) s (Replies.Refused fault) s' (ReadAnswer AllOther s 1 version 0 count (Replies.Refused fault) s') → ⊥
+        → Unless (if t then Some (Faults.ReadTooLong count) else None) s (Replies.Refused fault) s' (AfterGap AllOther s (ReadTurn s 1 version 0 count) (Replies.Refused fault) s') → ⊥
     by_test true long x = grind (arith, nat_tests)
-    by_test false long (ReadAnswer.content x) = (let no : Replies.Refused fault ≡ Replies.Content x.bytes = x.said in cc)
-    by_test false long (ReadAnswer.refused x) = not_too_long x.refusal count (sym (same_fault fault (fault_of x.refusal) x.said) ∙ is)
-    by_test false long (ReadAnswer.out_of_memory x) = (let no : Faults.NoMemory ≡ Faults.ReadTooLong count = sym (same_fault fault Faults.NoMemory x.said) ∙ is in cc)
-    by_test false long (ReadAnswer.not_read x) = (let no : Faults.PageFault x.page ≡ Faults.ReadTooLong count = sym (same_fault fault (Faults.PageFault x.page) x.said) ∙ is in cc)
+    by_test false long a = by_turn a.others a.turn a.may a.said
 
 -- so the whole of a version is read that was published in a history that the session has seen
 abbrev pub TurnTells : List ℕ → Result (List ℕ) Fault → Type 0

@@ -5,7 +5,8 @@ use Rattle.blob_model.specs.History.{events_by, AllOther}
 use Rattle.blob_model.specs.declared.call.Event.{Event}
 use Rattle.version_manager.specs.Log.{events}
 use Rattle.request_form.specs.Session.{Session, sees}
-use Rattle.request_form.specs.Answers.{Unless, ReadAnswer, read_fault}
+use Rattle.request_form.specs.Answers.{Turn, AfterGap, ReadTurn, Unless, read_fault}
+use Rattle.request_form.specs.Turns.{with_tickets, and_made}
 use Rattle.request_form.specs.declared.form.Request.TheVariants as Requests
 use Rattle.request_form.specs.declared.form.Reply.{Reply}
 use Rattle.request_form.specs.declared.form.Fault.{Fault}
@@ -44,12 +45,17 @@ module _ {D : Type 0} where
   idles_same s s' on same = record { none = ap (λ (x : SessionState D). events_by s.caller (events x.log)) same; goes_on = on }
 
   module _ (gaps : GapsHaveNoOwn) (s s' : SessionState D) (on : Continues s s') (blob version offset count : ℕ) where
-    idles_read : (reply : Reply) (e : Option Fault) → Unless e (session_of s) reply (session_of s') (ReadAnswer AllOther (session_of s) blob version offset count reply (session_of s')) → Idles s s'
+    idles_turn : (others : List Event) → AllOther s.caller others → (turn : Turn) → ReadTurn (session_of s) blob version offset count others turn
+        → session_of s' ≡ with_tickets turn.tickets (sees (session_of s) (and_made others turn.made)) → Idles s s'
+    idles_turn others gap _ (ReadTurn.content bytes e) seen = idles_gap gaps s s' on others gap seen
+    idles_turn others gap _ (ReadTurn.refused refusal e) seen = idles_gap gaps s s' on others gap seen
+    idles_turn others gap _ ReadTurn.out_of_memory seen = idles_gap gaps s s' on others gap seen
+    idles_turn others gap _ (ReadTurn.not_read bytes e some page meets) seen = idles_gap gaps s s' on others gap seen
+
+    -- nor does a session's own read
+    pub idles_read : (reply : Reply) (e : Option Fault) → Unless e (session_of s) reply (session_of s') (AfterGap AllOther (session_of s) (ReadTurn (session_of s) blob version offset count) reply (session_of s')) → Idles s s'
     idles_read reply (Some fault) x = record { none = ap (λ (t : Session). events_by s.caller t.seen) x.1; goes_on = on }
-    idles_read reply None (ReadAnswer.content x) = idles_gap gaps s s' on x.others x.is_gap x.seen
-    idles_read reply None (ReadAnswer.refused x) = idles_gap gaps s s' on x.others x.is_gap x.seen
-    idles_read reply None (ReadAnswer.out_of_memory x) = idles_gap gaps s s' on x.others x.is_gap x.seen
-    idles_read reply None (ReadAnswer.not_read x) = idles_gap gaps s s' on x.others x.is_gap x.seen
+    idles_read reply None a = idles_turn a.others a.is_gap a.turn a.may a.seen
 
     -- a read of a reader enters nothing, whichever way it takes
     pub idles_goes : (by : Option Refresh) (said : Result (List ℕ × Way) Fault) (before after : ℕ) → Goes by s blob version offset count said s' before after → Idles s s'

@@ -99,5 +99,5 @@ module _ {D : Type 0} where
     may = two.may;
     board = two.board ∙ one.board;
     idles = idles_both s t s' one.idles two.idles;
-    rest = two.rest ∙ ap (λ (x : SessionState D). record x { log = s'.log }) one.rest;
+    rest = two.rest ∙ ap (λ (x : SessionState D). record x { log = s'.log; turns = s'.turns }) one.rest;
   }

@@ -30,7 +30,7 @@ pub record Refreshes {D : Type 0} (k k' : KeeperState) (s s' : SessionState D) :
   pub may : MayRefresh k' s'
   pub board : k'.board ≡ k.board
   pub idles : Idles s s'
-  pub rest : s' ≡ record s { log = s'.log }
+  pub rest : s' ≡ record s { log = s'.log; turns = s'.turns }
 
 -- a keeper that was handed its session has ended
 pub record HasKept {D : Type 0} (told : Told) (k k' : KeeperState) (s s' : SessionState D) : Type 0 where

@@ -4,7 +4,7 @@ use Rattle.std.specs.Prelude.{Option, Some, None, Contains}
 use Rattle.std.proofs.lemmas.Bool.{eq-eqb}
 use Rattle.std.proofs.lemmas.List.{append_cancel_right}
 use Rattle.blob_model.specs.Limits.{Bounds}
-use Rattle.blob_model.specs.Answer.{answer}
+use Rattle.blob_model.specs.Answer.{answer, repair_refusal}
 use Rattle.blob_model.specs.History.{caller_of, store_of, finishes, events_by, AllOther}
 use Rattle.blob_model.specs.Laws.{FinishedByEvents, OldVersionsStay}
 use Rattle.blob_model.specs.declared.call.Call.{Call}
@@ -17,7 +17,8 @@ use Rattle.blob_model.specs.declared.call.Refusal.{Refusal}
 use Rattle.blob_model.specs.declared.call.Refusal.TheVariants as Refusals
 use Rattle.request_form.specs.Session.{Fixed, HeldTicket, Session, sees, holds as put_by, store_at, outcome_at, ticket_at, without_ticket}
 use Rattle.request_form.specs.Replies.{fault_of}
-use Rattle.request_form.specs.Answers.{WholeUpdate, CreateAnswer, UpdateAnswer, ReportAnswer, FinishAnswer, FinishHindered, LookAnswer, TicketKept, HeldBack, Reported, FoundFinished, folds_in}
+use Rattle.request_form.specs.Turns.{Tickets, Turn, with_tickets, and_made, AfterGap}
+use Rattle.request_form.specs.Answers.{AddTurn, UnnumberedTurn, WholeTurn, FinishTurn, UpdateAnswer, WholeAnswer, FinishAnswer, LookAnswer, folds_in}
 use Rattle.request_form.specs.declared.form.Reply.{Reply}
 use Rattle.request_form.specs.declared.form.Reply.TheVariants as Replies
 use Rattle.request_form.specs.declared.form.Fault.{Fault}
@@ -123,36 +124,37 @@ held_goes s blob s' others later place bytes version e = record {
   limit = ap (λ (x : Session). x.limit) e;
 }
 
-module _ (s : Session) (blob : ℕ) (place : Place) (bytes : List ℕ) (done : ℕ → ℕ → ℕ → Reply) (started : ℕ → ℕ → ℕ → ℕ → Reply) (reply : Reply) (s' : Session) where
+module _ (s : Session) (blob : ℕ) (place : Place) (bytes : List ℕ) (reply : Reply) (s' : Session) where
   abbrev Ends : Type 0
-  Ends = UpdateEnds s blob place bytes done started reply s'
+  Ends = UpdateEnds s blob place bytes reply s'
 
-  updated : (others later : List Event) → AllOther s.caller others → AllOther s.caller later → (version at size : ℕ)
-      → outcome_at s others (Calls.Assign blob place bytes) ≡ Outcomes.Assigned version at size → (t : Bool) → finishes blob version later ≡ t
-      → reply ≡ (if t then Replies.Refused (Faults.Already version) else done version at size)
-      → s' ≡ sees s (others ++ Events.Assign s.caller blob place bytes ∷ (later ++ (if t then [] else Events.Finish s.caller blob version ∷ [])))
-      → Ends
-  updated others later gap next version at size numbered true found said seen =
-      let this : Event = Events.Assign s.caller blob place bytes in
-      let short : s' ≡ sees s (others ++ this ∷ later) = seen ∙ ap (λ (l : List Event). sees s (others ++ this ∷ l)) (append-nil later) in
-      let goes : Goes s (others ++ this ∷ later) s' = goes_on s (others ++ this ∷ later) s' short in
-      let long : s'.seen ≡ (s.seen ++ others) ++ this ∷ (later ++ []) = ap (λ (x : Session). x.seen) seen ∙ sym (append_assoc s.seen others (this ∷ (later ++ []))) in
-      UpdateEnds.hinders (Faults.Already version) said (λ limit same. cc)
-      (UpdateHindered.finished (s.seen ++ others) later [] version at size long numbered next found)
-      (StopsAt.numbered refl (left_numbered s blob place bytes s' others later gap next version at size numbered goes) (same_tickets s (others ++ this ∷ later) s' short))
-  updated others later gap next version at size numbered false found said seen =
-      let more : List Event = others ++ Events.Assign s.caller blob place bytes ∷ (later ++ Events.Finish s.caller blob version ∷ []) in
+  abbrev this : Event
+  this = Events.Assign s.caller blob place bytes
+
+  -- numbered, and what the turn after that came to
+  numbered_ends : (others later : List Event) → AllOther s.caller others → AllOther s.caller later → (version at size : ℕ)
+      → outcome_at s others (Calls.Assign blob place bytes) ≡ Outcomes.Assigned version at size → (turn : Turn)
+      → WholeTurn s blob place version at size (others ++ this ∷ later) later turn → reply ≡ turn.said
+      → s' ≡ with_tickets turn.tickets (sees s (others ++ this ∷ and_made later turn.made)) → Ends
+  numbered_ends others later gap next version at size numbered _ (WholeTurn.finished none ready) said seen =
+      let more : List Event = others ++ this ∷ (later ++ Events.Finish s.caller blob version ∷ []) in
       UpdateEnds.does version at size said
       (left_updated s blob place bytes s' others later gap next version at size numbered (goes_on s more s' seen)) (same_tickets s more s' seen)
-
-  -- numbered, and held back
-  held_back : HeldBack AllOther s blob place bytes started reply s' → Ends
-  held_back h =
-      let goes = held_goes s blob s' h.others h.later place bytes h.version h.seen in
-      let here : IsNext (store_of s.fixed.limits (s.seen ++ h.others)) blob h.version =
-      is_next (store_of s.fixed.limits (s.seen ++ h.others)) s.caller blob place bytes h.version h.at h.size h.numbered in
-      UpdateEnds.held_back s.next h.version h.at h.size h.said (omega (arith, here.next))
-      (holds s blob place bytes s' h.others h.later h.is_gap h.is_gap_later h.version h.at h.size h.numbered s.next goes (ap (λ (x : Session). x.tickets) h.seen))
+  numbered_ends others later gap next version at size numbered _ (WholeTurn.found found) said seen =
+      let goes : Goes s (others ++ this ∷ later) s' = goes_on s (others ++ this ∷ later) s' seen in
+      let long : s'.seen ≡ (s.seen ++ others) ++ this ∷ (later ++ []) =
+      ap (λ (x : Session). x.seen) seen ∙ (sym (append_assoc s.seen others (this ∷ later)) ∙ ap (λ (l : List Event). (s.seen ++ others) ++ this ∷ l) (sym (append-nil later))) in
+      UpdateEnds.hinders (Faults.Already version) said (λ limit same. cc)
+      (UpdateHindered.finished (s.seen ++ others) later [] version at size long numbered next found)
+      (StopsAt.numbered refl (left_numbered s blob place bytes s' others later gap next version at size numbered goes) (same_tickets s (others ++ this ∷ later) s' seen))
+  numbered_ends others later gap next version at size numbered _ (WholeTurn.held_back none folds) said seen =
+      let here : IsNext (store_of s.fixed.limits (s.seen ++ others)) blob version = is_next (store_of s.fixed.limits (s.seen ++ others)) s.caller blob place bytes version at size numbered in
+      UpdateEnds.held_back s.next version at size said (omega (arith, here.next))
+      (holds s blob place bytes s' others later gap next version at size numbered s.next (held_goes s blob s' others later place bytes version seen) (ap (λ (x : Session). x.tickets) seen))
+  numbered_ends others later gap next version at size numbered _ WholeTurn.out_of_memory said seen =
+      UpdateEnds.hinders (Faults.NoMemoryTicket s.next) said (λ limit same. cc) (UpdateHindered.outside (IsOutside.held s.next refl))
+      (StopsAt.held s.next version refl
+      (holds s blob place bytes s' others later gap next version at size numbered s.next (held_goes s blob s' others later place bytes version seen) (ap (λ (x : Session). x.tickets) seen)))
 
   abbrev IsItsPage : ℕ → Type 0
   IsItsPage = IsPageOf s.fixed.limits s.fixed.page s.caller blob place bytes s.seen s'.seen
@@ -175,53 +177,40 @@ module _ (s : Session) (blob : ℕ) (place : Place) (bytes : List ℕ) (done : �
       → outcome_at s others (Calls.Assign blob place bytes) ≡ Outcomes.Refused refusal → reply ≡ Replies.Refused (fault_of refusal) → s' ≡ sees s others
       → Ends
   by_refusal others gap (Refusals.TooManyOpen limit) refused said seen = UpdateEnds.full limit said (left_gap s s' others gap seen) (same_tickets s others s' seen)
-  by_refusal others gap (Refusals.NoBlob b) refused said seen = other_refusal others gap (Refusals.NoBlob b) (λ limit same. cc) refl refused said seen
-  by_refusal others gap (Refusals.NotPublished v p) refused said seen = other_refusal others gap (Refusals.NotPublished v p) (λ limit same. cc) refl refused said seen
-  by_refusal others gap (Refusals.OffsetPastSize o n) refused said seen = other_refusal others gap (Refusals.OffsetPastSize o n) (λ limit same. cc) refl refused said seen
-  by_refusal others gap (Refusals.BlobTooBig n m) refused said seen = other_refusal others gap (Refusals.BlobTooBig n m) (λ limit same. cc) refl refused said seen
-  by_refusal others gap (Refusals.TooManyVersions m) refused said seen = other_refusal others gap (Refusals.TooManyVersions m) (λ limit same. cc) refl refused said seen
-  by_refusal others gap (Refusals.TooManyBlobs m) refused said seen = other_refusal others gap (Refusals.TooManyBlobs m) (λ limit same. cc) refl refused said seen
-  by_refusal others gap (Refusals.Already v) refused said seen = other_refusal others gap (Refusals.Already v) (λ limit same. cc) refl refused said seen
-  by_refusal others gap (Refusals.RangePastSize n m) refused said seen = other_refusal others gap (Refusals.RangePastSize n m) (λ limit same. cc) refl refused said seen
-  by_refusal others gap (Refusals.Pending v h) refused said seen = other_refusal others gap (Refusals.Pending v h) (λ limit same. cc) refl refused said seen
+  by_refusal others gap refusal refused said seen = other_refusal others gap refusal (λ limit same. cc) refl refused said seen
 
-  -- numbered, and held under a ticket
-  kept_ends : TicketKept AllOther s blob place bytes reply s' → Ends
-  kept_ends k =
-      let goes = held_goes s blob s' k.others k.later place bytes k.version k.seen in
-      UpdateEnds.hinders (Faults.NoMemoryTicket s.next) k.said (λ limit same. cc) (UpdateHindered.outside (IsOutside.held s.next refl))
-      (StopsAt.held s.next k.version refl
-      (holds s blob place bytes s' k.others k.later k.is_gap k.is_gap_later k.version k.at k.size k.numbered s.next goes (ap (λ (x : Session). x.tickets) k.seen)))
+  unnumbered_ends : (others : List Event) → AllOther s.caller others → (turn : Turn) → UnnumberedTurn s blob place bytes others turn → reply ≡ turn.said
+      → s' ≡ with_tickets turn.tickets (sees s (and_made others turn.made)) → Ends
+  unnumbered_ends others gap _ (UnnumberedTurn.refused refusal refused) said seen = by_refusal others gap refusal refused said seen
+  unnumbered_ends others gap _ UnnumberedTurn.out_of_memory said seen = outside others gap Faults.NoMemory (IsOutside.starved refl) (λ limit same. cc) refl said seen
+  unnumbered_ends others gap _ (UnnumberedTurn.not_stored page is stored) said seen =
+      outside others gap (Faults.PageFault page) (IsOutside.lost page (IsPageOf.of_bytes is) refl) (λ limit same. cc) refl said seen
 
-  ends : UpdateAnswer AllOther s blob place bytes (WholeUpdate AllOther s blob place bytes done started reply s') reply s' → Ends
-  ends (UpdateAnswer.does (WholeUpdate.updated u)) = updated u.others u.later u.is_gap u.is_gap_later u.version u.at u.size u.numbered (finishes blob u.version u.later) refl u.said u.seen
-  ends (UpdateAnswer.does (WholeUpdate.held_back h)) = held_back h
-  ends (UpdateAnswer.refused r) = by_refusal r.others r.is_gap r.refusal r.refused r.said r.seen
-  ends (UpdateAnswer.out_of_memory m) = outside m.others m.is_gap Faults.NoMemory (IsOutside.starved refl) (λ limit same. cc) refl m.said m.seen
-  ends (UpdateAnswer.kept k) = kept_ends k
-  ends (UpdateAnswer.not_stored p) = outside p.others p.is_gap (Faults.PageFault p.page) (IsOutside.lost p.page (IsPageOf.of_bytes p.is_page) refl) (λ limit same. cc) refl p.said p.seen
+  ends : WholeAnswer AllOther s blob place bytes reply s' → Ends
+  ends (UpdateAnswer.once a) = unnumbered_ends a.others a.is_gap a.turn a.may a.said a.seen
+  ends (UpdateAnswer.twice a) = numbered_ends a.others a.later a.is_gap a.is_gap_later a.version a.at a.size a.numbered a.turn a.may a.said a.seen
 
-pub updates_ended : (s : Session) (blob : ℕ) (place : Place) (bytes : List ℕ) (done : ℕ → ℕ → ℕ → Reply) (started : ℕ → ℕ → ℕ → ℕ → Reply) (reply : Reply) (s' : Session)
-    → UpdateAnswer AllOther s blob place bytes (WholeUpdate AllOther s blob place bytes done started reply s') reply s' → UpdateEnds s blob place bytes done started reply s'
-updates_ended s blob place bytes done started reply s' answer = ends s blob place bytes done started reply s' answer
+pub updates_ended : (s : Session) (blob : ℕ) (place : Place) (bytes : List ℕ) (reply : Reply) (s' : Session) → WholeAnswer AllOther s blob place bytes reply s' → UpdateEnds s blob place bytes reply s'
+updates_ended s blob place bytes reply s' answer = ends s blob place bytes reply s' answer
 
 -- ---- blobs
-create_ends : (s : Session) (reply : Reply) (s' : Session) → CreateAnswer AllOther s reply s' → CreateEnds s reply s'
-create_ends s reply s' (CreateAnswer.created c) =
+create_ends : (s : Session) (reply : Reply) (s' : Session) (others : List Event) → AllOther s.caller others → (turn : Turn) → AddTurn s Calls.Create others turn → reply ≡ turn.said
+    → s' ≡ with_tickets turn.tickets (sees s (and_made others turn.made)) → CreateEnds s reply s'
+create_ends s reply s' others gap _ (AddTurn.added blob e) said seen =
     let create : Event = Events.Create s.caller in
-    CreateEnds.does c.blob c.said
-    (left s s' (create ∷ []) (c.others ++ create ∷ []) (goes_on s (c.others ++ create ∷ []) s' c.seen)
-    (event_is_own s.caller s.seen c.others create c.is_gap refl)
-    (event_stays s.fixed.limits s.caller s.seen c.others create c.is_gap (λ blob version same. cc)))
-    (same_tickets s (c.others ++ create ∷ []) s' c.seen)
-create_ends s reply s' (CreateAnswer.refused r) =
-    CreateEnds.hinders (fault_of r.refusal) r.said (CreateHindered.refused (refused_at s s' Calls.Create r.others r.is_gap r.refusal r.refused r.seen))
-    (left_gap s s' r.others r.is_gap r.seen) (same_tickets s r.others s' r.seen)
-create_ends s reply s' (CreateAnswer.out_of_memory m) =
-    CreateEnds.hinders Faults.NoMemory m.said (CreateHindered.outside (IsOutside.starved refl)) (left_gap s s' m.others m.is_gap m.seen) (same_tickets s m.others s' m.seen)
+    CreateEnds.does blob said
+    (left s s' (create ∷ []) (others ++ create ∷ []) (goes_on s (others ++ create ∷ []) s' seen)
+    (event_is_own s.caller s.seen others create gap refl)
+    (event_stays s.fixed.limits s.caller s.seen others create gap (λ blob version same. cc)))
+    (same_tickets s (others ++ create ∷ []) s' seen)
+create_ends s reply s' others gap _ (AddTurn.refused refusal refused) said seen =
+    CreateEnds.hinders (fault_of refusal) said (CreateHindered.refused (refused_at s s' Calls.Create others gap refusal refused seen))
+    (left_gap s s' others gap seen) (same_tickets s others s' seen)
+create_ends s reply s' others gap _ AddTurn.out_of_memory said seen =
+    CreateEnds.hinders Faults.NoMemory said (CreateHindered.outside (IsOutside.starved refl)) (left_gap s s' others gap seen) (same_tickets s others s' seen)
 
-pub creates_ended : (s : Session) (reply : Reply) (s' : Session) → CreateAnswer AllOther s reply s' → CreateEnds s reply s'
-creates_ended s reply s' answer = create_ends s reply s' answer
+pub creates_ended : (s : Session) (reply : Reply) (s' : Session) → AfterGap AllOther s (AddTurn s Calls.Create) reply s' → CreateEnds s reply s'
+creates_ended s reply s' a = create_ends s reply s' a.others a.is_gap a.turn a.may a.said a.seen
 
 -- ---- as more is seen
 more_refused : (limits : Bounds) (caller : ℕ) (call : Call) (first seen more : List Event) (fault : Fault) → RefusedAt limits caller call first seen fault
@@ -292,21 +281,13 @@ left_finish s blob version others s' gap numbered goes =
     left s s' (finish ∷ []) (others ++ finish ∷ []) goes (event_is_own s.caller s.seen others finish gap refl)
     (reports_stay s.fixed.limits s.caller blob version s.seen others gap numbered)
 
-reported_goes : (s : Session) (ticket : HeldTicket) (reply : Reply) (s' : Session) (r : Reported AllOther s ticket reply s')
-    → Goes s (r.others ++ Events.Finish s.caller ticket.blob ticket.version ∷ []) s'
-reported_goes s ticket reply s' r = record {
-  seen = ap (λ (x : Session). x.seen) r.seen;
-  caller = ap (λ (x : Session). x.caller) r.seen;
-  fixed = ap (λ (x : Session). x.fixed) r.seen;
-  limit = ap (λ (x : Session). x.limit) r.seen;
-}
-
-found_goes : (s : Session) (ticket : HeldTicket) (reply : Reply) (s' : Session) (r : FoundFinished AllOther s ticket reply s') → Goes s r.others s'
-found_goes s ticket reply s' r = record {
-  seen = ap (λ (x : Session). x.seen) r.seen;
-  caller = ap (λ (x : Session). x.caller) r.seen;
-  fixed = ap (λ (x : Session). x.fixed) r.seen;
-  limit = ap (λ (x : Session). x.limit) r.seen;
+-- but for its tickets, that a session gave up
+dropped_goes : (s : Session) (more : List Event) (number : ℕ) (s' : Session) → s' ≡ with_tickets (Tickets.drop number) (sees s more) → Goes s more s'
+dropped_goes s more number s' e = record {
+  seen = ap (λ (x : Session). x.seen) e;
+  caller = ap (λ (x : Session). x.caller) e;
+  fixed = ap (λ (x : Session). x.fixed) e;
+  limit = ap (λ (x : Session). x.limit) e;
 }
 
 -- a page that the update of a version stores anew, where the session has seen that much
@@ -323,28 +304,66 @@ record Hindered (s : Session) (blob version : ℕ) (reply : Reply) (s' : Session
       ⊎ ((fault : Fault)
       × ((reply ≡ Replies.Refused fault) × (IsOutside (IsFolded s blob version s') fault × (((earlier least : ℕ) → fault ≢ Faults.Pending earlier least) × ((number : ℕ) → still_held number fault ≡ Some number)))))
 
-hindered : (s : Session) (blob version : ℕ) (reply : Reply) (s' : Session) → FinishHindered AllOther s blob version reply s' → Hindered s blob version reply s'
-hindered s blob version reply s' (FinishHindered.out_of_memory m) = record {
-  leaves = left_gap s s' m.others m.is_gap m.seen;
-  tickets = same_tickets s m.others s' m.seen;
-  why = inr (Faults.NoMemory, (m.said, (IsOutside.starved refl, ((λ earlier least same. cc), λ number. refl))));
+-- A finish by a ticket: it is reported, or was reported before, and the ticket given up; or it was hindered.
+data ReportedOr (s : Session) (ticket : HeldTicket) (reply : Reply) (s' : Session) : Type 0 where
+  reported : (others : List Event) → AllOther s.caller others → (published : ℕ) → reply ≡ Replies.Finished published
+      → s' ≡ with_tickets (Tickets.drop ticket.number) (sees s (others ++ Events.Finish s.caller ticket.blob ticket.version ∷ [])) → ReportedOr s ticket reply s'
+  found : (others : List Event) → AllOther s.caller others → repair_refusal (store_at s others) ticket.blob ticket.version ≡ Some (Refusals.Already ticket.version)
+      → reply ≡ Replies.Refused (Faults.Already ticket.version) → s' ≡ with_tickets (Tickets.drop ticket.number) (sees s others) → ReportedOr s ticket reply s'
+  hinders : Hindered s ticket.blob ticket.version reply s' → ReportedOr s ticket reply s'
+
+by_turn : (s : Session) (ticket : HeldTicket) (reply : Reply) (s' : Session) (others : List Event) → AllOther s.caller others → (turn : Turn)
+    → FinishTurn s ticket.blob ticket.version (λ published. Replies.Finished published) (Tickets.drop ticket.number) Tickets.stay others turn → reply ≡ turn.said
+    → s' ≡ with_tickets turn.tickets (sees s (and_made others turn.made)) → ReportedOr s ticket reply s'
+by_turn s ticket reply s' others gap _ (FinishTurn.finished published unfinished ready e) said seen = ReportedOr.reported others gap published said seen
+by_turn s ticket reply s' others gap _ (FinishTurn.found e) said seen = ReportedOr.found others gap e said seen
+by_turn s ticket reply s' others gap _ (FinishTurn.waits held unfinished folds e) said seen =
+    ReportedOr.hinders (record { leaves = left_gap s s' others gap seen; tickets = same_tickets s others s' seen; why = inl (held, said) })
+by_turn s ticket reply s' others gap _ (FinishTurn.not_folded page unfinished fold ready) said seen =
+    ReportedOr.hinders (record {
+      leaves = left_gap s s' others gap seen;
+      tickets = same_tickets s others s' seen;
+      why = inr (Faults.PageFault page, (said, (IsOutside.lost page (record { others = others; seen = ap (λ (x : Session). x.seen) seen; fold = fold }) refl, ((λ earlier least same. cc), λ number. refl))));
+    })
+by_turn s ticket reply s' others gap _ FinishTurn.out_of_memory said seen =
+    ReportedOr.hinders (record {
+      leaves = left_gap s s' others gap seen;
+      tickets = same_tickets s others s' seen;
+      why = inr (Faults.NoMemory, (said, (IsOutside.starved refl, ((λ earlier least same. cc), λ number. refl))));
+    })
+
+-- whatever becomes of the tickets
+changed_goes : (tickets : Tickets) (s : Session) (more : List Event) (s' : Session) → s' ≡ with_tickets tickets (sees s more) → Goes s more s'
+changed_goes Tickets.stay s more s' e = goes_on s more s' e
+changed_goes (Tickets.hold blob version) s more s' e = record {
+  seen = ap (λ (x : Session). x.seen) e;
+  caller = ap (λ (x : Session). x.caller) e;
+  fixed = ap (λ (x : Session). x.fixed) e;
+  limit = ap (λ (x : Session). x.limit) e;
 }
-hindered s blob version reply s' (FinishHindered.waits w) = record {
-  leaves = left_gap s s' w.others w.is_gap w.seen;
-  tickets = same_tickets s w.others s' w.seen;
-  why = inl (w.held, w.said);
-}
-hindered s blob version reply s' (FinishHindered.not_folded p) = record {
-  leaves = left_gap s s' p.others p.is_gap p.seen;
-  tickets = same_tickets s p.others s' p.seen;
-  why = inr (Faults.PageFault p.page, (p.said, (IsOutside.lost p.page (record { others = p.others; seen = ap (λ (x : Session). x.seen) p.seen; fold = p.folds }) refl, ((λ earlier least same. cc), λ number. refl))));
+changed_goes (Tickets.drop number) s more s' e = dropped_goes s more number s' e
+changed_goes (Tickets.let_go blob version) s more s' e = record {
+  seen = ap (λ (x : Session). x.seen) e;
+  caller = ap (λ (x : Session). x.caller) e;
+  fixed = ap (λ (x : Session). x.fixed) e;
+  limit = ap (λ (x : Session). x.limit) e;
 }
 
-pub reports_leave : (s : Session) (ticket : HeldTicket) (reply : Reply) (s' : Session) → IsNumberedBy s.fixed.limits s.seen s.caller ticket.blob ticket.version
-    → ReportAnswer AllOther s ticket reply s' → Leaves s [] s' ⊎ Leaves s (Events.Finish s.caller ticket.blob ticket.version ∷ []) s'
-reports_leave s ticket reply s' numbered (ReportAnswer.reported r) = inr (left_finish s ticket.blob ticket.version r.others s' r.is_gap numbered (reported_goes s ticket reply s' r))
-reports_leave s ticket reply s' numbered (ReportAnswer.finished r) = inl (left_others s r.others s' r.is_gap (found_goes s ticket reply s' r))
-reports_leave s ticket reply s' numbered (ReportAnswer.hindered h) = inl (hindered s ticket.blob ticket.version reply s' h).leaves
+module _ (s : Session) (ticket : HeldTicket) (hindered : Tickets) (s' : Session) (numbered : IsNumberedBy s.fixed.limits s.seen s.caller ticket.blob ticket.version) (others : List Event)
+    (gap : AllOther s.caller others) where
+  leave_by : (turn : Turn) → FinishTurn s ticket.blob ticket.version (λ published. Replies.Finished published) (Tickets.drop ticket.number) hindered others turn
+      → s' ≡ with_tickets turn.tickets (sees s (and_made others turn.made)) → Leaves s [] s' ⊎ Leaves s (Events.Finish s.caller ticket.blob ticket.version ∷ []) s'
+  leave_by _ (FinishTurn.finished published unfinished ready e) seen =
+      inr (left_finish s ticket.blob ticket.version others s' gap numbered (dropped_goes s (others ++ Events.Finish s.caller ticket.blob ticket.version ∷ []) ticket.number s' seen))
+  leave_by _ (FinishTurn.found e) seen = inl (left_others s others s' gap (dropped_goes s others ticket.number s' seen))
+  leave_by _ (FinishTurn.waits held unfinished folds e) seen = inl (left_others s others s' gap (changed_goes hindered s others s' seen))
+  leave_by _ (FinishTurn.not_folded page unfinished fold ready) seen = inl (left_others s others s' gap (changed_goes hindered s others s' seen))
+  leave_by _ FinishTurn.out_of_memory seen = inl (left_others s others s' gap (changed_goes hindered s others s' seen))
+
+pub reports_leave : (s : Session) (ticket : HeldTicket) (hindered : Tickets) (reply : Reply) (s' : Session) → IsNumberedBy s.fixed.limits s.seen s.caller ticket.blob ticket.version
+    → AfterGap AllOther s (FinishTurn s ticket.blob ticket.version (λ published. Replies.Finished published) (Tickets.drop ticket.number) hindered) reply s'
+    → Leaves s [] s' ⊎ Leaves s (Events.Finish s.caller ticket.blob ticket.version ∷ []) s'
+reports_leave s ticket hindered reply s' numbered a = leave_by s ticket hindered s' numbered a.others a.is_gap a.turn a.may a.seen
 
 -- ---- updates that are held
 
@@ -439,32 +458,34 @@ module _ (s mid : Session) (blob : ℕ) (place : Place) (bytes : List ℕ) (numb
         ∙ ap (λ (t : Bool). if t then Some its_ticket else None) (eq-eqb number number refl)
 
     -- it is done
-    finish_does : Reported AllOther mid its_ticket reply s' → FinishEnds s blob place bytes number version reply s'
-    finish_does r =
-        let last : Leaves mid (Events.Finish mid.caller blob version ∷ []) s' = left_finish mid blob version r.others s' r.is_gap holds_own (reported_goes mid its_ticket reply s' r) in
-        FinishEnds.does r.published r.said
+    finish_does : (others : List Event) → AllOther mid.caller others → (published : ℕ) → reply ≡ Replies.Finished published
+        → s' ≡ with_tickets (Tickets.drop number) (sees mid (others ++ Events.Finish mid.caller blob version ∷ [])) → FinishEnds s blob place bytes number version reply s'
+    finish_does others gap published said seen =
+        let last : Leaves mid (Events.Finish mid.caller blob version ∷ []) s' =
+        left_finish mid blob version others s' gap holds_own (dropped_goes mid (others ++ Events.Finish mid.caller blob version ∷ []) number s' seen) in
+        FinishEnds.does published said
         (leaves_add s mid s' (Events.Assign s.caller blob place bytes ∷ []) (Events.Finish s.caller blob version ∷ []) h.leaves
         (subst (λ (c : ℕ). Leaves mid (Events.Finish c blob version ∷ []) s') caller_stays last))
-        (ap (λ (x : Session). x.tickets) r.seen ∙ given_up)
+        (ap (λ (x : Session). x.tickets) seen ∙ given_up)
 
     -- another caller had done it
-    found_done : FoundFinished AllOther mid its_ticket reply s' → FinishEnds s blob place bytes number version reply s'
-    found_done r =
+    found_done : (others : List Event) → AllOther mid.caller others → repair_refusal (store_at mid others) blob version ≡ Some (Refusals.Already version)
+        → reply ≡ Replies.Refused (Faults.Already version) → s' ≡ with_tickets (Tickets.drop number) (sees mid others) → FinishEnds s blob place bytes number version reply s'
+    found_done others gap already said is =
         let this : Event = Events.Assign s.caller blob place bytes in
-        let goes : Goes mid r.others s' = found_goes mid its_ticket reply s' r in
-        let l : Leaves mid [] s' = left_others mid r.others s' r.is_gap goes in
-        let all : List Event = h.later ++ r.others in
-        let split : mid.seen ++ r.others ≡ h.before ++ this ∷ all = ap (λ (x : List Event). x ++ r.others) h.split ∙ append_assoc h.before (this ∷ h.later) r.others in
+        let goes : Goes mid others s' = dropped_goes mid others number s' is in
+        let l : Leaves mid [] s' = left_others mid others s' gap goes in
+        let all : List Event = h.later ++ others in
+        let split : mid.seen ++ others ≡ h.before ++ this ∷ all = ap (λ (x : List Event). x ++ others) h.split ∙ append_assoc h.before (this ∷ h.later) others in
         let seen : s'.seen ≡ h.before ++ this ∷ (all ++ []) = goes.seen ∙ (split ∙ ap (λ (x : List Event). h.before ++ this ∷ x) (sym (append-nil all))) in
-        let gap : AllOther s.caller all = other_both s.caller h.later r.others h.is_gap (subst (λ (c : ℕ). AllOther c r.others) caller_stays r.is_gap) in
-        let refused : (answer (store_of s.fixed.limits (h.before ++ this ∷ all)) s.caller (Calls.Finish blob version)).1 ≡ Outcomes.Refused (Refusals.Already version) =
-        subst (λ (x : List Event). (answer (store_of s.fixed.limits x) s.caller (Calls.Finish blob version)).1 ≡ Outcomes.Refused (Refusals.Already version)) split
-        (subst (λ (f : Fixed). (answer (store_of f.limits (mid.seen ++ r.others)) s.caller (Calls.Finish blob version)).1 ≡ Outcomes.Refused (Refusals.Already version)) h.leaves.fixed
-        (subst (λ (c : ℕ). (answer (store_of mid.fixed.limits (mid.seen ++ r.others)) c (Calls.Finish blob version)).1 ≡ Outcomes.Refused (Refusals.Already version)) caller_stays r.refused)) in
+        let both : AllOther s.caller all = other_both s.caller h.later others h.is_gap (subst (λ (c : ℕ). AllOther c others) caller_stays gap) in
+        let refused : repair_refusal (store_of s.fixed.limits (h.before ++ this ∷ all)) blob version ≡ Some (Refusals.Already version) =
+        subst (λ (x : List Event). repair_refusal (store_of s.fixed.limits x) blob version ≡ Some (Refusals.Already version)) split
+        (subst (λ (f : Fixed). repair_refusal (store_of f.limits (mid.seen ++ others)) blob version ≡ Some (Refusals.Already version)) h.leaves.fixed already) in
         let done : finishes blob version all ≡ true = already_by_events by_events s.fixed.limits s.caller blob version h.at h.size place bytes h.before all h.numbered refused in
-        FinishEnds.hinders (Faults.Already version) r.said (λ earlier least same. cc)
-        (UpdateHindered.finished h.before all [] version h.at h.size seen h.numbered gap done)
-        (StopsAt.numbered refl (leaves_add s mid s' (this ∷ []) [] h.leaves l) (ap (λ (x : Session). x.tickets) r.seen ∙ given_up))
+        FinishEnds.hinders (Faults.Already version) said (λ earlier least same. cc)
+        (UpdateHindered.finished h.before all [] version h.at h.size seen h.numbered both done)
+        (StopsAt.numbered refl (leaves_add s mid s' (this ∷ []) [] h.leaves l) (ap (λ (x : Session). x.tickets) is ∙ given_up))
 
     -- it was hindered, and is held as before
     still_holds : Hindered mid blob version reply s' → Holds s blob place bytes number version s'
@@ -480,13 +501,16 @@ module _ (s mid : Session) (blob : ℕ) (place : Place) (bytes : List ℕ) (numb
               (outside_as (IsFolded mid blob version s') (IsPageOf s.fixed.limits s.fixed.page s.caller blob place bytes s.seen s'.seen) (folded_page stay s') fault out)) (StopsAt.held number version (held number) (still_holds x))
         ]
 
-    by_report : ReportAnswer AllOther mid its_ticket reply s' → FinishEnds s blob place bytes number version reply s'
-    by_report (ReportAnswer.reported r) = finish_does r
-    by_report (ReportAnswer.finished r) = found_done r
-    by_report (ReportAnswer.hindered x) = finish_hindered (hindered mid blob version reply s' x)
+    by_report : ReportedOr mid its_ticket reply s' → FinishEnds s blob place bytes number version reply s'
+    by_report (ReportedOr.reported others gap published said seen) = finish_does others gap published said seen
+    by_report (ReportedOr.found others gap e said seen) = found_done others gap e said seen
+    by_report (ReportedOr.hinders x) = finish_hindered x
+
+    by_answer : FinishAnswer AllOther mid number (Some its_ticket) reply s' → FinishEnds s blob place bytes number version reply s'
+    by_answer a = by_report (by_turn mid its_ticket reply s' a.others a.is_gap a.turn a.may a.said a.seen)
 
     pub finish_ended : FinishAnswer AllOther mid number (ticket_at mid.tickets number) reply s' → FinishEnds s blob place bytes number version reply s'
-    finish_ended a = by_report (subst (λ (o : Option HeldTicket). FinishAnswer AllOther mid number o reply s') found_at a)
+    finish_ended a = by_answer (subst (λ (o : Option HeldTicket). FinishAnswer AllOther mid number o reply s') found_at a)
 
 -- ---- from an earlier moment on
 pub holds_later : (s mid s' : Session) (blob : ℕ) (place : Place) (bytes : List ℕ) (number version : ℕ)

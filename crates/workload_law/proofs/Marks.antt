@@ -7,8 +7,8 @@ use Rattle.std.proofs.lemmas.Bool.Decides.{nat_tests}
 use Rattle.std.proofs.lemmas.List.{length-set, length-append, length-replicate, length-take-le}
 use Rattle.blob_model.specs.Content.{Update}
 use Rattle.blob_model.specs.Limits.{Bounds}
-use Rattle.blob_model.specs.Store.{Store, Blob, blob_at, empty_store, with_blob, and_update, assigned, is_finished, finish, branch_of, true_prefix, published}
-use Rattle.blob_model.specs.Answer.{Answered, answer, refuse, first_refusal, unless_refused, too_many_blobs, offset_past_size, blob_too_big, too_many_versions, too_many_open, already}
+use Rattle.blob_model.specs.Store.{Store, Blob, blob_at, empty_store, and_update, assigned, is_finished, finish, branch_of, true_prefix, published}
+use Rattle.blob_model.specs.Answer.{Answered, answer, refuse, first_refusal, too_many_blobs, offset_past_size, blob_too_big, too_many_versions, too_many_open, not_numbered, already, repair_refusal}
 use Rattle.blob_model.specs.History.{caller_of, call_of, store_from, store_of, finishes, is_refused}
 use Rattle.blob_model.specs.Laws.{FinishedByEvents}
 use Rattle.blob_model.specs.declared.call.Call.TheVariants as Calls
@@ -135,10 +135,11 @@ new_unfinished b u version even next =
     rw some (ap (λ (n : ℕ). slice_index_or (b.finished ++ false ∷ []) n false) place ∙ last_mark b.finished)
 
 -- ---- a finish that is refused as it was done before
-already_then : (t : Bool) (store : Store) (version : ℕ) (done : Answered) (n : ℕ) → done.1 ≡ Outcomes.Published n
-    → (let a : Answered = elim (if t then Some (Refusals.Already version) else None) [ Some r ↦ refuse store r | None ↦ done ] in a).1 ≡ Outcomes.Refused (Refusals.Already version) → t ≡ true
-already_then true store version done n is e = refl
-already_then false store version done n is e = let never : ⊥ = cc in absurd never
+refused_already : (low done : Bool) (version least : ℕ)
+    → (if low then Some (Refusals.NotPublished version least) else (if done then Some (Refusals.Already version) else None)) ≡ Some (Refusals.Already version) → done ≡ true
+refused_already true done version least e = let never : ⊥ = cc in absurd never
+refused_already false true version least e = refl
+refused_already false false version least e = let never : ⊥ = cc in absurd never
 
 record Finished (store : Store) (blob version : ℕ) : Type 0 where
   b : Blob
@@ -146,13 +147,11 @@ record Finished (store : Store) (blob version : ℕ) : Type 0 where
   mark : is_finished b version ≡ true
 
 found_in : (store : Store) (blob version : ℕ) (o : Option Blob) → blob_at store blob ≡ o
-    → (let a : Answered =
-    elim o [
-      | None ↦ refuse store (Refusals.NoBlob blob)
-      | Some b ↦ unless_refused store (already b version ∷ []) (with_blob store blob (finish b version), Outcomes.Published (published (finish b version)))
-    ] in a).1 ≡ Outcomes.Refused (Refusals.Already version) → Finished store blob version
+    → (let r : Option Refusal =
+    elim o [ None ↦ Some (Refusals.NoBlob blob) | Some b ↦ first_refusal (not_numbered b version ∷ already b version ∷ []) ] in r) ≡ Some (Refusals.Already version)
+    → Finished store blob version
 found_in store blob version None at e = let never : ⊥ = cc in absurd never
-found_in store blob version (Some b) at e = record { b = b; at = at; mark = already_then (is_finished b version) store version _ _ refl e }
+found_in store blob version (Some b) at e = record { b = b; at = at; mark = refused_already (nat_lt (assigned b) version) (is_finished b version) version (published b) e }
 
 -- ---- found finished, so finished by an event
 module _ (by_events : FinishedByEvents) (limits : Bounds) (caller blob version at size : ℕ) (place : Place) (bytes : List ℕ) (before later : List Event)
@@ -172,7 +171,7 @@ module _ (by_events : FinishedByEvents) (limits : Bounds) (caller blob version a
       ∙ (event_updates (store_of limits before) this blob next.here next.there (ap is_refused numbered)
       ∙ ap (λ (t : Bool). Some (if t then and_update next.here (record { caller = caller; place = place; bytes = bytes }) else next.here)) (eq-eqb blob blob refl))
 
-  pub already_by_events : (answer (store_of limits (before ++ this ∷ later)) caller (Calls.Finish blob version)).1 ≡ Outcomes.Refused (Refusals.Already version) → finishes blob version later ≡ true
+  pub already_by_events : repair_refusal (store_of limits (before ++ this ∷ later)) blob version ≡ Some (Refusals.Already version) → finishes blob version later ≡ true
   already_by_events refused =
       let now : Blob = and_update next.here (record { caller = caller; place = place; bytes = bytes }) in
       let whole : List Event = before ++ this ∷ later in

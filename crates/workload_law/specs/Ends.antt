@@ -11,8 +11,8 @@ use Rattle.blob_model.specs.declared.call.Outcome.TheVariants as Outcomes
 use Rattle.blob_model.specs.declared.call.Place.{Place}
 use Rattle.blob_model.specs.declared.call.Refusal.{Refusal}
 use Rattle.request_form.specs.Session.{Session, HeldTicket, ticket_at}
-use Rattle.request_form.specs.Replies.{fault_of}
-use Rattle.request_form.specs.Answers.{WholeUpdate, CreateAnswer, UpdateAnswer, ReportAnswer, FinishAnswer, LookAnswer, max_update}
+use Rattle.request_form.specs.Replies.{fault_of, update_reply, start_reply}
+use Rattle.request_form.specs.Answers.{AfterGap, Tickets, AddTurn, FinishTurn, WholeAnswer, FinishAnswer, LookAnswer, max_update}
 use Rattle.request_form.specs.declared.form.Reply.{Reply}
 use Rattle.request_form.specs.declared.form.Reply.TheVariants as Replies
 use Rattle.request_form.specs.declared.form.Fault.{Fault}
@@ -108,21 +108,21 @@ pub data StopsAt (s : Session) (blob : ℕ) (place : Place) (bytes : List ℕ) (
 
 -- How an update ends: it is done; or it is held back under a ticket; or too many updates of the blob wait, and it may be tried again; or
 -- it was hindered.
-pub data UpdateEnds (s : Session) (blob : ℕ) (place : Place) (bytes : List ℕ) (done : ℕ → ℕ → ℕ → Reply) (started : ℕ → ℕ → ℕ → ℕ → Reply) (reply : Reply) (s' : Session) : Type 0 where
-  does : (version at size : ℕ) → reply ≡ done version at size
+pub data UpdateEnds (s : Session) (blob : ℕ) (place : Place) (bytes : List ℕ) (reply : Reply) (s' : Session) : Type 0 where
+  does : (version at size : ℕ) → reply ≡ update_reply place version at size
       → Leaves s (Events.Assign s.caller blob place bytes ∷ Events.Finish s.caller blob version ∷ []) s' → s'.tickets ≡ s.tickets
-      → UpdateEnds s blob place bytes done started reply s'
-  held_back : (number version at size : ℕ) → reply ≡ started number version at size → 1 ≤ version → Holds s blob place bytes number version s'
-      → UpdateEnds s blob place bytes done started reply s'
-  full : (limit : ℕ) → reply ≡ Replies.Refused (Faults.TooManyOpen limit) → Leaves s [] s' → s'.tickets ≡ s.tickets → UpdateEnds s blob place bytes done started reply s'
+      → UpdateEnds s blob place bytes reply s'
+  held_back : (number version at size : ℕ) → reply ≡ start_reply place number version at size → 1 ≤ version → Holds s blob place bytes number version s'
+      → UpdateEnds s blob place bytes reply s'
+  full : (limit : ℕ) → reply ≡ Replies.Refused (Faults.TooManyOpen limit) → Leaves s [] s' → s'.tickets ≡ s.tickets → UpdateEnds s blob place bytes reply s'
   hinders : (fault : Fault) → reply ≡ Replies.Refused fault → ((limit : ℕ) → fault ≢ Faults.TooManyOpen limit)
       → UpdateHindered s.fixed.limits s.fixed.page s.caller blob place bytes s.seen s'.seen fault → StopsAt s blob place bytes (ticket_of fault) s'
-      → UpdateEnds s blob place bytes done started reply s'
+      → UpdateEnds s blob place bytes reply s'
 
 -- How an update may end that the session lets through to the store.
 abbrev pub UpdatesEnd : Type 0
-UpdatesEnd = (s : Session) (blob : ℕ) (place : Place) (bytes : List ℕ) (done : ℕ → ℕ → ℕ → Reply) (started : ℕ → ℕ → ℕ → ℕ → Reply) (reply : Reply) (s' : Session)
-    → UpdateAnswer AllOther s blob place bytes (WholeUpdate AllOther s blob place bytes done started reply s') reply s' → UpdateEnds s blob place bytes done started reply s'
+UpdatesEnd = (s : Session) (blob : ℕ) (place : Place) (bytes : List ℕ) (reply : Reply) (s' : Session)
+    → WholeAnswer AllOther s blob place bytes reply s' → UpdateEnds s blob place bytes reply s'
 
 -- the ticket under which an update is held still, once its finish was refused so: another caller's finish takes the ticket
 abbrev pub still_held : ℕ → Fault → Option ℕ
@@ -153,7 +153,7 @@ pub data CreateEnds (s : Session) (reply : Reply) (s' : Session) : Type 0 where
       → CreateEnds s reply s'
 
 abbrev pub CreatesEnd : Type 0
-CreatesEnd = (s : Session) (reply : Reply) (s' : Session) → CreateAnswer AllOther s reply s' → CreateEnds s reply s'
+CreatesEnd = (s : Session) (reply : Reply) (s' : Session) → AfterGap AllOther s (AddTurn s Calls.Create) reply s' → CreateEnds s reply s'
 
 -- what hindered stands as more is seen
 abbrev pub HindrancesStay : Type 0
@@ -190,7 +190,8 @@ abbrev pub LooksLeaveNone : Type 0
 LooksLeaveNone = (s : Session) (call : Call) (reply : Reply) (s' : Session) → LookAnswer AllOther s call reply s' → Leaves s [] s' × (s'.tickets ≡ s.tickets)
 
 -- The report of an update that the session numbered leaves its finish, or nothing: where another had reported it, and where it was
--- hindered.
+-- hindered. What becomes of the ticket then doesn't matter.
 abbrev pub ReportsLeave : Type 0
-ReportsLeave = (s : Session) (ticket : HeldTicket) (reply : Reply) (s' : Session) → IsNumberedBy s.fixed.limits s.seen s.caller ticket.blob ticket.version → ReportAnswer AllOther s ticket reply s'
+ReportsLeave = (s : Session) (ticket : HeldTicket) (hindered : Tickets) (reply : Reply) (s' : Session) → IsNumberedBy s.fixed.limits s.seen s.caller ticket.blob ticket.version
+    → AfterGap AllOther s (FinishTurn s ticket.blob ticket.version (λ published. Replies.Finished published) (Tickets.drop ticket.number) hindered) reply s'
     → Leaves s [] s' ⊎ Leaves s (Events.Finish s.caller ticket.blob ticket.version ∷ []) s'

@@ -11,7 +11,8 @@ use Rattle.blob_model.specs.declared.call.Event.{Event}
 use Rattle.blob_model.specs.declared.call.Outcome.{Outcome}
 use Rattle.blob_model.specs.declared.call.Outcome.TheVariants as Outcomes
 use Rattle.request_form.specs.Session.{Fixed, Session, outcome_at, sees}
-use Rattle.request_form.specs.Answers.{Unless, LookAnswer, ReadAnswer, Answers, read_fault, max_read}
+use Rattle.request_form.specs.Answers.{Turn, AfterGap, Unless, LookAnswer, ReadTurn, Answers, read_fault, max_read}
+use Rattle.request_form.specs.Turns.{with_tickets, and_made}
 use Rattle.request_form.specs.Replies.{reply_of}
 use Rattle.request_form.specs.declared.form.Request.TheVariants as Requests
 use Rattle.request_form.specs.declared.form.Reply.{Reply}
@@ -118,12 +119,16 @@ module _ (s s' : Session) (blob version size : ℕ) where
   read_call = Calls.Read blob version 0 size
 
   module _ (reply : Reply) where
-    left_by : LooksLeaveNone → s.tickets ≡ [] → (e : Option Fault) → Unless e s reply s' (ReadAnswer AllOther s blob version 0 size reply s') → HasDoneOwn s [] s'
+    left_turn : LooksLeaveNone → s.tickets ≡ [] → (others : List Event) → AllOther s.caller others → (turn : Turn) → ReadTurn s blob version 0 size others turn
+        → s' ≡ with_tickets turn.tickets (sees s (and_made others turn.made)) → HasDoneOwn s [] s'
+    left_turn looks none others gap _ (ReadTurn.content bytes e) seen = saw_left looks s s' others (record { is_gap = gap; seen = seen }) none
+    left_turn looks none others gap _ (ReadTurn.refused refusal e) seen = saw_left looks s s' others (record { is_gap = gap; seen = seen }) none
+    left_turn looks none others gap _ ReadTurn.out_of_memory seen = saw_left looks s s' others (record { is_gap = gap; seen = seen }) none
+    left_turn looks none others gap _ (ReadTurn.not_read bytes e some page meets) seen = saw_left looks s s' others (record { is_gap = gap; seen = seen }) none
+
+    left_by : LooksLeaveNone → s.tickets ≡ [] → (e : Option Fault) → Unless e s reply s' (AfterGap AllOther s (ReadTurn s blob version 0 size) reply s') → HasDoneOwn s [] s'
     left_by looks none (Some fault) x = subst (λ (t : Session). HasDoneOwn s [] t) (sym x.1) (record { leaves = leaves_same s; none_held = none })
-    left_by looks none None (ReadAnswer.content x) = saw_left looks s s' x.others (record { is_gap = x.is_gap; seen = x.seen }) none
-    left_by looks none None (ReadAnswer.refused x) = saw_left looks s s' x.others (record { is_gap = x.is_gap; seen = x.seen }) none
-    left_by looks none None (ReadAnswer.out_of_memory x) = saw_left looks s s' x.others (record { is_gap = x.is_gap; seen = x.seen }) none
-    left_by looks none None (ReadAnswer.not_read x) = saw_left looks s s' x.others (record { is_gap = x.is_gap; seen = x.seen }) none
+    left_by looks none None a = left_turn looks none a.others a.is_gap a.turn a.may a.seen
 
     pub read_left : LooksLeaveNone → s.tickets ≡ [] → Answers AllOther s (Requests.Read blob version 0 size) reply s' → HasDoneOwn s [] s'
     read_left looks none answers = left_by looks none (read_fault size) answers
@@ -133,43 +138,50 @@ module _ (s s' : Session) (blob version size : ℕ) where
 
   -- what was read
   module _ (bytes : List ℕ) where
-    bytes_in : (e : Option Fault) → Unless e s (Replies.Content bytes) s' (ReadAnswer AllOther s blob version 0 size (Replies.Content bytes) s') → s'.seen ≡ s.seen
-        → outcome_at s [] read_call ≡ Outcomes.Content bytes
+    abbrev Reads : Type 0
+    Reads = AfterGap AllOther s (ReadTurn s blob version 0 size) (Replies.Content bytes) s'
+
+    -- these bytes are what the store answered
+    turn_bytes : (others : List Event) (turn : Turn) → ReadTurn s blob version 0 size others turn → Replies.Content bytes ≡ turn.said → s' ≡ with_tickets turn.tickets (sees s (and_made others turn.made))
+        → (outcome_at s others read_call ≡ Outcomes.Content bytes) × (s' ≡ sees s others)
+    turn_bytes others _ (ReadTurn.content read e) said seen = let is : bytes ≡ read = cc in (e ∙ ap (λ (b : List ℕ). Outcomes.Content b) (sym is), seen)
+    turn_bytes others _ (ReadTurn.refused refusal e) said seen = absurd (let no : ⊥ = cc in no)
+    turn_bytes others _ ReadTurn.out_of_memory said seen = absurd (let no : ⊥ = cc in no)
+    turn_bytes others _ (ReadTurn.not_read read e some page meets) said seen = absurd (let no : ⊥ = cc in no)
+
+    bytes_in : (e : Option Fault) → Unless e s (Replies.Content bytes) s' Reads → s'.seen ≡ s.seen → outcome_at s [] read_call ≡ Outcomes.Content bytes
     bytes_in (Some fault) x same = absurd (let no : Replies.Content bytes ≡ Replies.Refused fault = x.0 in cc)
-    bytes_in None (ReadAnswer.content x) same =
-        let is : bytes ≡ x.bytes = (let said : Replies.Content bytes ≡ Replies.Content x.bytes = x.said in cc) in
-        sym (alone x.others x.seen same) ∙ (x.done ∙ ap (λ (b : List ℕ). Outcomes.Content b) (sym is))
-    bytes_in None (ReadAnswer.refused x) same = absurd (let no : Replies.Content bytes ≡ Replies.Refused _ = x.said in cc)
-    bytes_in None (ReadAnswer.out_of_memory x) same = absurd (let no : Replies.Content bytes ≡ Replies.Refused _ = x.said in cc)
-    bytes_in None (ReadAnswer.not_read x) same = absurd (let no : Replies.Content bytes ≡ Replies.Refused _ = x.said in cc)
+    bytes_in None a same = let t = turn_bytes a.others a.turn a.may a.said a.seen in sym (alone a.others t.1 same) ∙ t.0
 
     pub read_bytes : Answers AllOther s (Requests.Read blob version 0 size) (Replies.Content bytes) s' → s'.seen ≡ s.seen → outcome_at s [] read_call ≡ Outcomes.Content bytes
     read_bytes answers same = bytes_in (read_fault size) answers same
 
-    short_in : ReadsAreShort → (t : Bool) → nat_lt max_read size ≡ t
-        → Unless (if t then Some (Faults.ReadTooLong size) else None) s (Replies.Content bytes) s' (ReadAnswer AllOther s blob version 0 size (Replies.Content bytes) s') → length bytes ≤ max_read
+    short_in : ReadsAreShort → (t : Bool) → nat_lt max_read size ≡ t → Unless (if t then Some (Faults.ReadTooLong size) else None) s (Replies.Content bytes) s' Reads → length bytes ≤ max_read
     short_in short true is x = absurd (let no : Replies.Content bytes ≡ Replies.Refused (Faults.ReadTooLong size) = x.0 in cc)
-    short_in short false is (ReadAnswer.content x) =
-        let bytes_are : bytes ≡ x.bytes = (let said : Replies.Content bytes ≡ Replies.Content x.bytes = x.said in cc) in
-        let few : length x.bytes ≤ size = short (store_of s.fixed.limits (s.seen ++ x.others)) s.caller blob version 0 size x.bytes x.done in
+    short_in short false is a =
+        let t = turn_bytes a.others a.turn a.may a.said a.seen in
+        let few : length bytes ≤ size = short (store_of s.fixed.limits (s.seen ++ a.others)) s.caller blob version 0 size bytes t.0 in
         let within : size ≤ max_read = grind (arith, nat_tests) in
-        subst (λ (b : List ℕ). length b ≤ max_read) (sym bytes_are) (omega (arith, few, within))
-    short_in short false is (ReadAnswer.refused x) = absurd (let no : Replies.Content bytes ≡ Replies.Refused _ = x.said in cc)
-    short_in short false is (ReadAnswer.out_of_memory x) = absurd (let no : Replies.Content bytes ≡ Replies.Refused _ = x.said in cc)
-    short_in short false is (ReadAnswer.not_read x) = absurd (let no : Replies.Content bytes ≡ Replies.Refused _ = x.said in cc)
+        omega (arith, few, within)
 
     pub read_short : ReadsAreShort → Answers AllOther s (Requests.Read blob version 0 size) (Replies.Content bytes) s' → length bytes ≤ max_read
     read_short short answers = short_in short (nat_lt max_read size) refl answers
 
   -- why nothing was read
   module _ (fault : Fault) (recent : outcome_at s [] (Calls.Recent blob) ≡ Outcomes.Recent version size) where
+    turn_unread : (others : List Event) (turn : Turn) → ReadTurn s blob version 0 size others turn → Replies.Refused fault ≡ turn.said → s' ≡ with_tickets turn.tickets (sees s (and_made others turn.made))
+        → s'.seen ≡ s.seen → IsUntold s blob fault
+    turn_unread others _ (ReadTurn.content bytes e) said seen same = absurd (let no : ⊥ = cc in no)
+    turn_unread others _ (ReadTurn.refused refusal e) said seen same =
+        IsUntold.refused version size refusal recent (sym (alone others seen same) ∙ e)
+    turn_unread others _ ReadTurn.out_of_memory said seen same = IsUntold.outside version size recent (IsOutside.starved (same_fault fault Faults.NoMemory said))
+    turn_unread others _ (ReadTurn.not_read bytes e some page meets) said seen same =
+        IsUntold.outside version size recent (IsOutside.lost page (omega (arith, meets.begins)) (same_fault fault (Faults.PageFault page) said))
+
     unread_in : (t : Bool) → nat_lt max_read size ≡ t
-        → Unless (if t then Some (Faults.ReadTooLong size) else None) s (Replies.Refused fault) s' (ReadAnswer AllOther s blob version 0 size (Replies.Refused fault) s') → s'.seen ≡ s.seen → IsUntold s blob fault
+        → Unless (if t then Some (Faults.ReadTooLong size) else None) s (Replies.Refused fault) s' (AfterGap AllOther s (ReadTurn s blob version 0 size) (Replies.Refused fault) s') → s'.seen ≡ s.seen → IsUntold s blob fault
     unread_in true is x same = IsUntold.too_long version size recent (grind (arith, nat_tests))
-    unread_in false is (ReadAnswer.content x) same = absurd (let no : Replies.Refused fault ≡ Replies.Content x.bytes = x.said in cc)
-    unread_in false is (ReadAnswer.refused x) same = IsUntold.refused version size x.refusal recent (sym (alone x.others x.seen same) ∙ x.refused)
-    unread_in false is (ReadAnswer.out_of_memory x) same = IsUntold.outside version size recent (IsOutside.starved (same_fault fault Faults.NoMemory x.said))
-    unread_in false is (ReadAnswer.not_read x) same = IsUntold.outside version size recent (IsOutside.lost x.page (omega (arith, x.begins)) (same_fault fault (Faults.PageFault x.page) x.said))
+    unread_in false is a same = turn_unread a.others a.turn a.may a.said a.seen same
 
     pub unread : Answers AllOther s (Requests.Read blob version 0 size) (Replies.Refused fault) s' → s'.seen ≡ s.seen → IsUntold s blob fault
     unread answers same = unread_in (nat_lt max_read size) refl answers same

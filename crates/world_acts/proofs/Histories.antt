@@ -1,5 +1,5 @@
--- Each history has a world, in which no update that stores a page anew is finished before the version before it is published.
-use Rattle.std.proofs.Common.{◌≡◌, ◌≢◌, ℕ, ◌+◌, ◌-◌, ◌<◌, ◌≤◌, ◌^◌, ◌⊎◌, zero, suc, true, false, List, []}
+-- Each history has a world.
+use Rattle.std.proofs.Common.{◌≡◌, ◌≢◌, ℕ, ◌-◌, ◌<◌, ◌≤◌, ◌^◌, ◌⊎◌, zero, suc, true, false, List, []}
 use Rattle.std.proofs.Common.{◌∷◌, ◌++◌, length, take, drop, refl, sym, ap, subst, ◌∙◌, arith, inl, inr, append-nil, append_assoc, length-append}
 use Rattle.std.specs.Prelude.{Some}
 use Rattle.std.specs.List.{Contains}
@@ -35,9 +35,11 @@ use Rattle.blob_core.specs.declared.step.Step.TheVariants as Moves
 use Rattle.blob_core.proofs.Lists.{one_value, bytes_are}
 use Rattle.blob_core.proofs.Taken.{finish_done}
 use Rattle.version_manager.specs.declared.journal.DeskFixed.{DeskFixed}
-use Rattle.version_manager.specs.Desks.{updates_in, published_in, updates_or_none, published_or_none}
-use Rattle.version_manager.specs.Log.{IsLog, desk_at, events, tag, tagged}
-use Rattle.world_acts.specs.Worlds.{IsWorldOf, IsStep, StoresAgree, HasAllOf, WorldsOnlyGrow, FoldsAreInOrder, HistoriesHaveWorlds}
+use Rattle.version_manager.specs.Desks.{updates_or_none, published_or_none}
+use Rattle.version_manager.specs.Folds.{IsInOrder, AreInOrder}
+use Rattle.version_manager.specs.Log.{IsLog, events, tag, tagged}
+use Rattle.version_manager.proofs.Orders.{order_front}
+use Rattle.world_acts.specs.Worlds.{IsWorldOf, IsStep, StoresAgree, HasAllOf, WorldsOnlyGrow, HistoriesHaveWorlds}
 use Rattle.world_acts.proofs.Steps.{page_some, one_step, quiet_step, empty_is_a_world, worlds_are_reached}
 use Rattle.world_acts.proofs.Turns.{accepted, events_more}
 use Rattle.world_acts.proofs.Pages.{page_putting, numbers_go_on}
@@ -188,29 +190,14 @@ module _ (agree : StoresAgree) (hold : StepsHold) (reached : ReachedStays) (grow
       }
 
 -- ---- an event more
--- where the event is a finish of an update that stores a page anew, the version before it is published
-abbrev IsInOrder : DeskFixed → List (ℕ × Event) → Event → Type 0
-IsInOrder f history (Events.Create caller) = Unit {0}
-IsInOrder f history (Events.Assign caller blob place bytes) = Unit {0}
-IsInOrder f history (Events.Finish caller blob version) =
-    folds_of f.page_size (extents (updates_in (desk_at f history) blob)) version ≢ [] → version ≤ published_in (desk_at f history) blob + 1
-IsInOrder f history (Events.Branch caller blob version) = Unit {0}
-
-in_order : (f : DeskFixed) (history before later : List (ℕ × Event)) (e : Event) → history ≡ before ++ tag e ∷ later → FoldsAreInOrder f history → IsInOrder f before e
-in_order f history before later (Events.Create caller) is order = tt
-in_order f history before later (Events.Assign caller blob place bytes) is order = tt
-in_order f history before later (Events.Finish caller blob version) is order = λ some. order before later caller caller blob version is some
-in_order f history before later (Events.Branch caller blob version) is order = tt
-
 module _ (agree : StoresAgree) (hold : StepsHold) (reached : ReachedStays) (grow : WorldsOnlyGrow) (f : DeskFixed) (history now : List (ℕ × Event)) (w : World)
     (a : IsWorldOf f history w) (log : IsLog f now) where
   -- a finish
-  finish_more : (caller blob version : ℕ) → now ≡ history ++ tag (Events.Finish caller blob version) ∷ []
-      → (folds_of f.page_size (extents (updates_in (desk_at f history) blob)) version ≢ [] → version ≤ published_in (desk_at f history) blob + 1)
-      → (v : World) × IsWorldOf f now v
-  finish_more caller blob version added order =
+  finish_more : (caller blob version : ℕ) → now ≡ history ++ tag (Events.Finish caller blob version) ∷ [] → (v : World) × IsWorldOf f now v
+  finish_more caller blob version added =
       let p : ℕ = f.page_size in
       let e : Event = Events.Finish caller blob version in
+      let order : IsInOrder p (store_of f.limits (events history)) blob version = log.in_order (events history) [] caller blob version (ap events added ∙ events_more history e) in
       let ok : IsAccepted w.store e = accepted agree f history now w e a log added in
       let (b, is, done) = finish_done w.store caller blob version ok.accepted in
       let range = numbered_by (blob_at w.store blob) b version is ok.may in
@@ -255,14 +242,14 @@ module _ (agree : StoresAgree) (hold : StepsHold) (reached : ReachedStays) (grow
       (ap events added ∙ events_more history e ∙ ap (λ (l : List ℕ). events history ++ Events.Assign caller blob place l ∷ []) (sym c.joined)) in
       (after p v (Moves.Assign caller blob place c.numbers), step.leads)
 
-  event_more : (e : Event) → now ≡ history ++ tag e ∷ [] → IsInOrder f history e → (v : World) × IsWorldOf f now v
-  event_more (Events.Create caller) added order =
+  event_more : (e : Event) → now ≡ history ++ tag e ∷ [] → (v : World) × IsWorldOf f now v
+  event_more (Events.Create caller) added =
       let step = one_step f history now w (Moves.Create caller) a (accepted agree f history now w (Events.Create caller) a log added).accepted log
       (ap events added ∙ events_more history (Events.Create caller)) in
       (after f.page_size w (Moves.Create caller), step.leads)
-  event_more (Events.Assign caller blob place bytes) added order = assign_more caller blob place bytes added
-  event_more (Events.Finish caller blob version) added order = finish_more caller blob version added order
-  event_more (Events.Branch caller blob version) added order =
+  event_more (Events.Assign caller blob place bytes) added = assign_more caller blob place bytes added
+  event_more (Events.Finish caller blob version) added = finish_more caller blob version added
+  event_more (Events.Branch caller blob version) added =
       let step = one_step f history now w (Moves.Branch caller blob version) a (accepted agree f history now w (Events.Branch caller blob version) a log added).accepted log
       (ap events added ∙ events_more history (Events.Branch caller blob version)) in
       (after f.page_size w (Moves.Branch caller blob version), step.leads)
@@ -276,15 +263,16 @@ legal_front : (s : Store) (xs ys : List Event) → IsLegalFrom s (xs ++ ys) → 
 legal_front s [] ys legal = tt
 legal_front s (x ∷ xs) ys legal = (legal.0, legal_front (answer s (caller_of x) (call_of x)).0 xs ys legal.1)
 
-log_front : (f : DeskFixed) (xs ys : List Event) → IsLegal f.limits (xs ++ ys) → length (xs ++ ys) < 2 ^ 38 → IsLog f (tagged xs)
-log_front f xs ys legal short = record {
+log_front : (f : DeskFixed) (xs ys : List Event) → IsLegal f.limits (xs ++ ys) → length (xs ++ ys) < 2 ^ 38 → AreInOrder f.page_size f.limits (xs ++ ys) → IsLog f (tagged xs)
+log_front f xs ys legal short order = record {
   tags = ap tagged (sym (events_tagged xs));
   legal = (let L : List Event → Type 0 = λ l. IsLegal f.limits l in subst L (sym (events_tagged xs)) (legal_front (record { limits = f.limits; blobs = [] }) xs ys legal));
   short = omega (arith, short, length-append xs ys, length-map xs tag);
+  in_order = (let O : List Event → Type 0 = λ l. AreInOrder f.page_size f.limits l in subst O (sym (events_tagged xs)) (order_front f.page_size f.limits xs ys order));
 }
 
 module _ (agree : StoresAgree) (hold : StepsHold) (reached : ReachedStays) (grow : WorldsOnlyGrow) (f : DeskFixed) (all : List Event) (legal : IsLegal f.limits all) (short : length all < 2 ^ 38)
-    (order : FoldsAreInOrder f (tagged all)) where
+    (order : AreInOrder f.page_size f.limits all) where
   on : (done rest : List Event) → all ≡ done ++ rest → (w : World) → IsWorldOf f (tagged done) w → (v : World) × IsWorldOf f (tagged all) v
   on done [] is w a =
       let W : List Event → Type 0 = λ l. IsWorldOf f (tagged l) w in
@@ -292,16 +280,14 @@ module _ (agree : StoresAgree) (hold : StepsHold) (reached : ReachedStays) (grow
   on done (e ∷ rest) is w a =
       let longer : all ≡ (done ++ e ∷ []) ++ rest = is ∙ sym (append_assoc done (e ∷ []) rest) in
       let L : List Event → Type 0 = λ l. IsLegal f.limits l in
-      let log : IsLog f (tagged (done ++ e ∷ [])) = log_front f (done ++ e ∷ []) rest (subst L longer legal) (subst (λ (l : List Event). length l < 2 ^ 38) longer short) in
-      let split : tagged all ≡ tagged done ++ tag e ∷ tagged rest = ap tagged is ∙ map-append tag done (e ∷ rest) in
-      let first : IsInOrder f (tagged done) e = in_order f (tagged all) (tagged done) (tagged rest) e split order in
-      let (v, b) = event_more agree hold reached grow f (tagged done) (tagged (done ++ e ∷ [])) w a log e (map-append tag done (e ∷ [])) first in
+      let O : List Event → Type 0 = λ l. AreInOrder f.page_size f.limits l in
+      let log : IsLog f (tagged (done ++ e ∷ [])) = log_front f (done ++ e ∷ []) rest (subst L longer legal) (subst (λ (l : List Event). length l < 2 ^ 38) longer short) (subst O longer order) in
+      let (v, b) = event_more agree hold reached grow f (tagged done) (tagged (done ++ e ∷ [])) w a log e (map-append tag done (e ∷ [])) in
       on (done ++ e ∷ []) rest longer v b
 
 pub histories_have_worlds : StoresAgree → StepsHold → ReachedStays → WorldsOnlyGrow → HistoriesHaveWorlds
-histories_have_worlds agree hold reached grow f history within page log order =
+histories_have_worlds agree hold reached grow f history within page log =
     let es : List Event = events history in
-    let O : List (ℕ × Event) → Type 0 = λ l. FoldsAreInOrder f l in
     let short : length es < 2 ^ 38 = omega (arith, log.short, length-map history (λ (x : ℕ × Event). x.1)) in
-    let (w, a) = on agree hold reached grow f es log.legal short (subst O log.tags order) [] es refl (empty_world f.limits) (empty_is_a_world f within page) in
+    let (w, a) = on agree hold reached grow f es log.legal short log.in_order [] es refl (empty_world f.limits) (empty_is_a_world f within page) in
     (w, subst (λ (l : List (ℕ × Event)). IsWorldOf f l w) (sym log.tags) a)

@@ -1,8 +1,7 @@
--- In a history that has a world, an update that stores a page anew is finished after the version before it is published.
+-- By allowed steps an update that stores a page anew is finished after the version before it is published.
 use Rattle.std.proofs.Common.{◌≡◌, ◌≢◌, ◌⊎◌, ℕ, ◌-◌, ◌≤◌, List, [], ◌∷◌, ◌++◌, length, refl, sym, ap, subst, ◌∙◌, arith, inl, inr}
 use Rattle.std.specs.Prelude.{Some}
 use Rattle.std.specs.List.{Contains}
-use Rattle.std.proofs.lemmas.List.{map-append}
 use Rattle.blob_model.specs.Content.{Update}
 use Rattle.blob_model.specs.Store.{Store, Blob, blob_at, published}
 use Rattle.blob_model.specs.History.{store_of}
@@ -29,8 +28,7 @@ use Rattle.blob_core.proofs.Finding.{touched_node}
 use Rattle.blob_core.proofs.Keeping.{Stands, empty_stands, in_bounds}
 use Rattle.blob_core.proofs.Running.{stands_after}
 use Rattle.version_manager.specs.Desks.{updates_or_none, published_or_none}
-use Rattle.version_manager.specs.Log.{events}
-use Rattle.world_acts.specs.Worlds.{WorldsAreInOrder}
+use Rattle.world_acts.specs.Worlds.{StepsAreInOrder}
 use Rattle.world_acts.proofs.Steps.{page_some}
 use Rattle.world_acts.proofs.Following.{IsAfterPublished, Follows, steps_follow}
 
@@ -124,24 +122,20 @@ finish_follows c p w caller blob version b pos s follow there ok folds =
     let known : h.b ≡ b = one_value (blob_at w.store blob) h.b b h.there there in
     omega (arith, h.before, ap published known)
 
-pub worlds_in_order : Cited → StepsHold → WorldsAreInOrder
-worlds_in_order c hold f history w a before later by caller blob version split folds =
-    let p : ℕ = f.page_size in
-    let pos : 1 ≤ p = page_some p a.page_size in
-    let empty : World = empty_world f.limits in
-    let e : Event = Events.Finish caller blob version in
-    let changes : events_from p empty a.steps ≡ events before ++ e ∷ events later =
-    a.changes ∙ ap events split ∙ map-append (λ (x : ℕ × Event). x.1) before ((by, e) ∷ later) in
-    let x : StepOf p empty (events before) e = step_of p empty a.steps (events before) (events later) e a.allowed changes in
+pub steps_in_order : Cited → StepsHold → StepsAreInOrder
+steps_in_order c hold p limits steps page allowed before later by blob version split folds =
+    let pos : 1 ≤ p = page_some p page in
+    let empty : World = empty_world limits in
+    let x : StepOf p empty before (Events.Finish by blob version) = step_of p empty steps before later (Events.Finish by blob version) allowed split in
     let u : World = world_after p empty x.done in
-    let store : u.store ≡ store_of f.limits (events before) = (hold p f.limits x.done pos x.allowed).store ∙ ap (λ (l : List Event). store_of f.limits l) x.changes in
+    let store : u.store ≡ store_of limits before = (hold p limits x.done pos x.allowed).store ∙ ap (λ (l : List Event). store_of limits l) x.changes in
     let A : Step → Type 0 = λ step. IsAllowed p u step in
-    let ok : IsAllowed p u (Moves.Finish caller blob version) = subst A (the_finish u x.step caller blob version x.is) x.may in
+    let ok : IsAllowed p u (Moves.Finish by blob version) = subst A (the_finish u x.step by blob version x.is) x.may in
     let b : Blob = ok.1.0 in
     let is : blob_at u.store blob ≡ Some b = ok.1.1.there in
-    let there : blob_at (store_of f.limits (events before)) blob ≡ Some b = ap (λ (s : Store). blob_at s blob) (sym store) ∙ is in
+    let there : blob_at (store_of limits before) blob ≡ Some b = ap (λ (s : Store). blob_at s blob) (sym store) ∙ is in
     let F : List Update → Type 0 = λ us. folds_of p (extents us) version ≢ [] in
     let last : version - 1 ≤ published b =
-    finish_follows c p u caller blob version b pos (stands_after c p empty x.done pos (empty_stands p f.limits) x.allowed) (steps_follow p f.limits x.done x.allowed) is ok
+    finish_follows c p u by blob version b pos (stands_after c p empty x.done pos (empty_stands p limits) x.allowed) (steps_follow p limits x.done x.allowed) is ok
     (subst F (ap updates_or_none there) folds) in
     omega (arith, last, ap published_or_none there)

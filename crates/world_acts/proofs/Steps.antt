@@ -11,6 +11,7 @@ use Rattle.blob_core.specs.declared.step.Step.TheVariants as Moves
 use Rattle.version_manager.specs.declared.journal.DeskFixed.{DeskFixed}
 use Rattle.version_manager.specs.Log.{IsLog, events}
 use Rattle.version_manager.specs.Origins.{parents_from, parents_of}
+use Rattle.version_manager.proofs.Orders.{none_in_order}
 use Rattle.world_acts.specs.Worlds.{IsWorldOf, IsStep, EmptyIsAWorld, WorldsAreReached, StoresAgree, LineagesAgree}
 
 -- ---- page sizes
@@ -83,7 +84,7 @@ pub empty_is_a_world : EmptyIsAWorld
 empty_is_a_world f within page = record {
   within = within;
   page_size = page;
-  log = record { tags = refl; legal = tt; short = omega arith };
+  log = record { tags = refl; legal = tt; short = omega arith; in_order = none_in_order f.page_size f.limits };
   steps = [];
   allowed = tt;
   is = refl;

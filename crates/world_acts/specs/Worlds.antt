@@ -1,21 +1,18 @@
 -- Which worlds of steps a desk's history has.
-use Rattle.std.specs.Prelude.{◌≡◌, ◌≢◌, ℕ, ◌+◌, ◌≤◌, List, [], ◌∷◌, ◌++◌, Some}
-use Rattle.blob_model.specs.Limits.{IsWithin}
+use Rattle.std.specs.Prelude.{◌≡◌, ℕ, List, [], Some}
+use Rattle.blob_model.specs.Limits.{Bounds, IsWithin}
 use Rattle.blob_model.specs.History.{store_of}
 use Rattle.blob_model.specs.declared.call.Event.{Event}
-use Rattle.blob_model.specs.declared.call.Event.TheVariants as Events
 use Rattle.tree_geom.specs.declared.node.Node.{Node}
 use Rattle.tree_geom.specs.declared.node.NodeKey.{NodeKey}
 use Rattle.tree_geom.specs.Geometry.{IsPageSize}
-use Rattle.range_log.specs.Updates.{extents}
-use Rattle.range_log.specs.Rows.{folds_of}
 use Rattle.blob_core.specs.World.{World, UpdateEntry, empty_world, page_at, node_at, kept_at, fold_at}
 use Rattle.blob_core.specs.Steps.{IsAllowed, AllAllowed, after, world_after, events_from}
 use Rattle.blob_core.specs.Standing.{IsReached}
 use Rattle.blob_core.specs.declared.step.Step.{Step}
 use Rattle.version_manager.specs.declared.journal.DeskFixed.{DeskFixed}
-use Rattle.version_manager.specs.Desks.{updates_in, published_in}
-use Rattle.version_manager.specs.Log.{IsLog, desk_at, events}
+use Rattle.version_manager.specs.Folds.{AreInOrder}
+use Rattle.version_manager.specs.Log.{IsLog, events}
 use Rattle.version_manager.specs.Origins.{parents_of}
 
 -- The world is one of the history of a desk with these fixed data: allowed steps lead to it from the empty world with the desk's limits, at
@@ -67,17 +64,10 @@ WorldsOnlyGrow = (f : DeskFixed) (history : List (ℕ × Event)) (w : World) (st
     → HasAllOf w (world_after f.page_size w steps)
 
 -- ---- which histories have a world
--- No update is finished that stores a page anew before the version before it is published.
-abbrev pub FoldsAreInOrder : DeskFixed → List (ℕ × Event) → Type 0
-FoldsAreInOrder f history =
-    (before later : List (ℕ × Event)) (by caller blob version : ℕ) → history ≡ before ++ (by, Events.Finish caller blob version) ∷ later
-    → folds_of f.page_size (extents (updates_in (desk_at f before) blob)) version ≢ [] → version ≤ published_in (desk_at f before) blob + 1
-
--- A history of a desk in which that is so has a world,
+-- Each history of a desk has a world: no update that stores a page anew is finished in it before the version before it is published.
 abbrev pub HistoriesHaveWorlds : Type 0
-HistoriesHaveWorlds = (f : DeskFixed) (history : List (ℕ × Event)) → IsWithin f.limits → IsPageSize f.page_size → IsLog f history → FoldsAreInOrder f history
-    → (w : World) × IsWorldOf f history w
+HistoriesHaveWorlds = (f : DeskFixed) (history : List (ℕ × Event)) → IsWithin f.limits → IsPageSize f.page_size → IsLog f history → (w : World) × IsWorldOf f history w
 
--- and no other history has one
-abbrev pub WorldsAreInOrder : Type 0
-WorldsAreInOrder = (f : DeskFixed) (history : List (ℕ × Event)) (w : World) → IsWorldOf f history w → FoldsAreInOrder f history
+-- No allowed steps make another history: in theirs finishes are in that order too.
+abbrev pub StepsAreInOrder : Type 0
+StepsAreInOrder = (p : ℕ) (limits : Bounds) (steps : List Step) → IsPageSize p → AllAllowed p (empty_world limits) steps → AreInOrder p limits (events_from p (empty_world limits) steps)

@@ -1,5 +1,5 @@
 //! What ties the acts of the program to the steps of a world. A law is the contract of a function that does nothing.
-ghost use Rattle.world_acts.specs.Worlds.{EmptyIsAWorld, WorldsAreReached, StoresAgree, LineagesAgree, WorldsOnlyGrow, HistoriesHaveWorlds, WorldsAreInOrder};
+ghost use Rattle.world_acts.specs.Worlds.{EmptyIsAWorld, WorldsAreReached, StoresAgree, LineagesAgree, WorldsOnlyGrow, HistoriesHaveWorlds, StepsAreInOrder};
 ghost use Rattle.world_acts.specs.Pages.{PagePutsAreSteps, NumbersGoOn};
 ghost use Rattle.world_acts.specs.Turns.{CreatesAreSteps, BranchesAreSteps, NumberingsAreSteps, FinishesAreSteps, LooksAreNoSteps, WaitingAreOwn};
 ghost use Rattle.world_acts.specs.Puts.{HintsStay, FoldPutsAreSteps, NodePutsAreSteps, FoldsFollow};
@@ -22,10 +22,10 @@ pub fn worlds_agree()
 /// What a world has stays in it as it is, whatever allowed steps follow: pages, the pages and hints of each update, pages that were stored
 /// anew, and nodes. So what one act put is there when a later act needs it, whoever acts between.
 ///
-/// And a history that has a world is one in which no update that stores a page anew is finished before the version before it is published.
+/// And no allowed steps finish an update that stores a page anew before the version before it is published.
 pub fn worlds_only_grow()
     ensures grow { WorldsOnlyGrow }
-    ensures in_order { WorldsAreInOrder }
+    ensures in_order { StepsAreInOrder }
 {
     blob_core::steps_hold();
     rows::links_name_nodes();
@@ -115,8 +115,8 @@ pub fn reads_are_steps()
     blob_model::laws::old_versions_stay();
 }
 
-/// Each history of a desk has a world, in which no update that stores a page anew is finished before the version before it is published. So what
-/// the other laws say of each world of a history is said of something, and `blob_core::steps_hold` speaks of each such history.
+/// Each history of a desk has a world. So what the other laws say of each world of a history is said of something, and `blob_core::steps_hold`
+/// speaks of each such history.
 pub fn histories_have_worlds()
     ensures { HistoriesHaveWorlds }
 {

@@ -4,6 +4,8 @@ use Rattle.boxcar.specs.Table.{Shelves}
 use Rattle.tree_weaver.specs.Woven.{IsWoven}
 use Rattle.client_session.proofs.Losses.{calm_repair}
 use Rattle.client_session.proofs.Opened.{may_finish_woven}
+use Rattle.client_session.proofs.Folding.{none_in_order}
+use Rattle.client_session.proofs.Finished.{starved}
 use Rattle.client_session.proofs.finishing.finish_by.Goals as goal
 
 pub report-requires-clause-may : goal.report-requires-clause-may
@@ -12,6 +14,10 @@ report-requires-clause-may g c =
     may_finish_woven f c.args.pass.now.seen c.args.ticket.now (arc_value c.in-Ok-Some.row) c.requires.ticket
     (subst (λ (n : List Shelves). IsWoven n f.houses c.args.ticket.now (arc_value c.in-Ok-Some.row)) c.nodes.ensures
     ((rw c.in-Ok-Some.field-0-is at c.in-Ok-Some.ensures.woven) f.houses c.requires.ticket.here.pages))
+    (none_in_order f c.args.pass.now.seen c.args.ticket.now c.requires.ticket.ticket (rw c.in-Ok-Some.field-0-is at c.in-Ok-Some.ensures.none_anew))
 
 pub returns-in-Ok-Some-clause-failed : goal.returns-in-Ok-Some-clause-failed
 returns-in-Ok-Some-clause-failed g c = calm_repair c.report.result _ c.report.ensures.calm
+
+pub returns-in-Err-clause-finishing : goal.returns-in-Err-clause-finishing
+returns-in-Err-clause-finishing g c = starved c.args.shared.now.fixed c.args.pass.now.caller c.args.pass.now.seen c.args.ticket.now.blob c.args.ticket.now.version

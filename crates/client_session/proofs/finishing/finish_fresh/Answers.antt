@@ -6,6 +6,7 @@ use Rattle.version_manager.specs.declared.journal.DeskFixed.{DeskFixed}
 use Rattle.request_form.specs.declared.form.Fault.{Fault}
 use Rattle.client_session.specs.Finishing.{Finishing}
 use Rattle.client_session.proofs.Finished.{look_failed, after_look, not_woven}
+use Rattle.client_session.proofs.Folding.{fresh_in_order}
 use Rattle.client_session.proofs.Losses.{anew_lost, calm_lost, calm_repair}
 use Rattle.client_session.proofs.Opened.{may_finish_woven}
 use Rattle.turn_lock.proofs.Histories.{begins_both}
@@ -28,7 +29,11 @@ returns-in-Err-woven_or_why-clause-finishing g c =
 
 pub report-requires-clause-may : goal.report-requires-clause-may
 report-requires-clause-may g c =
-    may_finish_woven c.args.shared.now.fixed c.fresh_ticket.new.pass.seen c.in-Ok.ticket (arc_value c.in-Ok-woven_or_why.row) c.in-Ok.ensures.looked.here c.in-Ok-woven_or_why.ensures.woven
+    let f = c.args.shared.now.fixed in
+    let seen = c.fresh_ticket.new.pass.seen in
+    let look = c.in-Ok.ensures.looked in
+    let woven = c.in-Ok-woven_or_why.ensures in
+    may_finish_woven f seen c.in-Ok.ticket (arc_value c.in-Ok-woven_or_why.row) look.here woven.woven (fresh_in_order f seen c.args.blob c.args.version c.in-Ok.ticket look.ticket woven.knows)
 
 pub returns-clause-finishing : goal.returns-clause-finishing
 returns-clause-finishing g c =

@@ -6,6 +6,7 @@ use Rattle.snapshot.specs.Versions.{Version}
 use Rattle.tree_weaver.specs.Woven.{IsWoven}
 use Rattle.client_session.proofs.Finished.{not_woven_by, risen_by}
 use Rattle.client_session.proofs.Losses.{weave_lost}
+use Rattle.std.proofs.Common.{inl, inr}
 use Rattle.client_session.proofs.finishing.woven_or_why.Goals as goal
 
 pub returns-in-Ok-Some-clause-woven : goal.returns-in-Ok-Some-clause-woven
@@ -29,3 +30,13 @@ returns-in-Err-woven-clause-risen g c =
 pub returns-in-Err-woven-clause-failed : goal.returns-in-Err-woven-clause-failed
 returns-in-Err-woven-clause-failed g c =
     rw c.fault_of_weaving.ensures (weave_lost c.in-Err-woven.fault _ (rw (← c.loads.ensures.providers, ← c.loads.ensures.replicas) c.in-Err-woven.ensures.failed))
+
+pub returns-in-Ok-Some-clause-knows : goal.returns-in-Ok-Some-clause-knows
+returns-in-Ok-Some-clause-knows g c = inl (rw c.in-Ok-Some.field-0-is at c.in-Ok-Some.ensures.none_anew)
+
+pub returns-in-Ok-clause-knows : goal.returns-in-Ok-clause-knows
+returns-in-Ok-clause-knows g c =
+    let t = c.args.ticket.now in
+    let published : c.version-published.result ≡ length t.snapshot.rows = c.version-published.ensures.count ∙ ap (λ (s : Version). length s.rows) c.hints.ensures.snapshot in
+    let next : length t.snapshot.rows + 1 ≡ t.version = omega (arith, published, c.version-version.ensures.version, c.version-version.ensures.stands.version, c.if-published-version.false) in
+    inr next

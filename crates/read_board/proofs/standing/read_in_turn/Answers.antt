@@ -13,7 +13,7 @@ pub returns-clause-turn : goal.returns-clause-turn
 returns-clause-turn g c =
     let x = c.read.ensures in
     subst (λ (said : Result (List ℕ × Way) Fault). ByTurn c.args.session.now c.args.blob c.args.version c.args.offset c.args.count said c.read.new.self c.args.steps.now c.read.new.steps) (sym c.by.ensures)
-    (turn_read c.args.session.now c.read.new.self c.args.blob c.args.version c.args.offset c.args.count c.read.result c.args.steps.now c.read.new.steps x.answers x.stays x.steps x.no_step)
+    (turn_read c.args.session.now c.read.new.self c.args.blob c.args.version c.args.offset c.args.count c.read.result c.args.steps.now c.read.new.steps x.answers x.stays x.steps x.no_step x.one_turn x.no_turn)
 
 pub returns-clause-faults : goal.returns-clause-faults
 returns-clause-faults g c =

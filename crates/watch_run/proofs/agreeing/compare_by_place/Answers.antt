@@ -33,6 +33,20 @@ returns-clause-stop g c =
     in
     place_stop t.fixed t.log r.list 1 last.version agrees r.has_place (x.kept.1 ∙ (c.learn.ensures.kept.1 ∙ c.requires.place)) c.learn.new.self.session r.session c.len-count.result last.bytes c.in-Err.fault _ _ x.goes c.len-count.ensures t.is_version.bytes_are t.is_version.few
 
+pub returns-in-Ok-clause-read : goal.returns-in-Ok-clause-read
+returns-in-Ok-clause-read g c =
+    let x = c.in-Ok.ensures in
+    let last = c.args.last.now in
+    let learnt = c.learn.ensures.kept in
+    let r = c.read.new.self in
+    record {
+      board = x.kept.0 ∙ learnt.0;
+      place = x.kept.1 ∙ learnt.1;
+      idles = subst (λ (s : SessionState _). Idles s r.session) learnt.2
+          (idles_goes c.sessions_own.ensures.gaps c.learn.new.self.session r.session x.goes_on 1 last.version 0 c.len-count.result (goes_by r.has_place r.list 1 last.version) _ _ _ x.goes);
+      rose = subst (λ (s : SessionState _). RoseBy 0 (sum_by g.D.Door.faults s.doors) (sum_by g.D.Door.faults r.session.doors)) learnt.2 x.faults;
+    }
+
 pub returns-clause-read : goal.returns-clause-read
 returns-clause-read g c =
     let x = c.in-Err.ensures in

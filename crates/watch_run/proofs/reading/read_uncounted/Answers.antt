@@ -5,6 +5,17 @@ use Rattle.read_board.specs.Reads.{goes_by}
 use Rattle.watch_run.proofs.Idling.{idles_goes}
 use Rattle.watch_run.proofs.reading.read_uncounted.Goals as goal
 
+pub returns-in-Ok-clause-read : goal.returns-in-Ok-clause-read
+returns-in-Ok-clause-read g c =
+    let x = c.in-Ok.ensures in
+    let r = c.read.new.self in
+    record {
+      board = x.kept.0;
+      place = x.kept.1;
+      idles = idles_goes c.sessions_own.ensures.gaps c.args.reader.now.session r.session x.goes_on 1 (c.args.op + 1) (16 * c.args.op) 16 (goes_by r.has_place r.list 1 (c.args.op + 1)) _ _ _ x.goes;
+      rose = x.faults;
+    }
+
 pub returns-clause-read : goal.returns-clause-read
 returns-clause-read g c =
     let x = c.in-Err.ensures in

@@ -1,6 +1,6 @@
 use Rattle.blob_core.proofs.Growing.{Cited}
 use Rattle.world_acts.proofs.Growing.{worlds_only_grow}
-use Rattle.world_acts.proofs.Ordering.{worlds_in_order}
+use Rattle.world_acts.proofs.Ordering.{steps_in_order}
 use Rattle.world_acts.proofs.laws.worlds_only_grow.Goals as goal
 
 pub returns : goal.returns
@@ -29,4 +29,4 @@ returns c =
       inner = c.visited_are_few.ensures.inner;
       bounded = c.visited_are_few.ensures.bounded;
     } in
-    record { grow = worlds_only_grow cited; in_order = worlds_in_order cited c.steps_hold.ensures.hold }
+    record { grow = worlds_only_grow cited; in_order = steps_in_order cited c.steps_hold.ensures.hold }

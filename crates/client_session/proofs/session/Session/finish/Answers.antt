@@ -1,4 +1,4 @@
-use Rattle.std.proofs.Common.{◌≡◌, sym, ◌∙◌, ap, subst, ◌<◌, List, length}
+use Rattle.std.proofs.Common.{◌≡◌, sym, ◌∙◌, ap, subst, ℕ, ◌<◌, List, length, IfOk}
 use Rattle.std.specs.Prelude.{remove}
 use Rattle.session_parts.specs.Tickets.{OpenUpdate, IsHeldAt}
 use Rattle.session_parts.proofs.HeldRows.{at_index}
@@ -7,6 +7,8 @@ use Rattle.client_session.specs.Sessions.{SessionState, longest}
 use Rattle.client_session.proofs.HeldFinishes.{finish_settled, finish_open}
 use Rattle.client_session.proofs.Losses.{settled_lost, held_lost}
 use Rattle.client_session.proofs.Holding.{holding_remove}
+use Rattle.client_session.specs.TurnCounts.{RowTurns}
+use Rattle.client_session.proofs.TurnCounts.{held_turns}
 use Rattle.client_session.proofs.session.Session.finish.Goals as goal
 
 pub invariant_of-self : goal.invariant_of-self
@@ -36,7 +38,7 @@ returns-then-is_settled-clause-answers g c =
     let i0 = c.self.inside in
     let m = c.finish_at-finished.new.self in
     let index = c.in-Some.index in
-    let v0 : SessionState g.row.D.Denot = record { store = i0.shared.now; caller = i0.pass.caller; log = i0.pass.seen; held = i0.held; next = i0.next; doors = i0.doors; limit = longest i0.limit } in
+    let v0 : SessionState g.row.D.Denot = record { store = i0.shared.now; caller = i0.pass.caller; log = i0.pass.seen; held = i0.held; next = i0.next; doors = i0.doors; limit = longest i0.limit; looks_first = i0.looks_first; turns = i0.pass.turns } in
     let all : (k : IsHeldAt v0.held c.args.ticket index) → IsOpen v0.store.fixed v0.log k.update =
     λ k. at_index (IsOpen i0.shared.now.fixed i0.pass.seen) i0.held index k.update k.is c.self.invariant.holding.open_ in
     let all' : (k : IsHeldAt v.held c.args.ticket index) → IsOpen v.store.fixed v.log k.update =
@@ -52,7 +54,7 @@ returns-else-is_settled-clause-answers g c =
     let i0 = c.self.inside in
     let m = c.finish_at-finished.new.self in
     let index = c.in-Some.index in
-    let v0 : SessionState g.row.D.Denot = record { store = i0.shared.now; caller = i0.pass.caller; log = i0.pass.seen; held = i0.held; next = i0.next; doors = i0.doors; limit = longest i0.limit } in
+    let v0 : SessionState g.row.D.Denot = record { store = i0.shared.now; caller = i0.pass.caller; log = i0.pass.seen; held = i0.held; next = i0.next; doors = i0.doors; limit = longest i0.limit; looks_first = i0.looks_first; turns = i0.pass.turns } in
     let all : (k : IsHeldAt v0.held c.args.ticket index) → IsOpen v0.store.fixed v0.log k.update =
     λ k. at_index (IsOpen i0.shared.now.fixed i0.pass.seen) i0.held index k.update k.is c.self.invariant.holding.open_ in
     let all' : (k : IsHeldAt v.held c.args.ticket index) → IsOpen v.store.fixed v.log k.update =
@@ -68,3 +70,16 @@ returns-else-is_settled-clause-failed g c =
     let v = c.args.self.now in
     let h : IsHeldAt v.held c.args.ticket c.in-Some.index = subst (λ (x : SessionState g.row.D.Denot). IsHeldAt x.held c.args.ticket c.in-Some.index) c.self.view_is c.in-Some.ensures in
     held_lost v.store c.finish_at-finished.new.self.log v.held c.args.ticket c.in-Some.index h _ _ c.finish_at-finished.result (c.finish_at-finished.ensures.failed h.update h.is)
+
+pub returns-then-is_settled-clause-held_turns : goal.returns-then-is_settled-clause-held_turns
+returns-then-is_settled-clause-held_turns g c =
+    let v = c.args.self.now in
+    let h : IsHeldAt v.held c.args.ticket c.in-Some.index = subst (λ (x : SessionState g.row.D.Denot). IsHeldAt x.held c.args.ticket c.in-Some.index) c.self.view_is c.in-Some.ensures in
+    held_turns v.held c.args.ticket c.in-Some.index h c.finish_at-finished.result v.turns c.self-2.inside.pass.turns
+    (subst (λ (n : ℕ). IfOk c.finish_at-finished.result (λ _. RowTurns h.update.row v.turns n)) (sym (ap (λ (s : SessionState g.row.D.Denot). s.turns) c.self-2.view_is)) (c.finish_at-finished.ensures.row_turns h.update h.is))
+
+pub returns-else-is_settled-clause-held_turns : goal.returns-else-is_settled-clause-held_turns
+returns-else-is_settled-clause-held_turns g c =
+    let v = c.args.self.now in
+    let h : IsHeldAt v.held c.args.ticket c.in-Some.index = subst (λ (x : SessionState g.row.D.Denot). IsHeldAt x.held c.args.ticket c.in-Some.index) c.self.view_is c.in-Some.ensures in
+    held_turns v.held c.args.ticket c.in-Some.index h c.finish_at-finished.result v.turns c.finish_at-finished.new.self.turns (c.finish_at-finished.ensures.row_turns h.update h.is)

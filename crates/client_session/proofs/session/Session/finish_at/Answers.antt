@@ -1,3 +1,4 @@
+use Rattle.client_session.proofs.Finished.{starved}
 use Rattle.client_session.proofs.Losses.{calm_repair}
 use Rattle.client_session.proofs.Standing.{session_after}
 use Rattle.client_session.proofs.session.Session.finish_at.Goals as goal
@@ -9,3 +10,6 @@ invariant_of-self g c =
 
 pub returns-in-Ok-Some-clause-failed : goal.returns-in-Ok-Some-clause-failed
 returns-in-Ok-Some-clause-failed g c = λ o is. calm_repair c.report.result _ c.report.ensures.calm
+
+pub returns-in-Err-clause-finishing : goal.returns-in-Err-clause-finishing
+returns-in-Err-clause-finishing g c = λ o is. starved c.args.self.now.store.fixed c.args.self.now.caller c.args.self.now.log o.ticket.blob o.ticket.version

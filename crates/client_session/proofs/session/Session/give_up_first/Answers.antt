@@ -94,10 +94,10 @@ returns-clause-given_up g c = λ t ts is.
     let kept : tickets_of i.held ≡ t ∷ ts = ap tickets_of held2 ∙ still in
     let left : tickets_of c.remove.new.self ≡ ts = ap tickets_of c.remove.ensures ∙ (tickets_of-remove i.held 0 ∙ ap (λ (hs : List HeldTicket). remove hs 0) kept) in
     let s' : Session = session_at i.shared.now.fixed i.pass.caller i.pass.seen c.remove.new.self i.next (longest i.limit) in
-    let by_mid : session_of (record { store = i.shared.now; caller = i.pass.caller; log = i.pass.seen; held = i.held; next = i.next; doors = i.doors; limit = longest i.limit }) ≡ session_of mid = ap (λ (s : SessionState g.row.D.Denot). session_of s) c.self-2.view_is in
+    let by_mid : session_of (record { store = i.shared.now; caller = i.pass.caller; log = i.pass.seen; held = i.held; next = i.next; doors = i.doors; limit = longest i.limit; looks_first = i.looks_first; turns = i.pass.turns }) ≡ session_of mid = ap (λ (s : SessionState g.row.D.Denot). session_of s) c.self-2.view_is in
     let gone : without_ticket (session_of mid).tickets t.number ≡ ts = left_first mid t ts still in
     let dropped : s' ≡ drops (session_of mid) t.number =
-    ap (λ (hs : List HeldTicket). with_those (session_of (record { store = i.shared.now; caller = i.pass.caller; log = i.pass.seen; held = i.held; next = i.next; doors = i.doors; limit = longest i.limit })) hs) (left ∙ sym gone)
+    ap (λ (hs : List HeldTicket). with_those (session_of (record { store = i.shared.now; caller = i.pass.caller; log = i.pass.seen; held = i.held; next = i.next; doors = i.doors; limit = longest i.limit; looks_first = i.looks_first; turns = i.pass.turns })) hs) (left ∙ sym gone)
     ∙ ap (λ (s : Session). with_those s (without_ticket (session_of mid).tickets t.number)) by_mid
     in
     one_dropped (session_of v) t ts is (finish_reply r) (session_of mid) answer told s' dropped
@@ -123,3 +123,24 @@ returns-clause-fewer g c =
     let kept : tickets_of i.held ≡ t ∷ ts = ap tickets_of held2 ∙ still in
     let left : tickets_of c.remove.new.self ≡ ts = ap tickets_of c.remove.ensures ∙ (tickets_of-remove i.held 0 ∙ ap (λ (hs : List HeldTicket). remove hs 0) kept) in
     fewer_held v.held c.remove.new.self t ts is left
+
+pub remove-requires : goal.remove-requires
+remove-requires g c =
+    let v = c.args.self.now in
+    let r = c.finish-finished.result in
+    let mid = c.finish-finished.new.self in
+    let held0 : c.self.inside.held ≡ v.held = ap (λ (s : SessionState g.row.D.Denot). s.held) c.self.view_is in
+    let first = some_held v.held c.requires.some in
+    let t : HeldTicket = first.0 in
+    let ts : List HeldTicket = first.1.0 in
+    let is : tickets_of v.held ≡ t ∷ ts = first.1.1 in
+    let number : c.number-number.result ≡ t.number = c.number-number.ensures ∙ first_number c.self.inside.held c.at.result.now t ts c.at.ensures (ap tickets_of held0 ∙ is) in
+    let answer : FinishAnswer AllOther (session_of v) t.number (ticket_at (session_of v).tickets t.number) (finish_reply r) (session_of mid) =
+    subst (λ (n : ℕ). FinishAnswer AllOther (session_of v) n (ticket_at (session_of v).tickets n) (finish_reply r) (session_of mid)) number c.finish-finished.ensures.answers
+    in
+    let told : tells_hindered (finish_reply r) ≡ true = sym c.is_hindered.ensures ∙ c.if-not-is_hindered.false in
+    let still : (session_of mid).tickets ≡ t ∷ ts = same_tickets (session_of v) t ts is (finish_reply r) (session_of mid) answer told in
+    let i = c.self-2.inside in
+    let held2 : i.held ≡ mid.held = ap (λ (s : SessionState g.row.D.Denot). s.held) c.self-2.view_is in
+    let kept : tickets_of i.held ≡ t ∷ ts = ap tickets_of held2 ∙ still in
+    some_left i.held t ts kept

@@ -37,7 +37,7 @@ tickets-preserved g c =
     let d = c.give_up_first-finished.new.self in
     let reply = finish_reply c.give_up_first-finished.result in
     subst (λ (n : GivenUpCounts). GivingUp g.D.Door.faults c.args.self.now d n) (sym c.with_one-counts.ensures)
-    (giving_more g.D.Door.faults c.giving_up_goes_on.ensures c.args.self.now b d (counts_of c.tickets.counts) reply t ts c.tickets.invariant is (x.given_up t ts is) x.fewer x.faults x.goes_on)
+    (giving_more g.D.Door.faults c.giving_up_goes_on.ensures c.args.self.now b d (counts_of c.tickets.counts) reply t ts c.tickets.invariant is (x.given_up t ts is) x.fewer x.faults x.goes_on x.turns)
 
 pub returns-clause-hung_up : goal.returns-clause-hung_up
 returns-clause-hung_up g c =

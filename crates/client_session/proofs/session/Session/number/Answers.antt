@@ -1,4 +1,4 @@
-use Rattle.std.proofs.Common.{◌≡◌, refl, sym, ◌∙◌, ap, subst, ℕ, ◌<◌, List, length, Option, Some, None, arith}
+use Rattle.std.proofs.Common.{◌≡◌, false, refl, sym, ◌∙◌, ap, subst, ℕ, ◌<◌, List, length, Option, Some, None, arith}
 use Rattle.std.proofs.lemmas.List.{length-map}
 use Rattle.blob_model.specs.History.{AllOther}
 use Rattle.blob_model.specs.declared.call.Event.{Event}
@@ -6,7 +6,7 @@ use Rattle.turn_lock.specs.Shown.{PassView}
 use Rattle.turn_lock.proofs.Histories.{begins_both}
 use Rattle.version_manager.specs.declared.journal.DeskFixed.{DeskFixed}
 use Rattle.request_form.specs.Session.{Session}
-use Rattle.request_form.specs.Answers.{UpdateAnswer, Unless, update_fault}
+use Rattle.request_form.specs.Answers.{AfterGap, UnnumberedTurn, Unless, update_fault}
 use Rattle.request_form.specs.declared.form.Fault.{Fault}
 use Rattle.request_form.specs.declared.form.Reply.{Reply}
 use Rattle.request_form.specs.declared.form.Reply.TheVariants as Replies
@@ -58,8 +58,8 @@ invariant_of-self-in-Ok-number_stored g c =
     (session_after g.D.Door.is_true i.shared.now mid new i.doors i.room i.held i.next
     (session_after g.D.Door.is_true i.shared.now i.pass mid i.doors i.room i.held i.next c.self.invariant w.pass w.went) c.number_stored.ensures.pass c.number_stored.ensures.went)
 
-pub invariant_of-self-2 : goal.invariant_of-self-2
-invariant_of-self-2 g c =
+pub invariant_of-self-in-Err-number_stored : goal.invariant_of-self-in-Err-number_stored
+invariant_of-self-in-Err-number_stored g c =
     let i = c.self.inside in
     let w = c.prepare.ensures in
     let mid = c.prepare.new.pass in
@@ -110,9 +110,9 @@ returns-clause-refused g c =
     (subst (λ (b : List ℕ). NotNumberedFor (bare fixed mid.caller mid.seen) c.args.blob c.args.place b fault (bare fixed mid.caller new.seen)) c.in-Ok.ensures.bytes c.in-Err-number_stored.ensures.refused)
     in
     let both : NotNumberedFor (bare fixed by i.pass.seen) c.args.blob c.args.place bytes fault (bare fixed by new.seen) =
-    not_numbered_both fixed by i.pass.seen mid.seen new.seen c.args.blob c.args.place bytes c.in-Ok.ensures.looked fault a in
-    let answer : UpdateAnswer AllOther s c.args.blob c.args.place bytes ⊥ (Replies.Refused fault) s' =
-    unnumbered_lifts s (bare fixed by new.seen) c.args.blob c.args.place bytes fault both in
+    not_numbered_both fixed by i.pass.seen mid.seen new.seen i.looks_first c.args.blob c.args.place bytes c.in-Ok.ensures.looked fault c.in-Err-number_stored.ensures.calm a in
+    let answer : AfterGap AllOther s (UnnumberedTurn s c.args.blob c.args.place bytes) (Replies.Refused fault) s' =
+    unnumbered_lifts s (bare fixed by new.seen) c.args.blob c.args.place bytes (Replies.Refused fault) both in
     rw (← c.self.view_is, same2) (not_said (update_fault s bytes) s (Replies.Refused fault) s' _ none answer)
 
 pub returns-in-Ok-number_stored-clause-numbered : goal.returns-in-Ok-number_stored-clause-numbered
@@ -130,25 +130,25 @@ returns-in-Ok-number_stored-clause-numbered g c =
     let none : update_fault s bytes ≡ None = sym (c.fault_of_update.ensures.fault s (sym c.bytes.ensures.is) tickets) ∙ c.in_default.is in
     let same1 : mid.caller ≡ by = ap (λ (p : PassView Event DeskFixed). p.caller) c.prepare.ensures.pass in
     let same2 : new.caller ≡ by = ap (λ (p : PassView Event DeskFixed). p.caller) c.number_stored.ensures.pass ∙ same1 in
-    let look : LookedAhead fixed by i.pass.seen c.args.blob c.args.place bytes None mid.seen = c.in-Ok.ensures.looked in
+    let look : LookedAhead fixed by i.pass.seen i.looks_first c.args.blob c.args.place bytes None mid.seen = c.in-Ok.ensures.looked in
     let n : Numbering fixed by mid.seen c.args.blob c.args.place bytes t new.seen =
     subst (λ (k : ℕ). Numbering fixed k mid.seen c.args.blob c.args.place bytes t new.seen) same1
     (subst (λ (b : List ℕ). Numbering fixed mid.caller mid.seen c.args.blob c.args.place b t new.seen) c.in-Ok.ensures.bytes c.in-Ok-number_stored.ensures.numbered)
     in
     let few : length i.held < 64 = let a = c.count.ensures.count in let b = c.count.ensures.few in let d = c.in_default.ensures.room in omega arith in
-    let made : WasNumbered (record { store = i.shared.now; caller = by; log = i.pass.seen; held = i.held; next = i.next; doors = i.doors; limit = limit }) c.args.blob c.args.place bytes t
-    (record { store = i.shared.now; caller = by; log = new.seen; held = i.held; next = i.next; doors = c.prepare.new.doors; limit = limit }) =
+    let made : WasNumbered (record { store = i.shared.now; caller = by; log = i.pass.seen; held = i.held; next = i.next; doors = i.doors; limit = limit; looks_first = i.looks_first; turns = i.pass.turns }) c.args.blob c.args.place bytes t
+    (record { store = i.shared.now; caller = by; log = new.seen; held = i.held; next = i.next; doors = c.prepare.new.doors; limit = limit; looks_first = false; turns = new.turns }) =
     record {
       others = _;
-      is_gap = both_others fixed by i.pass.seen mid.seen new.seen c.args.blob c.args.place bytes look t n;
+      is_gap = both_others fixed by i.pass.seen mid.seen new.seen i.looks_first c.args.blob c.args.place bytes look t n;
       taken = none;
-      outcome = both_outcome fixed by i.pass.seen mid.seen new.seen c.args.blob c.args.place bytes look t n i.held i.next limit;
-      seen = both_seen fixed by i.pass.seen mid.seen new.seen c.args.blob c.args.place bytes look t n i.held i.next limit;
+      outcome = both_outcome fixed by i.pass.seen mid.seen new.seen i.looks_first c.args.blob c.args.place bytes look t n i.held i.next limit;
+      seen = both_seen fixed by i.pass.seen mid.seen new.seen i.looks_first c.args.blob c.args.place bytes look t n i.held i.next limit;
       blob_is = n.blob_is;
       ticket = n.ticket;
       unfinished = n.unfinished;
       room = few;
-      drawn = both_longer fixed by i.pass.seen mid.seen new.seen c.args.blob c.args.place bytes look t n i.next c.self.invariant.holding.drawn;
+      drawn = both_longer fixed by i.pass.seen mid.seen new.seen i.looks_first c.args.blob c.args.place bytes look t n i.next c.self.invariant.holding.drawn;
     }
     in
     rw (← c.self.view_is, same2) made
@@ -172,8 +172,8 @@ returns-in-Err-clause-refused g c =
     let tickets : length s.tickets ≡ c.count.result = length-map i.held ticket_of ∙ sym c.count.ensures.count in
     let none : None ≡ update_fault s bytes = sym c.in_default.is ∙ c.fault_of_update.ensures.fault s (sym c.bytes.ensures.is) tickets in
     let same : mid.caller ≡ by = ap (λ (p : PassView Event DeskFixed). p.caller) c.prepare.ensures.pass in
-    let answer : UpdateAnswer AllOther s c.args.blob c.args.place bytes ⊥ (Replies.Refused fault) s' =
-    unnumbered_lifts s (bare fixed by mid.seen) c.args.blob c.args.place bytes fault c.in-Err.ensures.refused in
+    let answer : AfterGap AllOther s (UnnumberedTurn s c.args.blob c.args.place bytes) (Replies.Refused fault) s' =
+    unnumbered_lifts s (bare fixed by mid.seen) c.args.blob c.args.place bytes (Replies.Refused fault) c.in-Err.ensures.refused in
     rw (← c.self.view_is, same) (not_said (update_fault s bytes) s (Replies.Refused fault) s' _ none answer)
 
 pub returns-in-Ok-number_stored-clause-rest : goal.returns-in-Ok-number_stored-clause-rest
@@ -206,3 +206,15 @@ returns-clause-risen g c = rw (← c.self.view_is) (rose_none _ _ _ c.in-Err-num
 
 pub prepare-requires-clause-few : goal.prepare-requires-clause-few
 prepare-requires-clause-few g c = λ κs within. omega (arith, c.in_default.ensures.few, c.bytes.ensures.most)
+
+pub returns-in-Some-clause-lost_behind : goal.returns-in-Some-clause-lost_behind
+returns-in-Some-clause-lost_behind g c = calm_lost c.in-Some.fault _ c.in-Some.ensures.calm
+
+pub returns-clause-lost_behind : goal.returns-clause-lost_behind
+returns-clause-lost_behind g c = calm_lost c.in-Err-number_stored.fault _ c.in-Err-number_stored.ensures.calm
+
+pub returns-in-Err-clause-lost_behind : goal.returns-in-Err-clause-lost_behind
+returns-in-Err-clause-lost_behind g c = λ page is. rw (← c.self.view_is) (record { turns = c.prepare.ensures.turns; unseen = c.prepare.ensures.unseen })
+
+pub returns-in-Some-clause-looks : goal.returns-in-Some-clause-looks
+returns-in-Some-clause-looks g c = sym (c.in-Some.ensures.untried _)

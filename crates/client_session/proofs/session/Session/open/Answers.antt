@@ -34,4 +34,4 @@ returns-clause-opening g c =
     took c.gaps_are_of_others.ensures fixed i.pass new (λ before f after. Opened f c.args.blob c.args.version before by r after) c.self.invariant.pass_is.fixed (λ before after x. x.log) c.snapshot_of.ensures.turned
     in
     let same : new.caller ≡ by = ap (λ (p : Seat Event DeskFixed). p.caller) c.snapshot_of.ensures.pass in
-    rw (← c.self.view_is, same, c.opened.ensures.is) (opening_told (record { store = i.shared.now; caller = by; log = i.pass.seen; held = i.held; next = i.next; doors = i.doors; limit = longest i.limit }) new.seen c.args.blob c.args.version r t)
+    rw (← c.self.view_is, same, c.snapshot_of.ensures.one_turn, c.opened.ensures.is) (opening_told (record { store = i.shared.now; caller = by; log = i.pass.seen; held = i.held; next = i.next; doors = i.doors; limit = longest i.limit; looks_first = i.looks_first; turns = i.pass.turns }) new.seen c.args.blob c.args.version r t)

@@ -14,7 +14,7 @@ loop-init g c = waits_start c.args.self.now
 pub loop-preserved : goal.loop-preserved
 loop-preserved g c =
     let e = c.sync-outcome.ensures in
-    waits_on c.args.self.now c.loop.self c.sync-outcome.new.self (Calls.Sync c.args.blob c.args.version) (reply_of c.sync-outcome.result) c.loop.invariant e.answers e.rest e.goes_on.begins
+    waits_on c.args.self.now c.loop.self c.sync-outcome.new.self (Calls.Sync c.args.blob c.args.version) (reply_of c.sync-outcome.result) c.loop.invariant e.answers e.rest e.one_turn e.goes_on.begins
 
 pub returns-then-not-is_pending-clause-answers : goal.returns-then-not-is_pending-clause-answers
 returns-then-not-is_pending-clause-answers g c =

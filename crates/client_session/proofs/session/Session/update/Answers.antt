@@ -1,4 +1,11 @@
-use Rattle.std.proofs.Common.{◌≡◌, sym, ◌∙◌, ap, subst, [], None, append-nil, arith}
+use Rattle.std.proofs.Common.{◌≡◌, Bool, false, sym, ◌∙◌, ap, subst, ℕ, ◌+◌, List, [], ◌++◌, length, None, append-nil, arith}
+use Rattle.blob_model.specs.History.{store_of}
+use Rattle.blob_model.specs.declared.call.Event.{Event}
+use Rattle.version_manager.specs.Log.{events}
+use Rattle.version_manager.specs.declared.journal.DeskFixed.{DeskFixed}
+use Rattle.request_form.specs.Answers.{folds_in}
+use Rattle.client_session.specs.TurnCounts.{UpTo, FoldTurns, numbering_turns}
+use Rattle.client_session.proofs.TurnCounts.{finish_by_folds, none_done, not_done_turns}
 use Rattle.std.specs.Prelude.{sum_by}
 use Rattle.border_hints.specs.Numbered.{NumberedUpdate}
 use Rattle.session_parts.specs.Tickets.{OpenUpdate}
@@ -101,3 +108,61 @@ keep-requires-clause-drawn g c =
     let e = c.in-Err-finish_by.ensures in
     let longer = longer_log c.number.new.self.log c.finish_by.new.self.log e.goes_on.begins in
     omega (arith, c.in-Ok.ensures.numbered.drawn, ap (λ (x : SessionState g.row.D.Denot). x.next) e.rest, longer)
+
+pub returns-in-Ok-finish_by-clause-done_turns : goal.returns-in-Ok-finish_by-clause-done_turns
+returns-in-Ok-finish_by-clause-done_turns g c =
+    let s = c.args.self.now in
+    let mid = c.number.new.self in
+    let m = c.finish_by.new.self in
+    let n = c.in-Ok.ensures.numbered in
+    let t : NumberedUpdate = c.in-Ok.ticket in
+    let e = c.in-Ok-finish_by.ensures in
+    let f : DeskFixed = mid.store.fixed in
+    let v : ℕ = c.version.result in
+    let o : OpenUpdate = record { number = m.next; ticket = t; row = None } in
+    let open_ : IsOpen f m.log o = open_stays f mid.log m.log o e.goes_on.begins (record { some = n.unfinished.some; ticket = n.ticket.ticket; row = tt }) in
+    let there : folds_in f.page_size (store_of f.limits (events m.log)) t.blob t.version ≡ folds_in m.store.fixed.page_size (store_of m.store.fixed.limits (events m.log ++ [])) c.args.blob v =
+    ap (λ (b : ℕ). folds_in f.page_size (store_of f.limits (events m.log)) b t.version) n.blob_is
+    ∙ (ap (λ (k : ℕ). folds_in f.page_size (store_of f.limits (events m.log)) c.args.blob k) (sym c.version.ensures.version)
+    ∙ (ap (λ (l : List Event). folds_in f.page_size (store_of f.limits l) c.args.blob v) (sym (append-nil (events m.log)))
+    ∙ ap (λ (st : StoreState). folds_in st.fixed.page_size (store_of st.fixed.limits (events m.log ++ [])) c.args.blob v) (sym e.goes_on.store)))
+    in
+    let before : ℕ = s.turns + numbering_turns s.looks_first s.store.fixed.page_size (length c.args.bytes.now) in
+    let numbered : mid.turns ≡ before = c.in-Ok.ensures.turns in
+    subst (λ (l : List ℕ). FoldTurns l before m.turns) there
+    (subst (λ (b : ℕ). FoldTurns (folds_in f.page_size (store_of f.limits (events m.log)) t.blob t.version) b m.turns) numbered
+    (finish_by_folds f m.log t mid.turns m.turns open_.some open_.ticket e.finish_turns))
+
+pub returns-in-Err-finish_by-clause-done_turns : goal.returns-in-Err-finish_by-clause-done_turns
+returns-in-Err-finish_by-clause-done_turns g c = none_done c.keep.result _ _ _ _ c.keep.ensures.not_done
+
+pub returns-in-Err-finish_by-clause-turns : goal.returns-in-Err-finish_by-clause-turns
+returns-in-Err-finish_by-clause-turns g c =
+    let s = c.args.self.now in
+    let mid = c.number.new.self in
+    let m = c.finish_by.new.self in
+    let s' = c.keep.new.self in
+    let n = c.in-Ok.ensures.numbered in
+    let t : NumberedUpdate = c.in-Ok.ticket in
+    let k = kept s mid c.args.blob c.args.place c.args.bytes.now t n m c.in-Err-finish_by.ensures.rest c.keep.result s' 0 0 c.in-Err-finish_by.fault c.in-Err-finish_by.ensures.finishing c.keep.ensures.kept in
+    let turns : s'.turns ≡ m.turns = ap (λ (x : SessionState g.row.D.Denot). x.turns) k.same in
+    let numbered : mid.turns ≡ s.turns + numbering_turns s.looks_first s.store.fixed.page_size (length c.args.bytes.now) = c.in-Ok.ensures.turns in
+    not_done_turns c.keep.result _ s.turns mid.turns s'.turns c.keep.ensures.not_done numbered (subst (λ (after : ℕ). UpTo 2 mid.turns after) (sym turns) c.in-Err-finish_by.ensures.turns)
+
+pub returns-in-Err-finish_by-clause-lost_behind : goal.returns-in-Err-finish_by-clause-lost_behind
+returns-in-Err-finish_by-clause-lost_behind g c = calm_result c.keep.result _ c.keep.ensures.calm
+
+pub returns-in-Ok-finish_by-clause-looks : goal.returns-in-Ok-finish_by-clause-looks
+returns-in-Ok-finish_by-clause-looks g c = ap (λ (x : SessionState g.row.D.Denot). x.looks_first) c.in-Ok-finish_by.ensures.rest ∙ c.in-Ok.ensures.looks
+
+pub returns-in-Err-finish_by-clause-looks : goal.returns-in-Err-finish_by-clause-looks
+returns-in-Err-finish_by-clause-looks g c =
+    let s = c.args.self.now in
+    let mid = c.number.new.self in
+    let m = c.finish_by.new.self in
+    let s' = c.keep.new.self in
+    let n = c.in-Ok.ensures.numbered in
+    let t : NumberedUpdate = c.in-Ok.ticket in
+    let k = kept s mid c.args.blob c.args.place c.args.bytes.now t n m c.in-Err-finish_by.ensures.rest c.keep.result s' 0 0 c.in-Err-finish_by.fault c.in-Err-finish_by.ensures.finishing c.keep.ensures.kept in
+    let stays : m.looks_first ≡ false = ap (λ (x : SessionState g.row.D.Denot). x.looks_first) c.in-Err-finish_by.ensures.rest ∙ c.in-Ok.ensures.looks in
+    ap (λ (x : SessionState g.row.D.Denot). x.looks_first) k.same ∙ (stays ∙ sym (k.taken s.looks_first))

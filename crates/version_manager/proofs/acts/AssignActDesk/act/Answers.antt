@@ -25,6 +25,6 @@ returns-clause-gives c =
     let event = Events.Assign c.args.caller blob place bytes in
     let ws = λ (t : NumberedUpdate). windows_with d blob (with_numbered (window_in d blob) (own_touch t)) in (
       changed d d' event r ws done.new done.same (Calls.Assign blob place bytes) c.args.caller (λ (t : NumberedUpdate). Outcomes.Assigned t.version t.at t.size) (λ (fault : DeskFault). fault)
-          before.legal before.short after.legal after.short done.assigned done.refused done.memory,
+          before.legal before.short before.in_order after.legal after.short after.in_order done.assigned done.refused done.memory,
       new_ticket d d' c.args.caller blob pages r (fixed_stays d d' event r ws done.new done.same) done.numbering done.pages done.hints done.ticket done.unfinished,
     )

@@ -19,4 +19,4 @@ returns-clause-gives c =
     let after = c.stands-2.ensures in
     changed d c.branch-branched.new.self (Events.Branch c.args.caller blob version) c.branch-branched.result
     (λ (id : ℕ). windows_and d (window_on (under_blob (older_version (version_of (window_in d blob)) version) id))) done.new done.same
-    (Calls.Branch blob version) c.args.caller (λ (id : ℕ). Outcomes.Blob id) (λ (fault : DeskFault). fault) before.legal before.short after.legal after.short done.blob done.refused done.memory
+    (Calls.Branch blob version) c.args.caller (λ (id : ℕ). Outcomes.Blob id) (λ (fault : DeskFault). fault) before.legal before.short before.in_order after.legal after.short after.in_order done.blob done.refused done.memory

@@ -16,4 +16,4 @@ returns-clause-gives c =
     let after = c.stands-2.ensures in
     changed d c.create-created.new.self (Events.Create c.args.caller) c.create-created.result
     (λ (blob : ℕ). windows_and d (window_on record { blob = blob; page_size = d.page_size; rows = [] })) done.new done.same
-    Calls.Create c.args.caller (λ (blob : ℕ). Outcomes.Blob blob) (λ (fault : DeskFault). fault) before.legal before.short after.legal after.short done.blob done.refused done.memory
+    Calls.Create c.args.caller (λ (blob : ℕ). Outcomes.Blob blob) (λ (fault : DeskFault). fault) before.legal before.short before.in_order after.legal after.short after.in_order done.blob done.refused done.memory

@@ -10,7 +10,7 @@ use Rattle.version_manager.specs.Desks.{OnNoMemory, store_now, outcome_now, wind
 use Rattle.version_manager.proofs.Finishing.{finish_goes}
 use Rattle.version_manager.proofs.Looking.{on_no_memory}
 use Rattle.version_manager.proofs.Results.{if_err}
-use Rattle.version_manager.proofs.Turns.{adds, changed, fixed_stays, finishes, ticket_here, row_here}
+use Rattle.version_manager.proofs.Turns.{adds, changed, fixed_stays, finishes, ticket_here, row_here, order_here}
 use Rattle.version_manager.proofs.acts.FinishActDesk.act.Goals as goal
 
 pub finish-finished-requires-clause-ticket : goal.finish-finished-requires-clause-ticket
@@ -18,6 +18,9 @@ finish-finished-requires-clause-ticket c = ticket_here c.args.state.now c.args.s
 
 pub finish-finished-requires-clause-row : goal.finish-finished-requires-clause-row
 finish-finished-requires-clause-row c = row_here c.args.state.now c.args.self.ticket.now _ c.requires.row_for
+
+pub finish-finished-requires-clause-in_order : goal.finish-finished-requires-clause-in_order
+finish-finished-requires-clause-in_order c = order_here c.args.state.now c.args.self.ticket.now c.requires.in_order
 
 pub returns-clause-gives : goal.returns-clause-gives
 returns-clause-gives c =
@@ -35,7 +38,7 @@ returns-clause-gives c =
     let goes = finish_goes (store_now d) c.args.caller t.blob t.version (blob_at (store_now d) t.blob) refl (omega (arith, c.stands-3.ensures.version)) ticket.numbered in
     let memory = if_err r _ (λ e. OnNoMemory e.0 (is_refused (outcome_now d c.args.caller (Calls.Finish t.blob t.version)) ≡ false)) (λ e h. on_no_memory e.0 _ _ goes h) done.waits in (
       changed d d' event r ws done.new same (Calls.Finish t.blob t.version) c.args.caller (λ (published : ℕ). Outcomes.Published published) (λ e. e.0)
-          before.legal before.short after.legal after.short done.published done.refused memory,
+          before.legal before.short before.in_order after.legal after.short after.in_order done.published done.refused memory,
       finishes d d' t c.args.self.row r (fixed_stays d d' event r ws done.new same) done.unfinished done.finished done.already done.waits (if_err r _ (λ e. e.1 ≡ c.args.self.row) (λ e h. h.0) done.same),
     )
 

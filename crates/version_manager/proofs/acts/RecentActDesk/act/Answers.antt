@@ -4,4 +4,4 @@ use Rattle.version_manager.proofs.acts.RecentActDesk.act.Goals as goal
 
 pub returns-clause-gives : goal.returns-clause-gives
 returns-clause-gives c =
-    looked c.args.state.now (Calls.Recent c.args.self.blob) c.args._caller c.recent.result c.stands.ensures.legal c.stands.ensures.short c.recent.ensures
+    looked c.args.state.now (Calls.Recent c.args.self.blob) c.args._caller c.recent.result c.stands.ensures.legal c.stands.ensures.short c.stands.ensures.in_order c.recent.ensures

@@ -4,4 +4,4 @@ use Rattle.version_manager.proofs.acts.SyncActDesk.act.Goals as goal
 
 pub returns-clause-gives : goal.returns-clause-gives
 returns-clause-gives c =
-    looked c.args.state.now (Calls.Sync c.args.self.blob c.args.self.version) c.args._caller c.sync.result c.stands.ensures.legal c.stands.ensures.short c.sync.ensures
+    looked c.args.state.now (Calls.Sync c.args.self.blob c.args.self.version) c.args._caller c.sync.result c.stands.ensures.legal c.stands.ensures.short c.stands.ensures.in_order c.sync.ensures

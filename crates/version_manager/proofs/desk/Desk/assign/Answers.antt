@@ -28,6 +28,7 @@ use Rattle.version_manager.proofs.Looking.{on_no_memory}
 use Rattle.version_manager.proofs.Hints.{has_hints}
 use Rattle.version_manager.proofs.Houses.{AreRowsIn, numbered_in, window_lies}
 use Rattle.version_manager.proofs.Origins.{numbered_under, origins_at, origins_set, origins_after, version_under}
+use Rattle.version_manager.proofs.Orders.{order_more}
 use Rattle.version_manager.proofs.desk.Desk.assign.Goals as goal
 
 pub ticket_over-requires-clause-kept : goal.ticket_over-requires-clause-kept
@@ -171,6 +172,7 @@ invariant_of-self-2 c =
       lies = All-set (AreRowsIn nodes houses) d.windows.items c.in-Some.index c.number.new.self now c.self.invariant.lies;
       origins = origins_after h _ e _ _ history placed (origins_set (parents_of h) d.windows.items c.self.invariant.origins blob c.number.new.self x.some own);
       short = short_yet d.history.items c.push_reserved.new.self.items entry (c.push_reserved.ensures.items ∙ ap (λ (l : List Entry). l ++ entry ∷ []) c.make_room.ensures.items) c.in-Ok-make_room.ensures.short;
+      in_order = order_more d.page_size d.limits h _ e history c.self.invariant.in_order tt;
     }
 
 pub returns-clause-assigned : goal.returns-clause-assigned

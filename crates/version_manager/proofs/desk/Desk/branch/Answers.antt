@@ -24,6 +24,7 @@ use Rattle.version_manager.proofs.Waits.{waits_made}
 use Rattle.version_manager.proofs.NewBlobs.{branch_ahead, branch_full, branch_outcome, branch_keeps}
 use Rattle.version_manager.proofs.Houses.{AreRowsIn, branch_in_houses, window_lies}
 use Rattle.version_manager.proofs.Origins.{branch_under, origins_at, origins_pushed, origins_after}
+use Rattle.version_manager.proofs.Orders.{order_more}
 use Rattle.version_manager.proofs.desk.Desk.branch.Goals as goal
 
 pub returns-then-version-published-clause-refused : goal.returns-then-version-published-clause-refused
@@ -95,6 +96,7 @@ invariant_of-self-2 c =
       lies = subst A (sym c.in-Ok-add.ensures.windows) (All-push (AreRowsIn nodes houses) d.windows.items w c.self.invariant.lies new);
       origins = origins_after h _ (Events.Branch c.args.caller blob version) _ _ history c.in-Ok-add.ensures.windows (origins_pushed (parents_of h) ws k (Some parent) w own);
       short = short_yet d.history.items _ _ c.in-Ok-add.ensures.history c.in-Ok-add.ensures.short;
+      in_order = order_more d.page_size d.limits h _ (Events.Branch c.args.caller blob version) history c.self.invariant.in_order tt;
     }
 
 pub returns-clause-blob : goal.returns-clause-blob

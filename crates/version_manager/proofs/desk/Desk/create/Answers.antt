@@ -21,6 +21,7 @@ use Rattle.version_manager.proofs.Waits.{waits_made}
 use Rattle.version_manager.proofs.NewBlobs.{create_refused, create_outcome, create_keeps}
 use Rattle.version_manager.proofs.Houses.{AreRowsIn, none_in}
 use Rattle.version_manager.proofs.Origins.{none_under, origins_pushed, origins_after}
+use Rattle.version_manager.proofs.Orders.{order_more}
 use Rattle.version_manager.proofs.desk.Desk.create.Goals as goal
 
 pub returns-then-count-limit-clause-refused : goal.returns-then-count-limit-clause-refused
@@ -55,6 +56,7 @@ invariant_of-self-2 c =
       lies = subst A (sym c.in-Ok-add.ensures.windows) (All-push (AreRowsIn (arc_value d.nodes) (arc_value d.houses)) d.windows.items w c.self.invariant.lies new);
       origins = origins_after h _ (Events.Create c.args.caller) _ _ history c.in-Ok-add.ensures.windows (origins_pushed (parents_of h) d.windows.items k None w own);
       short = short_yet d.history.items _ _ c.in-Ok-add.ensures.history c.in-Ok-add.ensures.short;
+      in_order = order_more d.page_size d.limits h _ (Events.Create c.args.caller) history c.self.invariant.in_order tt;
     }
 
 pub returns-clause-blob : goal.returns-clause-blob

@@ -13,11 +13,12 @@ use Rattle.node_store.specs.UpdateRows.{IsRowIn}
 use Rattle.publisher.specs.Windows.{Numbered, published_of, with_finished}
 use Rattle.version_manager.specs.declared.entry.Entry.{Entry}
 use Rattle.version_manager.specs.declared.entry.Change.TheVariants as Changes
-use Rattle.version_manager.specs.Desks.{DeskState, no_window, updates_or_none, finished_or_not, is_finished_in, with_event, window_in, windows_with, IsTicketOf, IsRowFor}
+use Rattle.version_manager.specs.Desks.{DeskState, store_now, no_window, updates_or_none, finished_or_not, is_finished_in, with_event, window_in, windows_with, IsTicketOf, IsRowFor}
 use Rattle.version_manager.specs.Entries.{event_of}
 use Rattle.version_manager.specs.DeskInvariant.{KeepsDesk, AreWaiting}
 use Rattle.version_manager.specs.declared.waiting.WaitingUpdate.{WaitingUpdate}
 use Rattle.version_manager.proofs.Waits.{finish_passes, published_wait, waits_changed, waits_found}
+use Rattle.version_manager.specs.Folds.{IsInOrder}
 use Rattle.version_manager.specs.Origins.{parents_of, AreUnder}
 use Rattle.version_manager.proofs.Blobs.{finish_kept, published_is, assigned_is, finished_is}
 use Rattle.version_manager.proofs.Desks.{pushed_event, short_yet}
@@ -25,6 +26,7 @@ use Rattle.version_manager.proofs.Numbering.{even_of}
 use Rattle.version_manager.proofs.Finishing.{ticket_place, ticket_mark, finishable, finished_true, finish_already, finish_outcome, finish_keeps, finish_there}
 use Rattle.version_manager.proofs.Houses.{AreRowsIn, finished_in, window_lies}
 use Rattle.version_manager.proofs.Origins.{finished_under, unfinished_none, origins_at, origins_set, origins_after}
+use Rattle.version_manager.proofs.Orders.{order_more}
 use Rattle.version_manager.proofs.desk.Desk.finish.Goals as goal
 
 pub is_finished-requires : goal.is_finished-requires
@@ -213,12 +215,16 @@ invariant_of-self-in-Ok-finish c =
     let V : Numbered → Type 0 = λ x. AreWaiting d.page_size houses b.updates x (drop n list) in
     let X : List WaitingUpdate → Type 0 = λ l. AreWaiting d.page_size houses b.updates c.finish.new.self l in
     let there' = finish_there d.limits d.page_size h ws c.self.invariant.kept blob c.args.caller v f.at.found waits in
+    let I : ℕ → ℕ → Type 0 = λ i n. IsInOrder d.page_size (store_of d.limits h) i n in
+    let S : DeskState → Type 0 = λ s. IsInOrder s.page_size (store_now s) t.blob t.version in
+    let in_order : I blob v = subst (λ (i : ℕ). I i v) (sym on) (subst (λ (n : ℕ). I t.blob n) (sym is) (subst S (sym c.self.view_is) c.requires.in_order)) in
     record {
       kept = subst R (sym c.in-Ok-finish.ensures.finished) (subst P (sym history) keeps);
       waits = waits_changed d.limits d.page_size houses ws d.waiting.items h _ (Events.Finish c.args.caller blob v) blob (blob - 1) (blob - 1) c.finish.new.self c.drop_first.new.self b.updates history refl refl f.at.some c.self.invariant.waits (ap updates_or_none there') (subst X (sym c.drop_first.ensures) (subst V (sym c.in-Ok-finish.ensures.finished) left));
       lies = All-set (AreRowsIn nodes houses) ws (blob - 1) c.finish.new.self now c.self.invariant.lies;
       origins = origins_after h _ (Events.Finish c.args.caller blob v) _ _ history refl (origins_set (parents_of h) ws c.self.invariant.origins blob c.finish.new.self f.at.some own);
       short = short_yet d.history.items c.push_reserved.new.self.items entry (c.push_reserved.ensures.items ∙ ap (λ (l : List Entry). l ++ entry ∷ []) c.make_room.ensures.items) c.in-Ok.ensures.short;
+      in_order = order_more d.page_size d.limits h _ (Events.Finish c.args.caller blob v) history c.self.invariant.in_order in_order;
     }
 
 pub returns-in-Ok-finish-clause-published : goal.returns-in-Ok-finish-clause-published
