@@ -1,6 +1,5 @@
 //! Tests of sessions that a script or a frame can't show: the node steps of reads, snapshots that are held open, sessions that wait for
-//! one another or finish one update at once, and sixteen on threads; what each is told while others go on, and what the store then
-//! holds. Each test shows the same under every schedule.
+//! one another or finish one update at once: what each is told while others go on. Each test shows the same under every schedule.
 #![tactic(auto)]
 
 #[cfg(test)]
@@ -11,8 +10,6 @@ mod hanging_up;
 mod parts;
 #[cfg(test)]
 mod repairing;
-#[cfg(test)]
-mod sharing;
 #[cfg(test)]
 mod store;
 #[cfg(test)]

@@ -1,25 +1,20 @@
 //! Sixteen sessions on threads that append, write, branch and read over three blobs, most of them small parts of one page. Each reads
 //! back what it wrote, and what all were told agrees with the updates played again, and with what the store holds in the end. And
 //! sixteen that leave updates open, and finish those of others.
-mod client;
-mod replay;
-mod script;
-
 ghost use Rattle.std.specs.Prelude.{◌≡◌};
 ghost use Rattle.client_session.specs.Sessions.{IsOwnerOf};
 
-use crate::calls::{recent, status};
-use crate::sharing::client::{Client, Member, Note};
-use crate::sharing::replay::{check_history, sizes_agree};
-use crate::sharing::script::{BASE, CLIENTS, Manner, sum_of};
-use crate::store::store_of;
-use blob_model::Place;
+use crate::client::{Client, Member, Note};
+use crate::replay::{check_history, sizes_agree};
+use crate::script::{BASE, CLIENTS, Manner, sum_of};
+use blob_model::{Limits, Place};
 use client_session::{Owner, Shared};
 use std::alloc::Global;
 use std::process::Abort;
 use std::sync::Wait;
 use std::thread;
 use std::thread::Threads;
+use tree_geom::PageSize;
 
 // Makes the three blobs, each with its first version.
 fn make_blobs<R: Threads + Wait + Sync + Abort>(rt: &R, founder: &mut Member<'_>) {
@@ -123,9 +118,9 @@ fn check_blob<R: Wait + Abort>(
 ) -> u64 {
     let sum = sum_of(blob);
     check_history(rt, alloc, notes, blob, sum.last);
-    let ended = status(rt, &mut reader.session, blob);
+    let ended = reader.status(rt, blob);
     assert_eq!(rt; ended, Some((sum.last, sum.last, 0)));
-    let newest = recent(rt, &mut reader.session, blob);
+    let newest = reader.recent(rt, blob);
     assert_eq!(rt; newest, Some((sum.last, sum.size as u64)));
     sum.branches
 }
@@ -149,7 +144,7 @@ fn check_store<R: Wait + Abort>(
 // Whether a branch has no update but the one of its note.
 fn ends_there<R: Wait>(rt: &R, reader: &mut Member<'_>, note: &Note) -> bool {
     let version = note.done.version;
-    status(rt, &mut reader.session, note.blob) == Some((version, version, 0))
+    reader.status(rt, note.blob) == Some((version, version, 0))
 }
 
 // How many notes are of branches, each of which has no other update.
@@ -188,18 +183,20 @@ fn check_shared<R: Threads + Wait + Sync + Abort>(
     (branches, check_branches(rt, founder, notes.as_slice()))
 }
 
-// The same over a new store; and whether it has a blob behind the branches that the notes tell of.
+// The same over a new store, with pages of 4 bytes, three providers and two replicas of each page; and whether it has a blob behind the branches that the notes tell of.
 fn shared_by_all<R: Threads + Wait + Sync + Abort>(
     rt: &R,
     alloc: Global,
     manner: Manner,
 ) -> (u64, u64, bool) {
-    let (shared, mut owner) = store_of(rt, alloc, 4);
+    let page_size = PageSize::new(4).expect(rt, "a page size");
+    let made = Shared::new(alloc, Limits::greatest(), page_size, 3, 2);
+    let (shared, mut owner) = made.expect(rt, "memory");
     let mut founder = Member::new(rt, alloc, &shared, &mut owner);
     make_blobs(rt, &mut founder);
     let clients = clients_of(rt, alloc, &shared, &mut owner);
     let (branches, told) = check_shared(rt, alloc, &mut founder, clients, manner);
-    let next = recent(rt, &mut founder.session, told.saturating_add(4));
+    let next = founder.recent(rt, told.saturating_add(4));
     (branches, told, next.is_some())
 }
 

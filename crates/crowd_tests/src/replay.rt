@@ -1,7 +1,7 @@
 //! The history that the notes of all clients tell, played again over flat bytes.
 
-use crate::sharing::client::Note;
-use crate::sharing::script::BASE;
+use crate::client::Note;
+use crate::script::BASE;
 use blob_model::{Outcome, Place};
 use client_session::Session;
 use page_store::PlainDoor;

@@ -1,11 +1,11 @@
 //! A client of a shared store, and what it was told.
 ghost use Rattle.client_session.specs.Sessions.{IsOwnerOf};
 
-use crate::sharing::script::{BASE, Dice, MOST, Manner, Next, STEPS, Step};
-use crate::store::new_session;
+use crate::script::{BASE, Dice, MOST, Manner, Next, STEPS, Step};
 use blob_model::{Bytes, Outcome, Place};
 use client_session::{Done, Owner, Session, Shared, Started, Updated};
-use page_store::PlainDoor;
+use page_fan::Doors;
+use page_store::{PlainDoor, PlainMaker};
 use ports::gate::FreeGate;
 use request_form::{Fault, Reply, Request, Service};
 use std::alloc::Global;
@@ -30,8 +30,32 @@ impl<'a> Member<'a> {
         requires owner { IsOwnerOf shared.now owner.old }
         ensures { IsOwnerOf shared.now owner.new }
     {
+        let doors = Doors::new(alloc, &mut PlainMaker::new(), shared.providers());
+        let doors = doors.expect(rt, "memory");
+        let pass = shared.pass(owner).expect(rt, "a pass");
+        let made = Session::new(alloc, shared, &FreeGate, pass, doors);
         Member {
-            session: new_session(rt, alloc, shared, owner, &FreeGate),
+            session: made.ok().expect(rt, "memory"),
+        }
+    }
+
+    /// The greatest published version of a blob, and its size.
+    pub(crate) fn recent<R: Wait>(&mut self, rt: &R, blob: u64) -> Option<(u64, u64)> {
+        match self.session.recent(rt, blob) {
+            Outcome::Recent { version, size } => Some((version, size)),
+            _ => None,
+        }
+    }
+
+    /// The last numbered version of a blob, the greatest published one, and the least unfinished one or 0.
+    pub(crate) fn status<R: Wait>(&mut self, rt: &R, blob: u64) -> Option<(u64, u64, u64)> {
+        match self.session.status(rt, blob) {
+            Outcome::Status {
+                assigned,
+                published,
+                held,
+            } => Some((assigned, published, held)),
+            _ => None,
         }
     }
 
