@@ -1,39 +1,40 @@
 #!/usr/bin/env python3
-"""What an operation costs in a small store and in a large one: the processor time of the proved program, in microseconds an operation.
+"""What an append, a read and a branch cost in small stores and in large ones: instructions of the built program, counted by callgrind (Debian's
+valgrind). Prints tables, and draws them as docs/growth.svg.
 
     tools/growth.py [PROGRAM]
 
-An append, a read and a branch at versions 10, 1,000 and 100,000 of a blob, in stores of 100,000 versions together, and a read in blobs of
-2^20 and 2^30 bytes. An operation's time is that of a script with 30,000 of them at its end, or 300,000 in the blobs of those bytes, less that
-of the script without, the least of three runs each. PROGRAM is crates/blobseer/out/blobseer unless another is named. It wants 3 GB of memory.
+Blobs have pages of 64 bytes and one replica, and each append has 64 bytes, so each version adds one whole page. First the versions of each blob
+grow, in stores of 10,000 versions together, or of one blob if it has as many or more. Then the blobs grow, each with one version; the operations
+go to ten of them. An operation's instructions are those of a script with 2,000 of them at its end, less those of the script without. What the
+system does for the program isn't counted. PROGRAM is crates/blobseer/out/blobseer unless another is named. It takes some five minutes.
 """
+import math
 import os
-import resource
+import re
 import subprocess
 import sys
+import tempfile
 
-OPERATIONS = 30_000
-VERSIONS = 100_000
-
-
-def seconds(program, lines):
-    """Runs the program on these lines and gives the processor time that it took, user and system."""
-    before = resource.getrusage(resource.RUSAGE_CHILDREN)
-    with subprocess.Popen([*program, "run", "--replicas", "1"], stdin=subprocess.PIPE, stdout=subprocess.DEVNULL) as run:
-        for line in lines:
-            run.stdin.write(line)
-        run.stdin.close()
-    if run.returncode:
-        sys.exit(f"growth: the program ended with status {run.returncode}")
-    after = resource.getrusage(resource.RUSAGE_CHILDREN)
-    return after.ru_utime - before.ru_utime + after.ru_stime - before.ru_stime
+TOP = os.path.dirname(os.path.dirname(os.path.abspath(__file__)))
+COMMAND = ("run", "--page", "64", "--replicas", "1")
+OPERATIONS = 2_000
+VERSIONS = (10, 100, 1_000, 10_000, 100_000)
+BLOBS = (10, 100, 1_000, 10_000, 60_000)
+KINDS = {"append": "#1b6ca8", "read": "#c2571a", "branch": "#4c8c2b"}
 
 
-def cost(program, base, more, operations=OPERATIONS):
-    """The microseconds of one operation: of the script with the operations at its end, less the script without."""
-    alone = min(seconds(program, base()) for _ in range(3))
-    with_more = min(seconds(program, [*base(), *more]) for _ in range(3))
-    return (with_more - alone) / operations * 1e6
+def instructions(program, command, lines):
+    """The instructions that the command takes for a script of these lines."""
+    with tempfile.TemporaryFile() as script, tempfile.NamedTemporaryFile() as out:
+        script.write("".join(f"{line}\n" for line in lines).encode())
+        script.seek(0)
+        words = ["valgrind", "--tool=callgrind", f"--callgrind-out-file={out.name}", *program, *command]
+        run = subprocess.run(words, stdin=script, stdout=subprocess.DEVNULL, stderr=subprocess.PIPE, text=True)
+    found = re.search(r"Collected : (\d+)", run.stderr)
+    if run.returncode or not found:
+        sys.exit(f"growth: the program ended with status {run.returncode}: {run.stderr}")
+    return int(found[1])
 
 
 def chance():
@@ -44,42 +45,76 @@ def chance():
         yield x
 
 
-def joined(lines):
-    return "".join(f"{line}\n" for line in lines).encode()
+def appended(blob, number):
+    return f"append {blob} {blob:064x}{number:064x}"
 
 
-def many_versions(version):
-    """Blobs of that many versions each, which have 100,000 together."""
-    blobs = VERSIONS // version
-    made = ["create"] * blobs + [f"append {blob} {blob:016x}{i:016x}" for i in range(version) for blob in range(1, blobs + 1)]
-    return blobs, joined(made)
+def measured(program, blobs, versions, targets):
+    """What one operation of each kind takes where so many blobs have so many versions each; the operations go to the targets by turns."""
+    base = ["create"] * blobs + [appended(blob, i) for i in range(versions) for blob in range(1, blobs + 1)]
+    turns = [targets[i % len(targets)] for i in range(OPERATIONS)]
+    more = {
+        "append": [appended(blob, i) for i, blob in enumerate(turns)],
+        "read": [f"read {blob} {versions} {x % versions * 64} 64" for blob, x in zip(turns, chance())],
+        "branch": [f"branch {blob} {versions}" for blob in turns],
+    }
+    alone = instructions(program, COMMAND, base)
+    return {kind: (instructions(program, COMMAND, base + more[kind]) - alone) // OPERATIONS for kind in KINDS}
+
+
+def told(name, counts, rows):
+    print(f"{name:>10}" + "".join(f" {kind:>8}" for kind in KINDS) + "   instructions each")
+    for count, row in zip(counts, rows):
+        print(f"{count:>10,}" + "".join(f" {row[kind]:>8,}" for kind in KINDS), flush=True)
+
+
+def panel(left, title, counts, rows, most):
+    """One picture of the two, as lines of SVG: the counts go by tens to the right, the instructions from 0 up."""
+    top, bottom, right = 60, 300, left + 300
+    low, high = math.log10(counts[0]), math.log10(counts[-1])
+    across = lambda count: left + (math.log10(count) - low) / (high - low) * (right - left)
+    up = lambda cost: bottom - cost / most * (bottom - top)
+    yield f'<text x="{left}" y="{top - 24}" font-weight="bold">{title}</text>'
+    for cost in range(0, most + 1, most // 4):
+        yield f'<line x1="{left}" y1="{up(cost):.1f}" x2="{right}" y2="{up(cost):.1f}" stroke="#ddd"/>'
+        yield f'<text x="{left - 6}" y="{up(cost) + 4:.1f}" text-anchor="end">{cost:,}</text>'
+    for count in counts:
+        yield f'<text x="{across(count):.1f}" y="{bottom + 18}" text-anchor="middle">{count:,}</text>'
+    highest = bottom + 14
+    for kind, colour in sorted(KINDS.items(), key=lambda it: rows[-1][it[0]]):
+        points = [(across(count), up(row[kind])) for count, row in zip(counts, rows)]
+        # The names at the right stand beside their ends, but not over one another.
+        highest = min(points[-1][1], highest - 14)
+        yield f'<polyline fill="none" stroke="{colour}" stroke-width="2" points="{" ".join(f"{x:.1f},{y:.1f}" for x, y in points)}"/>'
+        yield from (f'<circle cx="{x:.1f}" cy="{y:.1f}" r="3" fill="{colour}"/>' for x, y in points)
+        yield f'<text x="{right + 8}" y="{highest + 4:.1f}" fill="{colour}">{kind}</text>'
+
+
+def picture(by_versions, by_blobs):
+    highest = max(cost for row in by_versions + by_blobs for cost in row.values())
+    most = math.ceil(highest / 4_000) * 4_000
+    return "\n".join(
+        [
+            '<svg xmlns="http://www.w3.org/2000/svg" width="860" height="340" font-family="sans-serif" font-size="12">',
+            '<rect width="860" height="340" fill="white"/>',
+            *panel(60, "Instructions of one operation, by versions of a blob", VERSIONS, by_versions, most),
+            *panel(490, "by blobs of the store", BLOBS, by_blobs, most),
+            "</svg>\n",
+        ]
+    )
 
 
 def main():
-    here = os.path.dirname(os.path.abspath(__file__))
-    program = sys.argv[1:] or [f"{here}/../crates/blobseer/out/blobseer"]
-    print(f"{'version':>10} {'append':>8} {'read':>8} {'branch':>8}   microseconds each")
-    for version in (10, 1_000, 100_000):
-        blobs, base = many_versions(version)
-        blob = lambda i: 1 + i % blobs
-        told = zip(range(OPERATIONS), chance())
-        reads = [f"read {blob(i)} {version} {x % version * 16} 16" for i, x in told]
-        costs = [
-            cost(program, lambda: [base], [joined(lines)])
-            for lines in (
-                [f"append {blob(i)} {i:032x}" for i in range(OPERATIONS)],
-                reads,
-                [f"branch {blob(i)} {version}" for i in range(OPERATIONS)],
-            )
-        ]
-        print(f"{version:>10}" + "".join(f" {it:8.2f}" for it in costs))
-    print(f"{'bytes':>10} {'read':>8}")
-    mebibyte = ("append 1 " + "0123456789abcdef" * 131072 + "\n").encode()
-    for log in (20, 30):
-        appends = 2 ** (log - 20)
-        base = lambda: [b"create\n", *[mebibyte] * appends]
-        reads = joined(f"read 1 {appends} {x % (2**log - 16)} 16" for _, x in zip(range(10 * OPERATIONS), chance()))
-        print(f"{'2^' + str(log):>10} {cost(program, base, [reads], 10 * OPERATIONS):8.2f}")
+    program = sys.argv[1:] or [f"{TOP}/crates/blobseer/out/blobseer"]
+    by_versions = []
+    for versions in VERSIONS:
+        blobs = max(1, 10_000 // versions)
+        by_versions.append(measured(program, blobs, versions, range(1, blobs + 1)))
+    told("versions", VERSIONS, by_versions)
+    by_blobs = [measured(program, blobs, 1, range(1, blobs + 1, blobs // 10)) for blobs in BLOBS]
+    told("blobs", BLOBS, by_blobs)
+    with open(f"{TOP}/docs/growth.svg", "w", encoding="utf-8") as it:
+        it.write(picture(by_versions, by_blobs))
 
 
 if __name__ == "__main__":

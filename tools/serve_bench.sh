@@ -1,5 +1,5 @@
 #!/usr/bin/env bash
-# How many requests a second `serve --workers 16` answers over the loopback: the table of the server in docs/PERFORMANCE.md.
+# How many requests a second `serve --workers 16` answers over the loopback.
 #
 #     tools/serve_bench.sh              the proved program alone
 #     tools/serve_bench.sh OTHER        and OTHER by turns, called with the same words
