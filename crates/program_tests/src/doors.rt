@@ -79,13 +79,14 @@ static LOST: [Row<'static>; 10] = [
         out: "blob 1\nerror page-fault 1\nversion 1 at 0 size 2\ndata 6162\nerror no-ticket 1\n",
         status: 0,
     },
-    // An update of several pages that the store refuses calls no door. One of a single page is stored before it is refused.
+    // An update of several pages that the store refuses calls no door. One of a single page is stored before it is refused, unless the
+    // store refused the session's last one.
     Row {
         line: SMALL_PAGES,
         text: "",
         failing: &[EVERY, EVERY, EVERY],
-        script: "create\nstart-write 1 7 616263646566\nappend 2 616263646566\nstart-write 1 7 61\n",
-        out: "blob 1\nerror offset-past-size 7 0\nerror no-blob 2\nerror page-fault 0\n",
+        script: "create\nstart-write 1 7 61\nstart-write 1 7 616263646566\nappend 2 616263646566\nstart-write 1 7 61\n",
+        out: "blob 1\nerror page-fault 0\nerror offset-past-size 7 0\nerror no-blob 2\nerror offset-past-size 7 0\n",
         status: 0,
     },
     // Nor is it placed: the next page goes to the first two providers.
