@@ -12,7 +12,6 @@ What a run may come to, where the right replies are those of a run in which noth
 Anything else is wrong: another status, another reply, a run that doesn't end.
 """
 import os
-import random
 import select
 import socket
 import struct
@@ -21,6 +20,10 @@ import sys
 import tempfile
 import threading
 from concurrent.futures import ThreadPoolExecutor
+
+sys.dont_write_bytecode = True
+sys.path.insert(0, os.path.join(os.path.dirname(os.path.dirname(os.path.abspath(__file__))), "clients", "python"))
+from helpers import free_port  # noqa: E402
 
 SECONDS = 60
 MOST_WRONG = 20
@@ -154,19 +157,6 @@ class Files(Lines):
     """A script of lines about folders and files."""
 
     command = "files"
-
-
-def free_port():
-    """A port that nobody has, below those that the system gives to clients: a client that asks for one of those again and again
-    may be given the very port that it asks for, and then the server finds it taken."""
-    while True:
-        port = random.randrange(10_000, 30_000)
-        with socket.socket() as free:
-            try:
-                free.bind(("127.0.0.1", port))
-                return port
-            except OSError:
-                pass
 
 
 class Frames:
