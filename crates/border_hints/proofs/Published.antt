@@ -123,17 +123,6 @@ above_root hits none past heights p log v g pos in_log h q at is some low =
     )
 
 -- ---- a node's links
-sized : ℕ → ℕ → Range
-sized o s = record { offset = o; size = s }
-
--- the code's range, by its height and number
-pub range_is : (p h q size : ℕ) → size ≡ p * 2 ^ h → record { offset = q * size; size = size } ≡ tree_range p h q
-range_is p h q size is = let made : ℕ → Range = λ n. record { offset = q * n; size = n } in ap made is
-
--- the code's size of the range
-pub size_is : (bytes pow p size h : ℕ) → bytes ≡ size → size ≡ p → pow ≡ 2 ^ h → bytes * pow ≡ p * 2 ^ h
-size_is bytes pow p size h e f w = ap (λ b. b * pow) (e ∙ f) ∙ ap (λ n. p * n) w
-
 pub link_low : LinksAgree → LowHalvesAlign → (p : ℕ) (log : List Touch) (v h q at link : ℕ) (range : Range) → range ≡ tree_range p (h + 1) q → at ≡ newest_of p log v (tree_range p (h + 1) q)
     → link ≡ newest_of p log at (left_half range) → link ≡ newest_of p log v (tree_range p h (2 * q))
 link_low agree align p log v h q at link range is newest got =
@@ -156,16 +145,6 @@ link_high agree align p log v h q at link range is newest got =
 
 pub inner_size : (p h size : ℕ) → 1 ≤ p → size ≡ p * 2 ^ (h + 1) → p < size
 inner_size p h size pos is = let f : p * 1 ≤ p * 2 ^ h = mul-le p 1 p (2 ^ h) (omega arith) (pow_pos h) in omega (arith, double p h)
-
-pub power_small : (h : ℕ) → h ≤ 38 → 2 ^ h < 2 ^ 64
-power_small h le = let two : 0 < 2 = omega arith in let e : 2 ^ h ≤ 2 ^ 38 = pow-le-pow_right two le in omega arith
-
-pub size_small : (p h : ℕ) → p ≤ 1048576 → h ≤ 38 → p * 2 ^ h ≤ 2 ^ 58
-size_small p h page le =
-    let two : 0 < 2 = omega arith in
-    let e : 2 ^ h ≤ 2 ^ 38 = pow-le-pow_right two le in
-    let f : p * 2 ^ h ≤ 1048576 * 2 ^ 38 = mul-le p (2 ^ h) 1048576 (2 ^ 38) page e in
-    omega arith
 
 -- a tree over no bytes has the height 0
 pub height_none : (p n : ℕ) → n ≡ 0 → 0 ≡ height_of p n

@@ -231,17 +231,15 @@ edge_known p log below v k top page h at leaf depth besides range low d here is 
     record { leaf = is ∙ ap (newest_of p log k) here; besides = λ j lt. d.sides j (omega arith) lt; depth = deep }
 
 -- ---- the code's ranges on the path
-pub path_fits : (page pow h p n : ℕ) → pow ≡ 2 ^ h → page * p < n → n ≤ 2 ^ 40 → page / pow / 2 * (p * 2 ^ (h + 1)) ≤ 2 ^ 40
-path_fits page pow h p n w inside fits =
-    let e : page / pow / 2 ≡ page / 2 ^ (h + 1) = ap (λ m. page / m / 2) w ∙ halved page h in
+pub path_fits : (page h p n : ℕ) → page * p < n → n ≤ 2 ^ 40 → page / 2 ^ h / 2 * (p * 2 ^ (h + 1)) ≤ 2 ^ 40
+path_fits page h p n inside fits =
     let P : ℕ → Type 0 = λ q. q * (p * 2 ^ (h + 1)) ≤ 2 ^ 40 in
-    subst P (sym e) (omega (arith, page_under page (h + 1) n p inside))
+    subst P (sym (halved page h)) (omega (arith, page_under page (h + 1) n p inside))
 
-pub side_fits : RangesNest → HeightsHold → (p page n h c pow z : ℕ) → 1 ≤ p → page * p < n → h < height_of p n → p * 2 ^ height_of p n ≤ 2 ^ 40
-    → pow ≡ 2 ^ h → z ≡ p * 2 ^ h → c ≤ page / pow / 2 * 2 + 1 → c * z + z ≤ 2 ^ 40
-side_fits nest heights p page n h c pow z pos inside low root w size le =
-    let P : ℕ → Type 0 = λ m. c ≤ page / m / 2 * 2 + 1 in
-    let ends : c * (p * 2 ^ h) + p * 2 ^ h ≤ p * 2 ^ height_of p n = half_ends nest heights p page n h c pos inside low (subst P w le) in
+pub side_fits : RangesNest → HeightsHold → (p page n h c z : ℕ) → 1 ≤ p → page * p < n → h < height_of p n → p * 2 ^ height_of p n ≤ 2 ^ 40
+    → z ≡ p * 2 ^ h → c ≤ page / 2 ^ h / 2 * 2 + 1 → c * z + z ≤ 2 ^ 40
+side_fits nest heights p page n h c z pos inside low root size le =
+    let ends : c * (p * 2 ^ h) + p * 2 ^ h ≤ p * 2 ^ height_of p n = half_ends nest heights p page n h c pos inside low le in
     let Q : ℕ → Type 0 = λ m. c * m + m ≤ 2 ^ 40 in
     subst Q (sym size) (omega arith)
 

@@ -28,6 +28,7 @@ fn meets_pages(touch: &Touch, range: Range, first: u64, last: u64) -> bool
 }
 
 // The newest lower version for the range: the newest waiting update that touches it, or else `known`, that of the snapshot.
+// Mostly nothing waits, and then nothing is divided.
 fn newest_below(ticket: &Ticket, range: Range, known: u64) -> u64
     requires fits { range.offset + range.size ≤ 2 ^ 40 }
     requires known { known ≡ newest_known ticket.now.snapshot range }
@@ -37,6 +38,9 @@ fn newest_below(ticket: &Ticket, range: Range, known: u64) -> u64
     range_log::laws::older_versions_stay();
     ticket.stands();
     let hints = ticket.hints();
+    if hints.waiting.count() == 0 {
+        return known;
+    }
     let p = hints.snapshot.page_size().bytes();
     let first = range.offset / p;
     let last = (range.offset + range.size).saturating_sub(1) / p;
@@ -99,7 +103,6 @@ fn tree_height(snapshot: &Snapshot) -> u32
 
 // One step on the path to the page, down to the range of height `level`, from the one above, whose newest version of the
 // snapshot is `at`: that for the next range on the path, and the newest lower version for the one beside it.
-#[tactic(auto, using(crate::proofs::Published::power_small, crate::proofs::Published::size_small))]
 fn turn<L: Ledger>(
     ticket: &Ticket,
     nodes: &NodeHouse,
@@ -125,9 +128,8 @@ fn turn<L: Ledger>(
     tree_geom::laws::ranges_align();
     ticket.stands();
     let snapshot = &ticket.hints().snapshot;
-    let pages = 2u64.pow(level);
-    let size = snapshot.page_size().bytes() * pages;
-    let number = page / pages;
+    let size = snapshot.page_size().bytes() << level;
+    let number = page >> level;
     let (low, high) = halves_known(snapshot, nodes, at, tall, level, number / 2, steps);
     if number % 2 == 0 {
         let range = Range {

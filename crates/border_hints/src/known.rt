@@ -94,7 +94,6 @@ fn links<L: Ledger>(
 /// version is `at`. `tall` is the height of the snapshot's tree.
 ///
 /// A range that the tree's root doesn't reach has the root in its lower half alone, if at all.
-#[tactic(auto, using(crate::proofs::Published::power_small, crate::proofs::Published::size_small))]
 pub(crate) fn halves_known<L: Ledger>(
     snapshot: &Snapshot,
     nodes: &NodeHouse,
@@ -126,7 +125,7 @@ pub(crate) fn halves_known<L: Ledger>(
     if tall <= level {
         return (at, 0);
     }
-    let size = snapshot.page_size().bytes() * 2u64.pow(level + 1);
+    let size = snapshot.page_size().bytes() << (level + 1);
     let range = Range {
         offset: q * size,
         size,

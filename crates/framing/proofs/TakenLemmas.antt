@@ -1,5 +1,5 @@
 -- Bytes taken off the front of a piece, and whole frames.
-use Rattle.std.proofs.Common.{◌≡◌, ◌∙◌, ℕ, ◌+◌, ◌-◌, ◌<◌, ◌≤◌, ◌==◌, true, false, List, [], ◌∷◌, ◌++◌, length, take, drop, take-add, get_or, replicate, refl, sym, ap, arith, append_assoc, length-append, length-drop}
+use Rattle.std.proofs.Common.{◌≡◌, ◌∙◌, ℕ, ◌+◌, ◌-◌, ◌^◌, ◌<◌, ◌≤◌, ◌==◌, true, false, List, [], ◌∷◌, ◌++◌, length, take, drop, take-add, get_or, replicate, refl, sym, ap, subst, arith, append_assoc, length-append, length-drop}
 use Rattle.std.proofs.lemmas.List.{length-replicate, length-take-le, take_all}
 use Rattle.std.proofs.lemmas.Bool.{false≢true}
 use Rattle.std.proofs.lemmas.Bool.Decides.{nat_tests}
@@ -7,12 +7,25 @@ use Rattle.arrayvec.specs.ArrayVec.{ArrayVec}
 use Rattle.item_stream.specs.Items.{after_item}
 use Rattle.framing.specs.Framing.{Framing, IsFraming, item_of, is_whole, framed}
 use Rattle.framing.specs.Come.{Come, TakesBytes}
-use Rattle.framing.specs.Begun.{GoesOnAs, frame_part, begun_bytes, is_complete, IsBegun, TakesPart}
+use Rattle.framing.specs.Begun.{GoesOnAs, frame_part, begun_bytes, is_complete, IsWrong, IsBegun, TakesPart}
 use Rattle.framing.specs.Taken.{IsOpen}
+use Rattle.framing.specs.declared.begun.Dropped.{Dropped}
 use Rattle.framing.specs.declared.begun.Begun.{Begun}
 use Rattle.framing.specs.declared.begun.Begun.TheVariants.{Length, Counted, Asked, Wrong}
 use Rattle.framing.proofs.HeardLemmas.{whole_heard, whole_is}
-use Rattle.framing.proofs.BegunLemmas.{frame_part-length, frame_part-append, opened_whole, opened_open}
+use Rattle.framing.proofs.BegunLemmas.{frame_part-length, frame_part-append, goes_on_wrong, opened_whole, opened_open}
+
+-- bytes of the length come behind those that have come of it
+pub length_on : {A B : Type 0} (f : Framing A) (come : B → Come) (part part' : ArrayVec ℕ) (piece : List ℕ) (count : ℕ) → 0 < count → count ≤ length piece → length part'.items < 4 → part'.items ≡ part.items ++ take count piece
+    → TakesPart f come (begun_bytes come (Length part)) piece (Length part') count
+length_on f come part part' piece count some_bytes within short is =
+    record { some = some_bytes; within = within; begun_well = short; goes_on = λ more. ap (λ (l : List ℕ). framed f (l ++ more)) (sym is) }
+
+-- or with them it is whole
+pub length_whole : {A B : Type 0} (f : Framing A) (come : B → Come) (part : ArrayVec ℕ) (piece : List ℕ) (next : Begun B) (count number : ℕ) → 0 < count → count ≤ length piece → IsBegun f.limit come next
+    → begun_bytes come next ≡ frame_part number [] → frame_part number [] ≡ part.items ++ take count piece → TakesPart f come (begun_bytes come (Length part)) piece next count
+length_whole f come part piece next count number some_bytes within begun bytes is =
+    record { some = some_bytes; within = within; begun_well = begun; goes_on = λ more. ap (λ (l : List ℕ). framed f (l ++ more)) (sym (bytes ∙ is)) }
 
 -- the operation comes behind the length
 pub counted_on : {A : Type 0} (f : Framing A) (n : ℕ) (piece bytes : List ℕ) → 0 < length piece → GoesOnAs f (frame_part n (get_or piece 0 0 ∷ [])) bytes → GoesOnAs f (frame_part n [] ++ take 1 piece) bytes
@@ -37,6 +50,25 @@ asked_on f come was piece now count begun takes =
       goes_on = λ more.
           ap (λ (l : List ℕ). framed f (l ++ more))
           (frame_part-append (length old.bytes + old.left) old.bytes front ∙ ap (λ (l : List ℕ). frame_part (length old.bytes + old.left) l) (sym takes.bytes) ∙ ap (λ (n : ℕ). frame_part n new.bytes) same);
+    }
+
+-- bytes of a frame that is certainly wrong are dropped
+pub wrong_on : {A B : Type 0} (f : Framing A) (is : IsFraming f) (come : B → Come) (was : Dropped) (piece : List ℕ) (now : Dropped) (count : ℕ) → IsWrong f.limit was → 0 < count → count ≤ length piece → now.length ≡ was.length
+    → now.left + count ≡ was.left → TakesPart f come (begun_bytes come (Wrong was)) piece (Wrong now) count
+wrong_on f is come was piece now count wrong some_bytes within same left =
+    let taken : length (take count piece) ≡ count = length-take-le count piece within in
+    let before : was.left ≤ was.length = wrong.within in
+    record {
+      some = some_bytes;
+      within = within;
+      begun_well = record {
+        within = omega arith;
+        fits = subst (λ (n : ℕ). n < 2 ^ 32) (sym same) wrong.fits;
+        certain = λ short more. omega arith;
+      };
+      goes_on = λ more.
+          goes_on_wrong f is was.length was.left now.left (take count piece) wrong.within wrong.fits (λ short. wrong.certain short (omega arith)) (omega arith) more
+          ∙ ap (λ (n : ℕ). framed f (frame_part n (replicate (n - now.left) 0) ++ more)) (sym same);
     }
 
 -- what goes on as the bytes so far goes on with more of the piece

@@ -41,6 +41,11 @@ IsBegun limit come (Counted count) = (0 < count) × (count ≤ limit)
 IsBegun limit come (Asked body) = (0 < length (come body).bytes) × (length (come body).bytes + (come body).left ≤ limit)
 IsBegun limit come (Wrong frame) = IsWrong limit frame
 
+-- nothing of a frame has come
+pub record IsNothing {B : Type 0} (limit : ℕ) (come : B → Come) (begun : Begun B) : Type 0 where
+  pub begun_well : IsBegun limit come begun
+  pub none : begun_bytes come begun ≡ []
+
 -- so many bytes have come off the front of a piece, at least one
 pub record TakesPart {A B : Type 0} (f : Framing A) (come : B → Come) (bytes piece : List ℕ) (begun : Begun B) (count : ℕ) : Type 0 where
   pub some : 0 < count

@@ -1,6 +1,6 @@
-ghost use Rattle.std.specs.Prelude.{◌≡◌, ◌≤◌, ◌<◌, ◌-◌, ◌∷◌, ◌++◌, [], length, replicate, true, false, IfOk};
+ghost use Rattle.std.specs.Prelude.{◌≡◌, ◌+◌, ◌≤◌, ◌<◌, ◌∷◌, ◌++◌, [], length, true, false, IfOk, OnErr};
 ghost use Rattle.framing.specs.Framing.{item_of};
-ghost use Rattle.framing.specs.Begun.{frame_part, begun_bytes, is_complete, IsWrong, IsBegun, TakesPart, GoesOnAs};
+ghost use Rattle.framing.specs.Begun.{frame_part, begun_bytes, is_complete, IsBegun, IsNothing, TakesPart, GoesOnAs};
 
 use crate::body::Body;
 use crate::part::{fill, short_number};
@@ -26,6 +26,14 @@ pub enum Begun<B> {
     Asked(B),
     /// A frame that is certainly wrong.
     Wrong(Dropped),
+}
+
+/// A frame of which nothing has come.
+pub fn nothing<B: Body>() -> Begun<B>
+    ensures begun { IsBegun B.framing.limit B.come result }
+    ensures bytes { begun_bytes B.come result ≡ [] }
+{
+    Begun::Length(ArrayVec::new())
 }
 
 /// Whether all bytes of the frame have come.
@@ -54,20 +62,6 @@ fn counted<B: Body>(length: u32) -> Begun<B>
     }
 }
 
-// Takes bytes of a frame's length.
-fn take_length<B: Body>(mut part: ArrayVec<u8, 4>, piece: &[u8]) -> (Begun<B>, usize)
-    requires part { length part.items < 4 }
-    requires some { 0 < length piece.now }
-    ensures { TakesPart B.framing B.come part.items piece.now result.0 result.1 }
-{
-    let count = fill(&mut part, piece);
-    if part.is_full() {
-        (counted(short_number(part.as_slice())), count)
-    } else {
-        (Begun::Length(part), count)
-    }
-}
-
 // What a frame of that length is once its first byte has come.
 fn asked<B: Body>(alloc: Global, length: u32, first: u8) -> Begun<B>
     requires some { 0 < length }
@@ -82,37 +76,53 @@ fn asked<B: Body>(alloc: Global, length: u32, first: u8) -> Begun<B>
     }
 }
 
-// Drops bytes of a frame that is certainly wrong.
-fn drop_bytes<B: Body>(frame: Dropped, piece: &[u8]) -> (Begun<B>, usize)
-    requires begun { IsWrong B.framing.limit frame }
-    requires more { 0 < frame.left }
+// Drops bytes of a frame that is certainly wrong, and says how many.
+fn drop_bytes(frame: &mut Dropped, piece: &[u8]) -> usize
+    requires more { 0 < frame.old.left }
     requires some { 0 < length piece.now }
-    ensures { TakesPart B.framing B.come (frame_part frame.length (replicate (frame.length - frame.left) 0)) piece.now result.0 result.1 }
+    ensures some { 0 < result }
+    ensures within { result ≤ length piece.now }
+    ensures same { frame.new.length ≡ frame.old.length }
+    ensures left { frame.new.left + result ≡ frame.old.left }
 {
     let count = piece.len().min(frame.left as usize);
-    let left = frame.left - count as u32;
-    let length = frame.length;
-    (Begun::Wrong(Dropped { length, left }), count)
+    frame.left -= count as u32;
+    count
 }
 
-/// Takes some bytes of the frame off the front of a piece, at least one, and says how many.
+/// Takes some bytes of the frame off the front of a piece, at least one, and says how many. What has come is changed where it lies.
+/// Where memory is refused, nothing is left of it.
 pub fn take_part<B: Body>(
     alloc: Global,
-    begun: Begun<B>,
+    begun: &mut Begun<B>,
     piece: &[u8],
-) -> Result<(Begun<B>, usize), NoMemory>
-    requires begun { IsBegun B.framing.limit B.come begun }
-    requires more { is_complete B.come begun ≡ false }
+) -> Result<usize, NoMemory>
+    requires begun { IsBegun B.framing.limit B.come begun.old }
+    requires more { is_complete B.come begun.old ≡ false }
     requires some { 0 < length piece.now }
-    ensures { IfOk result (λ taken. TakesPart B.framing B.come (begun_bytes B.come begun) piece.now taken.0 taken.1) }
+    ensures ok { IfOk result (λ count. TakesPart B.framing B.come (begun_bytes B.come begun.old) piece.now begun.new count) }
+    ensures err { OnErr result (IsNothing B.framing.limit B.come begun.new) }
 {
     match begun {
-        Begun::Length(part) => Ok(take_length(part, piece)),
-        Begun::Counted(length) => Ok((asked(alloc, length, piece[0]), 1)),
-        Begun::Asked(mut body) => {
-            let count = body.take(piece)?;
-            Ok((Begun::Asked(body), count))
+        Begun::Length(part) => {
+            let count = fill(part, piece);
+            if !part.is_full() {
+                return Ok(count);
+            }
+            *begun = counted(short_number(part.as_slice()));
+            Ok(count)
         }
+        Begun::Counted(length) => {
+            *begun = asked(alloc, *length, piece[0]);
+            Ok(1)
+        }
+        Begun::Asked(body) => match body.take(piece) {
+            Ok(count) => Ok(count),
+            Err(error) => {
+                *begun = nothing();
+                Err(error)
+            }
+        },
         Begun::Wrong(frame) => Ok(drop_bytes(frame, piece)),
     }
 }

@@ -1,10 +1,9 @@
-ghost use Rattle.std.specs.Prelude.{◌≡◌, ◌==◌, ◌≤◌, ◌++◌, [], length, take, false, IfOk, MatchOption};
-ghost use Rattle.framing.specs.Begun.{begun_bytes, is_complete, IsBegun};
+ghost use Rattle.std.specs.Prelude.{◌≡◌, ◌==◌, [], length, IfOk, OnErr};
+ghost use Rattle.framing.specs.Begun.{begun_bytes, IsBegun, IsNothing};
 ghost use Rattle.framing.specs.Taken.{TakesParts, Takes, Gives};
 
-use crate::begun::{Begun, is_complete, item, take_part};
+use crate::begun::{Begun, is_complete, item, nothing, take_part};
 use crate::body::Body;
-use arrayvec::ArrayVec;
 use faults::NoMemory;
 use std::alloc::Global;
 use std::marker::Model;
@@ -28,31 +27,18 @@ impl<B: Body> Model for Frame<B> {
     ghost invariant = { λ f. IsBegun B.framing.limit B.come f.begun };
 }
 
-// A frame of which nothing has come.
-fn nothing<B: Body>() -> Begun<B>
-    ensures begun { IsBegun B.framing.limit B.come result }
-    ensures bytes { begun_bytes B.come result ≡ [] }
+// Takes bytes of the frame off the front of a piece: all there are, or all that it lacks. Answers how many. Where memory is refused,
+// nothing is left of it.
+fn take_parts<B: Body>(alloc: Global, begun: &mut Begun<B>, piece: &[u8]) -> Result<usize, NoMemory>
+    requires { IsBegun B.framing.limit B.come begun.old }
+    ensures ok { IfOk result (λ count. TakesParts B.framing B.come (begun_bytes B.come begun.old) piece.now begun.new count) }
+    ensures err { OnErr result (IsNothing B.framing.limit B.come begun.new) }
 {
-    Begun::Length(ArrayVec::new())
-}
-
-// Takes bytes of the frame off the front of a piece: all there are, or all that it lacks. Answers how many.
-fn take_parts<B: Body>(
-    alloc: Global,
-    begun: Begun<B>,
-    piece: &[u8],
-) -> Result<(Begun<B>, usize), NoMemory>
-    requires { IsBegun B.framing.limit B.come begun }
-    ensures { IfOk result (λ taken. TakesParts B.framing B.come (begun_bytes B.come begun) piece.now taken.0 taken.1) }
-{
-    let mut frame = begun;
     let mut taken = 0;
-    'parts: while taken < piece.len() && !is_complete(&frame) {
-        let (next, count) = take_part(alloc, frame, &piece[taken..])?;
-        frame = next;
-        taken += count;
+    'parts: while taken < piece.len() && !is_complete(begun) {
+        taken += take_part(alloc, begun, &piece[taken..])?;
     }
-    Ok((frame, taken))
+    Ok(taken)
 }
 
 impl<B: Body> Frame<B> {
@@ -77,9 +63,7 @@ impl<B: Body> Frame<B> {
     pub fn take(&mut self, alloc: Global, piece: &[u8]) -> Result<usize, NoMemory>
         ensures { IfOk result (Takes B.framing self.old piece.now self.new) }
     {
-        let begun = mem::replace(&mut self.begun, nothing());
-        let (next, taken) = take_parts(alloc, begun, piece)?;
-        self.begun = next;
+        let taken = take_parts(alloc, &mut self.begun, piece)?;
         Ok(taken)
     }
 

@@ -15,11 +15,19 @@ pub record Spot : Type 0 where
 abbrev pub names_of : List Named → List ℕ
 names_of slots = map (λ (s : Named). s.id) slots
 
--- the names of the slots of a block whose tag that is: behind where the block was pushed
+-- the version that a row's tag tells
+abbrev pub version_told : List ℕ → ℕ
+version_told tag = first tag
+
+-- the place that it tells behind the version
+abbrev pub place_told : List ℕ → List ℕ
+place_told tag = others tag
+
+-- the names of the slots of a block whose place that is: behind where the block was pushed
 abbrev pub slots_there : List ℕ → List ℕ
 slots_there place = others (others place)
 
--- where the nodes of a version lie, whose tag tells their shelf and its mark
+-- where the nodes of a version lie, whose place tells their shelf and its mark
 abbrev pub spot_of : ℕ → List ℕ → Spot
 spot_of version place = record { shard = version % 16; shelf = first place; mark = first (others place) }
 

@@ -7,5 +7,5 @@ use Rattle.node_store.specs.declared.row.Row.TheInside.{Inside}
 pub record KeepsRow (r : Inside) : Type 0 where
   pub low : r.shape.height ≤ 38
   pub ordered : r.shape.touch.first ≤ r.shape.touch.last
-  pub fits : r.shape.touch.last * r.page_size ≤ 2 ^ 40
-  pub whole : length r.nodes.nodes ≡ length (levels_of r.page_size r.shape.touch (r.shape.height + 1))
+  pub fits : r.shape.touch.last * r.shape.page_size ≤ 2 ^ 40
+  pub whole : length r.nodes.nodes ≡ length (levels_of r.shape.page_size r.shape.touch (r.shape.height + 1))

@@ -122,15 +122,22 @@ struct Room {
     first: usize,
 }
 
-// A row's tag tells where a block was pushed in its shard, by the number of its bucket and the name of the slot that holds the bucket,
-// and then the names of the block's own slots.
+// The version of a row, and the block of its slots.
+#[derive(Drop)]
+struct Placing {
+    version: u64,
+    block: Pushed<Block>,
+}
+
+// A row's tag tells its version, then where the block of its slots was pushed in its shard, by the number of its bucket and the name of
+// the slot that holds the bucket, and then the names of the block's own slots.
 struct Place;
 
-impl Names<Pushed<Block>> for Place {
+impl Names<Placing> for Place {
     ghost use Rattle.std.specs.Prelude.{◌∷◌};
     ghost use Rattle.node_store.specs.Placed.{names_of};
 
-    ghost numbers = { λ block. block.bucket ∷ block.row ∷ names_of block.value };
+    ghost numbers = { λ p. p.version ∷ p.block.bucket ∷ p.block.row ∷ names_of p.block.value };
 }
 
 impl Shard {
@@ -243,24 +250,23 @@ pub struct RowNodes {
     slots: Arc<Slots>,
     first: usize,
     puts: Vec<Put>,
-    version: u64,
-    // where the block of the slots stands in its shard, and the names of its slots, which proofs alone ask for; it has no bytes
-    place: Tag,
+    // the version, where the block of the slots stands in its shard, and the names of its slots, for proofs alone: it has no bytes
+    tag: Tag,
 }
 
 impl Model for RowNodes {
     ghost use Rattle.std.specs.Prelude.{◌≡◌, vec_capacity};
-    ghost use Rattle.node_store.specs.Placed.{PlacedNodes, nodes_put, spot_of};
+    ghost use Rattle.node_store.specs.Placed.{PlacedNodes, nodes_put, place_told, spot_of, version_told};
     ghost use Rattle.node_store.specs.NodesKept.{KeepsPuts};
 
     ghost Value = { PlacedNodes };
 
     ghost view = { λ r.
         record {
-          version = r.version;
+          version = version_told r.tag.numbers;
           room = vec_capacity r.puts;
           nodes = nodes_put r.puts.items;
-          spot = spot_of r.version r.place.numbers;
+          spot = spot_of (version_told r.tag.numbers) (place_told r.tag.numbers);
         } };
 
     ghost invariant = { KeepsPuts };
@@ -316,12 +322,12 @@ impl NodeHouse {
             slots,
             first,
         } = self.shards[shard_of(version)].take(rt, alloc, count)?;
+        let placing = Placing { version, block };
         Ok(RowNodes {
             slots,
             first,
             puts,
-            version,
-            place: Tag::of::<Pushed<Block>, Place>(&block),
+            tag: Tag::of::<Placing, Place>(&placing),
         })
     }
 
@@ -355,14 +361,6 @@ impl NodeHouse {
 }
 
 impl RowNodes {
-    /// The version of the row.
-    #[inline(always)]
-    pub fn version(&self) -> u64
-        ensures { result ≡ self.now.version }
-    {
-        self.version
-    }
-
     /// How many nodes there are.
     #[inline(always)]
     pub fn count(&self) -> u64

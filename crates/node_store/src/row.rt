@@ -32,7 +32,6 @@ pub struct Row {
     folds: Option<Box<Folds>>,
     // what a look at a node needs stands side by side
     nodes: RowNodes,
-    page_size: PageSize,
     shape: Shape,
 }
 
@@ -45,7 +44,6 @@ impl Drop for Row {
             pages: _,
             folds: _,
             nodes: _,
-            page_size: _,
             shape: _,
         } = self;
     }
@@ -65,10 +63,10 @@ impl Model for Row {
     ghost view = { λ r.
         record {
           blob = r.blob;
-          version = r.nodes.version;
+          version = r.shape.version;
           offset = r.offset;
           touch = r.shape.touch;
-          nodes = zip (levels_of r.page_size r.shape.touch (r.shape.height + 1)) r.nodes.nodes;
+          nodes = zip (levels_of r.shape.page_size r.shape.touch (r.shape.height + 1)) r.nodes.nodes;
           spot = r.nodes.spot;
           pages = arc_value r.pages;
           folds = unwrap_or (option_map (λ b. b.value) r.folds) [];
@@ -78,12 +76,13 @@ impl Model for Row {
 }
 
 impl Row {
-    /// The row of an update that begins at byte `offset` of the blob, touches `touch`, has these pages and stores those pages of the
-    /// blob anew, in a tree of that height over pages of `p` bytes. Its nodes are those of the ranges that it touches, in the order of
-    /// a row. It takes memory where there are pages that are stored anew, and else none.
+    /// The row of an update of that version, which begins at byte `offset` of the blob, touches `touch`, has these pages and stores
+    /// those pages of the blob anew, in a tree of that height over pages of `p` bytes. Its nodes are of that version: those of the
+    /// ranges that it touches, in the order of a row. It takes memory where there are pages that are stored anew, and else none.
     pub fn of(
         alloc: Global,
         blob: u64,
+        version: u32,
         offset: u64,
         touch: Touch,
         p: PageSize,
@@ -92,6 +91,7 @@ impl Row {
         folds: Folds,
         nodes: RowNodes,
     ) -> Result<Row, NoMemory>
+        requires version { version ≡ nodes.version }
         requires height { height ≤ 38 }
         requires ordered { touch.first ≤ touch.last }
         requires fits { touch.last * p ≤ 2 ^ 40 }
@@ -114,8 +114,7 @@ impl Row {
             pages,
             folds,
             nodes,
-            page_size: p,
-            shape: Shape::of(touch, height),
+            shape: Shape::of(touch, version, height, p),
         })
     }
 
@@ -130,7 +129,7 @@ impl Row {
     pub fn version(&self) -> u64
         ensures { result ≡ self.now.version }
     {
-        self.nodes.version()
+        self.shape.version()
     }
 
     /// The byte of the blob at which the update begins.
@@ -157,7 +156,8 @@ impl Row {
         steps.tick();
         let count = self.nodes.count();
         let (touch, height) = (self.shape.touch(), self.shape.height());
-        match index_in_row(self.page_size, height, &touch, count, range) {
+        let p = self.shape.page_size();
+        match index_in_row(p, height, &touch, count, range) {
             Some(index) => Some(self.nodes.node(index)),
             None => None,
         }

@@ -1,10 +1,14 @@
 -- A fact on a door's answer, from another.
-use Rattle.std.specs.Prelude.{Result, Ok, Err, OnOk, OnErr}
+use Rattle.std.specs.Prelude.{Result, Ok, Err, OnErr}
 use Rattle.page_store.specs.Answers.{OnPutFailed, OnGot, OnGetFailed}
 use Rattle.page_store.specs.declared.door.PutAnswer.{PutAnswer}
 use Rattle.page_store.specs.declared.door.PutAnswer.TheVariants as put
 use Rattle.page_store.specs.declared.door.GetAnswer.{GetAnswer}
 use Rattle.page_store.specs.declared.door.GetAnswer.TheVariants as get
+use Rattle.page_store.specs.Stored.{Cut}
+use Rattle.page_fan.specs.Fault.{UnlessNoMemory}
+use Rattle.page_fan.specs.declared.storing.StoreFault.{StoreFault}
+use Rattle.page_fan.specs.declared.storing.StoreFault.TheVariants as fault
 
 pub OnPutFailed-weaken : (P Q : Type 0) → (P → Q) → (answer : PutAnswer) → OnPutFailed answer P → OnPutFailed answer Q
 OnPutFailed-weaken P Q weaken (put.Stored page) h = tt
@@ -23,6 +27,7 @@ pub OnErr-given : {X E : Type 0} (P : Type 0) → P → (result : Result X E) �
 OnErr-given P p (Ok x) = tt
 OnErr-given P p (Err e) = p
 
-pub OnOk-weaken : {X E : Type 0} (P Q : Type 0) → (P → Q) → (result : Result X E) → OnOk result P → OnOk result Q
-OnOk-weaken P Q weaken (Ok x) h = weaken h
-OnOk-weaken P Q weaken (Err e) h = tt
+pub UnlessNoMemory-weaken : (P Q : Type 0) → (P → Q) → (result : Result Cut StoreFault) → UnlessNoMemory result P → UnlessNoMemory result Q
+UnlessNoMemory-weaken P Q weaken (Ok pages) h = weaken h
+UnlessNoMemory-weaken P Q weaken (Err (fault.PageFault page before)) h = weaken h
+UnlessNoMemory-weaken P Q weaken (Err fault.NoMemory) h = tt

@@ -9,7 +9,7 @@ use Rattle.page_fan.specs.Answer.{IsPageAnswer}
 use Rattle.page_fan.specs.Counts.{NoneFell, RoseAt}
 use Rattle.page_fan.specs.Replicas.{StandAt, providers_of}
 use Rattle.page_fan.proofs.StoredSoFar.{KeptAs}
-use Rattle.page_fan.proofs.Rises.{still_risen}
+use Rattle.page_fan.proofs.Rises.{risen_since, still_risen}
 use Rattle.page_fan.proofs.Standing.{StandAt-weaken, none_stands_at_end}
 
 -- what holds of each item and its place, with one item more
@@ -28,6 +28,16 @@ answer_later houses bytes chosen before mid now (Some page) kept h = record {
   some = h.some;
 }
 answer_later houses bytes chosen before mid now None kept h = record { some = h.some; failed = λ k d l. still_risen before mid now kept _ (h.failed k d l) }
+
+-- and while they rose before
+pub answer_since : (houses : List House) (bytes chosen before mid now : List ℕ) (answer : Option Stored) → NoneFell before mid → IsPageAnswer houses bytes chosen mid now answer → IsPageAnswer houses bytes chosen before now answer
+answer_since houses bytes chosen before mid now (Some page) kept h = record {
+  bytes = h.bytes;
+  here = h.here;
+  replicas = StandAt-weaken (RoseAt mid now) (RoseAt before now) (risen_since before mid now kept) chosen (providers_of page.spots) h.replicas;
+  some = h.some;
+}
+answer_since houses bytes chosen before mid now None kept h = record { some = h.some; failed = λ k d l. risen_since before mid now kept _ (h.failed k d l) }
 
 -- the answer to a page whose doors were all asked
 pub answer_at_end : (houses : List House) (bytes chosen before now : List ℕ) (i : ℕ) (stored : Option Stored) → length chosen ≤ i → 1 ≤ length chosen → IfSome stored (KeptAs houses bytes i)

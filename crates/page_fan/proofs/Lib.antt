@@ -13,3 +13,5 @@ pub mod Failing
 pub mod ListedPuts
 pub mod Owing
 pub mod Placed
+pub mod Kept
+pub mod InTurn

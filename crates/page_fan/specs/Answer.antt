@@ -1,10 +1,10 @@
 -- What a session's doors answer to the pages of a buffer.
-use Rattle.std.specs.Prelude.{◌≡◌, ℕ, ◌+◌, ◌*◌, ◌<◌, ◌≤◌, List, [], All, Option, Some, None, length, map, slice_index_or, take, drop}
+use Rattle.std.specs.Prelude.{◌≡◌, ℕ, ◌+◌, ◌*◌, ◌<◌, ◌≤◌, ◌==◌, if◌then◌else◌, List, [], ◌∷◌, ◌++◌, All, Option, Some, None, length, map, slice_index_or, take, drop}
 use Rattle.page_store.specs.House.{House}
-use Rattle.page_store.specs.Page.{IsAmong}
-use Rattle.page_store.specs.Stored.{Stored, Cut, IsCut}
+use Rattle.page_store.specs.Page.{Page, IsAmong}
+use Rattle.page_store.specs.Stored.{Stored, Cut, IsCut, LieAmong, bytes_of_pages}
 use Rattle.page_fan.specs.Counts.{RoseAt}
-use Rattle.page_fan.specs.Replicas.{StandAt, providers_of}
+use Rattle.page_fan.specs.Replicas.{AreReplicated, StandAt, providers_of}
 
 -- page i of a buffer that is cut at the page size
 abbrev pub page_of : ℕ → List ℕ → ℕ → List ℕ
@@ -50,3 +50,21 @@ abbrev pub HaveLengths : ℕ → List (Option Stored) → Type 0
 HaveLengths page_size answer =
     (k : ℕ) (page : Stored) → k < length answer → slice_index_or answer k None ≡ Some page
     → (1 ≤ length page.bytes) × (length page.bytes ≤ page_size) × (k + 1 < length answer → length page.bytes ≡ page_size)
+
+-- the buffer was stored as these pages, each at the providers of its placement but those whose door's count rose
+pub record AreStored (houses : List House) (page_size : ℕ) (buffer : List ℕ) (placements : List (List ℕ)) (before now : List ℕ) (pages : Cut) : Type 0 where
+  pub bytes : bytes_of_pages pages.pages ≡ buffer
+  pub size : pages.page_size ≡ page_size
+  pub cut : IsCut page_size pages.pages
+  pub here : LieAmong houses pages.pages
+  pub replicas : AreReplicated before now placements pages.pages
+
+-- the pages, and behind them that of this number, if it was stored and so was each page before it
+abbrev pub with_page : ℕ → Option Stored → List Stored → List Stored
+with_page number (Some page) pages = if length pages == number then pages ++ page ∷ [] else pages
+with_page number None pages = pages
+
+-- the page with one replica more, or a page that begins with it
+abbrev pub with_replica : Option Stored → Page → Stored
+with_replica None page = record { bytes = page.bytes; spots = page.spot ∷ [] }
+with_replica (Some stored) page = record { bytes = page.bytes; spots = stored.spots ++ page.spot ∷ [] }

@@ -24,10 +24,15 @@ const BYTES_A_THREAD: usize = 65_536;
 /// It has no supertrait `Send`, since with one each call under a bound `BesideDoor` would count as sending. And it
 /// isn't one trait with `Door`, since `put_all_groups` would then lead back to the very `impl` that calls it.
 pub trait BesideDoor: Door {
-    ghost use Rattle.std.specs.Prelude.{All, length};
+    ghost use Rattle.std.specs.Prelude.{◌≤◌, All, length};
     ghost use denote.Param.Send.{IsSync};
     ghost use Rattle.page_fan.specs.Groups.{CanBePut};
     ghost use Rattle.page_fan.specs.Stands.{EachReplied, EachHasReplies, EachCalled, TruthStays};
+
+    /// How many bytes of an update are worth a thread to this kind of door. An update of fewer than twice as many is stored by the
+    /// calling thread alone.
+    fn bytes_a_thread() -> usize
+        ensures { 1 ≤ result };
 
     /// Each stand puts the pages of its own provider, in order, and has one reply to each put in its tray. Where the
     /// tray is refused more memory, the stand stops, and the replies to its last puts are missing. The first stand is
@@ -51,7 +56,7 @@ pub trait BesideDoor: Door {
 /// Each stand puts the pages of its own provider, as `put_groups` says, in as many threads as there are `worth` bytes in
 /// the buffer, and no more than there are stands. Where that is one, or none can be made, the calling thread does it all.
 ///
-/// `worth` is how many bytes of an update are worth a thread to this kind of door, and at least 1.
+/// `worth` is how many bytes of an update are worth a thread to this kind of door, as its `bytes_a_thread` says.
 pub fn put_all_groups<D: Door + Send, R: Threads + Wait + Sync>(
     rt: &R,
     stands: &mut [Stand<D>],
@@ -78,6 +83,10 @@ pub fn put_all_groups<D: Door + Send, R: Threads + Wait + Sync>(
 }
 
 impl BesideDoor for PlainDoor {
+    fn bytes_a_thread() -> usize {
+        NEVER
+    }
+
     fn put_groups<R: Threads + Wait + Sync>(
         rt: &R,
         stands: &mut [Stand<PlainDoor>],
@@ -86,11 +95,16 @@ impl BesideDoor for PlainDoor {
         buffer: &[u8],
         puts: &[Put],
     ) {
-        put_all_groups(rt, stands, houses, p, buffer, puts, NEVER);
+        let worth = PlainDoor::bytes_a_thread();
+        put_all_groups(rt, stands, houses, p, buffer, puts, worth);
     }
 }
 
 impl BesideDoor for FlakyDoor {
+    fn bytes_a_thread() -> usize {
+        BYTES_A_THREAD
+    }
+
     fn put_groups<R: Threads + Wait + Sync>(
         rt: &R,
         stands: &mut [Stand<FlakyDoor>],
@@ -99,6 +113,7 @@ impl BesideDoor for FlakyDoor {
         buffer: &[u8],
         puts: &[Put],
     ) {
-        put_all_groups(rt, stands, houses, p, buffer, puts, BYTES_A_THREAD);
+        let worth = FlakyDoor::bytes_a_thread();
+        put_all_groups(rt, stands, houses, p, buffer, puts, worth);
     }
 }

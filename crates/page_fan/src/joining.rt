@@ -1,10 +1,9 @@
 // What the doors answered is joined, in the order of the pages and of their placements.
-ghost use Rattle.std.specs.Prelude.{◌≡◌, ℕ, ◌+◌, ◌*◌, ◌^◌, ◌<◌, ◌≤◌, List, length, IfOk, OnOk, IfSome, All};
+ghost use Rattle.std.specs.Prelude.{◌≡◌, ℕ, ◌+◌, ◌*◌, ◌^◌, ◌<◌, ◌≤◌, List, length, IfOk, OnOk, OnErr, IfSome, Some, All};
 ghost use Rattle.std.specs.Prelude.{[], ◌∷◌, ◌++◌, take, drop, vec_capacity};
-ghost use Rattle.std.specs.Option.{option_map_or};
 ghost use Rattle.page_store.specs.House.{IsProvider};
 ghost use Rattle.replica_place.specs.Chosen.{chosen};
-ghost use Rattle.page_fan.specs.Answer.{AreAnswered, IsPageAnswer};
+ghost use Rattle.page_fan.specs.Answer.{AreAnswered, IsPageAnswer, with_replica};
 ghost use Rattle.page_fan.specs.Counts.{NoneFell, count_at};
 ghost use Rattle.page_fan.specs.Groups.{CanBePut, IsAnswerTo};
 ghost use Rattle.page_fan.specs.Listed.{HasPages, puts_at, puts_from};
@@ -93,7 +92,7 @@ fn join_page<D: Door, R: Wait>(
             at,
         };
         match answer_at(rt, stands, houses, p, buffer, put) {
-            PutAnswer::Stored(page) => stored = Some(with_replica(alloc, stored, page, behind)?),
+            PutAnswer::Stored(page) => add_replica(alloc, &mut stored, page, behind)?,
             PutAnswer::Failed => {}
             PutAnswer::NoMemory => return Err(NoMemory),
         }
@@ -127,24 +126,24 @@ fn answer_at<D: Door, R: Wait>(
     stand.answer(rt, houses, p, buffer, put)
 }
 
-// The page with one replica more, behind which so many may follow.
-fn with_replica(
+// Adds a replica to the page, or begins the page with it. So many replicas may still follow. Where memory is refused, the page
+// stays as it was.
+pub(crate) fn add_replica(
     alloc: Global,
-    stored: Option<StoredPage>,
+    stored: &mut Option<StoredPage>,
     page: PageRef,
     behind: u32,
-) -> Result<StoredPage, NoMemory>
-    requires same { IfSome stored (λ s. s.bytes ≡ page.bytes) }
-    requires room { IfSome stored (λ s. length s.spots < 8) }
-    ensures bytes { IfOk result (λ new. new.bytes ≡ page.bytes) }
-    ensures spots { IfOk result (λ new.
-        new.spots ≡ option_map_or (λ s. s.spots) stored [] ++ page.spot ∷ []) }
+) -> Result<(), NoMemory>
+    requires same { IfSome stored.old (λ s. s.bytes ≡ page.bytes) }
+    requires room { IfSome stored.old (λ s. length s.spots < 8) }
+    ensures added { OnOk result (stored.new ≡ Some (with_replica stored.old page)) }
+    ensures err { OnErr result (stored.new ≡ stored.old) }
 {
     match stored {
-        None => Ok(StoredPage::of(alloc, page)),
-        Some(mut replicas) => {
-            replicas.add(page, behind)?;
-            Ok(replicas)
+        None => {
+            *stored = Some(StoredPage::of(alloc, page));
+            Ok(())
         }
+        Some(replicas) => replicas.add(page, behind),
     }
 }

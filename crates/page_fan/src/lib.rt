@@ -7,6 +7,7 @@ mod doors;
 mod fetching;
 mod joining;
 mod listing;
+mod putting;
 mod stand;
 mod storing;
 

@@ -115,8 +115,14 @@ impl<D: Door> Stand<D> {
         }
     }
 
-    // Puts the bytes at the provider.
-    fn put<R: Wait>(&mut self, rt: &R, houses: &Houses, provider: u32, bytes: &[u8]) -> PutAnswer
+    // Puts the bytes at the provider, and leaves the tray as it is.
+    pub(crate) fn put<R: Wait>(
+        &mut self,
+        rt: &R,
+        houses: &Houses,
+        provider: u32,
+        bytes: &[u8],
+    ) -> PutAnswer
         requires house { IsProvider (length houses.now) provider }
         requires some { 1 ≤ length bytes.now }
         requires small { length bytes.now ≤ MAX_PAGE }

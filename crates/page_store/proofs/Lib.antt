@@ -1,2 +1,4 @@
+pub mod Apart
 pub mod Cuts
+pub mod Keeping
 pub mod CallsLemmas

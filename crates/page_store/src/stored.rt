@@ -9,10 +9,12 @@ use std::alloc::Global;
 use std::fmt;
 use std::marker::Model;
 
-/// A page with its replicas: 1 to 8 references that all stand for the same bytes. Most stores keep few replicas, so a page
-/// has room for those alone: the first lies in it, and the others in one block of memory, if there are any.
+/// A page with its replicas: 1 to 8 references that all stand for the same bytes. Most stores keep few replicas: the first two
+/// lie in the page, and the others in one block of memory, if there are any.
 pub struct StoredPage {
     first: PageRef,
+    second: Option<PageRef>,
+    // none where there is no second one
     others: Vec<PageRef>,
 }
 
@@ -21,6 +23,7 @@ impl Drop for StoredPage {
     fn drop(self) {
         let StoredPage {
             first: _,
+            second: _,
             others: _,
         } = self;
     }
@@ -28,6 +31,7 @@ impl Drop for StoredPage {
 
 impl Model for StoredPage {
     ghost use Rattle.std.specs.Prelude.{◌∷◌, map};
+    ghost use Rattle.std.specs.List.{cons_option};
     ghost use Rattle.page_store.specs.Stored.{Stored, stored_coded};
     ghost use Rattle.page_store.specs.Page.{AreOthers};
 
@@ -35,9 +39,9 @@ impl Model for StoredPage {
 
     ghost coded = { stored_coded };
 
-    ghost view = { λ s. record { bytes = s.first.bytes; spots = s.first.spot ∷ map (λ p. p.spot) s.others.items } };
+    ghost view = { λ s. record { bytes = s.first.bytes; spots = s.first.spot ∷ map (λ p. p.spot) (cons_option s.second s.others.items) } };
 
-    ghost invariant = { λ s. AreOthers s.first.bytes s.others.items };
+    ghost invariant = { λ s. AreOthers s.first.bytes s.second s.others.items };
 }
 
 impl StoredPage {
@@ -47,12 +51,13 @@ impl StoredPage {
     {
         StoredPage {
             first,
+            second: None,
             others: Vec::new(alloc),
         }
     }
 
     /// Adds a replica at the end, where `more` replicas may still follow. A page that has no room left asks once for that
-    /// of this replica and of those, so it takes one block of memory, and none as long as it has one replica. Where memory
+    /// of this replica and of those, so it takes one block of memory, and none as long as it has two replicas. Where memory
     /// is refused, the page stays as it was.
     pub fn add(&mut self, other: PageRef, more: u32) -> Result<(), NoMemory>
         requires same { other.bytes ≡ self.old.bytes }
@@ -60,6 +65,10 @@ impl StoredPage {
         ensures added { OnOk result (self.new ≡ record { bytes = self.old.bytes; spots = self.old.spots ++ other.spot ∷ [] }) }
         ensures err { OnErr result (self.new ≡ self.old) }
     {
+        if self.second.is_none() {
+            self.second = Some(other);
+            return Ok(());
+        }
         self.others.reserve_exact(more as usize + 1)?;
         self.others.push_reserved(other);
         Ok(())
@@ -78,7 +87,10 @@ impl StoredPage {
         ensures some { 1 ≤ result }
         ensures few { result ≤ 8 }
     {
-        self.others.len() as u32 + 1
+        match &self.second {
+            Some(_) => self.others.len() as u32 + 2,
+            None => 1,
+        }
     }
 
     /// Replica `i`, from 0, in the order in which they were added.
@@ -88,20 +100,29 @@ impl StoredPage {
         ensures same { result.now.bytes ≡ self.now.bytes }
     {
         if i == 0 {
-            &self.first
+            return &self.first;
+        }
+        let Some(second) = &self.second else {
+            unreachable!()
+        };
+        if i == 1 {
+            second
         } else {
-            &self.others[i as usize - 1]
+            &self.others[i as usize - 2]
         }
     }
 }
 
 /// The stored pages of one update, which stand for its bytes: the update's bytes cut at multiples of the page size.
-/// All pages but the last have as many bytes as the page size.
+/// All pages but the last have as many bytes as the page size. The first page lies in the list, and the others in one block of
+/// memory, if there are any: so an update of one page takes none.
 pub struct Pages {
     page_size: u64,
     room: u32,
     len: u64,
-    pages: Vec<StoredPage>,
+    first: Option<StoredPage>,
+    // none where there is no first one
+    others: Vec<StoredPage>,
 }
 
 // By hand, for the same.
@@ -111,7 +132,8 @@ impl Drop for Pages {
             page_size: _,
             room: _,
             len: _,
-            pages: _,
+            first: _,
+            others: _,
         } = self;
     }
 }
@@ -123,9 +145,9 @@ impl Model for Pages {
 
     ghost coded = { cut_coded };
 
-    ghost use Rattle.page_store.specs.PagesInvariant.{KeepsPages};
+    ghost use Rattle.page_store.specs.PagesInvariant.{KeepsPages, pages_in};
 
-    ghost view = { λ g. record { page_size = g.page_size; room = g.room; pages = g.pages.items } };
+    ghost view = { λ g. record { page_size = g.page_size; room = g.room; pages = pages_in g } };
 
     ghost invariant = { KeepsPages };
 }
@@ -133,7 +155,7 @@ impl Model for Pages {
 // It tells how many pages there are, and not their bytes.
 impl fmt::Debug for Pages {
     fn fmt<W: fmt::Write>(&self, f: &mut fmt::Formatter<W>) -> fmt::Result {
-        let count = self.pages.len();
+        let count = self.count();
         write!(f, "{count} pages")
     }
 }
@@ -149,7 +171,8 @@ impl Pages {
             page_size: p,
             room,
             len: 0,
-            pages: Vec::with_capacity(alloc, room as usize)?,
+            first: None,
+            others: Vec::with_capacity(alloc, room.saturating_sub(1) as usize)?,
         })
     }
 
@@ -163,7 +186,11 @@ impl Pages {
         ensures cut { IsCut self.new.page_size self.new.pages }
     {
         self.len += u64::from(page.len());
-        self.pages.push_reserved(page);
+        if self.first.is_none() {
+            self.first = Some(page);
+            return;
+        }
+        self.others.push_reserved(page);
     }
 
     /// The number of pages.
@@ -173,7 +200,10 @@ impl Pages {
         ensures enough { length (bytes_of_pages self.now.pages) ≤ result * self.now.page_size }
     {
         let _room = self.room;
-        self.pages.len() as u32
+        match &self.first {
+            Some(_) => self.others.len() as u32 + 1,
+            None => 0,
+        }
     }
 
     /// The pages cut an update's bytes, all of the page size but the last. For proofs: it does nothing.
@@ -197,7 +227,14 @@ impl Pages {
         ensures this { slice_get self.now.pages i ≡ Some result.now }
         ensures bytes { result.now.bytes ≡ slice_range (bytes_of_pages self.now.pages) (i * self.now.page_size) (min ((i + 1) * self.now.page_size) (length (bytes_of_pages self.now.pages))) }
     {
-        &self.pages[i as usize]
+        let Some(first) = &self.first else {
+            unreachable!()
+        };
+        if i == 0 {
+            first
+        } else {
+            &self.others[i as usize - 1]
+        }
     }
 
     /// The page of an update that has no other, to be handed on. It takes no memory.
@@ -210,10 +247,10 @@ impl Pages {
             page_size: _,
             room: _,
             len: _,
-            mut pages,
+            first,
+            others,
         } = self;
-        let page = pages.pop().unwrap();
-        pages.destroy_empty();
-        page
+        others.destroy_empty();
+        first.unwrap()
     }
 }

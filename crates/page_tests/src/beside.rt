@@ -1,5 +1,5 @@
 //! Doors that are asked beside each other.
-ghost use Rattle.std.specs.Prelude.{◌≡◌, length};
+ghost use Rattle.std.specs.Prelude.{◌≡◌, ◌≤◌, length};
 
 use page_fan::{BesideDoor, Doors, Put, Stand, put_all_groups, store};
 use page_store::{Door, DoorMaker, GetAnswer, Houses, NoMemory, PageHouse, PageRef, PutAnswer};
@@ -51,6 +51,12 @@ impl<'a> Door for MeetingDoor<'a> {
 }
 
 impl<'a> BesideDoor for MeetingDoor<'a> {
+    fn bytes_a_thread() -> usize
+        ensures { 1 ≤ result }
+    {
+        65_536
+    }
+
     fn put_groups<R: Threads + Wait + Sync>(
         rt: &R,
         stands: &mut [Stand<MeetingDoor<'a>>],
@@ -59,7 +65,8 @@ impl<'a> BesideDoor for MeetingDoor<'a> {
         buffer: &[u8],
         puts: &[Put],
     ) {
-        put_all_groups(rt, stands, houses, p, buffer, puts, 65_536);
+        let worth = MeetingDoor::bytes_a_thread();
+        put_all_groups(rt, stands, houses, p, buffer, puts, worth);
     }
 }
 

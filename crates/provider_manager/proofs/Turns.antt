@@ -30,6 +30,10 @@ in_turn-push loads r pages page h is = λ k l.
           get_or_push pages page [] k end ∙ is ∙ ap (λ ps. least (loads_after loads ps) r) (sym (take_at pages (page ∷ []) k end))
     ]
 
+-- one page that is the only one
+pub in_turn-one : (loads : List ℕ) (r : ℕ) (page : List ℕ) → page ≡ least loads r → PlacedInTurn loads r (page ∷ [])
+in_turn-one loads r page is = in_turn-push loads r [] page (λ k l. absurd (omega (arith, l))) is
+
 pub after-more : (start was now : Book) (pages : List (List ℕ)) (page : List ℕ) → IsAfter start was pages → page ≡ least was.loads was.replicas → IsSpread (length was.loads) was.replicas page → now.loads ≡ with_replicas was.loads page → length now.loads ≡ length was.loads → sum now.loads ≡ sum was.loads + was.replicas → now.replicas ≡ was.replicas → (IsEven was.loads → IsEven now.loads) → IsAfter start now (pages ++ page ∷ [])
 after-more start was now pages page h is spread loads count total replicas even = record {
   in_turn = in_turn-push start.loads start.replicas pages page h.in_turn (is ∙ ap (λ r. least was.loads r) h.replicas ∙ ap (λ xs. least xs start.replicas) h.loads);

@@ -1,3 +1,4 @@
 pub mod Book
 pub mod Loads
 pub mod Placed
+pub mod Places

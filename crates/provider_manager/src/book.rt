@@ -153,7 +153,8 @@ impl LoadBook {
         }
     }
 
-    fn place_one(&mut self) -> Placement
+    // Places one page. It takes no memory.
+    pub(crate) fn place_one(&mut self) -> Placement
         requires { sum self.old.loads + self.old.replicas ≤ 2 ^ 62 }
         ensures least { chosen result ≡ least self.old.loads self.old.replicas }
         ensures spread { IsSpread (length self.old.loads) self.old.replicas (chosen result) }

@@ -1,6 +1,6 @@
 //! The book that the sessions share.
 
-ghost use Rattle.std.specs.Prelude.{ℕ, ◌≡◌, ◌+◌, ◌*◌, ◌<◌, ◌≤◌, ◌^◌, All, length, map, sum};
+ghost use Rattle.std.specs.Prelude.{ℕ, ◌≡◌, ◌+◌, ◌*◌, ◌<◌, ◌≤◌, ◌^◌, [], ◌∷◌, All, length, map, sum};
 ghost use Rattle.replica_place.specs.Chosen.{chosen};
 ghost use Rattle.provider_manager.specs.Loads.{IsEven};
 
@@ -35,6 +35,17 @@ impl EvenBook {
     {
         self.make_fit(providers, replicas, pages.len() as u32);
         self.book.place_each(pages);
+    }
+
+    // Places one page so. It takes no memory either.
+    pub(crate) fn place_one(&mut self, providers: u32, replicas: u32) -> Placement
+        requires { AreCounts providers replicas }
+        ensures spread { IsSpread providers replicas (chosen result) }
+        ensures evenly { IsPlacedEvenly providers replicas (chosen result ∷ []) }
+        ensures placed { IsPlacedBy providers replicas (chosen result ∷ []) self.old.book self.new.book }
+    {
+        self.make_fit(providers, replicas, 1);
+        self.book.place_one()
     }
 
     // Makes it a book of these numbers that so many pages don't take past what a book counts.

@@ -1,30 +1,39 @@
 //! The placements of the pages of one update.
 
-ghost use Rattle.std.specs.Prelude.{ℕ, ◌≡◌, ◌<◌, ◌^◌, List, [], IfOk, length, map, slice_index_or, vec_len};
+ghost use Rattle.std.specs.Prelude.{ℕ, ◌≡◌, ◌<◌, ◌^◌, List, [], ◌∷◌, IfOk, length, map, slice_index_or, vec_len};
 ghost use Rattle.replica_place.specs.Chosen.{chosen};
 
 use crate::NoMemory;
 use replica_place::{MOST_REPLICAS, Placement};
 use std::alloc::Global;
 use std::marker::Model;
+use std::slice;
 
-/// A placement for each page of an update, in the order of the pages.
+/// A placement for each page of an update, in the order of the pages. That of one page takes no memory of its own.
 ///
 /// A contract sees the list of the pages' providers, each page with a list of its own.
 #[derive(Debug, Drop)]
 pub struct Placements {
-    pages: Vec<Placement>,
+    pages: Places,
+}
+
+// Most updates have one page.
+#[derive(Debug, Drop)]
+enum Places {
+    One(Placement),
+    Several(Vec<Placement>),
 }
 
 impl Model for Placements {
-    ghost use Rattle.std.specs.Prelude.{ℕ, ◌<◌, ◌^◌, List, map, vec_len};
+    ghost use Rattle.std.specs.Prelude.{ℕ, ◌<◌, ◌^◌, List, length, map};
     ghost use Rattle.replica_place.specs.Chosen.{chosen};
+    ghost use Rattle.provider_manager.specs.Places.{placements_of};
 
     ghost Value = { List (List ℕ) };
 
-    ghost view = { λ p. map chosen p.pages.items };
+    ghost view = { λ p. map chosen (placements_of p.pages) };
 
-    ghost invariant = { λ p. vec_len p.pages < 2 ^ 32 };
+    ghost invariant = { λ p. length (placements_of p.pages) < 2 ^ 32 };
 }
 
 impl Placements {
@@ -32,14 +41,35 @@ impl Placements {
         requires { vec_len pages < 2 ^ 32 }
         ensures { result ≡ map chosen pages.items }
     {
-        Placements { pages }
+        Placements {
+            pages: Places::Several(pages),
+        }
+    }
+
+    pub(crate) fn of_page(page: Placement) -> Placements
+        ensures { result ≡ chosen page ∷ [] }
+    {
+        Placements {
+            pages: Places::One(page),
+        }
+    }
+
+    // The placements, in the order of the pages.
+    fn all(&self) -> &[Placement]
+        ensures all { map chosen result.now ≡ self.now }
+        ensures few { length result.now < 2 ^ 32 }
+    {
+        match &self.pages {
+            Places::One(page) => slice::from_ref(page),
+            Places::Several(pages) => pages.as_slice(),
+        }
     }
 
     /// The number of pages.
     pub fn count(&self) -> u32
         ensures { result ≡ length self.now }
     {
-        self.pages.len() as u32
+        self.all().len() as u32
     }
 
     /// The placement of a page; pages count from 0.
@@ -47,7 +77,7 @@ impl Placements {
         requires { page < length self.now }
         ensures { chosen result.now ≡ slice_index_or self.now page [] }
     {
-        &self.pages[page as usize]
+        &self.all()[page as usize]
     }
 }
 

@@ -1,6 +1,6 @@
 //! The book of loads that all sessions place by.
 
-ghost use Rattle.std.specs.Prelude.{ℕ, ◌≡◌, All, IfOk, length};
+ghost use Rattle.std.specs.Prelude.{ℕ, ◌≡◌, All, IfOk, IsOk, length};
 ghost use Rattle.provider_manager.specs.Loads.{IsEven};
 ghost use Rattle.provider_manager.specs.Placed.{IsSpread, IsPlacedEvenly};
 ghost use Rattle.provider_manager.specs.Book.{Book, Counts};
@@ -60,17 +60,31 @@ impl SharedLoads {
     /// Places pages in turn, each at the providers that are least loaded then. It waits for the book's lock.
     ///
     /// Where the loads would become more than a book counts, the least of them is first taken from each,
-    /// so that want of memory is the one refusal. Room for the placements is made before the lock is taken.
+    /// so that want of memory is the one refusal. Room for the placements is made before the lock is taken. A single page takes no
+    /// memory, so it is always placed.
     pub fn place(&self, rt: &impl Wait, alloc: Global, pages: u32) -> Result<Placements, NoMemory>
         ensures pages { IfOk result (λ placed. length placed ≡ pages) }
         ensures spread { IfOk result (All (IsSpread self.now.providers self.now.replicas)) }
         ensures evenly { IfOk result (IsPlacedEvenly self.now.providers self.now.replicas) }
+        ensures one { pages ≡ 1 → IsOk result }
     {
+        if pages == 1 {
+            return Ok(self.place_one(rt));
+        }
         let mut placed = room_for(alloc, pages)?;
         // A book under the lock has these numbers, but no type says so: they are compared.
         self.book
             .lock(rt)
             .place_each(self.providers, self.replicas, placed.as_mut_slice());
         Ok(Placements::of_pages(placed))
+    }
+    // Places one page, by the same book and in the same way. It takes no memory.
+    fn place_one(&self, rt: &impl Wait) -> Placements
+        ensures page { length result ≡ 1 }
+        ensures spread { All (IsSpread self.now.providers self.now.replicas) result }
+        ensures evenly { IsPlacedEvenly self.now.providers self.now.replicas result }
+    {
+        let page = self.book.lock(rt).place_one(self.providers, self.replicas);
+        Placements::of_page(page)
     }
 }

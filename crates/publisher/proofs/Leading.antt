@@ -1,6 +1,7 @@
 -- The rows before the first missing one.
-use Rattle.std.proofs.Common.{◌≡◌, ℕ, zero, suc, ◌+◌, ◌<◌, ◌≤◌, List, [], ◌∷◌, ◌++◌, length, take, drop, map, is_some, option_map, Option, None, Some, arith, refl, ap, sym, ◌∙◌, get_or, set}
+use Rattle.std.proofs.Common.{◌≡◌, ℕ, zero, suc, ◌+◌, ◌<◌, ◌≤◌, List, [], ◌∷◌, ◌++◌, length, take, drop, map, is_some, option_map, Option, None, Some, Bool, true, false, true≢false, arith, refl, ap, sym, ◌∙◌, get_or, set}
 use Rattle.std.specs.Prelude.{All, IfSome}
+use Rattle.std.specs.Bool.{OnFalse}
 use Rattle.std.proofs.lemmas.List.{drop_more}
 use Rattle.blob_model.specs.Store.{true_prefix}
 use Rattle.tree_geom.specs.declared.touch.Touch.{Touch}
@@ -49,6 +50,17 @@ pub slot_leads : {A : Type 0} (view : A → UpdateRow) (xs : List (Option A)) (i
 slot_leads {A} view xs i x a lt at is =
     let F : List (Option A) → List UpdateRow = λ l. leading (map (option_map view) l) in
     ap F (drop_more xs i x lt) ∙ ap (λ (o : Option A). F (o ∷ drop (i + 1) xs)) (sym at ∙ is)
+
+-- nothing leads where there is no first slot, or it is empty
+pub none_there : {A : Type 0} (view : A → UpdateRow) (xs : List (Option A)) → length xs ≡ 0 → leading (map (option_map view) xs) ≡ []
+none_there view [] e = refl
+none_there view (x ∷ xs) e = absurd (omega arith)
+
+pub first_leads : {A : Type 0} (view : A → UpdateRow) (xs : List (Option A)) (x : Option A) (there : Bool) → x ≡ get_or xs 0 x → there ≡ is_some x → OnFalse there (leading (map (option_map view) xs) ≡ [])
+first_leads view xs x true at is = tt
+first_leads view [] x false at is = refl
+first_leads view (None ∷ xs) x false at is = refl
+first_leads view (Some a ∷ xs) x false at is = absurd (true≢false (sym (ap is_some at) ∙ sym is))
 
 -- the slot of the least unfinished update is empty
 pub first_missing : (xs : List (Option UpdateRow)) → leading xs ≡ [] → 0 < length xs → xs ≡ None ∷ drop 1 xs

@@ -107,8 +107,9 @@ impl Window {
             self.above[slot] = Some(row);
             return Ok(published);
         }
-        let Ok(next) = moved_on(&self.snapshot, &row, &self.above[1..]) else {
-            return Err((FinishFault::NoMemory, row));
+        let next = match moved_on(&self.snapshot, row, &self.above[1..]) {
+            Ok(next) => next,
+            Err(row) => return Err((FinishFault::NoMemory, row)),
         };
         let now = next.version();
         let passed = now - published;

@@ -1,8 +1,8 @@
 -- Lists of waiting updates.
-use Rattle.std.proofs.Common.{◌≡◌, ℕ, ◌+◌, ◌-◌, ◌<◌, List, [], ◌∷◌, ◌++◌, length, take, drop, arith, inl, inr, ap, sym, ◌∙◌, get_or, length-append, length-drop}
+use Rattle.std.proofs.Common.{◌≡◌, ℕ, ◌+◌, ◌-◌, ◌<◌, List, [], ◌∷◌, ◌++◌, length, arith, inl, inr, ap, sym, ◌∙◌, get_or, length-append}
 use Rattle.std.proofs.lemmas.Bool.{cases_lt}
-use Rattle.std.proofs.lemmas.List.{get_or_append_left, take-append-le}
-use Rattle.std.proofs.Math.Seq.{get_or-append_seam, take-length}
+use Rattle.std.proofs.lemmas.List.{get_or_append_left}
+use Rattle.std.proofs.Math.Seq.{get_or-append_seam}
 use Rattle.range_log.specs.declared.open.OpenTouch.{OpenTouch}
 use Rattle.range_log.specs.Open.{no_open, open_at, Rises}
 
@@ -22,12 +22,3 @@ rises_push xs o rises next i lt =
           ∙ ap (λ k. V (get_or xs k no_open) + 1) f
           ∙ ap (λ x. V x + 1) (sym here)
     ]
-
--- what is left of a list after its first part was turned to its end and cut off
-pub turned : (xs : List OpenTouch) (n kept : ℕ) → kept ≡ length xs - n → take kept (drop n xs ++ take n xs) ≡ drop n xs
-turned xs n kept e =
-    let count : length (drop n xs) ≡ length xs - n = length-drop n xs in
-    let k : kept ≡ length (drop n xs) = omega arith in
-    ap (λ m. take m (drop n xs ++ take n xs)) k
-    ∙ take-append-le (length (drop n xs)) (drop n xs) (take n xs) (omega arith)
-    ∙ take-length (drop n xs)

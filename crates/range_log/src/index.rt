@@ -1,10 +1,11 @@
 // Where a range stands in a row.
 ghost use Rattle.std.specs.Prelude.{◌≡◌, ◌≢◌, ℕ, ◌+◌, ◌*◌, ◌/◌, ◌^◌, ◌<◌, ◌≤◌, length, IfSome, MatchOption, Some, slice_get};
 ghost use Rattle.std.specs.List.{Contains};
+ghost use Rattle.tree_geom.specs.Geometry.{IsPageSize};
 ghost use Rattle.range_log.specs.Rows.{levels_of};
 ghost use Rattle.range_log.specs.Positions.{IsLevelOf, NoLevelHas};
 
-use tree_geom::{PageSize, Range, Touch};
+use tree_geom::{Range, Touch};
 
 // The ranges of one height in a row: the numbers of the first and the last, and how many ranges of the row are of that height or
 // a lower one.
@@ -36,13 +37,15 @@ fn doublings(width: u64, size: u64) -> Option<u32>
 // The ranges of so many bytes in the row of an update with that touch, in a tree of that height. Once the touched pages lie in one
 // range, each level above has one range more, so these levels are counted and not walked.
 #[inline(always)]
-fn level_above(p: PageSize, height: u32, touch: &Touch, size: u64) -> Option<Level>
+fn level_above(p: u64, height: u32, touch: &Touch, size: u64) -> Option<Level>
+    requires least { 1 ≤ p }
+    requires greatest { p ≤ 1048576 }
     requires height { height ≤ 38 }
     requires ordered { touch.now.first ≤ touch.now.last }
     requires fits { touch.now.last * p ≤ 2 ^ 40 }
     ensures { MatchOption result (NoLevelHas p height size) (λ level. (h : ℕ) × IsLevelOf p touch.now height h size level.first level.last level.count) }
 {
-    let mut width = p.bytes();
+    let mut width = p;
     let mut first = touch.first;
     let mut last = touch.last;
     let mut count = last - first + 1;
@@ -69,13 +72,15 @@ fn level_above(p: PageSize, height: u32, touch: &Touch, size: u64) -> Option<Lev
 
 // The same. For a page, as in most looks, no other level is asked for.
 #[inline(always)]
-fn level_of_size(p: PageSize, height: u32, touch: &Touch, size: u64) -> Option<Level>
+fn level_of_size(p: u64, height: u32, touch: &Touch, size: u64) -> Option<Level>
+    requires least { 1 ≤ p }
+    requires greatest { p ≤ 1048576 }
     requires height { height ≤ 38 }
     requires ordered { touch.now.first ≤ touch.now.last }
     requires fits { touch.now.last * p ≤ 2 ^ 40 }
     ensures { MatchOption result (NoLevelHas p height size) (λ level. (h : ℕ) × IsLevelOf p touch.now height h size level.first level.last level.count) }
 {
-    if size != p.bytes() {
+    if size != p {
         return level_above(p, height, touch, size);
     }
     Some(Level {
@@ -96,16 +101,12 @@ fn number_of(size: u64, offset: u64) -> u64
 
 /// Where the range stands among the ranges of a row, counted from 0. None exactly where it is none of them.
 ///
-/// The row is that of an update with that touch, in a tree of that height, and has `count` ranges. The time is that of the levels up
-/// to the one at which a single range holds all touched pages: constant for an update of one page, and for a range that is a page.
+/// The row is that of an update with that touch, in a tree of that height over pages of `p` bytes, and has `count` ranges. The time is
+/// that of the levels up to the one at which a single range holds all touched pages: constant for an update of one page, and for a
+/// range that is a page.
 #[inline(always)]
-pub fn index_in_row(
-    p: PageSize,
-    height: u32,
-    touch: &Touch,
-    count: u64,
-    range: Range,
-) -> Option<u64>
+pub fn index_in_row(p: u64, height: u32, touch: &Touch, count: u64, range: Range) -> Option<u64>
+    requires page_size { IsPageSize p }
     requires height { height ≤ 38 }
     requires ordered { touch.now.first ≤ touch.now.last }
     requires fits { touch.now.last * p ≤ 2 ^ 40 }
@@ -113,7 +114,6 @@ pub fn index_in_row(
     ensures { let ranges = levels_of p touch.now (height + 1) in
         MatchOption result (¬ Contains ranges range) (λ i. slice_get ranges i ≡ Some range) }
 {
-    p.stands();
     let Some(level) = level_of_size(p, height, touch, range.size) else {
         return None;
     };

@@ -1,5 +1,5 @@
 // The touches of updates that aren't published.
-ghost use Rattle.std.specs.Prelude.{◌≡◌, ◌+◌, ◌-◌, ◌<◌, ◌≤◌, [], ◌∷◌, ◌++◌, length, drop, IfOk};
+ghost use Rattle.std.specs.Prelude.{◌≡◌, ◌+◌, ◌-◌, ◌<◌, ◌≤◌, [], ◌∷◌, ◌++◌, length, take, drop, IfOk};
 ghost use Rattle.range_log.specs.Open.{open_at, Rises};
 
 use faults::NoMemory;
@@ -88,6 +88,16 @@ impl OpenList {
     {
         Ok(OpenCopy {
             items: Vec::from_slice(alloc, &self.items)?,
+        })
+    }
+
+    /// The first `count` of these updates in a copy of their own, in room for no more than these. There are that many.
+    pub fn first_copied(&self, alloc: Global, count: u32) -> Result<OpenCopy, NoMemory>
+        requires { count ≤ length self.now }
+        ensures { IfOk result (λ copy. copy ≡ take count self.now) }
+    {
+        Ok(OpenCopy {
+            items: Vec::from_slice(alloc, &self.items[..count as usize])?,
         })
     }
 }

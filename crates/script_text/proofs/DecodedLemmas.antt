@@ -15,7 +15,7 @@ use Rattle.request_form.specs.Operations.{numbers_of, has_bytes, request_with}
 use Rattle.script_text.specs.Fields.{number_of, bytes_of}
 use Rattle.script_text.specs.Requests.{request_of}
 use Rattle.script_text.specs.Lines.{fields_of}
-use Rattle.script_text.specs.Begun.{IsWithout, IsPlain}
+use Rattle.script_text.specs.Begun.{IsWithout, IsLetter, IsPlain}
 use Rattle.script_text.specs.Commands.{command_of}
 use Rattle.script_text.specs.Decoded.{AsksAs, AsksNothing, SpellsNoNumber, numbers_text, digits_of, part_text, fields_text, IsPart, IsDecoded, IsFieldBehind, BeginsPair, EndsNumber, Adds}
 use Rattle.script_text.specs.declared.fields.Part.{Part}
@@ -502,6 +502,13 @@ fields_plain operation ns part bytes d =
     ink_plain (command_of operation ++ 32 ∷ (numbers_text ns ++ part_text part bytes))
     (All-append IsInk (command_of operation) (32 ∷ (numbers_text ns ++ part_text part bytes)) (command_ink operation)
     (space_ink (numbers_text ns ++ part_text part bytes) (All-append IsInk (numbers_text ns) (part_text part bytes) (numbers_ink ns d.numbers_fit) (ink_solid (part_text part bytes) (part_solid operation ns part bytes d)))))
+
+-- letters of a command, and the space behind them
+pub letters_plain : (word : List ℕ) → All IsLetter word → IsPlain word
+letters_plain word letters = ink_plain word (ink_solid word (letters_solid word letters))
+
+pub command_plain : (word : List ℕ) → All IsLetter word → IsPlain (word ++ 32 ∷ [])
+command_plain word letters = ink_plain (word ++ 32 ∷ []) (All-append IsInk word (32 ∷ []) (ink_solid word (letters_solid word letters)) (space_ink [] (All-nil IsInk)))
 
 -- ---- a command alone
 

@@ -1,12 +1,14 @@
 -- Pairs of hex digits behind what has come of a line.
-use Rattle.std.proofs.Common.{◌≡◌, ◌∙◌, ℕ, suc, ◌+◌, ◌*◌, ◌≤◌, true, List, [], ◌∷◌, ◌++◌, length, take, unwrap_or, Option, Some, None, Result, Ok, Err, MatchResult, refl, sym, ap, subst, arith, append_assoc, append-nil}
-use Rattle.std.specs.Prelude.{IsOk}
+use Rattle.std.proofs.Common.{◌≡◌, ◌∙◌, ℕ, zero, suc, ◌+◌, ◌-◌, ◌*◌, ◌<◌, ◌≤◌, ◌==◌, ◌&&◌, not, Bool, true, false, List, [], ◌∷◌, ◌++◌, length, take, slice_index, get_or, unwrap_or, inl, inr, Option, Some, None, is_some, Result, Ok, refl, sym, ap, subst, arith, append_assoc, append-nil}
+use Rattle.std.specs.Bool.{MatchBool, OnTrue}
 use Rattle.std.specs.List.{AllPass}
 use Rattle.std.specs.Result.{result_ok}
-use Rattle.std.proofs.lemmas.List.Elements.{All-nil, All-head, All-tail}
-use Rattle.hex.specs.Hex.{is_hex_digit, pair_value, decode_sized, IsBytes}
-use Rattle.hex.specs.declared.error.FromHexError.{FromHexError}
-use Rattle.hex.proofs.HexLemmas.{decode_of-ok, IsOk-decode_sized, IsOk-written}
+use Rattle.std.proofs.lemmas.Bool.{and_parts, cases_lt, eqb-true, false≢true}
+use Rattle.std.proofs.lemmas.Bool.Decides.{nat_tests}
+use Rattle.std.proofs.lemmas.List.{take_all}
+use Rattle.std.proofs.lemmas.List.Elements.{All-nil, All-head, All-tail, All-more}
+use Rattle.hex.specs.Hex.{hex_digit_value, is_hex_digit, pair_value, IsBytes}
+use Rattle.hex.proofs.HexLemmas.{decode_of-ok}
 use Rattle.request_form.specs.declared.operation.Operation.{Operation}
 use Rattle.script_text.specs.Requests.{request_of}
 use Rattle.script_text.specs.Lines.{fields_of}
@@ -116,14 +118,69 @@ none_taken line piece line' e =
 
 -- ---- digits that decode
 
--- pairs of digits decode into room for as many bytes
-pub surely : (r : Result (Unit {0}) FromHexError) (digits out : List ℕ) (room : ℕ) → length digits ≡ 2 * room → AllPass is_hex_digit digits
-    → MatchResult (decode_sized digits room) (λ bytes. (r ≡ Ok tt) × (out ≡ bytes)) (λ e. r ≡ Err e) → IsOk r
-surely r digits out room twice all h =
-    let sized = IsOk-decode_sized digits room in
-    let written = IsOk-written (decode_sized digits room) r out h in
-    written.1 (sized.1 (twice, all))
+value_within : (c v : ℕ) → hex_digit_value c ≡ Some v → (48 ≤ c) × (c ≤ 102)
+value_within c v h = (grind (arith, nat_tests), grind (arith, nat_tests))
 
-pub no_error : (r : Result (Unit {0}) FromHexError) (e : FromHexError) → IsOk r → r ≡ Err e → ⊥
-no_error (Ok u) e ok h = cc
-no_error (Err x) e ok h = cc
+within_by : (c : ℕ) (o : Option ℕ) → hex_digit_value c ≡ o → is_some o ≡ true → (48 ≤ c) × (c ≤ 102)
+within_by c (Some v) e h = value_within c v e
+within_by c None e h = absurd (cc)
+
+-- digits lie between `0` and `f`
+digit_within : (c : ℕ) → is_hex_digit c ≡ true → (48 ≤ c) × (c ≤ 102)
+digit_within c h = within_by c (hex_digit_value c) refl h
+
+-- what the bytes from `0` on count as digits
+abbrev values : List ℕ
+values =
+    0 ∷ 1 ∷ 2 ∷ 3 ∷ 4 ∷ 5 ∷ 6 ∷ 7 ∷ 8 ∷ 9 ∷ 0 ∷ 0 ∷ 0 ∷ 0 ∷ 0 ∷ 0 ∷ 0
+    ∷ 10 ∷ 11 ∷ 12 ∷ 13 ∷ 14 ∷ 15 ∷ 0 ∷ 0 ∷ 0 ∷ 0 ∷ 0 ∷ 0 ∷ 0 ∷ 0 ∷ 0 ∷ 0 ∷ 0 ∷ 0 ∷ 0 ∷ 0 ∷ 0 ∷ 0 ∷ 0 ∷ 0 ∷ 0 ∷ 0 ∷ 0 ∷ 0 ∷ 0 ∷ 0 ∷ 0 ∷ 0
+    ∷ 10 ∷ 11 ∷ 12 ∷ 13 ∷ 14 ∷ 15 ∷ []
+
+-- one of them is told right, where it is a digit
+abbrev told : ℕ → Option ℕ → Bool
+told n None = true
+told n (Some v) = v == slice_index values n
+
+abbrev all_told : ℕ → Bool
+all_told zero = true
+all_told (suc n) = told n (hex_digit_value (n + 48)) && all_told n
+
+all_told-at : (n k : ℕ) → all_told n ≡ true → k < n → told k (hex_digit_value (k + 48)) ≡ true
+all_told-at zero k h lt = absurd (omega arith)
+all_told-at (suc n) k h lt =
+    let parts = and_parts (told n (hex_digit_value (n + 48))) (all_told n) h in
+    elim (cases_lt k n) [
+      | inl below ↦ all_told-at n k parts.1 below
+      | inr top ↦ let same : n ≡ k = omega arith in subst (λ (m : ℕ). told m (hex_digit_value (m + 48)) ≡ true) same parts.0
+    ]
+
+told_some : (n : ℕ) (o : Option ℕ) → is_some o ≡ true → told n o ≡ true → o ≡ Some (slice_index values n)
+told_some n (Some v) there h = ap (λ (x : ℕ). Some x) (eqb-true v (slice_index values n) h)
+told_some n None there h = absurd (false≢true there)
+
+-- what a digit counts stands in the table
+pub digit_counts : (c : ℕ) → is_hex_digit c ≡ true → hex_digit_value c ≡ Some (slice_index values (c - 48))
+digit_counts c h =
+    let within = digit_within c h in
+    let same : (c - 48) + 48 ≡ c = omega (arith, within.0) in
+    let here = subst (λ (x : ℕ). told (c - 48) (hex_digit_value x) ≡ true) same (all_told-at 55 (c - 48) refl (omega (arith, within.1))) in
+    told_some (c - 48) (hex_digit_value c) h here
+
+-- and is less than 16
+pub digit_few : (c v : ℕ) → hex_digit_value c ≡ Some v → v < 16
+digit_few c v h = grind arith
+
+-- two digits spell a byte
+pub digits_pair : (high low h l index : ℕ) → hex_digit_value high ≡ Some h → hex_digit_value low ≡ Some l → pair_value high low index ≡ Ok (h * 16 + l)
+digits_pair high low h l index a b = rw (a, b) refl
+
+-- of one byte more, all are digits
+pub digits_more : (digits other : Bool) (bytes : List ℕ) (i : ℕ) → i < length bytes → MatchBool other (is_hex_digit (get_or bytes i 0) ≡ false) (is_hex_digit (get_or bytes i 0) ≡ true)
+    → OnTrue digits (AllPass is_hex_digit (take i bytes)) → OnTrue (digits && not other) (AllPass is_hex_digit (take (i + 1) bytes))
+digits_more false other bytes i lt is before = tt
+digits_more true true bytes i lt is before = tt
+digits_more true false bytes i lt is before = All-more (λ c. is_hex_digit c ≡ true) bytes i 0 lt before is
+
+-- all were looked at
+pub digits_all : (digits : Bool) (bytes : List ℕ) (i : ℕ) → length bytes ≤ i → OnTrue digits (AllPass is_hex_digit (take i bytes)) → OnTrue digits (AllPass is_hex_digit bytes)
+digits_all digits bytes i le h = subst (λ (l : List ℕ). OnTrue digits (AllPass is_hex_digit l)) (take_all i bytes le) h

@@ -1,10 +1,10 @@
 ghost use Rattle.std.specs.Prelude.{◌≡◌, ◌≤◌, ◌<◌, ◌+◌, ◌-◌, ◌*◌, ◌%◌, ◌^◌, ◌==◌, ◌∷◌, ◌++◌, []};
-ghost use Rattle.std.specs.Prelude.{length, take, true, false, IfOk, OnOk, OnErr, MatchOption};
-ghost use Rattle.std.specs.Bool.{MatchBool};
+ghost use Rattle.std.specs.Prelude.{ℕ, length, take, true, false, Some, Ok, IfOk, OnOk, OnErr, MatchOption};
+ghost use Rattle.std.specs.Bool.{MatchBool, OnTrue};
 ghost use Rattle.std.specs.List.{AllPass};
 ghost use Rattle.std.specs.Fmt.{decimal};
 ghost use Rattle.std.specs.Result.{result_ok};
-ghost use Rattle.hex.specs.Hex.{pair_value, is_hex_digit};
+ghost use Rattle.hex.specs.Hex.{pair_value, hex_digit_value, is_hex_digit, decode_of};
 ghost use Rattle.request_form.specs.Operations.{numbers_of};
 ghost use Rattle.script_text.specs.Requests.{request_of};
 ghost use Rattle.text_lines.specs.Text.{Takes};
@@ -142,11 +142,25 @@ fn is_other(byte: u8) -> bool
     !byte.is_ascii_hexdigit()
 }
 
+// Whether all bytes are hex digits. Each is looked at whatever the others are, so that many can be at a time.
+fn are_digits(piece: &[u8]) -> bool
+    ensures { OnTrue result (AllPass is_hex_digit piece.now) }
+{
+    let mut digits = true;
+    for byte in piece {
+        digits &= !is_other(*byte);
+    }
+    digits
+}
+
 // How many bytes come before the first that is no hex digit.
 fn before_other(piece: &[u8]) -> usize
     ensures within { result ≤ length piece.now }
     ensures digits { AllPass is_hex_digit (take result piece.now) }
 {
+    if are_digits(piece) {
+        return piece.len();
+    }
     match piece.iter().position(|b| is_other(*b)) {
         Some(at) => at,
         None => piece.len(),
@@ -164,6 +178,43 @@ fn pairs_of(piece: &[u8]) -> &[u8]
     &piece[..count - count % 2]
 }
 
+// What the bytes from `0` to `f` count as hex digits. Those that are none count 0, and nobody asks for them.
+static VALUES: [u8; 55] = [
+    0, 1, 2, 3, 4, 5, 6, 7, 8, 9, 0, 0, 0, 0, 0, 0, 0, 10, 11, 12, 13, 14, 15, 0, 0, 0, 0, 0, 0, 0,
+    0, 0, 0, 0, 0, 0, 0, 0, 0, 0, 0, 0, 0, 0, 0, 0, 0, 0, 0, 10, 11, 12, 13, 14, 15,
+];
+
+// What a hex digit counts, looked up, so that nothing hangs on which one it is.
+#[inline(always)]
+fn digit_value(digit: u8) -> u8
+    requires { is_hex_digit digit ≡ true }
+    ensures value { hex_digit_value digit ≡ Some result }
+    ensures few { result < 16 }
+{
+    VALUES[digit as usize - 48]
+}
+
+// The byte that two hex digits spell, wherever they stand.
+#[inline(always)]
+fn digits_value(high: u8, low: u8) -> u8
+    requires high { is_hex_digit high ≡ true }
+    requires low { is_hex_digit low ≡ true }
+    ensures { (index : ℕ) → pair_value high low index ≡ Ok result }
+{
+    digit_value(high) * 16 + digit_value(low)
+}
+
+// Decodes pairs of hex digits into room for as many bytes.
+fn decode_digits(digits: &[u8], out: &mut [u8])
+    requires room { length digits.now ≡ 2 * length out.old }
+    requires digits { AllPass is_hex_digit digits.now }
+    ensures { decode_of digits.now ≡ Ok out.new }
+{
+    'bytes: for i in 0..out.len() {
+        out[i] = digits_value(digits[2 * i], digits[2 * i + 1]);
+    }
+}
+
 // Decodes pairs of hex digits into the bytes behind the first `held`, which are as many as the pairs.
 fn decode_behind(all: &mut [u8], held: usize, digits: &[u8])
     requires held { held ≤ length all.old }
@@ -171,10 +222,7 @@ fn decode_behind(all: &mut [u8], held: usize, digits: &[u8])
     requires digits { AllPass is_hex_digit digits.now }
     ensures { Decodes (take held all.old) digits.now all.new }
 {
-    match decode_to_slice(digits, &mut all[held..]) {
-        Ok(()) => {}
-        Err(_) => unreachable!(),
-    }
+    decode_digits(digits, &mut all[held..]);
 }
 
 // Puts the bytes that pairs of hex digits spell behind those that have come.
@@ -278,9 +326,24 @@ impl Fields {
         }
     }
 
-    /// Takes bytes of the line off the front of a piece: pairs of hex digits, or one byte. Answers how many, or none where the
-    /// line is no request, however it goes on.
+    /// Takes all bytes of a piece. Answers how many they are, or none where the line is no request, however it goes on.
     pub fn take(&mut self, piece: &[u8]) -> Result<Option<usize>, NoMemory>
+        requires { 0 < length piece.now }
+        ensures { IfOk result (λ count. Takes script_lines self.old piece.now self.new count) }
+    {
+        let mut taken = 0;
+        'piece: while taken < piece.len() {
+            match self.take_part(&piece[taken..])? {
+                Some(count) => taken += count,
+                None => return Ok(None),
+            }
+        }
+        Ok(Some(taken))
+    }
+
+    // Takes bytes of the line off the front of a piece: pairs of hex digits, or one byte. Answers how many, or none where the
+    // line is no request, however it goes on.
+    fn take_part(&mut self, piece: &[u8]) -> Result<Option<usize>, NoMemory>
         requires { 0 < length piece.now }
         ensures { IfOk result (λ count. Takes script_lines self.old piece.now self.new count) }
     {

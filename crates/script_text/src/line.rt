@@ -1,12 +1,13 @@
-ghost use Rattle.std.specs.Prelude.{◌≡◌, ◌<◌, ◌∷◌, ◌++◌, [], length, IfOk, MatchOption};
+ghost use Rattle.std.specs.Prelude.{◌≡◌, ◌⊎◌, ◌<◌, ◌≤◌, ◌∷◌, ◌++◌, [], length, take, slice_index, IfOk, MatchOption};
 ghost use Rattle.std.specs.Bool.{MatchBool};
+ghost use Rattle.arrayvec.specs.ArrayVec.{array_vec_len};
 ghost use Rattle.std.specs.List.{All};
 ghost use Rattle.text_lines.specs.Text.{Takes};
 ghost use Rattle.script_text.specs.Requests.{forms, request_in, request_of};
 ghost use Rattle.script_text.specs.Commands.{command_of};
 ghost use Rattle.script_text.specs.Lines.{fields_of, heard_as, script_lines};
 ghost use Rattle.script_text.specs.Decoded.{AsksNothing};
-ghost use Rattle.script_text.specs.Begun.{IsLetter, begun_text, IsBegun, BecomesIf};
+ghost use Rattle.script_text.specs.Begun.{IsLetter, begun_text, IsBegun};
 
 use crate::command::operation_of;
 use crate::fields::Fields;
@@ -14,7 +15,6 @@ use arrayvec::ArrayVec;
 use request_form::{Fault, Heard, NoMemory, Operation, Request};
 use std::alloc::Global;
 use std::marker::Model;
-use std::mem;
 use text_lines::Body;
 
 // The most bytes of a line, its end not counted.
@@ -46,23 +46,36 @@ fn asked(alloc: Global, word: &[u8]) -> Option<Fields>
     Fields::of(alloc, operation_of(word)?)
 }
 
-// One more byte of a line that has no space yet, if it may still be a request then.
-fn add_to_word(alloc: Global, mut word: ArrayVec<u8, 12>, byte: u8) -> Option<Begun>
-    requires { All IsLetter word.items }
-    ensures { BecomesIf (word.items ++ byte ∷ []) result }
+// Whether a byte is one more letter of a command, for which there is room.
+fn goes_on(word: &ArrayVec<u8, 12>, byte: u8) -> bool
+    ensures { MatchBool result
+        (IsLetter byte × (array_vec_len word.now < 12))
+        ((IsLetter byte → ⊥) ⊎ (12 ≤ array_vec_len word.now)) }
 {
-    if byte == b' ' {
-        return Some(Begun::Asked(asked(alloc, word.as_slice())?));
+    if word.is_full() {
+        return false;
     }
-    if !is_letter(byte) || word.is_full() {
-        return None;
-    }
-    word.push(byte);
-    Some(Begun::Word(word))
+    is_letter(byte)
 }
 
-// Takes bytes off the front of a piece, at least one, where what has come of the fields is changed where it lies. Says how many,
-// or none where the line is no request, however it goes on.
+// Adds the letters at the front of a piece to those of a command, as far as there is room, and says how many.
+fn add_letters(word: &mut ArrayVec<u8, 12>, piece: &[u8]) -> usize
+    requires { All IsLetter word.old.items }
+    ensures within { result ≤ length piece.now }
+    ensures word { word.new.items ≡ word.old.items ++ take result piece.now }
+    ensures letters { All IsLetter word.new.items }
+    ensures stops { result < length piece.now → (IsLetter (slice_index piece.now result) → ⊥) ⊎ (12 ≤ array_vec_len word.new) }
+{
+    let mut count = 0;
+    'letters: while count < piece.len() && goes_on(word, piece[count]) {
+        word.push(piece[count]);
+        count += 1;
+    }
+    count
+}
+
+// Takes bytes off the front of a piece, at least one, where what has come is changed where it lies. Says how many, or none where
+// the line is no request, however it goes on.
 fn take_part(alloc: Global, begun: &mut Begun, piece: &[u8]) -> Result<Option<usize>, NoMemory>
     requires begun { IsBegun begun.old }
     requires some { 0 < length piece.now }
@@ -72,11 +85,17 @@ fn take_part(alloc: Global, begun: &mut Begun, piece: &[u8]) -> Result<Option<us
     match begun {
         Begun::Asked(fields) => fields.take(piece),
         Begun::Word(word) => {
-            let was = mem::replace(word, ArrayVec::new());
-            match add_to_word(alloc, was, piece[0]) {
+            let count = add_letters(word, piece);
+            if count > 0 {
+                return Ok(Some(count));
+            }
+            if piece[0] != b' ' {
+                return Ok(None);
+            }
+            match asked(alloc, word.as_slice()) {
                 None => Ok(None),
-                Some(next) => {
-                    *begun = next;
+                Some(fields) => {
+                    *begun = Begun::Asked(fields);
                     Ok(Some(1))
                 }
             }

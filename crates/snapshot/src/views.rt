@@ -80,11 +80,23 @@ impl<'a> View<'a> {
         ensures size { result ≡ size_of (updates_of self.now) j }
         ensures fits { result ≤ 2 ^ 40 }
     {
-        laws::page_bytes_stay();
         if j == 0 {
             return 0;
         }
-        self.row(j).touch().size
+        self.size_by(j, self.row(j))
+    }
+
+    // The same of a version whose row is at hand.
+    #[inline(always)]
+    fn size_by(&self, j: u64, row: &Row) -> u64
+        requires version { (1 ≤ j) × (j ≤ length self.now.rows) }
+        requires this { row.now ≡ row_at self.now.rows j }
+        ensures size { result ≡ size_of (updates_of self.now) j }
+        ensures fits { result ≤ 2 ^ 40 }
+    {
+        laws::page_bytes_stay();
+        self.stands();
+        row.touch().size
     }
 
     /// The key of the version's root, under the blob that it was put under. None exactly where the size is 0.
@@ -99,12 +111,13 @@ impl<'a> View<'a> {
         if version == 0 {
             return None;
         }
+        let row = self.row(version);
         Some(NodeKey {
-            blob: self.row(version).blob(),
+            blob: row.blob(),
             version,
             range: Range {
                 offset: 0,
-                size: span(self.page_size(), self.size()),
+                size: span(self.page_size(), self.size_by(version, row)),
             },
         })
     }

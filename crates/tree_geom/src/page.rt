@@ -63,13 +63,10 @@ pub fn height(p: PageSize, size: u64) -> u32
     ensures least { IsHeight p size result }
     ensures bound { result ≤ 38 }
 {
-    let mut range = p.bytes();
-    let mut height = 0;
-    while range < size {
-        range *= 2;
-        height += 1;
-    }
-    height
+    // the least power of two that holds the bytes is twice the greatest up to the number of the last one, which counts from 0
+    let page = p.bytes();
+    let last = size.max(page) - 1;
+    last.ilog2() + 1 - page.ilog2()
 }
 
 /// How many bytes the root of the tree over `size` bytes covers: those of `2^h` pages, where `h` is the tree's height. An empty
@@ -87,7 +84,7 @@ pub fn span(p: PageSize, size: u64) -> u64
     if size == 0 {
         return 0;
     }
-    p.bytes() * 2u64.pow(height(p, size))
+    p.bytes() << height(p, size)
 }
 
 /// What the span of a size is. For proofs: it leaves nothing behind.

@@ -64,18 +64,20 @@ fn put_both<R: Threads + Wait + Sync + Abort>(
     )
 }
 
-// How many of the rows have the nodes of their version.
-fn count_right(house: &NodeHouse, rows: &[RowNodes]) -> u64
+// How many of the rows have the nodes of their version, where the first row is of this version and each is two after the one before.
+fn count_right(house: &NodeHouse, first: u64, rows: &[RowNodes]) -> u64
     requires { All (λ row. AreTwoIn house.now row) rows.now }
 {
     let mut right: u64 = 0;
+    let mut version = first;
     for i in 0..rows.len() {
         let row = &rows[i];
-        let first = house.get(&row.node(0)) == node_of(row.version(), 0);
-        let second = house.get(&row.node(1)) == node_of(row.version(), 1);
-        if first && second {
+        let one = house.get(&row.node(0)) == node_of(version, 0);
+        let other = house.get(&row.node(1)) == node_of(version, 1);
+        if one && other {
             right = right.saturating_add(1);
         }
+        version = version.saturating_add(2);
     }
     right
 }
@@ -85,6 +87,7 @@ fn count_beside<R: Threads + Wait + Sync + Abort>(
     rt: &R,
     alloc: Global,
     house: &NodeHouse,
+    first: u64,
     rows: &[RowNodes],
 ) -> u64
     requires { All (λ row. AreTwoIn house.now row) rows.now }
@@ -93,7 +96,7 @@ fn count_beside<R: Threads + Wait + Sync + Abort>(
         rt,
         || -> u64
             requires { All (λ row. AreTwoIn house.now row) rows.now }
-        { count_right(house, rows) },
+        { count_right(house, first, rows) },
         || put_both(rt, alloc, house),
     );
     right
@@ -104,8 +107,8 @@ fn rows_of_two_threads_are_read_by_a_third_while_others_put(rt: HostRuntime) {
     let alloc = rt.alloc();
     let house = NodeHouse::new(alloc).expect(&rt, "memory");
     let (odd, even) = put_both(&rt, alloc, &house);
-    assert!(rt; count_beside(&rt, alloc, &house, odd.as_slice()) == 500);
-    assert!(rt; count_beside(&rt, alloc, &house, even.as_slice()) == 500);
+    assert!(rt; count_beside(&rt, alloc, &house, 1, odd.as_slice()) == 500);
+    assert!(rt; count_beside(&rt, alloc, &house, 2, even.as_slice()) == 500);
 }
 
 #[test]

@@ -198,15 +198,13 @@ quotients_rise a b w pos le =
     ]
 
 -- where a level's loop ends
-pub level_done : (t : NumberedUpdate) (u : Touch) (h pages q : ℕ) (all now : List (Range × Node)) → pages ≡ 2 ^ h → u.first ≤ u.last → u.last / pages + 1 ≤ q
-    → (u.first / pages ≤ u.last / pages + 1 → q ≤ u.last / pages + 1) → now ≡ all ++ map (numbered_node t h) (range_with_len (u.first / pages) (q - u.first / pages))
+pub level_done : (t : NumberedUpdate) (u : Touch) (h q : ℕ) (all now : List (Range × Node)) → u.first ≤ u.last → u.last / 2 ^ h + 1 ≤ q
+    → (u.first / 2 ^ h ≤ u.last / 2 ^ h + 1 → q ≤ u.last / 2 ^ h + 1) → now ≡ all ++ map (numbered_node t h) (range_with_len (u.first / 2 ^ h) (q - u.first / 2 ^ h))
     → now ≡ all ++ own_nodes t (level_of t.snapshot.page_size u h)
-level_done t u h pages q all now w ordered past before is =
-    let pos : 1 ≤ pages = omega (arith, pow_pos h) in
-    let rises : u.first / pages ≤ u.last / pages = quotients_rise u.first u.last pages pos ordered in
-    let e : q - u.first / pages ≡ u.last / pages + 1 - u.first / pages = omega (arith, before (omega arith)) in
-    let f : ℕ → List (Range × Node) = λ x. all ++ map (numbered_node t h) (range_with_len (u.first / x) (u.last / x + 1 - u.first / x)) in
-    is ∙ ap (λ n. all ++ map (numbered_node t h) (range_with_len (u.first / pages) n)) e ∙ ap f w ∙ ap (λ l. all ++ l) (sym (level_numbers t u h))
+level_done t u h q all now ordered past before is =
+    let rises : u.first / 2 ^ h ≤ u.last / 2 ^ h = quotients_rise u.first u.last (2 ^ h) (pow_pos h) ordered in
+    let e : q - u.first / 2 ^ h ≡ u.last / 2 ^ h + 1 - u.first / 2 ^ h = omega (arith, before (omega arith)) in
+    is ∙ ap (λ n. all ++ map (numbered_node t h) (range_with_len (u.first / 2 ^ h) n)) e ∙ ap (λ l. all ++ l) (sym (level_numbers t u h))
 
 levels_none : (p : ℕ) (u : Touch) → levels_of p u 0 ≡ []
 unfolding levels_of
@@ -246,12 +244,12 @@ level_begun f all a q e =
     sym (ap (λ n. all ++ map f (range_with_len a n)) z ∙ append-nil all)
 
 -- the same of the end, where the code has the touch as another one's result
-pub level_finished : (t : NumberedUpdate) (v : Touch) (h pages q : ℕ) (all now : List (Range × Node)) → IsValidTicket t → 1 ≤ t.snapshot.page_size → v ≡ own_touch t → pages ≡ 2 ^ h → v.last / pages + 1 ≤ q
-    → (v.first / pages ≤ v.last / pages + 1 → q ≤ v.last / pages + 1)
-    → now ≡ all ++ map (numbered_node t h) (range_with_len ((own_touch t).first / pages) (q - (own_touch t).first / pages))
+pub level_finished : (t : NumberedUpdate) (v : Touch) (h q : ℕ) (all now : List (Range × Node)) → IsValidTicket t → 1 ≤ t.snapshot.page_size → v ≡ own_touch t → v.last / 2 ^ h + 1 ≤ q
+    → (v.first / 2 ^ h ≤ v.last / 2 ^ h + 1 → q ≤ v.last / 2 ^ h + 1)
+    → now ≡ all ++ map (numbered_node t h) (range_with_len ((own_touch t).first / 2 ^ h) (q - (own_touch t).first / 2 ^ h))
     → now ≡ all ++ own_nodes t (level_of t.snapshot.page_size (own_touch t) h)
-level_finished t v h pages q all now is pos e w past before so_far =
-    let P : Touch → Type 0 = λ x. (x.last / pages + 1 ≤ q) × (x.first / pages ≤ x.last / pages + 1 → q ≤ x.last / pages + 1) in
+level_finished t v h q all now is pos e past before so_far =
+    let P : Touch → Type 0 = λ x. (x.last / 2 ^ h + 1 ≤ q) × (x.first / 2 ^ h ≤ x.last / 2 ^ h + 1 → q ≤ x.last / 2 ^ h + 1) in
     let ends : P (own_touch t) = subst P e (past, before) in
     let p : ℕ = t.snapshot.page_size in
-    level_done t (own_touch t) h pages q all now w (quotients_rise t.at (t.at + t.len - 1) p pos (omega (arith, is.some))) ends.0 ends.1 so_far
+    level_done t (own_touch t) h q all now (quotients_rise t.at (t.at + t.len - 1) p pos (omega (arith, is.some))) ends.0 ends.1 so_far

@@ -4,7 +4,7 @@ use Rattle.std.specs.Prelude.{◌==◌, not, if◌then◌else◌}
 use Rattle.std.proofs.lemmas.Bool.{cases_order, false≢true}
 use Rattle.std.proofs.lemmas.Bool.Decides.{nat_tests}
 use Rattle.std.proofs.lemmas.Nat.{mul-le, pow_pos}
-use Rattle.std.proofs.Math.Nat.{pow-succ', pow-le-pow_right, div-mul-le_self, lt-div-mul-add, mul-div_cancel}
+use Rattle.std.proofs.Math.Nat.{pow-succ', div-mul-le_self, lt-div-mul-add, mul-div_cancel}
 use Rattle.tree_geom.specs.declared.range.Range.{Range}
 use Rattle.tree_geom.specs.declared.touch.Touch.{Touch}
 use Rattle.tree_geom.specs.Geometry.{tree_range, page_range, height_of, span_of, covers, touched_by, leaves_open, Meets}
@@ -21,16 +21,6 @@ use Rattle.tree_geom.proofs.Spans.{page_pos, size_pos}
 
 pub double : (p h : ℕ) → p * 2 ^ (h + 1) ≡ 2 * (p * 2 ^ h)
 double p h = let e : h + 1 ≡ suc h = omega arith in rw (e, pow-succ' 2 h) (omega arith)
-
-pub power_small : (h : ℕ) → h ≤ 38 → 2 ^ h < 2 ^ 64
-power_small h le = let two : 0 < 2 = omega arith in let e : 2 ^ h ≤ 2 ^ 38 = pow-le-pow_right two le in omega arith
-
-pub size_small : (p h : ℕ) → p ≤ 1048576 → h ≤ 38 → p * 2 ^ h ≤ 2 ^ 58
-size_small p h page le =
-    let two : 0 < 2 = omega arith in
-    let e : 2 ^ h ≤ 2 ^ 38 = pow-le-pow_right two le in
-    let f : p * 2 ^ h ≤ 1048576 * 2 ^ 38 = mul-le p (2 ^ h) 1048576 (2 ^ 38) page e in
-    omega arith
 
 -- ---- the pages of some bytes
 pub page_low : (at p i : ℕ) → 1 ≤ p → at / p ≤ i → at < i * p + p
@@ -192,12 +182,6 @@ answered_depth b t page answer is size touch are own told =
     ∙ ap (λ n. depth_of t.snapshot.page_size (log_upto t) n page) e
 
 -- ---- the code's ranges
-pub size_is : (bytes pow p size h : ℕ) → bytes ≡ size → size ≡ p → pow ≡ 2 ^ h → bytes * pow ≡ p * 2 ^ h
-size_is bytes pow p size h e f w = ap (λ b. b * pow) (e ∙ f) ∙ ap (λ n. p * n) w
-
-pub range_is : (p h q size : ℕ) → size ≡ p * 2 ^ h → record { offset = q * size; size = size } ≡ tree_range p h q
-range_is p h q size is = let made : ℕ → Range = λ n. record { offset = q * n; size = n } in ap made is
-
 pub edge_border : (t : NumberedUpdate) (page : ℕ) (range : Range) → range ≡ page_range t.snapshot.page_size page → (page ≡ (own_touch t).first) ⊎ (page ≡ (own_touch t).last)
     → IsBorder t.snapshot.page_size (own_touch t) range
 edge_border t page range is edge =

@@ -51,7 +51,6 @@ impl PlannedRow {
 }
 
 // The update's node for range number `q` of a height, beside the range. The update touches the range.
-#[tactic(auto, using(crate::proofs::Shapes::power_small, crate::proofs::Shapes::size_small))]
 fn node(ticket: &Ticket, borders: &Borders, level: u32, q: u64) -> (Range, Node)
     requires page_size { borders.now.page_size ≡ ticket.now.snapshot.page_size }
     requires touch { borders.now.touch ≡ own_touch ticket.now }
@@ -68,7 +67,7 @@ fn node(ticket: &Ticket, borders: &Borders, level: u32, q: u64) -> (Range, Node)
     tree_geom::laws::spans_hold();
     tree_geom::laws::ranges_align();
     ticket.stands();
-    let size = ticket.hints().snapshot.page_size().bytes() * 2u64.pow(level);
+    let size = ticket.hints().snapshot.page_size().bytes() << level;
     let range = Range {
         offset: q * size,
         size,
@@ -81,7 +80,6 @@ fn node(ticket: &Ticket, borders: &Borders, level: u32, q: u64) -> (Range, Node)
 }
 
 // Adds the update's nodes for the ranges of one height, by offset.
-#[tactic(auto, using(crate::proofs::Shapes::power_small, crate::proofs::Shapes::size_small))]
 fn plan_level(
     ticket: &Ticket,
     borders: &Borders,
@@ -99,8 +97,7 @@ fn plan_level(
 {
     ticket.stands();
     let touch = ticket.touch();
-    let pages = 2u64.pow(level);
-    for q in touch.first / pages..touch.last / pages + 1 {
+    for q in touch.first >> level..(touch.last >> level) + 1 {
         row.push(node(ticket, borders, level, q))?;
     }
     Ok(())

@@ -59,10 +59,22 @@ pub fn put_row<R: Wait>(
     let p = ticket.hints().snapshot.page_size();
     span_stands(p, ticket.size());
     let height = height(p, ticket.size());
+    ticket.hints().waiting.stands();
     let pages = Arc::try_clone(ticket.pages())?;
     let (blob, version) = (ticket.blob(), ticket.version());
     let (offset, touch) = (ticket.at(), ticket.touch());
     let placed = put_nodes(rt, alloc, version, planned, nodes)?;
-    let row = Row::of(alloc, blob, offset, touch, p, height, pages, folds, placed)?;
+    let row = Row::of(
+        alloc,
+        blob,
+        version as u32,
+        offset,
+        touch,
+        p,
+        height,
+        pages,
+        folds,
+        placed,
+    )?;
     Ok(Arc::new(alloc, row)?)
 }

@@ -21,7 +21,6 @@ use blob_model::{Limits, Place, Refusal};
 use border_hints::{Hints, Ticket};
 use page_store::Pages;
 use publisher::{NoMemory, Window};
-use range_log::{OpenCopy, OpenList};
 use snapshot::Snapshot;
 use std::alloc::Global;
 use std::sync::Arc;
@@ -207,7 +206,7 @@ pub(crate) fn ticket_again(
     let size = waiting.at(below).touch.size;
     let hints = Hints {
         snapshot: published_in(window)?,
-        waiting: first_of(alloc, waiting, below)?,
+        waiting: waiting.first_copied(alloc, below)?,
     };
     hints.snapshot.stands();
     let pages = Arc::try_clone(&update.pages)?;
@@ -229,18 +228,6 @@ fn published_in(window: &Window) -> Result<Snapshot, NoMemory>
 {
     let snapshot = window.snapshot();
     snapshot.at(snapshot.version())
-}
-
-// A copy of the first of the waiting updates, of which there are that many.
-fn first_of(alloc: Global, waiting: &OpenList, count: u32) -> Result<OpenCopy, NoMemory>
-    requires { count ≤ length waiting.now }
-    ensures { IfOk result (λ copy. copy ≡ take count waiting.now) }
-{
-    let mut first = OpenList::new(alloc)?;
-    for i in 0..count.min(waiting.count()) {
-        first.add(waiting.at(i));
-    }
-    first.copied(alloc)
 }
 
 /// The window of a new blob.

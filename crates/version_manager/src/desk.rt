@@ -284,7 +284,7 @@ impl Desk {
         match self.windows[index].finish(version, row) {
             Ok(published) => {
                 let passed = (published - before) as usize;
-                self.waiting[index].drop_first(self.alloc, passed);
+                self.waiting[index].drop_first(passed);
                 self.history.push_reserved(Entry {
                     caller,
                     change: Change::Finish { blob, version },

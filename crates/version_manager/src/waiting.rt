@@ -15,8 +15,8 @@ pub(crate) struct WaitingUpdate {
     pub(crate) pages: Arc<Pages>,
 }
 
-/// The updates of a blob that are numbered and not published, by version. Memory is taken for those that wait alone: a blob of
-/// which nothing waits has none.
+/// The updates of a blob that are numbered and not published, by version. A blob of which nothing ever waited has no room for any;
+/// the room that was taken once stays.
 #[derive(Drop)]
 pub(crate) struct WaitingList {
     updates: Vec<WaitingUpdate>,
@@ -50,16 +50,12 @@ impl WaitingList {
         Ok(())
     }
 
-    /// Takes the first `n` updates away, of which there are that many. Where none is left, the room goes too.
-    pub(crate) fn drop_first(&mut self, alloc: Global, n: usize)
+    /// Takes the first `n` updates away, of which there are that many. The room stays, and no memory is taken.
+    pub(crate) fn drop_first(&mut self, n: usize)
         requires { n ≤ length self.old }
         ensures { self.new ≡ drop n self.old }
     {
         let kept = self.updates.len() - n;
-        if kept == 0 {
-            self.updates = Vec::new(alloc);
-            return;
-        }
         self.updates.rotate_left(n);
         self.updates.truncate(kept);
     }

@@ -25,6 +25,14 @@ paged p q n m is e = ap (λ k. k / q) is ∙ ap (λ d. m / d) e
 index_fits : (waiting told : List OpenTouch) (count i : ℕ) → told ≡ waiting → count ≡ length told → i ≤ count → 0 < i → i - 1 < length waiting
 index_fits waiting told count i e is le some = omega (arith, ap length e)
 
+pub returns-then-count-eq0 : goal.returns-then-count-eq0
+returns-then-count-eq0 c =
+    let t = c.args.ticket.now in
+    let e : length t.snapshot.rows ≡ t.version - 1 = omega (arith, c.stands.ensures.version, c.count.ensures.count, ap length c.hints-hints.ensures.waiting, c.if-count-eq0.true) in
+    c.requires.known
+    ∙ newest_stays c.logs_are_grown.ensures.count c.older_versions_stay.ensures.grow t c.args.range
+    ∙ ap (λ n. newest_of t.snapshot.page_size (log_upto t) n c.args.range) e
+
 pub returns-then-meets_pages : goal.returns-then-meets_pages
 returns-then-meets_pages c =
     let t = c.args.ticket.now in

@@ -1,10 +1,12 @@
-use Rattle.std.proofs.Common.{ℕ, ◌+◌, ◌-◌, ◌*◌, ◌/◌, ◌^◌, ◌≤◌, arith, ap, sym, subst, ◌∙◌}
+use Rattle.std.proofs.Common.{◌≡◌, ℕ, ◌+◌, ◌-◌, ◌*◌, ◌/◌, ◌%◌, ◌^◌, ◌≤◌, arith, ap, sym, subst, ◌∙◌}
 use Rattle.tree_geom.specs.Geometry.{tree_range}
+use Rattle.range_log.specs.Log.{newest_of}
 use Rattle.snapshot.specs.Versions.{Version}
 use Rattle.tree_geom.proofs.Spans.{page_pos}
+use Rattle.tree_geom.proofs.Shifts.{size_is, range_is}
+use Rattle.border_hints.specs.Numbered.{log_upto}
 use Rattle.border_hints.specs.Borders.{newest_known}
-use Rattle.border_hints.proofs.Published.{size_is}
-use Rattle.border_hints.proofs.Turning.{halved, path_fits, side_fits}
+use Rattle.border_hints.proofs.Turning.{halved, path_fits, side_fits, beside_even, beside_odd}
 use Rattle.border_hints.proofs.descent.turn.Goals as goal
 
 pub halves_known-low-requires-clause-at : goal.halves_known-low-requires-clause-at
@@ -12,22 +14,23 @@ halves_known-low-requires-clause-at g c =
     let t = c.args.ticket.now in
     let N : Version → ℕ → ℕ = λ s n. newest_known s (tree_range s.page_size (c.args.level + 1) n) in
     c.requires.at
-    ∙ ap (N t.snapshot) (sym (ap (λ w. c.args.page / w / 2) c.pow-pages.ensures ∙ halved c.args.page c.args.level))
-    ∙ ap (λ s. N s (c.args.page / c.pow-pages.result / 2)) (sym c.hints.ensures.snapshot)
+    ∙ ap (N t.snapshot) (sym (halved c.args.page c.args.level))
+    ∙ ap (λ s. N s (c.args.page / 2 ^ c.args.level / 2)) (sym c.hints.ensures.snapshot)
 
 pub halves_known-low-requires-clause-fits : goal.halves_known-low-requires-clause-fits
 halves_known-low-requires-clause-fits g c =
     let t = c.args.ticket.now in
-    let F : Version → Type 0 = λ s. c.args.page / c.pow-pages.result / 2 * (s.page_size * 2 ^ (c.args.level + 1)) ≤ 2 ^ 40 in
-    subst F (sym c.hints.ensures.snapshot) (path_fits c.args.page c.pow-pages.result c.args.level t.snapshot.page_size t.size c.pow-pages.ensures c.requires.page c.stands.ensures.fits)
+    let F : Version → Type 0 = λ s. c.args.page / 2 ^ c.args.level / 2 * (s.page_size * 2 ^ (c.args.level + 1)) ≤ 2 ^ 40 in
+    subst F (sym c.hints.ensures.snapshot) (path_fits c.args.page c.args.level t.snapshot.page_size t.size c.requires.page c.stands.ensures.fits)
 
 pub newest_below-requires-clause-fits : goal.newest_below-requires-clause-fits
 newest_below-requires-clause-fits g c =
     let t = c.args.ticket.now in
     let is = c.stands.ensures in
-    side_fits c.ranges_align.ensures.nest c.spans_hold.ensures.heights t.snapshot.page_size c.args.page t.size c.args.level (c.args.page / c.pow-pages.result + 1) c.pow-pages.result (c.bytes.result * c.pow-pages.result)
-    (page_pos t.snapshot.page_size is.published.page_size) c.requires.page c.requires.level c.requires.root c.pow-pages.ensures
-    (size_is c.bytes.result c.pow-pages.result t.snapshot.page_size c.page_size.result c.args.level c.bytes.ensures.is (c.page_size.ensures ∙ ap (λ (s : Version). s.page_size) c.hints.ensures.snapshot) c.pow-pages.ensures)
+    side_fits c.ranges_align.ensures.nest c.spans_hold.ensures.heights t.snapshot.page_size c.args.page t.size c.args.level (c.args.page / 2 ^ c.args.level + 1) (c.bytes.result * 2 ^ c.args.level % 2 ^ 64)
+    (page_pos t.snapshot.page_size is.published.page_size) c.requires.page c.requires.level c.requires.root
+    (size_is c.bytes.result c.page_size.result t.snapshot.page_size c.args.level c.bytes.ensures.is (c.page_size.ensures ∙ ap (λ (s : Version). s.page_size) c.hints.ensures.snapshot)
+    c.bytes.ensures.bounds.1 (omega (arith, c.requires.level, c.requires.low)))
     (omega (arith, c.if-number-eq0.true))
 
 pub overflow_mul-range : goal.overflow_mul-range
@@ -37,10 +40,71 @@ pub newest_below-requires-else-number-eq0-clause-fits : goal.newest_below-requir
 newest_below-requires-else-number-eq0-clause-fits g c =
     let t = c.args.ticket.now in
     let is = c.stands.ensures in
-    side_fits c.ranges_align.ensures.nest c.spans_hold.ensures.heights t.snapshot.page_size c.args.page t.size c.args.level (c.args.page / c.pow-pages.result - 1) c.pow-pages.result (c.bytes.result * c.pow-pages.result)
-    (page_pos t.snapshot.page_size is.published.page_size) c.requires.page c.requires.level c.requires.root c.pow-pages.ensures
-    (size_is c.bytes.result c.pow-pages.result t.snapshot.page_size c.page_size.result c.args.level c.bytes.ensures.is (c.page_size.ensures ∙ ap (λ (s : Version). s.page_size) c.hints.ensures.snapshot) c.pow-pages.ensures)
+    side_fits c.ranges_align.ensures.nest c.spans_hold.ensures.heights t.snapshot.page_size c.args.page t.size c.args.level (c.args.page / 2 ^ c.args.level - 1) (c.bytes.result * 2 ^ c.args.level % 2 ^ 64)
+    (page_pos t.snapshot.page_size is.published.page_size) c.requires.page c.requires.level c.requires.root
+    (size_is c.bytes.result c.page_size.result t.snapshot.page_size c.args.level c.bytes.ensures.is (c.page_size.ensures ∙ ap (λ (s : Version). s.page_size) c.hints.ensures.snapshot)
+    c.bytes.ensures.bounds.1 (omega (arith, c.requires.level, c.requires.low)))
     (omega (arith, c.if-number-eq0.false))
 
 pub overflow_mul-range-else-number-eq0 : goal.overflow_mul-range-else-number-eq0
 overflow_mul-range-else-number-eq0 g c = let e = newest_below-requires-else-number-eq0-clause-fits g c in omega (arith, e)
+
+-- the other half is that of the number beside
+pub newest_below-requires-clause-known : goal.newest_below-requires-clause-known
+newest_below-requires-clause-known g c =
+    let t = c.args.ticket.now in
+    let n : ℕ = c.args.page / 2 ^ c.args.level in
+    let N : Version → ℕ → ℕ = λ s m. newest_known s (tree_range s.page_size c.args.level m) in
+    let e : 2 * (n / 2) + 1 ≡ n + 1 = omega (arith, c.if-number-eq0.true) in
+    let size = size_is c.bytes.result c.page_size.result t.snapshot.page_size c.args.level c.bytes.ensures.is (c.page_size.ensures ∙ ap (λ (s : Version). s.page_size) c.hints.ensures.snapshot)
+    c.bytes.ensures.bounds.1 (omega (arith, c.requires.level, c.requires.low)) in
+    c.halves_known-low.ensures.high ∙ ap (λ s. N s (2 * (n / 2) + 1)) c.hints.ensures.snapshot ∙ ap (N t.snapshot) e
+    ∙ ap (newest_known t.snapshot) (sym (range_is t.snapshot.page_size c.args.level (n + 1) _ size))
+
+pub newest_below-requires-else-number-eq0-clause-known : goal.newest_below-requires-else-number-eq0-clause-known
+newest_below-requires-else-number-eq0-clause-known g c =
+    let t = c.args.ticket.now in
+    let n : ℕ = c.args.page / 2 ^ c.args.level in
+    let N : Version → ℕ → ℕ = λ s m. newest_known s (tree_range s.page_size c.args.level m) in
+    let e : 2 * (n / 2) ≡ n - 1 = omega (arith, c.if-number-eq0.false) in
+    let size = size_is c.bytes.result c.page_size.result t.snapshot.page_size c.args.level c.bytes.ensures.is (c.page_size.ensures ∙ ap (λ (s : Version). s.page_size) c.hints.ensures.snapshot)
+    c.bytes.ensures.bounds.1 (omega (arith, c.requires.level, c.requires.low)) in
+    c.halves_known-low.ensures.low ∙ ap (λ s. N s (2 * (n / 2))) c.hints.ensures.snapshot ∙ ap (N t.snapshot) e
+    ∙ ap (newest_known t.snapshot) (sym (range_is t.snapshot.page_size c.args.level (n - 1) _ size))
+
+pub returns-then-number-eq0-clause-on : goal.returns-then-number-eq0-clause-on
+returns-then-number-eq0-clause-on g c =
+    let t = c.args.ticket.now in
+    let n : ℕ = c.args.page / 2 ^ c.args.level in
+    let N : Version → ℕ → ℕ = λ s m. newest_known s (tree_range s.page_size c.args.level m) in
+    let e : 2 * (n / 2) ≡ n = omega (arith, c.if-number-eq0.true) in
+    c.halves_known-low.ensures.low ∙ ap (λ s. N s (2 * (n / 2))) c.hints.ensures.snapshot ∙ ap (N t.snapshot) e
+
+pub returns-then-number-eq0-clause-off : goal.returns-then-number-eq0-clause-off
+returns-then-number-eq0-clause-off g c =
+    let t = c.args.ticket.now in
+    let p = t.snapshot.page_size in
+    let n : ℕ = c.args.page / 2 ^ c.args.level in
+    let size = size_is c.bytes.result c.page_size.result p c.args.level c.bytes.ensures.is (c.page_size.ensures ∙ ap (λ (s : Version). s.page_size) c.hints.ensures.snapshot)
+    c.bytes.ensures.bounds.1 (omega (arith, c.requires.level, c.requires.low)) in
+    c.newest_below.ensures
+    ∙ ap (newest_of p (log_upto t) (t.version - 1)) (range_is p c.args.level (n + 1) _ size ∙ ap (tree_range p c.args.level) (sym (beside_even n c.if-number-eq0.true)))
+
+pub returns-else-number-eq0-clause-on : goal.returns-else-number-eq0-clause-on
+returns-else-number-eq0-clause-on g c =
+    let t = c.args.ticket.now in
+    let n : ℕ = c.args.page / 2 ^ c.args.level in
+    let N : Version → ℕ → ℕ = λ s m. newest_known s (tree_range s.page_size c.args.level m) in
+    let e : 2 * (n / 2) + 1 ≡ n = omega (arith, c.if-number-eq0.false) in
+    c.halves_known-low.ensures.high ∙ ap (λ s. N s (2 * (n / 2) + 1)) c.hints.ensures.snapshot ∙ ap (N t.snapshot) e
+
+pub returns-else-number-eq0-clause-off : goal.returns-else-number-eq0-clause-off
+returns-else-number-eq0-clause-off g c =
+    let t = c.args.ticket.now in
+    let p = t.snapshot.page_size in
+    let n : ℕ = c.args.page / 2 ^ c.args.level in
+    let odd : n % 2 ≡ 1 = omega (arith, c.if-number-eq0.false) in
+    let size = size_is c.bytes.result c.page_size.result p c.args.level c.bytes.ensures.is (c.page_size.ensures ∙ ap (λ (s : Version). s.page_size) c.hints.ensures.snapshot)
+    c.bytes.ensures.bounds.1 (omega (arith, c.requires.level, c.requires.low)) in
+    c.newest_below-else-number-eq0.ensures
+    ∙ ap (newest_of p (log_upto t) (t.version - 1)) (range_is p c.args.level (n - 1) _ size ∙ ap (tree_range p c.args.level) (sym (beside_odd n odd)))

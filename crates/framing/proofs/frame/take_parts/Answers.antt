@@ -6,13 +6,15 @@ use Rattle.framing.proofs.frame.take_parts.Goals as goal
 pub parts-preserved : goal.parts-preserved
 parts-preserved g c =
     let piece = c.args.piece.now in
-    let part = c.in_ok-next.ensures in
+    let part = c.in_ok-taken.ensures.ok in
+    let count = c.in_ok-taken.field-0 in
+    let next = begun_bytes g.B.Body.come c.take_part.new.begun in
     let there = length-drop c.parts.taken piece in
     let within = part.within in
-    let goes : List ℕ → Type 0 = λ l. GoesOnAs g.B.Body.framing (begun_bytes g.B.Body.come c.parts.frame ++ take c.in_ok-next.count l) (begun_bytes g.B.Body.come c.in_ok-next.next) in
+    let goes : List ℕ → Type 0 = λ l. GoesOnAs g.B.Body.framing (begun_bytes g.B.Body.come c.parts.begun ++ take count l) next in
     record {
       within = omega (arith, c.parts.invariant.within);
       well = part.begun_well;
-      goes_on = goes_on_more g.B.Body.framing (begun_bytes g.B.Body.come c.args.begun) piece (begun_bytes g.B.Body.come c.parts.frame) (begun_bytes g.B.Body.come c.in_ok-next.next) c.parts.taken c.in_ok-next.count c.parts.invariant.goes_on
+      goes_on = goes_on_more g.B.Body.framing (begun_bytes g.B.Body.come c.args.begun.now) piece (begun_bytes g.B.Body.come c.parts.begun) next c.parts.taken count c.parts.invariant.goes_on
           (subst goes (tail_is piece c.parts.taken c.parts.invariant.within) part.goes_on);
     }

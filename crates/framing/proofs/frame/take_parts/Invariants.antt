@@ -5,8 +5,8 @@ use Rattle.framing.proofs.frame.take_parts.Given as goal
 abbrev pub invariant-parts : goal.invariant-parts
 invariant-parts g l = record {
   within : l.taken ≤ length l.piece;
-  well : IsBegun g.B.Body.framing.limit g.B.Body.come l.frame;
-  goes_on : GoesOnAs g.B.Body.framing (begun_bytes g.B.Body.come l.fn.begun ++ take l.taken l.piece) (begun_bytes g.B.Body.come l.frame);
+  well : IsBegun g.B.Body.framing.limit g.B.Body.come l.begun;
+  goes_on : GoesOnAs g.B.Body.framing (begun_bytes g.B.Body.come l.fn.begun ++ take l.taken l.piece) (begun_bytes g.B.Body.come l.begun);
 }
 
 abbrev pub decreases-parts : goal.decreases-parts

@@ -1,30 +1,30 @@
-use Rattle.std.proofs.Common.{ℕ, [], ◌∷◌, ◌++◌, map, option_map, ap, sym, ◌∙◌, subst}
+use Rattle.std.proofs.Common.{◌≡◌, List, [], ◌∷◌, ◌++◌, map, option_map, ap, sym, ◌∙◌, subst}
 use Rattle.std.specs.Arc.{arc_value}
 use Rattle.std.proofs.lemmas.List.{append_assoc}
+use Rattle.std.proofs.lemmas.Result.{IfOk-weaker}
+use Rattle.node_store.specs.UpdateRows.{UpdateRow}
 use Rattle.snapshot.specs.Versions.{Version}
 use Rattle.publisher.specs.Windows.{leading}
 use Rattle.publisher.specs.WindowInvariant.{Ready}
-use Rattle.publisher.proofs.Leading.{slot_leads}
-use Rattle.publisher.proofs.Standing.{ready_front, ready_next}
+use Rattle.publisher.proofs.Standing.{ready_front}
 use Rattle.publisher.proofs.moving.moved_on.Goals as goal
 
 pub with_next-requires : goal.with_next-requires
 with_next-requires c =
     let s = c.args.base.now in
-    let row = arc_value c.args.row.now in
+    let row = arc_value c.args.row in
     let rest = leading (map (option_map arc_value) c.args.above.now) in
     ready_front s.page_size (s.rows ++ row ∷ []) rest (subst (Ready s.page_size) (sym (append_assoc s.rows (row ∷ []) rest)) c.requires)
 
-pub with_next-requires-in-Some : goal.with_next-requires-in-Some
-with_next-requires-in-Some c =
-    let s = c.loop-slot.snapshot in
-    let base = c.args.base.now in
-    let row = arc_value c.args.row.now in
-    let next = arc_value c.in-Some.row in
+pub returns-then-not-leads : goal.returns-then-not-leads
+returns-then-not-leads c =
+    let s = c.args.base.now in
+    let row = arc_value c.args.row in
     let rest = leading (map (option_map arc_value) c.args.above.now) in
-    let first = c.in_ok-snapshot.ensures in
-    let pages = c.loop-slot.invariant.page_size ∙ ap (λ (v : Version). v.page_size) first in
-    let whole = c.loop-slot.invariant.rows ∙ ap (λ (v : Version). v.rows ++ rest) first ∙ append_assoc base.rows (row ∷ []) rest in
-    let leads = slot_leads arc_value c.args.above.now c.loop-slot.slot-index c.slot-item.result c.in-Some.row c.loop-slot-test.true c.slot-item.is c.in-Some.is in
-    let P : ℕ → Type 0 = λ p. Ready p (s.rows ++ next ∷ []) in
-    subst P (sym pages) (ready_next base.page_size s.rows next _ _ _ whole leads c.requires)
+    let none : rest ≡ [] = rw c.if-not-leads.true at c.leads.ensures in
+    record {
+      blob = IfOk-weaker c.with_next.result _ _ (λ v is. ap (λ (x : Version). x.blob) is) c.with_next.ensures.ok;
+      page_size = IfOk-weaker c.with_next.result _ _ (λ v is. ap (λ (x : Version). x.page_size) is) c.with_next.ensures.ok;
+      rows = IfOk-weaker c.with_next.result _ _ (λ v is. ap (λ (x : Version). x.rows) is ∙ ap (λ (l : List UpdateRow). s.rows ++ row ∷ l) (sym none)) c.with_next.ensures.ok;
+      same = c.with_next.ensures.err;
+    }

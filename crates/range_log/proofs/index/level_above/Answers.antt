@@ -4,25 +4,24 @@ use Rattle.range_log.proofs.index.level_above.Goals as goal
 use Rattle.range_log.proofs.index.level_above.Goals.{else-loop-first-test, then-loop-first-test+else-width-size, then-loop-first-test+then-width-size+else-level-height}
 
 pub loop-first-init : goal.loop-first-init
-loop-first-init c =
-    rw c.bytes-width.ensures.is (reached_first c.args.p c.args.touch.now c.args.height c.args.size c.requires.ordered)
+loop-first-init c = reached_first c.args.p c.args.touch.now c.args.height c.args.size c.requires.ordered
 
 pub overflow_mul-width : goal.overflow_mul-width
 overflow_mul-width c =
     let f = reached_fits c.args.p c.args.touch.now c.args.height c.args.size c.loop-first.level c.loop-first.width c.loop-first.first c.loop-first.last c.loop-first.count
-    (omega (arith, c.bytes-width.ensures.bounds)) (omega (arith, c.bytes-width.ensures.bounds)) c.requires.height c.requires.ordered c.requires.fits c.loop-first.invariant in
+    c.requires.least c.requires.greatest c.requires.height c.requires.ordered c.requires.fits c.loop-first.invariant in
     omega (arith, f.0)
 
 pub overflow_sub-count-in-loop-first : goal.overflow_sub-count-in-loop-first
 overflow_sub-count-in-loop-first c =
     let f = reached_fits c.args.p c.args.touch.now c.args.height c.args.size c.loop-first.level c.loop-first.width c.loop-first.first c.loop-first.last c.loop-first.count
-    (omega (arith, c.bytes-width.ensures.bounds)) (omega (arith, c.bytes-width.ensures.bounds)) c.requires.height c.requires.ordered c.requires.fits c.loop-first.invariant in
+    c.requires.least c.requires.greatest c.requires.height c.requires.ordered c.requires.fits c.loop-first.invariant in
     omega (arith, f.1)
 
 pub overflow_add-count-in-loop-first-2 : goal.overflow_add-count-in-loop-first-2
 overflow_add-count-in-loop-first-2 c =
     let f = reached_fits c.args.p c.args.touch.now c.args.height c.args.size c.loop-first.level c.loop-first.width c.loop-first.first c.loop-first.last c.loop-first.count
-    (omega (arith, c.bytes-width.ensures.bounds)) (omega (arith, c.bytes-width.ensures.bounds)) c.requires.height c.requires.ordered c.requires.fits c.loop-first.invariant in
+    c.requires.least c.requires.greatest c.requires.height c.requires.ordered c.requires.fits c.loop-first.invariant in
     omega (arith, f)
 
 pub loop-first-preserved : goal.loop-first-preserved
@@ -33,7 +32,7 @@ loop-first-preserved c =
 pub overflow_add-result : goal.overflow_add-result
 overflow_add-result c =
     let f = reached_fits c.args.p c.args.touch.now c.args.height c.args.size c.loop-first.level c.loop-first.width c.loop-first.first c.loop-first.last c.loop-first.count
-    (omega (arith, c.bytes-width.ensures.bounds)) (omega (arith, c.bytes-width.ensures.bounds)) c.requires.height c.requires.ordered c.requires.fits c.loop-first.invariant in
+    c.requires.least c.requires.greatest c.requires.height c.requires.ordered c.requires.fits c.loop-first.invariant in
     omega (arith, f)
 
 pub returns-in_default : goal.returns-in_default
@@ -44,13 +43,13 @@ returns-in_default c =
 pub returns-then-height-level : goal.returns-then-height-level
 returns-then-height-level c =
     reached_past c.args.p c.args.touch.now c.args.height c.args.size c.loop-first.level c.loop-first.width c.loop-first.first c.loop-first.last c.loop-first.count
-    c.in-Some.rest (omega (arith, c.bytes-width.ensures.bounds)) c.loop-first.invariant c.in-Some.ensures.times (omega arith)
+    c.in-Some.rest c.requires.least c.loop-first.invariant c.in-Some.ensures.times (omega arith)
 
 pub returns : goal.returns
 returns c = (
   c.loop-first.level + c.in-Some.rest,
   reached_level c.args.p c.args.touch.now c.args.height c.args.size c.loop-first.level c.loop-first.width c.loop-first.first c.loop-first.last c.loop-first.count c.in-Some.rest
-      (omega (arith, c.bytes-width.ensures.bounds)) c.loop-first.invariant c.in-Some.ensures.times (omega arith)
+      c.requires.least c.loop-first.invariant c.in-Some.ensures.times (omega arith)
       (elim c.loop-first-test.branch [
         | else-loop-first-test w ↦ inl (omega (arith, w.loop-first-test.false))
         | then-loop-first-test+else-width-size w ↦ inr (inl (omega (arith, w.if-width-size.false)))

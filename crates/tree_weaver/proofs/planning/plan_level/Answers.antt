@@ -1,4 +1,4 @@
-use Rattle.std.proofs.Common.{◌/◌, ◌≤◌, ap, subst}
+use Rattle.std.proofs.Common.{◌/◌, ◌^◌, ◌≤◌, ap, subst}
 use Rattle.tree_geom.specs.declared.touch.Touch.{Touch}
 use Rattle.border_hints.specs.Numbered.{own_touch}
 use Rattle.tree_geom.proofs.Spans.{page_pos}
@@ -8,18 +8,18 @@ use Rattle.tree_weaver.proofs.planning.plan_level.Goals as goal
 pub loop-q-init : goal.loop-q-init
 loop-q-init c =
     let t = c.args.ticket.now in
-    level_begun (numbered_node t c.args.level) c.args.row.now.items ((own_touch t).first / c.pow-pages.result) _ (ap (λ (u : Touch). u.first / c.pow-pages.result) c.touch-touch.ensures)
+    level_begun (numbered_node t c.args.level) c.args.row.now.items ((own_touch t).first / 2 ^ c.args.level) _ (ap (λ (u : Touch). u.first / 2 ^ c.args.level) c.touch-touch.ensures)
 
 pub loop-q-preserved : goal.loop-q-preserved
 loop-q-preserved c =
     let t = c.args.ticket.now in
-    let P : Touch → Type 0 = λ u. u.first / c.pow-pages.result ≤ c.loop-q.q in
-    level_more (numbered_node t c.args.level) c.args.row.now.items c.loop-q.row.items c.push.new.self.items ((own_touch t).first / c.pow-pages.result) c.loop-q.q _
+    let P : Touch → Type 0 = λ u. u.first / 2 ^ c.args.level ≤ c.loop-q.q in
+    level_more (numbered_node t c.args.level) c.args.row.now.items c.loop-q.row.items c.push.new.self.items ((own_touch t).first / 2 ^ c.args.level) c.loop-q.q _
     (subst P c.touch-touch.ensures c.loop-q.auto.q) c.loop-q.invariant c.in_ok-push.ensures.items c.node.ensures
 
 pub returns : goal.returns
 returns c =
     let t = c.args.ticket.now in
     let is = c.stands.ensures in
-    level_finished t c.touch-touch.result c.args.level c.pow-pages.result c.loop-q.q c.args.row.now.items c.loop-q.row.items is (page_pos t.snapshot.page_size is.published.page_size)
-    c.touch-touch.ensures c.pow-pages.ensures c.loop-q-test.false c.loop-q.auto.q-end c.loop-q.invariant
+    level_finished t c.touch-touch.result c.args.level c.loop-q.q c.args.row.now.items c.loop-q.row.items is (page_pos t.snapshot.page_size is.published.page_size)
+    c.touch-touch.ensures c.loop-q-test.false c.loop-q.auto.q-end c.loop-q.invariant

@@ -19,6 +19,11 @@ returns-clause-nodes g c =
     (own_levels t c.touch-touch.result c.page_size-p.result c.height-height.result c.touch-touch.ensures size
     (own_height t c.page_size-p.result c.size-2.result c.height-height.result size c.size-2.ensures c.height-height.ensures.is))
 
+pub overflow_cast-version : goal.overflow_cast-version
+overflow_cast-version g c =
+    let is = c.stands.ensures in
+    omega (arith, is.published.counted, is.version, ap length c.hints-2.ensures.waiting, c.stands-2.ensures.few, c.version-version.ensures.version)
+
 pub of-requires-clause-ordered : goal.of-requires-clause-ordered
 of-requires-clause-ordered g c =
     let t = c.args.ticket.now in

@@ -13,8 +13,8 @@ at-size-requires c =
     let before = waits_before c.requires.update.0 c.args.window.now c.requires.update.1 c.requires.update.3 (sym c.stands.ensures.log) (c.args.version - 1) (omega (arith, c.requires.waits)) (omega (arith, c.requires.waits)) in
     omega (arith, before, ap length c.waiting-waiting.ensures, c.place-below.ensures)
 
-pub first_of-requires : goal.first_of-requires
-first_of-requires c =
+pub first_copied-requires : goal.first_copied-requires
+first_copied-requires c =
     let before = waits_before c.requires.update.0 c.args.window.now c.requires.update.1 c.requires.update.3 (sym c.stands.ensures.log) (c.args.version - 1) (omega (arith, c.requires.waits)) (omega (arith, c.requires.waits)) in
     omega (arith, before, ap length c.waiting-waiting.ensures, c.place-below.ensures)
 
@@ -23,7 +23,7 @@ of-requires-clause-waiting c =
     let w = c.args.window.now in
     let i : ℕ = c.args.version - 1 in
     let count : c.place-below.result ≡ i - published_of w = omega (arith, c.place-below.ensures) in
-    let opens = c.in_ok-first_of.ensures ∙ ap (take c.place-below.result) c.waiting-waiting.ensures ∙ ap (λ (n : ℕ). take n (waiting_of w)) count in
+    let opens = c.in_ok-first_copied.ensures ∙ ap (take c.place-below.result) c.waiting-waiting.ensures ∙ ap (λ (n : ℕ). take n (waiting_of w)) count in
     (tell_below c.requires.update.0 w c.requires.update.1 c.requires.update.3 (sym c.stands.ensures.log) i (omega (arith, c.requires.waits)) (omega (arith, c.requires.waits)) c.stands.ensures.version _ _ c.in_ok-published_in.ensures opens).first
 
 pub of-requires-clause-version : goal.of-requires-clause-version
@@ -31,7 +31,7 @@ of-requires-clause-version c =
     let w = c.args.window.now in
     let i : ℕ = c.args.version - 1 in
     let count : c.place-below.result ≡ i - published_of w = omega (arith, c.place-below.ensures) in
-    let opens = c.in_ok-first_of.ensures ∙ ap (take c.place-below.result) c.waiting-waiting.ensures ∙ ap (λ (n : ℕ). take n (waiting_of w)) count in
+    let opens = c.in_ok-first_copied.ensures ∙ ap (take c.place-below.result) c.waiting-waiting.ensures ∙ ap (λ (n : ℕ). take n (waiting_of w)) count in
     let told = tell_below c.requires.update.0 w c.requires.update.1 c.requires.update.3 (sym c.stands.ensures.log) i (omega (arith, c.requires.waits)) (omega (arith, c.requires.waits)) c.stands.ensures.version _ _ c.in_ok-published_in.ensures opens in
     omega (arith, told.count, c.requires.waits)
 
@@ -40,7 +40,7 @@ of-requires-clause-of_updates c =
     let w = c.args.window.now in
     let i : ℕ = c.args.version - 1 in
     let count : c.place-below.result ≡ i - published_of w = omega (arith, c.place-below.ensures) in
-    let opens = c.in_ok-first_of.ensures ∙ ap (take c.place-below.result) c.waiting-waiting.ensures ∙ ap (λ (n : ℕ). take n (waiting_of w)) count in
+    let opens = c.in_ok-first_copied.ensures ∙ ap (take c.place-below.result) c.waiting-waiting.ensures ∙ ap (λ (n : ℕ). take n (waiting_of w)) count in
     (tell_below c.requires.update.0 w c.requires.update.1 c.requires.update.3 (sym c.stands.ensures.log) i (omega (arith, c.requires.waits)) (omega (arith, c.requires.waits)) c.stands.ensures.version _ _ c.in_ok-published_in.ensures opens).log
 
 pub of-requires-clause-at : goal.of-requires-clause-at
@@ -49,7 +49,7 @@ of-requires-clause-at c =
     let i : ℕ = c.args.version - 1 in
     let us = c.requires.update.1.updates in
     let count : c.place-below.result ≡ i - published_of w = omega (arith, c.place-below.ensures) in
-    let opens = c.in_ok-first_of.ensures ∙ ap (take c.place-below.result) c.waiting-waiting.ensures ∙ ap (λ (n : ℕ). take n (waiting_of w)) count in
+    let opens = c.in_ok-first_copied.ensures ∙ ap (take c.place-below.result) c.waiting-waiting.ensures ∙ ap (λ (n : ℕ). take n (waiting_of w)) count in
     let told = tell_below c.requires.update.0 w c.requires.update.1 c.requires.update.3 (sym c.stands.ensures.log) i (omega (arith, c.requires.waits)) (omega (arith, c.requires.waits)) c.stands.ensures.version _ _ c.in_ok-published_in.ensures opens in
     let own = begins c.requires.update.0 w c.requires.update.1 c.requires.update.3 (sym c.stands.ensures.log) i (omega (arith, c.requires.waits)) (omega (arith, c.requires.waits)) in
     let v : c.args.version ≡ suc i = omega (arith, c.requires.waits) in
@@ -63,7 +63,7 @@ of-requires-clause-size c =
     let us = c.requires.update.1.updates in
     let k = c.requires.update.3 in
     let count : c.place-below.result ≡ i - published_of w = omega (arith, c.place-below.ensures) in
-    let opens = c.in_ok-first_of.ensures ∙ ap (take c.place-below.result) c.waiting-waiting.ensures ∙ ap (λ (n : ℕ). take n (waiting_of w)) count in
+    let opens = c.in_ok-first_copied.ensures ∙ ap (take c.place-below.result) c.waiting-waiting.ensures ∙ ap (λ (n : ℕ). take n (waiting_of w)) count in
     let told = tell_below c.requires.update.0 w c.requires.update.1 k (sym c.stands.ensures.log) i (omega (arith, c.requires.waits)) (omega (arith, c.requires.waits)) c.stands.ensures.version _ _ c.in_ok-published_in.ensures opens in
     let v : c.args.version ≡ suc i = omega (arith, c.requires.waits) in
     let at = c.requires.update.4.at ∙ ap (λ (n : ℕ). (extent_of us n).at) v in
@@ -92,7 +92,7 @@ returns-clause-stands c limits b houses k u =
     let us = b.updates in
     let t = c.of.result in
     let count : c.place-below.result ≡ i - published_of w = omega (arith, c.place-below.ensures) in
-    let opens = c.in_ok-first_of.ensures ∙ ap (take c.place-below.result) c.waiting-waiting.ensures ∙ ap (λ (n : ℕ). take n (waiting_of w)) count in
+    let opens = c.in_ok-first_copied.ensures ∙ ap (take c.place-below.result) c.waiting-waiting.ensures ∙ ap (λ (n : ℕ). take n (waiting_of w)) count in
     let v : c.args.version ≡ suc i = omega (arith, c.requires.waits) in
     let at = u.at ∙ ap (λ (n : ℕ). (extent_of us n).at) v in
     let len = c.len.ensures ∙ ap (λ (x : Cut). length (bytes_of_pages x.pages)) (c.deref.ensures ∙ c.in_ok-pages.ensures) ∙ ap length u.bytes ∙ ap (λ (n : ℕ). length (update_at us n).bytes) v in

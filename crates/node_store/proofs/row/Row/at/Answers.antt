@@ -1,17 +1,25 @@
-use Rattle.std.proofs.Common.{◌≡◌, ◌+◌, List, ap, subst, sym, ◌∙◌}
+use Rattle.std.proofs.Common.{◌≡◌, ℕ, ◌+◌, List, ap, subst, sym, ◌∙◌}
 use Rattle.std.specs.Prelude.{Some, slice_get}
 use Rattle.std.specs.List.{Contains}
 use Rattle.tree_geom.specs.declared.range.Range.{Range}
+use Rattle.tree_geom.specs.declared.touch.Touch.{Touch}
 use Rattle.range_log.specs.Rows.{levels_of}
 use Rattle.node_store.proofs.Zipped.{contains_pair, contains_left}
 use Rattle.node_store.proofs.row.Row.at.Goals as goal
 
+-- the ranges that are asked for are those that the row has
+same_levels : (p q : ℕ) (t u : Touch) (h k : ℕ) → p ≡ q → t ≡ u → h ≡ k → levels_of p t (h + 1) ≡ levels_of q u (k + 1)
+same_levels p q t u h k size touch height =
+    ap (λ n. levels_of n t (h + 1)) size ∙ ap (λ x. levels_of q x (h + 1)) touch ∙ ap (λ n. levels_of q u (n + 1)) height
+
+pub index_in_row-requires-clause-fits : goal.index_in_row-requires-clause-fits
+index_in_row-requires-clause-fits g c = rw (c.page_size-p.ensures.is, c.touch-touch.ensures) c.self.invariant.fits
+
 pub returns-in-Some-clause-node : goal.returns-in-Some-clause-node
 returns-in-Some-clause-node g c =
     let row = c.self.inside in
-    let asked : List Range = levels_of row.page_size c.touch-touch.result (c.height-height.result + 1) in
-    let kept : List Range = levels_of row.page_size row.shape.touch (row.shape.height + 1) in
-    let same : asked ≡ kept = ap (λ t. levels_of row.page_size t (c.height-height.result + 1)) c.touch-touch.ensures ∙ ap (λ h. levels_of row.page_size row.shape.touch (h + 1)) c.height-height.ensures in
+    let kept : List Range = levels_of row.shape.page_size row.shape.touch (row.shape.height + 1) in
+    let same = same_levels _ _ _ _ _ _ c.page_size-p.ensures.is c.touch-touch.ensures c.height-height.ensures in
     let S : List Range → Type 0 = λ ranges. slice_get ranges c.in-Some.index ≡ Some c.args.range in
     rw (← c.self.view_is) (record {
       among = contains_pair kept row.nodes.nodes c.in-Some.index c.args.range c.node.result.node (subst S same c.in-Some.ensures) c.node.ensures.node;
@@ -21,9 +29,8 @@ returns-in-Some-clause-node g c =
 pub returns-in-None-clause-node : goal.returns-in-None-clause-node
 returns-in-None-clause-node g c =
     let row = c.self.inside in
-    let asked : List Range = levels_of row.page_size c.touch-touch.result (c.height-height.result + 1) in
-    let kept : List Range = levels_of row.page_size row.shape.touch (row.shape.height + 1) in
-    let same : asked ≡ kept = ap (λ t. levels_of row.page_size t (c.height-height.result + 1)) c.touch-touch.ensures ∙ ap (λ h. levels_of row.page_size row.shape.touch (h + 1)) c.height-height.ensures in
+    let kept : List Range = levels_of row.shape.page_size row.shape.touch (row.shape.height + 1) in
+    let same = same_levels _ _ _ _ _ _ c.page_size-p.ensures.is c.touch-touch.ensures c.height-height.ensures in
     rw (← c.self.view_is) (λ i pair is found.
     let C : Range → Type 0 = λ r. Contains kept r in
     let L : List Range → Type 0 = λ ranges. Contains ranges c.args.range in

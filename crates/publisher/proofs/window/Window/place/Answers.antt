@@ -1,4 +1,4 @@
-use Rattle.std.proofs.Common.{◌≡◌, length, map, option_map, arith, ap, sym, ◌∙◌}
+use Rattle.std.proofs.Common.{length, map, option_map, arith, ap, sym, ◌∙◌}
 use Rattle.std.specs.Arc.{arc_value}
 use Rattle.publisher.specs.Windows.{Numbered, published_of}
 use Rattle.publisher.proofs.Windows.{log_count, published_is}

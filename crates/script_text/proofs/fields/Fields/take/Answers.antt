@@ -1,8 +1,19 @@
-use Rattle.std.proofs.Common.{◌≡◌, arith}
-use Rattle.script_text.proofs.TakenLemmas.{byte_stops}
+use Rattle.script_text.proofs.TakenLemmas.{tail_is, takes_more, takes_none, takes_all}
 use Rattle.script_text.proofs.fields.Fields.take.Goals as goal
 
+pub piece-preserved : goal.piece-preserved
+piece-preserved c =
+    let piece = c.args.piece.now in
+    let before = c.piece.invariant in
+    let took = rw c.in-Some.is at c.in_ok-count.ensures in
+    let next = takes_more c.args.self.now piece c.piece.self _ c.take_part.new.self c.piece.taken c.in-Some.count before.within (tail_is piece c.piece.taken before.within) before.takes took in
+    record { within = next.0; takes = next.1 }
+
+pub returns-in-None : goal.returns-in-None
+returns-in-None c =
+    let piece = c.args.piece.now in
+    let before = c.piece.invariant in
+    takes_none c.args.self.now piece c.piece.self _ c.piece.taken (tail_is piece c.piece.taken before.within) before.takes (rw c.in-None.is at c.in_ok-count.ensures)
+
 pub returns : goal.returns
-returns c =
-    let none : c.in_ok-pairs.pairs ≡ 0 = omega (arith, c.if-pairs-gt0.false) in
-    byte_stops c.args.self.now c.args.piece.now c.take_pairs.new.self c.add.new.self c.in_ok-pairs.pairs c.requires none c.in_ok-pairs.ensures.takes (rw c.if-branch.false at c.in_ok-add.ensures.adds)
+returns c = takes_all c.args.self.now c.args.piece.now c.piece.self c.piece.taken c.requires c.piece-test.false c.piece.invariant.takes

@@ -1,8 +1,6 @@
-use Rattle.std.proofs.Common.{◌≡◌, ℕ, [], take, arith, ap, sym, ◌∙◌, subst}
+use Rattle.std.proofs.Common.{◌≡◌, ℕ, [], arith, sym, ◌∙◌, subst}
 use Rattle.std.specs.Arc.{arc_value}
 use Rattle.tree_tests.specs.Blobs.{OneBlob, IsTicketOf, IsPlanOf, updates_in}
-use Rattle.range_log.specs.Rows.{folds_of, row_of}
-use Rattle.range_log.specs.Updates.{extents}
 use Rattle.snapshot.specs.Versions.{IsRowOf}
 use Rattle.tree_tests.proofs.Steady.{blob_of, own_row, finished_or_not, still_blob, is_counted}
 use Rattle.tree_tests.proofs.blob.Blob.finish.Goals as goal

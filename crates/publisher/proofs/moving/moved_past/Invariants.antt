@@ -1,7 +1,7 @@
 use Rattle.std.proofs.Common.{◌≡◌, ◌++◌, drop, map, option_map}
 use Rattle.std.specs.Arc.{arc_value}
 use Rattle.publisher.specs.Windows.{leading}
-use Rattle.publisher.proofs.moving.moved_on.Given as goal
+use Rattle.publisher.proofs.moving.moved_past.Given as goal
 
 abbrev pub invariant-loop-slot : goal.invariant-loop-slot
 invariant-loop-slot l = record {
