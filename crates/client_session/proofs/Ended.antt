@@ -1,5 +1,5 @@
 -- What becomes of an update that was numbered, and then finished or not.
-use Rattle.std.proofs.Common.{◌≡◌, ◌≢◌, refl, sym, ◌∙◌, ap, subst, ℕ, ◌-◌, ◌≤◌, ◌||◌, Bool, true, false, if◌then◌else◌, List, [], ◌∷◌, ◌++◌, append_assoc, Some, None, arith}
+use Rattle.std.proofs.Common.{◌≡◌, ◌≢◌, refl, sym, ◌∙◌, ap, ℕ, ◌-◌, ◌≤◌, ◌||◌, Bool, true, false, List, [], ◌∷◌, ◌++◌, append_assoc, Some, None, arith}
 use Rattle.std.specs.Prelude.{Contains}
 use Rattle.blob_model.specs.Limits.{Bounds}
 use Rattle.blob_model.specs.Store.{Store, Blob, blob_at, assigned, is_finished}
@@ -17,7 +17,6 @@ use Rattle.request_form.specs.Answers.{FinishTurn, RepairTurn, WholeTurn, Update
 use Rattle.request_form.specs.Replies.{update_reply, start_reply}
 use Rattle.request_form.proofs.Runs.{changed_grows}
 use Rattle.blob_model.specs.Answer.{answer, repair_refusal}
-use Rattle.request_form.specs.declared.form.Reply.{Reply}
 use Rattle.request_form.specs.declared.form.Reply.TheVariants as Replies
 use Rattle.request_form.specs.declared.form.Fault.{Fault}
 use Rattle.request_form.specs.declared.form.Fault.TheVariants as Faults

@@ -20,7 +20,7 @@ use Rattle.request_form.specs.Turns.{Tickets, Turn, with_tickets, and_made}
 use Rattle.request_form.specs.Answers.{FinishTurn, FinishAnswer}
 use Rattle.request_form.specs.declared.form.Reply.TheVariants as Replies
 use Rattle.request_form.specs.Replies.{fault_count}
-use Rattle.request_form.specs.HangUp.{GivenUp, GivesUp, HungUp, IsFinishedIn, AllNumbered, AllFinished, GivenUpCounts, given_up_counts, tells_finished, tells_no_memory, tells_pending, tells_page_fault, begins_anew}
+use Rattle.request_form.specs.HangUp.{GivesUp, HungUp, IsFinishedIn, AllNumbered, AllFinished, GivenUpCounts, given_up_counts, tells_finished, tells_no_memory, tells_pending, tells_page_fault, begins_anew}
 use Rattle.request_form.specs.Laws.{GivingUpGoesOn, HungUpAreFinished}
 use Rattle.request_form.proofs.HangUps.{count_more}
 use Rattle.request_form.specs.declared.form.Reply.{Reply}

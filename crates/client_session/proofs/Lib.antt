@@ -18,4 +18,5 @@ pub mod Waiting
 pub mod HangingUp
 pub mod ManyRanges
 pub mod Losses
+pub mod Untouched
 pub mod TurnCounts

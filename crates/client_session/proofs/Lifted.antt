@@ -1,5 +1,5 @@
 -- What an act does to an update is told of the session without its tickets. Here the session with its tickets has it too.
-use Rattle.std.proofs.Common.{◌≡◌, ◌≢◌, refl, sym, ◌∙◌, ap, subst, ℕ, ◌-◌, Bool, true, false, if◌then◌else◌, List, [], ◌∷◌, ◌++◌, Some, Result, Ok, Err}
+use Rattle.std.proofs.Common.{◌≡◌, ◌≢◌, refl, sym, ◌∙◌, ap, ℕ, ◌-◌, Bool, true, false, if◌then◌else◌, List, [], ◌∷◌, ◌++◌, Some, Result, Ok, Err}
 use Rattle.blob_model.specs.Store.{Store, published}
 use Rattle.blob_model.specs.Answer.{repair_refusal}
 use Rattle.blob_model.specs.History.{AllOther}

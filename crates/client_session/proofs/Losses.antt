@@ -3,6 +3,7 @@ use Rattle.std.proofs.Common.{◌≡◌, sym, ◌∙◌, ap, subst, ℕ, List, R
 use Rattle.std.specs.Prelude.{IfErr, map, true}
 use Rattle.std.proofs.lemmas.Bool.{false≢true}
 use Rattle.blob_model.specs.declared.call.Event.{Event}
+use Rattle.page_fan.specs.Counts.{NoneFell}
 use Rattle.page_fan.specs.Fault.{OnLostPage}
 use Rattle.page_fan.specs.declared.storing.StoreFault.{StoreFault}
 use Rattle.page_fan.specs.declared.storing.StoreFault.TheVariants as StoreFaults
@@ -14,6 +15,7 @@ use Rattle.request_form.specs.Replies.{page_faults, fault_count}
 use Rattle.request_form.specs.declared.form.Fault.{Fault}
 use Rattle.request_form.specs.declared.form.Fault.TheVariants as Faults
 use Rattle.tree_weaver.specs.Anew.{IsStoredAnew, FoldFailed, OnLostFold}
+use Rattle.tree_weaver.proofs.Lost.{fold_since}
 use Rattle.page_writer.specs.Lost.{IsFirstLost}
 use Rattle.session_parts.specs.Ranges.{OnPageLost, PageFailedInOne}
 use Rattle.session_parts.specs.Tickets.{OpenUpdate, IsHeldAt}
@@ -93,6 +95,18 @@ module _ (store : StoreState) (log : List (ℕ × Event)) (blob version : ℕ) (
   anew_lost fault (NotWoven.waits said below some) lost page is = let never : ⊥ = cc in absurd never
   anew_lost fault (NotWoven.lost at said follows anew) lost page is =
       record { ticket = t; waiting = w; follows = follows; anew = subst (IsStoredAnew t) (other_page at page (sym said ∙ is)) anew; lost = lost page is }
+
+-- an earlier beginning sees the same, and equal things are told alike
+pub lost_since : (store store' : StoreState) (log log' : List (ℕ × Event)) (blob blob' version version' : ℕ) (before mid now now' : List ℕ) (page : ℕ) → store ≡ store' → log ≡ log' → blob ≡ blob' → version ≡ version' → now ≡ now'
+    → NoneFell before mid → LostAnew store log blob version mid now page → LostAnew store' log' blob' version' before now' page
+lost_since store store' log log' blob blob' version version' before mid now now' page stores logs blobs versions nows fell l =
+    let earlier : LostAnew store log blob version before now page =
+    record { ticket = l.ticket; waiting = l.waiting; follows = l.follows; anew = l.anew; lost = fold_since l.ticket store.providers store.replicas before mid now page fell l.lost } in
+    subst (λ (x : StoreState). LostAnew x log' blob' version' before now' page) stores
+    (subst (λ (x : List (ℕ × Event)). LostAnew store x blob' version' before now' page) logs
+    (subst (λ (x : ℕ). LostAnew store log x version' before now' page) blobs
+    (subst (λ (x : ℕ). LostAnew store log blob x before now' page) versions
+    (subst (λ (x : List ℕ). LostAnew store log blob version before x page) nows earlier))))
 
 -- ---- of a finish
 -- where the update is finished no page is named

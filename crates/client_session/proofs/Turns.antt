@@ -22,7 +22,6 @@ use Rattle.request_form.specs.Turns.{Turn, refuses, AfterGap}
 use Rattle.request_form.specs.Answers.{LookAnswer}
 use Rattle.request_form.specs.Replies.{fault_of}
 use Rattle.request_form.specs.declared.form.Fault.TheVariants as Faults
-use Rattle.request_form.specs.declared.form.Reply.{Reply}
 use Rattle.request_form.specs.declared.form.Reply.TheVariants as Replies
 use Rattle.session_parts.specs.Tickets.{OpenUpdate}
 use Rattle.client_session.specs.Results.{desk_fault}

@@ -1,6 +1,6 @@
 -- The answers of an update, whichever form it has.
-use Rattle.std.proofs.Common.{◌≡◌, refl, sym, ◌∙◌, ap, subst, ℕ, ◌+◌, ◌-◌, ◌≤◌, Bool, true, false, if◌then◌else◌, List, [], ◌∷◌, ◌++◌, append-nil, length, length-append, Option, Some, None, Result, Ok, Err, arith}
-use Rattle.std.specs.Prelude.{IfNone, option_map, slice_get}
+use Rattle.std.proofs.Common.{◌≡◌, ◌≢◌, refl, sym, ◌∙◌, ap, subst, ℕ, ◌+◌, ◌-◌, ◌≤◌, Bool, true, false, if◌then◌else◌, List, [], ◌∷◌, ◌++◌, append-nil, length, length-append, Option, Some, None, Result, Ok, Err, arith}
+use Rattle.std.specs.Prelude.{IfNone, IfSome, option_map, slice_get}
 use Rattle.std.proofs.lemmas.Bool.{false≢true}
 use Rattle.std.proofs.lemmas.List.{map_push}
 use Rattle.faults.specs.Counts.{RoseBy}
@@ -28,7 +28,7 @@ use Rattle.request_form.specs.declared.form.Reply.{Reply}
 use Rattle.request_form.specs.declared.form.Reply.TheVariants as Replies
 use Rattle.request_form.specs.declared.form.Fault.{Fault}
 use Rattle.request_form.specs.declared.form.Fault.TheVariants as Faults
-use Rattle.tree_weaver.specs.Anew.{StoresSomeAnew}
+use Rattle.tree_weaver.specs.Anew.{StoresSomeAnew, StoresNoneAnew}
 use Rattle.session_parts.specs.Tickets.{OpenUpdate, HasRow, ticket_of}
 use Rattle.session_parts.specs.declared.done.Updated.{Updated as Whole}
 use Rattle.session_parts.specs.declared.done.Updated.TheVariants as WholeUpdates
@@ -37,12 +37,15 @@ use Rattle.client_session.specs.Sessions.{SessionState, session_of}
 use Rattle.client_session.specs.SessionInvariant.{IsTicketHere}
 use Rattle.client_session.specs.Finishing.{bare, Finishing}
 use Rattle.client_session.specs.Looking.{looks_then}
+use Rattle.client_session.specs.Losses.{IfPageLost, LostOrWaits}
+use Rattle.client_session.specs.Tickets.{HasNoRow, AllHeldStill}
 use Rattle.client_session.specs.Updates.{WasNumbered, IsHeldNext, IsKept, held_next, update_request, start_request, update_reply, start_reply}
 use Rattle.client_session.proofs.StoreAnswers.{IsThere, only_already, pending_waits}
 use Rattle.client_session.proofs.Lifted.{unheld, then_holds, OnlyAlready}
 use Rattle.client_session.proofs.Ended.{IsOpenIn, Then, NotFinished, then_answer, ends_done, ends_not}
 use Rattle.client_session.proofs.Finished.{numbered_there}
 use Rattle.client_session.proofs.Folding.{folds_told}
+use Rattle.client_session.proofs.Untouched.{none_more, one_more}
 
 -- the session that holds one more
 pub held_more : {D : Type 0} (m m' : SessionState D) (t : NumberedUpdate) (row : Option UpdateRow) → m' ≡ record m { held = m.held ++ record { number = m.next; ticket = t; row = row } ∷ []; next = m.next + 1 }
@@ -230,6 +233,7 @@ module _ {D : Type 0} (s mid : SessionState D) (blob : ℕ) (place : Place) (byt
       pub faults : RoseBy (page_faults fault) a b → RoseBy (update_faults (session_of s') blob (updated_reply place said)) a b
       pub same : s' ≡ record m { held = s'.held; next = s'.next }
       pub taken : (before : Bool) → looks_then before said ≡ false
+      pub stay : AllHeldStill m.held s'.held
 
     module _ (said : Result Whole Fault) (s' : SessionState D) (a b : ℕ) where
       says : (reply : Reply) → updated_reply place said ≡ reply → WholeAnswer AllOther (session_of s) blob place bytes reply (session_of s') → WholeAnswer AllOther (session_of s) blob place bytes (updated_reply place said) (session_of s')
@@ -243,6 +247,9 @@ module _ {D : Type 0} (s mid : SessionState D) (blob : ℕ) (place : Place) (byt
 
       held_same : IsHeldNext m t s' → s' ≡ record m { held = s'.held; next = s'.next }
       held_same is = subst (λ (x : SessionState D). x ≡ record m { held = x.held; next = x.next }) (sym is) refl
+
+      held_one_more : IsHeldNext m t s' → AllHeldStill m.held s'.held
+      held_one_more is = one_more m.held m.held s'.held _ refl (ap (λ (x : SessionState D). x.held) is)
 
       -- what waits once all was seen waits in the session that holds it
       waits_last : (x : SessionState D) → IsHeldNext m t x → (more : List Event) → events m.log ≡ ((session_of s).seen ++ assigns) ++ more → (v : ℕ)
@@ -271,6 +278,7 @@ module _ {D : Type 0} (s mid : SessionState D) (blob : ℕ) (place : Place) (byt
             faults = λ r. rose (Replies.Refused (Faults.Already t.version)) reply (subst (λ (x : Fault). RoseBy (page_faults x) a b) is r);
             same = subst (λ (x : SessionState D). x ≡ record m { held = x.held; next = x.next }) (sym k.1) refl;
             taken = λ before. ap (λ (r : Result Whole Fault). looks_then before r) k.0;
+            stay = none_more m.held s'.held (ap (λ (x : SessionState D). x.held) k.1);
           }
       kept_by fault (NotFinished.starved is u) kept =
           let k = subst (λ (x : Fault). IsKept m t x said s') is kept in
@@ -280,6 +288,7 @@ module _ {D : Type 0} (s mid : SessionState D) (blob : ℕ) (place : Place) (byt
             faults = λ r. rose (Replies.Refused (Faults.NoMemoryTicket s.next)) reply (subst (λ (x : Fault). RoseBy (page_faults x) a b) is r);
             same = held_same k.1;
             taken = λ before. ap (λ (r : Result Whole Fault). looks_then before r) k.0;
+            stay = held_one_more k.1;
           }
       kept_by fault (NotFinished.waits held is more seen waits u) kept =
           let k = subst (λ (x : Fault). IsKept m t x said s') is kept in
@@ -293,6 +302,7 @@ module _ {D : Type 0} (s mid : SessionState D) (blob : ℕ) (place : Place) (byt
                 (subst (λ (x : Fault). RoseBy (page_faults x) a b) is r)));
             same = held_same k.1;
             taken = λ before. ap (λ (r : Result Whole Fault). looks_then before r) k.0;
+            stay = held_one_more k.1;
           }
       kept_by fault (NotFinished.not_folded page is u) kept =
           let k = subst (λ (x : Fault). IsKept m t x said s') is kept in
@@ -305,11 +315,38 @@ module _ {D : Type 0} (s mid : SessionState D) (blob : ℕ) (place : Place) (byt
                 (weaken (is_waiting_in (store_at (session_of s') []) blob (t.version - 1)) a b (subst (λ (x : Fault). RoseBy (page_faults x) a b) is r)));
             same = held_same k.1;
             taken = λ before. ap (λ (r : Result Whole Fault). looks_then before r) k.0;
+            stay = held_one_more k.1;
           }
 
       pub kept : (fault : Fault) → Finishing mid.store.fixed mid.caller mid.log t.blob t.version (Err fault) m.log → IsKept m t fault said s' → Kept said s' fault a b
       kept fault x k =
           kept_by fault
+          (ends_not (session_of s) (bare mid.store.fixed mid.caller m.log) blob place bytes t.version t.at t.size n.others n.is_gap n.outcome open_then only_then fault
+          (finish_then (Err fault) x)) k
+
+    -- which page was lost, where it is held and the version before it doesn't wait
+    module _ (said : Result Whole Fault) (s' : SessionState D) (fault : Fault) (Lost : ℕ → Type 0) (lost : IfPageLost fault Lost) where
+      abbrev LostIn : Result Whole Fault → Type 0
+      LostIn r = LostOrWaits r (is_waiting_in (store_at (session_of s') []) blob) (λ version page. (version ≡ t.version) × Lost page)
+
+      kept_lost_by : NotFinished (session_of s) (bare mid.store.fixed mid.caller m.log) blob place bytes t.version t.at t.size n.others n.is_gap n.outcome open_then only_then fault → IsKept m t fault said s' → LostIn said
+      kept_lost_by (NotFinished.found is u) kept =
+          let k = subst (λ (x : Fault). IsKept m t x said s') is kept in
+          subst LostIn (sym k.0) tt
+      kept_lost_by (NotFinished.starved is u) kept =
+          let k = subst (λ (x : Fault). IsKept m t x said s') is kept in
+          subst LostIn (sym k.0) tt
+      kept_lost_by (NotFinished.waits held is more seen waits u) kept =
+          let k = subst (λ (x : Fault). IsKept m t x said s') is kept in
+          subst LostIn (sym k.0)
+          (λ not. absurd (false≢true (sym not ∙ waits_last said s' 0 0 s' k.1 more seen (t.version - 1) (pending_waits _ s.caller blob (t.version - 1) (t.version - 1) held waits))))
+      kept_lost_by (NotFinished.not_folded page is u) kept =
+          let k = subst (λ (x : Fault). IsKept m t x said s') is kept in
+          subst LostIn (sym k.0) (λ not. (page, (refl, lost page is)))
+
+      pub kept_lost : Finishing mid.store.fixed mid.caller mid.log t.blob t.version (Err fault) m.log → IsKept m t fault said s' → LostIn said
+      kept_lost x k =
+          kept_lost_by
           (ends_not (session_of s) (bare mid.store.fixed mid.caller m.log) blob place bytes t.version t.at t.size n.others n.is_gap n.outcome open_then only_then fault
           (finish_then (Err fault) x)) k
 
@@ -329,16 +366,30 @@ has_row value (Some r) f log t some ticket anew none os number =
     let o : OpenUpdate = record { number = number; ticket = t; row = Some (value r) } in
     record { index = length os; update = o; is = last_is os o; number_is = refl; row = value r; row_is = refl }
 
-pub start_row : {D X : Type 0} (value : X → UpdateRow) (row : Option X) (m new : SessionState D) (t : NumberedUpdate) (blob version : ℕ) → t.blob ≡ blob → version ≡ t.version → IsTicketHere m.store.fixed m.log t
-    → IfNone row (StoresSomeAnew t) → new ≡ record m { held = m.held ++ record { number = m.next; ticket = t; row = option_map value row } ∷ []; next = m.next + 1 }
-    → folds_in new.store.fixed.page_size (store_at (session_of new) []) blob version ≡ [] → HasRow new.held m.next
-start_row {D = D} value row m new t blob version blob_is version_is h anew is none =
-    let f : DeskFixed = m.store.fixed in
-    let there : folds_in f.page_size (store_of f.limits (events m.log)) t.blob t.version ≡ folds_in new.store.fixed.page_size (store_at (session_of new) []) blob version =
-    ap (λ (b : ℕ). folds_in f.page_size (store_of f.limits (events m.log)) b t.version) blob_is
-    ∙ (ap (λ (v : ℕ). folds_in f.page_size (store_of f.limits (events m.log)) blob v) (sym version_is)
-    ∙ (ap (λ (l : List Event). folds_in f.page_size (store_of f.limits l) blob version) (sym (append-nil (events m.log)))
-    ∙ ap (λ (x : SessionState D). folds_in x.store.fixed.page_size (store_at (session_of x) []) blob version) (sym is)))
-    in
-    subst (λ (os : List OpenUpdate). HasRow os m.next) (sym (ap (λ (x : SessionState D). x.held) is))
-    (has_row value row f m.log t (omega (arith, h.below)) h.ticket anew (there ∙ none) m.held m.next)
+has_no_row : {X : Type 0} (value : X → UpdateRow) (row : Option X) (f : DeskFixed) (log : List (ℕ × Event)) (t : NumberedUpdate) → 1 ≤ t.version → IsTicketOf (desk_at f log) t → IfSome row (λ _. StoresNoneAnew t)
+    → folds_in f.page_size (store_of f.limits (events log)) t.blob t.version ≢ [] → (os : List OpenUpdate) (number : ℕ) → HasNoRow (os ++ record { number = number; ticket = t; row = option_map value row } ∷ []) number
+has_no_row value None f log t some ticket anew folds os number =
+    let o : OpenUpdate = record { number = number; ticket = t; row = None } in
+    record { index = length os; update = o; is = last_is os o; number_is = refl; no_row = refl }
+has_no_row value (Some r) f log t some ticket anew folds os number = absurd (folds (folds_told f log t some ticket ∙ anew _ ticket.stands))
+
+module _ {D X : Type 0} (value : X → UpdateRow) (row : Option X) (m new : SessionState D) (t : NumberedUpdate) (blob version : ℕ) (blob_is : t.blob ≡ blob) (version_is : version ≡ t.version)
+    (h : IsTicketHere m.store.fixed m.log t) (is : new ≡ record m { held = m.held ++ record { number = m.next; ticket = t; row = option_map value row } ∷ []; next = m.next + 1 }) where
+  -- the pages that it stores anew, as the session tells them then
+  folds_then : folds_in m.store.fixed.page_size (store_of m.store.fixed.limits (events m.log)) t.blob t.version ≡ folds_in new.store.fixed.page_size (store_at (session_of new) []) blob version
+  folds_then =
+      let f : DeskFixed = m.store.fixed in
+      ap (λ (b : ℕ). folds_in f.page_size (store_of f.limits (events m.log)) b t.version) blob_is
+      ∙ (ap (λ (v : ℕ). folds_in f.page_size (store_of f.limits (events m.log)) blob v) (sym version_is)
+      ∙ (ap (λ (l : List Event). folds_in f.page_size (store_of f.limits l) blob version) (sym (append-nil (events m.log)))
+      ∙ ap (λ (x : SessionState D). folds_in x.store.fixed.page_size (store_at (session_of x) []) blob version) (sym is)))
+
+  pub start_row : IfNone row (StoresSomeAnew t) → folds_in new.store.fixed.page_size (store_at (session_of new) []) blob version ≡ [] → HasRow new.held m.next
+  start_row anew none =
+      subst (λ (os : List OpenUpdate). HasRow os m.next) (sym (ap (λ (x : SessionState D). x.held) is))
+      (has_row value row m.store.fixed m.log t (omega (arith, h.below)) h.ticket anew (folds_then ∙ none) m.held m.next)
+
+  pub start_alone : IfSome row (λ _. StoresNoneAnew t) → folds_in new.store.fixed.page_size (store_at (session_of new) []) blob version ≢ [] → HasNoRow new.held m.next
+  start_alone anew folds =
+      subst (λ (os : List OpenUpdate). HasNoRow os m.next) (sym (ap (λ (x : SessionState D). x.held) is))
+      (has_no_row value row m.store.fixed m.log t (omega (arith, h.below)) h.ticket anew (λ none. folds (sym folds_then ∙ none)) m.held m.next)

@@ -1,5 +1,5 @@
 -- Which page a session names where one is lost. The counts of its doors were `before`, and are `now`.
-use Rattle.std.specs.Prelude.{◌≡◌, ℕ, ◌+◌, List, length}
+use Rattle.std.specs.Prelude.{◌≡◌, ⊤, ℕ, ◌+◌, ◌-◌, Bool, false, List, length, Result, Ok, Err}
 use Rattle.blob_model.specs.declared.call.Event.{Event}
 use Rattle.page_store.specs.Stored.{Cut}
 use Rattle.border_hints.specs.Numbered.{NumberedUpdate}
@@ -12,6 +12,8 @@ use Rattle.tree_weaver.specs.Anew.{IsStoredAnew, FoldFailed}
 use Rattle.page_writer.specs.Lost.{IsFirstLost}
 use Rattle.session_parts.specs.Ranges.{PageFailedInOne}
 use Rattle.session_parts.specs.Tickets.{OpenUpdate, IsHeldAt}
+use Rattle.session_parts.specs.declared.done.Updated.{Updated}
+use Rattle.session_parts.specs.declared.done.Updated.TheVariants as WholeUpdates
 use Rattle.client_session.specs.Sessions.{StoreState}
 
 -- a fact on the page's number, where the fault names a page
@@ -50,3 +52,9 @@ pub record LostOfHeld (store : StoreState) (log : List (ℕ × Event)) (held : L
   pub index : ℕ
   pub at : IsHeldAt held number index
   pub lost : LostAnew store log at.update.ticket.blob at.update.ticket.version before now page
+
+-- An update was held. Where the version before its own doesn't wait, a page was lost that its version stores anew.
+abbrev pub LostOrWaits : Result Updated Fault → (ℕ → Bool) → (ℕ → ℕ → Type 0) → Type 0
+LostOrWaits (Ok (WholeUpdates.Done done)) waits Lost = ⊤
+LostOrWaits (Ok (WholeUpdates.Held held)) waits Lost = waits (held.version - 1) ≡ false → (page : ℕ) × Lost held.version page
+LostOrWaits (Err fault) waits Lost = ⊤

@@ -1,18 +1,30 @@
 -- How many turns the calls of a session take.
-use Rattle.std.specs.Prelude.{◌≡◌, ◌≢◌, ⊤, [], ℕ, ◌+◌, ◌≤◌, nat_le, if◌then◌else◌, Bool, true, false, List, Option, Some, None, Result, Ok, Err}
+use Rattle.std.specs.Prelude.{◌≡◌, ◌≢◌, ⊤, [], ℕ, ◌+◌, ◌<◌, ◌≤◌, nat_le, if◌then◌else◌, Bool, true, false, List, Option, Some, None, Result, Ok, Err}
 use Rattle.node_store.specs.UpdateRows.{UpdateRow}
 use Rattle.border_hints.specs.Numbered.{NumberedUpdate}
 use Rattle.tree_weaver.specs.Anew.{StoresSomeAnew, StoresNoneAnew}
 use Rattle.session_parts.specs.Tickets.{OpenUpdate, IsHeldAt}
 use Rattle.session_parts.specs.declared.done.Updated.{Updated}
 use Rattle.session_parts.specs.declared.done.Updated.TheVariants as WholeUpdates
+use Rattle.request_form.specs.Replies.{page_faults}
 use Rattle.request_form.specs.declared.form.Fault.{Fault}
+use Rattle.request_form.specs.declared.form.Fault.TheVariants as Faults
 pub use Rattle.request_form.specs.TurnsTaken.{UpTo}
 
 -- a call takes so many turns where it is done, and no more where it isn't
 abbrev pub TakesTurns : {A E : Type 0} → Result A E → ℕ → ℕ → ℕ → Type 0
 TakesTurns (Ok said) n before after = after ≡ before + n
 TakesTurns (Err fault) n before after = UpTo n before after
+
+-- neither a lost page nor want of memory
+pub record IsPlainRefusal (fault : Fault) : Type 0 where
+  pub no_page : page_faults fault ≡ 0
+  pub memory : fault ≢ Faults.NoMemory
+
+-- It is a refusal that came before the last of the n turns that the call takes where it is done.
+pub record RefusedEarly (fault : Fault) (n before after : ℕ) : Type 0 where
+  pub plain : IsPlainRefusal fault
+  pub early : after < before + n
 
 -- the turns of the first look at an update of that many bytes: none for one of one page, unless the session looks first at each
 abbrev pub look_turns : Bool → ℕ → ℕ → ℕ

@@ -10,11 +10,10 @@ use Rattle.blob_model.specs.declared.call.Outcome.TheVariants as Outcomes
 use Rattle.border_hints.specs.Numbered.{NumberedUpdate}
 use Rattle.version_manager.specs.Desks.{IsUnfinished}
 use Rattle.version_manager.specs.Log.{desk_at}
-use Rattle.request_form.specs.Session.{Session, outcome_at, sees}
+use Rattle.request_form.specs.Session.{outcome_at, sees}
 use Rattle.request_form.specs.Answers.{AfterGap, UnnumberedTurn, Unless, update_fault}
 use Rattle.request_form.specs.declared.form.Request.{Request}
 use Rattle.request_form.specs.declared.form.Request.TheVariants as Requests
-use Rattle.request_form.specs.declared.form.Reply.{Reply}
 use Rattle.request_form.specs.declared.form.Reply.TheVariants as Replies
 use Rattle.request_form.specs.declared.form.Fault.{Fault}
 use Rattle.request_form.specs.declared.form.Fault.TheVariants as Faults

@@ -1,5 +1,5 @@
 // Numbered updates are finished: by the session that numbered them, or by another one.
-ghost use Rattle.std.specs.Prelude.{◌≡◌, ◌⊎◌, ℕ, ◌+◌, ◌<◌, ◌≤◌, [], length, map, sum_by, All, Some, IfOk, IfErr, slice_get};
+ghost use Rattle.std.specs.Prelude.{◌≡◌, ◌⊎◌, ℕ, ◌+◌, ◌<◌, ◌≤◌, [], length, map, sum_by, All, true, false, Some, IfOk, IfErr, IfSome, slice_get};
 ghost use Rattle.std.specs.Arc.{arc_value};
 ghost use denote.Param.Send.{IsSync};
 ghost use Rattle.faults.specs.Counts.{RoseBy};
@@ -16,7 +16,8 @@ ghost use Rattle.client_session.specs.Losses.{IfPageLost, LostAnew, LostOfHeld};
 ghost use Rattle.client_session.specs.Results.{weave_fault, finish_reply, repair_reply};
 ghost use Rattle.client_session.specs.Sessions.{IsPassOf, Went, session_of, Continues};
 ghost use Rattle.client_session.specs.SessionInvariant.{IsTicketHere};
-ghost use Rattle.client_session.specs.TurnCounts.{UpTo, TakesTurns, FinishTurns, RowTurns, HeldTurns};
+ghost use Rattle.client_session.specs.Tickets.{HasRow, WithoutNumber, WithoutVersion};
+ghost use Rattle.client_session.specs.TurnCounts.{UpTo, IsPlainRefusal, RefusedEarly, TakesTurns, FinishTurns, RowTurns, HeldTurns};
 ghost use Rattle.client_session.specs.Finishing.{bare, Finishing, settles, IsEquipped, LookedFresh, Issuing, NotWoven, IsFreshHere, weaving_faults};
 
 use crate::session::{Session, fault_of};
@@ -33,6 +34,13 @@ use std::sync::{Arc, Wait};
 use std::thread::Threads;
 use tree_weaver::{WeaveFault, weave, weave_anew};
 use version_manager::{DeskFault, Pass};
+
+// A numbered update.
+#[derive(Clone, Copy)]
+struct Numbered {
+    blob: u64,
+    version: u64,
+}
 
 // Whether the update of a finish is finished, by the session or by others: no ticket of it is wanted any more.
 fn is_settled(finished: &Result<u64, Fault>) -> bool
@@ -120,6 +128,7 @@ fn woven_or_why<D: BesideDoor, R: Threads + Wait + Sync>(
     ensures why { IfErr result (NotWoven ticket.now) }
     ensures failed { IfErr result (λ fault. IfPageLost fault
         (FoldFailed ticket.now shared.now.providers shared.now.replicas (map D.faults doors.old) (map D.faults doors.new))) }
+    ensures untouched { IfErr result (λ fault. IsPlainRefusal fault → doors.new ≡ doors.old) }
     ensures risen { RoseBy (weaving_faults result) (sum_by D.faults doors.old) (sum_by D.faults doors.new) }
     ensures ready { IsEquipped D.is_true shared.now doors.new room.new }
 {
@@ -159,8 +168,7 @@ fn finish_fresh<D: BesideDoor, G: Gate, R: Threads + Wait + Sync>(
     pass: &mut Pass,
     doors: &mut Doors<D>,
     room: &mut ReadRoom,
-    blob: u64,
-    version: u64,
+    update: Numbered,
 ) -> Result<u64, Fault>
     requires sync { IsSync R.row }
     requires pass { IsPassOf shared.now pass.old }
@@ -168,12 +176,14 @@ fn finish_fresh<D: BesideDoor, G: Gate, R: Threads + Wait + Sync>(
     ensures pass { pass.new ≡ record pass.old { seen = pass.new.seen; turns = pass.new.turns } }
     ensures turns { TakesTurns result 2 pass.old.turns pass.new.turns }
     ensures went { Went shared.now.fixed pass.old.seen pass.new.seen }
-    ensures finishing { Finishing shared.now.fixed pass.old.caller pass.old.seen blob version result pass.new.seen }
-    ensures failed { IfErr result (λ fault. IfPageLost fault (LostAnew shared.now pass.new.seen blob version (map D.faults doors.old) (map D.faults doors.new))) }
+    ensures finishing { Finishing shared.now.fixed pass.old.caller pass.old.seen update.blob update.version result pass.new.seen }
+    ensures failed { IfErr result (λ fault. IfPageLost fault
+        (LostAnew shared.now pass.new.seen update.blob update.version (map D.faults doors.old) (map D.faults doors.new))) }
+    ensures untouched { IfErr result (λ fault. RefusedEarly fault 2 pass.old.turns pass.new.turns → doors.new ≡ doors.old) }
     ensures risen { RoseBy (fault_count (repair_reply result)) (sum_by D.faults doors.old) (sum_by D.faults doors.new) }
     ensures ready { IsEquipped D.is_true shared.now doors.new room.new }
 {
-    let ticket = match fresh_ticket(rt, shared, pass, blob, version) {
+    let ticket = match fresh_ticket(rt, shared, pass, update.blob, update.version) {
         Ok(ticket) => ticket,
         Err(fault) => return Err(fault_of(fault)),
     };
@@ -208,6 +218,7 @@ fn finish_by<D: BesideDoor, G: Gate, R: Threads + Wait + Sync>(
     ensures finishing { Finishing shared.now.fixed pass.old.caller pass.old.seen ticket.now.blob ticket.now.version result pass.new.seen }
     ensures failed { IfErr result (λ fault. IfPageLost fault
         (LostAnew shared.now pass.new.seen ticket.now.blob ticket.now.version (map D.faults doors.old) (map D.faults doors.new))) }
+    ensures untouched { IfErr result (λ fault. RefusedEarly fault 2 pass.old.turns pass.new.turns → doors.new ≡ doors.old) }
     ensures risen { RoseBy (fault_count (repair_reply result)) (sum_by D.faults doors.old) (sum_by D.faults doors.new) }
     ensures ready { IsEquipped D.is_true shared.now doors.new room.new }
 {
@@ -224,8 +235,10 @@ fn finish_by<D: BesideDoor, G: Gate, R: Threads + Wait + Sync>(
             pass,
             doors,
             room,
-            ticket.blob(),
-            ticket.version(),
+            Numbered {
+                blob: ticket.blob(),
+                version: ticket.version(),
+            },
         ),
         Err(_) => Err(Fault::NoMemory),
     }
@@ -243,6 +256,7 @@ impl<'a, D: BesideDoor, G: Gate> Session<'a, D, G> {
         ensures finishing { Finishing self.old.store.fixed self.old.caller self.old.log blob version result self.new.log }
         ensures failed { IfErr result (λ fault. IfPageLost fault
             (LostAnew self.old.store self.new.log blob version (map D.faults self.old.doors) (map D.faults self.new.doors))) }
+        ensures untouched { IfErr result (λ fault. RefusedEarly fault 2 self.old.turns self.new.turns → self.new.doors ≡ self.old.doors) }
         ensures faults { RoseBy (fault_count (repair_reply result)) (sum_by D.faults self.old.doors) (sum_by D.faults self.new.doors) }
         ensures goes_on { Continues self.old self.new }
         ensures rest { self.new ≡ record self.old { log = self.new.log; doors = self.new.doors; turns = self.new.turns } }
@@ -256,8 +270,7 @@ impl<'a, D: BesideDoor, G: Gate> Session<'a, D, G> {
             &mut self.pass,
             &mut self.doors,
             &mut self.room,
-            blob,
-            version,
+            Numbered { blob, version },
         )
     }
 
@@ -272,6 +285,7 @@ impl<'a, D: BesideDoor, G: Gate> Session<'a, D, G> {
         ensures finishing { Finishing self.old.store.fixed self.old.caller self.old.log ticket.now.blob ticket.now.version result self.new.log }
         ensures failed { IfErr result (λ fault. IfPageLost fault
             (LostAnew self.old.store self.new.log ticket.now.blob ticket.now.version (map D.faults self.old.doors) (map D.faults self.new.doors))) }
+        ensures untouched { IfErr result (λ fault. RefusedEarly fault 2 self.old.turns self.new.turns → self.new.doors ≡ self.old.doors) }
         ensures faults { RoseBy (fault_count (repair_reply result)) (sum_by D.faults self.old.doors) (sum_by D.faults self.new.doors) }
         ensures goes_on { Continues self.old self.new }
         ensures rest { self.new ≡ record self.old { log = self.new.log; doors = self.new.doors; turns = self.new.turns } }
@@ -298,11 +312,14 @@ impl<'a, D: BesideDoor, G: Gate> Session<'a, D, G> {
             → Finishing self.old.store.fixed self.old.caller self.old.log o.ticket.blob o.ticket.version result self.new.log }
         ensures failed { (o : OpenUpdate) → slice_get self.old.held index ≡ Some o → IfErr result (λ fault. IfPageLost fault
             (LostAnew self.old.store self.new.log o.ticket.blob o.ticket.version (map D.faults self.old.doors) (map D.faults self.new.doors))) }
+        ensures untouched { IfErr result (λ fault. RefusedEarly fault 2 self.old.turns self.new.turns → self.new.doors ≡ self.old.doors) }
         ensures faults { RoseBy (fault_count (repair_reply result)) (sum_by D.faults self.old.doors) (sum_by D.faults self.new.doors) }
         ensures goes_on { Continues self.old self.new }
         ensures rest { self.new ≡ record self.old { log = self.new.log; doors = self.new.doors; turns = self.new.turns } }
         ensures turns { UpTo 2 self.old.turns self.new.turns }
         ensures row_turns { (o : OpenUpdate) → slice_get self.old.held index ≡ Some o → IfOk result (λ _. RowTurns o.row self.old.turns self.new.turns) }
+        ensures row_most { (o : OpenUpdate) → slice_get self.old.held index ≡ Some o → IfSome o.row (λ _. UpTo 1 self.old.turns self.new.turns) }
+        ensures row_doors { (o : OpenUpdate) → slice_get self.old.held index ≡ Some o → IfSome o.row (λ _. self.new.doors ≡ self.old.doors) }
     {
         let open = self.held.at(index);
         let (blob, version) = (open.ticket().blob(), open.ticket().version());
@@ -315,18 +332,25 @@ impl<'a, D: BesideDoor, G: Gate> Session<'a, D, G> {
 
     /// Finishes the update of a ticket, and gives the greatest published version of its blob.
     ///
-    /// Where its tree isn't woven yet it takes one look first, for the ticket with the hints of now. An update that stores pages of the
-    /// blob anew can be woven once the version before it is published: it reads those pages from that, and stores them.
+    /// Where its tree is woven it reports by that, in one turn at most, and calls no door. Where it isn't woven yet it takes one look
+    /// first, for the ticket with the hints of now. An update that stores pages of the blob anew can be woven once the version before
+    /// it is published: it reads those pages from that, and stores them.
     ///
     /// `NoTicket` where this session holds no such ticket, and only then. `Already` where another session has finished the update.
     /// `Pending` where it stores pages anew and the version before it waits; it names that version, and the least unfinished one.
     /// `PageFault` names a page that it stores anew, of which no provider gave a page that is read for it, or took it. After `Ok` and
-    /// `Already` the session holds the ticket no more, after any other fault it still does.
+    /// `Already` the session holds the ticket no more, after any other fault it still does. The others that it holds stay, each with its
+    /// row. A refusal in the first turn that is neither a lost page nor want of memory calls no door.
     pub fn finish<R: Threads + Wait + Sync>(&mut self, rt: &R, ticket: u64) -> Result<u64, Fault>
         requires sync { IsSync R.row }
         ensures answers { Answers AllOther (session_of self.old) (Requests.Finish ticket) (finish_reply result) (session_of self.new) }
         ensures failed { IfErr result (λ fault. IfPageLost fault
             (LostOfHeld self.old.store self.new.log self.old.held ticket (map D.faults self.old.doors) (map D.faults self.new.doors))) }
+        ensures by_row { HasRow self.old.held ticket → self.new.doors ≡ self.old.doors }
+        ensures by_row_turns { HasRow self.old.held ticket → UpTo 1 self.old.turns self.new.turns }
+        ensures untouched { IfErr result (λ fault. RefusedEarly fault 2 self.old.turns self.new.turns → self.new.doors ≡ self.old.doors) }
+        ensures held_stay { settles result ≡ false → self.new.held ≡ self.old.held }
+        ensures given_up { settles result ≡ true → WithoutNumber self.old.held ticket self.new.held }
         ensures faults { RoseBy (fault_count (finish_reply result)) (sum_by D.faults self.old.doors) (sum_by D.faults self.new.doors) }
         ensures goes_on { Continues self.old self.new }
         ensures turns { UpTo 2 self.old.turns self.new.turns }
@@ -346,7 +370,8 @@ impl<'a, D: BesideDoor, G: Gate> Session<'a, D, G> {
     /// Finishes the update of a ticket that `ticket_for` gave, or one like it, and gives the greatest published version of its blob.
     ///
     /// Where the update stores pages of the blob anew it looks for a fresh ticket first. The faults are those of `finish`, without
-    /// `NoTicket`. Where it is `Ok` or `Already` the session gives up a ticket of that update that it holds.
+    /// `NoTicket`. Where it is `Ok` or `Already` the session gives up a ticket of that update that it holds. The others stay, each with
+    /// its row.
     pub fn finish_with<R: Threads + Wait + Sync>(
         &mut self,
         rt: &R,
@@ -357,7 +382,10 @@ impl<'a, D: BesideDoor, G: Gate> Session<'a, D, G> {
         ensures answers { Answers AllOther (session_of self.old) (Requests.Repair ticket.now.blob ticket.now.version) (repair_reply result) (session_of self.new) }
         ensures failed { IfErr result (λ fault. IfPageLost fault
             (LostAnew self.old.store self.new.log ticket.now.blob ticket.now.version (map D.faults self.old.doors) (map D.faults self.new.doors))) }
+        ensures untouched { IfErr result (λ fault. RefusedEarly fault 2 self.old.turns self.new.turns → self.new.doors ≡ self.old.doors) }
         ensures faults { RoseBy (fault_count (repair_reply result)) (sum_by D.faults self.old.doors) (sum_by D.faults self.new.doors) }
+        ensures held_stay { settles result ≡ false → self.new.held ≡ self.old.held }
+        ensures let_go { settles result ≡ true → WithoutVersion self.old.held ticket.now.blob ticket.now.version self.new.held }
         ensures goes_on { Continues self.old self.new }
         ensures turns { UpTo 2 self.old.turns self.new.turns }
         ensures finish_turns { IfOk result (λ _. FinishTurns ticket.now self.old.turns self.new.turns) }
@@ -386,7 +414,10 @@ impl<'a, D: BesideDoor, G: Gate> Session<'a, D, G> {
         ensures answers { Answers AllOther (session_of self.old) (Requests.Repair blob version) (repair_reply result) (session_of self.new) }
         ensures failed { IfErr result (λ fault. IfPageLost fault
             (LostAnew self.old.store self.new.log blob version (map D.faults self.old.doors) (map D.faults self.new.doors))) }
+        ensures untouched { IfErr result (λ fault. RefusedEarly fault 2 self.old.turns self.new.turns → self.new.doors ≡ self.old.doors) }
         ensures faults { RoseBy (fault_count (repair_reply result)) (sum_by D.faults self.old.doors) (sum_by D.faults self.new.doors) }
+        ensures held_stay { settles result ≡ false → self.new.held ≡ self.old.held }
+        ensures let_go { settles result ≡ true → WithoutVersion self.old.held blob version self.new.held }
         ensures goes_on { Continues self.old self.new }
         ensures turns { TakesTurns result 2 self.old.turns self.new.turns }
         ensures looks { self.new.looks_first ≡ self.old.looks_first }
@@ -403,11 +434,13 @@ impl<'a, D: Door, G: Gate> Session<'a, D, G> {
     // Gives up the ticket of that version of the blob, where one is held.
     fn let_go(&mut self, blob: u64, version: u64)
         ensures left { tickets_of self.new.held ≡ without_version (tickets_of self.old.held) blob version }
+        ensures others_stay { WithoutVersion self.old.held blob version self.new.held }
         ensures rest { self.new ≡ record self.old { held = self.new.held } }
     {
-        if let Some(index) = self.held.find_version(blob, version) {
-            self.held.remove(index);
-        }
+        let Some(index) = self.held.find_version(blob, version) else {
+            return;
+        };
+        self.held.remove(index);
     }
 
     /// The ticket of a waiting version of a blob, whoever numbered it, with the hints of now: `finish_with` finishes by it. One turn.

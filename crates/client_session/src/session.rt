@@ -116,6 +116,8 @@ pub struct Session<'a, D: Door, G: Gate> {
     pub(crate) limit: UpdateLimit,
     // the store refused the last update that was tried
     pub(crate) looks_first: bool,
+    // how many updates it began to store, modulo 2^32: with each thirty-second the heap is made to grow
+    pub(crate) begun: u32,
 }
 
 // By hand, so that it is one call wherever a session is let go: a derived drop stands, with all its calls, at each such place.
@@ -132,6 +134,7 @@ impl<'a, D: Door + Drop, G: Gate> Drop for Session<'a, D, G> {
             room: _,
             limit: _,
             looks_first: _,
+            begun: _,
         } = self;
     }
 }
@@ -143,7 +146,18 @@ impl<'a, D: Door, G: Gate> Model for Session<'a, D, G> {
 
     ghost Value = { SessionState D };
 
-    ghost view = { λ s. record { store = s.shared.now; caller = s.pass.caller; log = s.pass.seen; held = s.held; next = s.next; doors = s.doors; limit = longest s.limit; looks_first = s.looks_first; turns = s.pass.turns } };
+    ghost view = { λ s.
+        record {
+          store = s.shared.now;
+          caller = s.pass.caller;
+          log = s.pass.seen;
+          held = s.held;
+          next = s.next;
+          doors = s.doors;
+          limit = longest s.limit;
+          looks_first = s.looks_first;
+          turns = s.pass.turns;
+        } };
 
     ghost invariant = { λ s. IsSession D.is_true s.shared.now s.pass s.held s.next s.doors s.room };
 }
@@ -162,7 +176,18 @@ impl<'a, D: Door, G: Gate> Session<'a, D, G> {
         requires pass { IsPassOf shared.now pass }
         requires served { length doors ≡ shared.now.providers }
         requires true_doors { All D.is_true doors }
-        ensures session { IfOk result (λ s. s ≡ record { store = shared.now; caller = pass.caller; log = pass.seen; held = []; next = 1; doors = doors; limit = max_update; looks_first = false; turns = pass.turns }) }
+        ensures session { IfOk result (λ s. s ≡
+            record {
+              store = shared.now;
+              caller = pass.caller;
+              log = pass.seen;
+              held = [];
+              next = 1;
+              doors = doors;
+              limit = max_update;
+              looks_first = false;
+              turns = pass.turns;
+            }) }
         ensures pass_back { IfErr result (λ e. e.0 ≡ pass) }
         ensures doors_back { IfErr result (λ e. e.1 ≡ doors) }
     {
@@ -184,6 +209,7 @@ impl<'a, D: Door, G: Gate> Session<'a, D, G> {
             room,
             limit: UpdateLimit::AtFirst,
             looks_first: false,
+            begun: 0,
         })
     }
 
@@ -206,6 +232,7 @@ impl<'a, D: Door, G: Gate> Session<'a, D, G> {
             room: _,
             limit: _,
             looks_first: _,
+            begun: _,
         } = self;
         (pass, doors)
     }

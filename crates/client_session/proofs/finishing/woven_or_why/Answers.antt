@@ -7,6 +7,7 @@ use Rattle.tree_weaver.specs.Woven.{IsWoven}
 use Rattle.client_session.proofs.Finished.{not_woven_by, risen_by}
 use Rattle.client_session.proofs.Losses.{weave_lost}
 use Rattle.std.proofs.Common.{inl, inr}
+use Rattle.client_session.proofs.Untouched.{plain_woven}
 use Rattle.client_session.proofs.finishing.woven_or_why.Goals as goal
 
 pub returns-in-Ok-Some-clause-woven : goal.returns-in-Ok-Some-clause-woven
@@ -40,3 +41,6 @@ returns-in-Ok-clause-knows g c =
     let published : c.version-published.result ≡ length t.snapshot.rows = c.version-published.ensures.count ∙ ap (λ (s : Version). length s.rows) c.hints.ensures.snapshot in
     let next : length t.snapshot.rows + 1 ≡ t.version = omega (arith, published, c.version-version.ensures.version, c.version-version.ensures.stands.version, c.if-published-version.false) in
     inr next
+
+pub returns-in-Err-woven-clause-untouched : goal.returns-in-Err-woven-clause-untouched
+returns-in-Err-woven-clause-untouched g c = rw c.fault_of_weaving.ensures (plain_woven c.in-Err-woven.fault)

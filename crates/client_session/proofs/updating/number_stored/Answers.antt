@@ -1,11 +1,9 @@
 use Rattle.std.proofs.Common.{◌≡◌, List, Some, Result, Ok, Err, ℕ}
 use Rattle.std.specs.Prelude.{IfOk}
 use Rattle.std.specs.Arc.{arc_value}
-use Rattle.blob_model.specs.declared.call.Call.{Call}
 use Rattle.blob_model.specs.declared.call.Call.TheVariants as Calls
 use Rattle.blob_model.specs.declared.call.Event.{Event}
 use Rattle.blob_model.specs.declared.call.Event.TheVariants as Events
-use Rattle.blob_model.specs.declared.call.Outcome.{Outcome}
 use Rattle.blob_model.specs.declared.call.Outcome.TheVariants as Outcomes
 use Rattle.blob_model.specs.declared.call.Place.{Place}
 use Rattle.page_store.specs.Stored.{Cut, bytes_of_pages}
@@ -49,26 +47,26 @@ returns-in-Ok-clause-numbered g c =
     let f = c.args.shared.now.fixed in
     let v = c.args.pass.now in
     let w = c.assign.new.pass in
-    let cut : Cut = arc_value c.args.pages.now in
+    let cut : Cut = arc_value c.args.pages in
     numbered f v.caller v.seen w.seen c.args.blob c.args.place (bytes_of_pages cut.pages) cut c.in-Ok.ticket c.stands.ensures c.requires.ready.here
     (turn c.gaps_are_of_others.ensures f v w c.requires.pass.fixed c.args.blob c.args.place cut (Ok c.in-Ok.ticket) c.in-Ok.ensures.turned)
 
-pub returns-in-Err-clause-refused : goal.returns-in-Err-clause-refused
-returns-in-Err-clause-refused g c =
+pub returns-clause-refused : goal.returns-clause-refused
+returns-clause-refused g c =
     let f = c.args.shared.now.fixed in
     let v = c.args.pass.now in
     let w = c.assign.new.pass in
-    let cut : Cut = arc_value c.args.pages.now in
+    let cut : Cut = arc_value c.args.pages in
     rw c.fault_of.ensures.is
     (not_numbered f v.caller v.seen w.seen c.args.blob c.args.place (bytes_of_pages cut.pages) (λ (x : NumberedUpdate). Outcomes.Assigned x.version x.at x.size)
     c.in-Err.fault (entered c.gaps_are_of_others.ensures f v w c.requires.pass.fixed c.args.blob c.args.place cut (Err c.in-Err.fault) c.in-Err.ensures.turned))
 
 pub returns-in-Ok-clause-went : goal.returns-in-Ok-clause-went
 returns-in-Ok-clause-went g c =
-    went c.gaps_are_of_others.ensures c.args.shared.now.fixed c.args.pass.now c.assign.new.pass c.requires.pass.fixed c.args.blob c.args.place (arc_value c.args.pages.now)
+    went c.gaps_are_of_others.ensures c.args.shared.now.fixed c.args.pass.now c.assign.new.pass c.requires.pass.fixed c.args.blob c.args.place (arc_value c.args.pages)
     (Ok c.in-Ok.ticket) c.in-Ok.ensures.turned
 
-pub returns-in-Err-clause-went : goal.returns-in-Err-clause-went
-returns-in-Err-clause-went g c =
-    went c.gaps_are_of_others.ensures c.args.shared.now.fixed c.args.pass.now c.assign.new.pass c.requires.pass.fixed c.args.blob c.args.place (arc_value c.args.pages.now)
+pub returns-clause-went : goal.returns-clause-went
+returns-clause-went g c =
+    went c.gaps_are_of_others.ensures c.args.shared.now.fixed c.args.pass.now c.assign.new.pass c.requires.pass.fixed c.args.blob c.args.place (arc_value c.args.pages)
     (Err c.in-Err.fault) c.in-Err.ensures.turned

@@ -9,6 +9,9 @@ use Rattle.client_session.proofs.Losses.{settled_lost, held_lost}
 use Rattle.client_session.proofs.Holding.{holding_remove}
 use Rattle.client_session.specs.TurnCounts.{RowTurns}
 use Rattle.client_session.proofs.TurnCounts.{held_turns}
+use Rattle.std.proofs.lemmas.Bool.{false≢true}
+use Rattle.client_session.specs.TurnCounts.{UpTo}
+use Rattle.client_session.proofs.Untouched.{RisingPairs, by_row}
 use Rattle.client_session.proofs.session.Session.finish.Goals as goal
 
 pub invariant_of-self : goal.invariant_of-self
@@ -83,3 +86,53 @@ returns-else-is_settled-clause-held_turns g c =
     let v = c.args.self.now in
     let h : IsHeldAt v.held c.args.ticket c.in-Some.index = subst (λ (x : SessionState g.row.D.Denot). IsHeldAt x.held c.args.ticket c.in-Some.index) c.self.view_is c.in-Some.ensures in
     held_turns v.held c.args.ticket c.in-Some.index h c.finish_at-finished.result v.turns c.finish_at-finished.new.self.turns (c.finish_at-finished.ensures.row_turns h.update h.is)
+
+pub returns-then-is_settled-clause-by_row : goal.returns-then-is_settled-clause-by_row
+returns-then-is_settled-clause-by_row g c = λ has.
+    let v = c.args.self.now in
+    let h : IsHeldAt v.held c.args.ticket c.in-Some.index = subst (λ (x : SessionState g.row.D.Denot). IsHeldAt x.held c.args.ticket c.in-Some.index) c.self.view_is c.in-Some.ensures in
+    let pairs : RisingPairs v.held = subst (λ (x : SessionState g.row.D.Denot). RisingPairs x.held) c.self.view_is c.self.invariant.holding.rise.pairs in
+    ap (λ (x : SessionState g.row.D.Denot). x.doors) c.self-2.view_is ∙ by_row v.held pairs c.args.ticket c.in-Some.index h has (c.finish_at-finished.ensures.row_doors h.update h.is)
+
+pub returns-else-is_settled-clause-by_row : goal.returns-else-is_settled-clause-by_row
+returns-else-is_settled-clause-by_row g c = λ has.
+    let v = c.args.self.now in
+    let h : IsHeldAt v.held c.args.ticket c.in-Some.index = subst (λ (x : SessionState g.row.D.Denot). IsHeldAt x.held c.args.ticket c.in-Some.index) c.self.view_is c.in-Some.ensures in
+    let pairs : RisingPairs v.held = subst (λ (x : SessionState g.row.D.Denot). RisingPairs x.held) c.self.view_is c.self.invariant.holding.rise.pairs in
+    by_row v.held pairs c.args.ticket c.in-Some.index h has (c.finish_at-finished.ensures.row_doors h.update h.is)
+
+pub returns-then-is_settled-clause-by_row_turns : goal.returns-then-is_settled-clause-by_row_turns
+returns-then-is_settled-clause-by_row_turns g c = λ has.
+    let v = c.args.self.now in
+    let h : IsHeldAt v.held c.args.ticket c.in-Some.index = subst (λ (x : SessionState g.row.D.Denot). IsHeldAt x.held c.args.ticket c.in-Some.index) c.self.view_is c.in-Some.ensures in
+    let pairs : RisingPairs v.held = subst (λ (x : SessionState g.row.D.Denot). RisingPairs x.held) c.self.view_is c.self.invariant.holding.rise.pairs in
+    subst (λ (n : ℕ). UpTo 1 v.turns n) (sym (ap (λ (x : SessionState g.row.D.Denot). x.turns) c.self-2.view_is))
+    (by_row v.held pairs c.args.ticket c.in-Some.index h has (c.finish_at-finished.ensures.row_most h.update h.is))
+
+pub returns-else-is_settled-clause-by_row_turns : goal.returns-else-is_settled-clause-by_row_turns
+returns-else-is_settled-clause-by_row_turns g c = λ has.
+    let v = c.args.self.now in
+    let h : IsHeldAt v.held c.args.ticket c.in-Some.index = subst (λ (x : SessionState g.row.D.Denot). IsHeldAt x.held c.args.ticket c.in-Some.index) c.self.view_is c.in-Some.ensures in
+    let pairs : RisingPairs v.held = subst (λ (x : SessionState g.row.D.Denot). RisingPairs x.held) c.self.view_is c.self.invariant.holding.rise.pairs in
+    by_row v.held pairs c.args.ticket c.in-Some.index h has (c.finish_at-finished.ensures.row_most h.update h.is)
+
+pub returns-then-is_settled-clause-held_stay : goal.returns-then-is_settled-clause-held_stay
+returns-then-is_settled-clause-held_stay g c = λ open_. absurd (false≢true (sym open_ ∙ sym c.if-is_settled.ensures))
+
+pub returns-else-is_settled-clause-held_stay : goal.returns-else-is_settled-clause-held_stay
+returns-else-is_settled-clause-held_stay g c = λ open_. ap (λ (x : SessionState g.row.D.Denot). x.held) c.finish_at-finished.ensures.rest
+
+pub returns-then-is_settled-clause-given_up : goal.returns-then-is_settled-clause-given_up
+returns-then-is_settled-clause-given_up g c = λ settled.
+    let v = c.args.self.now in
+    let index = c.in-Some.index in
+    let held : c.self-2.inside.held ≡ v.held =
+    ap (λ (x : SessionState g.row.D.Denot). x.held) c.self-2.view_is ∙ ap (λ (x : SessionState g.row.D.Denot). x.held) c.finish_at-finished.ensures.rest in
+    record {
+      index = index;
+      at = subst (λ (x : SessionState g.row.D.Denot). IsHeldAt x.held c.args.ticket index) c.self.view_is c.in-Some.ensures;
+      left = c.remove.ensures ∙ ap (λ (os : List OpenUpdate). remove os index) held;
+    }
+
+pub returns-else-is_settled-clause-given_up : goal.returns-else-is_settled-clause-given_up
+returns-else-is_settled-clause-given_up g c = λ settled. absurd (false≢true (c.if-is_settled.ensures ∙ settled))

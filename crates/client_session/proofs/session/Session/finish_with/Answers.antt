@@ -1,6 +1,10 @@
-use Rattle.std.proofs.Common.{sym, ◌∙◌}
+use Rattle.std.proofs.Common.{sym, ◌∙◌, ap, subst, List}
 use Rattle.client_session.proofs.Losses.{settled_lost}
 use Rattle.client_session.proofs.HeldFinishes.{repair_settled, repair_open}
+use Rattle.std.proofs.lemmas.Bool.{false≢true}
+use Rattle.session_parts.specs.Tickets.{OpenUpdate}
+use Rattle.client_session.specs.Sessions.{SessionState}
+use Rattle.client_session.specs.Tickets.{WithoutVersion}
 use Rattle.client_session.proofs.session.Session.finish_with.Goals as goal
 
 pub returns-then-is_settled-clause-answers : goal.returns-then-is_settled-clause-answers
@@ -20,3 +24,18 @@ returns-else-is_settled-clause-answers g c =
 
 pub returns-then-is_settled-clause-failed : goal.returns-then-is_settled-clause-failed
 returns-then-is_settled-clause-failed g c = settled_lost c.finish_by-finished.result _ (sym c.is_settled.ensures ∙ c.if-is_settled.true)
+
+pub returns-then-is_settled-clause-held_stay : goal.returns-then-is_settled-clause-held_stay
+returns-then-is_settled-clause-held_stay g c = λ open_. absurd (false≢true (sym open_ ∙ (sym c.is_settled.ensures ∙ c.if-is_settled.true)))
+
+pub returns-else-is_settled-clause-held_stay : goal.returns-else-is_settled-clause-held_stay
+returns-else-is_settled-clause-held_stay g c = λ open_. ap (λ (x : SessionState g.row.D.Denot). x.held) c.finish_by-finished.ensures.rest
+
+pub returns-then-is_settled-clause-let_go : goal.returns-then-is_settled-clause-let_go
+returns-then-is_settled-clause-let_go g c = λ settled.
+    let t = c.args.ticket.now in
+    subst (λ (os : List OpenUpdate). WithoutVersion os t.blob t.version c.let_go.new.self.held) (ap (λ (x : SessionState g.row.D.Denot). x.held) c.finish_by-finished.ensures.rest)
+    (rw (← c.blob.ensures, ← c.version.ensures.version) c.let_go.ensures.others_stay)
+
+pub returns-else-is_settled-clause-let_go : goal.returns-else-is_settled-clause-let_go
+returns-else-is_settled-clause-let_go g c = λ settled. absurd (false≢true (sym (sym c.is_settled.ensures ∙ c.if-is_settled.false) ∙ settled))

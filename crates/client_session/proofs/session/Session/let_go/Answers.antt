@@ -1,7 +1,8 @@
-use Rattle.std.proofs.Common.{sym, subst, List}
+use Rattle.std.proofs.Common.{refl, sym, subst, List}
 use Rattle.session_parts.specs.Tickets.{OpenUpdate}
 use Rattle.client_session.specs.SessionInvariant.{IsSession}
 use Rattle.client_session.proofs.Holding.{holding_remove}
+use Rattle.client_session.specs.Tickets.{WithoutVersion}
 use Rattle.client_session.proofs.session.Session.let_go.Goals as goal
 
 pub invariant_of-self : goal.invariant_of-self
@@ -17,3 +18,10 @@ invariant_of-self g c =
       true_doors = inv.true_doors;
       marks = inv.marks;
     })
+
+pub returns-clause-others_stay : goal.returns-clause-others_stay
+returns-clause-others_stay g c =
+    rw (← c.self.view_is) (WithoutVersion.one c.in-Some.index c.in-Some.ensures c.remove.ensures)
+
+pub returns-in_default-clause-others_stay : goal.returns-in_default-clause-others_stay
+returns-in_default-clause-others_stay g c = rw (← c.self.view_is) (WithoutVersion.none c.in_default.ensures refl)

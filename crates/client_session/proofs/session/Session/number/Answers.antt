@@ -1,4 +1,4 @@
-use Rattle.std.proofs.Common.{◌≡◌, false, refl, sym, ◌∙◌, ap, subst, ℕ, ◌<◌, List, length, Option, Some, None, arith}
+use Rattle.std.proofs.Common.{◌≡◌, false, refl, sym, ◌∙◌, ap, subst, ℕ, ◌+◌, ◌<◌, List, length, Option, Some, None, arith}
 use Rattle.std.proofs.lemmas.List.{length-map}
 use Rattle.blob_model.specs.History.{AllOther}
 use Rattle.blob_model.specs.declared.call.Event.{Event}
@@ -20,6 +20,7 @@ use Rattle.client_session.proofs.Losses.{calm_lost}
 use Rattle.client_session.proofs.RangeAnswers.{rose_none}
 use Rattle.client_session.proofs.Numbered.{not_numbered_both, both_others, both_outcome, both_seen, both_longer}
 use Rattle.client_session.proofs.Standing.{session_after, session_doors}
+use Rattle.client_session.specs.TurnCounts.{look_turns}
 use Rattle.client_session.proofs.session.Session.number.Goals as goal
 
 -- what the session refuses, it says
@@ -79,8 +80,8 @@ returns-in-Ok-number_stored-clause-goes_on g c =
       begins = begins_both i.pass.seen mid.seen new.seen c.prepare.ensures.went.begins c.number_stored.ensures.went.begins;
     })
 
-pub returns-clause-goes_on : goal.returns-clause-goes_on
-returns-clause-goes_on g c =
+pub returns-in-Err-number_stored-clause-goes_on : goal.returns-in-Err-number_stored-clause-goes_on
+returns-in-Err-number_stored-clause-goes_on g c =
     let i = c.self.inside in
     let mid = c.prepare.new.pass in
     let new = c.number_stored.new.pass in
@@ -90,8 +91,8 @@ returns-clause-goes_on g c =
       begins = begins_both i.pass.seen mid.seen new.seen c.prepare.ensures.went.begins c.number_stored.ensures.went.begins;
     })
 
-pub returns-clause-refused : goal.returns-clause-refused
-returns-clause-refused g c =
+pub returns-in-Err-number_stored-clause-refused : goal.returns-in-Err-number_stored-clause-refused
+returns-in-Err-number_stored-clause-refused g c =
     let i = c.self.inside in
     let by : ℕ = i.pass.caller in
     let fixed : DeskFixed = i.shared.now.fixed in
@@ -156,8 +157,8 @@ returns-in-Ok-number_stored-clause-numbered g c =
 pub returns-in-Some-clause-first_lost : goal.returns-in-Some-clause-first_lost
 returns-in-Some-clause-first_lost g c = calm_lost c.in-Some.fault _ c.in-Some.ensures.calm
 
-pub returns-clause-first_lost : goal.returns-clause-first_lost
-returns-clause-first_lost g c = calm_lost c.in-Err-number_stored.fault _ c.in-Err-number_stored.ensures.calm
+pub returns-in-Err-number_stored-clause-first_lost : goal.returns-in-Err-number_stored-clause-first_lost
+returns-in-Err-number_stored-clause-first_lost g c = calm_lost c.in-Err-number_stored.fault _ c.in-Err-number_stored.ensures.calm
 
 pub returns-in-Err-clause-refused : goal.returns-in-Err-clause-refused
 returns-in-Err-clause-refused g c =
@@ -182,8 +183,8 @@ returns-in-Ok-number_stored-clause-rest g c =
     ap (λ (p : PassView Event DeskFixed). p.caller) c.number_stored.ensures.pass ∙ ap (λ (p : PassView Event DeskFixed). p.caller) c.prepare.ensures.pass in
     rw (← c.self.view_is, same) refl
 
-pub returns-clause-rest : goal.returns-clause-rest
-returns-clause-rest g c =
+pub returns-in-Err-number_stored-clause-rest : goal.returns-in-Err-number_stored-clause-rest
+returns-in-Err-number_stored-clause-rest g c =
     let same : c.number_stored.new.pass.caller ≡ c.self.inside.pass.caller =
     ap (λ (p : PassView Event DeskFixed). p.caller) c.number_stored.ensures.pass ∙ ap (λ (p : PassView Event DeskFixed). p.caller) c.prepare.ensures.pass in
     rw (← c.self.view_is, same) refl
@@ -201,8 +202,8 @@ returns-in-Err-clause-goes_on g c =
       begins = c.prepare.ensures.went.begins;
     })
 
-pub returns-clause-risen : goal.returns-clause-risen
-returns-clause-risen g c = rw (← c.self.view_is) (rose_none _ _ _ c.in-Err-number_stored.ensures.calm c.prepare.ensures.never_falls)
+pub returns-in-Err-number_stored-clause-risen : goal.returns-in-Err-number_stored-clause-risen
+returns-in-Err-number_stored-clause-risen g c = rw (← c.self.view_is) (rose_none _ _ _ c.in-Err-number_stored.ensures.calm c.prepare.ensures.never_falls)
 
 pub prepare-requires-clause-few : goal.prepare-requires-clause-few
 prepare-requires-clause-few g c = λ κs within. omega (arith, c.in_default.ensures.few, c.bytes.ensures.most)
@@ -210,11 +211,21 @@ prepare-requires-clause-few g c = λ κs within. omega (arith, c.in_default.ensu
 pub returns-in-Some-clause-lost_behind : goal.returns-in-Some-clause-lost_behind
 returns-in-Some-clause-lost_behind g c = calm_lost c.in-Some.fault _ c.in-Some.ensures.calm
 
-pub returns-clause-lost_behind : goal.returns-clause-lost_behind
-returns-clause-lost_behind g c = calm_lost c.in-Err-number_stored.fault _ c.in-Err-number_stored.ensures.calm
+pub returns-in-Err-number_stored-clause-lost_behind : goal.returns-in-Err-number_stored-clause-lost_behind
+returns-in-Err-number_stored-clause-lost_behind g c = calm_lost c.in-Err-number_stored.fault _ c.in-Err-number_stored.ensures.calm
 
 pub returns-in-Err-clause-lost_behind : goal.returns-in-Err-clause-lost_behind
 returns-in-Err-clause-lost_behind g c = λ page is. rw (← c.self.view_is) (record { turns = c.prepare.ensures.turns; unseen = c.prepare.ensures.unseen })
 
 pub returns-in-Some-clause-looks : goal.returns-in-Some-clause-looks
 returns-in-Some-clause-looks g c = sym (c.in-Some.ensures.untried _)
+
+pub returns-in-Err-clause-untouched : goal.returns-in-Err-clause-untouched
+returns-in-Err-clause-untouched g c = rw (← c.self.view_is) (λ r. c.in-Err.ensures.untouched r.plain)
+
+pub returns-in-Err-number_stored-clause-untouched : goal.returns-in-Err-number_stored-clause-untouched
+returns-in-Err-number_stored-clause-untouched g c =
+    let i = c.self.inside in
+    let looked : c.prepare.new.pass.turns ≡ i.pass.turns + look_turns i.looks_first i.shared.now.fixed.page_size (length c.args.bytes.now) = c.prepare.ensures.turns in
+    let numbered : c.number_stored.new.pass.turns ≡ c.prepare.new.pass.turns + 1 = c.number_stored.ensures.one_turn in
+    rw (← c.self.view_is) (λ r. absurd (omega (arith, r.early, looked, numbered)))

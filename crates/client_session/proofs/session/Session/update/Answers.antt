@@ -1,4 +1,4 @@
-use Rattle.std.proofs.Common.{◌≡◌, Bool, false, sym, ◌∙◌, ap, subst, ℕ, ◌+◌, List, [], ◌++◌, length, None, append-nil, arith}
+use Rattle.std.proofs.Common.{◌≡◌, false, sym, ◌∙◌, ap, subst, ℕ, ◌+◌, List, [], ◌++◌, length, None, append-nil, arith}
 use Rattle.blob_model.specs.History.{store_of}
 use Rattle.blob_model.specs.declared.call.Event.{Event}
 use Rattle.version_manager.specs.Log.{events}
@@ -14,9 +14,14 @@ use Rattle.client_session.specs.Sessions.{SessionState, StoreState, Continues, s
 use Rattle.client_session.specs.Updates.{update_reply}
 use Rattle.client_session.specs.Results.{updated_reply}
 use Rattle.client_session.proofs.Standing.{open_stays, longer_log}
-use Rattle.client_session.proofs.UpdateAnswers.{update_done, update_not_done, update_finished, update_rose, kept, rose_both}
+use Rattle.client_session.proofs.UpdateAnswers.{update_done, update_not_done, update_finished, update_rose, kept, kept_lost, rose_both}
 use Rattle.client_session.proofs.Losses.{calm_result}
 use Rattle.client_session.proofs.Waiting.{goes_both}
+use Rattle.std.specs.Prelude.{map}
+use Rattle.client_session.specs.Losses.{LostAnew}
+use Rattle.client_session.specs.Tickets.{AllHeldStill}
+use Rattle.client_session.proofs.Losses.{lost_since}
+use Rattle.client_session.proofs.Untouched.{none_more, lost_as, too_late}
 use Rattle.client_session.proofs.session.Session.update.Goals as goal
 
 pub keep-requires-clause-open_ : goal.keep-requires-clause-open_
@@ -166,3 +171,54 @@ returns-in-Err-finish_by-clause-looks g c =
     let k = kept s mid c.args.blob c.args.place c.args.bytes.now t n m c.in-Err-finish_by.ensures.rest c.keep.result s' 0 0 c.in-Err-finish_by.fault c.in-Err-finish_by.ensures.finishing c.keep.ensures.kept in
     let stays : m.looks_first ≡ false = ap (λ (x : SessionState g.row.D.Denot). x.looks_first) c.in-Err-finish_by.ensures.rest ∙ c.in-Ok.ensures.looks in
     ap (λ (x : SessionState g.row.D.Denot). x.looks_first) k.same ∙ (stays ∙ sym (k.taken s.looks_first))
+
+pub returns-in-Err-clause-held_stay : goal.returns-in-Err-clause-held_stay
+returns-in-Err-clause-held_stay g c = none_more c.args.self.now.held c.number.new.self.held (ap (λ (x : SessionState g.row.D.Denot). x.held) c.in-Err.ensures.rest)
+
+pub returns-in-Ok-finish_by-clause-held_stay : goal.returns-in-Ok-finish_by-clause-held_stay
+returns-in-Ok-finish_by-clause-held_stay g c =
+    none_more c.args.self.now.held c.finish_by.new.self.held
+    (ap (λ (x : SessionState g.row.D.Denot). x.held) c.in-Ok-finish_by.ensures.rest ∙ ap (λ (x : SessionState g.row.D.Denot). x.held) c.in-Ok.ensures.rest)
+
+pub returns-in-Err-finish_by-clause-held_stay : goal.returns-in-Err-finish_by-clause-held_stay
+returns-in-Err-finish_by-clause-held_stay g c =
+    let s = c.args.self.now in
+    let mid = c.number.new.self in
+    let m = c.finish_by.new.self in
+    let s' = c.keep.new.self in
+    let n = c.in-Ok.ensures.numbered in
+    let t : NumberedUpdate = c.in-Ok.ticket in
+    let k = kept s mid c.args.blob c.args.place c.args.bytes.now t n m c.in-Err-finish_by.ensures.rest c.keep.result s' 0 0 c.in-Err-finish_by.fault c.in-Err-finish_by.ensures.finishing c.keep.ensures.kept in
+    subst (λ (os : List OpenUpdate). AllHeldStill os s'.held)
+    (ap (λ (x : SessionState g.row.D.Denot). x.held) c.in-Err-finish_by.ensures.rest ∙ ap (λ (x : SessionState g.row.D.Denot). x.held) c.in-Ok.ensures.rest) k.stay
+
+pub returns-in-Err-finish_by-clause-untouched : goal.returns-in-Err-finish_by-clause-untouched
+returns-in-Err-finish_by-clause-untouched g c =
+    let s = c.args.self.now in
+    let mid = c.number.new.self in
+    let m = c.finish_by.new.self in
+    let s' = c.keep.new.self in
+    let n = c.in-Ok.ensures.numbered in
+    let t : NumberedUpdate = c.in-Ok.ticket in
+    let k = kept s mid c.args.blob c.args.place c.args.bytes.now t n m c.in-Err-finish_by.ensures.rest c.keep.result s' 0 0 c.in-Err-finish_by.fault c.in-Err-finish_by.ensures.finishing c.keep.ensures.kept in
+    let turns : s'.turns ≡ m.turns = ap (λ (x : SessionState g.row.D.Denot). x.turns) k.same in
+    let numbered : mid.turns ≡ s.turns + numbering_turns s.looks_first s.store.fixed.page_size (length c.args.bytes.now) = c.in-Ok.ensures.turns in
+    too_late c.keep.result (numbering_turns s.looks_first s.store.fixed.page_size (length c.args.bytes.now)) s.turns s'.turns _ (omega (arith, turns, numbered, c.in-Err-finish_by.ensures.turns.least))
+
+pub returns-in-Err-finish_by-clause-held_lost : goal.returns-in-Err-finish_by-clause-held_lost
+returns-in-Err-finish_by-clause-held_lost g c =
+    let s = c.args.self.now in
+    let mid = c.number.new.self in
+    let m = c.finish_by.new.self in
+    let s' = c.keep.new.self in
+    let n = c.in-Ok.ensures.numbered in
+    let t : NumberedUpdate = c.in-Ok.ticket in
+    let k = kept s mid c.args.blob c.args.place c.args.bytes.now t n m c.in-Err-finish_by.ensures.rest c.keep.result s' 0 0 c.in-Err-finish_by.fault c.in-Err-finish_by.ensures.finishing c.keep.ensures.kept in
+    let f = g.D.Door.faults in
+    let log : m.log ≡ s'.log = sym (ap (λ (x : SessionState g.row.D.Denot). x.log) k.same) in
+    let doors : map f m.doors ≡ map f s'.doors = sym (ap (λ (x : SessionState g.row.D.Denot). map f x.doors) k.same) in
+    lost_as c.keep.result _ (λ version page. (version ≡ t.version) × LostAnew mid.store m.log t.blob t.version (map f mid.doors) (map f m.doors) page) _
+    (λ version page at. lost_since mid.store s.store m.log s'.log t.blob c.args.blob t.version version (map f s.doors) (map f mid.doors) (map f m.doors) (map f s'.doors) page
+    c.in-Ok.ensures.goes_on.store log n.blob_is (sym at.0) doors c.in-Ok.ensures.none_fell at.1)
+    (kept_lost s mid c.args.blob c.args.place c.args.bytes.now t n m c.in-Err-finish_by.ensures.rest c.keep.result s' c.in-Err-finish_by.fault
+    (LostAnew mid.store m.log t.blob t.version (map f mid.doors) (map f m.doors)) c.in-Err-finish_by.ensures.failed c.in-Err-finish_by.ensures.finishing c.keep.ensures.kept)
