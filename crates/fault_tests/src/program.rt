@@ -8,7 +8,7 @@ use ports::mem_listener::MemListener;
 use ports::memory::{MemSink, MemSource};
 use ports::pair::Pair;
 use std::alloc::Global;
-use std::collections::{BTreeMap, VecDeque};
+use std::collections::BTreeMap;
 use std::process::Abort;
 use std::sync::Wait;
 use std::thread::Threads;
@@ -55,8 +55,8 @@ pub(crate) fn run_over<R: Wait + Threads + Sync + Abort>(
     let mut out = MemSink::new(alloc, room).expect(rt, "memory");
     let mut err = MemSink::new(alloc, ROOM).expect(rt, "memory");
     let mut net: MemListener<Pair<'_, MemSource, MemSink>> = MemListener::new(
+        alloc,
         String::new(alloc),
-        VecDeque::new(alloc),
         Vec::new(alloc),
     );
     let status = run(

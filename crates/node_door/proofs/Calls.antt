@@ -108,11 +108,11 @@ fails_by IsAskedFor old new frame want sent got Exchange.Broken x other = elim (
 -- ---- doors after a call
 
 -- the door after a call, where these parts of it changed
-abbrev pub door_with : DoorAt → LinkAt → List (ℕ × ℕ) → Bool → ℕ → DoorAt
-door_with old link own spent faults = record { provider = old.provider; link = link; own = own; spent = spent; faults = faults }
+abbrev pub door_with : DoorAt → LinkAt → ℕ → List (ℕ × ℕ) → Bool → ℕ → DoorAt
+door_with old link room own spent faults = record { provider = old.provider; link = link; room = room; own = own; spent = spent; faults = faults }
 
 -- a spent door
-pub put_spent : (old old' new : DoorAt) (bytes : List ℕ) → old ≡ old' → old.spent ≡ true → new ≡ door_with old old.link old.own old.spent (count_after 1 old.faults) → PutCalled old' bytes put.Failed new
+pub put_spent : (old old' new : DoorAt) (bytes : List ℕ) → old ≡ old' → old.spent ≡ true → new ≡ door_with old old.link old.room old.own old.spent (count_after 1 old.faults) → PutCalled old' bytes put.Failed new
 put_spent old old' new bytes same spent is =
     subst (λ (d : DoorAt). PutCalled d bytes put.Failed new) same
     (subst (λ (d : DoorAt). PutCalled old bytes put.Failed d) (sym is) record {
@@ -129,12 +129,13 @@ put_spent old old' new bytes same spent is =
       spends = λ _. inl spent;
       lives = λ not. absurd (true≢false (sym spent ∙ not));
       provider = refl;
+      room = refl;
     })
 
 -- no room for the id
-pub put_no_room : (old old' : DoorAt) (bytes : List ℕ) (own' : List (ℕ × ℕ)) → old ≡ old' → old.spent ≡ false → SameOwn old.own own' → PutCalled old' bytes put.NoMemory (door_with old old.link own' old.spent old.faults)
+pub put_no_room : (old old' : DoorAt) (bytes : List ℕ) (own' : List (ℕ × ℕ)) → old ≡ old' → old.spent ≡ false → SameOwn old.own own' → PutCalled old' bytes put.NoMemory (door_with old old.link old.room own' old.spent old.faults)
 put_no_room old old' bytes own' is fresh same =
-    subst (λ (d : DoorAt). PutCalled d bytes put.NoMemory (door_with old old.link own' old.spent old.faults)) is record {
+    subst (λ (d : DoorAt). PutCalled d bytes put.NoMemory (door_with old old.link old.room own' old.spent old.faults)) is record {
       sent = [];
       got = [];
       passed = passed_none old.link;
@@ -148,6 +149,7 @@ put_no_room old old' bytes own' is fresh same =
       spends = λ spent. absurd (true≢false (sym spent ∙ fresh));
       lives = λ _. (fresh, inl (refl, refl));
       provider = refl;
+      room = refl;
     }
 
 abbrev stored_answer : PutAnswer → Bool
@@ -255,11 +257,11 @@ put_refusal frame sent got a b r (put.Stored page) own own' x o whole = tt
 put_refusal frame sent got a b r put.NoMemory own own' x o whole = tt
 
 -- an exchange with the node
-pub put_done : (old old' : DoorAt) (frame bytes : List ℕ) (link' : LinkAt) (spent' : Bool) (own' : List (ℕ × ℕ)) (faults' : ℕ) (answer : PutAnswer) (r : Exchanged)
-    → old ≡ old' → old.spent ≡ false → frame ≡ asked (Requests.Put bytes) → IsTalked frame [] (record { link = old.link; spent = old.spent }) (record { link = link'; spent = spent' }) r
-    → faults' ≡ count_after (put_faults answer) old.faults → PutOutcome r answer old.own own' → PutCalled old' bytes answer (door_with old link' own' spent' faults')
-put_done old old' frame bytes link' spent' own' faults' answer r same fresh is t count o =
-    subst (λ (d : DoorAt). PutCalled d bytes answer (door_with old link' own' spent' faults')) same record {
+pub put_done : (old old' : DoorAt) (frame bytes : List ℕ) (link' : LinkAt) (room' : ℕ) (spent' : Bool) (own' : List (ℕ × ℕ)) (faults' : ℕ) (answer : PutAnswer) (r : Exchanged)
+    → old ≡ old' → old.spent ≡ false → frame ≡ asked (Requests.Put bytes) → IsTalked frame [] (record { link = old.link; room = old.room; spent = old.spent }) (record { link = link'; room = room'; spent = spent' }) r
+    → faults' ≡ count_after (put_faults answer) old.faults → PutOutcome r answer old.own own' → PutCalled old' bytes answer (door_with old link' room' own' spent' faults')
+put_done old old' frame bytes link' room' spent' own' faults' answer r same fresh is t count o =
+    subst (λ (d : DoorAt). PutCalled d bytes answer (door_with old link' room' own' spent' faults')) same record {
       sent = t.exchanges.sent;
       got = t.exchanges.got;
       passed = t.exchanges.passed;
@@ -273,10 +275,11 @@ put_done old old' frame bytes link' spent' own' faults' answer r same fresh is t
       spends = λ spent. spends_by old new frame [] t.exchanges.sent t.exchanges.got r t.exchanges.comes (spent_by r fresh (sym t.spent ∙ spent));
       lives = λ alive. (fresh, inr (lives_by old.link link' frame [] t.exchanges.sent t.exchanges.got r t.exchanges.comes (alive_by r fresh (sym t.spent ∙ alive))));
       provider = refl;
+      room = t.room;
     }
   where
     new : DoorAt
-    new = door_with old link' own' spent' faults'
+    new = door_with old link' room' own' spent' faults'
 
 -- a page more, after room was made
 pub adds_after : (own own' own'' : List (ℕ × ℕ)) (place id place' : ℕ) → place ≡ place' → SameOwn own own' → AddsOwn own' place id own'' → AddsOwn own place' id own''
@@ -284,12 +287,12 @@ adds_after own own' own'' place id place' e same adds = λ other.
     adds other ∙ ap (λ (o : Option ℕ). cond (place == other) (Some id) o) (same other) ∙ ap (λ (p : ℕ). cond (p == other) (Some id) (id_of own other)) e
 
 -- a put that failed at the node
-pub put_refused : (old old' new : DoorAt) (frame bytes : List ℕ) (link' : LinkAt) (spent' : Bool) (own' : List (ℕ × ℕ)) (r : Exchanged)
-    → old ≡ old' → old.spent ≡ false → frame ≡ asked (Requests.Put bytes) → IsTalked frame [] (record { link = old.link; spent = old.spent }) (record { link = link'; spent = spent' }) r
-    → (r ≡ Exchange.Same) ⊎ (r ≡ Exchange.Other) ⊎ (r ≡ Exchange.Broken) → SameOwn old.own own' → new ≡ door_with old link' own' spent' (count_after 1 old.faults) → PutCalled old' bytes put.Failed new
-put_refused old old' new frame bytes link' spent' own' r same fresh is t how owned now =
+pub put_refused : (old old' new : DoorAt) (frame bytes : List ℕ) (link' : LinkAt) (room' : ℕ) (spent' : Bool) (own' : List (ℕ × ℕ)) (r : Exchanged)
+    → old ≡ old' → old.spent ≡ false → frame ≡ asked (Requests.Put bytes) → IsTalked frame [] (record { link = old.link; room = old.room; spent = old.spent }) (record { link = link'; room = room'; spent = spent' }) r
+    → (r ≡ Exchange.Same) ⊎ (r ≡ Exchange.Other) ⊎ (r ≡ Exchange.Broken) → SameOwn old.own own' → new ≡ door_with old link' room' own' spent' (count_after 1 old.faults) → PutCalled old' bytes put.Failed new
+put_refused old old' new frame bytes link' room' spent' own' r same fresh is t how owned now =
     subst (λ (d : DoorAt). PutCalled old' bytes put.Failed d) (sym now)
-    (put_done old old' frame bytes link' spent' own' (count_after 1 old.faults) put.Failed r same fresh is t refl (outcome how))
+    (put_done old old' frame bytes link' room' spent' own' (count_after 1 old.faults) put.Failed r same fresh is t refl (outcome how))
   where
     at : (q : Exchanged) → q ≡ r → PutOutcome q put.Failed old.own own' → PutOutcome r put.Failed old.own own'
     at q e o = subst (λ (x : Exchanged). PutOutcome x put.Failed old.own own') e o
@@ -308,7 +311,7 @@ not_given want got Exchange.NoMemory ns whole t k = let o = frame_operation 255 
 not_given want got Exchange.Other ns whole t k = t.not_wanted k
 not_given want got Exchange.Broken ns whole t k = true≢false whole
 
-pub get_spent : (old old' new : DoorAt) (id from : ℕ) (want : List ℕ) → old ≡ old' → old.spent ≡ true → new ≡ door_with old old.link old.own old.spent (count_after 1 old.faults) → OwnGetCalled old' id from want get.Failed new
+pub get_spent : (old old' new : DoorAt) (id from : ℕ) (want : List ℕ) → old ≡ old' → old.spent ≡ true → new ≡ door_with old old.link old.room old.own old.spent (count_after 1 old.faults) → OwnGetCalled old' id from want get.Failed new
 get_spent old old' new id from want same spent is =
     subst (λ (d : DoorAt). OwnGetCalled d id from want get.Failed new) same
     (subst (λ (d : DoorAt). OwnGetCalled old id from want get.Failed d) (sym is) record {
@@ -325,18 +328,19 @@ get_spent old old' new id from want same spent is =
       lives = λ not. absurd (true≢false (sym spent ∙ not));
       own = refl;
       provider = refl;
+      room = refl;
     })
 
 failed_by : (answer : GetAnswer) {P : Type 0} → P → OnGetFailed answer P
 failed_by get.Got p = tt
 failed_by get.Failed p = p
 
-get_facts : (old : DoorAt) (frame want : List ℕ) (link' : LinkAt) (spent' : Bool) (faults' id from : ℕ) (answer : GetAnswer) (r : Exchanged)
-    → old.spent ≡ false → frame ≡ asked (Requests.Get id from (length want)) → (t : IsTalked frame want (record { link = old.link; spent = old.spent }) (record { link = link'; spent = spent' }) r)
+get_facts : (old : DoorAt) (frame want : List ℕ) (link' : LinkAt) (room' : ℕ) (spent' : Bool) (faults' id from : ℕ) (answer : GetAnswer) (r : Exchanged)
+    → old.spent ≡ false → frame ≡ asked (Requests.Get id from (length want)) → (t : IsTalked frame want (record { link = old.link; room = old.room; spent = old.spent }) (record { link = link'; room = room'; spent = spent' }) r)
     → faults' ≡ count_after (get_faults answer) old.faults
-    → OnGot answer (t.exchanges.got ≡ said (Replies.Given want)) → OnGetFailed answer (MayFail (IsGivenReply want) old t.exchanges.got (door_with old link' old.own spent' faults'))
-    → OwnGetCalled old id from want answer (door_with old link' old.own spent' faults')
-get_facts old frame want link' spent' faults' id from answer r fresh is t count gives failed = record {
+    → OnGot answer (t.exchanges.got ≡ said (Replies.Given want)) → OnGetFailed answer (MayFail (IsGivenReply want) old t.exchanges.got (door_with old link' room' old.own spent' faults'))
+    → OwnGetCalled old id from want answer (door_with old link' room' old.own spent' faults')
+get_facts old frame want link' room' spent' faults' id from answer r fresh is t count gives failed = record {
   sent = t.exchanges.sent;
   got = t.exchanges.got;
   passed = t.exchanges.passed;
@@ -346,30 +350,31 @@ get_facts old frame want link' spent' faults' id from answer r fresh is t count 
   failed = failed;
   refused = λ alive. failed_by answer (lives_by old.link link' frame want t.exchanges.sent t.exchanges.got r t.exchanges.comes (alive_by r fresh (sym t.spent ∙ alive)));
   count = count;
-  spends = λ spent. spends_by old (door_with old link' old.own spent' faults') frame want t.exchanges.sent t.exchanges.got r t.exchanges.comes (spent_by r fresh (sym t.spent ∙ spent));
+  spends = λ spent. spends_by old (door_with old link' room' old.own spent' faults') frame want t.exchanges.sent t.exchanges.got r t.exchanges.comes (spent_by r fresh (sym t.spent ∙ spent));
   lives = λ alive. (fresh, inr (lives_by old.link link' frame want t.exchanges.sent t.exchanges.got r t.exchanges.comes (alive_by r fresh (sym t.spent ∙ alive))));
   own = refl;
   provider = refl;
+  room = t.room;
 }
 
 same_told : (frame want sent got : List ℕ) (a b : LinkAt) (r : Exchanged) → r ≡ Exchange.Same → IsExchanged frame want sent got a b r → got ≡ said (Replies.Given want)
 same_told frame want sent got a b r e x = (subst (λ (q : Exchanged). IsExchanged frame want sent got a b q) e x).1.0
 
-pub get_given : (old old' : DoorAt) (frame want : List ℕ) (link' : LinkAt) (spent' : Bool) (id from : ℕ) (r : Exchanged)
-    → old ≡ old' → old.spent ≡ false → frame ≡ asked (Requests.Get id from (length want)) → IsTalked frame want (record { link = old.link; spent = old.spent }) (record { link = link'; spent = spent' }) r
-    → r ≡ Exchange.Same → OwnGetCalled old' id from want get.Got (door_with old link' old.own spent' old.faults)
-get_given old old' frame want link' spent' id from r same fresh is t given =
-    subst (λ (d : DoorAt). OwnGetCalled d id from want get.Got (door_with old link' old.own spent' old.faults)) same
-    (get_facts old frame want link' spent' old.faults id from get.Got r fresh is t refl (same_told frame want t.exchanges.sent t.exchanges.got old.link link' r given t.exchanges.comes) tt)
+pub get_given : (old old' : DoorAt) (frame want : List ℕ) (link' : LinkAt) (room' : ℕ) (spent' : Bool) (id from : ℕ) (r : Exchanged)
+    → old ≡ old' → old.spent ≡ false → frame ≡ asked (Requests.Get id from (length want)) → IsTalked frame want (record { link = old.link; room = old.room; spent = old.spent }) (record { link = link'; room = room'; spent = spent' }) r
+    → r ≡ Exchange.Same → OwnGetCalled old' id from want get.Got (door_with old link' room' old.own spent' old.faults)
+get_given old old' frame want link' room' spent' id from r same fresh is t given =
+    subst (λ (d : DoorAt). OwnGetCalled d id from want get.Got (door_with old link' room' old.own spent' old.faults)) same
+    (get_facts old frame want link' room' spent' old.faults id from get.Got r fresh is t refl (same_told frame want t.exchanges.sent t.exchanges.got old.link link' r given t.exchanges.comes) tt)
 
-pub get_failed : (old old' new : DoorAt) (frame want : List ℕ) (link' : LinkAt) (spent' : Bool) (id from : ℕ) (r : Exchanged)
-    → old ≡ old' → old.spent ≡ false → frame ≡ asked (Requests.Get id from (length want)) → IsTalked frame want (record { link = old.link; spent = old.spent }) (record { link = link'; spent = spent' }) r
-    → ((r ≡ Exchange.Same) → ⊥) → new ≡ door_with old link' old.own spent' (count_after 1 old.faults) → OwnGetCalled old' id from want get.Failed new
-get_failed old old' new frame want link' spent' id from r same fresh is t other now =
+pub get_failed : (old old' new : DoorAt) (frame want : List ℕ) (link' : LinkAt) (room' : ℕ) (spent' : Bool) (id from : ℕ) (r : Exchanged)
+    → old ≡ old' → old.spent ≡ false → frame ≡ asked (Requests.Get id from (length want)) → IsTalked frame want (record { link = old.link; room = old.room; spent = old.spent }) (record { link = link'; room = room'; spent = spent' }) r
+    → ((r ≡ Exchange.Same) → ⊥) → new ≡ door_with old link' room' old.own spent' (count_after 1 old.faults) → OwnGetCalled old' id from want get.Failed new
+get_failed old old' new frame want link' room' spent' id from r same fresh is t other now =
     subst (λ (d : DoorAt). OwnGetCalled d id from want get.Failed new) same
     (subst (λ (d : DoorAt). OwnGetCalled old id from want get.Failed d) (sym now)
-    (get_facts old frame want link' spent' (count_after 1 old.faults) id from get.Failed r fresh is t refl tt
-    (fails_by (IsGivenReply want) old (door_with old link' old.own spent' (count_after 1 old.faults)) frame want t.exchanges.sent t.exchanges.got r t.exchanges.comes (not_given want t.exchanges.got r other))))
+    (get_facts old frame want link' room' spent' (count_after 1 old.faults) id from get.Failed r fresh is t refl tt
+    (fails_by (IsGivenReply want) old (door_with old link' room' old.own spent' (count_after 1 old.faults)) frame want t.exchanges.sent t.exchanges.got r t.exchanges.comes (not_given want t.exchanges.got r other))))
 
 -- ---- what each call does
 
@@ -377,13 +382,13 @@ pub rose_one : (faults : ℕ) → faults < 2 ^ 64 → RoseBy 1 faults (count_aft
 rose_one faults small = record { later = omega arith; by = λ below. omega arith }
 
 pub put_called : (old new : DoorAt) (bytes : List ℕ) (answer : PutAnswer) → PutCalled old bytes answer new → DoorCalled old new
-put_called old new bytes answer p = record { sent = p.sent; got = p.got; passed = p.passed; quiet = λ spent. (p.quiet spent).0; spends = p.spends; lives = p.lives; provider = p.provider }
+put_called old new bytes answer p = record { sent = p.sent; got = p.got; passed = p.passed; quiet = λ spent. (p.quiet spent).0; spends = p.spends; lives = p.lives; provider = p.provider; room = p.room }
 
 pub own_get_called : (old new : DoorAt) (id from : ℕ) (want : List ℕ) (answer : GetAnswer) → OwnGetCalled old id from want answer new → DoorCalled old new
-own_get_called old new id from want answer p = record { sent = p.sent; got = p.got; passed = p.passed; quiet = λ spent. (p.quiet spent).0; spends = p.spends; lives = p.lives; provider = p.provider }
+own_get_called old new id from want answer p = record { sent = p.sent; got = p.got; passed = p.passed; quiet = λ spent. (p.quiet spent).0; spends = p.spends; lives = p.lives; provider = p.provider; room = p.room }
 
 uncalled_door : (old : DoorAt) → DoorCalled old old
-uncalled_door old = record { sent = []; got = []; passed = passed_none old.link; quiet = λ _. (refl, refl); spends = λ spent. inl spent; lives = λ fresh. (fresh, inl (refl, refl)); provider = refl }
+uncalled_door old = record { sent = []; got = []; passed = passed_none old.link; quiet = λ _. (refl, refl); spends = λ spent. inl spent; lives = λ fresh. (fresh, inl (refl, refl)); provider = refl; room = refl }
 
 pub get_called : (own : Option ℕ) (old new : DoorAt) (from : ℕ) (want : List ℕ) (answer : GetAnswer) → GetCalled own old from want answer new → DoorCalled old new
 get_called None old new from want answer p = subst (λ (d : DoorAt). DoorCalled old d) (sym p.1) (uncalled_door old)

@@ -2,3 +2,4 @@ mod Passing
 mod Replies
 mod Calls
 mod Looping
+pub mod Turning

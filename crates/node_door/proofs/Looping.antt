@@ -1,6 +1,7 @@
 -- A link in memory: what is answered to a frame, and what is kept of the frames.
-use Rattle.std.proofs.Common.{◌≡◌, ◌∙◌, ◌⊎◌, ℕ, ◌+◌, ◌-◌, ◌<◌, ◌≤◌, ◌==◌, ◌||◌, nat_lt, Bool, cond, not, true, false, true≢false, List, [], ◌∷◌, ◌++◌, length, take, drop, take-add, take-append-drop, None, get_or, flat_map, refl, sym, ap, subst, arith, append_assoc, append-nil, length-append, length-drop, inl, inr}
-use Rattle.std.proofs.lemmas.List.{take_all, drop-append-le}
+use Rattle.std.proofs.Common.{◌≡◌, ◌∙◌, ◌⊎◌, ℕ, ◌+◌, ◌-◌, ◌<◌, ◌≤◌, ◌==◌, ◌||◌, nat_lt, Bool, cond, not, true, false, true≢false, List, [], ◌∷◌, ◌++◌, length, take, drop, take-add, take-append-drop, Option, Some, None, get_or, flat_map, refl, sym, ap, subst, arith, append_assoc, append-nil, length-append, length-drop, inl, inr}
+use Rattle.std.proofs.lemmas.List.{take_all, take-append-le, drop-append-le, drop-drop}
+use Rattle.std.proofs.Math.ListN.{drop_of_length-le}
 use Rattle.std.proofs.Math.Seq.{take-append_seam}
 use Rattle.std.proofs.lemmas.Bool.{cases_lt}
 use Rattle.std.proofs.lemmas.Bool.Decides.{nat_tests}
@@ -23,7 +24,7 @@ use Rattle.page_node.specs.Node.{Node, NodeAnswers, is_quit, reply_to, node_afte
 use Rattle.page_node.specs.Frames.{node_frames, heard, heard_as, request_of, operation_of}
 use Rattle.page_node.specs.Said.{said}
 use Rattle.page_node.specs.Transcript.{Says, NodeTranscript}
-use Rattle.node_door.specs.Loop.{Replied, IsLooped, FarAt, LoopAt, TakesSome, PassesRoom, NextTaken, link_at, new_node}
+use Rattle.node_door.specs.Loop.{Replied, IsLooped, FarAt, LoopAt, TakesSome, TakesFront, PassesRoom, StopsAt, IsBehind, NextTaken, link_at, new_node}
 
 -- ---- one frame
 
@@ -365,10 +366,34 @@ stands_from old old' e s = subst (λ (f : FarAt). NodeTranscript (new_node f.nod
 
 -- ---- a link's next bytes
 
-pub next_full : (old : FarAt) (at : ℕ) (bytes : List ℕ) (faults ends : ℕ) → PassesRoom old bytes → NextTaken (link_at old at faults ends) bytes (link_at old at faults ends) None
-next_full old at bytes faults ends (inl p) = (refl, inr (inl p))
-next_full old at bytes faults ends (inr p) =
-    (refl, inr (inr (p.0, p.1, p.2, p.3, p.4, subst (λ (r : List ℕ). old.room < length r + length (said (reply_to old.node p.2))) (sym (take-append-drop at old.replies)) p.5)))
+next_full : (far : FarAt) (at : ℕ) (bytes : List ℕ) (faults ends : ℕ) → PassesRoom far bytes → StopsAt (link_at far at faults ends) bytes
+next_full far at bytes faults ends (inl p) = inr (inl p)
+next_full far at bytes faults ends (inr p) = inr (inr (p.0, p.1, p.2, p.3, p.4, subst (λ (r : List ℕ). far.room < length r + length (said (reply_to far.node p.2))) (sym (take-append-drop at far.replies)) p.5))
+
+pub next_taken : (far far' : FarAt) (old : LoopAt) (at : ℕ) (bytes : List ℕ) (faults ends : ℕ) (count : Option ℕ) → link_at far at faults ends ≡ old → at ≤ length far.replies → TakesFront far bytes far' count
+    → NextTaken old bytes (link_at far' at faults ends) count
+next_taken far far' old at bytes faults ends count same within t = subst (λ (l : LoopAt). NextTaken l bytes (link_at far' at faults ends) count) same (go count t)
+  where
+    go : (c : Option ℕ) → TakesFront far bytes far' c → NextTaken (link_at far at faults ends) bytes (link_at far' at faults ends) c
+    go (Some n) s = record {
+      some = s.some;
+      within = s.within;
+      written = s.written;
+      given = ap (λ (r : List ℕ). take at r) s.replies ∙ take-append-le at far.replies s.more within;
+      left = record { more = s.more; joins = ap (λ (r : List ℕ). drop at r) s.replies ∙ drop-append-le at far.replies s.more within };
+      page_size = s.page_size;
+      room = s.room;
+      faults = refl;
+      ends = refl;
+    }
+    go None s = (ap (λ (f : FarAt). link_at f at faults ends) s.0, next_full far at bytes faults ends s.1)
+
+-- what was left stays in front
+pub behind_none : (old new : List ℕ) → new ≡ old → IsBehind old new
+behind_none old new same = record { more = []; joins = same ∙ sym (append-nil old) }
+
+pub behind_on : (old mid new : List ℕ) → IsBehind old mid → IsBehind mid new → IsBehind old new
+behind_on old mid new a b = record { more = a.more ++ b.more; joins = b.joins ∙ ap (λ (l : List ℕ). l ++ b.more) a.joins ∙ append_assoc old a.more b.more }
 
 -- more bytes behind those that were taken
 pub takes_on : (first mid last : LoopAt) (bytes : List ℕ) (taken count : ℕ) → mid.written ≡ first.written ++ take taken bytes → last.written ≡ mid.written ++ take count (drop taken bytes) → last.written ≡ first.written ++ take (taken + count) bytes
@@ -382,3 +407,15 @@ not_read far at faults ends now same less none =
     let n = ap (λ (l : List ℕ). length l) e in
     let d = length-drop at far.replies in
     omega (arith, less, n, d)
+
+-- ---- what is read off a link
+
+-- the bytes from a place on are those that were copied from there and those after them
+pub read_off : (replies to from : List ℕ) (at n : ℕ) (left : List ℕ) → drop at replies ≡ left → from ≡ replies → take n to ≡ take n (drop at from) → left ≡ take n to ++ drop (at + n) replies
+read_off replies to from at n left is same copied =
+    let front : take n to ≡ take n (drop at replies) = copied ∙ ap (λ (x : List ℕ). take n (drop at x)) same in
+    sym is ∙ (sym (take-append-drop n (drop at replies)) ∙ (ap (λ (x : List ℕ). x ++ drop n (drop at replies)) (sym front) ∙ ap (λ (x : List ℕ). take n to ++ x) (drop-drop n at replies)))
+
+-- behind the last byte there is none
+pub none_left : (replies : List ℕ) (at : ℕ) → length replies ≤ at → drop at replies ≡ []
+none_left replies at all = drop_of_length-le replies all

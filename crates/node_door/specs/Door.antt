@@ -16,11 +16,12 @@ use Rattle.node_door.specs.declared.wire.Exchanged.{Exchanged}
 use Rattle.node_door.specs.declared.wire.Exchanged.TheVariants as Exchange
 use Rattle.node_door.specs.Link.{LinkAt, Passed, WriteBroke, Broke, Exchanges}
 
--- a door: its provider, where its link stands, the places of the pages that it stored with the ids that the node has them under, whether it is
--- spent, and its count of faults
+-- a door: its provider, where its link stands, for how many bytes of a reply it has room at once, the places of the pages that it stored with the
+-- ids that the node has them under, whether it is spent, and its count of faults
 pub record DoorAt : Type 0 where
   pub provider : ℕ
   pub link : LinkAt
+  pub room : ℕ
   pub own : List (ℕ × ℕ)
   pub spent : Bool
   pub faults : ℕ
@@ -72,6 +73,7 @@ pub record DoorCalled (old new : DoorAt) : Type 0 where
   pub spends : new.spent ≡ true → MaySpend old got new
   pub lives : new.spent ≡ false → Lives old sent got
   pub provider : new.provider ≡ old.provider
+  pub room : new.room ≡ old.room
 
 -- ---- puts
 
@@ -114,6 +116,7 @@ pub record PutCalled (old : DoorAt) (bytes : List ℕ) (answer : PutAnswer) (new
   pub spends : new.spent ≡ true → MaySpend old got new
   pub lives : new.spent ≡ false → Lives old sent got
   pub provider : new.provider ≡ old.provider
+  pub room : new.room ≡ old.room
 
 -- ---- gets
 
@@ -141,6 +144,7 @@ pub record OwnGetCalled (old : DoorAt) (id from : ℕ) (want : List ℕ) (answer
   pub lives : new.spent ≡ false → Lives old sent got
   pub own : new.own ≡ old.own
   pub provider : new.provider ≡ old.provider
+  pub room : new.room ≡ old.room
 
 -- The same of any page. One that another door stored is answered from the house, and the door stays as it was.
 abbrev pub GetCalled : Option ℕ → DoorAt → ℕ → List ℕ → GetAnswer → DoorAt → Type 0
@@ -157,12 +161,14 @@ is_broken Exchange.NoMemory = false
 is_broken Exchange.Other = false
 is_broken Exchange.Broken = true
 
--- a way to a node: where its link stands, and whether it is used no more
+-- a way to a node: where its link stands, for how many bytes of a reply it has room at once, and whether it is used no more
 pub record WayAt : Type 0 where
   pub link : LinkAt
+  pub room : ℕ
   pub spent : Bool
 
 -- a frame was written and a reply was read, and the way is spent where there was none
 pub record IsTalked (frame want : List ℕ) (old new : WayAt) (exchanged : Exchanged) : Type 0 where
   pub exchanges : Exchanges frame want old.link new.link exchanged
+  pub room : new.room ≡ old.room
   pub spent : new.spent ≡ (if is_broken exchanged then true else old.spent)

@@ -28,15 +28,31 @@ pub record LoopAt : Type 0 where
 abbrev pub new_node : ℕ → Node
 new_node p = record { page_size = p; pages = [] }
 
+-- a maker: the page size of its nodes, for how many bytes of either kind its links have room, and the faults of the doors that came back
+pub record MakerAt : Type 0 where
+  pub page_size : ℕ
+  pub room : ℕ
+  pub faults : ℕ
+
+-- a link as it is made, with so much room, to a node of that page size
+abbrev pub new_link : ℕ → ℕ → LoopAt
+new_link page_size room = record { node = new_node page_size; written = []; given = []; left = []; room = room; faults = 0; ends = 0 }
+
 -- a door to a provider over such a link, as it is made
-abbrev pub new_door : ℕ → DoorAt
-new_door provider = record {
+abbrev pub new_door : ℕ → ℕ → DoorAt
+new_door page_size provider = record {
   provider = provider;
   link = record { given = Some []; left = None; written = Some []; read_faults = 0; write_faults = 0; ends = 0 };
+  room = page_size;
   own = [];
   spent = false;
   faults = 0;
 }
+
+-- what was there stays in front, and more may have come behind it
+pub record IsBehind (old new : List ℕ) : Type 0 where
+  pub more : List ℕ
+  pub joins : new ≡ old ++ more
 
 -- what the link gave, and then what is left, are the node's transcript of the whole frames that were written to it
 abbrev pub Loops : LoopAt → Type 0
@@ -102,6 +118,8 @@ pub record Taken (old : LoopAt) (bytes : List ℕ) (new : LoopAt) (count : ℕ) 
   pub within : count ≤ length bytes
   pub written : new.written ≡ old.written ++ take count bytes
   pub given : new.given ≡ old.given
+  pub left : IsBehind old.left new.left
+  pub page_size : new.node.page_size ≡ old.node.page_size
   pub room : new.room ≡ old.room
   pub faults : new.faults ≡ old.faults
   pub ends : new.ends ≡ old.ends

@@ -32,7 +32,7 @@ impl<I: Source + Sink> Model for Way<I> {
 
     ghost Value = { WayAt };
 
-    ghost view = { λ w. record { link = w.wire; spent = w.spent } };
+    ghost view = { λ w. record { link = w.wire; room = length w.room.items; spent = w.spent } };
 
     ghost invariant = { λ w. 0 < length w.room.items };
 }
@@ -51,6 +51,7 @@ impl<I: Source + Sink> Way<I> {
             write_faults = I.write_faults io;
             ends = I.ends io;
           };
+          room = p;
           spent = false;
         }) }
     {
@@ -102,9 +103,9 @@ impl<I: Source + Sink> Way<I> {
 
 /// A session's way to a node, over a link that is a source and a sink.
 ///
-/// A put stores the page at the node, and then in the provider's house too. A get of a page that this door stored asks the node
-/// for the bytes and compares them with the house's; one of a page that another door stored is answered from the house alone. So
-/// what it gives is right over every link. A page counts as this door's own by its place in the house.
+/// A page that it stored is at the node and in the provider's house too. A get of such a page asks the node for the bytes and
+/// compares them with the house's; one of a page that another door stored is answered from the house alone. So what it gives is
+/// right over every link. A page counts as this door's own by its place in the house.
 ///
 /// It fails, and counts that, where the link fails or ends, and where the link gives another reply than the one that is asked for.
 /// After a fault of the link, its end, or bytes that are no reply of a node, the door is spent: it doesn't use the link again, and
@@ -122,12 +123,12 @@ impl<I: Source + Sink> Model for StreamDoor<I> {
 
     ghost Value = { DoorAt };
 
-    ghost view = { λ d. record { provider = d.provider; link = d.way.link; own = d.own.pages; spent = d.way.spent; faults = d.faults } };
+    ghost view = { λ d. record { provider = d.provider; link = d.way.link; room = d.way.room; own = d.own.pages; spent = d.way.spent; faults = d.faults } };
 }
 
 impl<I: Source + Sink> StreamDoor<I> {
     /// A door to the node at the other end of a link, for the provider of that number, with no fault counted. It makes room for
-    /// the bytes of one page.
+    /// the bytes of one page of that size, and reads what is longer in pieces.
     pub fn new(alloc: Global, provider: u32, p: PageSize, io: I) -> Result<StreamDoor<I>, NoMemory>
     where
         I: Drop,
@@ -141,6 +142,7 @@ impl<I: Source + Sink> StreamDoor<I> {
             write_faults = I.write_faults io;
             ends = I.ends io;
           };
+          room = p;
           own = [];
           spent = false;
           faults = 0;
@@ -192,7 +194,14 @@ impl<I: Source + Sink> StreamDoor<I> {
 
     // Counts a fault.
     fn fail(&mut self)
-        ensures { self.new ≡ record { provider = self.old.provider; link = self.old.link; own = self.old.own; spent = self.old.spent; faults = count_after 1 self.old.faults } }
+        ensures { self.new ≡ record {
+          provider = self.old.provider;
+          link = self.old.link;
+          room = self.old.room;
+          own = self.old.own;
+          spent = self.old.spent;
+          faults = count_after 1 self.old.faults;
+        } }
     {
         self.faults = count_up(self.faults);
     }
@@ -300,8 +309,9 @@ impl<I: Source + Sink> Door for StreamDoor<I> {
 
     ghost called = { DoorCalled };
 
-    /// Stores the page at the node, and after the node's reply in the house: room for the page's id is made first. Where the node or
-    /// the house finds no memory, it answers that. In the second case the node's page lies unused.
+    /// Stores the page at the node and in the house. It answers that the page is stored only where the node's reply to this put came
+    /// in this call. Where memory is refused for the page's id, at the node or in the house, it answers that, and the node's page may
+    /// lie unused. No contract sees what lies in a house unused.
     fn put<R: Wait>(&mut self, rt: &R, house: &PageHouse, bytes: &[u8]) -> PutAnswer
         requires some { 1 ≤ length bytes.now }
         requires small { length bytes.now ≤ MAX_PAGE }

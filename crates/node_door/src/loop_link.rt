@@ -10,7 +10,7 @@ ghost use Rattle.page_node.specs.Node.{is_quit, put_reply, NodeAnswers};
 ghost use Rattle.page_node.specs.Frames.{node_frames, heard};
 ghost use Rattle.page_node.specs.Said.{said};
 ghost use Rattle.page_node.specs.Transcript.{NodeTranscript};
-ghost use Rattle.node_door.specs.Loop.{Replied, TakesFront, Loops, NextTaken, StopsAt, FailsAt, new_node};
+ghost use Rattle.node_door.specs.Loop.{Replied, TakesFront, Loops, NextTaken, IsBehind, StopsAt, FailsAt, new_node};
 ghost use Rattle.faults.specs.Counts.{RoseBy, count_after};
 
 use byteorder::{BigEndian, ByteOrder};
@@ -290,6 +290,7 @@ impl FarEnd {
 ///
 /// It keeps all bytes that were written to it and all bytes of its replies, as many of each as it has room for. A write fails
 /// before the first byte that comes before the last reply was read to its end, and where bytes or the reply to them don't fit.
+/// A read ends where no reply is left, and goes on where a later write brings one. Room and page size stay as they were made.
 #[derive(Drop)]
 pub struct LoopLink {
     far: FarEnd,
@@ -356,6 +357,8 @@ impl LoopLink {
         ensures within { result ≤ length bytes.now }
         ensures written { self.new.written ≡ self.old.written ++ take result bytes.now }
         ensures given { self.new.given ≡ self.old.given }
+        ensures left { IsBehind self.old.left self.new.left }
+        ensures page_size { self.new.node.page_size ≡ self.old.node.page_size }
         ensures room { self.new.room ≡ self.old.room }
         ensures faults { self.new.faults ≡ self.old.faults }
         ensures ends { self.new.ends ≡ self.old.ends }
@@ -403,7 +406,7 @@ impl Ends for LoopLink {
 
     ghost given = { λ l. Some l.given };
 
-    // A write brings replies, so that no list of what is left stays as it was.
+    // A write brings replies, and the trait has what is left stay over a write. So `read` and `write` here say what becomes of it.
     ghost left = { λ l. None };
 
     ghost written = { λ l. Some l.written };
@@ -418,8 +421,31 @@ impl Ends for LoopLink {
 }
 
 impl Source for LoopLink {
-    /// Gives bytes of the replies that are left, as many as the buffer takes.
-    fn read(&mut self, buf: &mut [u8]) -> Taken {
+    ghost use Rattle.std.specs.Prelude.{Some};
+    ghost use Rattle.std.specs.Io.KnownBytes.{Appends, Consumes};
+    ghost use Rattle.ports.specs.Stream.{taken_bytes, IsPiece, EndsAtEnd, CountsEnd, read_fault_count};
+
+    /// Gives bytes of the replies that are left, as many as the buffer takes, and takes them off. It answers the end only where
+    /// none is left.
+    fn read(&mut self, buf: &mut [u8]) -> Taken
+        requires { 0 < length buf.old }
+
+        // What each source ensures.
+        ensures piece { IsPiece buf.old buf.new result }
+        ensures given { Appends (Some self.old.given) (Some self.new.given) (taken_bytes buf.new result) }
+        ensures read_faults { RoseBy (read_fault_count result) 0 0 }
+        ensures ends { CountsEnd result self.old.ends self.new.ends }
+        ensures written { Some self.new.written ≡ Some self.old.written }
+        ensures write_faults { self.new.faults ≡ self.old.faults }
+
+        // What is left of the replies.
+        ensures left { Consumes (Some self.old.left) (Some self.new.left) (taken_bytes buf.new result) }
+        ensures end { EndsAtEnd (Some self.new.left) result }
+
+        // The node and the room stay.
+        ensures node { self.new.node ≡ self.old.node }
+        ensures room { self.new.room ≡ self.old.room }
+    {
         let n = buf.len().min(self.far.replies().len() - self.at);
         if n == 0 {
             self.ends = count_up(self.ends);
@@ -450,6 +476,13 @@ impl Sink for LoopLink {
 
         // Why it fails.
         ensures fails { FailsAt self.new bytes.now result }
+
+        // What was left is still to be read, before the replies that came.
+        ensures left { IsBehind self.old.left self.new.left }
+
+        // The page size and the room stay.
+        ensures page_size { self.new.node.page_size ≡ self.old.node.page_size }
+        ensures room { self.new.room ≡ self.old.room }
     {
         let n = self.take_all(bytes);
         if n == bytes.len() {

@@ -1,7 +1,7 @@
 //! Links in memory behind a gate, at which a test makes their calls fail or wait.
 
 use faults::{NoMemory, count_up};
-use node_door::LoopLink;
+use node_door::{BesideLink, LoopLink};
 use page_node::Shelf;
 use ports::stream::{Ends, Sink, Source, Taken, Written};
 use std::alloc::Global;
@@ -177,3 +177,6 @@ impl<G: LinkGate> Sink for GatedLink<G> {
         }
     }
 }
+
+// Its doors put one after another.
+impl<G: LinkGate> BesideLink for GatedLink<G> {}

@@ -4,9 +4,9 @@ ghost use Rattle.std.specs.Prelude.{◌≡◌, ◌<◌, ◌≤◌, All, length};
 ghost use Rattle.page_store.specs.Page.{IsIn};
 ghost use Rattle.page_fan.specs.Groups.{CanBePut};
 
-use crate::gated::{GatedLink, Meeting};
+use crate::gated::{Failing, GatedLink, LinkGate, Meeting};
 use node_door::{BYTES_A_THREAD, LoopLink, StreamDoor};
-use page_fan::{Put, Stand, put_all_groups};
+use page_fan::{BesideDoor, Put, Stand, put_all_groups};
 use page_node::Shelf;
 use page_store::{Door, GetAnswer, Houses, MAX_PAGE, PageHouse, PageRef, PutAnswer};
 use std::alloc::Global;
@@ -123,14 +123,14 @@ fn each_part_of_a_page_comes_back_by_each_door(rt: HostRuntime) {
     }
 }
 
-// A door to a node over a link that raises its own flag when it is written to, and that is read once another link's flag is up.
-fn stand_of<'a, R: Abort>(
+// A door to a node over a link behind a gate.
+fn stand_of<R: Abort, G: LinkGate + Drop>(
     rt: &R,
     alloc: Global,
     provider: u32,
     p: PageSize,
-    gate: Meeting<'a>,
-) -> Stand<StreamDoor<GatedLink<Meeting<'a>>>> {
+    gate: G,
+) -> Stand<StreamDoor<GatedLink<G>>> {
     let link = GatedLink::new(alloc, gate, p, 1 << 18).expect(rt, "memory");
     Stand {
         door: StreamDoor::new(alloc, provider, p, link).expect(rt, "memory"),
@@ -164,7 +164,8 @@ fn three_puts<R: Abort>(rt: &R, alloc: Global, buffer: &[u8]) -> Vec<Put>
     vec![in alloc; first, second, third].expect(rt, "memory")
 }
 
-// Puts a page at each of three doors, of which each has its reply only once the next one's link was written to.
+// Puts a page at each of three doors, of which each has its reply only once the next one's link was written to: a link raises its
+// own flag when it is written to, and is read once the next one's flag is up.
 fn check_beside<R: Abort + Wait + Threads + Sync>(rt: &R, alloc: Global) {
     let flags = [
         AtomicBool::new(false),
@@ -201,4 +202,33 @@ fn check_beside<R: Abort + Wait + Threads + Sync>(rt: &R, alloc: Global) {
 #[test]
 fn doors_to_several_nodes_put_beside_each_other(rt: HostRuntime) {
     check_beside(&rt, rt.alloc());
+}
+
+// Puts a page at each of three doors by the call by which an update's pages are put.
+fn check_in_turn<R: Abort + Wait + Threads + Sync>(rt: &R, alloc: Global) {
+    let p = PageSize::new(BYTES_A_THREAD as u64).expect(rt, "a page size");
+    let houses = Houses::new(alloc, 3).expect(rt, "memory");
+    let mut stands = Vec::new(alloc);
+    for i in 0..3u32 {
+        let stand = stand_of(rt, alloc, i + 1, p, Failing::new(0, 0));
+        stands.push(stand).expect(rt, "memory");
+    }
+    let buffer = vec![in alloc; 7u8; 3 * BYTES_A_THREAD].expect(rt, "memory");
+    let puts = three_puts(rt, alloc, buffer.as_slice());
+    StreamDoor::<GatedLink<Failing>>::put_groups(
+        rt,
+        stands.as_mut_slice(),
+        &houses,
+        p,
+        buffer.as_slice(),
+        puts.as_slice(),
+    );
+    for stand in stands.as_slice() {
+        assert!(rt; has_stored(stand), "a page wasn't stored");
+    }
+}
+
+#[test]
+fn doors_over_any_link_put_the_pages_of_an_update(rt: HostRuntime) {
+    check_in_turn(&rt, rt.alloc());
 }

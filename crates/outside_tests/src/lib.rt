@@ -1,4 +1,4 @@
-//! Tests of the outside: streams in memory and over std, gates, listeners, files, and ports over a network.
+//! Tests of the outside: streams in memory and over std, gates, listeners in memory, files.
 #![tactic(auto)]
 
 #[cfg(test)]
@@ -13,9 +13,3 @@ mod gate;
 mod listener;
 #[cfg(test)]
 mod memory;
-#[cfg(test)]
-mod played;
-#[cfg(test)]
-mod tcp;
-#[cfg(test)]
-mod waiting;

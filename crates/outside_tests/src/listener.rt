@@ -8,7 +8,6 @@ use ports::memory::{MemSink, MemSource};
 use ports::pair::Pair;
 use ports::stream::{Sink, Source, Taken, Written};
 use std::alloc::Global;
-use std::collections::VecDeque;
 use std::process::Abort;
 use std::sync::Wait;
 use std::thread::{Threads, join};
@@ -28,17 +27,21 @@ fn giving<R: Abort>(rt: &R, alloc: Global, byte: u8) -> Line {
     Line { source, sink }
 }
 
-// Peers that borrow these ends.
-fn peers_of<'a, R: Abort>(
+// A listener to which peers come that borrow these ends, through which nothing went yet.
+fn listener_of<'a, R: Abort>(
     rt: &R,
     alloc: Global,
     lines: &'a mut [Line],
-) -> VecDeque<Pair<'a, MemSource, MemSink>> {
-    let mut peers = VecDeque::new(alloc);
+    failing: &[bool],
+) -> MemListener<Pair<'a, MemSource, MemSink>> {
+    let address = String::from_str(alloc, "here").expect(rt, "memory");
+    let failing = failing.to_vec(alloc).expect(rt, "memory");
+    let mut listener = MemListener::new(alloc, address, failing);
     for Line { source, sink } in lines.iter_mut() {
-        peers.push_back(Pair { source, sink }).expect(rt, "memory");
+        assert!(rt; source.given().is_empty() && sink.bytes().is_empty());
+        listener.add(Pair { source, sink }).expect(rt, "memory");
     }
-    peers
+    listener
 }
 
 // Writes back what a peer gives, and a dot at its end. Whether all of it was written.
@@ -127,10 +130,7 @@ fn check_got<R: Abort + Threads + Wait + Sync>(
     want: &[u8],
 ) {
     let mut lines = three_lines(rt, alloc);
-    let address = String::from_str(alloc, "here").expect(rt, "memory");
-    let failing = failing.to_vec(alloc).expect(rt, "memory");
-    let peers = peers_of(rt, alloc, lines.as_mut_slice());
-    let listener = MemListener::new(address, peers, failing);
+    let listener = listener_of(rt, alloc, lines.as_mut_slice(), failing);
     let is_served = if is_beside {
         echoes_two(rt, listener)
     } else {

@@ -23,6 +23,10 @@ abbrev pub OnAddress : Bool → List ℕ → Option (List ℕ) → Option (List 
 OnAddress true address before after = IfSome after (λ here. here ≡ address)
 OnAddress false address before after = after ≡ before
 
+-- as far as it is known, nothing was read of a peer yet, and nothing was written to it
+abbrev pub IsFresh : (given written : Option (List ℕ)) → Type 0
+IsFresh given written = IfSome given (λ bytes. bytes ≡ []) × IfSome written (λ bytes. bytes ≡ [])
+
 module _ {P : Type 0} where
   -- the faults that an accept tells of
   abbrev pub accept_faults : Accepted P → ℕ

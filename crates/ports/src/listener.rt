@@ -19,7 +19,7 @@ pub enum Accepted<P> {
 pub trait Listener {
     ghost use Rattle.std.specs.Prelude.{◌≡◌, ℕ, Bool, List, Option, true};
     ghost use Rattle.faults.specs.Counts.{RoseBy, count_after};
-    ghost use Rattle.ports.specs.Listener.{refusals, accept_faults, peers_in, done_after, OnListening, OnAddress};
+    ghost use Rattle.ports.specs.Listener.{refusals, accept_faults, peers_in, done_after, OnListening, OnAddress, OnPeer, IsFresh};
 
     /// What it hands out.
     type Peer: Source + Sink;
@@ -47,12 +47,13 @@ pub trait Listener {
         ensures handed { Self.handed self.new ≡ Self.handed self.old }
         ensures done { Self.is_done self.new ≡ Self.is_done self.old };
 
-    /// Waits for the next peer. It listens, and goes on listening.
+    /// Waits for the next peer, of which nothing was read yet and to which nothing was written. It listens, and goes on listening.
     fn accept<R: Wait>(&mut self, rt: &R) -> Accepted<Self::Peer>
         requires { Self.listens self.old ≡ true }
         ensures faults { RoseBy (accept_faults result) (Self.faults self.old) (Self.faults self.new) }
         ensures listens { Self.listens self.new ≡ true }
         ensures here { Self.listens_at self.new ≡ Self.listens_at self.old }
         ensures handed { Self.handed self.new ≡ count_after (peers_in result) (Self.handed self.old) }
-        ensures done { Self.is_done self.new ≡ done_after result (Self.is_done self.old) };
+        ensures done { Self.is_done self.new ≡ done_after result (Self.is_done self.old) }
+        ensures fresh { OnPeer result (λ p. IsFresh (Self.Peer.given p) (Self.Peer.written p)) };
 }

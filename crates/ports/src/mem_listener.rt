@@ -1,10 +1,12 @@
-ghost use Rattle.std.specs.Prelude.{◌≡◌, ℕ, ◌↔◌, true, false, IsTrue, [], drop, string_bytes};
+ghost use Rattle.std.specs.Prelude.{◌≡◌, ℕ, ◌↔◌, true, false, IsTrue, OnOk, OnErr, [], ◌∷◌, ◌++◌, drop, string_bytes};
 ghost use Rattle.faults.specs.Counts.{RoseBy, count_after};
+ghost use Rattle.ports.specs.Listener.{IsFresh};
 
 use crate::listener::{Accepted, Listener};
 use crate::plan::Plan;
 use crate::stream::{Sink, Source};
-use faults::count_up;
+use faults::{NoMemory, count_up};
+use std::alloc::Global;
 use std::collections::VecDeque;
 use std::marker::Model;
 use std::sync::Wait;
@@ -13,7 +15,7 @@ use std::sync::Wait;
 /// is told to. Who makes the peers of streams that they only borrow, as `Pair` does, has these again with
 /// what each peer read and wrote, once the peers are gone.
 #[derive(Drop)]
-pub struct MemListener<P> {
+pub struct MemListener<P: Source + Sink> {
     address: String,
     peers: VecDeque<P>,
     plan: Plan,
@@ -23,9 +25,9 @@ pub struct MemListener<P> {
     faults: u64,
 }
 
-impl<P> Model for MemListener<P> {
-    ghost use Rattle.std.specs.Prelude.{string_bytes};
-    ghost use Rattle.ports.specs.Listener.{Waiting};
+impl<P: Source + Sink> Model for MemListener<P> {
+    ghost use Rattle.std.specs.Prelude.{string_bytes, All};
+    ghost use Rattle.ports.specs.Listener.{Waiting, IsFresh};
 
     ghost Value = { Waiting P };
 
@@ -38,17 +40,19 @@ impl<P> Model for MemListener<P> {
       done = l.done;
       faults = l.faults;
     } };
+
+    ghost invariant = { λ l. All (λ p. IsFresh (P.given p) (P.written p)) l.peers.items };
 }
 
-impl<P> MemListener<P> {
-    /// A listener that can listen at this address alone, and then has these peers. Accept number `i`,
+impl<P: Source + Sink> MemListener<P> {
+    /// A listener that can listen at this address alone, and to which nobody comes yet. Accept number `i`,
     /// from 0, fails where `failing[i]` says so; one past the end of that list doesn't.
-    pub fn new(address: String, peers: VecDeque<P>, failing: Vec<bool>) -> MemListener<P>
-        ensures { result ≡ record { address = string_bytes address; listens = false; peers = peers.items; plan = failing.items; handed = 0; done = false; faults = 0 } }
+    pub fn new(alloc: Global, address: String, failing: Vec<bool>) -> MemListener<P>
+        ensures { result ≡ record { address = string_bytes address; listens = false; peers = []; plan = failing.items; handed = 0; done = false; faults = 0 } }
     {
         MemListener {
             address,
-            peers,
+            peers: VecDeque::new(alloc),
             plan: Plan::new(failing),
             listens: false,
             handed: 0,
@@ -56,11 +60,26 @@ impl<P> MemListener<P> {
             faults: 0,
         }
     }
+
+    /// One more peer comes, after the others. As far as it tells, nothing was read of it yet and nothing was written to it. Where
+    /// there is no memory all stays as it was, and the peer is gone.
+    pub fn add(&mut self, peer: P) -> Result<(), NoMemory>
+    where
+        P: Drop,
+        requires { IsFresh (P.given peer) (P.written peer) }
+        ensures ok { OnOk result (self.new ≡ record self.old { peers = self.old.peers ++ peer ∷ [] }) }
+        ensures err { OnErr result (self.new ≡ self.old) }
+    {
+        match self.peers.push_back(peer) {
+            Ok(()) => Ok(()),
+            Err(_) => Err(NoMemory),
+        }
+    }
 }
 
 impl<P: Source + Sink> Listener for MemListener<P> {
     ghost use Rattle.ports.specs.Memory.{fails_next};
-    ghost use Rattle.ports.specs.Listener.{refusals, accept_faults, peers_in, done_after, OnListening, OnAddress, listened_at, accept_answer};
+    ghost use Rattle.ports.specs.Listener.{refusals, accept_faults, peers_in, done_after, OnListening, OnAddress, OnPeer, listened_at, accept_answer};
 
     type Peer = P;
 
@@ -108,6 +127,7 @@ impl<P: Source + Sink> Listener for MemListener<P> {
         ensures here { listened_at self.new.listens self.new.address ≡ listened_at self.old.listens self.old.address }
         ensures handed { self.new.handed ≡ count_after (peers_in result) self.old.handed }
         ensures done { self.new.done ≡ done_after result self.old.done }
+        ensures fresh { OnPeer result (λ p. IsFresh (P.given p) (P.written p)) }
 
         // Which answer it is, that only a failing call counts a fault, and what it leaves.
         ensures answer { result ≡ accept_answer (fails_next self.old.plan) self.old.peers }

@@ -53,6 +53,13 @@ impl MemSource {
         }
     }
 
+    /// The bytes that reads took.
+    pub fn given(&self) -> &[u8]
+        ensures { result.now ≡ self.now.given }
+    {
+        &self.bytes.as_slice()[..self.at]
+    }
+
     // How many bytes the next piece has.
     fn piece_length(&self, room: usize) -> usize
         requires { 0 < room }

@@ -2,7 +2,7 @@ ghost use Rattle.std.specs.Prelude.{◌≡◌, ◌<◌, [], Some, true, false, l
 ghost use Rattle.faults.specs.Counts.{RoseBy, count_after};
 ghost use Rattle.std.specs.Duration.{as_nanos};
 ghost use Rattle.std.specs.Io.KnownBytes.{Appends, Consumes};
-ghost use Rattle.ports.specs.Listener.{refusals, accept_faults, peers_in, done_after, OnListening, OnPeer};
+ghost use Rattle.ports.specs.Listener.{refusals, accept_faults, peers_in, done_after, OnListening, OnPeer, IsFresh};
 ghost use Rattle.ports.specs.Stream.{taken_bytes, appended_bytes, IsPiece, EndsAtEnd, CountsEnd, LeavesOut, read_fault_count, write_fault_count};
 
 use crate::accept::{Retry, is_short, retry_after};
@@ -252,8 +252,9 @@ impl<N: Net + Clock + Copy> Listener for TcpPorts<N> {
         ensures faults { RoseBy (accept_faults result) (⟦<TcpPorts<N> as Listener>⟧.faults self.old) (⟦<TcpPorts<N> as Listener>⟧.faults self.new) }
         ensures listens { ⟦<TcpPorts<N> as Listener>⟧.listens self.new ≡ true }
         ensures handed { ⟦<TcpPorts<N> as Listener>⟧.handed self.new ≡ count_after (peers_in result) (⟦<TcpPorts<N> as Listener>⟧.handed self.old) }
+        ensures fresh { OnPeer result (λ p. IsFresh (⟦<TcpPeer<PatientStream<N, N::Stream>> as Ends>⟧.given p) (⟦<TcpPeer<PatientStream<N, N::Stream>> as Ends>⟧.written p)) }
 
-        // That nothing went through the connection yet, that only a fault counts one, and that there is always a next one.
+        // That a peer tells so, that only a fault counts one, and that there is always a next one.
         ensures none_given { OnPeer result (λ p. ⟦<TcpPeer<PatientStream<N, N::Stream>> as Ends>⟧.given p ≡ Some []) }
         ensures none_written { OnPeer result (λ p. ⟦<TcpPeer<PatientStream<N, N::Stream>> as Ends>⟧.written p ≡ Some []) }
         ensures count { ⟦<TcpPorts<N> as Listener>⟧.faults self.new ≡ count_after (accept_faults result) (⟦<TcpPorts<N> as Listener>⟧.faults self.old) }

@@ -13,7 +13,7 @@ use ports::mem_listener::MemListener;
 use ports::memory::{MemSink, MemSource};
 use ports::pair::Pair;
 use std::alloc::Global;
-use std::collections::{BTreeMap, VecDeque};
+use std::collections::BTreeMap;
 use std::process::Abort;
 use std::sync::Wait;
 use std::thread::Threads;
@@ -35,7 +35,7 @@ pub struct Row<'a> {
 
 // A listener to which nobody comes.
 fn nobody<'a>(alloc: Global) -> MemListener<Pair<'a, MemSource, MemSink>> {
-    MemListener::new(String::new(alloc), VecDeque::new(alloc), Vec::new(alloc))
+    MemListener::new(alloc, String::new(alloc), Vec::new(alloc))
 }
 
 // Files of which one is called `s` and has this text.

@@ -8,7 +8,7 @@ use ports::mem_listener::MemListener;
 use ports::memory::{MemSink, MemSource};
 use ports::pair::Pair;
 use std::alloc::Global;
-use std::collections::{BTreeMap, VecDeque};
+use std::collections::BTreeMap;
 use std::process::Abort;
 use std::sync::Wait;
 use std::thread::Threads;
@@ -40,7 +40,8 @@ impl Line {
     }
 }
 
-/// A listener at this address, to which peers come that borrow these ends. The accept of that number fails, from 1; 0 is none.
+/// A listener at this address, to which peers come that borrow these ends, through which nothing went yet. The accept of that
+/// number fails, from 1; 0 is none.
 pub(crate) fn listener_of<'a, R: Abort>(
     rt: &R,
     alloc: Global,
@@ -48,16 +49,17 @@ pub(crate) fn listener_of<'a, R: Abort>(
     lines: &'a mut [Line],
     failing: usize,
 ) -> MemListener<Pair<'a, MemSource, MemSink>> {
-    let mut peers = VecDeque::new(alloc);
-    for Line { source, sink } in lines.iter_mut() {
-        peers.push_back(Pair { source, sink }).expect(rt, "memory");
-    }
     let mut plan = Vec::new(alloc);
     for before in 0..failing {
         plan.push(before + 1 == failing).expect(rt, "memory");
     }
     let address = String::from_str(alloc, address).expect(rt, "memory");
-    MemListener::new(address, peers, plan)
+    let mut listener = MemListener::new(alloc, address, plan);
+    for Line { source, sink } in lines.iter_mut() {
+        assert!(rt; source.given().is_empty() && sink.bytes().is_empty());
+        listener.add(Pair { source, sink }).expect(rt, "memory");
+    }
+    listener
 }
 
 /// What the program wrote, and how it ended.

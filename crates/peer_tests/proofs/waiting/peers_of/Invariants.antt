@@ -1,5 +1,5 @@
 use Rattle.std.proofs.Common.{◌≡◌, true}
-use Rattle.outside_tests.proofs.waiting.peers_of.Given as goal
+use Rattle.peer_tests.proofs.waiting.peers_of.Given as goal
 
 abbrev pub invariant-loop : goal.invariant-loop
 invariant-loop g l = g.L.Listener.listens l.ports ≡ true
