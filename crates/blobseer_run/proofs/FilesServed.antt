@@ -5,7 +5,8 @@ use Rattle.std.proofs.lemmas.Bool.{false≢true}
 use Rattle.std.proofs.lemmas.Grind.{flat_map-append}
 use Rattle.faults.specs.Counts.{RoseBy}
 use Rattle.item_stream.specs.Rounds.{until_last, has_last, Rounds, sum_rounds}
-use Rattle.blob_model.specs.History.{IsLegal}
+use Rattle.version_manager.specs.Log.{IsHistory}
+use Rattle.version_manager.proofs.Orders.{none_in_order}
 use Rattle.request_form.specs.Session.{Fixed, AllOwn}
 use Rattle.request_form.specs.Laws.{OwnIsAlone, OwnEventsAreMade}
 use Rattle.server_core.specs.declared.flow.End.{End}
@@ -87,7 +88,7 @@ module _ (law : OwnIsAlone) (made : OwnEventsAreMade) (fixed : Fixed) (providers
             last = last;
             rounds = a.rounds;
             by_map = answered_by_map first (until_last is_last due) all last (record { store = refl; names = refl }) (until_well is_last due well) a.rounds;
-            store_legal = subst (IsLegal fixed.limits) (sym s.named.lines.saw) s.legal;
+            history = subst (IsHistory fixed.page fixed.limits) (sym s.named.lines.saw) s.history;
             names_legal = subst Names.IsLegal (sym s.named.lines.entered) s.named.legal;
           };
           says = says;
@@ -189,7 +190,7 @@ did_none fixed providers calm old new given left written net rises = record {
       last = first_files fixed providers;
       rounds = refl;
       by_map = answered_by_map (first_files fixed providers) [] [] (first_files fixed providers) (record { store = refl; names = refl }) tt refl;
-      store_legal = tt;
+      history = record { legal = tt; short = omega arith; in_order = none_in_order fixed.page fixed.limits };
       names_legal = tt;
     };
     says = refl;

@@ -3,15 +3,13 @@ use Rattle.std.proofs.Common.{◌≡◌, ◌⊎◌, ℕ, ◌==◌, Bool, true, f
 use Rattle.std.specs.Prelude.{Option}
 use Rattle.std.proofs.lemmas.Bool.{false≢true}
 use Rattle.std.proofs.lemmas.Bool.Decides.{nat_tests}
-use Rattle.blob_model.specs.Limits.{Bounds}
-use Rattle.blob_model.specs.History.{IsLegal}
 use Rattle.blob_model.specs.declared.call.Event.{Event}
 use Rattle.request_form.specs.Session.{Session}
 use Rattle.request_form.specs.Answers.{max_update}
 use Rattle.request_form.specs.Transcript.{first_session}
 use Rattle.turn_lock.specs.History.{Log, LacksUngiven, IsUngiven, entries_by, longer}
 use Rattle.turn_lock.specs.Shown.{PassView}
-use Rattle.version_manager.specs.Log.{tagged, events}
+use Rattle.version_manager.specs.Log.{events}
 use Rattle.version_manager.specs.declared.journal.DeskFixed.{DeskFixed}
 use Rattle.client_session.specs.Sessions.{StoreState, session_at, pass_of}
 use Rattle.server_core.specs.Conversed.{Input}
@@ -34,7 +32,7 @@ picked : {A : Type 0} (b : Bool) (log : List A) → b ≡ true → (if b then lo
 picked true log is = refl
 picked false log is = absurd (false≢true is)
 
-pub longer_none : {E : Type 0} (log : Log E) → longer [] log ≡ log
+longer_none : {E : Type 0} (log : Log E) → longer [] log ≡ log
 longer_none [] = refl
 longer_none (x ∷ xs) =
     let is : nat_lt 0 (suc (length xs)) ≡ true = grind (arith, nat_tests) in
@@ -66,16 +64,6 @@ all_by_one (x ∷ xs) lacks = (first_is_one x xs lacks x.0 refl (one_or_ungiven 
 
 pub entered_by_one : (made : ℕ) (history seen : Names.NameLog) → made ≡ 1 → LacksUngiven made history → history ≡ seen → AllBy 1 seen
 entered_by_one made history seen one lacks is = all_by_one seen (subst (LacksUngiven 1) is (subst (λ (n : ℕ). LacksUngiven n history) one lacks))
-
-events_tagged : (history : List Event) → events (tagged history) ≡ history
-events_tagged [] = refl
-events_tagged (e ∷ es) = ap (λ (l : List Event). e ∷ l) (events_tagged es)
-
--- what the pass has seen is the closed store's history
-pub legal_there : (limits limits' : Bounds) (history : List Event) (seen : Log Event) → limits ≡ limits' → tagged history ≡ seen → IsLegal limits history → IsLegal limits' (events seen)
-legal_there limits limits' history seen same is legal =
-    let there : history ≡ events seen = sym (events_tagged history) ∙ ap events is in
-    subst (IsLegal limits') there (subst (λ (b : Bounds). IsLegal b history) same legal)
 
 -- ---- what a session was served
 

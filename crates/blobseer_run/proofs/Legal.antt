@@ -1,5 +1,5 @@
--- Where nobody else is there, each history that a session has seen is legal.
-use Rattle.std.proofs.Common.{◌≡◌, ℕ, ◌+◌, ◌-◌, ◌≤◌, ◌==◌, nat_lt, Bool, true, false, if◌then◌else◌, ◌&&◌, List, [], ◌∷◌, ◌++◌, length, set, zero, suc, refl, sym, ◌∙◌, ap, subst, length-append, append_assoc, append-nil, arith}
+-- Where nobody else is there, each history that a session has seen is one of a desk.
+use Rattle.std.proofs.Common.{◌≡◌, ◌≢◌, ℕ, ◌+◌, ◌-◌, ◌*◌, ◌^◌, ◌<◌, ◌≤◌, ◌==◌, nat_lt, Bool, true, false, if◌then◌else◌, ◌&&◌, List, [], ◌∷◌, ◌++◌, length, set, zero, suc, refl, sym, ◌∙◌, ap, subst, length-append, append_assoc, append-nil, arith}
 use Rattle.std.specs.Prelude.{Option, Some, None, slice_get, slice_index_or}
 use Rattle.std.proofs.Math.ListN.{length-set}
 use Rattle.std.proofs.lemmas.List.{length-take-le, length-replicate}
@@ -8,8 +8,8 @@ use Rattle.std.proofs.lemmas.Bool.{false≢true}
 use Rattle.std.proofs.lemmas.Bool.Decides.{nat_tests}
 use Rattle.blob_model.specs.Limits.{Bounds}
 use Rattle.blob_model.specs.Content.{Update, offset_of}
-use Rattle.blob_model.specs.Store.{Store, Blob, true_prefix, assigned, published, size_now, size_with, is_finished, finish, branch_of, blob_at, and_blob, and_update, with_blob}
-use Rattle.blob_model.specs.Answer.{Test, Answered, answer, refuse, in_blob, first_refusal, unless_refused, too_many_blobs, offset_past_size, blob_too_big, too_many_versions, too_many_open, not_numbered, already}
+use Rattle.blob_model.specs.Store.{Store, Blob, true_prefix, assigned, published, held, size_now, size_with, is_finished, finish, branch_of, blob_at, and_blob, and_update, with_blob}
+use Rattle.blob_model.specs.Answer.{Test, Answered, answer, refuse, in_blob, first_refusal, unless_refused, too_many_blobs, offset_past_size, blob_too_big, too_many_versions, too_many_open, not_numbered, pending, already}
 use Rattle.blob_model.specs.History.{caller_of, call_of, store_from, store_of, is_refused, IsAccepted, IsNumbered, IsLegalFrom, IsLegal, finishes}
 use Rattle.blob_model.specs.Laws.{OldVersionsStay}
 use Rattle.blob_model.specs.declared.call.Place.{Place}
@@ -21,11 +21,17 @@ use Rattle.blob_model.specs.declared.call.Event.TheVariants as Events
 use Rattle.blob_model.specs.declared.call.Outcome.TheVariants as Outcomes
 use Rattle.blob_model.specs.declared.call.Refusal.{Refusal}
 use Rattle.blob_model.specs.declared.call.Refusal.TheVariants as Refusals
-use Rattle.request_form.specs.Session.{Fixed, Session, HeldTicket, IsNobody, sees, holds, ticket_at, without_ticket, drops, without_version, lets_go, takes_up_to}
+use Rattle.range_log.specs.Rows.{folds_of}
+use Rattle.range_log.specs.Updates.{extents}
+use Rattle.version_manager.specs.Desks.{updates_or_none, published_or_none}
+use Rattle.version_manager.specs.Folds.{IsInOrder, AreInOrder}
+use Rattle.version_manager.specs.Log.{IsHistory}
+use Rattle.version_manager.proofs.Orders.{IsEventInOrder, order_more, none_in_order}
+use Rattle.request_form.specs.Session.{Fixed, Session, HeldTicket, IsNobody, store_at, sees, holds, ticket_at, without_ticket, drops, without_version, lets_go, takes_up_to}
 use Rattle.request_form.specs.Turns.{Tickets, Turn, with_tickets, and_made}
-use Rattle.request_form.specs.Answers.{AddTurn, ReadTurn, ReadManyTurn, FinishTurn, RepairTurn, UnnumberedTurn, StartTurn, StartedTurn, WholeTurn, UpdateAnswer, StartAnswer, WholeAnswer, FinishAnswer, LookAnswer, Unless, update_fault, read_fault, ranges_fault, Answers}
+use Rattle.request_form.specs.Answers.{AddTurn, ReadTurn, ReadManyTurn, FinishTurn, RepairTurn, UnnumberedTurn, StartTurn, StartedTurn, WholeTurn, UpdateAnswer, StartAnswer, WholeAnswer, FinishAnswer, LookAnswer, Unless, Folds, IsReady, update_fault, read_fault, ranges_fault, Answers}
 use Rattle.request_form.specs.HangUp.{AllNumbered}
-use Rattle.request_form.specs.Transcript.{ItemReply, Run, first_session}
+use Rattle.request_form.specs.Transcript.{ItemReply, Run, Transcript, first_session, until_quit, is_last}
 use Rattle.request_form.specs.declared.form.Request.{Request}
 use Rattle.request_form.specs.declared.form.Request.TheVariants as Requests
 use Rattle.request_form.specs.declared.form.Reply.{Reply}
@@ -236,28 +242,48 @@ latest_next s caller blob b u h here =
 
 -- ---- histories
 
-record IsSound (limits : Bounds) (history : List Event) : Type 0 where
-  legal : IsLegal limits history
+pub record IsSound (p : ℕ) (limits : Bounds) (history : List Event) : Type 0 where
+  pub legal : IsLegal limits history
+  pub in_order : AreInOrder p limits history
   even : AllEven (store_of limits history).blobs
 
-sound_more : (limits : Bounds) (history : List Event) (e : Event) → IsSound limits history → IsAccepted (store_of limits history) e → IsSound limits (history ++ e ∷ [])
-sound_more limits history e sound accepted =
+sound_more : (p : ℕ) (limits : Bounds) (history : List Event) (e : Event) → IsSound p limits history → IsAccepted (store_of limits history) e → IsEventInOrder p (store_of limits history) e
+    → IsSound p limits (history ++ e ∷ [])
+sound_more p limits history e sound accepted ordered =
     let P : Store → Type 0 = λ s. AllEven s.blobs in
     record {
       legal = legal-append _ history (e ∷ []) sound.legal (accepted, tt);
+      in_order = order_more p limits history (history ++ e ∷ []) e refl sound.in_order ordered;
       even = subst P (sym (store_from-append _ history (e ∷ []))) (answer_even (store_of limits history) (caller_of e) (call_of e) sound.even);
     }
 
-sound_none : (limits : Bounds) (history others : List Event) → others ≡ [] → IsSound limits history → IsSound limits (history ++ others)
-sound_none limits history others e sound = let P : List Event → Type 0 = λ es. IsSound limits es in subst P (sym (ap (λ (es : List Event). history ++ es) e ∙ append-nil history)) sound
+sound_none : (p : ℕ) (limits : Bounds) (history others : List Event) → others ≡ [] → IsSound p limits history → IsSound p limits (history ++ others)
+sound_none p limits history others e sound = let P : List Event → Type 0 = λ es. IsSound p limits es in subst P (sym (ap (λ (es : List Event). history ++ es) e ∙ append-nil history)) sound
 
-sound_as : (limits : Bounds) (xs ys : List Event) → xs ≡ ys → IsSound limits xs → IsSound limits ys
-sound_as limits xs ys e sound = let P : List Event → Type 0 = λ es. IsSound limits es in subst P e sound
+sound_as : (p : ℕ) (limits : Bounds) (xs ys : List Event) → xs ≡ ys → IsSound p limits xs → IsSound p limits ys
+sound_as p limits xs ys e sound = let P : List Event → Type 0 = λ es. IsSound p limits es in subst P e sound
 
 -- after what others did, which is nothing, one event more
-sound_event : (limits : Bounds) (history others : List Event) (e : Event) → others ≡ [] → IsSound limits history → IsAccepted (store_of limits (history ++ others)) e → IsSound limits (history ++ (others ++ e ∷ []))
-sound_event limits history others e alone sound accepted =
-    sound_as limits _ _ (append_assoc history others (e ∷ [])) (sound_more limits (history ++ others) e (sound_none limits history others alone sound) accepted)
+sound_event : (p : ℕ) (limits : Bounds) (history others : List Event) (e : Event) → others ≡ [] → IsSound p limits history → IsAccepted (store_of limits (history ++ others)) e
+    → IsEventInOrder p (store_of limits (history ++ others)) e → IsSound p limits (history ++ (others ++ e ∷ []))
+sound_event p limits history others e alone sound accepted ordered =
+    sound_as p limits _ _ (append_assoc history others (e ∷ [])) (sound_more p limits (history ++ others) e (sound_none p limits history others alone sound) accepted ordered)
+
+-- ---- how many events there are
+
+none_more : (others : List Event) → others ≡ [] → length others ≤ 2
+none_more others alone = omega (arith, ap (λ (l : List Event). length l) alone)
+
+one_more : (others : List Event) (e : Event) → others ≡ [] → length (others ++ e ∷ []) ≤ 2
+one_more others e alone = omega (arith, length-append others (e ∷ []), ap (λ (l : List Event). length l) alone)
+
+two_more : (others later : List Event) (e f : Event) → others ≡ [] → later ≡ [] → length (others ++ e ∷ (later ++ f ∷ [])) ≤ 2
+two_more others later e f alone alone_later =
+    omega (arith, length-append others (e ∷ (later ++ f ∷ [])), length-append later (f ∷ []), ap (λ (l : List Event). length l) alone, ap (λ (l : List Event). length l) alone_later)
+
+held_more : (others later : List Event) (e : Event) → others ≡ [] → later ≡ [] → length (others ++ e ∷ later) ≤ 2
+held_more others later e alone alone_later =
+    omega (arith, length-append others (e ∷ later), ap (λ (l : List Event). length l) alone, ap (λ (l : List Event). length l) alone_later)
 
 -- ---- tickets
 
@@ -297,23 +323,73 @@ some_numbered (Some b) version h = (b, refl)
 
 -- ---- sessions
 
--- what a session has seen is legal, and the versions that it holds were numbered there
+-- what a session has seen is legal and in order, and the versions that it holds were numbered there
 pub record IsGood (s : Session) : Type 0 where
-  sound : IsSound s.fixed.limits s.seen
+  sound : IsSound s.fixed.page s.fixed.limits s.seen
   held : AllNumbered (store_of s.fixed.limits s.seen) s.tickets
 
--- from one session to a good one with the same bounds
+-- from one session to a good one with the same bounds, which has seen at most two events more
 record GoesWell (s s' : Session) : Type 0 where
   fixed : s'.fixed ≡ s.fixed
   good : IsGood s'
+  few : length s'.seen ≤ length s.seen + 2
 
-goes_to : (s s' t : Session) → s' ≡ t → t.fixed ≡ s.fixed → IsGood t → GoesWell s s'
-goes_to s s' t e fixed good = let P : Session → Type 0 = λ x. GoesWell s x in let made : GoesWell s t = record { fixed = fixed; good = good } in subst P (sym e) made
+goes_to : (s s' t : Session) → s' ≡ t → t.fixed ≡ s.fixed → IsGood t → (more : List Event) → t.seen ≡ s.seen ++ more → length more ≤ 2 → GoesWell s s'
+goes_to s s' t e fixed good more seen few =
+    let P : Session → Type 0 = λ x. GoesWell s x in
+    let made : GoesWell s t = record { fixed = fixed; good = good; few = omega (arith, ap (λ (l : List Event). length l) seen, length-append s.seen more, few) } in
+    subst P (sym e) made
+
+-- ---- updates that store pages anew
+
+-- a version up to which all is said to be published is published
+up_to : (s : Store) (b : Blob) (version : ℕ) (low early : Bool) → nat_lt (published b) version ≡ early
+    → (let a : Answered = elim (if low then Some (Refusals.NotPublished version (published b)) else (if early then Some (Refusals.Pending version (held b)) else None)) [
+      | Some r ↦ refuse s r
+      | None ↦ (s, Outcomes.Synced version)
+    ] in a).1 ≡ Outcomes.Synced version → version ≤ published b
+up_to s b version true early e h = absurd (let no : Outcomes.Refused (Refusals.NotPublished version (published b)) ≡ Outcomes.Synced version = h in cc)
+up_to s b version false true e h = absurd (let no : Outcomes.Refused (Refusals.Pending version (held b)) ≡ Outcomes.Synced version = h in cc)
+up_to s b version false false e h = grind (arith, nat_tests)
+
+synced : (s : Store) (caller blob version : ℕ) (b : Blob) → blob_at s blob ≡ Some b → (answer s caller (Calls.Sync blob version)).1 ≡ Outcomes.Synced version → version ≤ published b
+synced s caller blob version b here e =
+    let is = in_blob_here s blob b (λ x. unless_refused s (not_numbered x version ∷ pending x version ∷ []) (s, Outcomes.Synced version)) here in
+    up_to s b version (nat_lt (assigned b) version) (nat_lt (published b) version) refl (sym (ap (λ (a : Answered). a.1) is) ∙ e)
+
+-- a finish that is answered so comes in order
+in_order_then : (s : Session) (front : List Event) (blob version : ℕ) → IsNumbered (blob_at (store_at s front) blob) version → (Folds s front blob version → IsReady s front blob version)
+    → IsInOrder s.fixed.page (store_at s front) blob version
+in_order_then s front blob version numbered ready = λ folds.
+    let was = some_numbered (blob_at (store_at s front) blob) version numbered in
+    let of_blob : folds_of s.fixed.page (extents was.0.updates) version ≢ [] = subst (λ (o : Option Blob). folds_of s.fixed.page (extents (updates_or_none o)) version ≢ []) was.1 folds in
+    let anew : Folds s front blob version =
+        subst (λ (o : Option Blob). (let l : List ℕ = elim o [ None ↦ [] | Some b ↦ folds_of s.fixed.page (extents b.updates) version ] in l) ≢ []) (sym was.1) of_blob
+    in
+    let before = synced (store_at s front) s.caller blob (version - 1) was.0 was.1 (ready anew) in
+    subst (λ (o : Option Blob). version ≤ published_or_none o + 1) (sym was.1) (omega (arith, before))
 
 -- an update that the session doesn't refuse has a byte
 some_bytes : (s : Session) (bytes : List ℕ) → update_fault s bytes ≡ None → 1 ≤ length bytes
 some_bytes s [] h = absurd (none-some _ (sym h))
 some_bytes s (b ∷ bytes) h = omega arith
+
+first_good : (fixed : Fixed) → IsGood (first_session fixed 1)
+unfolding AllEven
+first_good fixed = record { sound = record { legal = tt; in_order = none_in_order fixed.page fixed.limits; even = tt }; held = tt }
+
+either_few : (b : Bool) (item : Heard) (front items : List Heard) → length front ≤ length items → length (if b then item ∷ [] else item ∷ front) ≤ suc (length items)
+either_few true item front items more = omega arith
+either_few false item front items more = omega (arith, more)
+
+until_few : (items : List Heard) → length (until_quit items) ≤ length items
+until_few [] = omega arith
+until_few (item ∷ items) = let more = until_few items in either_few (is_last item) item (until_quit items) items more
+
+-- what a run has seen in the end is legal and in order, and of each item it has seen two events more at most
+pub record RunsWell (s last : Session) (items : List Heard) : Type 0 where
+  pub sound : IsSound s.fixed.page s.fixed.limits last.seen
+  pub few : length last.seen ≤ length s.seen + 2 * length items
 
 module _ (stay : OldVersionsStay) where
   -- what was numbered stays numbered
@@ -332,28 +408,28 @@ module _ (stay : OldVersionsStay) where
   all_stay limits history more legal (t ∷ ts) h = (numbered_stays limits history more t.blob t.version legal h.0, all_stay limits history more legal ts h.1)
 
   module _ (s : Session) (good : IsGood s) where
-    sees_good : (more : List Event) → IsSound s.fixed.limits (s.seen ++ more) → IsGood (sees s more)
+    sees_good : (more : List Event) → IsSound s.fixed.page s.fixed.limits (s.seen ++ more) → IsGood (sees s more)
     sees_good more sound = record { sound = sound; held = all_stay s.fixed.limits s.seen more sound.legal s.tickets good.held }
 
-    sees_well : (s' : Session) (more : List Event) → IsSound s.fixed.limits (s.seen ++ more) → s' ≡ sees s more → GoesWell s s'
-    sees_well s' more sound e = goes_to s s' (sees s more) e refl (sees_good more sound)
+    sees_well : (s' : Session) (more : List Event) → length more ≤ 2 → IsSound s.fixed.page s.fixed.limits (s.seen ++ more) → s' ≡ sees s more → GoesWell s s'
+    sees_well s' more few sound e = goes_to s s' (sees s more) e refl (sees_good more sound) more refl few
 
     none_well : (s' : Session) (others : List Event) → others ≡ [] → s' ≡ sees s others → GoesWell s s'
-    none_well s' others alone e = sees_well s' others (sound_none s.fixed.limits s.seen others alone good.sound) e
+    none_well s' others alone e = sees_well s' others (none_more others alone) (sound_none s.fixed.page s.fixed.limits s.seen others alone good.sound) e
 
     same_well : (s' : Session) → s' ≡ s → GoesWell s s'
-    same_well s' e = goes_to s s' s e refl good
+    same_well s' e = goes_to s s' s e refl good [] (sym (append-nil s.seen)) (omega arith)
 
     create_well : (s' : Session) (others : List Event) → others ≡ [] → (turn : Turn) → AddTurn s Calls.Create others turn → s' ≡ with_tickets turn.tickets (sees s (and_made others turn.made)) → GoesWell s s'
     create_well s' others alone _ (AddTurn.added blob e) seen =
-        sees_well s' _ (sound_event s.fixed.limits s.seen others (Events.Create s.caller) alone good.sound (record { may = tt; accepted = ap is_refused e })) seen
+        sees_well s' _ (one_more others _ alone) (sound_event s.fixed.page s.fixed.limits s.seen others (Events.Create s.caller) alone good.sound (record { may = tt; accepted = ap is_refused e }) tt) seen
     create_well s' others alone _ (AddTurn.refused refusal e) seen = none_well s' others alone seen
     create_well s' others alone _ AddTurn.out_of_memory seen = none_well s' others alone seen
 
     branch_well : (s' : Session) (blob version : ℕ) (others : List Event) → others ≡ [] → (turn : Turn) → AddTurn s (Calls.Branch blob version) others turn
         → s' ≡ with_tickets turn.tickets (sees s (and_made others turn.made)) → GoesWell s s'
     branch_well s' blob version others alone _ (AddTurn.added branch e) seen =
-        sees_well s' _ (sound_event s.fixed.limits s.seen others (Events.Branch s.caller blob version) alone good.sound (record { may = tt; accepted = ap is_refused e })) seen
+        sees_well s' _ (one_more others _ alone) (sound_event s.fixed.page s.fixed.limits s.seen others (Events.Branch s.caller blob version) alone good.sound (record { may = tt; accepted = ap is_refused e }) tt) seen
     branch_well s' blob version others alone _ (AddTurn.refused refusal e) seen = none_well s' others alone seen
     branch_well s' blob version others alone _ AddTurn.out_of_memory seen = none_well s' others alone seen
 
@@ -364,14 +440,14 @@ module _ (stay : OldVersionsStay) where
       abbrev assigns : Event
       assigns = Events.Assign s.caller blob place bytes
 
-      before : IsSound s.fixed.limits (s.seen ++ others)
-      before = sound_none s.fixed.limits s.seen others alone good.sound
+      before : IsSound s.fixed.page s.fixed.limits (s.seen ++ others)
+      before = sound_none s.fixed.page s.fixed.limits s.seen others alone good.sound
 
       is_numbering : IsNumbering (store_of s.fixed.limits (s.seen ++ others)) s.caller blob place bytes version
       is_numbering = numbering_at _ s.caller blob place bytes version at size (blob_at (store_of s.fixed.limits (s.seen ++ others)) blob) refl numbered
 
-      assigned_sound : IsSound s.fixed.limits ((s.seen ++ others) ++ assigns ∷ [])
-      assigned_sound = sound_more s.fixed.limits (s.seen ++ others) assigns before (record { may = some; accepted = ap is_refused numbered })
+      assigned_sound : IsSound s.fixed.page s.fixed.limits ((s.seen ++ others) ++ assigns ∷ [])
+      assigned_sound = sound_more s.fixed.page s.fixed.limits (s.seen ++ others) assigns before (record { may = some; accepted = ap is_refused numbered }) tt
 
       assigned_store : store_of s.fixed.limits ((s.seen ++ others) ++ assigns ∷ []) ≡ with_blob (store_of s.fixed.limits (s.seen ++ others)) blob (and_update is_numbering.b (record { caller = s.caller; place = place; bytes = bytes }))
       assigned_store = store_from-append _ (s.seen ++ others) (assigns ∷ []) ∙ is_numbering.store
@@ -383,21 +459,34 @@ module _ (stay : OldVersionsStay) where
           let Q : Store → Type 0 = λ x. IsLatest x s.caller blob version in
           subst Q (sym assigned_store) (subst P (sym is_numbering.next) made)
 
-      finished_sound : IsSound s.fixed.limits (((s.seen ++ others) ++ assigns ∷ []) ++ Events.Finish s.caller blob version ∷ [])
-      finished_sound = sound_more s.fixed.limits _ (Events.Finish s.caller blob version) assigned_sound (record { may = latest.numbered; accepted = latest.accepted })
+      -- where it is finished at once
+      abbrev FinishesInOrder : Type 0
+      FinishesInOrder = Folds s (others ++ assigns ∷ later) blob version → IsReady s (others ++ assigns ∷ later) blob version
+
+      finish_in_order : FinishesInOrder → IsInOrder s.fixed.page (store_of s.fixed.limits ((s.seen ++ others) ++ assigns ∷ [])) blob version
+      finish_in_order ready =
+          let R : List Event → Type 0 = λ es. Folds s (others ++ assigns ∷ es) blob version → IsReady s (others ++ assigns ∷ es) blob version in
+          let same : (s.seen ++ others) ++ assigns ∷ [] ≡ s.seen ++ (others ++ assigns ∷ []) = append_assoc s.seen others (assigns ∷ []) in
+          let N : List Event → Type 0 = λ es. IsNumbered (blob_at (store_of s.fixed.limits es) blob) version in
+          let O : List Event → Type 0 = λ es. IsInOrder s.fixed.page (store_of s.fixed.limits es) blob version in
+          subst O (sym same) (in_order_then s (others ++ assigns ∷ []) blob version (subst N same latest.numbered) (subst R alone_later ready))
+
+      finished_sound : FinishesInOrder → IsSound s.fixed.page s.fixed.limits (((s.seen ++ others) ++ assigns ∷ []) ++ Events.Finish s.caller blob version ∷ [])
+      finished_sound ready =
+          sound_more s.fixed.page s.fixed.limits _ (Events.Finish s.caller blob version) assigned_sound (record { may = latest.numbered; accepted = latest.accepted }) (finish_in_order ready)
 
       -- as the cases of an answer write it
-      updated_sound : IsSound s.fixed.limits (s.seen ++ (others ++ assigns ∷ (later ++ Events.Finish s.caller blob version ∷ [])))
-      updated_sound =
-          let P : List Event → Type 0 = λ es. IsSound s.fixed.limits (s.seen ++ (others ++ assigns ∷ (es ++ Events.Finish s.caller blob version ∷ []))) in
-          subst P (sym alone_later) (sound_as s.fixed.limits _ _ (append_assoc (s.seen ++ others) (assigns ∷ []) (Events.Finish s.caller blob version ∷ []) ∙ append_assoc s.seen others _) finished_sound)
+      updated_sound : FinishesInOrder → IsSound s.fixed.page s.fixed.limits (s.seen ++ (others ++ assigns ∷ (later ++ Events.Finish s.caller blob version ∷ [])))
+      updated_sound ready =
+          let P : List Event → Type 0 = λ es. IsSound s.fixed.page s.fixed.limits (s.seen ++ (others ++ assigns ∷ (es ++ Events.Finish s.caller blob version ∷ []))) in
+          subst P (sym alone_later) (sound_as s.fixed.page s.fixed.limits _ _ (append_assoc (s.seen ++ others) (assigns ∷ []) (Events.Finish s.caller blob version ∷ []) ∙ append_assoc s.seen others _) (finished_sound ready))
 
       -- the version is held
       kept_good : IsGood (holds (sees s (others ++ assigns ∷ later)) blob version)
       kept_good =
           let P : List Event → Type 0 = λ es. IsGood (holds (sees s (others ++ assigns ∷ es)) blob version) in
           let seen : (s.seen ++ others) ++ assigns ∷ [] ≡ s.seen ++ (others ++ assigns ∷ []) = append_assoc s.seen others (assigns ∷ []) in
-          let sound : IsSound s.fixed.limits (s.seen ++ (others ++ assigns ∷ [])) = sound_as s.fixed.limits _ _ seen assigned_sound in
+          let sound : IsSound s.fixed.page s.fixed.limits (s.seen ++ (others ++ assigns ∷ [])) = sound_as s.fixed.page s.fixed.limits _ _ seen assigned_sound in
           let Q : List Event → Type 0 = λ es. IsNumbered (blob_at (store_of s.fixed.limits es) blob) version in
           let made : P [] = record {
             sound = sound;
@@ -405,17 +494,21 @@ module _ (stay : OldVersionsStay) where
           } in
           subst P (sym alone_later) made
 
+      kept_well : (s' : Session) → s' ≡ holds (sees s (others ++ assigns ∷ later)) blob version → GoesWell s s'
+      kept_well s' seen = goes_to s s' _ seen refl kept_good (others ++ assigns ∷ later) refl (held_more others later assigns alone alone_later)
+
       -- the turn after the numbering
       whole_then : (s' : Session) (turn : Turn) → WholeTurn s blob place version at size (others ++ assigns ∷ later) later turn
           → s' ≡ with_tickets turn.tickets (sees s (others ++ assigns ∷ and_made later turn.made)) → GoesWell s s'
-      whole_then s' _ (WholeTurn.finished open_ ready) seen = sees_well s' _ updated_sound seen
+      whole_then s' _ (WholeTurn.finished open_ ready) seen =
+          sees_well s' _ (two_more others later assigns (Events.Finish s.caller blob version) alone alone_later) (updated_sound ready) seen
       whole_then s' _ (WholeTurn.found finished) seen = absurd (false≢true (sym (ap (λ (es : List Event). finishes blob version es) alone_later) ∙ finished))
-      whole_then s' _ (WholeTurn.held_back open_ folds) seen = goes_to s s' _ seen refl kept_good
-      whole_then s' _ WholeTurn.out_of_memory seen = goes_to s s' _ seen refl kept_good
+      whole_then s' _ (WholeTurn.held_back open_ folds) seen = kept_well s' seen
+      whole_then s' _ WholeTurn.out_of_memory seen = kept_well s' seen
 
       started_then : (s' : Session) (turn : Turn) → StartedTurn s blob version at size (others ++ assigns ∷ later) later turn
           → s' ≡ with_tickets turn.tickets (sees s (others ++ assigns ∷ and_made later turn.made)) → GoesWell s s'
-      started_then s' _ StartedTurn.out_of_memory seen = goes_to s s' _ seen refl kept_good
+      started_then s' _ StartedTurn.out_of_memory seen = kept_well s' seen
 
     unnumbered_well : (s' : Session) (blob : ℕ) (place : Place) (bytes : List ℕ) (others : List Event) → others ≡ [] → (turn : Turn) → UnnumberedTurn s blob place bytes others turn
         → s' ≡ with_tickets turn.tickets (sees s (and_made others turn.made)) → GoesWell s s'
@@ -426,7 +519,7 @@ module _ (stay : OldVersionsStay) where
     starting_well : (s' : Session) (blob : ℕ) (place : Place) (bytes : List ℕ) → 1 ≤ length bytes → (others : List Event) → others ≡ [] → (turn : Turn) → StartTurn s blob place bytes others turn
         → s' ≡ with_tickets turn.tickets (sees s (and_made others turn.made)) → GoesWell s s'
     starting_well s' blob place bytes some others alone _ (StartTurn.started version at size e) seen =
-        goes_to s s' _ seen refl (kept_good blob place bytes others [] alone refl version at size e some)
+        kept_well blob place bytes others [] alone refl version at size e some s' seen
     starting_well s' blob place bytes some others alone turn (StartTurn.unnumbered _ may) seen = unnumbered_well s' blob place bytes others alone turn may seen
 
     whole_well : (s' : Session) (blob : ℕ) (place : Place) (bytes : List ℕ) (reply : Reply) → 1 ≤ length bytes → WholeAnswer IsNobody s blob place bytes reply s' → GoesWell s s'
@@ -449,24 +542,28 @@ module _ (stay : OldVersionsStay) where
     look_well : (s' : Session) (call : Call) (reply : Reply) → LookAnswer IsNobody s call reply s' → GoesWell s s'
     look_well s' call reply a = none_well s' a.others a.is_gap a.seen
 
-    drops_well : (s' : Session) (more : List Event) (number : ℕ) → IsSound s.fixed.limits (s.seen ++ more) → s' ≡ drops (sees s more) number → GoesWell s s'
-    drops_well s' more number sound e =
-        goes_to s s' (drops (sees s more) number) e refl (record { sound = sound; held = numbered_without (store_of s.fixed.limits (s.seen ++ more)) s.tickets number (sees_good more sound).held })
+    drops_well : (s' : Session) (more : List Event) (number : ℕ) → length more ≤ 2 → IsSound s.fixed.page s.fixed.limits (s.seen ++ more) → s' ≡ drops (sees s more) number → GoesWell s s'
+    drops_well s' more number few sound e =
+        goes_to s s' (drops (sees s more) number) e refl
+        (record { sound = sound; held = numbered_without (store_of s.fixed.limits (s.seen ++ more)) s.tickets number (sees_good more sound).held }) more refl few
 
-    lets_go_well : (s' : Session) (more : List Event) (blob version : ℕ) → IsSound s.fixed.limits (s.seen ++ more) → s' ≡ lets_go (sees s more) blob version → GoesWell s s'
-    lets_go_well s' more blob version sound e =
+    lets_go_well : (s' : Session) (more : List Event) (blob version : ℕ) → length more ≤ 2 → IsSound s.fixed.page s.fixed.limits (s.seen ++ more) → s' ≡ lets_go (sees s more) blob version
+        → GoesWell s s'
+    lets_go_well s' more blob version few sound e =
         goes_to s s' (lets_go (sees s more) blob version) e refl
-        (record { sound = sound; held = numbered_without_version (store_of s.fixed.limits (s.seen ++ more)) s.tickets blob version (sees_good more sound).held })
+        (record { sound = sound; held = numbered_without_version (store_of s.fixed.limits (s.seen ++ more)) s.tickets blob version (sees_good more sound).held }) more refl few
 
     -- a finish, after which the tickets are these where the update is finished by then
     finishing_well : (s' : Session) (blob version : ℕ) (says : ℕ → Reply) (settled : Tickets)
-        → ((more : List Event) → IsSound s.fixed.limits (s.seen ++ more) → s' ≡ with_tickets settled (sees s more) → GoesWell s s')
+        → ((more : List Event) → length more ≤ 2 → IsSound s.fixed.page s.fixed.limits (s.seen ++ more) → s' ≡ with_tickets settled (sees s more) → GoesWell s s')
         → (others : List Event) → others ≡ [] → (turn : Turn) → FinishTurn s blob version says settled Tickets.stay others turn
         → s' ≡ with_tickets turn.tickets (sees s (and_made others turn.made)) → GoesWell s s'
     finishing_well s' blob version says settled goes others alone _ (FinishTurn.finished published unfinished ready e) seen =
         let may = repairable (blob_at (store_of s.fixed.limits (s.seen ++ others)) blob) blob version unfinished in
-        goes _ (sound_event s.fixed.limits s.seen others (Events.Finish s.caller blob version) alone good.sound (record { may = may; accepted = ap is_refused e })) seen
-    finishing_well s' blob version says settled goes others alone _ (FinishTurn.found e) seen = goes others (sound_none s.fixed.limits s.seen others alone good.sound) seen
+        goes _ (one_more others _ alone)
+        (sound_event s.fixed.page s.fixed.limits s.seen others (Events.Finish s.caller blob version) alone good.sound (record { may = may; accepted = ap is_refused e })
+        (in_order_then s others blob version may ready)) seen
+    finishing_well s' blob version says settled goes others alone _ (FinishTurn.found e) seen = goes others (none_more others alone) (sound_none s.fixed.page s.fixed.limits s.seen others alone good.sound) seen
     finishing_well s' blob version says settled goes others alone _ (FinishTurn.waits held unfinished folds e) seen = none_well s' others alone seen
     finishing_well s' blob version says settled goes others alone _ (FinishTurn.not_folded page unfinished fold ready) seen = none_well s' others alone seen
     finishing_well s' blob version says settled goes others alone _ FinishTurn.out_of_memory seen = none_well s' others alone seen
@@ -474,7 +571,7 @@ module _ (stay : OldVersionsStay) where
     repair_well : (s' : Session) (blob version : ℕ) (others : List Event) → others ≡ [] → (turn : Turn) → RepairTurn s blob version others turn
         → s' ≡ with_tickets turn.tickets (sees s (and_made others turn.made)) → GoesWell s s'
     repair_well s' blob version others alone turn (RepairTurn.finish _ may) seen =
-        finishing_well s' blob version _ (Tickets.let_go blob version) (λ more sound e. lets_go_well s' more blob version sound e) others alone turn may seen
+        finishing_well s' blob version _ (Tickets.let_go blob version) (λ more few sound e. lets_go_well s' more blob version few sound e) others alone turn may seen
     repair_well s' blob version others alone _ (RepairTurn.refused refusal e other) seen = none_well s' others alone seen
 
     many_well : (s' : Session) (blob version : ℕ) (ranges : List (ℕ × ℕ)) (others : List Event) → others ≡ [] → (turn : Turn) → ReadManyTurn s blob version ranges others turn
@@ -485,12 +582,12 @@ module _ (stay : OldVersionsStay) where
     many_well s' blob version ranges others alone _ (ReadManyTurn.not_read bytes e range there some page meets) seen = none_well s' others alone seen
 
     hello_well : (s' : Session) (limit : ℕ) → s' ≡ takes_up_to s limit → GoesWell s s'
-    hello_well s' limit e = goes_to s s' (takes_up_to s limit) e refl (record { sound = good.sound; held = good.held })
+    hello_well s' limit e = goes_to s s' (takes_up_to s limit) e refl (record { sound = good.sound; held = good.held }) [] (sym (append-nil s.seen)) (omega arith)
 
     finish_well : (s' : Session) (number : ℕ) (o : Option HeldTicket) (reply : Reply) → FinishAnswer IsNobody s number o reply s' → GoesWell s s'
     finish_well s' number None reply a = same_well s' a.1
     finish_well s' number (Some t) reply a =
-        finishing_well s' t.blob t.version _ (Tickets.drop t.number) (λ more sound e. drops_well s' more t.number sound e) a.others a.is_gap a.turn a.may a.seen
+        finishing_well s' t.blob t.version _ (Tickets.drop t.number) (λ more few sound e. drops_well s' more t.number few sound e) a.others a.is_gap a.turn a.may a.seen
 
     unless_well : (s' : Session) (reply : Reply) (A : Type 0) (fault fault' : Option Fault) → fault' ≡ fault → (fault' ≡ None → A → GoesWell s s') → Unless fault s reply s' A → GoesWell s s'
     unless_well s' reply A None fault' e f h = f e h
@@ -524,16 +621,27 @@ module _ (stay : OldVersionsStay) where
     item_well s' (Asked request) reply a = request_well s' request reply a
     item_well s' (Wrong fault) reply a = same_well s' a.1
 
-  -- what a run has seen in the end is legal
-  pub run_legal : (s last : Session) (items : List Heard) (replies : List Reply) → IsGood s → Run IsNobody s items replies last → IsLegal s.fixed.limits last.seen
-  run_legal s last [] [] good run = let P : Session → Type 0 = λ t. IsLegal s.fixed.limits t.seen in subst P (sym run) good.sound.legal
-  run_legal s last [] (reply ∷ replies) good run = absurd run
-  run_legal s last (item ∷ items) [] good run = absurd run
-  run_legal s last (item ∷ items) (reply ∷ replies) good run =
+  pub run_well : (s last : Session) (items : List Heard) (replies : List Reply) → IsGood s → Run IsNobody s items replies last → RunsWell s last items
+  run_well s last [] [] good run =
+      let P : Session → Type 0 = λ t. RunsWell s t [] in
+      let made : P s = record { sound = good.sound; few = omega arith } in
+      subst P (sym run) made
+  run_well s last [] (reply ∷ replies) good run = absurd run
+  run_well s last (item ∷ items) [] good run = absurd run
+  run_well s last (item ∷ items) (reply ∷ replies) good run =
       let well = item_well s good run.0 item reply run.1 in
-      let Q : Fixed → Type 0 = λ f. IsLegal f.limits last.seen in
-      subst Q well.fixed (run_legal run.0 last items replies well.good run.2)
+      let rest = run_well run.0 last items replies well.good run.2 in
+      let Q : Fixed → Type 0 = λ f. IsSound f.page f.limits last.seen in
+      record { sound = subst Q well.fixed rest.sound; few = omega (arith, well.few, rest.few) }
 
-pub first_good : (fixed : Fixed) → IsGood (first_session fixed 1)
-unfolding AllEven
-first_good fixed = record { sound = record { legal = tt; even = tt }; held = tt }
+  -- the history of a transcript alone
+  pub alone_well : (fixed : Fixed) (heard : List Heard) (replies : List Reply) (last : Session) → Transcript IsNobody (first_session fixed 1) heard replies last
+      → RunsWell (first_session fixed 1) last (until_quit heard)
+  alone_well fixed heard replies last run = run_well (first_session fixed 1) last (until_quit heard) replies (first_good fixed) run
+
+  -- it is one of a desk
+  pub history_alone : (fixed : Fixed) (heard : List Heard) (replies : List Reply) (last : Session) → Transcript IsNobody (first_session fixed 1) heard replies last → length heard < 2 ^ 37
+      → IsHistory fixed.page fixed.limits last.seen
+  history_alone fixed heard replies last run short =
+      let well = alone_well fixed heard replies last run in
+      record { legal = well.sound.legal; in_order = well.sound.in_order; short = omega (arith, well.few, until_few heard, short) }

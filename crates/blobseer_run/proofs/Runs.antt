@@ -17,14 +17,15 @@ use Rattle.server_core.specs.Served.{end_read_faults, end_write_faults}
 use Rattle.server_core.specs.Laws as Streams
 use Rattle.blobseer_run.specs.declared.status.Status.{Status}
 use Rattle.blobseer_run.specs.declared.status.Status.TheVariants as Statuses
-use Rattle.blobseer_run.specs.Legal.{LegalAlone, faults_alone}
+use Rattle.version_manager.proofs.Orders.{none_in_order}
+use Rattle.blobseer_run.specs.Legal.{HistoriesAlone, faults_alone}
 use Rattle.blobseer_run.specs.Outside.{Outside}
 use Rattle.blobseer_run.specs.Conversation.{input_limit, status_after, Dialogue, IsDue, Ended}
 use Rattle.blobseer_run.specs.Script.{IsCalm, Says, script, DidRun}
 use Rattle.blobseer_run.specs.Serving.{ServedByOne}
 use Rattle.blobseer_run.specs.Status.{code_of}
 use Rattle.blobseer_run.proofs.Conversations.{input_of, conversed_with, conversed_none}
-use Rattle.blobseer_run.proofs.Scripts.{script_well, whole_script_well, script_not_cut}
+use Rattle.blobseer_run.proofs.Scripts.{script_well, whole_script_well, script_not_cut, script_few}
 
 -- ---- what the doors tell
 
@@ -50,11 +51,11 @@ rose_none n before after fresh quiet rose = omega (arith, rose.by)
 
 -- ---- a script that was served
 
-module _ (alone : Streams.ServedAlone) (legal : LegalAlone) (fixed : Fixed) (calm : Type 0) (old new : Outside) (faults faults' : ℕ) (gave : GaveBack calm faults faults' old.doors new.doors) where
-  says : (items : List Heard) (text : List ℕ) → AllWellHeard items → Streams.SaysWithin said fixed items faults faults' text → Says fixed calm old.doors new.doors items text
-  says items text well s = record {
+module _ (alone : Streams.ServedAlone) (histories : HistoriesAlone) (fixed : Fixed) (calm : Type 0) (old new : Outside) (faults faults' : ℕ) (gave : GaveBack calm faults faults' old.doors new.doors) where
+  says : (items : List Heard) (text : List ℕ) → AllWellHeard items → length items < 2 ^ 37 → Streams.SaysWithin said fixed items faults faults' text → Says fixed calm old.doors new.doors items text
+  says items text well few s = record {
     alone = s.alone;
-    legal = legal fixed items s.alone.replies s.alone.last s.alone.transcript;
+    history = histories fixed items s.alone.replies s.alone.last s.alone.transcript few;
     page_faults = rose_within (faults_alone fixed items text s.alone) faults faults' old.doors new.doors gave.fresh gave.rises (s.faults well);
     no_page_fault = λ is_calm. rose_none (faults_alone fixed items text s.alone) faults faults' gave.fresh (gave.quiet is_calm) (s.faults well);
   }
@@ -89,14 +90,24 @@ module _ (alone : Streams.ServedAlone) (legal : LegalAlone) (fixed : Fixed) (cal
     well_due due (inl x) = subst AllWellHeard (sym x.0) (script_well taken)
     well_due due (inr e) = subst AllWellHeard (sym e) (whole_script_well taken)
 
+    few_items : length (heard taken).items < 2 ^ 37
+    few_items = omega (arith, (script_few taken).0, s.lines.served.within)
+
+    few_whole : length (heard taken).whole < 2 ^ 37
+    few_whole = omega (arith, (script_few taken).1, s.lines.served.within)
+
+    few_due : (due : List Heard) → Streams.IsDue (heard taken) (length taken) input_limit old.ends new.ends due → length due < 2 ^ 37
+    few_due due (inl x) = subst (λ (l : List Heard). length l < 2 ^ 37) (sym x.0) few_items
+    few_due due (inr e) = subst (λ (l : List Heard). length l < 2 ^ 37) (sym e) few_whole
+
     pub says_due : (due : List Heard) (words : List ℕ) → Streams.IsDue (heard taken) (length taken) input_limit old.ends new.ends due → Streams.SaysWithin said fixed due faults faults' words → Says fixed calm old.doors new.doors due words
-    says_due due words is within = says due words (well_due due is) within
+    says_due due words is within = says due words (well_due due is) (few_due due is) within
 
     pub says_whole : Streams.SaysWithin said fixed (heard taken).whole faults faults' text → Says fixed calm old.doors new.doors (heard taken).whole text
-    says_whole within = says (heard taken).whole text (whole_script_well taken) within
+    says_whole within = says (heard taken).whole text (whole_script_well taken) few_whole within
 
     pub says_all : Streams.SaysWithin said fixed (heard taken).items faults faults' text → Says fixed calm old.doors new.doors (heard taken).items text
-    says_all within = says (heard taken).items text (script_well taken) within
+    says_all within = says (heard taken).items text (script_well taken) few_items within
 
     pub ran_with : (rest : List ℕ) (status : Status) → new.net ≡ old.net → Ended lines taken text rest old new (code_of status) → DidRun fixed calm old new (code_of status)
     ran_with rest status net e = record {
@@ -138,7 +149,7 @@ pub ran_none : (fixed : Fixed) (calm : Type 0) (old new : Outside) → new.given
 ran_none fixed calm old new given left written net rises = record {
   served = conversed_none (script fixed calm old.doors new.doors) old new given left written (record {
     alone = record { replies = []; last = first_session fixed 1; transcript = refl; says = refl };
-    legal = tt;
+    history = record { legal = tt; short = omega arith; in_order = none_in_order fixed.page fixed.limits };
     page_faults = λ less. omega arith;
     no_page_fault = λ is_calm. refl;
   });

@@ -1,7 +1,9 @@
 -- What no script says.
-use Rattle.std.proofs.Common.{◌≡◌, ℕ, ◌==◌, Bool, true, false, if◌then◌else◌, List, [], ◌∷◌, length, refl}
+use Rattle.std.proofs.Common.{◌≡◌, ℕ, suc, ◌+◌, ◌≤◌, ◌==◌, Bool, true, false, if◌then◌else◌, List, [], ◌∷◌, length, refl, arith}
 use Rattle.std.specs.Prelude.{Option, Some, None, nat_lt}
 use Rattle.std.specs.List.{slice_split}
+use Rattle.std.proofs.lemmas.List.Splits.{length-slice_split}
+use Rattle.std.proofs.lemmas.List.Sums.{count_by-le-length}
 use Rattle.std.specs.Option.{option_to_list}
 use Rattle.std.specs.Str.Lines.{strip_carriage_return}
 use Rattle.request_form.specs.Stream.{Stream, IsWellHeard, AllWellHeard}
@@ -25,6 +27,32 @@ not_cut (line ∷ next ∷ lines) = with_item-cut (item_of line) (stream_of (nex
 
 pub script_not_cut : (script : List ℕ) → (heard script).cut ≡ false
 script_not_cut script = not_cut (slice_split (λ b. b == 10) script)
+
+-- ---- it has no more items than bytes, and one
+
+with_item-few : (item : Option Heard) (s : Stream) (n : ℕ) → length s.items ≤ n → length s.whole ≤ n → (length (with_item item s).items ≤ suc n) × (length (with_item item s).whole ≤ suc n)
+with_item-few None s n h k = (omega (arith, h), omega (arith, k))
+with_item-few (Some heard) s n h k = (omega (arith, h), omega (arith, k))
+
+option_few : (o : Option Heard) → length (option_to_list o) ≤ 1
+option_few None = omega arith
+option_few (Some heard) = omega arith
+
+few_items : (lines : List (List ℕ)) → (length (stream_of lines).items ≤ length lines) × (length (stream_of lines).whole ≤ length lines)
+few_items [] = (omega arith, omega arith)
+few_items (line ∷ []) = (option_few (item_of line), omega arith)
+few_items (line ∷ next ∷ lines) =
+    let more = few_items (next ∷ lines) in
+    with_item-few (item_of line) (stream_of (next ∷ lines)) (length (next ∷ lines)) more.0 more.1
+
+few_lines : (script : List ℕ) → length (slice_split (λ b. b == 10) script) ≤ length script + 1
+few_lines script = omega (arith, length-slice_split (λ b. b == 10) script, count_by-le-length (λ b. b == 10) script)
+
+pub script_few : (script : List ℕ) → (length (heard script).items ≤ length script + 1) × (length (heard script).whole ≤ length script + 1)
+script_few script =
+    let few = few_items (slice_split (λ b. b == 10) script) in
+    let lines = few_lines script in
+    (omega (arith, few.0, lines), omega (arith, few.1, lines))
 
 -- ---- no wrong line is a fault of the outside
 

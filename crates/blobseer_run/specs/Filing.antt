@@ -1,7 +1,7 @@
 -- What the command `files` promises: lines about folders and files are answered by the one file session of a new store and of new names.
 use Rattle.std.specs.Prelude.{◌≡◌, ℕ, ◌+◌, ◌-◌, ◌^◌, ◌<◌, ◌≤◌, false, List, [], flat_map, Option}
 use Rattle.item_stream.specs.Rounds.{until_last, Rounds, sum_rounds}
-use Rattle.blob_model.specs.History.{IsLegal}
+use Rattle.version_manager.specs.Log.{IsHistory}
 use Rattle.blob_model.specs.declared.call.Event.{Event}
 use Rattle.request_form.specs.Session.{Fixed, AllOwn}
 use Rattle.request_form.specs.Transcript.{first_session}
@@ -23,13 +23,13 @@ use Rattle.blobseer_run.specs.Conversation.{input_limit, Dialogue, Conversed}
 abbrev pub first_files : Fixed → ℕ → Files
 first_files fixed providers = record { store = first_session fixed 1; providers = providers; by = 1; names = [] }
 
--- A file session alone answered the items so, up to a last one, from the first one on: as a map from paths to folders and to lists of updates does. The histories
--- of the store and of the names that it has seen in the end are legal.
+-- A file session alone answered the items so, up to a last one, from the first one on: as a map from paths to folders and to lists of updates does. The history
+-- of the store that it has seen in the end is one of a desk, and that of the names is legal.
 pub record AnsweredAlone (fixed : Fixed) (providers : ℕ) (items : List FileHeard) (replies : List FileReply) : Type 0 where
   pub last : Files
   pub rounds : Rounds (FileItemReply nobody) (first_files fixed providers) (until_last is_last items) replies last
   pub by_map : AnsweredByMap (first_files fixed providers) (until_last is_last items) replies
-  pub store_legal : IsLegal fixed.limits last.store.seen
+  pub history : IsHistory fixed.page fixed.limits last.store.seen
   pub names_legal : Names.IsLegal last.names
 
 -- how often the outside failed in these answers
@@ -79,5 +79,5 @@ pub record ServedNamed (old : FilePoint) (before after : Input) (events : List E
 pub record ServedByOne (fixed : Fixed) (providers : ℕ) (before after : Input) (faults faults' : ℕ) (written written' : Option (List ℕ)) (end : End) : Type 0 where
   pub events : List Event
   pub own : AllOwn 1 events
-  pub legal : IsLegal fixed.limits events
+  pub history : IsHistory fixed.page fixed.limits events
   pub named : ServedNamed (record { session = first_files fixed providers; faults = faults; written = written }) before after events faults' written' end

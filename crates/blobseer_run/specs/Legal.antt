@@ -1,6 +1,7 @@
 -- What the history of a transcript is, and that there always is one.
-use Rattle.std.specs.Prelude.{◌≡◌, ℕ, List}
+use Rattle.std.specs.Prelude.{◌≡◌, ℕ, ◌<◌, ◌^◌, List, length}
 use Rattle.blob_model.specs.History.{IsLegal}
+use Rattle.version_manager.specs.Log.{IsHistory}
 use Rattle.request_form.specs.Session.{Fixed, Session, IsNobody}
 use Rattle.request_form.specs.Stream.{AllWellHeard}
 use Rattle.request_form.specs.Transcript.{Transcript, first_session, until_quit, SaysAlone, faults_in, NoneStarves}
@@ -12,6 +13,11 @@ use Rattle.script_text.specs.Said.{said}
 abbrev pub LegalAlone : Type 0
 LegalAlone = (fixed : Fixed) (heard : List Heard) (replies : List Reply) (last : Session)
     → Transcript IsNobody (first_session fixed 1) heard replies last → IsLegal fixed.limits last.seen
+
+-- It is one of a desk, where there are fewer than 2^37 items.
+abbrev pub HistoriesAlone : Type 0
+HistoriesAlone = (fixed : Fixed) (heard : List Heard) (replies : List Reply) (last : Session)
+    → Transcript IsNobody (first_session fixed 1) heard replies last → length heard < 2 ^ 37 → IsHistory fixed.page fixed.limits last.seen
 
 -- how often the outside failed in the transcript of which the text is said
 abbrev pub faults_alone : (fixed : Fixed) (items : List Heard) (text : List ℕ) → SaysAlone said fixed items text → ℕ

@@ -1,6 +1,6 @@
 -- What the command `run` promises: a script is answered by the one session of a new store.
 use Rattle.std.specs.Prelude.{◌≡◌, ℕ, ◌+◌, ◌-◌, ◌^◌, ◌<◌, ◌≤◌, false, List}
-use Rattle.blob_model.specs.History.{IsLegal}
+use Rattle.version_manager.specs.Log.{IsHistory}
 use Rattle.request_form.specs.Session.{Fixed}
 use Rattle.request_form.specs.Transcript.{SaysAlone, is_last}
 use Rattle.request_form.specs.declared.form.Heard.{Heard}
@@ -19,11 +19,11 @@ fixed_of settings = record { limits = settings.limits; page = settings.page }
 abbrev pub IsCalm : {D : Type 0} → (D → ℕ) → Type 0
 IsCalm {D} faults = (door : D) → faults door ≡ 0
 
--- The text is said of a transcript alone of these items, whose history is legal. The outside failed in it at most as often as the count of the doors' faults
+-- The text is said of a transcript alone of these items, whose history is one of a desk. The outside failed in it at most as often as the count of the doors' faults
 -- rose by, and not at all where the doors are calm.
 pub record Says (fixed : Fixed) (calm : Type 0) (doors doors' : ℕ) (items : List Heard) (text : List ℕ) : Type 0 where
   pub alone : SaysAlone said fixed items text
-  pub legal : IsLegal fixed.limits alone.last.seen
+  pub history : IsHistory fixed.page fixed.limits alone.last.seen
   pub page_faults : doors' < 2 ^ 64 - 1 → doors + faults_alone fixed items text alone ≤ doors'
   pub no_page_fault : calm → faults_alone fixed items text alone ≡ 0
 

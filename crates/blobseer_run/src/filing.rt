@@ -164,7 +164,6 @@ fn serve_store<R: Wait + Threads + Sync, S: Source, K: Sink, D: BesideDoor, G: G
         // No pass is out.
         unreachable!()
     };
-    desk.stands();
     // The process ends, and gives the memory of all pages and nodes back at once.
     mem::forget(desk);
     (end, doors)

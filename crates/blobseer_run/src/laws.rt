@@ -1,17 +1,18 @@
 //! Laws of transcripts, and of the program's own doors.
 
 ghost use Rattle.blobseer_run.specs.Known.{ScriptsAreTold};
-ghost use Rattle.blobseer_run.specs.Legal.{LegalAlone, AlwaysSays};
+ghost use Rattle.blobseer_run.specs.Legal.{LegalAlone, HistoriesAlone, AlwaysSays};
 ghost use Rattle.blobseer_run.specs.Script.{IsCalm};
 
 use blob_model::laws::old_versions_stay;
 use page_store::{Door, PlainDoor};
 use request_form::laws::transcripts_hold;
 
-/// The history of a transcript alone is legal, and each list of items has such a transcript, in which no reply to a request tells
-/// that memory was wanting, and the outside failed for no request.
+/// The history of a transcript alone is legal, and one of a desk where there are fewer than 2^37 items. Each list of items has such a
+/// transcript, in which no reply to a request tells that memory was wanting, and the outside failed for no request.
 pub fn transcripts_are_legal()
     ensures legal { LegalAlone }
+    ensures histories { HistoriesAlone }
     ensures always { AlwaysSays }
 {
     old_versions_stay();

@@ -1,10 +1,13 @@
 -- Passes that come back: what their owner has then seen.
-use Rattle.std.proofs.Common.{◌≡◌, ℕ, List, [], ◌∷◌, ◌++◌, refl, sym, ap, subst, ◌∙◌}
-use Rattle.blob_model.specs.Limits.{Bounds}
-use Rattle.blob_model.specs.History.{events_by}
+use Rattle.std.proofs.Common.{◌≡◌, ℕ, ◌<◌, ◌^◌, List, [], ◌∷◌, ◌++◌, length, refl, sym, ap, subst, ◌∙◌}
+use Rattle.blob_model.specs.Limits.{Bounds, greatest}
+use Rattle.blob_model.specs.History.{events_by, IsLegal}
 use Rattle.blob_model.specs.declared.call.Event.{Event}
 use Rattle.turn_lock.specs.History.{entries_by, Begins}
-use Rattle.version_manager.specs.Log.{tag, tagged, events}
+use Rattle.version_manager.specs.Desks.{DeskState}
+use Rattle.version_manager.specs.Folds.{AreInOrder}
+use Rattle.version_manager.specs.Log.{IsHistory, tag, tagged, events, fixed_of}
+use Rattle.version_manager.specs.declared.journal.DeskFixed.{DeskFixed}
 use Rattle.version_manager.specs.Laws.{EntriesAreEvents}
 use Rattle.workload_law.specs.Sessions.{FinishesItsOwn}
 use Rattle.workload_law.specs.Closing.{OwnsStay}
@@ -22,6 +25,18 @@ no_front (x ∷ xs) ys e = absurd (let no : (x ∷ (xs ++ ys)) ≡ [] = e in cc)
 pub events_tagged : (es : List Event) → events (tagged es) ≡ es
 events_tagged [] = refl
 events_tagged (e ∷ es) = ap (λ (l : List Event). e ∷ l) (events_tagged es)
+
+-- what a closed store's desk says of its history
+pub closed_history : (d : DeskState) (f : DeskFixed) → fixed_of d ≡ f → f.limits ≡ greatest → IsLegal d.limits d.history → length d.history < 2 ^ 38 → AreInOrder d.page_size d.limits d.history
+    → IsHistory f.page_size greatest d.history
+closed_history d f is limits legal short in_order =
+    let within : d.limits ≡ greatest = ap (λ (x : DeskFixed). x.limits) is ∙ limits in
+    let page : d.page_size ≡ f.page_size = ap (λ (x : DeskFixed). x.page_size) is in
+    record {
+      legal = subst (λ (b : Bounds). IsLegal b d.history) within legal;
+      short = short;
+      in_order = subst (λ (p : ℕ). AreInOrder p greatest d.history) page (subst (λ (b : Bounds). AreInOrder d.page_size b d.history) within in_order);
+    }
 
 pub events_append : (xs ys : Entries) → events (xs ++ ys) ≡ events xs ++ events ys
 events_append [] ys = refl

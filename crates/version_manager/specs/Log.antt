@@ -4,6 +4,7 @@ use Rattle.page_store.specs.Stored.{Cut, bytes_of_pages, LieAmong}
 use Rattle.node_store.specs.UpdateRows.{UpdateRow, IsRowIn}
 use Rattle.snapshot.specs.Versions.{Version, IsVersionIn, size_now}
 use Rattle.snapshot.specs.Laws.{TellUpdates}
+use Rattle.blob_model.specs.Limits.{Bounds}
 use Rattle.blob_model.specs.History.{caller_of, is_refused, store_of, IsLegal}
 use Rattle.blob_model.specs.declared.call.Call.{Call}
 use Rattle.blob_model.specs.declared.call.Call.TheVariants as Calls
@@ -44,6 +45,12 @@ pub record IsLog (f : DeskFixed) (log : List (ℕ × Event)) : Type 0 where
   pub legal : IsLegal f.limits (events log)
   pub short : length log < 2 ^ 38
   pub in_order : AreInOrder f.page_size f.limits (events log)
+
+-- It is what happened at a desk of this page size and these limits, whoever its callers were.
+pub record IsHistory (p : ℕ) (limits : Bounds) (history : List Event) : Type 0 where
+  pub legal : IsLegal limits history
+  pub short : length history < 2 ^ 38
+  pub in_order : AreInOrder p limits history
 
 -- what the store of that history answers
 abbrev pub outcome_in : DeskFixed → List (ℕ × Event) → ℕ → Call → Outcome

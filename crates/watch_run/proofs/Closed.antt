@@ -227,6 +227,11 @@ module _ (are : EntriesAreEvents) (plan : WatchPlan) (sized : IsSized plan) (f :
     fault_outside fault (EndsBy.missing first w seen from begins none) = absurd (not_missing together first w there seen from begins none)
     fault_outside fault (EndsBy.too_long first old new w all begins version size last long) = absurd (not_long together first w dones old new all begins version size last long)
 
+    pub closed_is : (summary : WatchSummary) → WatchEnds plan f (Ok summary) owner → IsWatch plan (events owner.seen)
+    unfolding history
+    closed_is summary (first, (old, (new, (w, (all, (begins, (last, agree))))))) =
+        watch together first w dones old new all begins summary.versions summary.size last
+
     pub closed : (told : Result WatchSummary Fault) → WatchEnds plan f told owner → TellsWatch plan told
     closed (Err fault) by = fault_outside fault by
     closed (Ok summary) (first, (old, (new, (w, (all, (begins, (last, agree))))))) =

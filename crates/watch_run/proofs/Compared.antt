@@ -8,7 +8,6 @@ use Rattle.blob_model.specs.Content.{content, size_of}
 use Rattle.blob_model.specs.Store.{Store, Blob, blob_at, published}
 use Rattle.blob_model.specs.Answer.{Answered, Test, bytes_of, unless_refused, not_published, range_past_size}
 use Rattle.blob_model.specs.History.{store_of, AllOther}
-use Rattle.blob_model.specs.declared.call.Call.TheVariants as Calls
 use Rattle.blob_model.specs.declared.call.Event.{Event}
 use Rattle.blob_model.specs.declared.call.Outcome.{Outcome}
 use Rattle.blob_model.specs.declared.call.Outcome.TheVariants as Outcomes

@@ -1,5 +1,5 @@
 -- Readers that are made, and that have read.
-use Rattle.std.proofs.Common.{◌≡◌, ℕ, ◌-◌, ◌<◌, ◌≤◌, List, [], length, refl, sym, subst, ◌∙◌, arith, get_or}
+use Rattle.std.proofs.Common.{◌≡◌, ℕ, ◌-◌, ◌<◌, ◌≤◌, List, [], length, sym, subst, ◌∙◌, arith, get_or}
 use Rattle.std.specs.Prelude.{Result, Ok, Err, All, IfOk, IfErr}
 use Rattle.blob_model.specs.History.{events_by}
 use Rattle.version_manager.specs.Log.{events}

@@ -1,5 +1,5 @@
 -- What the last session read, and what comes then.
-use Rattle.std.proofs.Common.{◌≡◌, ℕ, ◌≤◌, List, length, refl, sym, ap, subst, ◌∙◌, arith}
+use Rattle.std.proofs.Common.{◌≡◌, ℕ, ◌≤◌, List, length, sym, ap, subst, ◌∙◌}
 use Rattle.std.specs.Prelude.{Option, Some}
 use Rattle.blob_model.specs.Content.{size_of}
 use Rattle.blob_model.specs.Store.{Blob, blob_at, published}

@@ -7,7 +7,6 @@ use Rattle.version_manager.specs.Log.{events}
 use Rattle.request_form.specs.Session.{Session, sees}
 use Rattle.request_form.specs.Answers.{Turn, AfterGap, ReadTurn, Unless, read_fault}
 use Rattle.request_form.specs.Turns.{with_tickets, and_made}
-use Rattle.request_form.specs.declared.form.Request.TheVariants as Requests
 use Rattle.request_form.specs.declared.form.Reply.{Reply}
 use Rattle.request_form.specs.declared.form.Fault.{Fault}
 use Rattle.client_session.specs.Sessions.{SessionState, session_of, Continues}

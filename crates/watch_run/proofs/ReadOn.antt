@@ -1,5 +1,5 @@
 -- The reads of a watch's readers, one after another.
-use Rattle.std.proofs.Common.{◌≡◌, ℕ, refl, ◌∙◌, arith}
+use Rattle.std.proofs.Common.{ℕ, refl, ◌∙◌, arith}
 use Rattle.std.specs.Prelude.{sum_by}
 use Rattle.read_board.specs.Keeping.{StandingState}
 use Rattle.update_work.proofs.Updates.{rose_both}

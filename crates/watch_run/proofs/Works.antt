@@ -5,7 +5,6 @@ use Rattle.std.specs.Result.{result_and}
 use Rattle.blob_model.specs.Limits.{greatest}
 use Rattle.blob_model.specs.History.{events_by}
 use Rattle.blob_model.specs.declared.call.Event.{Event}
-use Rattle.blob_model.specs.declared.call.Event.TheVariants as Events
 use Rattle.blob_model.specs.declared.call.Place.TheVariants.{Append}
 use Rattle.turn_lock.specs.History.{Begins}
 use Rattle.turn_lock.proofs.Histories.{begins_both}

@@ -1,10 +1,9 @@
 // A watch, from a new store to its summary.
 ghost use Rattle.std.specs.Prelude.{◌≡◌, ◌≤◌, ◌<◌, ◌+◌, ◌-◌, ◌*◌, ◌^◌, ◌↔◌, ◌∷◌, [], ℕ, IfOk, IfErr, All, vec_len};
 ghost use Rattle.blob_model.specs.Limits.{greatest};
-ghost use Rattle.blob_model.specs.History.{IsLegal};
 ghost use Rattle.client_session.specs.Sessions.{IsOwnerOf};
-ghost use Rattle.version_manager.specs.Log.{fixed_of};
-ghost use Rattle.watch_law.specs.Watch.{IsSized, summary_of};
+ghost use Rattle.version_manager.specs.Log.{IsHistory, fixed_of};
+ghost use Rattle.watch_law.specs.Watch.{IsSized, IsWatch, summary_of};
 ghost use Rattle.update_work.specs.Updates.{told_faults};
 ghost use Rattle.read_board.specs.Refreshing.{AllHold};
 ghost use Rattle.store_sessions.specs.Made.{IsNewSession};
@@ -230,8 +229,8 @@ where
 /// whole, and each reader learns what the keeper published and reads the same; a reader without a place does so by a new session.
 ///
 /// It answers the last version with its size, and how many readers read the same bytes, which is the plan's summary at every schedule,
-/// and the desk of the closed store. Where the opening, the writer, the keeper, a reader or the last session didn't come to its end it
-/// answers why, of the lowest such caller: a page was lost, and then the count of `doors` rose, or no memory was found. When it
+/// and the desk of the closed store, whose history is a watch's. Where the opening, the writer, the keeper, a reader or the last session
+/// didn't come to its end it answers why, of the lowest such caller: a page was lost, and then the count of `doors` rose, or no memory was found. When it
 /// answers, all passes and all doors have gone back. The gate is called between the acts of updates.
 pub fn watch<R: Threads + Wait + Sync, M: DoorMaker, G: Gate + Sync>(
     rt: &R,
@@ -255,7 +254,8 @@ where
 
     // What the watch came to, and what its store holds then.
     ensures summary { IfOk result (λ r. r.0 ≡ summary_of plan) }
-    ensures legal { IfOk result (λ r. IsLegal greatest r.1.history) }
+    ensures history { IfOk result (λ r. IsHistory shared.fixed.page_size greatest r.1.history) }
+    ensures watched { IfOk result (λ r. IsWatch plan r.1.history) }
     ensures fixed { IfOk result (λ r. fixed_of r.1 ≡ shared.fixed) }
 
     // Why it ended early.

@@ -2,10 +2,9 @@
 ghost use Rattle.std.specs.Prelude.{◌≡◌, ◌≤◌, ◌<◌, ◌+◌, ◌-◌, ◌*◌, ◌^◌, ◌↔◌, [], ℕ, IfOk, IfErr};
 ghost use denote.Param.Send.{IsSync};
 ghost use Rattle.blob_model.specs.Limits.{greatest};
-ghost use Rattle.blob_model.specs.History.{IsLegal};
 ghost use Rattle.client_session.specs.Sessions.{IsOwnerOf};
 ghost use Rattle.store_sessions.specs.Lent.{LentDoors};
-ghost use Rattle.version_manager.specs.Log.{fixed_of};
+ghost use Rattle.version_manager.specs.Log.{IsHistory, fixed_of};
 ghost use Rattle.workload_law.specs.Load.{IsSized, IsLoad, IsLoadPage};
 ghost use Rattle.workload_law.specs.Summed.{summary_of};
 ghost use Rattle.update_work.specs.Updates.{told_faults};
@@ -107,7 +106,7 @@ where
 
     // What the load came to, and what its store holds then.
     ensures summary { IfOk result (λ r. r.0 ≡ summary_of plan) }
-    ensures legal { IfOk result (λ r. IsLegal greatest r.1.history) }
+    ensures history { IfOk result (λ r. IsHistory shared.fixed.page_size greatest r.1.history) }
     ensures loaded { IfOk result (λ r. IsLoad plan r.1.history) }
     ensures finishes { IfOk result (λ r. AreFinishedByOwn plan r.1.history) }
     ensures fixed { IfOk result (λ r. fixed_of r.1 ≡ shared.fixed) }

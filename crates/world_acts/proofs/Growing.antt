@@ -1,5 +1,5 @@
 -- What a world has stays in it, whatever allowed steps follow.
-use Rattle.std.proofs.Common.{◌≡◌, ◌⊎◌, ℕ, ◌+◌, ◌≤◌, List, [], ◌∷◌, refl, sym, ap, subst, arith, inl, inr}
+use Rattle.std.proofs.Common.{◌≡◌, ℕ, ◌+◌, ◌≤◌, List, [], ◌∷◌, refl, sym, ap, subst, arith, inl, inr}
 use Rattle.std.specs.Prelude.{Option, Some, None}
 use Rattle.blob_model.specs.Store.{Blob, blob_at, assigned}
 use Rattle.blob_model.specs.declared.call.Event.{Event}
@@ -7,7 +7,7 @@ use Rattle.tree_geom.specs.declared.node.Node.{Node}
 use Rattle.tree_geom.specs.declared.node.NodeKey.{NodeKey}
 use Rattle.blob_core.specs.World.{World, UpdateEntry, empty_world, fold_at, kept_at, node_at, same_number, same_update, same_fold, same_key, bytes_of_pages}
 use Rattle.blob_core.specs.Woven.{woven}
-use Rattle.blob_core.specs.Steps.{IsAllowed, AllAllowed, after, world_after, with_fold, folded_page, next_kept}
+use Rattle.blob_core.specs.Steps.{IsAllowed, AllAllowed, after, world_after, folded_page, next_kept}
 use Rattle.blob_core.specs.declared.world.FoldKey.{FoldKey}
 use Rattle.blob_core.specs.declared.world.UpdateKey.{UpdateKey}
 use Rattle.blob_core.specs.declared.step.Step.{Step}

@@ -1,8 +1,8 @@
 -- The pages of a numbering, in the world.
 use Rattle.std.proofs.Common.{◌≡◌, ℕ, ◌≤◌, suc, true, false, List, [], ◌∷◌, ◌++◌, length, refl, ap, ◌∙◌, arith}
-use Rattle.std.specs.Prelude.{Option, Some, None, max}
+use Rattle.std.specs.Prelude.{None, max}
 use Rattle.std.proofs.lemmas.Bool.Decides.{nat_tests}
-use Rattle.blob_core.specs.World.{page_at, same_number, bytes_of_page, bytes_of_pages, AreCut}
+use Rattle.blob_core.specs.World.{page_at, same_number, bytes_of_pages, AreCut}
 use Rattle.blob_core.specs.declared.step.Step.TheVariants as Moves
 use Rattle.blob_core.proofs.Lists.{bytes_are, entry_new}
 use Rattle.page_store.specs.Stored.{Stored, IsCut}

@@ -1,4 +1,5 @@
 pub mod Worlds
+pub mod Together
 pub mod Pages
 pub mod Turns
 pub mod Puts

@@ -1,5 +1,6 @@
 //! What ties the acts of the program to the steps of a world. A law is the contract of a function that does nothing.
 ghost use Rattle.world_acts.specs.Worlds.{EmptyIsAWorld, WorldsAreReached, StoresAgree, LineagesAgree, WorldsOnlyGrow, HistoriesHaveWorlds, StepsAreInOrder};
+ghost use Rattle.world_acts.specs.Together.{SessionsTogether};
 ghost use Rattle.world_acts.specs.Pages.{PagePutsAreSteps, NumbersGoOn};
 ghost use Rattle.world_acts.specs.Turns.{CreatesAreSteps, BranchesAreSteps, NumberingsAreSteps, FinishesAreSteps, LooksAreNoSteps, WaitingAreOwn};
 ghost use Rattle.world_acts.specs.Puts.{HintsStay, FoldPutsAreSteps, NodePutsAreSteps, FoldsFollow};
@@ -117,8 +118,13 @@ pub fn reads_are_steps()
 
 /// Each history of a desk has a world. So what the other laws say of each world of a history is said of something, and `blob_core::steps_hold`
 /// speaks of each such history.
+///
+/// What the program's commands hand on is such a history: that of `run`, `files`, `load` and `watch` comes about by the acts of its sessions, from
+/// the empty world on: for each event in its order the puts of the session that made it and then its turn. Which puts of other sessions come
+/// between is left open.
 pub fn histories_have_worlds()
-    ensures { HistoriesHaveWorlds }
+    ensures worlds { HistoriesHaveWorlds }
+    ensures together { SessionsTogether }
 {
     worlds_agree();
     worlds_only_grow();

@@ -4,6 +4,8 @@
 #[cfg(test)]
 mod empty;
 #[cfg(test)]
+mod folds;
+#[cfg(test)]
 mod links;
 #[cfg(test)]
 mod orders;

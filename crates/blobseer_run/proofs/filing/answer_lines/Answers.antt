@@ -1,4 +1,4 @@
-use Rattle.std.proofs.Common.{◌≡◌, refl, ◌∙◌, ap, arith}
+use Rattle.std.proofs.Common.{refl, ◌∙◌, ap, arith}
 use Rattle.settings.specs.Values.{SettingsValues}
 use Rattle.store_sessions.proofs.Fresh.{fresh_doors}
 use Rattle.blobseer_run.specs.Script.{fixed_of, IsCalm}

@@ -1,12 +1,12 @@
 use Rattle.std.specs.Prelude.{◌≡◌, []}
-use Rattle.std.proofs.Common.{◌∙◌, ap, arith}
+use Rattle.std.proofs.Common.{ℕ, ◌∙◌, ap, arith}
+use Rattle.std.proofs.lemmas.List.{length-map}
 use Rattle.blob_model.specs.declared.call.Event.{Event}
 use Rattle.turn_lock.specs.Shown.{PassView, OwnerView}
-use Rattle.turn_lock.specs.History.{longer}
 use Rattle.version_manager.specs.Log.{events}
 use Rattle.version_manager.specs.declared.journal.DeskFixed.{DeskFixed}
 use Rattle.blobseer_run.proofs.Stores.{own_there}
-use Rattle.blobseer_run.proofs.FilesStored.{first_named, legal_there, longer_none}
+use Rattle.blobseer_run.proofs.FilesStored.{first_named}
 use Rattle.blobseer_run.proofs.filing.serve_store.Goals as goal
 
 pub returns-clause-lines : goal.returns-clause-lines
@@ -19,12 +19,11 @@ returns-clause-lines g c =
     let one : c.take_back.new.owner.made ≡ 1 = ap (λ (o : OwnerView Event DeskFixed). o.made) c.take_back.ensures.counts.1 ∙ made in
     let caller : pass.caller ≡ 1 = ap (λ (p : PassView Event DeskFixed). p.caller) given.pass ∙ omega (arith, c.requires.no_pass) in
     let none : pass.seen ≡ [] = ap (λ (p : PassView Event DeskFixed). p.seen) given.pass ∙ c.requires.new in
-    let before : c.pass.new.owner.seen ≡ [] = ap (λ (o : OwnerView Event DeskFixed). o.seen) given.counts ∙ c.requires.new in
     let closed = c.in-Ok-close in
-    let saw : c.take_back.new.owner.seen ≡ back.seen = c.take_back.ensures.seen ∙ ap (λ l. longer l back.seen) before ∙ longer_none back.seen in
+    let log = served.ensures.pass.log in
     record {
       events = events back.seen;
       own = own_there c.take_back.new.owner.made closed.desk.history c.take_back.new.owner.seen back.seen one closed.ensures.no_other closed.ensures.history c.take_back.ensures.begins.1 served.ensures.pass.log.tags;
-      legal = legal_there closed.desk.limits c.args.shared.fixed.limits closed.desk.history back.seen (ap (λ (f : DeskFixed). f.limits) closed.ensures.fixed) (closed.ensures.history ∙ saw) c.stands.ensures.legal;
+      history = record { legal = log.legal; short = omega (arith, log.short, length-map back.seen (λ (x : ℕ × Event). x.1)); in_order = log.in_order };
       named = first_named c.args.shared _ _ _ _ _ _ _ _ pass.caller pass.seen caller none c.is_housed.ensures served.ensures.lines;
     }

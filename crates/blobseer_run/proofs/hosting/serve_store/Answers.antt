@@ -1,4 +1,4 @@
-use Rattle.std.proofs.Common.{◌≡◌, ◌*◌, refl, ◌∙◌, ap, subst, arith}
+use Rattle.std.proofs.Common.{◌*◌, refl, ◌∙◌, ap, subst}
 use Rattle.std.specs.Prelude.{Err}
 use Rattle.page_store.specs.Calls.{no_door}
 use Rattle.settings.specs.Values.{SettingsValues}

@@ -1,12 +1,15 @@
 use Rattle.std.proofs.Common.{refl}
 use Rattle.std.specs.Prelude.{flat_map}
-use Rattle.request_form.specs.Transcript.{until_quit, first_session}
+use Rattle.request_form.specs.Transcript.{first_session}
 use Rattle.script_text.specs.Said.{said}
-use Rattle.blobseer_run.proofs.Legal.{run_legal, first_good}
+use Rattle.blobseer_run.proofs.Legal.{alone_well, history_alone}
 use Rattle.blobseer_run.proofs.laws.transcripts_are_legal.Goals as goal
 
 pub returns-clause-legal : goal.returns-clause-legal
-returns-clause-legal c = λ fixed heard replies last run. run_legal c.old_versions_stay.ensures (first_session fixed 1) last (until_quit heard) replies (first_good fixed) run
+returns-clause-legal c = λ fixed heard replies last run. (alone_well c.old_versions_stay.ensures fixed heard replies last run).sound.legal
+
+pub returns-clause-histories : goal.returns-clause-histories
+returns-clause-histories c = λ fixed heard replies last run short. history_alone c.old_versions_stay.ensures fixed heard replies last run short
 
 pub returns-clause-always : goal.returns-clause-always
 returns-clause-always c = λ fixed items.
@@ -14,7 +17,7 @@ returns-clause-always c = λ fixed items.
       flat_map said made.0,
       record {
         alone = record { replies = made.0; last = made.1.0; transcript = made.1.1.0; says = refl };
-        legal = run_legal c.old_versions_stay.ensures (first_session fixed 1) made.1.0 (until_quit items) made.0 (first_good fixed) made.1.1.0;
+        legal = (alone_well c.old_versions_stay.ensures fixed items made.0 made.1.0 made.1.1.0).sound.legal;
         fed = made.1.1.1.1;
         calm = made.1.1.1.0;
       },

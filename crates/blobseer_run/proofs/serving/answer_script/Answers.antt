@@ -1,4 +1,4 @@
-use Rattle.std.proofs.Common.{◌≡◌, refl, ◌∙◌, ap, arith}
+use Rattle.std.proofs.Common.{refl, ◌∙◌, ap, arith}
 use Rattle.settings.specs.Values.{SettingsValues}
 use Rattle.blobseer_run.specs.Script.{fixed_of, IsCalm}
 use Rattle.blobseer_run.proofs.Runs.{gave_back, ran, ran_as, ran_none}
@@ -21,7 +21,7 @@ returns-clause-did g c =
     let after = g.M.DoorMaker.faults c.back.new.maker in
     let gave = gave_back faults c.in-Ok.doors served.result.1 before (g.M.DoorMaker.faults c.new.new.maker) after (fresh_doors faults c.in-Ok.doors c.in-Ok.ensures.fresh) c.in-Ok.ensures.count_stays c.back.ensures.rises in
     let same = fixed_there c.args.shared.fixed c.args.settings.now c.requires.store.limits c.requires.store.page_size in
-    let did = ran c.endings_hold.ensures.alone c.transcripts_are_legal.ensures.legal _ (IsCalm faults) _ _ _ _ gave served.result.0 served.ensures.lines served.ensures.read_faults served.ensures.write_faults refl in
+    let did = ran c.endings_hold.ensures.alone c.transcripts_are_legal.ensures.histories _ (IsCalm faults) _ _ _ _ gave served.result.0 served.ensures.lines served.ensures.read_faults served.ensures.write_faults refl in
     ran_as _ _ (IsCalm faults) _ _ served.result.0 c.after.result same c.after.ensures did
 
 pub returns-clause-lent : goal.returns-clause-lent

@@ -1,4 +1,4 @@
-use Rattle.std.proofs.Common.{◌≡◌, ◌∙◌, sym, subst, arith, refl, Err}
+use Rattle.std.proofs.Common.{◌∙◌, sym, subst, arith, Err}
 use Rattle.std.proofs.lemmas.Slice.Eq.{bytes_eq-Decides}
 use Rattle.std.specs.Prelude.{sum_by}
 use Rattle.faults.specs.Counts.{RoseBy}

@@ -1,4 +1,4 @@
-use Rattle.std.proofs.Common.{◌≡◌, ◌∙◌, sym, arith, refl, Ok, Err}
+use Rattle.std.proofs.Common.{◌∙◌, sym, Ok, Err}
 use Rattle.std.proofs.lemmas.Slice.Eq.{bytes_eq-Decides}
 use Rattle.request_form.specs.Answers.{read_fault}
 use Rattle.client_session.specs.Results.{read_reply}

@@ -1,4 +1,4 @@
-use Rattle.std.proofs.Common.{◌≡◌, ap, subst, sym, arith}
+use Rattle.std.proofs.Common.{ap, subst, sym, arith}
 use Rattle.std.specs.Prelude.{sum_by}
 use Rattle.turn_lock.specs.History.{Begins}
 use Rattle.store_sessions.proofs.Traffics

@@ -1,4 +1,4 @@
-use Rattle.std.proofs.Common.{◌≡◌, arith}
+use Rattle.std.proofs.Common.{arith}
 use Rattle.std.specs.Prelude.{sum_by}
 use Rattle.update_work.specs.Updates.{told_faults}
 use Rattle.watch_run.proofs.Crews.{told_any, told_more}

@@ -1,4 +1,4 @@
-use Rattle.std.proofs.Common.{◌≡◌, ◌∙◌, ℕ, sym, subst, refl}
+use Rattle.std.proofs.Common.{◌≡◌, ◌∙◌, ℕ, sym, subst}
 use Rattle.version_manager.specs.Desks.{updates_in}
 use Rattle.version_manager.specs.Log.{desk_at}
 use Rattle.read_board.specs.declared.refresh.Refresh.{Refresh}

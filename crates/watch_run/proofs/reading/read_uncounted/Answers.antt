@@ -1,4 +1,4 @@
-use Rattle.std.proofs.Common.{◌≡◌, ◌+◌, ◌*◌, ℕ, Err, sym, subst}
+use Rattle.std.proofs.Common.{◌+◌, ◌*◌, ℕ, Err, sym, subst}
 use Rattle.std.specs.Prelude.{sum_by}
 use Rattle.faults.specs.Counts.{RoseBy}
 use Rattle.read_board.specs.Reads.{goes_by}

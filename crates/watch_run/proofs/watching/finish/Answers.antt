@@ -1,4 +1,4 @@
-use Rattle.std.proofs.Common.{◌≡◌, vec_len, sym, subst, arith}
+use Rattle.std.proofs.Common.{vec_len, sym, subst, arith}
 use Rattle.std.specs.Prelude.{All}
 use Rattle.request_form.specs.Replies.{page_faults}
 use Rattle.read_board.specs.Fronts.{BoardId}

@@ -1,4 +1,4 @@
-use Rattle.std.proofs.Common.{◌≡◌, ◌∙◌, ◌∷◌, [], ap, subst, sym, arith}
+use Rattle.std.proofs.Common.{◌∙◌, ◌∷◌, [], ap, subst, sym, arith}
 use Rattle.std.specs.Prelude.{sum_by}
 use Rattle.client_session.specs.Sessions.{StoreState}
 use Rattle.read_board.specs.Refreshing.{AllHold}

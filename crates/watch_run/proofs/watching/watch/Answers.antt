@@ -1,15 +1,33 @@
-use Rattle.std.proofs.Common.{◌≡◌, List, ℕ, Ok, Err, subst, sym}
+use Rattle.std.proofs.Common.{◌≡◌, ◌∙◌, List, ℕ, Ok, Err, ap, subst, sym}
 use Rattle.blob_model.specs.Limits.{Bounds}
 use Rattle.blob_model.specs.History.{IsLegal}
 use Rattle.blob_model.specs.declared.call.Event.{Event}
 use Rattle.turn_lock.specs.History.{LacksUngiven}
 use Rattle.version_manager.specs.Log.{events}
 use Rattle.workload_law.specs.Ends.{AnyPage}
-use Rattle.watch_run.proofs.Closed.{closed}
+use Rattle.watch_run.proofs.Closed.{closed, closed_is}
 use Rattle.update_work.specs.declared.ending.EarlyEnd.{EarlyEnd}
 use Rattle.update_work.proofs.Early.{early_of}
+use Rattle.update_work.proofs.Returns.{closed_history, events_tagged}
+use Rattle.watch_law.specs.Watch.{IsWatch}
 use Rattle.update_work.specs.Ending.{EndsEarly}
 use Rattle.watch_run.proofs.watching.watch.Goals as goal
+
+pub returns-in-Ok-told-clause-history : goal.returns-in-Ok-told-clause-history
+returns-in-Ok-told-clause-history g c =
+    closed_history c.in-Ok.desk c.args.shared.fixed c.in-Ok.ensures.fixed c.requires.limits c.stands.ensures.legal c.stands.ensures.short c.stands.ensures.in_order
+
+pub returns-in-Ok-told-clause-watched : goal.returns-in-Ok-told-clause-watched
+returns-in-Ok-told-clause-watched g c =
+    let owner = c.run_watch-told.new.owner in
+    let o = c.run_watch-told.ensures.owner in
+    let lacks = subst (λ (l : List (ℕ × Event)). LacksUngiven owner.made l) c.in-Ok.ensures.history c.in-Ok.ensures.no_other in
+    let legal = subst (λ (b : Bounds). IsLegal b (events owner.seen)) c.requires.limits o.log.legal in
+    let x = c.watches_close.ensures in
+    let seen : events owner.seen ≡ c.in-Ok.desk.history = ap (λ (l : List (ℕ × Event)). events l) (sym c.in-Ok.ensures.history) ∙ events_tagged c.in-Ok.desk.history in
+    subst (λ (h : List Event). IsWatch c.args.plan h) seen
+    (closed_is c.entries_are_events.ensures c.args.plan c.requires.sized c.args.shared.fixed c.requires.limits owner o.log.tags legal c.in-Ok.ensures.all_kept lacks x.together c.watches_are_done.ensures x.there x.writer
+    c.in-Ok-told.summary c.in-Ok-told.ensures.ends)
 
 pub returns-in-Ok-told-clause-summary : goal.returns-in-Ok-told-clause-summary
 returns-in-Ok-told-clause-summary g c =

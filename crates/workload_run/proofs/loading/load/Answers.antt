@@ -10,7 +10,7 @@ use Rattle.version_manager.specs.Log.{IsLog, tagged, events}
 use Rattle.workload_law.specs.declared.plan.LoadPlan.{LoadPlan}
 use Rattle.workload_law.specs.declared.plan.Summary.{Summary}
 use Rattle.workload_run.specs.Stages.{ClosesAs, TellsLoad}
-use Rattle.update_work.proofs.Returns.{events_tagged}
+use Rattle.update_work.proofs.Returns.{closed_history, events_tagged}
 use Rattle.workload_run.proofs.loading.load.Goals as goal
 
 -- what is known of the closed store's history
@@ -19,6 +19,10 @@ told_of : (f : DeskFixed) (plan : LoadPlan) (summary : Summary) (owner : OwnerVi
 told_of f plan summary owner history limits log closes is lacks =
     subst (λ (h : List Event). TellsLoad plan f.page_size (Ok summary) h) (ap (λ (l : List (ℕ × Event)). events l) (sym is) ∙ events_tagged history)
     (closes (subst (λ (l : List (ℕ × Event)). LacksUngiven owner.made l) is lacks) (subst (λ (b : Bounds). IsLegal b (events owner.seen)) limits log.legal) log.tags)
+
+pub returns-in-Ok-told-clause-history : goal.returns-in-Ok-told-clause-history
+returns-in-Ok-told-clause-history g c =
+    closed_history c.in-Ok.desk c.args.shared.fixed c.in-Ok.ensures.fixed c.requires.limits c.stands.ensures.legal c.stands.ensures.short c.stands.ensures.in_order
 
 pub returns-in-Ok-told-clause-loaded : goal.returns-in-Ok-told-clause-loaded
 returns-in-Ok-told-clause-loaded g c =
