@@ -12,7 +12,7 @@ use Rattle.request_form.specs.declared.form.Fault.TheVariants.{Malformed}
 use Rattle.file_text.specs.Lines.{file_lines, heard_as, line_of, heard, IsWellHeard, AllWellHeard}
 use Rattle.file_text.specs.declared.form.FileLine.{FileLine}
 use Rattle.file_text.specs.declared.form.FileHeard.{FileHeard}
-use Rattle.file_text.specs.declared.form.FileHeard.TheVariants.{Asked, Wrong}
+use Rattle.file_text.specs.declared.form.FileHeard.TheVariants.{Wrong}
 
 with_item-cut : (item : Option FileHeard) (s : ItemStream FileHeard) → s.cut ≡ false → (with_item item s).cut ≡ false
 with_item-cut None s h = h

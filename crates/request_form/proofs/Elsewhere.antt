@@ -1,14 +1,12 @@
 -- What a turn may come to depends on the store alone, on who is there, and on the page size.
-use Rattle.std.proofs.Common.{◌≡◌, ◌≢◌, ℕ, ◌-◌, List, [], ◌∷◌, ◌++◌, refl, sym, ap, subst, ◌∙◌, append_assoc}
-use Rattle.std.specs.Prelude.{Option, Some, None, Contains}
+use Rattle.std.proofs.Common.{◌≡◌, ℕ, ◌-◌, List, [], ◌∷◌, ◌++◌, refl, sym, ap, subst, ◌∙◌, append_assoc}
+use Rattle.std.specs.Prelude.{Contains}
 use Rattle.blob_model.specs.Store.{Store}
 use Rattle.blob_model.specs.Answer.{answer, repair_refusal}
 use Rattle.blob_model.specs.declared.call.Call.{Call}
 use Rattle.blob_model.specs.declared.call.Call.TheVariants as Calls
 use Rattle.blob_model.specs.declared.call.Event.{Event}
 use Rattle.blob_model.specs.declared.call.Event.TheVariants as Events
-use Rattle.blob_model.specs.declared.call.Outcome.TheVariants as Outcomes
-use Rattle.blob_model.specs.declared.call.Refusal.TheVariants as Refusals
 use Rattle.request_form.specs.declared.form.Reply.{Reply}
 use Rattle.request_form.specs.Session.{Session, store_at, outcome_at, sees}
 use Rattle.request_form.specs.Turns.{Gap, Tickets, Turn, with_tickets, and_made, AfterGap}

@@ -5,7 +5,7 @@ ghost use Rattle.std.specs.Prelude.{◌≡◌};
 use blob_model::{Outcome, Place, Refusal};
 use client_session::{HangUp, Session, Started, Updated};
 use page_store::PlainDoor;
-use ports::gate::{FreeGate, Gate};
+use ports::gate::Gate;
 use request_form::Fault;
 use std::process::Abort;
 use std::sync::Wait;
@@ -30,20 +30,6 @@ pub(crate) fn append<G: Gate, R: Threads + Wait + Sync>(
     ensures { session.new.store ≡ session.old.store }
 {
     session.append(rt, 1, bytes)
-}
-
-/// Updates blob 1 at once, and answers whether that was done.
-pub(crate) fn update<R: Threads + Wait + Sync>(
-    rt: &R,
-    session: &mut Session<'_, PlainDoor, FreeGate>,
-    place: Place,
-    bytes: &[u8],
-) -> bool {
-    let updated = match place {
-        Place::Append => session.append(rt, 1, bytes),
-        Place::WriteAt(offset) => session.write(rt, 1, offset, bytes),
-    };
-    matches!(updated, Ok(Updated::Done(_)))
 }
 
 /// Starts an append.

@@ -1,5 +1,5 @@
-//! Tests of sessions that a script or a frame can't show: the node steps of reads, snapshots that are held open, sessions that wait for
-//! one another or finish one update at once: what each is told while others go on. Each test shows the same under every schedule.
+//! Tests of sessions that a script or a frame can't show: sessions that wait for one another, hang up or finish one update at once, and
+//! what each is told while others go on. Each test shows the same under every schedule.
 #![tactic(auto)]
 
 #[cfg(test)]
@@ -7,12 +7,8 @@ mod calls;
 #[cfg(test)]
 mod hanging_up;
 #[cfg(test)]
-mod parts;
-#[cfg(test)]
 mod repairing;
 #[cfg(test)]
 mod store;
-#[cfg(test)]
-mod visits;
 #[cfg(test)]
 mod waiting;

@@ -3,7 +3,7 @@ use Rattle.std.specs.Prelude.{max, min}
 use Rattle.tree_geom.specs.Geometry.{page_range}
 use Rattle.range_log.specs.Extents.{Extent, extent_at}
 use Rattle.range_log.specs.Updates.{extents}
-use Rattle.range_log.specs.Rows.{leaf_lo, leaf_hi, leaf_len, leaf_start}
+use Rattle.range_log.specs.Rows.{leaf_lo, leaf_hi}
 use Rattle.blob_core.proofs.Rowing.{has_version, log_tells, range_fits, extent_within}
 use Rattle.blob_core.proofs.leaves.own_part.Goals as goal
 

@@ -1,8 +1,7 @@
-use Rattle.std.proofs.Common.{◌≡◌, List, sym, subst, ◌∙◌}
+use Rattle.std.proofs.Common.{List, sym, subst, ◌∙◌}
 use Rattle.std.specs.Arc.{arc_value}
 use Rattle.boxcar.specs.Table.{Shelves}
 use Rattle.node_store.specs.UpdateRows.{IsRowIn}
-use Rattle.tree_weaver.specs.Woven.{IsAmong}
 use Rattle.version_manager.specs.Desks.{updates_in}
 use Rattle.version_manager.specs.Stays.{ticket_folds}
 use Rattle.desk_tests.proofs.repair.row_of.Goals as goal

@@ -1,4 +1,4 @@
-use Rattle.std.proofs.Common.{◌≡◌, List, ℕ, Some, sym, ap, ◌∙◌}
+use Rattle.std.proofs.Common.{List, ℕ, sym, ap, ◌∙◌}
 use Rattle.std.specs.List.{slice_get}
 use Rattle.numeral.proofs.NumberLemmas.{first_is, number_of-parsed}
 use Rattle.numeral.proofs.digits.number.Goals as goal

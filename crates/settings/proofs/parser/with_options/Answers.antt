@@ -1,4 +1,4 @@
-use Rattle.std.proofs.Common.{◌≡◌, ℕ, ◌+◌, Bool, false, List, map, drop, ap, ap₂, sym, ◌∙◌}
+use Rattle.std.proofs.Common.{ℕ, ◌+◌, Bool, List, map, drop, ap, ap₂, sym, ◌∙◌}
 use Rattle.std.specs.Prelude.{◌||◌, fold}
 use Rattle.std.proofs.lemmas.List.{drop_more}
 use Rattle.clap.specs.Words.{App, Rule, app_of, with_rule}

@@ -1,8 +1,7 @@
 //! How many node steps a read takes: as many as the shape of the tree asks for, and no step more.
 ghost use Rattle.std.specs.Prelude.{◌≡◌, ◌<◌};
 
-use crate::calls::{create, update};
-use crate::store::{new_session, store_of};
+use crate::store::{create, new_session, store_of, update};
 use blob_model::Place;
 use client_session::Session;
 use page_store::PlainDoor;
@@ -118,7 +117,7 @@ fn update_all<R: Threads + Wait + Sync + Abort>(
     session: &mut Session<'_, PlainDoor, FreeGate>,
     updates: &[(Place, &[u8])],
 ) {
-    create(rt, session).expect(rt, "a blob");
+    create(rt, session);
     for (place, bytes) in updates {
         assert!(rt; update(rt, session, *place, bytes));
     }
@@ -133,7 +132,7 @@ fn seen_after<R: Threads + Wait + Sync + Abort>(
     what: Look,
 ) -> (Vec<u8>, u64) {
     let (shared, mut owner) = store_of(rt, alloc, page_size);
-    let mut session = new_session(rt, alloc, &shared, &mut owner, &FreeGate);
+    let mut session = new_session(rt, alloc, &shared, &mut owner);
     update_all(rt, &mut session, updates);
     looked(rt, &mut session, what)
 }

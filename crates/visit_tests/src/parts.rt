@@ -1,8 +1,7 @@
 //! A blob that is written in small parts: every range of every version is read, and the node steps are counted. What is read then is
 //! shown by a script.
 
-use crate::calls::{create, update};
-use crate::store::{new_session, store_of};
+use crate::store::{create, new_session, store_of, update};
 use crate::visits::{Part, counted};
 use blob_model::Place;
 use client_session::Session;
@@ -98,7 +97,7 @@ fn write_all<R: Threads + Wait + Sync + Abort>(
     alloc: Global,
     session: &mut Session<'_, PlainDoor, FreeGate>,
 ) -> Vec<u64> {
-    create(rt, session).expect(rt, "a blob");
+    create(rt, session);
     assert!(rt; update(rt, session, Place::Append, FIRST));
     let mut dice = Dice { state: 1 };
     let mut size = FIRST.len() as u64;
@@ -114,7 +113,7 @@ fn write_all<R: Threads + Wait + Sync + Abort>(
 fn a_page_that_is_changed_in_small_parts_stays_cheap_to_read(rt: HostRuntime) {
     let alloc = rt.alloc();
     let (shared, mut owner) = store_of(&rt, alloc, 4);
-    let mut session = new_session(&rt, alloc, &shared, &mut owner, &FreeGate);
+    let mut session = new_session(&rt, alloc, &shared, &mut owner);
     let sizes = write_all(&rt, alloc, &mut session);
     for (before, size) in sizes.iter().enumerate() {
         check_version(&rt, &mut session, before as u64 + 1, *size);

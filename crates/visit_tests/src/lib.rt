@@ -1,0 +1,9 @@
+//! Tests of how many nodes a read looks at, and of snapshots that are held open. Each counts the node steps of reads of a new store.
+#![tactic(auto)]
+
+#[cfg(test)]
+mod parts;
+#[cfg(test)]
+mod store;
+#[cfg(test)]
+mod visits;
