@@ -378,13 +378,17 @@ first_good : (fixed : Fixed) → IsGood (first_session fixed 1)
 unfolding AllEven
 first_good fixed = record { sound = record { legal = tt; in_order = none_in_order fixed.page fixed.limits; even = tt }; held = tt }
 
-either_few : (b : Bool) (item : Heard) (front items : List Heard) → length front ≤ length items → length (if b then item ∷ [] else item ∷ front) ≤ suc (length items)
-either_few true item front items more = omega arith
-either_few false item front items more = omega (arith, more)
+-- one item more at the front, and an end sooner
+item_few : (item : Heard) (xs ys : List Heard) → length xs ≤ length ys → length (item ∷ xs) ≤ length (item ∷ ys)
+item_few item xs ys few = omega (arith, few)
+
+sooner_few : (b : Bool) (xs ys : List Heard) → length xs ≤ length ys → length (if b then [] else xs) ≤ length ys
+sooner_few true xs ys few = omega arith
+sooner_few false xs ys few = few
 
 until_few : (items : List Heard) → length (until_quit items) ≤ length items
 until_few [] = omega arith
-until_few (item ∷ items) = let more = until_few items in either_few (is_last item) item (until_quit items) items more
+until_few (item ∷ items) = item_few item (if is_last item then [] else until_quit items) items (sooner_few (is_last item) (until_quit items) items (until_few items))
 
 -- what a run has seen in the end is legal and in order, and of each item it has seen two events more at most
 pub record RunsWell (s last : Session) (items : List Heard) : Type 0 where

@@ -1,7 +1,7 @@
 -- Each history has a world.
 use Rattle.std.proofs.Common.{◌≡◌, ◌≢◌, ℕ, ◌-◌, ◌<◌, ◌≤◌, ◌^◌, ◌⊎◌, zero, suc, true, false, List, []}
 use Rattle.std.proofs.Common.{◌∷◌, ◌++◌, length, take, drop, refl, sym, ap, subst, ◌∙◌, arith, inl, inr, append-nil, append_assoc, length-append}
-use Rattle.std.specs.Prelude.{Some, All}
+use Rattle.std.specs.Prelude.{Some}
 use Rattle.std.specs.List.{Contains}
 use Rattle.std.proofs.lemmas.Bool.{cases_lt}
 use Rattle.std.proofs.lemmas.List.{map-append, length-map, length-take-le, length-drop, take-append-drop}
@@ -40,7 +40,7 @@ use Rattle.version_manager.specs.Folds.{IsInOrder, AreInOrder}
 use Rattle.version_manager.specs.Log.{IsLog, events, tag, tagged}
 use Rattle.version_manager.proofs.Orders.{order_front}
 use Rattle.world_acts.specs.Worlds.{IsWorldOf, IsStep, StoresAgree, HasAllOf, WorldsOnlyGrow, HistoriesHaveWorlds}
-use Rattle.world_acts.specs.Together.{IsPutFor, IsTurnOf, IsActsOf, AreActs, in_turn, SessionsTogether}
+use Rattle.world_acts.specs.Together.{IsPutFor, ArePutsFor, IsTurnOf, IsActsOf, AreActs, in_turn, SessionsTogether}
 use Rattle.world_acts.proofs.Steps.{page_some, world_append, allowed_append, events_append, one_step, quiet_step, empty_is_a_world, worlds_are_reached}
 use Rattle.world_acts.proofs.Turns.{accepted, events_more}
 use Rattle.world_acts.proofs.Pages.{page_putting, numbers_go_on}
@@ -50,22 +50,22 @@ use Rattle.world_acts.proofs.Finishing.{numbered_by, finish_unfinished, numbered
 use Rattle.world_acts.proofs.Growing.{has_itself, has_further}
 
 -- ---- a world of the same history that has more, by steps of this kind
-record More (Put : Step → Type 0) (f : DeskFixed) (history : List (ℕ × Event)) (w : World) : Type 0 where
+record More (e : Event) (f : DeskFixed) (history : List (ℕ × Event)) (w : World) : Type 0 where
   to : World
   world : IsWorldOf f history to
   all : HasAllOf w to
   steps : List Step
-  each : All Put steps
+  each : ArePutsFor e steps
   allowed : AllAllowed f.page_size w steps
   is : to ≡ world_after f.page_size w steps
 
-abbrev none_more : (Put : Step → Type 0) (f : DeskFixed) (history : List (ℕ × Event)) (w : World) → IsWorldOf f history w → More Put f history w
-none_more Put f history w a = record { to = w; world = a; all = has_itself w; steps = []; each = tt; allowed = tt; is = refl }
+abbrev none_more : (e : Event) (f : DeskFixed) (history : List (ℕ × Event)) (w : World) → IsWorldOf f history w → More e f history w
+none_more e f history w a = record { to = w; world = a; all = has_itself w; steps = []; each = tt; allowed = tt; is = refl }
 
 -- one step that is no event, and then more
-abbrev step_more : WorldsOnlyGrow → (Put : Step → Type 0) (f : DeskFixed) (history : List (ℕ × Event)) (w : World) (step : Step) → Put step → IsWorldOf f history w → IsStep f w step history
-    → More Put f history (after f.page_size w step) → More Put f history w
-step_more grow Put f history w step put a one m = record {
+abbrev step_more : WorldsOnlyGrow → (e : Event) (f : DeskFixed) (history : List (ℕ × Event)) (w : World) (step : Step) → IsPutFor e step → IsWorldOf f history w → IsStep f w step history
+    → More e f history (after f.page_size w step) → More e f history w
+step_more grow e f history w step put a one m = record {
   to = m.to;
   world = m.world;
   all = has_further w (after f.page_size w step) m.to (grow f history w (step ∷ []) a (one.allowed, tt)) m.all;
@@ -75,18 +75,18 @@ step_more grow Put f history w step put a one m = record {
   is = m.is;
 }
 
-all_both : {A : Type 0} (P : A → Type 0) (xs ys : List A) → All P xs → All P ys → All P (xs ++ ys)
-all_both P [] ys a b = b
-all_both P (x ∷ xs) ys a b = (a.0, all_both P xs ys a.1 b)
+puts_both : (e : Event) (xs ys : List Step) → ArePutsFor e xs → ArePutsFor e ys → ArePutsFor e (xs ++ ys)
+puts_both e [] ys a b = b
+puts_both e (x ∷ xs) ys a b = (a.0, puts_both e xs ys a.1 b)
 
 -- more, and then more again
-abbrev both_more : (Put : Step → Type 0) (f : DeskFixed) (history : List (ℕ × Event)) (w : World) (m : More Put f history w) → More Put f history m.to → More Put f history w
-both_more Put f history w m n = record {
+abbrev both_more : (e : Event) (f : DeskFixed) (history : List (ℕ × Event)) (w : World) (m : More e f history w) → More e f history m.to → More e f history w
+both_more e f history w m n = record {
   to = n.to;
   world = n.world;
   all = has_further w m.to n.to m.all n.all;
   steps = m.steps ++ n.steps;
-  each = all_both Put m.steps n.steps m.each n.each;
+  each = puts_both e m.steps n.steps m.each n.each;
   allowed = allowed_append f.page_size w m.steps n.steps m.allowed (subst (λ (x : World). AllAllowed f.page_size x n.steps) m.is n.allowed);
   is = n.is ∙ ap (λ (x : World). world_after f.page_size x n.steps) m.is ∙ sym (world_append f.page_size w m.steps n.steps);
 }
@@ -101,7 +101,7 @@ put_tells_none (Events.Assign caller blob place bytes) w step (page, (part, is))
 put_tells_none (Events.Finish caller blob version) w step (inl (page, is)) = subst (λ (s : Step). events_of w s ≡ []) (sym is) refl
 put_tells_none (Events.Finish caller blob version) w step (inr (range, is)) = subst (λ (s : Step). events_of w s ≡ []) (sym is) refl
 
-puts_tell_none : (e : Event) (p : ℕ) (w : World) (steps : List Step) → All (IsPutFor e) steps → events_from p w steps ≡ []
+puts_tell_none : (e : Event) (p : ℕ) (w : World) (steps : List Step) → ArePutsFor e steps → events_from p w steps ≡ []
 puts_tell_none e p w [] all = refl
 puts_tell_none e p w (step ∷ steps) all =
     ap (λ (l : List Event). l ++ events_from p (after p w step) steps) (put_tells_none e w step all.0) ∙ puts_tell_none e p (after p w step) steps all.1
@@ -115,7 +115,7 @@ record Acted (f : DeskFixed) (now : List (ℕ × Event)) (w : World) (e : Event)
   world : IsWorldOf f now (world_after f.page_size w acts)
 
 -- puts, and then the turn
-acted : (f : DeskFixed) (history now : List (ℕ × Event)) (w : World) (e : Event) (turn : Step) (m : More (IsPutFor e) f history w) → IsTurnOf e turn → IsStep f m.to turn now
+acted : (f : DeskFixed) (history now : List (ℕ × Event)) (w : World) (e : Event) (turn : Step) (m : More e f history w) → IsTurnOf e turn → IsStep f m.to turn now
     → events_of m.to turn ≡ e ∷ [] → Acted f now w e
 acted f history now w e turn m of_event step tells =
     let p : ℕ = f.page_size in
@@ -134,8 +134,8 @@ acted f history now w e turn m of_event step tells =
     }
 
 -- ---- the pages of some bytes
-record Cutting (Put : Step → Type 0) (f : DeskFixed) (history : List (ℕ × Event)) (w : World) (bytes : List ℕ) : Type 0 where
-  more : More Put f history w
+record Cutting (e : Event) (f : DeskFixed) (history : List (ℕ × Event)) (w : World) (bytes : List ℕ) : Type 0 where
+  more : More e f history w
   numbers : List ℕ
   cut : AreCut f.page_size more.to.pages numbers
   joined : bytes_of_pages more.to.pages numbers ≡ bytes
@@ -150,8 +150,8 @@ first_or_rest : {A : Type 0} (x : A) (xs : List A) (y : A) → Contains (x ∷ x
 first_or_rest x xs y (zero, lt, e) = inl e
 first_or_rest x xs y (suc k, lt, e) = inr (k, omega (arith, lt), e)
 
-module _ (grow : WorldsOnlyGrow) (Put : Step → Type 0) (of_page : (page : ℕ) (bytes : List ℕ) → Put (Moves.PagePut page bytes)) (f : DeskFixed) (history : List (ℕ × Event)) where
-  cutting : (most : ℕ) (w : World) (bytes : List ℕ) → IsWorldOf f history w → 1 ≤ length bytes → length bytes ≤ most → Cutting Put f history w bytes
+module _ (grow : WorldsOnlyGrow) (e : Event) (of_page : (page : ℕ) (bytes : List ℕ) → IsPutFor e (Moves.PagePut page bytes)) (f : DeskFixed) (history : List (ℕ × Event)) where
+  cutting : (most : ℕ) (w : World) (bytes : List ℕ) → IsWorldOf f history w → 1 ≤ length bytes → length bytes ≤ most → Cutting e f history w bytes
   cutting zero w bytes a some few = absurd (omega (arith, some, few))
   cutting (suc most) w bytes a some few =
       let p : ℕ = f.page_size in
@@ -162,7 +162,7 @@ module _ (grow : WorldsOnlyGrow) (Put : Step → Type 0) (of_page : (page : ℕ)
             let v : World = after p w (Moves.PagePut n bytes) in
             let (one, is) = page_putting f history w n bytes a new some last in
             record {
-              more = step_more grow Put f history w (Moves.PagePut n bytes) (of_page n bytes) a one (none_more Put f history v one.leads);
+              more = step_more grow e f history w (Moves.PagePut n bytes) (of_page n bytes) a one (none_more e f history v one.leads);
               numbers = n ∷ [];
               cut = (bytes, is);
               joined = append-nil (bytes_of_page v.pages n) ∙ bytes_are v.pages n bytes is;
@@ -173,11 +173,11 @@ module _ (grow : WorldsOnlyGrow) (Put : Step → Type 0) (of_page : (page : ℕ)
             let v : World = after p w (Moves.PagePut n first) in
             let (one, put) = page_putting f history w n first a new (omega (arith, full, pos)) (omega (arith, full)) in
             let rest : length (drop p bytes) ≡ length bytes - p = length-drop p bytes in
-            let c : Cutting Put f history v (drop p bytes) = cutting most v (drop p bytes) one.leads (omega (arith, rest, more)) (omega (arith, rest, few, pos)) in
+            let c : Cutting e f history v (drop p bytes) = cutting most v (drop p bytes) one.leads (omega (arith, rest, more)) (omega (arith, rest, few, pos)) in
             let is : page_at c.more.to.pages n ≡ Some first = c.more.all.pages n first put in
             let own : bytes_of_page c.more.to.pages n ≡ first = bytes_are c.more.to.pages n first is in
             record {
-              more = step_more grow Put f history w (Moves.PagePut n first) (of_page n first) a one c.more;
+              more = step_more grow e f history w (Moves.PagePut n first) (of_page n first) a one c.more;
               numbers = n ∷ c.numbers;
               cut = cut_cons p c.more.to.pages n c.numbers (first, is) (ap length own ∙ full) c.cut;
               joined = ap (λ (l : List ℕ). l ++ bytes_of_pages c.more.to.pages c.numbers) own ∙ ap (λ (l : List ℕ). first ++ l) c.joined ∙ take-append-drop p bytes;
@@ -186,8 +186,8 @@ module _ (grow : WorldsOnlyGrow) (Put : Step → Type 0) (of_page : (page : ℕ)
 
 -- ---- the row of an update
 module _ (agree : StoresAgree) (hold : StepsHold) (reached : ReachedStays) (grow : WorldsOnlyGrow) (f : DeskFixed) (history : List (ℕ × Event)) (blob version : ℕ) (b : Blob)
-    (own : (w : World) → IsWorldOf f history w → IsNumberedIn w blob version b) (Put : Step → Type 0) (of_fold : (page : ℕ) → Put (Moves.FoldPut blob version page))
-    (of_node : (r : Range) → Put (Moves.NodePut (record { blob = blob; version = version; range = r }))) where
+    (own : (w : World) → IsWorldOf f history w → IsNumberedIn w blob version b) (e : Event) (of_fold : (page : ℕ) → IsPutFor e (Moves.FoldPut blob version page))
+    (of_node : (r : Range) → IsPutFor e (Moves.NodePut (record { blob = blob; version = version; range = r }))) where
   abbrev anew : List ℕ
   anew = folds_of f.page_size (extents b.updates) version
 
@@ -201,12 +201,12 @@ module _ (agree : StoresAgree) (hold : StepsHold) (reached : ReachedStays) (grow
   long w a = omega (arith, (own w a).upto, length-extents b.updates)
 
   record Folded (w : World) (pages : List ℕ) : Type 0 where
-    more : More Put f history w
+    more : More e f history w
     known : (page : ℕ) → Contains pages page → IsKnown (fold_at more.to.folded blob version page)
 
   -- the pages that it stores anew, once the version before it is published
   folding : (anew ≢ [] → version - 1 ≤ published b) → (pages : List ℕ) → ((page : ℕ) → Contains pages page → Contains anew page) → (w : World) → IsWorldOf f history w → Folded w pages
-  folding before [] all w a = record { more = none_more Put f history w a; known = λ page c. absurd (omega (arith, c.1)) }
+  folding before [] all w a = record { more = none_more e f history w a; known = λ page c. absurd (omega (arith, c.1)) }
   folding before (page ∷ pages) all w a =
       let p : ℕ = f.page_size in
       let one : Contains anew page = all page (0, omega arith, refl) in
@@ -220,18 +220,18 @@ module _ (agree : StoresAgree) (hold : StepsHold) (reached : ReachedStays) (grow
       let rest : Folded v pages = folding before pages (λ i c. all i (suc c.0, omega (arith, c.1), c.2)) v step.leads in
       let K : ℕ → Type 0 = λ i. IsKnown (fold_at rest.more.to.folded blob version i) in
       record {
-        more = step_more grow Put f history w (Moves.FoldPut blob version page) (of_fold page) a step rest.more;
+        more = step_more grow e f history w (Moves.FoldPut blob version page) (of_fold page) a step rest.more;
         known = λ i c. elim (first_or_rest page pages i c) [ inl here ↦ subst K here (bytes, rest.more.all.folded blob version page bytes is) | inr there ↦ rest.known i there ];
       }
 
   record Woven (w : World) (ranges : List Range) : Type 0 where
-    more : More Put f history w
+    more : More e f history w
     known : (r : Range) → Contains ranges r → IsKnown (node_at more.to.nodes (record { blob = blob; version = version; range = r }))
 
   -- the nodes of its row, where the pages are there that it stores anew
   weaving : (ranges : List Range) → ((r : Range) → Contains ranges r → HasNode f.page_size (log_of f.page_size b.updates) version r) → (w : World) → IsWorldOf f history w
       → ((page : ℕ) → Contains anew page → IsKnown (fold_at w.folded blob version page)) → Woven w ranges
-  weaving [] all w a folds = record { more = none_more Put f history w a; known = λ r c. absurd (omega (arith, c.1)) }
+  weaving [] all w a folds = record { more = none_more e f history w a; known = λ r c. absurd (omega (arith, c.1)) }
   weaving (r ∷ ranges) all w a folds =
       let p : ℕ = f.page_size in
       let pos : 1 ≤ p = page_some p a.page_size in
@@ -253,7 +253,7 @@ module _ (agree : StoresAgree) (hold : StepsHold) (reached : ReachedStays) (grow
       (λ page c. (let (bytes, e) = folds page c in (bytes, kept.folded blob version page bytes e))) in
       let K : Range → Type 0 = λ q. IsKnown (node_at rest.more.to.nodes (record { blob = blob; version = version; range = q })) in
       record {
-        more = step_more grow Put f history w (Moves.NodePut key) (of_node r) a step rest.more;
+        more = step_more grow e f history w (Moves.NodePut key) (of_node r) a step rest.more;
         known = λ q c. elim (first_or_rest r ranges q c) [ inl here ↦ subst K here (n, rest.more.all.nodes key n is) | inr there' ↦ rest.known q there' ];
       }
 
@@ -278,13 +278,13 @@ module _ (agree : StoresAgree) (hold : StepsHold) (reached : ReachedStays) (grow
       omega (arith, order (subst F (sym (ap updates_or_none there)) some), ap published_or_none there) in
       let of_fold : (page : ℕ) → IsPutFor e (Moves.FoldPut blob version page) = λ page. inl (page, refl) in
       let of_node : (r : Range) → IsPutFor e (Moves.NodePut (record { blob = blob; version = version; range = r })) = λ r. inr (r, refl) in
-      let folds = folding agree hold reached grow f history blob version b own (IsPutFor e) of_fold of_node before (folds_of p (extents b.updates) version) (λ page c. c) w a in
+      let folds = folding agree hold reached grow f history blob version b own e of_fold of_node before (folds_of p (extents b.updates) version) (λ page c. c) w a in
       let u : World = folds.more.to in
       let x : IsWorldOf f history u = folds.more.world in
       let bounds : InBounds (extents b.updates) = (extents_stand b.updates ((reached p u (worlds_are_reached f history u x)).blobs blob b (one_store u x)).replay).0 in
       let long : version ≤ length (extents b.updates) = omega (arith, range.1, length-extents b.updates) in
       let keys : List Range = row_keys_of p (log_of p b.updates) version in
-      let rows = weaving agree hold reached grow f history blob version b own (IsPutFor e) of_fold of_node keys
+      let rows = weaving agree hold reached grow f history blob version b own e of_fold of_node keys
       (λ r c. (row_keys_exact p version (extents b.updates) r (page_some p a.page_size) bounds range.0 long).0 c) u x folds.known in
       let v : World = rows.more.to in
       let y : IsWorldOf f history v = rows.more.world in
@@ -293,7 +293,7 @@ module _ (agree : StoresAgree) (hold : StepsHold) (reached : ReachedStays) (grow
       one_step f history now v (Moves.Finish caller blob version) y
       (subst T (agree f history w a ∙ sym (agree f history v y)) ok.accepted, (b, own v y, rows.known)) log
       (ap events added ∙ events_more history e) in
-      acted f history now w e (Moves.Finish caller blob version) (both_more (IsPutFor e) f history w folds.more rows.more) refl step refl
+      acted f history now w e (Moves.Finish caller blob version) (both_more e f history w folds.more rows.more) refl step refl
 
   -- a numbering
   assign_more : (caller blob : ℕ) (place : Place) (bytes : List ℕ) → now ≡ history ++ tag (Events.Assign caller blob place bytes) ∷ [] → Acted f now w (Events.Assign caller blob place bytes)
@@ -301,7 +301,7 @@ module _ (agree : StoresAgree) (hold : StepsHold) (reached : ReachedStays) (grow
       let p : ℕ = f.page_size in
       let e : Event = Events.Assign caller blob place bytes in
       let ok : IsAccepted w.store e = accepted agree f history now w e a log added in
-      let c : Cutting (IsPutFor e) f history w bytes = cutting grow (IsPutFor e) (λ page part. (page, (part, refl))) f history (length bytes) w bytes a ok.may (omega arith) in
+      let c : Cutting e f history w bytes = cutting grow e (λ page part. (page, (part, refl))) f history (length bytes) w bytes a ok.may (omega arith) in
       let v : World = c.more.to in
       let y : IsWorldOf f history v = c.more.world in
       let T : Store → List ℕ → Type 0 = λ s l. is_refused (answer s caller (Calls.Assign blob place l)).1 ≡ false in
@@ -317,13 +317,13 @@ module _ (agree : StoresAgree) (hold : StepsHold) (reached : ReachedStays) (grow
   event_more (Events.Create caller) added =
       let step = one_step f history now w (Moves.Create caller) a (accepted agree f history now w (Events.Create caller) a log added).accepted log
       (ap events added ∙ events_more history (Events.Create caller)) in
-      acted f history now w (Events.Create caller) (Moves.Create caller) (none_more (IsPutFor (Events.Create caller)) f history w a) refl step refl
+      acted f history now w (Events.Create caller) (Moves.Create caller) (none_more (Events.Create caller) f history w a) refl step refl
   event_more (Events.Assign caller blob place bytes) added = assign_more caller blob place bytes added
   event_more (Events.Finish caller blob version) added = finish_more caller blob version added
   event_more (Events.Branch caller blob version) added =
       let step = one_step f history now w (Moves.Branch caller blob version) a (accepted agree f history now w (Events.Branch caller blob version) a log added).accepted log
       (ap events added ∙ events_more history (Events.Branch caller blob version)) in
-      acted f history now w (Events.Branch caller blob version) (Moves.Branch caller blob version) (none_more (IsPutFor (Events.Branch caller blob version)) f history w a) refl step refl
+      acted f history now w (Events.Branch caller blob version) (Moves.Branch caller blob version) (none_more (Events.Branch caller blob version) f history w a) refl step refl
 
 -- ---- all events
 events_tagged : (es : List Event) → events (tagged es) ≡ es

@@ -1,5 +1,5 @@
 -- How sessions come together: the acts by which each event comes about, one event after another.
-use Rattle.std.specs.Prelude.{◌≡◌, ◌⊎◌, ⊥, ℕ, List, [], ◌∷◌, ◌++◌, All, flat_map}
+use Rattle.std.specs.Prelude.{◌≡◌, ◌⊎◌, ℕ, List, [], ◌∷◌, ◌++◌, flat_map}
 use Rattle.blob_model.specs.Limits.{Bounds, IsWithin}
 use Rattle.blob_model.specs.declared.call.Event.{Event}
 use Rattle.blob_model.specs.declared.call.Event.TheVariants as Events
@@ -26,10 +26,15 @@ IsTurnOf (Events.Assign caller blob place bytes) step = (pages : List ℕ) × (s
 IsTurnOf (Events.Finish caller blob version) step = step ≡ Moves.Finish caller blob version
 IsTurnOf (Events.Branch caller blob version) step = step ≡ Moves.Branch caller blob version
 
+-- each of these steps is such a put
+abbrev pub ArePutsFor : Event → List Step → Type 0
+ArePutsFor e [] = Unit {0}
+ArePutsFor e (step ∷ steps) = IsPutFor e step × ArePutsFor e steps
+
 -- what the session does that makes the event: puts, and then its turn
 pub record IsActsOf (e : Event) (acts : List Step) : Type 0 where
   pub puts : List Step
-  pub each : All (IsPutFor e) puts
+  pub each : ArePutsFor e puts
   pub turn : Step
   pub is_turn : IsTurnOf e turn
   pub are : acts ≡ puts ++ turn ∷ []
