@@ -364,7 +364,7 @@ in_order_then s front blob version numbered ready = λ folds.
     let was = some_numbered (blob_at (store_at s front) blob) version numbered in
     let of_blob : folds_of s.fixed.page (extents was.0.updates) version ≢ [] = subst (λ (o : Option Blob). folds_of s.fixed.page (extents (updates_or_none o)) version ≢ []) was.1 folds in
     let anew : Folds s front blob version =
-        subst (λ (o : Option Blob). (let l : List ℕ = elim o [ None ↦ [] | Some b ↦ folds_of s.fixed.page (extents b.updates) version ] in l) ≢ []) (sym was.1) of_blob
+    subst (λ (o : Option Blob). (let l : List ℕ = elim o [ None ↦ [] | Some b ↦ folds_of s.fixed.page (extents b.updates) version ] in l) ≢ []) (sym was.1) of_blob
     in
     let before = synced (store_at s front) s.caller blob (version - 1) was.0 was.1 (ready anew) in
     subst (λ (o : Option Blob). version ≤ published_or_none o + 1) (sym was.1) (omega (arith, before))

@@ -34,7 +34,11 @@ const ANEW: Node = Node::Leaf {
 };
 
 const LAST: Case = Case {
-    steps: &[Act::Fold(1, 17, 0), Act::Put(1, 17, 0, 4), Act::Finish(1, 17)],
+    steps: &[
+        Act::Fold(1, 17, 0),
+        Act::Put(1, 17, 0, 4),
+        Act::Finish(1, 17),
+    ],
     published: &[(1, Some(17))],
     looks: &[
         (1, 17, 0, 2, Some(&[0xff, 0])),
@@ -52,7 +56,9 @@ fn before_last<R: Abort + AllocGlobal>(rt: &R) -> Vec<Act> {
         acts.push(write).ok().expect(rt, "memory");
     }
     for version in 1..WRITES.saturating_add(1) {
-        acts.push(Act::Put(1, version, 0, 4)).ok().expect(rt, "memory");
+        acts.push(Act::Put(1, version, 0, 4))
+            .ok()
+            .expect(rt, "memory");
         acts.push(Act::Finish(1, version)).ok().expect(rt, "memory");
     }
     acts
