@@ -18,7 +18,6 @@ use Rattle.blobseer_run.specs.Node.{frames}
 use Rattle.blobseer_run.specs.Filing.{lines}
 use Rattle.blobseer_run.specs.Hosting.{Hosted, served_line}
 use Rattle.blobseer_run.specs.Writing.{WritesLine}
-use Rattle.blob_model.specs.declared.call.Event.{Event}
 use Rattle.blobseer_run.specs.Measuring.{Measured}
 use Rattle.blobseer_run.specs.Loading as loading
 use Rattle.blobseer_run.specs.Watching as watching
@@ -53,8 +52,8 @@ module _ (old new : Outside) (status : ℕ) where
   hosted_own address connections text (Hosted.unserved e listens failed is) = own status listener_fault e (λ f. cc, λ f. cc)
   hosted_own address connections text (Hosted.starved e listens none is) = own status out_of_memory e (λ f. cc, λ f. cc)
 
-  measured_own : {Came : List Event → Type 0} (lines text : List ℕ) → Measured Came lines text old.doors new.doors old.writes new.writes status → IsOwn status
-  measured_own lines text (Measured.whole line history came) = line_own lines text line
+  measured_own : (lines text : List ℕ) → Measured lines text old.doors new.doors old.writes new.writes status → IsOwn status
+  measured_own lines text (Measured.whole line) = line_own lines text line
   measured_own lines text (Measured.early e rose is) = own status load_ended_early e (λ f. cc, λ f. cc)
   measured_own lines text (Measured.starved e is) = own status out_of_memory e (λ f. cc, λ f. cc)
 
@@ -93,8 +92,8 @@ module _ (old new : Outside) (status : ℕ) where
     hosted_complete address connections text peers (Hosted.unserved e listens failed is) = absurd (peers failed.failed)
     hosted_complete address connections text peers (Hosted.starved e listens none is) = IsComplete.starved e
 
-    measured_complete : {Came : List Event → Type 0} (lines text : List ℕ) (command : Command) → AsksFor words command → measures command ≡ true → Measured Came lines text old.doors new.doors old.writes new.writes status → Complete
-    measured_complete lines text command asks is (Measured.whole line history came) = line_complete lines text line
+    measured_complete : (lines text : List ℕ) (command : Command) → AsksFor words command → measures command ≡ true → Measured lines text old.doors new.doors old.writes new.writes status → Complete
+    measured_complete lines text command asks is (Measured.whole line) = line_complete lines text line
     measured_complete lines text command asks is (Measured.early e rose none) = IsComplete.early e command asks is rose
     measured_complete lines text command asks is (Measured.starved e none) = IsComplete.starved e
 

@@ -21,10 +21,10 @@ use Rattle.blobseer_run.specs.Status.{done, words_refused, settings_refused, out
 abbrev pub Did : Command → SettingsValues → Type 0 → Outside → Outside → ℕ → Type 0
 Did Commands.Run settings calm old new status = DidRun (fixed_of settings) calm old new status
 Did Commands.Serve settings calm old new status = DidServe settings.listen settings.connections old new status
-Did Commands.Load settings calm old new status = loading.DidLoad settings.page (loading.plan_of settings) old new status
+Did Commands.Load settings calm old new status = loading.DidLoad (loading.plan_of settings) old new status
 Did Commands.Node settings calm old new status = DidNode settings.page old new status
 Did Commands.Files settings calm old new status = DidFiles (fixed_of settings) settings.providers calm old new status
-Did Commands.Watch settings calm old new status = watching.DidWatch settings.page (watching.plan_of settings) old new status
+Did Commands.Watch settings calm old new status = watching.DidWatch (watching.plan_of settings) old new status
 
 -- the command answers what comes in
 abbrev pub answers_input : Command → Bool
