@@ -1,4 +1,5 @@
 //! Peers in memory, and the program that serves them.
+ghost use Rattle.std.specs.Prelude.{◌≡◌, true};
 
 use blobseer_run::run;
 use page_store::PlainMaker;
@@ -7,6 +8,7 @@ use ports::mem_files::MemFiles;
 use ports::mem_listener::MemListener;
 use ports::memory::{MemSink, MemSource};
 use ports::pair::Pair;
+use ports::stream::{Sink, Source};
 use std::alloc::Global;
 use std::collections::BTreeMap;
 use std::process::Abort;
@@ -40,8 +42,25 @@ impl Line {
     }
 }
 
-/// A listener at this address, to which peers come that borrow these ends, through which nothing went yet. The accept of that
-/// number fails, from 1; 0 is none.
+// A listener that fails as it is told, to which peers come that borrow these ends, through which nothing went yet.
+fn failing_listener<'a, R: Abort>(
+    rt: &R,
+    alloc: Global,
+    address: &str,
+    lines: &'a mut [Line],
+    failing: Vec<bool>,
+) -> MemListener<Pair<'a, MemSource, MemSink>> {
+    let address = String::from_str(alloc, address).expect(rt, "memory");
+    let mut listener = MemListener::new(alloc, address, failing);
+    for Line { source, sink } in lines.iter_mut() {
+        assert!(rt; source.given().is_empty());
+        assert!(rt; sink.bytes().is_empty());
+        listener.add(Pair { source, sink }).expect(rt, "memory");
+    }
+    listener
+}
+
+/// A listener at this address, to which peers come that borrow these ends. The accept of that number fails, from 1; 0 is none.
 pub(crate) fn listener_of<'a, R: Abort>(
     rt: &R,
     alloc: Global,
@@ -53,13 +72,7 @@ pub(crate) fn listener_of<'a, R: Abort>(
     for before in 0..failing {
         plan.push(before + 1 == failing).expect(rt, "memory");
     }
-    let address = String::from_str(alloc, address).expect(rt, "memory");
-    let mut listener = MemListener::new(alloc, address, plan);
-    for Line { source, sink } in lines.iter_mut() {
-        assert!(rt; source.given().is_empty() && sink.bytes().is_empty());
-        listener.add(Pair { source, sink }).expect(rt, "memory");
-    }
-    listener
+    failing_listener(rt, alloc, address, lines, plan)
 }
 
 /// What the program wrote, and how it ended.
