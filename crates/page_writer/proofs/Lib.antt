@@ -1,2 +1,3 @@
 pub mod OnePage
 pub mod Placements
+pub mod WherePut

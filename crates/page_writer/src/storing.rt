@@ -7,6 +7,7 @@ ghost use Rattle.page_fan.specs.Counts.{NoneFell};
 ghost use Rattle.page_fan.specs.Fault.{OnLostPage, OnPageFault};
 ghost use Rattle.page_store.specs.Page.{IsAmong};
 ghost use Rattle.page_writer.specs.Lost.{IsFirstLost, NoneTook};
+ghost use Rattle.page_writer.specs.Put.{ArePut, IsPut};
 
 use page_fan::{BesideDoor, Doors, StoreFault, store};
 use page_store::{Houses, Pages, StoredPage};
@@ -41,6 +42,7 @@ pub fn store_bytes<D: BesideDoor, R: Threads + Wait + Sync>(
     ensures page_size { IfOk result (λ pages. (arc_value pages).page_size ≡ p) }
     ensures cut { IfOk result (λ pages. IsCut p (arc_value pages).pages) }
     ensures here { IfOk result (λ pages. LieAmong houses.now (arc_value pages).pages) }
+    ensures put { IfOk result (λ pages. ArePut D.called D.faults loads.now.providers loads.now.replicas doors.old doors.new (arc_value pages).pages) }
     ensures first_lost { IfErr result (λ fault. OnLostPage fault
         (IsFirstLost houses.now p bytes.now loads.now.providers loads.now.replicas (map D.faults doors.old) (map D.faults doors.new))) }
     ensures page { IfErr result (λ fault. OnPageFault fault (λ i. p * i < length bytes.now)) }
@@ -76,6 +78,7 @@ fn store_pages<D: BesideDoor, R: Threads + Wait + Sync>(
     ensures page_size { IfOk result (λ pages. pages.page_size ≡ p) }
     ensures cut { IfOk result (λ pages. IsCut p pages.pages) }
     ensures here { IfOk result (λ pages. LieAmong houses.now pages.pages) }
+    ensures put { IfOk result (λ pages. ArePut D.called D.faults loads.now.providers loads.now.replicas doors.old doors.new pages.pages) }
     ensures first_lost { IfErr result (λ fault. OnLostPage fault
         (IsFirstLost houses.now p bytes.now loads.now.providers loads.now.replicas (map D.faults doors.old) (map D.faults doors.new))) }
     ensures page { IfErr result (λ fault. OnPageFault fault (λ i. p * i < length bytes.now)) }
@@ -108,6 +111,7 @@ pub fn store_page<D: BesideDoor, R: Threads + Wait + Sync>(
     requires housed { length doors.old ≤ length houses.now }
     ensures bytes { IfOk result (λ page. page.bytes ≡ bytes.now) }
     ensures here { IfOk result (λ page. All (IsAmong houses.now) page.spots) }
+    ensures put { IfOk result (λ page. IsPut D.called D.faults loads.now.providers loads.now.replicas doors.old doors.new page) }
     ensures failed { IfErr result (λ fault. OnPageFault fault (λ _.
         NoneTook loads.now.providers loads.now.replicas (map D.faults doors.old) (map D.faults doors.new))) }
     ensures counted { IfErr result (λ fault. OnPageFault fault (λ _. HasRisen (sum_by D.faults doors.old) (sum_by D.faults doors.new))) }

@@ -5,5 +5,6 @@ pub mod Storing
 pub mod Anew
 pub mod Filled
 pub mod Lost
+pub mod Putting
 pub mod StoredParts
 pub mod WovenRows

@@ -1,5 +1,5 @@
 -- The pages of the blob that a numbered update stores anew, and why one is not stored.
-use Rattle.std.specs.Prelude.{◌≡◌, ◌≢◌, ℕ, ◌+◌, ◌*◌, ◌<◌, ◌≤◌, List, [], All, length, max, take, drop, Some, slice_get}
+use Rattle.std.specs.Prelude.{◌≡◌, ◌≢◌, ℕ, ◌+◌, ◌*◌, ◌<◌, ◌≤◌, List, [], length, max, take, drop, Some, slice_get}
 use Rattle.std.specs.List.{Contains}
 use Rattle.blob_model.specs.Content.{put}
 use Rattle.range_log.specs.Extents.{Extent}

@@ -2,3 +2,4 @@ pub mod Planned
 pub mod Laws
 pub mod Anew
 pub mod Woven
+pub mod Put

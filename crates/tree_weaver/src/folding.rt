@@ -4,12 +4,14 @@ ghost use Rattle.std.specs.List.{cons_option};
 ghost use Rattle.page_store.specs.Count.{HasRisen};
 ghost use Rattle.page_store.specs.Page.{IsAmong};
 ghost use Rattle.page_store.specs.Stored.{LieAmong, bytes_of_pages};
+ghost use Rattle.page_fan.specs.Counts.{NoneFell};
 ghost use Rattle.range_log.specs.Rows.{leaf_start, leaf_from, leaf_len, valid_in};
 ghost use Rattle.snapshot.specs.Versions.{size_now, IsVersionIn};
 ghost use Rattle.range_reader.specs.Faults.{CountsKept, PageFailed};
 ghost use Rattle.range_reader.specs.Reading.{bytes_at};
 ghost use Rattle.tree_weaver.specs.Planned.{own_extent};
 ghost use Rattle.tree_weaver.specs.Anew.{IsStoredAnew, KnowsBefore, IsChanged, OwnLost, OwnFailed, FoldFailed, OnLostFold, bytes_anew};
+ghost use Rattle.tree_weaver.specs.Put.{WasPut};
 
 use border_hints::Ticket;
 use node_store::{Folds, NoMemory, NodeHouse};
@@ -71,6 +73,7 @@ pub(crate) fn fold_pages<D: BesideDoor, R: Threads + Wait + Sync>(
     requires true_doors { All D.is_true doors.old }
     ensures bytes { IfOk result (λ folds. map (λ s. s.bytes) folds ≡ map (bytes_anew ticket.now) (cons_option first (cons_option last []))) }
     ensures lie { IfOk result (LieAmong houses.now) }
+    ensures put { IfOk result (All (WasPut D.called D.faults loads.now.providers loads.now.replicas doors.old doors.new)) }
     ensures page { IfErr result (λ fault. OnLostFold fault (IsStoredAnew ticket.now)) }
     ensures failed { IfErr result (λ fault. OnLostFold fault
         (FoldFailed ticket.now loads.now.providers loads.now.replicas (map D.faults doors.old) (map D.faults doors.new))) }
@@ -121,6 +124,9 @@ fn add_fold<D: BesideDoor, R: Threads + Wait + Sync>(
     requires lie { LieAmong houses.now folds.old }
     ensures bytes { IfOk result (λ _. map (λ s. s.bytes) folds.new ≡ map (λ s. s.bytes) folds.old ++ map (bytes_anew ticket.now) (cons_option page [])) }
     ensures lie { IfOk result (λ _. LieAmong houses.now folds.new) }
+    ensures put { IfOk result (λ _. (first : List D) → NoneFell (map D.faults first) (map D.faults doors.old)
+        → All (WasPut D.called D.faults loads.now.providers loads.now.replicas first doors.old) folds.old
+        → All (WasPut D.called D.faults loads.now.providers loads.now.replicas first doors.new) folds.new) }
     ensures few { IfOk result (λ _. length folds.new ≤ length folds.old + 1) }
     ensures page { IfErr result (λ fault. OnLostFold fault (IsStoredAnew ticket.now)) }
     ensures failed { IfErr result (λ fault. OnLostFold fault
@@ -166,6 +172,7 @@ fn fold_page<D: BesideDoor, R: Threads + Wait + Sync>(
     requires true_doors { All D.is_true doors.old }
     ensures bytes { IfOk result (λ stored. stored.bytes ≡ bytes_anew ticket.now page) }
     ensures lies { IfOk result (λ stored. All (IsAmong houses.now) stored.spots) }
+    ensures put { IfOk result (WasPut D.called D.faults loads.now.providers loads.now.replicas doors.old doors.new) }
     ensures page { IfErr result (λ fault. OnLostFold fault (λ i. i ≡ page)) }
     ensures failed { IfErr result (λ fault. OnLostFold fault
         (FoldFailed ticket.now loads.now.providers loads.now.replicas (map D.faults doors.old) (map D.faults doors.new))) }

@@ -12,6 +12,7 @@ ghost use Rattle.page_fan.specs.Counts.{NoneFell};
 ghost use Rattle.tree_weaver.specs.Planned.{ranges_of, own_ranges};
 ghost use Rattle.tree_weaver.specs.Anew.{StoresNoneAnew, StoresSomeAnew, IsStoredAnew, KnowsBefore, FoldFailed, OnLostFold};
 ghost use Rattle.tree_weaver.specs.Woven.{IsWoven, BytesAnewStand};
+ghost use Rattle.tree_weaver.specs.Put.{WasPut};
 
 use crate::folding::{WeaveFault, fold_pages};
 use crate::planning::{PlannedRow, plan};
@@ -90,6 +91,7 @@ pub fn weave_anew<D: BesideDoor, R: Threads + Wait + Sync>(
 
     // Where all is well.
     ensures woven { IfOk result (λ row. IsWoven nodes.now houses.now ticket.now (arc_value row)) }
+    ensures put { IfOk result (λ row. All (WasPut D.called D.faults loads.now.providers loads.now.replicas doors.old doors.new) (arc_value row).folds) }
 
     // Why a page fault is answered.
     ensures page { IfErr result (λ fault. OnLostFold fault (IsStoredAnew ticket.now)) }

@@ -3,6 +3,7 @@ use Rattle.std.specs.Prelude.{All}
 use Rattle.page_store.specs.Page.{IsAmong}
 use Rattle.page_store.specs.Stored.{Stored}
 use Rattle.page_writer.proofs.OnePage.{one_page, only_one, none_took}
+use Rattle.page_writer.proofs.WherePut.{is_put}
 use Rattle.page_writer.proofs.storing.store_page.Goals as goal
 
 pub into_page-requires : goal.into_page-requires
@@ -18,3 +19,8 @@ returns-in-Ok-clause-here g c =
 pub returns-in-Err-clause-failed : goal.returns-in-Err-clause-failed
 returns-in-Err-clause-failed g c =
     none_took c.in-Err.fault _ _ _ _ _ _ _ c.in-Err.ensures.first_lost
+
+pub returns-in-Ok-clause-put : goal.returns-in-Ok-clause-put
+returns-in-Ok-clause-put g c =
+    is_put g.D.Door.called g.D.Door.faults c.args.loads.now.providers c.args.loads.now.replicas c.args.doors.now c.store_pages.new.doors c.into_page.result c.in-Ok.pages.pages c.into_page.ensures.this
+    c.in-Ok.ensures.put

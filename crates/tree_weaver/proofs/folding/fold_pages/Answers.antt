@@ -1,4 +1,4 @@
-use Rattle.std.proofs.Common.{[], map, ◌∙◌}
+use Rattle.std.proofs.Common.{[], length, map, arith, ap, refl, ◌∙◌}
 use Rattle.std.specs.List.{cons_option}
 use Rattle.range_reader.proofs.Counting.{kept_twice, risen_since}
 use Rattle.tree_weaver.specs.Anew.{IsStoredAnew, FoldFailed}
@@ -48,3 +48,9 @@ pub returns-in-Ok-add_fold-clause-untouched : goal.returns-in-Ok-add_fold-clause
 returns-in-Ok-add_fold-clause-untouched g c = λ none.
     none_first _ c.args.last [] (none_rest c.args.first (cons_option c.args.last []) none) c.add_fold-2.ensures.untouched
     ∙ none_first _ c.args.first (cons_option c.args.last []) none c.add_fold.ensures.untouched
+
+pub returns-in-Ok-add_fold-clause-put : goal.returns-in-Ok-add_fold-clause-put
+returns-in-Ok-add_fold-clause-put g c =
+    let old = c.args.doors.now in
+    c.in-Ok-add_fold.ensures.put old c.add_fold.ensures.kept.none_fell
+    (c.in-Ok.ensures.put old (record { same = refl; rises = λ i. omega arith }) (λ k d lt. absurd (omega (arith, lt, ap length c.none-folds.ensures))))
