@@ -2,3 +2,4 @@ pub mod Finding
 pub mod HeldRows
 pub mod ToldRanges
 pub mod JoinedRanges
+pub mod KeptPlaces
