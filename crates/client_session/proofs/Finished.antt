@@ -19,7 +19,7 @@ use Rattle.page_store.specs.Count.{HasRisen}
 use Rattle.tree_weaver.specs.Anew.{IsStoredAnew, OnLostFold}
 use Rattle.tree_weaver.specs.declared.folding.WeaveFault.{WeaveFault}
 use Rattle.tree_weaver.specs.declared.folding.WeaveFault.TheVariants as WeaveFaults
-use Rattle.version_manager.specs.Desks.{IsTicketOf, updates_in, updates_or_none, published_or_none, finished_or_not, OnRefused, store_now, ticket_refusal}
+use Rattle.version_manager.specs.Desks.{IsTicketOf, updates_in, updates_or_none, published_or_none, finished_or_not, OnRefused, OnNoMemory, store_now, ticket_refusal}
 use Rattle.turn_lock.specs.Shown.{PassView, Turned}
 use Rattle.version_manager.specs.Folds.{IsInOrder}
 use Rattle.version_manager.specs.Laws.{GapsAreOfOthers}
@@ -37,6 +37,7 @@ use Rattle.request_form.specs.declared.form.Fault.{Fault}
 use Rattle.request_form.specs.declared.form.Fault.TheVariants as Faults
 use Rattle.client_session.specs.Results.{desk_fault, weave_fault, repair_reply}
 use Rattle.client_session.specs.Finishing.{bare, Finishing, LookedFresh, NotWoven}
+use Rattle.client_session.specs.Memory.{IsLeft}
 use Rattle.client_session.specs.Sessions.{Went}
 use Rattle.client_session.proofs.Answering.{sees-nothing}
 use Rattle.client_session.proofs.Folding.{folds_of_ticket, folds_there, folds_told}
@@ -119,10 +120,6 @@ module _ (f : DeskFixed) (caller : ℕ) (log log' : List (ℕ × Event)) (t : Nu
       → Took caller log log' (λ before after. Changed f (Calls.Finish t.blob t.version) (Events.Finish caller t.blob t.version) (λ (n : ℕ). Outcomes.Published n) fault before caller (Err e) after)
       → Finishing f caller log t.blob t.version (Err (desk_fault (fault e))) log'
   report_not_done fault e took = not_reported took.gap (fault e) took.others took.gives.same took.gives.refused
-
--- no memory was found, and nothing was done
-pub starved : (f : DeskFixed) (caller : ℕ) (log : List (ℕ × Event)) (blob version : ℕ) → Finishing f caller log blob version (Err Faults.NoMemory) log
-starved f caller log blob version = record { others = []; is_gap = tt; turn = _; may = RepairTurn.finish _ FinishTurn.out_of_memory; said = refl; seen = sees-nothing (bare f caller log) }
 
 -- what the session says of the desk's answer to a finish
 abbrev pub report_said : {R : Type 0} → Result ℕ (DeskFault × R) → Result ℕ Fault
@@ -278,6 +275,14 @@ module _ (f : DeskFixed) (caller : ℕ) (log : List (ℕ × Event)) (blob versio
       }
 
 -- ---- a look for a fresh ticket
+-- a look that found no memory
+left_looked : (f : DeskFixed) (caller : ℕ) (log log' gap : List (ℕ × Event)) (blob version : ℕ) (why : DeskFault) → log' ≡ log ++ gap
+    → OnNoMemory why (ticket_refusal (desk_at f (log ++ gap)) blob version ≡ None) → OnNoMemory why (IsLeft (bare f caller log') blob version)
+left_looked f caller log log' gap blob version (DeskFaults.Refused refusal) same e = tt
+left_looked f caller log log' gap blob version DeskFaults.NoMemory same e =
+    ap (λ (h : List Event). repair_refusal (store_of f.limits h) blob version) (append-nil (events log'))
+    ∙ (ap (λ (h : List (ℕ × Event)). ticket_refusal (desk_at f h) blob version) same ∙ e)
+
 module _ (f : DeskFixed) (caller : ℕ) (log log' : List (ℕ × Event)) (blob version : ℕ) where
   pub went_fresh : (said : Result NumberedUpdate DeskFault) → Took caller log log' (λ before after. Reissued f blob version before said after) → Went f log log'
   went_fresh said t = record { begins = (t.gap, t.gives.same); log_is = subst (IsLog f) (sym t.gives.same) t.gives.log }
@@ -292,6 +297,7 @@ module _ (f : DeskFixed) (caller : ℕ) (log log' : List (ℕ × Event)) (blob v
         ticket = w;
         here = waiting_ticket_here f log' blob version t well w;
         refused = tt;
+        memory = tt;
       }
 
   pub fresh_missed : (why : DeskFault) → Took caller log log' (λ before after. Reissued f blob version before (Err why) after) → LookedFresh f caller log blob version (Err why) log'
@@ -302,6 +308,7 @@ module _ (f : DeskFixed) (caller : ℕ) (log log' : List (ℕ × Event)) (blob v
     ticket = tt;
     here = tt;
     refused = subst (λ (l : List (ℕ × Event)). OnRefused why (λ refusal. ticket_refusal (desk_at f l) blob version ≡ Some refusal)) (sym took.gives.same) took.gives.refused;
+    memory = left_looked f caller log log' took.gap blob version why took.gives.same took.gives.memory;
   }
 
 pub took_fresh : GapsAreOfOthers → (f : DeskFixed) (v w : PassView Event DeskFixed) (blob version : ℕ) (said : Result NumberedUpdate DeskFault) → v.fixed ≡ Some f

@@ -20,3 +20,5 @@ pub mod ManyRanges
 pub mod Losses
 pub mod Untouched
 pub mod TurnCounts
+pub mod Memory
+pub mod Kept

@@ -26,7 +26,7 @@ use Rattle.session_parts.specs.declared.reading.RangeFault.TheVariants as RangeF
 use Rattle.client_session.specs.Results.{store_fault, weave_fault, range_of, repair_reply}
 use Rattle.client_session.specs.Losses.{IfPageLost, LostFirst, LostInRead, LostInRanges, LostAnew, LostOfHeld}
 use Rattle.client_session.specs.Finishing.{NotWoven, settles}
-use Rattle.client_session.specs.Opening.{Opening}
+use Rattle.client_session.specs.Kept.{Found}
 use Rattle.client_session.specs.Sessions.{SessionState, StoreState}
 
 -- ---- a fault that names a page
@@ -60,7 +60,7 @@ range_lost (Err (RangeFaults.RangePastSize end size)) P lost = λ page is. let n
 range_lost (Err (RangeFaults.PageFault at)) P lost = λ page is. subst P (other_page at page is) lost
 range_lost (Err RangeFaults.NoMemory) P lost = λ page is. let never : ⊥ = cc in absurd never
 
-module _ {D : Type 0} (faults : D → ℕ) (s m s' : SessionState D) (blob version : ℕ) (v : Version) (o : Opening s blob version (Ok v) m) (same : s' ≡ record m { doors = s'.doors }) where
+module _ {D : Type 0} (faults : D → ℕ) (s m s' : SessionState D) (blob version : ℕ) (v : Version) (o : Found s blob version v m) (same : s' ≡ record m { doors = s'.doors }) where
   pub read_lost : (offset count : ℕ) (said : Result (List ℕ) Fault) → IfErr said (λ fault. IfPageLost fault (PageFailedIn v offset count (map faults m.doors) (map faults s'.doors)))
       → IfErr said (λ fault. IfPageLost fault (LostInRead s.store s'.log blob version offset count (map faults s.doors) (map faults s'.doors)))
   read_lost offset count (Ok bytes) lost = tt

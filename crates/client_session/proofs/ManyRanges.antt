@@ -12,7 +12,7 @@ use Rattle.blob_model.specs.declared.call.Outcome.TheVariants as Outcomes
 use Rattle.blob_model.specs.declared.call.Refusal.{Refusal}
 use Rattle.blob_model.specs.declared.call.Refusal.TheVariants as Refusals
 use Rattle.range_log.specs.Updates.{extents}
-use Rattle.snapshot.specs.Versions.{Version, size_now}
+use Rattle.snapshot.specs.Versions.{Version}
 use Rattle.snapshot.specs.Laws.{TellUpdates}
 use Rattle.version_manager.specs.Desks.{OnRefused, updates_in}
 use Rattle.version_manager.specs.Log.{IsSnapshotOf, desk_at, events, outcome_in}
@@ -32,7 +32,8 @@ use Rattle.session_parts.specs.declared.reading.RangeFault.TheVariants as RangeF
 use Rattle.session_parts.specs.Ranges.{IsMetByOne, OnRangePast, OnPageLost, joined, first_end_past, visits_of}
 use Rattle.session_parts.proofs.JoinedRanges.{some_past}
 use Rattle.client_session.specs.Results.{desk_fault, range_of, contents_reply}
-use Rattle.client_session.specs.Opening.{Opening, RangesCause, ReadsRanges}
+use Rattle.client_session.specs.Kept.{Coming, Found}
+use Rattle.client_session.specs.Opening.{RangesCause, ReadsRanges}
 use Rattle.client_session.specs.Sessions.{SessionState, session_at, session_of, all_visits_seen, NoStepIfOneRefused}
 use Rattle.client_session.proofs.Turns.{outcome_of_gap, seen_gap}
 use Rattle.client_session.proofs.Ranges.{read_refused, read_past, read_within, not_below}
@@ -206,13 +207,13 @@ module _ (f : DeskFixed) (caller : ℕ) (log log' gap : List (ℕ × Event)) (ot
             absurd (not_both r (take range.1 (drop range.0 (content updates version)))
             (sym e ∙ (outcome_of_gap f caller log' log' [] held next limit call ∙ (now ∙ read_within f (log ++ gap) caller blob version range.0 range.1 n there within))))
 
--- ---- a read of many ranges is an opening, and ranges of what was opened
+-- ---- a read of many ranges comes to its version, and then reads ranges of it
 few_together : (o : Option Fault) (s : Session) (reply : Reply) (s' : Session) (Answer : Type 0) → o ≡ None → Answer → Unless o s reply s' Answer
 few_together None s reply s' Answer is answer = answer
 few_together (Some fault) s reply s' Answer is answer = cc
 
 module _ {D : Type 0} (s s1 : SessionState D) (blob version : ℕ) (ranges : List (ℕ × ℕ)) (few : ranges_fault 0 ranges ≡ None) where
-  pub opened_ranges : (s' : SessionState D) (v : Version) (said : Result (List ℕ) Fault) → Opening s blob version (Ok v) s1 → s' ≡ record s1 { doors = s'.doors }
+  pub opened_ranges : (s' : SessionState D) (v : Version) (said : Result (List ℕ) Fault) → Found s blob version v s1 → s' ≡ record s1 { doors = s'.doors }
       → ((us : List Update) → TellUpdates v.page_size us v.rows → ReadsRanges v.page_size us (length v.rows) ranges said)
       → Answers AllOther (session_of s) (Requests.ReadMany blob version ranges) (contents_reply said) (session_of s')
   opened_ranges s' v said o stays reads =
@@ -222,17 +223,17 @@ module _ {D : Type 0} (s s1 : SessionState D) (blob version : ℕ) (ranges : Lis
       let tells : TellUpdates v.page_size us v.rows = subst (λ (p : ℕ). TellUpdates p us v.rows) (sym snap.page_size) snap.tells in
       let r : ReadsRanges v.page_size us version ranges said = subst (λ (n : ℕ). ReadsRanges v.page_size us n ranges said) snap.rows (reads us tells) in
       let r' : ReadsRanges f.page_size us version ranges said = subst (λ (p : ℕ). ReadsRanges p us version ranges said) snap.page_size r in
-      let there : outcome_in f (s.log ++ o.gap) s.caller (Calls.Size blob version) ≡ Outcomes.Size (size_now v) =
-      subst (λ (l : List (ℕ × Event)). outcome_in f l s.caller (Calls.Size blob version) ≡ Outcomes.Size (size_now v)) o.log o.done
+      let there : outcome_in f (s.log ++ o.gap) s.caller (Calls.Size blob version) ≡ Outcomes.Size o.size =
+      subst (λ (l : List (ℕ × Event)). outcome_in f l s.caller (Calls.Size blob version) ≡ Outcomes.Size o.size) o.log o.done
       in
       let answer : AfterGap AllOther (session_of s) (ReadManyTurn (session_of s) blob version ranges) (contents_reply said) (seen_to s s1.log) =
-      ranges_answer f s.caller s.log s1.log o.gap o.others o.log s.held s.next s.limit blob version (size_now v) there ranges said r'
+      ranges_answer f s.caller s.log s1.log o.gap o.others o.log s.held s.next s.limit blob version o.size there ranges said r'
       in
       let now : session_of s' ≡ seen_to s s1.log = ap (λ (x : SessionState D). session_of x) stays ∙ ap (λ (x : SessionState D). session_of x) o.same in
       subst (λ (x : Session). Answers AllOther (session_of s) (Requests.ReadMany blob version ranges) (contents_reply said) x) (sym now)
       (few_together (ranges_fault 0 ranges) (session_of s) (contents_reply said) (seen_to s s1.log) (AfterGap AllOther (session_of s) (ReadManyTurn (session_of s) blob version ranges) (contents_reply said) (seen_to s s1.log)) few answer)
 
-  pub unopened_ranges : (fault : Fault) → 1 ≤ length ranges → Opening s blob version (Err fault) s1
+  pub unopened_ranges : {A : Type 0} (fault : Fault) → 1 ≤ length ranges → Coming {A = A} s blob version (Err fault) s1
       → Answers AllOther (session_of s) (Requests.ReadMany blob version ranges) (contents_reply (Err fault)) (session_of s1)
   unopened_ranges fault some o =
       let f = s.store.fixed in
@@ -251,7 +252,7 @@ module _ {D : Type 0} (s s1 : SessionState D) (blob version : ℕ) (ranges : Lis
       (few_together (ranges_fault 0 ranges) (session_of s) reply (seen_to s s1.log) (AfterGap AllOther (session_of s) (ReadManyTurn (session_of s) blob version ranges) reply (seen_to s s1.log)) few answer))
 
   -- no node was met where a range is refused
-  pub no_step_opened : (s' : SessionState D) (v : Version) → Opening s blob version (Ok v) s1 → s' ≡ record s1 { doors = s'.doors } → (before after : ℕ)
+  pub no_step_opened : (s' : SessionState D) (v : Version) → Found s blob version v s1 → s' ≡ record s1 { doors = s'.doors } → (before after : ℕ)
       → ((us : List Update) → TellUpdates v.page_size us v.rows → first_end_past (size_of us (length v.rows)) ranges ≢ None → after ≡ before)
       → NoStepIfOneRefused (session_of s') blob version ranges before after
   no_step_opened s' v o stays before after none =
@@ -259,16 +260,16 @@ module _ {D : Type 0} (s s1 : SessionState D) (blob version : ℕ) (ranges : Lis
       let us : List Update = updates_in (desk_at f (s.log ++ o.gap)) blob in
       let snap : IsSnapshotOf f (s.log ++ o.gap) blob version v = subst (λ (l : List (ℕ × Event)). IsSnapshotOf f l blob version v) o.log o.snapshot in
       let tells : TellUpdates v.page_size us v.rows = subst (λ (p : ℕ). TellUpdates p us v.rows) (sym snap.page_size) snap.tells in
-      let there : outcome_in f (s.log ++ o.gap) s.caller (Calls.Size blob version) ≡ Outcomes.Size (size_now v) =
-      subst (λ (l : List (ℕ × Event)). outcome_in f l s.caller (Calls.Size blob version) ≡ Outcomes.Size (size_now v)) o.log o.done
+      let there : outcome_in f (s.log ++ o.gap) s.caller (Calls.Size blob version) ≡ Outcomes.Size o.size =
+      subst (λ (l : List (ℕ × Event)). outcome_in f l s.caller (Calls.Size blob version) ≡ Outcomes.Size o.size) o.log o.done
       in
       let none' : first_end_past (size_of us version) ranges ≢ None → after ≡ before = subst (λ (n : ℕ). first_end_past (size_of us n) ranges ≢ None → after ≡ before) snap.rows (none us tells) in
       let now : session_of s' ≡ seen_to s s1.log = ap (λ (x : SessionState D). session_of x) stays ∙ ap (λ (x : SessionState D). session_of x) o.same in
       subst (λ (x : Session). NoStepIfOneRefused x blob version ranges before after) (sym now)
-      (no_step_there f s.caller s.log s1.log o.gap o.others o.log s.held s.next s.limit blob version (size_now v) there ranges before after few none')
+      (no_step_there f s.caller s.log s1.log o.gap o.others o.log s.held s.next s.limit blob version o.size there ranges before after few none')
 
   -- how many nodes were met
-  pub visits_opened : (s' : SessionState D) (v : Version) → Opening s blob version (Ok v) s1 → s' ≡ record s1 { doors = s'.doors } → (before after : ℕ)
+  pub visits_opened : (s' : SessionState D) (v : Version) → Found s blob version v s1 → s' ≡ record s1 { doors = s'.doors } → (before after : ℕ)
       → ((us : List Update) → TellUpdates v.page_size us v.rows → after ≤ before + visits_of v.page_size (extents us) (length v.rows) ranges)
       → after ≤ before + all_visits_seen (session_of s') blob version ranges
   visits_opened s' v o stays before after bound =

@@ -1,7 +1,7 @@
 -- What a session answers a read, by what its turn and its walk gave.
-use Rattle.std.proofs.Common.{◌≡◌, refl, sym, ◌∙◌, ap, ℕ, ◌+◌, ◌<◌, ◌≤◌, subst, List, [], ◌++◌, length, take, drop, Result, Ok, Err, Bool, true, false, Some, None, arith, append-nil, inl, inr}
+use Rattle.std.proofs.Common.{◌≡◌, refl, sym, ◌∙◌, ap, ℕ, ◌+◌, ◌<◌, ◌≤◌, subst, List, ◌++◌, length, take, drop, Result, Ok, Err, Bool, true, false, Some, None, arith}
 use Rattle.std.specs.Prelude.{nat_lt, if◌then◌else◌, IfOk, OnOk, IfErr}
-use Rattle.std.proofs.lemmas.Bool.{ltb-true, false≢true, cases_lt}
+use Rattle.std.proofs.lemmas.Bool.{ltb-true, false≢true}
 use Rattle.faults.specs.Counts.{RoseBy}
 use Rattle.blob_model.specs.Answer.{answer}
 use Rattle.blob_model.specs.Content.{Update, content, size_of}
@@ -31,7 +31,8 @@ use Rattle.session_parts.specs.Tickets.{OpenUpdate}
 use Rattle.session_parts.specs.Ranges.{IsMet, OnRangePast, OnPageLost}
 use Rattle.client_session.specs.Results.{desk_fault, opened_of, range_of, read_reply}
 use Rattle.client_session.specs.Opening.{Opening, RangeCause, ReadsRange}
-use Rattle.client_session.specs.Sessions.{SessionState, session_at, session_of, NoStepIfRefused}
+use Rattle.client_session.specs.Kept.{Coming, Found}
+use Rattle.client_session.specs.Sessions.{SessionState, session_at, session_of}
 use Rattle.client_session.proofs.Turns.{Took, outcome_of_gap, seen_gap}
 use Rattle.client_session.proofs.Ranges.{read_refused, read_past, read_within, count_within, not_below}
 
@@ -178,29 +179,13 @@ module _ (f : DeskFixed) (caller : ℕ) (log log' gap : List (ℕ × Event)) (ot
     range_answer (Ok bytes) few r = content_read bytes r.within r.bytes
     range_answer (Err fault) few r = failed_read fault few r.cause
 
-    -- no node was met where the read is refused, if none was met where the range goes past the version's end
-    pub no_step_there : (before after : ℕ) → count ≤ max_read → (size_of (updates_in (desk_at f (log ++ gap)) blob) version < offset + count → after ≡ before)
-        → NoStepIfRefused (session_at f caller log' held next limit) blob version offset count before after
-    no_step_there before after few none =
-        let bytes : List ℕ = take count (drop offset (content (updates_in (desk_at f (log ++ gap)) blob) version)) in
-        let call = Calls.Read blob version offset count in
-        let now : outcome_in f (log' ++ []) caller call ≡ outcome_in f (log ++ gap) caller call = ap (λ (h : List (ℕ × Event)). outcome_in f h caller call) (append-nil log' ∙ same) in
-        record {
-          refused = λ r e. elim (cases_lt (size_of (updates_in (desk_at f (log ++ gap)) blob) version) (offset + count)) [
-            | inl past ↦ none past
-            | inr within ↦
-                absurd (not_both r bytes (sym e ∙ (outcome_of_gap f caller log' log' [] held next limit call ∙ (now ∙ read_within f (log ++ gap) caller blob version offset count n there within))))
-          ];
-          too_long = λ long. absurd (omega (arith, few));
-        }
-
--- ---- a read is an opening and a range of what was opened
+-- ---- a read comes to its version, and then reads a range of it
 -- a session that has seen more
 abbrev pub seen_to : {D : Type 0} → SessionState D → List (ℕ × Event) → Session
 seen_to s log' = session_at s.store.fixed s.caller log' s.held s.next s.limit
 
 module _ {D : Type 0} (s s1 : SessionState D) (blob version offset count : ℕ) (few : count ≤ max_read) where
-  pub opened_read : (s' : SessionState D) (v : Version) (said : Result (List ℕ) Fault) → Opening s blob version (Ok v) s1 → s' ≡ record s1 { doors = s'.doors }
+  pub opened_read : (s' : SessionState D) (v : Version) (said : Result (List ℕ) Fault) → Found s blob version v s1 → s' ≡ record s1 { doors = s'.doors }
       → ((us : List Update) → TellUpdates v.page_size us v.rows → ReadsRange v.page_size us (length v.rows) offset count said)
       → Answers AllOther (session_of s) (Requests.Read blob version offset count) (read_reply said) (session_of s')
   opened_read s' v said o stays reads =
@@ -210,17 +195,17 @@ module _ {D : Type 0} (s s1 : SessionState D) (blob version offset count : ℕ) 
       let tells : TellUpdates v.page_size us v.rows = subst (λ (p : ℕ). TellUpdates p us v.rows) (sym snap.page_size) snap.tells in
       let r : ReadsRange v.page_size us version offset count said = subst (λ (n : ℕ). ReadsRange v.page_size us n offset count said) snap.rows (reads us tells) in
       let r' : ReadsRange f.page_size us version offset count said = subst (λ (p : ℕ). ReadsRange p us version offset count said) snap.page_size r in
-      let there : outcome_in f (s.log ++ o.gap) s.caller (Calls.Size blob version) ≡ Outcomes.Size (size_now v) =
-      subst (λ (l : List (ℕ × Event)). outcome_in f l s.caller (Calls.Size blob version) ≡ Outcomes.Size (size_now v)) o.log o.done
+      let there : outcome_in f (s.log ++ o.gap) s.caller (Calls.Size blob version) ≡ Outcomes.Size o.size =
+      subst (λ (l : List (ℕ × Event)). outcome_in f l s.caller (Calls.Size blob version) ≡ Outcomes.Size o.size) o.log o.done
       in
       let answer : AfterGap AllOther (session_of s) (ReadTurn (session_of s) blob version offset count) (read_reply said) (seen_to s s1.log) =
-      range_answer f s.caller s.log s1.log o.gap o.others o.log s.held s.next s.limit blob version offset count (size_now v) there said few r'
+      range_answer f s.caller s.log s1.log o.gap o.others o.log s.held s.next s.limit blob version offset count o.size there said few r'
       in
       let now : session_of s' ≡ seen_to s s1.log = ap (λ (x : SessionState D). session_of x) stays ∙ ap (λ (x : SessionState D). session_of x) o.same in
       subst (λ (x : Session). Answers AllOther (session_of s) (Requests.Read blob version offset count) (read_reply said) x) (sym now)
       (few_enough (session_of s) count (read_reply said) (seen_to s s1.log) (AfterGap AllOther (session_of s) (ReadTurn (session_of s) blob version offset count) (read_reply said) (seen_to s s1.log)) few answer)
 
-  pub unopened_read : (fault : Fault) → Opening s blob version (Err fault) s1
+  pub unopened_read : {A : Type 0} (fault : Fault) → Coming {A = A} s blob version (Err fault) s1
       → Answers AllOther (session_of s) (Requests.Read blob version offset count) (read_reply (Err fault)) (session_of s1)
   unopened_read fault o =
       let f = s.store.fixed in
@@ -237,19 +222,3 @@ module _ {D : Type 0} (s s1 : SessionState D) (blob version offset count : ℕ) 
       subst (λ (x : Session). Answers AllOther (session_of s) (Requests.Read blob version offset count) (read_reply (Err fault)) x) (sym now)
       (subst (λ (x : Reply). Answers AllOther (session_of s) (Requests.Read blob version offset count) x (seen_to s s1.log)) same
       (few_enough (session_of s) count reply (seen_to s s1.log) (AfterGap AllOther (session_of s) (ReadTurn (session_of s) blob version offset count) reply (seen_to s s1.log)) few answer))
-
-  -- no node was met where the read is refused
-  pub no_step_opened : (s' : SessionState D) (v : Version) → Opening s blob version (Ok v) s1 → s' ≡ record s1 { doors = s'.doors } → (before after : ℕ)
-      → ((us : List Update) → TellUpdates v.page_size us v.rows → size_of us (length v.rows) < offset + count → after ≡ before) → NoStepIfRefused (session_of s') blob version offset count before after
-  no_step_opened s' v o stays before after none =
-      let f = s.store.fixed in
-      let us : List Update = updates_in (desk_at f (s.log ++ o.gap)) blob in
-      let snap : IsSnapshotOf f (s.log ++ o.gap) blob version v = subst (λ (l : List (ℕ × Event)). IsSnapshotOf f l blob version v) o.log o.snapshot in
-      let tells : TellUpdates v.page_size us v.rows = subst (λ (p : ℕ). TellUpdates p us v.rows) (sym snap.page_size) snap.tells in
-      let there : outcome_in f (s.log ++ o.gap) s.caller (Calls.Size blob version) ≡ Outcomes.Size (size_now v) =
-      subst (λ (l : List (ℕ × Event)). outcome_in f l s.caller (Calls.Size blob version) ≡ Outcomes.Size (size_now v)) o.log o.done
-      in
-      let none' : size_of us version < offset + count → after ≡ before = subst (λ (n : ℕ). size_of us n < offset + count → after ≡ before) snap.rows (none us tells) in
-      let now : session_of s' ≡ seen_to s s1.log = ap (λ (x : SessionState D). session_of x) stays ∙ ap (λ (x : SessionState D). session_of x) o.same in
-      subst (λ (x : Session). NoStepIfRefused x blob version offset count before after) (sym now)
-      (no_step_there f s.caller s.log s1.log o.gap o.others o.log s.held s.next s.limit blob version offset count (size_now v) there before after few none')

@@ -1,7 +1,8 @@
 -- What the store answers a read, by what it answers of the version's size.
-use Rattle.std.proofs.Common.{◌≡◌, refl, sym, ◌∙◌, ℕ, ◌+◌, ◌<◌, ◌≤◌, Bool, true, false, List, [], ◌∷◌, length, take, drop, Option, Some, None, arith, length-take, length-drop}
+use Rattle.std.proofs.Common.{◌≡◌, refl, sym, ◌∙◌, ap, ℕ, ◌+◌, ◌<◌, ◌≤◌, Bool, true, false, List, [], ◌∷◌, length, take, drop, Option, Some, None, arith, length-take, length-drop}
 use Rattle.std.specs.Prelude.{nat_lt}
 use Rattle.std.proofs.lemmas.Bool.{lt-ltb, ltb-true, false≢true}
+use Rattle.std.proofs.lemmas.Bool.Decides.{nat_tests}
 use Rattle.blob_model.specs.Content.{content, size_of}
 use Rattle.blob_model.specs.Store.{Store, Blob, blob_at, published}
 use Rattle.blob_model.specs.Answer.{Answered, Test, refuse, unless_refused, not_published, range_past_size, bytes_of}
@@ -14,6 +15,7 @@ use Rattle.blob_model.specs.declared.call.Event.{Event}
 use Rattle.version_manager.specs.Desks.{updates_or_none, updates_in}
 use Rattle.version_manager.specs.Log.{desk_at, events, outcome_in}
 use Rattle.version_manager.specs.declared.journal.DeskFixed.{DeskFixed}
+use Rattle.request_form.specs.PublishedReads.{IsPublishedIn}
 
 -- a test that refuses decides, whatever follows
 refused_first : (s : Store) (x : Bool) (r r' : Refusal) (n : ℕ) (tests : List Test) (done : Answered)
@@ -95,3 +97,26 @@ module _ (f : DeskFixed) (log : List (ℕ × Event)) (caller blob version offset
 -- how many bytes a range within the size has
 pub count_within : (bytes : List ℕ) (offset count : ℕ) → offset + count ≤ length bytes → length (take count (drop offset bytes)) ≡ count
 count_within bytes offset count within = simp (length-take, length-drop) (omega arith)
+
+-- ---- where the version is published, and then alone, its size is told
+size_passed : (s : Store) (b : Blob) (version n : ℕ) (x : Bool) → nat_lt (published b) version ≡ x
+    → (unless_refused s (record { refuses = x; refusal = Refusals.NotPublished version (published b) } ∷ []) (s, Outcomes.Size (size_of b.updates version))).1 ≡ Outcomes.Size n
+    → version ≤ published b
+size_passed s b version n true t e = let no : ⊥ = cc in absurd no
+size_passed s b version n false t e = grind (arith, nat_tests, t)
+
+published_in : (s : Store) (o : Option Blob) (blob version n : ℕ) → (in_one s o blob (sized s version)).1 ≡ Outcomes.Size n → (b : Blob) × (o ≡ Some b) × (version ≤ published b)
+published_in s None blob version n e = let no : ⊥ = cc in absurd no
+published_in s (Some b) blob version n e = (b, refl, size_passed s b version n (nat_lt (published b) version) refl e)
+
+pub published_there : (f : DeskFixed) (log : List (ℕ × Event)) (caller blob version n : ℕ) → outcome_in f log caller (Calls.Size blob version) ≡ Outcomes.Size n
+    → IsPublishedIn (store_of f.limits (events log)) blob version
+published_there f log caller blob version n e = published_in (store_of f.limits (events log)) (blob_at (store_of f.limits (events log)) blob) blob version n e
+
+pub size_there : (f : DeskFixed) (log : List (ℕ × Event)) (caller blob version : ℕ) (b : Blob) → blob_at (store_of f.limits (events log)) blob ≡ Some b → version ≤ published b
+    → outcome_in f log caller (Calls.Size blob version) ≡ Outcomes.Size (size_of b.updates version)
+size_there f log caller blob version b is le =
+    let s : Store = store_of f.limits (events log) in
+    let not : nat_lt (published b) version ≡ false = grind (arith, nat_tests, le) in
+    ap (λ (o : Option Blob). (in_one s o blob (sized s version)).1) is
+    ∙ last_passes s (nat_lt (published b) version) (Refusals.NotPublished version (published b)) (s, Outcomes.Size (size_of b.updates version)) not

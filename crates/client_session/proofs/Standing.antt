@@ -14,6 +14,8 @@ use Rattle.session_parts.specs.Tickets.{OpenUpdate}
 use Rattle.client_session.specs.SessionInvariant.{IsOpen, IsHolding, IsSession}
 use Rattle.client_session.specs.Sessions.{StoreState, IsPassOf, Went}
 use Rattle.client_session.specs.Finishing.{IsEquipped}
+use Rattle.client_session.proofs.Kept.{kept_stay}
+use Rattle.snapshot.specs.Versions.{Version}
 
 -- a row by which an update may be finished stays one as the history goes on
 row_stays : (f : DeskFixed) (log more : List (ℕ × Event)) (t : NumberedUpdate) (row : Option UpdateRow) → IfSome row (λ r. MayFinish t r log f) → IfSome row (λ r. MayFinish t r (log ++ more) f)
@@ -51,9 +53,9 @@ pass_after store pass pass' is same went = record {
 }
 
 -- the session after a turn, with what it holds
-module _ {D : Type 0} (is_true : D → Type 0) (store : StoreState) (pass pass' : PassView Event DeskFixed) (doors : List D) (room : List Bool) where
-  pub session_with : (held held' : List OpenUpdate) (next next' : ℕ) → IsSession is_true store pass held next doors room → pass' ≡ record pass { seen = pass'.seen; turns = pass'.turns }
-      → Went store.fixed pass.seen pass'.seen → IsHolding store.fixed pass'.seen held' next' → IsSession is_true store pass' held' next' doors room
+module _ {D : Type 0} (is_true : D → Type 0) (store : StoreState) (pass pass' : PassView Event DeskFixed) (doors : List D) (room : List Bool) {opened : List Version} where
+  pub session_with : (held held' : List OpenUpdate) (next next' : ℕ) → IsSession is_true store pass held next doors room opened → pass' ≡ record pass { seen = pass'.seen; turns = pass'.turns }
+      → Went store.fixed pass.seen pass'.seen → IsHolding store.fixed pass'.seen held' next' → IsSession is_true store pass' held' next' doors room opened
   session_with held held' next next' s same went holding = record {
     pass_is = pass_after store pass pass' s.pass_is same went;
     holding = holding;
@@ -61,15 +63,16 @@ module _ {D : Type 0} (is_true : D → Type 0) (store : StoreState) (pass pass' 
     served = s.served;
     true_doors = s.true_doors;
     marks = s.marks;
+    kept = kept_stay store.fixed pass.seen pass'.seen opened went.begins s.kept;
   }
 
-  pub session_after : (held : List OpenUpdate) (next : ℕ) → IsSession is_true store pass held next doors room → pass' ≡ record pass { seen = pass'.seen; turns = pass'.turns } → Went store.fixed pass.seen pass'.seen
-      → IsSession is_true store pass' held next doors room
+  pub session_after : (held : List OpenUpdate) (next : ℕ) → IsSession is_true store pass held next doors room opened → pass' ≡ record pass { seen = pass'.seen; turns = pass'.turns } → Went store.fixed pass.seen pass'.seen
+      → IsSession is_true store pass' held next doors room opened
   session_after held next s same went = session_with held held next next s same went (holding_stays store.fixed pass.seen pass'.seen held next went.begins s.holding)
 
 -- with other doors, as many and as true
-pub session_doors : {D : Type 0} (is_true : D → Type 0) (store : StoreState) (pass : PassView Event DeskFixed) (held : List OpenUpdate) (next : ℕ) (doors doors' : List D) (room room' : List Bool)
-    → length doors' ≡ length doors → All is_true doors' → length room' ≡ length room → IsSession is_true store pass held next doors room → IsSession is_true store pass held next doors' room'
+pub session_doors : {D : Type 0} (is_true : D → Type 0) (store : StoreState) (pass : PassView Event DeskFixed) (held : List OpenUpdate) (next : ℕ) (doors doors' : List D) (room room' : List Bool) {opened : List Version}
+    → length doors' ≡ length doors → All is_true doors' → length room' ≡ length room → IsSession is_true store pass held next doors room opened → IsSession is_true store pass held next doors' room' opened
 session_doors is_true store pass held next doors doors' room room' count true_ marks s = record {
   pass_is = s.pass_is;
   holding = s.holding;
@@ -77,17 +80,19 @@ session_doors is_true store pass held next doors doors' room room' count true_ m
   served = count ∙ s.served;
   true_doors = true_;
   marks = marks ∙ s.marks;
+  kept = s.kept;
 }
 
 -- after turns, with doors and room as good as before
-pub session_equipped : {D : Type 0} (is_true : D → Type 0) (store : StoreState) (pass pass' : PassView Event DeskFixed) (held : List OpenUpdate) (next : ℕ) (doors doors' : List D) (room room' : List Bool)
-    → IsSession is_true store pass held next doors room → pass' ≡ record pass { seen = pass'.seen; turns = pass'.turns } → Went store.fixed pass.seen pass'.seen → IsEquipped is_true store doors' room'
-    → IsSession is_true store pass' held next doors' room'
-session_equipped is_true store pass pass' held next doors doors' room room' s same went ready = record {
+pub session_equipped : {D : Type 0} (is_true : D → Type 0) (store : StoreState) (pass pass' : PassView Event DeskFixed) (held : List OpenUpdate) (next : ℕ) (doors doors' : List D) (room room' : List Bool) {opened : List Version}
+    → IsSession is_true store pass held next doors room opened → pass' ≡ record pass { seen = pass'.seen; turns = pass'.turns } → Went store.fixed pass.seen pass'.seen → IsEquipped is_true store doors' room'
+    → IsSession is_true store pass' held next doors' room' opened
+session_equipped is_true store pass pass' held next doors doors' room room' {opened = opened} s same went ready = record {
   pass_is = pass_after store pass pass' s.pass_is same went;
   holding = holding_stays store.fixed pass.seen pass'.seen held next went.begins s.holding;
   housed = s.housed;
   served = ready.served;
   true_doors = ready.true_doors;
   marks = ready.marks;
+  kept = kept_stay store.fixed pass.seen pass'.seen opened went.begins s.kept;
 }

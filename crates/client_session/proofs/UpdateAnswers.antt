@@ -40,6 +40,7 @@ use Rattle.client_session.specs.Looking.{looks_then}
 use Rattle.client_session.specs.Losses.{IfPageLost, LostOrWaits}
 use Rattle.client_session.specs.Tickets.{HasNoRow, AllHeldStill}
 use Rattle.client_session.specs.Updates.{WasNumbered, IsHeldNext, IsKept, held_next, update_request, start_request, update_reply, start_reply}
+use Rattle.client_session.specs.Putting.{WerePut, WerePutAlone}
 use Rattle.client_session.proofs.StoreAnswers.{IsThere, only_already, pending_waits}
 use Rattle.client_session.proofs.Lifted.{unheld, then_holds, OnlyAlready}
 use Rattle.client_session.proofs.Ended.{IsOpenIn, Then, NotFinished, then_answer, ends_done, ends_not}
@@ -393,3 +394,12 @@ module _ {D X : Type 0} (value : X → UpdateRow) (row : Option X) (m new : Sess
   start_alone anew folds =
       subst (λ (os : List OpenUpdate). HasNoRow os m.next) (sym (ap (λ (x : SessionState D). x.held) is))
       (has_no_row value row m.store.fixed m.log t (omega (arith, h.below)) h.ticket anew (λ none. folds (sym folds_then ∙ none)) m.held m.next)
+
+-- ---- where the pages of an update were put that is held then
+pub put_last : {D : Type 0} (called : D → D → Type 0) (faults : D → ℕ) (s m new : SessionState D) (number : ℕ) (t : NumberedUpdate) (row : Option UpdateRow) → number ≡ m.next
+    → new ≡ record m { held = m.held ++ record { number = m.next; ticket = t; row = row } ∷ []; next = m.next + 1 } → WerePut called faults s m t → WerePutAlone called faults s new number
+put_last {D = D} called faults s m new number t row number_is is put =
+    let o : OpenUpdate = record { number = m.next; ticket = t; row = row } in
+    let after : SessionState D = record m { held = m.held ++ o ∷ []; next = m.next + 1 } in
+    let last : WerePutAlone called faults s after m.next = record { index = length m.held; update = o; is = last_is m.held o; number_is = refl; put = put } in
+    subst (λ (k : ℕ). WerePutAlone called faults s new k) (sym number_is) (subst (λ (x : SessionState D). WerePutAlone called faults s x m.next) (sym is) last)

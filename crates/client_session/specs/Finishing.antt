@@ -9,7 +9,7 @@ use Rattle.snapshot.specs.Versions.{IsVersionIn}
 use Rattle.turn_lock.specs.History.{Begins}
 use Rattle.request_form.specs.Replies.{page_faults}
 use Rattle.tree_weaver.specs.Anew.{StoresSomeAnew, IsStoredAnew}
-use Rattle.version_manager.specs.Desks.{OnRefused, store_now}
+use Rattle.version_manager.specs.Desks.{OnRefused, OnNoMemory, store_now}
 use Rattle.version_manager.specs.Log.{IsWaitingTicket, desk_at, events}
 use Rattle.version_manager.specs.declared.journal.DeskFixed.{DeskFixed}
 use Rattle.version_manager.specs.declared.fault.DeskFault.{DeskFault}
@@ -17,6 +17,7 @@ use Rattle.request_form.specs.Session.{Session}
 use Rattle.request_form.specs.Answers.{AfterGap, RepairTurn, max_update}
 use Rattle.request_form.specs.declared.form.Fault.{Fault}
 use Rattle.request_form.specs.declared.form.Fault.TheVariants as Faults
+use Rattle.client_session.specs.Memory.{IsLeft}
 use Rattle.client_session.specs.Results.{desk_fault, repair_reply}
 use Rattle.client_session.specs.SessionInvariant.{IsTicketHere}
 use Rattle.client_session.specs.Sessions.{SessionState, StoreState}
@@ -51,6 +52,7 @@ pub record LookedFresh (f : DeskFixed) (caller : ℕ) (log : List (ℕ × Event)
   pub ticket : IfOk said (IsWaitingTicket f log' blob version)
   pub here : IfOk said (IsTicketHere f log')
   pub refused : IfErr said (λ fault. OnRefused fault (λ refusal. repair_refusal (store_now (desk_at f log')) blob version ≡ Some refusal))
+  pub memory : IfErr said (λ fault. OnNoMemory fault (IsLeft (bare f caller log') blob version))
 
 -- Why there is no ticket: the version can't be finished in the store of that history, or no memory was found.
 pub record NotIssued (f : DeskFixed) (log : List (ℕ × Event)) (blob version : ℕ) (fault : Fault) : Type 0 where

@@ -1,6 +1,7 @@
 pub mod Tickets
 pub mod TurnCounts
 pub mod Sessions
+pub mod Kept
 pub mod SessionInvariant
 pub mod Updates
 pub mod Results
@@ -9,5 +10,8 @@ pub mod Waiting
 pub mod Opening
 pub mod Finishing
 pub mod Numbering
+pub mod Putting
+pub mod Bounds
 pub mod Losses
 pub mod Looking
+pub mod Memory

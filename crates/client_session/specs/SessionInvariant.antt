@@ -5,7 +5,7 @@ use Rattle.page_store.specs.House.{House}
 use Rattle.page_store.specs.Stored.{LieAmong}
 use Rattle.blob_model.specs.Content.{content}
 use Rattle.blob_model.specs.declared.call.Event.{Event}
-use Rattle.snapshot.specs.Versions.{NodesLieIn, updates_of}
+use Rattle.snapshot.specs.Versions.{Version, NodesLieIn, updates_of}
 use Rattle.border_hints.specs.Numbered.{NumberedUpdate}
 use Rattle.turn_lock.specs.Shown.{PassView}
 use Rattle.version_manager.specs.Desks.{IsTicketOf, updates_in}
@@ -13,6 +13,7 @@ use Rattle.version_manager.specs.Log.{MayFinish, desk_at}
 use Rattle.version_manager.specs.declared.journal.DeskFixed.{DeskFixed}
 use Rattle.session_parts.specs.Tickets.{OpenUpdate, Rise, tickets_of}
 use Rattle.client_session.specs.Sessions.{StoreState, IsPassOf}
+use Rattle.client_session.specs.Kept.{IsKept}
 
 -- ---- what a held update keeps
 -- the nodes of the ticket's snapshot lie in this house, and its pages in these
@@ -40,11 +41,13 @@ pub record IsHolding (f : DeskFixed) (log : List (ℕ × Event)) (held : List Op
   pub rise : Rise (tickets_of held) next
   pub drawn : next ≤ length log + 1
 
--- The pass is of the store, there is a true door to each of its providers, and room for a page's marks.
-pub record IsSession {D : Type 0} (is_true : D → Type 0) (store : StoreState) (pass : PassView Event DeskFixed) (held : List OpenUpdate) (next : ℕ) (doors : List D) (room : List Bool) : Type 0 where
+-- The pass is of the store, there is a true door to each of its providers, and room for a page's marks. The snapshots that are kept were
+-- opened in what the session has seen.
+pub record IsSession {D : Type 0} (is_true : D → Type 0) (store : StoreState) (pass : PassView Event DeskFixed) (held : List OpenUpdate) (next : ℕ) (doors : List D) (room : List Bool) (opened : List Version) : Type 0 where
   pub pass_is : IsPassOf store pass
   pub holding : IsHolding store.fixed pass.seen held next
   pub housed : length store.fixed.houses ≡ store.providers
   pub served : length doors ≡ store.providers
   pub true_doors : All is_true doors
   pub marks : length room ≡ store.fixed.page_size
+  pub kept : All (IsKept store.fixed pass.seen) opened

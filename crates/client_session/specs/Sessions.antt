@@ -22,6 +22,7 @@ use Rattle.request_form.specs.PublishedReads.{IsPublishedIn, Range, Tells, read_
 use Rattle.request_form.specs.Session.{Session, outcome_at}
 use Rattle.request_form.specs.declared.form.Reply.{Reply}
 use Rattle.session_parts.specs.Tickets.{OpenUpdate, tickets_of}
+use Rattle.session_parts.specs.Opened.{KeptVersion}
 pub use Rattle.session_parts.specs.Limits.{longest}
 
 -- a store that sessions share: the lock of its desk, what no act changes, how many providers it has, and how many replicas of a page
@@ -50,7 +51,7 @@ pub record Went (f : DeskFixed) (log log' : List (ℕ × Event)) : Type 0 where
 
 -- A session: its store, its caller, the history that it has seen, each event with its caller, the updates that it has numbered
 -- and not yet finished, the number of the next one, its doors, the most bytes of an update, whether the store refused the last update
--- that it tried, so that it looks first at the next ones, and how many turns it has had.
+-- that it tried, so that it looks first at the next ones, how many turns it has had, and the versions that it has opened and keeps.
 pub record SessionState (D : Type 0) : Type 0 where
   pub store : StoreState
   pub caller : ℕ
@@ -61,6 +62,7 @@ pub record SessionState (D : Type 0) : Type 0 where
   pub limit : ℕ
   pub looks_first : Bool
   pub turns : ℕ
+  pub opened : List KeptVersion
 
 -- a session as the definition of its answers sees it
 abbrev pub session_at : DeskFixed → ℕ → List (ℕ × Event) → List OpenUpdate → ℕ → ℕ → Session

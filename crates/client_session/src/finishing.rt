@@ -1,5 +1,5 @@
 // Numbered updates are finished: by the session that numbered them, or by another one.
-ghost use Rattle.std.specs.Prelude.{◌≡◌, ◌⊎◌, ℕ, ◌+◌, ◌<◌, ◌≤◌, [], length, map, sum_by, All, true, false, Some, IfOk, IfErr, IfSome, slice_get};
+ghost use Rattle.std.specs.Prelude.{◌≡◌, ◌⊎◌, ℕ, ◌+◌, ◌<◌, ◌≤◌, [], length, map, sum_by, All, true, false, Some, Err, IfOk, IfErr, IfSome, slice_get};
 ghost use Rattle.std.specs.Arc.{arc_value};
 ghost use denote.Param.Send.{IsSync};
 ghost use Rattle.faults.specs.Counts.{RoseBy};
@@ -13,6 +13,7 @@ ghost use Rattle.tree_weaver.specs.Anew.{FoldFailed, StoresNoneAnew};
 ghost use Rattle.session_parts.specs.Tickets.{OpenUpdate, tickets_of};
 ghost use Rattle.tree_weaver.specs.Woven.{IsWoven};
 ghost use Rattle.client_session.specs.Losses.{IfPageLost, LostAnew, LostOfHeld};
+ghost use Rattle.client_session.specs.Memory.{IfNoMemory, IsLeft, IsHeldLeft};
 ghost use Rattle.client_session.specs.Results.{weave_fault, finish_reply, repair_reply};
 ghost use Rattle.client_session.specs.Sessions.{IsPassOf, Went, session_of, Continues};
 ghost use Rattle.client_session.specs.SessionInvariant.{IsTicketHere};
@@ -74,6 +75,7 @@ fn report<R: Wait>(
     ensures went { Went shared.now.fixed pass.old.seen pass.new.seen }
     ensures finishing { Finishing shared.now.fixed pass.old.caller pass.old.seen ticket.now.blob ticket.now.version result pass.new.seen }
     ensures calm { fault_count (repair_reply result) ≡ 0 }
+    ensures memory { IfErr result (λ fault. IfNoMemory fault (IsLeft (bare shared.now.fixed pass.old.caller pass.new.seen) ticket.now.blob ticket.now.version)) }
 {
     version_manager::laws::gaps_are_of_others();
     ticket.stands();
@@ -107,6 +109,22 @@ fn fresh_ticket<R: Wait>(
             Ok(ticket)
         }
         Err(fault) => Err(fault),
+    }
+}
+
+// What is answered where an update isn't finished for want of memory. One look tells whether anything else stands against it.
+fn starved<R: Wait>(rt: &R, shared: &Shared, pass: &mut Pass, blob: u64, version: u64) -> Fault
+    requires pass { IsPassOf shared.now pass.old }
+    ensures pass { pass.new ≡ record pass.old { seen = pass.new.seen; turns = pass.new.turns } }
+    ensures one_turn { pass.new.turns ≡ pass.old.turns + 1 }
+    ensures went { Went shared.now.fixed pass.old.seen pass.new.seen }
+    ensures finishing { Finishing shared.now.fixed pass.old.caller pass.old.seen blob version (Err result) pass.new.seen }
+    ensures calm { page_faults result ≡ 0 }
+    ensures memory { IfNoMemory result (IsLeft (bare shared.now.fixed pass.old.caller pass.new.seen) blob version) }
+{
+    match fresh_ticket(rt, shared, pass, blob, version) {
+        Ok(_ticket) => Fault::NoMemory,
+        Err(fault) => fault_of(fault),
     }
 }
 
@@ -182,6 +200,7 @@ fn finish_fresh<D: BesideDoor, G: Gate, R: Threads + Wait + Sync>(
     ensures untouched { IfErr result (λ fault. RefusedEarly fault 2 pass.old.turns pass.new.turns → doors.new ≡ doors.old) }
     ensures risen { RoseBy (fault_count (repair_reply result)) (sum_by D.faults doors.old) (sum_by D.faults doors.new) }
     ensures ready { IsEquipped D.is_true shared.now doors.new room.new }
+    ensures memory { IfErr result (λ fault. IfNoMemory fault (IsLeft (bare shared.now.fixed pass.old.caller pass.new.seen) update.blob update.version)) }
 {
     let ticket = match fresh_ticket(rt, shared, pass, update.blob, update.version) {
         Ok(ticket) => ticket,
@@ -221,6 +240,7 @@ fn finish_by<D: BesideDoor, G: Gate, R: Threads + Wait + Sync>(
     ensures untouched { IfErr result (λ fault. RefusedEarly fault 2 pass.old.turns pass.new.turns → doors.new ≡ doors.old) }
     ensures risen { RoseBy (fault_count (repair_reply result)) (sum_by D.faults doors.old) (sum_by D.faults doors.new) }
     ensures ready { IsEquipped D.is_true shared.now doors.new room.new }
+    ensures memory { IfErr result (λ fault. IfNoMemory fault (IsLeft (bare shared.now.fixed pass.old.caller pass.new.seen) ticket.now.blob ticket.now.version)) }
 {
     match weave(rt, alloc, ticket, shared.nodes()) {
         Ok(Some(row)) => {
@@ -240,7 +260,7 @@ fn finish_by<D: BesideDoor, G: Gate, R: Threads + Wait + Sync>(
                 version: ticket.version(),
             },
         ),
-        Err(_) => Err(Fault::NoMemory),
+        Err(_) => Err(starved(rt, shared, pass, ticket.blob(), ticket.version())),
     }
 }
 
@@ -261,6 +281,7 @@ impl<'a, D: BesideDoor, G: Gate> Session<'a, D, G> {
         ensures goes_on { Continues self.old self.new }
         ensures rest { self.new ≡ record self.old { log = self.new.log; doors = self.new.doors; turns = self.new.turns } }
         ensures turns { TakesTurns result 2 self.old.turns self.new.turns }
+        ensures memory { IfErr result (λ fault. IfNoMemory fault (IsLeft (session_of self.new) blob version)) }
     {
         finish_fresh(
             rt,
@@ -291,6 +312,7 @@ impl<'a, D: BesideDoor, G: Gate> Session<'a, D, G> {
         ensures rest { self.new ≡ record self.old { log = self.new.log; doors = self.new.doors; turns = self.new.turns } }
         ensures turns { UpTo 2 self.old.turns self.new.turns }
         ensures finish_turns { IfOk result (λ _. FinishTurns ticket.now self.old.turns self.new.turns) }
+        ensures memory { IfErr result (λ fault. IfNoMemory fault (IsLeft (session_of self.new) ticket.now.blob ticket.now.version)) }
     {
         finish_by(
             rt,
@@ -320,13 +342,15 @@ impl<'a, D: BesideDoor, G: Gate> Session<'a, D, G> {
         ensures row_turns { (o : OpenUpdate) → slice_get self.old.held index ≡ Some o → IfOk result (λ _. RowTurns o.row self.old.turns self.new.turns) }
         ensures row_most { (o : OpenUpdate) → slice_get self.old.held index ≡ Some o → IfSome o.row (λ _. UpTo 1 self.old.turns self.new.turns) }
         ensures row_doors { (o : OpenUpdate) → slice_get self.old.held index ≡ Some o → IfSome o.row (λ _. self.new.doors ≡ self.old.doors) }
+        ensures memory { (o : OpenUpdate) → slice_get self.old.held index ≡ Some o
+            → IfErr result (λ fault. IfNoMemory fault (IsLeft (session_of self.new) o.ticket.blob o.ticket.version)) }
     {
         let open = self.held.at(index);
         let (blob, version) = (open.ticket().blob(), open.ticket().version());
         match open.row() {
             Ok(Some(row)) => report(rt, self.shared, &mut self.pass, open.ticket(), row),
             Ok(None) => self.finish_anew(rt, blob, version),
-            Err(_) => Err(Fault::NoMemory),
+            Err(_) => Err(starved(rt, self.shared, &mut self.pass, blob, version)),
         }
     }
 
@@ -338,7 +362,8 @@ impl<'a, D: BesideDoor, G: Gate> Session<'a, D, G> {
     ///
     /// `NoTicket` where this session holds no such ticket, and only then. `Already` where another session has finished the update.
     /// `Pending` where it stores pages anew and the version before it waits; it names that version, and the least unfinished one.
-    /// `PageFault` names a page that it stores anew, of which no provider gave a page that is read for it, or took it. After `Ok` and
+    /// `PageFault` names a page that it stores anew, of which no provider gave a page that is read for it, or took it. `NoMemory` comes
+    /// only where the update isn't finished in what the session has seen then; where a look is needed to know that, it takes one. After `Ok` and
     /// `Already` the session holds the ticket no more, after any other fault it still does. The others that it holds stay, each with its
     /// row. A refusal in the first turn that is neither a lost page nor want of memory calls no door.
     pub fn finish<R: Threads + Wait + Sync>(&mut self, rt: &R, ticket: u64) -> Result<u64, Fault>
@@ -356,6 +381,7 @@ impl<'a, D: BesideDoor, G: Gate> Session<'a, D, G> {
         ensures turns { UpTo 2 self.old.turns self.new.turns }
         ensures held_turns { IfOk result (λ _. HeldTurns self.old.held ticket self.old.turns self.new.turns) }
         ensures looks { self.new.looks_first ≡ self.old.looks_first }
+        ensures memory { IfErr result (λ fault. IfNoMemory fault (IsHeldLeft self.old.held ticket (session_of self.new))) }
     {
         let Some(index) = self.held.find(ticket) else {
             return Err(Fault::NoTicket { ticket });
@@ -369,8 +395,8 @@ impl<'a, D: BesideDoor, G: Gate> Session<'a, D, G> {
 
     /// Finishes the update of a ticket that `ticket_for` gave, or one like it, and gives the greatest published version of its blob.
     ///
-    /// Where the update stores pages of the blob anew it looks for a fresh ticket first. The faults are those of `finish`, without
-    /// `NoTicket`. Where it is `Ok` or `Already` the session gives up a ticket of that update that it holds. The others stay, each with
+    /// Where the update stores pages of the blob anew it looks for a fresh ticket first. The faults are those of `finish`, and come where
+    /// they do there, without `NoTicket`. Where it is `Ok` or `Already` the session gives up a ticket of that update that it holds. The others stay, each with
     /// its row.
     pub fn finish_with<R: Threads + Wait + Sync>(
         &mut self,
@@ -390,6 +416,7 @@ impl<'a, D: BesideDoor, G: Gate> Session<'a, D, G> {
         ensures turns { UpTo 2 self.old.turns self.new.turns }
         ensures finish_turns { IfOk result (λ _. FinishTurns ticket.now self.old.turns self.new.turns) }
         ensures looks { self.new.looks_first ≡ self.old.looks_first }
+        ensures memory { IfErr result (λ fault. IfNoMemory fault (IsLeft (session_of self.new) ticket.now.blob ticket.now.version)) }
     {
         let finished = self.finish_by(rt, ticket);
         if is_settled(&finished) {
@@ -421,6 +448,7 @@ impl<'a, D: BesideDoor, G: Gate> Session<'a, D, G> {
         ensures goes_on { Continues self.old self.new }
         ensures turns { TakesTurns result 2 self.old.turns self.new.turns }
         ensures looks { self.new.looks_first ≡ self.old.looks_first }
+        ensures memory { IfErr result (λ fault. IfNoMemory fault (IsLeft (session_of self.new) blob version)) }
     {
         let finished = self.finish_anew(rt, blob, version);
         if is_settled(&finished) {
@@ -445,11 +473,12 @@ impl<'a, D: Door, G: Gate> Session<'a, D, G> {
 
     /// The ticket of a waiting version of a blob, whoever numbered it, with the hints of now: `finish_with` finishes by it. One turn.
     ///
-    /// `NoBlob` where there is no such blob, `NotPublished` where the version was never numbered, `Already` where it is finished. The
-    /// held tickets and the doors stay.
+    /// `NoBlob` where there is no such blob, `NotPublished` where the version was never numbered, `Already` where it is finished, and
+    /// `NoMemory` only where it is none of these. The held tickets and the doors stay.
     pub fn ticket_for<R: Wait>(&mut self, rt: &R, blob: u64, version: u64) -> Result<Ticket, Fault>
         ensures issuing { Issuing self.old blob version result self.new }
         ensures goes_on { Continues self.old self.new }
+        ensures memory { IfErr result (λ fault. IfNoMemory fault (IsLeft (session_of self.new) blob version)) }
     {
         match fresh_ticket(rt, self.shared, &mut self.pass, blob, version) {
             Ok(ticket) => Ok(ticket),

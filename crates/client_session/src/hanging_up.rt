@@ -48,8 +48,8 @@ fn with_one(counts: HangUp, finished: &Result<u64, Fault>) -> HangUp
 
 impl<'a, D: BesideDoor, G: Gate> Session<'a, D, G> {
     /// Gives up all tickets that the session holds, in the rising order of their numbers: each one's update is finished, or is
-    /// found finished, or stays unfinished where its finish is hindered. Then the next ticket is number 1 and an update has at most
-    /// 1,048,576 bytes, so that the session may serve somebody else. The four numbers of the answer add up to the tickets that were
+    /// found finished, or stays unfinished where its finish is hindered. Then the next ticket is number 1, an update has at most
+    /// 1,048,576 bytes and no snapshot is kept, so that the session may serve somebody else. The four numbers of the answer add up to the tickets that were
     /// held, and at least `finished` of their versions are finished in what the session has seen then. For each page fault the doors'
     /// count has risen.
     pub fn hang_up<R: Threads + Wait + Sync>(&mut self, rt: &R) -> HangUp
@@ -61,6 +61,7 @@ impl<'a, D: BesideDoor, G: Gate> Session<'a, D, G> {
         ensures rising { Rise (tickets_of self.old.held) self.old.next }
         ensures none_held { self.new.held ≡ [] }
         ensures looks { self.new.looks_first ≡ false }
+        ensures opened { self.new.opened ≡ [] }
         ensures doors_stay { length self.new.doors ≡ length self.old.doors }
         ensures truth_stays { All D.is_true self.new.doors }
         ensures goes_on { Continues self.old self.new }
@@ -84,6 +85,7 @@ impl<'a, D: BesideDoor, G: Gate> Session<'a, D, G> {
         self.next = 1;
         self.limit = UpdateLimit::AtFirst;
         self.looks_first = false;
+        self.opened.clear();
         counts
     }
 

@@ -8,7 +8,7 @@
 //! - A [`Session`] works with one pass and with doors of its own. An update is made in four steps: its pages are stored; it
 //!   is numbered, in one turn of the desk; its tree nodes are stored; it is finished, in a second turn. One of more than one page
 //!   looks first whether the store would refuse it, and so does each one of a session that was refused its last. A read takes one turn, in which it gets the version's snapshot, and then goes
-//!   through the tree without any lock.
+//!   through the tree without any lock. It keeps the snapshot, and a read of that version or one below takes no turn then.
 //! - An update that stores a page of the blob anew reads it from the version before it, so its nodes are stored once that is
 //!   published: by a fresh ticket, for which it takes one turn more.
 //! - A *ticket* is the session's hold on an update that is numbered and not finished. [`Session::start`] gives it to the

@@ -1,17 +1,17 @@
 // Many ranges of a version, read in one turn.
-ghost use Rattle.std.specs.Prelude.{◌≡◌, ◌≢◌, ℕ, ◌+◌, ◌<◌, ◌≤◌, length, map, sum_by, IfOk, OnOk, IfErr, None, Some};
+ghost use Rattle.std.specs.Prelude.{◌≡◌, ◌≢◌, ℕ, ◌+◌, ◌<◌, ◌≤◌, true, false, length, map, sum_by, IfOk, OnOk, IfErr, None, Some};
 ghost use Rattle.faults.specs.Counts.{RoseBy};
-ghost use Rattle.blob_model.specs.Content.{size_of};
 ghost use Rattle.blob_model.specs.History.{AllOther};
-ghost use Rattle.range_log.specs.Updates.{extents};
+ghost use Rattle.blob_model.specs.declared.call.Call.TheVariants as Calls;
 ghost use Rattle.request_form.specs.Replies.{fault_count};
 ghost use Rattle.request_form.specs.Answers.{Answers, ranges_fault};
 ghost use Rattle.request_form.specs.declared.form.Request.TheVariants as Requests;
 ghost use Rattle.request_form.specs.declared.form.Fault.TheVariants as Faults;
-ghost use Rattle.session_parts.specs.Ranges.{OverUpdates, bytes_in, first_end_past, visits_of, PageFailedInOne};
+ghost use Rattle.session_parts.specs.Ranges.{bytes_in};
 ghost use Rattle.client_session.specs.Losses.{IfPageLost, LostInRanges};
+ghost use Rattle.client_session.specs.Memory.{IfNoMemory, IsTakenNow};
 ghost use Rattle.client_session.specs.Results.{contents_reply};
-ghost use Rattle.client_session.specs.Opening.{IsOfStore, ReadsRanges};
+ghost use Rattle.client_session.specs.Kept.{has_opened, CameThere, RangesByKept};
 ghost use Rattle.client_session.specs.Sessions.{session_of, Continues, all_visits_seen, NoStepIfOneRefused};
 
 use crate::session::{MAX_READ, Session, range_told};
@@ -20,7 +20,6 @@ use page_store::Door;
 use ports::gate::Gate;
 use request_form::{Fault, RangeList};
 use session_parts::read_ranges;
-use snapshot::Snapshot;
 use std::sync::Wait;
 use std::sync::ledger::Ledger;
 use tree_geom::Steps;
@@ -49,8 +48,9 @@ impl<'a, D: Door, G: Gate> Session<'a, D, G> {
     /// `ReadTooLong` comes first, exactly where the ranges have more than 16,777,216 bytes together, with the length of the first
     /// range at which the running sum is past that. Then come the store's refusals, of a range that ends past the version's size the
     /// first one's, and then `PageFault`, only where every door failed of a stored page that the named page of one of the ranges
-    /// needs. It takes one turn for all ranges. From there it goes through the tree holding no lock, and the clause `steps` bounds
-    /// how many nodes it meets: none where it is refused.
+    /// needs. `NoMemory` comes only where the version is published. It takes one turn for all ranges, or none, as `read` does, and keeps
+    /// what it opens. From there it goes through the tree holding no lock, and the clause `steps` bounds how many nodes it meets: none
+    /// where it is refused.
     pub fn read_many<R: Wait, L: Ledger>(
         &mut self,
         rt: &R,
@@ -62,48 +62,54 @@ impl<'a, D: Door, G: Gate> Session<'a, D, G> {
         ensures answers { Answers AllOther (session_of self.old) (Requests.ReadMany blob version ranges.now) (contents_reply result) (session_of self.new) }
         ensures faults { RoseBy (fault_count (contents_reply result)) (sum_by D.faults self.old.doors) (sum_by D.faults self.new.doors) }
         ensures goes_on { Continues self.old self.new }
-        ensures rest { self.new ≡ record self.old { log = self.new.log; doors = self.new.doors; turns = self.new.turns } }
-        ensures one_turn { ranges_fault 0 ranges.now ≡ None → self.new.turns ≡ self.old.turns + 1 }
+        ensures rest { self.new ≡ record self.old { log = self.new.log; doors = self.new.doors; turns = self.new.turns; opened = self.new.opened } }
+        ensures one_turn { ranges_fault 0 ranges.now ≡ None → has_opened self.old.opened blob version ≡ false → self.new.turns ≡ self.old.turns + 1 }
         ensures no_turn { ranges_fault 0 ranges.now ≢ None → self.new.turns ≡ self.old.turns }
+        ensures by_opened { has_opened self.old.opened blob version ≡ true → self.new ≡ record self.old { doors = self.new.doors } }
+        ensures keeps { CameThere result → has_opened self.new.opened blob version ≡ true }
+        ensures few { length self.new.opened ≤ 4 }
         ensures steps { steps.new ≤ steps.old + all_visits_seen (session_of self.new) blob version ranges.now }
         ensures failed { IfErr result (λ fault. IfPageLost fault
             (LostInRanges self.old.store self.new.log blob version ranges.now (map D.faults self.old.doors) (map D.faults self.new.doors))) }
         ensures no_step { NoStepIfOneRefused (session_of self.new) blob version ranges.now steps.old steps.new }
+        ensures memory { IfErr result (λ fault. IfNoMemory fault (IsTakenNow (session_of self.new) (Calls.Size blob version))) }
     {
+        let _few = self.opened.count();
         let pairs = ranges.as_slice();
         let count = match total(pairs) {
             Ok(count) => count,
             Err(length) => return Err(Fault::ReadTooLong { length }),
         };
-        let snapshot = match self.open(rt, blob, version) {
-            Ok(snapshot) => snapshot,
-            Err(fault) => return Err(fault),
-        };
-        self.read_pairs(&snapshot, pairs, count, steps)
+        match self.come(rt, blob, version) {
+            Ok(_) => self.read_pairs(blob, version, pairs, count, steps),
+            Err(fault) => Err(fault),
+        }
     }
 
-    // The bytes of these ranges of a snapshot of this store. They have `count` bytes together.
+    // Reads these ranges of a version by the snapshot that is kept. They have `count` bytes together.
     fn read_pairs<L: Ledger>(
         &mut self,
-        snapshot: &Snapshot,
+        blob: u64,
+        version: u64,
         pairs: &[(u64, u64)],
         count: u64,
         steps: &mut Steps<L>,
     ) -> Result<Bytes, Fault>
-        requires of_store { IsOfStore self.old.store snapshot.now }
+        requires kept { has_opened self.old.opened blob version ≡ true }
         requires count { count ≡ bytes_in pairs.now }
-        ensures reads { OverUpdates snapshot.now (λ us. ReadsRanges snapshot.now.page_size us (length snapshot.now.rows) pairs.now result) }
+        ensures few_kept { length self.old.opened ≤ 4 }
+        ensures by { RangesByKept D.faults self.old blob version pairs.now result self.new steps.old steps.new }
         ensures faults { RoseBy (fault_count (contents_reply result)) (sum_by D.faults self.old.doors) (sum_by D.faults self.new.doors) }
-        ensures steps { OverUpdates snapshot.now (λ us. steps.new ≤ steps.old + visits_of snapshot.now.page_size (extents us) (length snapshot.now.rows) pairs.now) }
-        ensures failed { IfErr result (λ fault. IfPageLost fault
-            (PageFailedInOne snapshot.now pairs.now (map D.faults self.old.doors) (map D.faults self.new.doors))) }
-        ensures no_step { OverUpdates snapshot.now (λ us. first_end_past (size_of us (length snapshot.now.rows)) pairs.now ≢ None → steps.new ≡ steps.old) }
         ensures seen_stays { self.new ≡ record self.old { doors = self.new.doors } }
     {
+        snapshot::laws::rows_tell();
+        let _few = self.opened.count();
         let shared = self.shared;
+        let kept = self.opened.of(blob, version).unwrap();
+        kept.stands();
         range_told(read_ranges(
             self.alloc,
-            &snapshot.view(),
+            &kept.view_at(version),
             shared.nodes(),
             shared.houses(),
             &mut self.doors,

@@ -1,7 +1,8 @@
 // A session of a store.
-ghost use Rattle.std.specs.Prelude.{◌≡◌, ◌≢◌, ℕ, ◌+◌, ◌<◌, ◌≤◌, List, [], false, length, map, sum_by, Err, IfOk, IfErr, All};
+ghost use Rattle.std.specs.Prelude.{◌≡◌, ◌≢◌, ℕ, ◌+◌, ◌<◌, ◌≤◌, List, [], true, false, length, map, sum_by, Err, IfOk, IfErr, All};
 ghost use Rattle.faults.specs.Counts.{RoseBy};
 ghost use Rattle.blob_model.specs.History.{AllOther};
+ghost use Rattle.blob_model.specs.declared.call.Call.TheVariants as Calls;
 ghost use Rattle.request_form.specs.Replies.{reply_of, page_faults, fault_count};
 ghost use Rattle.request_form.specs.Answers.{Answers, max_read, max_update, max_update_greater};
 ghost use Rattle.request_form.specs.declared.form.Request.TheVariants as Requests;
@@ -13,8 +14,10 @@ ghost use Rattle.range_log.specs.Visits.{visits};
 ghost use Rattle.session_parts.specs.Ranges.{OverUpdates};
 ghost use Rattle.range_reader.specs.Faults.{PageFailedIn};
 ghost use Rattle.client_session.specs.Losses.{IfPageLost, LostInRead};
+ghost use Rattle.client_session.specs.Memory.{IfNoMemory, IsTakenNow};
 ghost use Rattle.client_session.specs.Results.{desk_fault, told_of, opened_of, range_of, create_reply, branch_reply, read_reply};
 ghost use Rattle.client_session.specs.Opening.{Opening, IsOfStore, ReadsRange};
+ghost use Rattle.client_session.specs.Kept.{has_opened, CameThere, Coming, ReadByKept};
 ghost use Rattle.client_session.specs.Sessions.{IsPassOf, session_of, pass_of, Continues, visits_seen, NoStepIfRefused, IsSettled, AnswersAsPublished};
 
 use crate::shared::Shared;
@@ -25,7 +28,7 @@ use page_store::Door;
 use ports::gate::Gate;
 use range_reader::ReadRoom;
 use request_form::{Fault, NoMemory};
-use session_parts::{RangeFault, Tickets, UpdateLimit, read_range};
+use session_parts::{Opened, RangeFault, Tickets, UpdateLimit, read_range};
 use snapshot::{Snapshot, View};
 use std::alloc::Global;
 use std::marker::Model;
@@ -104,6 +107,9 @@ fn is_pending(outcome: &Outcome) -> bool
 /// An update's pages are stored before it is numbered, and stay stored where the store refuses to number it. So a session looks first
 /// whether the store would refuse an update of more than one page; and where it was refused one, it looks first at each of its next
 /// updates, until one is numbered or it hangs up. Where a look is refused no page is stored.
+///
+/// What a read has opened of a blob the session keeps, until it hangs up: one snapshot of a blob, of at most four blobs, and the one that
+/// came first goes. A read of a version up to that takes no turn and waits for nobody, since published versions never change.
 pub struct Session<'a, D: Door, G: Gate> {
     pub(crate) alloc: Global,
     pub(crate) shared: &'a Shared,
@@ -113,6 +119,7 @@ pub struct Session<'a, D: Door, G: Gate> {
     pub(crate) held: Tickets,
     pub(crate) next: u64,
     pub(crate) room: ReadRoom,
+    pub(crate) opened: Opened,
     pub(crate) limit: UpdateLimit,
     // the store refused the last update that was tried
     pub(crate) looks_first: bool,
@@ -132,6 +139,7 @@ impl<'a, D: Door + Drop, G: Gate> Drop for Session<'a, D, G> {
             held: _,
             next: _,
             room: _,
+            opened: _,
             limit: _,
             looks_first: _,
             begun: _,
@@ -143,6 +151,7 @@ impl<'a, D: Door, G: Gate> Model for Session<'a, D, G> {
     ghost use Rattle.std.specs.Coded.{coded_list};
     ghost use Rattle.client_session.specs.Sessions.{SessionState, longest};
     ghost use Rattle.client_session.specs.SessionInvariant.{IsSession};
+    ghost use Rattle.client_session.specs.Kept.{all_kept};
 
     ghost Value = { SessionState D };
 
@@ -157,9 +166,10 @@ impl<'a, D: Door, G: Gate> Model for Session<'a, D, G> {
           limit = longest s.limit;
           looks_first = s.looks_first;
           turns = s.pass.turns;
+          opened = all_kept s.opened;
         } };
 
-    ghost invariant = { λ s. IsSession D.is_true s.shared.now s.pass s.held s.next s.doors s.room };
+    ghost invariant = { λ s. IsSession D.is_true s.shared.now s.pass s.held s.next s.doors s.room s.opened };
 }
 
 impl<'a, D: Door, G: Gate> Session<'a, D, G> {
@@ -187,6 +197,7 @@ impl<'a, D: Door, G: Gate> Session<'a, D, G> {
               limit = max_update;
               looks_first = false;
               turns = pass.turns;
+              opened = [];
             }) }
         ensures pass_back { IfErr result (λ e. e.0 ≡ pass) }
         ensures doors_back { IfErr result (λ e. e.1 ≡ doors) }
@@ -198,6 +209,9 @@ impl<'a, D: Door, G: Gate> Session<'a, D, G> {
         let Ok(room) = ReadRoom::new(alloc, shared.page_size()) else {
             return Err((pass, doors));
         };
+        let Ok(opened) = Opened::new(alloc) else {
+            return Err((pass, doors));
+        };
         Ok(Session {
             alloc,
             shared,
@@ -207,6 +221,7 @@ impl<'a, D: Door, G: Gate> Session<'a, D, G> {
             held,
             next: 1,
             room,
+            opened,
             limit: UpdateLimit::AtFirst,
             looks_first: false,
             begun: 0,
@@ -230,6 +245,7 @@ impl<'a, D: Door, G: Gate> Session<'a, D, G> {
             held: _,
             next: _,
             room: _,
+            opened: _,
             limit: _,
             looks_first: _,
             begun: _,
@@ -247,26 +263,29 @@ impl<'a, D: Door, G: Gate> Session<'a, D, G> {
         GREATER_FRAMES
     }
 
-    /// Makes an empty blob, and gives its id. One turn.
+    /// Makes an empty blob, and gives its id. One turn. `NoMemory` comes only where the store takes the call in that turn.
     pub fn create<R: Wait>(&mut self, rt: &R) -> Result<u64, Fault>
         ensures answers { Answers AllOther (session_of self.old) Requests.Create (create_reply result) (session_of self.new) }
         ensures faults { RoseBy (fault_count (create_reply result)) (sum_by D.faults self.old.doors) (sum_by D.faults self.new.doors) }
         ensures goes_on { Continues self.old self.new }
         ensures rest { self.new ≡ record self.old { log = self.new.log; turns = self.new.turns } }
         ensures one_turn { self.new.turns ≡ self.old.turns + 1 }
+        ensures memory { IfErr result (λ fault. IfNoMemory fault (IsTakenNow (session_of self.new) Calls.Create)) }
     {
         version_manager::laws::gaps_are_of_others();
         let shared = self.shared;
         told(shared.desk().create(rt, &mut self.pass))
     }
 
-    /// Makes a blob that shares the versions of this one up to a published one, and gives its id. One turn.
+    /// Makes a blob that shares the versions of this one up to a published one, and gives its id. One turn. `NoMemory` comes only where
+    /// the store takes the call in that turn.
     pub fn branch<R: Wait>(&mut self, rt: &R, blob: u64, version: u64) -> Result<u64, Fault>
         ensures answers { Answers AllOther (session_of self.old) (Requests.Branch blob version) (branch_reply result) (session_of self.new) }
         ensures faults { RoseBy (fault_count (branch_reply result)) (sum_by D.faults self.old.doors) (sum_by D.faults self.new.doors) }
         ensures goes_on { Continues self.old self.new }
         ensures rest { self.new ≡ record self.old { log = self.new.log; turns = self.new.turns } }
         ensures one_turn { self.new.turns ≡ self.old.turns + 1 }
+        ensures memory { IfErr result (λ fault. IfNoMemory fault (IsTakenNow (session_of self.new) (Calls.Branch blob version))) }
     {
         version_manager::laws::gaps_are_of_others();
         let shared = self.shared;
@@ -349,10 +368,12 @@ impl<'a, D: Door, G: Gate> Session<'a, D, G> {
     /// `count` bytes of a published version from byte `offset` on.
     ///
     /// `ReadTooLong` comes first, exactly where more than 16,777,216 bytes are asked for, then the store's refusals, then
-    /// `PageFault`, only where every door failed of a stored page that the named page of the range needs. It takes one turn, in
-    /// which it gets the version's snapshot. From there it goes through the tree holding no lock,
-    /// and the clause `steps` bounds how many nodes it meets: none where it is refused. Where the version is published in any history that the session has
-    /// seen, the reply is what the store of that history answers, whatever has come since.
+    /// `PageFault`, only where every door failed of a stored page that the named page of the range needs. `NoMemory` comes only where
+    /// the version is published. Where the session keeps a snapshot of the blob that reaches the version, it reads by that: it takes no
+    /// turn, waits for nobody and sees nothing new. Else it takes one turn, in which it gets the version's snapshot, and keeps that,
+    /// whatever becomes of the range. From there it goes through the tree holding no lock, and the clause `steps` bounds how many nodes it
+    /// meets: none where it is refused. Where the version is published in any history that the session has seen, the reply is what the
+    /// store of that history answers, whatever has come since.
     pub fn read<R: Wait, L: Ledger>(
         &mut self,
         rt: &R,
@@ -365,35 +386,93 @@ impl<'a, D: Door, G: Gate> Session<'a, D, G> {
         ensures answers { Answers AllOther (session_of self.old) (Requests.Read blob version offset count) (read_reply result) (session_of self.new) }
         ensures faults { RoseBy (fault_count (read_reply result)) (sum_by D.faults self.old.doors) (sum_by D.faults self.new.doors) }
         ensures goes_on { Continues self.old self.new }
-        ensures rest { self.new ≡ record self.old { log = self.new.log; doors = self.new.doors; turns = self.new.turns } }
-        ensures one_turn { count ≤ max_read → self.new.turns ≡ self.old.turns + 1 }
+        ensures rest { self.new ≡ record self.old { log = self.new.log; doors = self.new.doors; turns = self.new.turns; opened = self.new.opened } }
+        ensures one_turn { count ≤ max_read → has_opened self.old.opened blob version ≡ false → self.new.turns ≡ self.old.turns + 1 }
         ensures no_turn { max_read < count → self.new.turns ≡ self.old.turns }
+        ensures by_opened { has_opened self.old.opened blob version ≡ true → self.new ≡ record self.old { doors = self.new.doors } }
+        ensures keeps { CameThere result → has_opened self.new.opened blob version ≡ true }
+        ensures few { length self.new.opened ≤ 4 }
         ensures steps { steps.new ≤ steps.old + visits_seen (session_of self.new) blob version offset count }
         ensures failed { IfErr result (λ fault. IfPageLost fault
             (LostInRead self.old.store self.new.log blob version offset count (map D.faults self.old.doors) (map D.faults self.new.doors))) }
         ensures stays { AnswersAsPublished (session_of self.new) (record { blob = blob; version = version; offset = offset; count = count }) (read_reply result) }
         ensures no_step { NoStepIfRefused (session_of self.new) blob version offset count steps.old steps.new }
+        ensures memory { IfErr result (λ fault. IfNoMemory fault (IsTakenNow (session_of self.new) (Calls.Size blob version))) }
     {
+        let _few = self.opened.count();
         if MAX_READ < count {
             return Err(Fault::ReadTooLong { length: count });
         }
         request_form::laws::published_reads_stay();
-        let snapshot = match self.open(rt, blob, version) {
-            Ok(snapshot) => snapshot,
-            Err(fault) => return Err(fault),
-        };
-        self.read_at(&snapshot, offset, count, steps)
+        match self.come(rt, blob, version) {
+            Ok(_) => self.read_kept(blob, version, offset, count, steps),
+            Err(fault) => Err(fault),
+        }
+    }
+
+    // Comes to a version that is read then: by a snapshot that is kept, or by one that is opened in a turn, and kept.
+    pub(crate) fn come<R: Wait>(&mut self, rt: &R, blob: u64, version: u64) -> Result<(), Fault>
+        ensures coming { Coming self.old blob version result self.new }
+        ensures calm { IfErr result (λ fault. page_faults fault ≡ 0) }
+        ensures goes_on { Continues self.old self.new }
+        ensures memory { IfErr result (λ fault. IfNoMemory fault (IsTakenNow (session_of self.new) (Calls.Size blob version))) }
+    {
+        if self.opened.of(blob, version).is_some() {
+            return Ok(());
+        }
+        match self.open(rt, blob, version) {
+            Ok(snapshot) => {
+                self.opened.keep(snapshot);
+                Ok(())
+            }
+            Err(fault) => Err(fault),
+        }
+    }
+
+    // Reads a range of a version by the snapshot that is kept.
+    fn read_kept<L: Ledger>(
+        &mut self,
+        blob: u64,
+        version: u64,
+        offset: u64,
+        count: u64,
+        steps: &mut Steps<L>,
+    ) -> Result<Bytes, Fault>
+        requires kept { has_opened self.old.opened blob version ≡ true }
+        requires few { count ≤ max_read }
+        ensures few_kept { length self.old.opened ≤ 4 }
+        ensures by { ReadByKept D.faults self.old blob version offset count result self.new steps.old steps.new }
+        ensures faults { RoseBy (fault_count (read_reply result)) (sum_by D.faults self.old.doors) (sum_by D.faults self.new.doors) }
+        ensures seen_stays { self.new ≡ record self.old { doors = self.new.doors } }
+    {
+        snapshot::laws::rows_tell();
+        let _few = self.opened.count();
+        let shared = self.shared;
+        let kept = self.opened.of(blob, version).unwrap();
+        kept.stands();
+        range_told(read_range(
+            self.alloc,
+            &kept.view_at(version),
+            shared.nodes(),
+            shared.houses(),
+            &mut self.doors,
+            &mut self.room,
+            offset,
+            count,
+            steps,
+        ))
     }
 
     /// A snapshot of a published version, by which the version is read as often as wanted, with no further turn. One turn.
     ///
     /// `NoBlob` comes exactly where there is no such blob, and then `NotPublished` exactly where the version isn't published, both by
-    /// what the session has seen then; the snapshot has the size that the store of that history answers. Nothing is entered, and the
-    /// doors and the held tickets stay. A snapshot is good as long as it is kept, whatever comes later.
+    /// what the session has seen then, and `NoMemory` only where it is; the snapshot has the size that the store of that history answers.
+    /// Nothing is entered, and the doors and the held tickets stay. A snapshot is good as long as it is kept, whatever comes later.
     pub fn open<R: Wait>(&mut self, rt: &R, blob: u64, version: u64) -> Result<Snapshot, Fault>
         ensures opening { Opening self.old blob version result self.new }
         ensures calm { IfErr result (λ fault. page_faults fault ≡ 0) }
         ensures goes_on { Continues self.old self.new }
+        ensures memory { IfErr result (λ fault. IfNoMemory fault (IsTakenNow (session_of self.new) (Calls.Size blob version))) }
     {
         version_manager::laws::gaps_are_of_others();
         let shared = self.shared;

@@ -8,6 +8,7 @@ ghost use Rattle.blob_model.specs.History.{AllOther};
 ghost use Rattle.blob_model.specs.declared.call.Place.TheVariants.{WriteAt, Append};
 ghost use Rattle.page_store.specs.Stored.{bytes_of_pages};
 ghost use Rattle.page_fan.specs.Counts.{NoneFell};
+ghost use Rattle.page_writer.specs.Put.{ArePut};
 ghost use Rattle.request_form.specs.Session.{Session as Seen, store_at};
 ghost use Rattle.request_form.specs.Replies.{page_faults, fault_count};
 ghost use Rattle.request_form.specs.Answers.{Answers, update_fault, folds_in, update_faults, is_waiting_in};
@@ -23,6 +24,7 @@ ghost use Rattle.client_session.specs.TurnCounts.{IsPlainRefusal, RefusedEarly, 
 ghost use Rattle.client_session.specs.Losses.{IfPageLost, LostFirst, LostAnew, LostOrWaits};
 ghost use Rattle.client_session.specs.Looking.{looks_after, looks_then, LostBehindLook};
 ghost use Rattle.client_session.specs.Numbering.{LookedAhead, NotNumberedFor, Numbering};
+ghost use Rattle.client_session.specs.Putting.{WerePut, WerePutAlone};
 ghost use Rattle.client_session.specs.Updates.{update_request, start_request, start_reply, WasNumbered, NotNumbered, IsKept};
 
 use crate::session::{Session, fault_of};
@@ -153,6 +155,7 @@ fn prepare<D: BesideDoor, R: Threads + Wait + Sync>(
     ensures looked { IfOk result (λ _. LookedAhead shared.now.fixed pass.old.caller pass.old.seen looks_first asked.entry.blob asked.entry.place asked.entry.bytes.now None pass.new.seen) }
     ensures bytes { IfOk result (λ pages. bytes_of_pages (arc_value pages).pages ≡ asked.entry.bytes.now) }
     ensures ready { IfOk result (λ pages. MayAssign (arc_value pages) shared.now.fixed) }
+    ensures put { IfOk result (λ pages. ArePut D.called D.faults shared.now.providers shared.now.replicas doors.old doors.new (arc_value pages).pages) }
     ensures refused { IfErr result (λ fault. NotNumberedFor (bare shared.now.fixed pass.old.caller pass.old.seen) asked.entry.blob asked.entry.place asked.entry.bytes.now fault
         (bare shared.now.fixed pass.old.caller pass.new.seen)) }
     ensures first_lost { IfErr result (λ fault. IfPageLost fault (LostFirst shared.now asked.entry.bytes.now (map D.faults doors.old) (map D.faults doors.new))) }
@@ -205,6 +208,7 @@ fn number_stored<R: Wait>(
     ensures one_turn { pass.new.turns ≡ pass.old.turns + 1 }
     ensures went { Went shared.now.fixed pass.old.seen pass.new.seen }
     ensures numbered { IfOk result (λ t. Numbering shared.now.fixed pass.old.caller pass.old.seen blob place (bytes_of_pages (arc_value pages).pages) t pass.new.seen) }
+    ensures pages { IfOk result (λ t. t.pages ≡ arc_value pages) }
     ensures refused { IfErr result (λ fault. NotNumberedFor (bare shared.now.fixed pass.old.caller pass.old.seen) blob place (bytes_of_pages (arc_value pages).pages) fault
         (bare shared.now.fixed pass.old.caller pass.new.seen)) }
     ensures calm { IfErr result (λ fault. page_faults fault ≡ 0) }
@@ -230,6 +234,7 @@ impl<'a, D: BesideDoor, G: Gate> Session<'a, D, G> {
     ) -> Result<Ticket, Fault>
         requires sync { IsSync R.row }
         ensures numbered { IfOk result (λ t. WasNumbered self.old blob place bytes.now t self.new) }
+        ensures put { IfOk result (WerePut D.called D.faults self.old self.new) }
         ensures refused { IfErr result (λ fault. NotNumbered self.old blob place bytes.now fault self.new) }
         ensures first_lost { IfErr result (λ fault. IfPageLost fault (LostFirst self.old.store bytes.now (map D.faults self.old.doors) (map D.faults self.new.doors))) }
         ensures lost_behind { IfErr result (λ fault. IfPageLost fault (λ _. LostBehindLook self.old (length bytes.now) self.new)) }
@@ -316,6 +321,7 @@ impl<'a, D: BesideDoor, G: Gate> Session<'a, D, G> {
             → HasRow self.new.held started.ticket) }
         ensures alone { IfOk result (λ started. folds_in self.new.store.fixed.page_size (store_at (session_of self.new) []) blob started.version ≢ []
             → HasNoRow self.new.held started.ticket) }
+        ensures put { IfOk result (λ started. WerePutAlone D.called D.faults self.old self.new started.ticket) }
         ensures held_stay { AllHeldStill self.old.held self.new.held }
         ensures first_lost { IfErr result (λ fault. IfPageLost fault (LostFirst self.old.store bytes.now (map D.faults self.old.doors) (map D.faults self.new.doors))) }
         ensures lost_behind { IfErr result (λ fault. IfPageLost fault (λ _. LostBehindLook self.old (length bytes.now) self.new)) }

@@ -66,7 +66,35 @@ static CALLS: [(u64, &str, &str); 6] = [
     ),
 ];
 
-// Over doors of one provider of which this call fails, the versions and then these lines are answered so.
+// Doors that fail at these calls, the list of provider 1 first.
+fn maker_of<R: Abort>(rt: &R, alloc: Global, failing: &[&[u64]]) -> FlakyMaker {
+    let mut lists = Vec::new(alloc);
+    for calls in failing {
+        let list = calls.to_vec(alloc).expect(rt, "memory");
+        lists.push(list).expect(rt, "memory");
+    }
+    FlakyMaker::new(alloc, lists)
+}
+
+// Over doors that fail at these calls, and so many times in all, the versions and then these lines are answered so.
+fn answered_so<R: Wait + Threads + Sync + Abort>(
+    rt: &R,
+    alloc: Global,
+    words: &str,
+    failing: &[&[u64]],
+    lines: &str,
+    replies: &str,
+    faults: u64,
+) -> bool {
+    let script = format!(in alloc; "{BEFORE}{lines}").expect(rt, "memory");
+    let source = MemSource::new(script.into_bytes(), ROOM, Vec::new(alloc));
+    let mut doors = maker_of(rt, alloc, failing);
+    let ran = run_over(rt, alloc, words, source, ROOM, &mut doors);
+    let (_, said) = split_lines(ran.out.bytes(), LINES);
+    said == replies.as_bytes() && ran.ended_with(0) && doors.faults() == faults
+}
+
+// So it is over one door of which this call fails.
 fn check_lines<R: Wait + Threads + Sync + Abort>(
     rt: &R,
     alloc: Global,
@@ -74,14 +102,9 @@ fn check_lines<R: Wait + Threads + Sync + Abort>(
     lines: &str,
     replies: &str,
 ) {
-    let script = format!(in alloc; "{BEFORE}{lines}").expect(rt, "memory");
-    let source = MemSource::new(script.into_bytes(), ROOM, Vec::new(alloc));
-    let list = vec![in alloc; call].expect(rt, "memory");
-    let lists = vec![in alloc; list].expect(rt, "memory");
-    let mut doors = FlakyMaker::new(alloc, lists);
-    let ran = run_over(rt, alloc, WORDS, source, ROOM, &mut doors);
-    let (_, said) = split_lines(ran.out.bytes(), LINES);
-    let is_so = said == replies.as_bytes() && ran.ended_with(0) && doors.faults() == 1;
+    let calls = [call];
+    let failing = [calls.as_slice()];
+    let is_so = answered_so(rt, alloc, WORDS, failing.as_slice(), lines, replies, 1);
     assert!(rt; is_so, "call {call}");
 }
 
@@ -90,5 +113,43 @@ fn a_finish_that_stores_a_page_anew_is_done_again_where_a_call_of_a_door_failed(
     for (call, started, at_once) in CALLS.as_slice() {
         check_lines(&rt, rt.alloc(), *call, STARTED, started);
         check_lines(&rt, rt.alloc(), *call, AT_ONCE, at_once);
+    }
+}
+
+// Of seventeen pages the first lies at the providers 1 and 2, the sixteenth too, and the last at 3 and 1. So the page that is stored anew, the
+// eighteenth, is placed at 2 and 3, by the twelfth call of the door of 2 and the thirteenth of that of 3. Then a read begins at 2.
+const THREE: &str = "run --page 4 --providers 3 --replicas 2";
+
+const PUBLISHED: &str =
+    "ticket 1 version 17 at 0 size 2\npublished 17\nerror no-ticket 1\ndata bb00\n";
+
+const LOST: &str =
+    "ticket 1 version 17 at 0 size 2\npublished 17\nerror no-ticket 1\nerror page-fault 0\n";
+
+// The calls that fail of each provider's door, the replies to `STARTED`, and how many fail.
+static REPLICAS: [(&[&[u64]], &str, u64); 6] = [
+    // One replica is stored, and is read.
+    (&[&[], &[12], &[]], PUBLISHED, 1),
+    (&[&[], &[], &[13]], PUBLISHED, 1),
+    // There is no other.
+    (&[&[], &[12], &[14]], LOST, 2),
+    (&[&[], &[13], &[13]], LOST, 2),
+    // Where both are stored, one of them is enough for the read.
+    (&[&[], &[13], &[]], PUBLISHED, 1),
+    // None is stored at first.
+    (
+        &[&[], &[12], &[13]],
+        "ticket 1 version 17 at 0 size 2\nerror page-fault 0\npublished 17\ndata bb00\n",
+        2,
+    ),
+];
+
+#[test]
+fn a_page_that_is_stored_anew_has_a_replica_wherever_a_door_of_its_placement_took_it(
+    rt: HostRuntime,
+) {
+    for (failing, replies, faults) in REPLICAS.as_slice() {
+        let is_so = answered_so(&rt, rt.alloc(), THREE, *failing, STARTED, replies, *faults);
+        assert!(rt; is_so, "{faults} faults");
     }
 }

@@ -7,6 +7,8 @@ mod calls;
 #[cfg(test)]
 mod hanging_up;
 #[cfg(test)]
+mod hindered;
+#[cfg(test)]
 mod repairing;
 #[cfg(test)]
 mod store;

@@ -2,10 +2,9 @@ use Rattle.std.proofs.Common.{refl, List, subst}
 use Rattle.std.specs.Arc.{arc_value}
 use Rattle.boxcar.specs.Table.{Shelves}
 use Rattle.tree_weaver.specs.Woven.{IsWoven}
-use Rattle.client_session.proofs.Losses.{calm_repair}
+use Rattle.client_session.proofs.Losses.{calm_lost, calm_repair}
 use Rattle.client_session.proofs.Opened.{may_finish_woven}
 use Rattle.client_session.proofs.Folding.{none_in_order}
-use Rattle.client_session.proofs.Finished.{starved}
 use Rattle.client_session.proofs.Untouched.{same_anyway}
 use Rattle.client_session.proofs.finishing.finish_by.Goals as goal
 
@@ -20,8 +19,8 @@ report-requires-clause-may g c =
 pub returns-in-Ok-Some-clause-failed : goal.returns-in-Ok-Some-clause-failed
 returns-in-Ok-Some-clause-failed g c = calm_repair c.report.result _ c.report.ensures.calm
 
-pub returns-in-Err-clause-finishing : goal.returns-in-Err-clause-finishing
-returns-in-Err-clause-finishing g c = starved c.args.shared.now.fixed c.args.pass.now.caller c.args.pass.now.seen c.args.ticket.now.blob c.args.ticket.now.version
+pub returns-in-Err-clause-failed : goal.returns-in-Err-clause-failed
+returns-in-Err-clause-failed g c = calm_lost c.starved.result _ c.starved.ensures.calm
 
 pub returns-in-Ok-Some-clause-untouched : goal.returns-in-Ok-Some-clause-untouched
 returns-in-Ok-Some-clause-untouched g c = same_anyway c.report.result _ refl

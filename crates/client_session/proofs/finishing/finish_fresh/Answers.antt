@@ -12,6 +12,7 @@ use Rattle.client_session.proofs.Opened.{may_finish_woven}
 use Rattle.turn_lock.proofs.Histories.{begins_both}
 use Rattle.client_session.proofs.RangeAnswers.{rose_none}
 use Rattle.client_session.proofs.Untouched.{too_late}
+use Rattle.client_session.proofs.Memory.{desk_memory, left_waiting}
 use Rattle.client_session.proofs.finishing.finish_fresh.Goals as goal
 
 pub returns-in-Err-clause-finishing : goal.returns-in-Err-clause-finishing
@@ -74,3 +75,10 @@ returns-in-Err-woven_or_why-clause-untouched g c = λ r. c.in-Err-woven_or_why.e
 
 pub returns-clause-untouched : goal.returns-clause-untouched
 returns-clause-untouched g c = too_late c.report.result 2 c.args.pass.now.turns c.report.new.pass.turns _ (omega (arith, c.fresh_ticket.ensures.one_turn, c.report.ensures.one_turn))
+
+pub returns-in-Err-clause-memory : goal.returns-in-Err-clause-memory
+returns-in-Err-clause-memory g c = rw c.fault_of.ensures.is (desk_memory c.in-Err.fault _ c.in-Err.ensures.looked.memory)
+
+pub returns-in-Err-woven_or_why-clause-memory : goal.returns-in-Err-woven_or_why-clause-memory
+returns-in-Err-woven_or_why-clause-memory g c = λ is.
+    left_waiting c.args.shared.now.fixed c.args.pass.now.caller c.fresh_ticket.new.pass.seen c.args.update.blob c.args.update.version c.in-Ok.ensures.looked.ticket.unfinished

@@ -70,3 +70,8 @@ pub returns-clause-went : goal.returns-clause-went
 returns-clause-went g c =
     went c.gaps_are_of_others.ensures c.args.shared.now.fixed c.args.pass.now c.assign.new.pass c.requires.pass.fixed c.args.blob c.args.place (arc_value c.args.pages)
     (Err c.in-Err.fault) c.in-Err.ensures.turned
+
+pub returns-in-Ok-clause-pages : goal.returns-in-Ok-clause-pages
+returns-in-Ok-clause-pages g c =
+    (turn c.gaps_are_of_others.ensures c.args.shared.now.fixed c.args.pass.now c.assign.new.pass c.requires.pass.fixed c.args.blob c.args.place (arc_value c.args.pages) (Ok c.in-Ok.ticket)
+    c.in-Ok.ensures.turned).gives.1.pages_are

@@ -38,3 +38,6 @@ returns-in-Some-clause-refused g c =
 
 pub returns-in-Err-clause-untouched : goal.returns-in-Err-clause-untouched
 returns-in-Err-clause-untouched g c = rw c.fault_of_storing.ensures (plain_stored c.in-Err.fault)
+
+pub returns-in-Ok-clause-put : goal.returns-in-Ok-clause-put
+returns-in-Ok-clause-put g c = rw (← c.loads.ensures.providers, ← c.loads.ensures.replicas) c.in-Ok.ensures.put

@@ -11,6 +11,7 @@ use Rattle.client_session.specs.Sessions.{longest}
 use Rattle.client_session.proofs.Turns.{Took, took, went_changed}
 use Rattle.client_session.proofs.Standing.{session_after}
 use Rattle.client_session.proofs.Answering.{branch_told}
+use Rattle.client_session.proofs.Memory.{changed_memory}
 use Rattle.client_session.proofs.session.Session.branch.Goals as goal
 
 pub invariant_of-self : goal.invariant_of-self
@@ -53,3 +54,14 @@ pub returns-clause-rest : goal.returns-clause-rest
 returns-clause-rest g c =
     let same : c.branch-desk.new.pass.caller ≡ c.self.inside.pass.caller = ap (λ (p : PassView Event DeskFixed). p.caller) c.branch-desk.ensures.pass in
     rw (← c.self.view_is, same) refl
+
+pub returns-clause-memory : goal.returns-clause-memory
+returns-clause-memory g c =
+    let i = c.self.inside in
+    let by = i.pass.caller in
+    let fixed = i.shared.now.fixed in
+    let t : Took by i.pass.seen c.branch-desk.new.pass.seen (λ before after. Changed fixed (Calls.Branch c.args.blob c.args.version) (Events.Branch by c.args.blob c.args.version) (λ id. Outcomes.Blob id) (λ (x : DeskFault). x) before by c.branch-desk.result after) =
+    took c.gaps_are_of_others.ensures fixed i.pass c.branch-desk.new.pass (λ before f after. Changed f (Calls.Branch c.args.blob c.args.version) (Events.Branch by c.args.blob c.args.version) (λ id. Outcomes.Blob id) (λ (x : DeskFault). x) before by c.branch-desk.result after) c.self.invariant.pass_is.fixed (λ before after x. x.log) c.branch-desk.ensures.turned
+    in
+    let same : c.branch-desk.new.pass.caller ≡ by = ap (λ (p : PassView Event DeskFixed). p.caller) c.branch-desk.ensures.pass in
+    rw (c.told.ensures.is, same) (changed_memory fixed by i.pass.seen c.branch-desk.new.pass.seen i.held i.next (longest i.limit) (Calls.Branch c.args.blob c.args.version) (Events.Branch by c.args.blob c.args.version) c.branch-desk.result t)

@@ -2,6 +2,7 @@ use Rattle.std.proofs.Common.{◌≡◌, sym, ◌∙◌, ap, subst, ℕ, ◌<◌
 use Rattle.std.specs.Prelude.{remove}
 use Rattle.session_parts.specs.Tickets.{OpenUpdate, IsHeldAt}
 use Rattle.session_parts.proofs.HeldRows.{at_index}
+use Rattle.session_parts.specs.Opened.{all_kept}
 use Rattle.client_session.specs.SessionInvariant.{IsOpen, IsSession}
 use Rattle.client_session.specs.Sessions.{SessionState, longest}
 use Rattle.client_session.proofs.HeldFinishes.{finish_settled, finish_open}
@@ -12,6 +13,7 @@ use Rattle.client_session.proofs.TurnCounts.{held_turns}
 use Rattle.std.proofs.lemmas.Bool.{false≢true}
 use Rattle.client_session.specs.TurnCounts.{UpTo}
 use Rattle.client_session.proofs.Untouched.{RisingPairs, by_row}
+use Rattle.client_session.proofs.Memory.{settled_memory, held_memory}
 use Rattle.client_session.proofs.session.Session.finish.Goals as goal
 
 pub invariant_of-self : goal.invariant_of-self
@@ -25,7 +27,7 @@ invariant_of-self g c =
     ap (λ (s : SessionState g.row.D.Denot). s.held) c.self-2.view_is ∙ ap (λ (s : SessionState g.row.D.Denot). s.held) c.finish_at-finished.ensures.rest in
     let h : IsHeldAt v.held c.args.ticket index = subst (λ (os : List OpenUpdate). IsHeldAt os c.args.ticket index) held0 c.in-Some.ensures in
     let within : index < length i.held = subst (λ (os : List OpenUpdate). index < length os) (sym held2) h.within in
-    subst (λ (os : List OpenUpdate). IsSession g.D.Door.is_true i.shared.now i.pass os i.next i.doors i.room) (sym c.remove.ensures)
+    subst (λ (os : List OpenUpdate). IsSession g.D.Door.is_true i.shared.now i.pass os i.next i.doors i.room i.opened) (sym c.remove.ensures)
     (record {
       pass_is = inv.pass_is;
       holding = holding_remove i.shared.now.fixed i.pass.seen i.held i.next index within inv.holding;
@@ -33,6 +35,7 @@ invariant_of-self g c =
       served = inv.served;
       true_doors = inv.true_doors;
       marks = inv.marks;
+      kept = inv.kept;
     })
 
 pub returns-then-is_settled-clause-answers : goal.returns-then-is_settled-clause-answers
@@ -41,7 +44,7 @@ returns-then-is_settled-clause-answers g c =
     let i0 = c.self.inside in
     let m = c.finish_at-finished.new.self in
     let index = c.in-Some.index in
-    let v0 : SessionState g.row.D.Denot = record { store = i0.shared.now; caller = i0.pass.caller; log = i0.pass.seen; held = i0.held; next = i0.next; doors = i0.doors; limit = longest i0.limit; looks_first = i0.looks_first; turns = i0.pass.turns } in
+    let v0 : SessionState g.row.D.Denot = record { store = i0.shared.now; caller = i0.pass.caller; log = i0.pass.seen; held = i0.held; next = i0.next; doors = i0.doors; limit = longest i0.limit; looks_first = i0.looks_first; turns = i0.pass.turns; opened = all_kept i0.opened } in
     let all : (k : IsHeldAt v0.held c.args.ticket index) → IsOpen v0.store.fixed v0.log k.update =
     λ k. at_index (IsOpen i0.shared.now.fixed i0.pass.seen) i0.held index k.update k.is c.self.invariant.holding.open_ in
     let all' : (k : IsHeldAt v.held c.args.ticket index) → IsOpen v.store.fixed v.log k.update =
@@ -57,7 +60,7 @@ returns-else-is_settled-clause-answers g c =
     let i0 = c.self.inside in
     let m = c.finish_at-finished.new.self in
     let index = c.in-Some.index in
-    let v0 : SessionState g.row.D.Denot = record { store = i0.shared.now; caller = i0.pass.caller; log = i0.pass.seen; held = i0.held; next = i0.next; doors = i0.doors; limit = longest i0.limit; looks_first = i0.looks_first; turns = i0.pass.turns } in
+    let v0 : SessionState g.row.D.Denot = record { store = i0.shared.now; caller = i0.pass.caller; log = i0.pass.seen; held = i0.held; next = i0.next; doors = i0.doors; limit = longest i0.limit; looks_first = i0.looks_first; turns = i0.pass.turns; opened = all_kept i0.opened } in
     let all : (k : IsHeldAt v0.held c.args.ticket index) → IsOpen v0.store.fixed v0.log k.update =
     λ k. at_index (IsOpen i0.shared.now.fixed i0.pass.seen) i0.held index k.update k.is c.self.invariant.holding.open_ in
     let all' : (k : IsHeldAt v.held c.args.ticket index) → IsOpen v.store.fixed v.log k.update =
@@ -136,3 +139,12 @@ returns-then-is_settled-clause-given_up g c = λ settled.
 
 pub returns-else-is_settled-clause-given_up : goal.returns-else-is_settled-clause-given_up
 returns-else-is_settled-clause-given_up g c = λ settled. absurd (false≢true (c.if-is_settled.ensures ∙ settled))
+
+pub returns-then-is_settled-clause-memory : goal.returns-then-is_settled-clause-memory
+returns-then-is_settled-clause-memory g c = settled_memory c.finish_at-finished.result _ (sym c.if-is_settled.ensures)
+
+pub returns-else-is_settled-clause-memory : goal.returns-else-is_settled-clause-memory
+returns-else-is_settled-clause-memory g c =
+    let v = c.args.self.now in
+    let h : IsHeldAt v.held c.args.ticket c.in-Some.index = subst (λ (x : SessionState g.row.D.Denot). IsHeldAt x.held c.args.ticket c.in-Some.index) c.self.view_is c.in-Some.ensures in
+    held_memory v.held c.args.ticket c.in-Some.index h _ c.finish_at-finished.result (c.finish_at-finished.ensures.memory h.update h.is)

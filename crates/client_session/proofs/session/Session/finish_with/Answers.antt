@@ -5,6 +5,7 @@ use Rattle.std.proofs.lemmas.Bool.{false≢true}
 use Rattle.session_parts.specs.Tickets.{OpenUpdate}
 use Rattle.client_session.specs.Sessions.{SessionState}
 use Rattle.client_session.specs.Tickets.{WithoutVersion}
+use Rattle.client_session.proofs.Memory.{settled_memory}
 use Rattle.client_session.proofs.session.Session.finish_with.Goals as goal
 
 pub returns-then-is_settled-clause-answers : goal.returns-then-is_settled-clause-answers
@@ -39,3 +40,6 @@ returns-then-is_settled-clause-let_go g c = λ settled.
 
 pub returns-else-is_settled-clause-let_go : goal.returns-else-is_settled-clause-let_go
 returns-else-is_settled-clause-let_go g c = λ settled. absurd (false≢true (sym (sym c.is_settled.ensures ∙ c.if-is_settled.false) ∙ settled))
+
+pub returns-then-is_settled-clause-memory : goal.returns-then-is_settled-clause-memory
+returns-then-is_settled-clause-memory g c = settled_memory c.finish_by-finished.result _ (sym c.is_settled.ensures ∙ c.if-is_settled.true)

@@ -3,6 +3,7 @@ use Rattle.std.specs.Prelude.{remove}
 use Rattle.blob_model.specs.History.{AllOther}
 use Rattle.request_form.specs.Session.{Session, HeldTicket, ticket_at, drops, without_ticket}
 use Rattle.request_form.specs.Answers.{FinishAnswer}
+use Rattle.session_parts.specs.Opened.{all_kept}
 use Rattle.client_session.specs.SessionInvariant.{IsSession}
 use Rattle.client_session.specs.HangUp.{tells_hindered}
 use Rattle.client_session.specs.Results.{finish_reply}
@@ -67,7 +68,7 @@ invariant_of-self g c =
     let held2 : i.held ≡ mid.held = ap (λ (s : SessionState g.row.D.Denot). s.held) c.self-2.view_is in
     let kept : tickets_of i.held ≡ t ∷ ts = ap tickets_of held2 ∙ still in
     let s = c.self-2.invariant in
-    subst (λ (os : List OpenUpdate). IsSession g.D.Door.is_true i.shared.now i.pass os i.next i.doors i.room) (sym c.remove.ensures)
+    subst (λ (os : List OpenUpdate). IsSession g.D.Door.is_true i.shared.now i.pass os i.next i.doors i.room i.opened) (sym c.remove.ensures)
     (record {
       pass_is = s.pass_is;
       holding = holding_remove i.shared.now.fixed i.pass.seen i.held i.next 0 (some_left i.held t ts kept) s.holding;
@@ -75,6 +76,7 @@ invariant_of-self g c =
       served = s.served;
       true_doors = s.true_doors;
       marks = s.marks;
+      kept = s.kept;
     })
 
 pub returns-clause-given_up : goal.returns-clause-given_up
@@ -94,10 +96,10 @@ returns-clause-given_up g c = λ t ts is.
     let kept : tickets_of i.held ≡ t ∷ ts = ap tickets_of held2 ∙ still in
     let left : tickets_of c.remove.new.self ≡ ts = ap tickets_of c.remove.ensures ∙ (tickets_of-remove i.held 0 ∙ ap (λ (hs : List HeldTicket). remove hs 0) kept) in
     let s' : Session = session_at i.shared.now.fixed i.pass.caller i.pass.seen c.remove.new.self i.next (longest i.limit) in
-    let by_mid : session_of (record { store = i.shared.now; caller = i.pass.caller; log = i.pass.seen; held = i.held; next = i.next; doors = i.doors; limit = longest i.limit; looks_first = i.looks_first; turns = i.pass.turns }) ≡ session_of mid = ap (λ (s : SessionState g.row.D.Denot). session_of s) c.self-2.view_is in
+    let by_mid : session_of (record { store = i.shared.now; caller = i.pass.caller; log = i.pass.seen; held = i.held; next = i.next; doors = i.doors; limit = longest i.limit; looks_first = i.looks_first; turns = i.pass.turns; opened = all_kept i.opened }) ≡ session_of mid = ap (λ (s : SessionState g.row.D.Denot). session_of s) c.self-2.view_is in
     let gone : without_ticket (session_of mid).tickets t.number ≡ ts = left_first mid t ts still in
     let dropped : s' ≡ drops (session_of mid) t.number =
-    ap (λ (hs : List HeldTicket). with_those (session_of (record { store = i.shared.now; caller = i.pass.caller; log = i.pass.seen; held = i.held; next = i.next; doors = i.doors; limit = longest i.limit; looks_first = i.looks_first; turns = i.pass.turns })) hs) (left ∙ sym gone)
+    ap (λ (hs : List HeldTicket). with_those (session_of (record { store = i.shared.now; caller = i.pass.caller; log = i.pass.seen; held = i.held; next = i.next; doors = i.doors; limit = longest i.limit; looks_first = i.looks_first; turns = i.pass.turns; opened = all_kept i.opened })) hs) (left ∙ sym gone)
     ∙ ap (λ (s : Session). with_those s (without_ticket (session_of mid).tickets t.number)) by_mid
     in
     one_dropped (session_of v) t ts is (finish_reply r) (session_of mid) answer told s' dropped

@@ -17,7 +17,7 @@ invariant_of-self g c =
     in
     let drawn : i.next ≤ length i.pass.seen = subst (λ (v : SessionState g.row.D.Denot). v.next ≤ length v.log) (sym c.self.view_is) c.requires.drawn in
     let held : c.add.new.self ≡ i.held ++ o ∷ [] = c.add.ensures ∙ ap (λ (x : OpenUpdate). i.held ++ x ∷ []) c.new.ensures in
-    subst (λ (h : List OpenUpdate). IsSession g.D.Door.is_true i.shared.now i.pass h (i.next + 1) i.doors i.room) (sym held)
+    subst (λ (h : List OpenUpdate). IsSession g.D.Door.is_true i.shared.now i.pass h (i.next + 1) i.doors i.room i.opened) (sym held)
     (record {
       pass_is = s.pass_is;
       holding = holding_push i.shared.now.fixed i.pass.seen i.held i.next o refl open_ drawn s.holding;
@@ -25,4 +25,5 @@ invariant_of-self g c =
       served = s.served;
       true_doors = s.true_doors;
       marks = s.marks;
+      kept = s.kept;
     })

@@ -9,7 +9,7 @@ pub invariant_of-self : goal.invariant_of-self
 invariant_of-self g c =
     let i = c.self.inside in
     let inv = c.self.invariant in
-    subst (λ (os : List OpenUpdate). IsSession g.D.Door.is_true i.shared.now i.pass os i.next i.doors i.room) (sym c.remove.ensures)
+    subst (λ (os : List OpenUpdate). IsSession g.D.Door.is_true i.shared.now i.pass os i.next i.doors i.room i.opened) (sym c.remove.ensures)
     (record {
       pass_is = inv.pass_is;
       holding = holding_remove i.shared.now.fixed i.pass.seen i.held i.next c.in-Some.index c.in-Some.ensures.within inv.holding;
@@ -17,6 +17,7 @@ invariant_of-self g c =
       served = inv.served;
       true_doors = inv.true_doors;
       marks = inv.marks;
+      kept = inv.kept;
     })
 
 pub returns-clause-others_stay : goal.returns-clause-others_stay

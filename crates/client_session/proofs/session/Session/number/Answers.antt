@@ -2,6 +2,8 @@ use Rattle.std.proofs.Common.{◌≡◌, false, refl, sym, ◌∙◌, ap, subst,
 use Rattle.std.proofs.lemmas.List.{length-map}
 use Rattle.blob_model.specs.History.{AllOther}
 use Rattle.blob_model.specs.declared.call.Event.{Event}
+use Rattle.page_store.specs.Stored.{Cut}
+use Rattle.page_writer.specs.Put.{ArePut}
 use Rattle.turn_lock.specs.Shown.{PassView}
 use Rattle.turn_lock.proofs.Histories.{begins_both}
 use Rattle.version_manager.specs.declared.journal.DeskFixed.{DeskFixed}
@@ -11,6 +13,7 @@ use Rattle.request_form.specs.declared.form.Fault.{Fault}
 use Rattle.request_form.specs.declared.form.Reply.{Reply}
 use Rattle.request_form.specs.declared.form.Reply.TheVariants as Replies
 use Rattle.session_parts.specs.Tickets.{ticket_of}
+use Rattle.session_parts.specs.Opened.{all_kept}
 use Rattle.client_session.specs.Sessions.{longest, session_at}
 use Rattle.client_session.specs.Finishing.{bare}
 use Rattle.client_session.specs.Numbering.{LookedAhead, NotNumberedFor, Numbering}
@@ -137,8 +140,8 @@ returns-in-Ok-number_stored-clause-numbered g c =
     (subst (λ (b : List ℕ). Numbering fixed mid.caller mid.seen c.args.blob c.args.place b t new.seen) c.in-Ok.ensures.bytes c.in-Ok-number_stored.ensures.numbered)
     in
     let few : length i.held < 64 = let a = c.count.ensures.count in let b = c.count.ensures.few in let d = c.in_default.ensures.room in omega arith in
-    let made : WasNumbered (record { store = i.shared.now; caller = by; log = i.pass.seen; held = i.held; next = i.next; doors = i.doors; limit = limit; looks_first = i.looks_first; turns = i.pass.turns }) c.args.blob c.args.place bytes t
-    (record { store = i.shared.now; caller = by; log = new.seen; held = i.held; next = i.next; doors = c.prepare.new.doors; limit = limit; looks_first = false; turns = new.turns }) =
+    let made : WasNumbered (record { store = i.shared.now; caller = by; log = i.pass.seen; held = i.held; next = i.next; doors = i.doors; limit = limit; looks_first = i.looks_first; turns = i.pass.turns; opened = all_kept i.opened }) c.args.blob c.args.place bytes t
+    (record { store = i.shared.now; caller = by; log = new.seen; held = i.held; next = i.next; doors = c.prepare.new.doors; limit = limit; looks_first = false; turns = new.turns; opened = all_kept i.opened }) =
     record {
       others = _;
       is_gap = both_others fixed by i.pass.seen mid.seen new.seen i.looks_first c.args.blob c.args.place bytes look t n;
@@ -229,3 +232,10 @@ returns-in-Err-number_stored-clause-untouched g c =
     let looked : c.prepare.new.pass.turns ≡ i.pass.turns + look_turns i.looks_first i.shared.now.fixed.page_size (length c.args.bytes.now) = c.prepare.ensures.turns in
     let numbered : c.number_stored.new.pass.turns ≡ c.prepare.new.pass.turns + 1 = c.number_stored.ensures.one_turn in
     rw (← c.self.view_is) (λ r. absurd (omega (arith, r.early, looked, numbered)))
+
+pub returns-in-Ok-number_stored-clause-put : goal.returns-in-Ok-number_stored-clause-put
+returns-in-Ok-number_stored-clause-put g c =
+    let i = c.self.inside in
+    let P : Cut → Type 0 =
+    λ pages. ArePut g.D.Door.called g.D.Door.faults i.shared.now.providers i.shared.now.replicas i.doors c.prepare.new.doors pages.pages in
+    rw (← c.self.view_is) (subst P (sym c.in-Ok-number_stored.ensures.pages) c.in-Ok.ensures.put)

@@ -7,7 +7,7 @@ use Rattle.request_form.specs.declared.form.Reply.TheVariants as Replies
 use Rattle.request_form.specs.declared.form.Fault.TheVariants as Faults
 use Rattle.session_parts.specs.Tickets.{HasRow}
 use Rattle.client_session.specs.Sessions.{SessionState, session_of}
-use Rattle.client_session.proofs.UpdateAnswers.{held_more, start_done, start_not_done, start_kept, start_held, start_rose, start_row, start_alone, next_is}
+use Rattle.client_session.proofs.UpdateAnswers.{held_more, start_done, start_not_done, start_kept, start_held, start_rose, start_row, start_alone, next_is, put_last}
 use Rattle.client_session.specs.Tickets.{HasNoRow}
 use Rattle.client_session.specs.TurnCounts.{numbering_turns}
 use Rattle.client_session.proofs.Untouched.{none_more, one_more}
@@ -98,3 +98,10 @@ returns-in_default-clause-untouched g c = λ r.
     let same : c.hold-ticket.new.self.turns ≡ c.number.new.self.turns = ap (λ (x : SessionState g.row.D.Denot). x.turns) c.hold-ticket.ensures.held in
     let numbered : c.number.new.self.turns ≡ s.turns + numbering_turns s.looks_first s.store.fixed.page_size (length c.args.bytes.now) = c.in-Ok.ensures.turns in
     absurd (omega (arith, r.early, same, numbered))
+
+pub returns-clause-put : goal.returns-clause-put
+returns-clause-put g c =
+    let s = c.args.self.now in
+    let mid = c.number.new.self in
+    let new = c.hold-ticket-2.new.self in
+    put_last g.D.Door.called g.D.Door.faults s mid new c.hold-ticket-2.result c.in-Ok.ticket _ c.hold-ticket-2.ensures.number c.hold-ticket-2.ensures.held c.in-Ok.ensures.put
