@@ -114,9 +114,9 @@ module _ (own_is_alone : OwnIsAlone) (always : AlwaysAnswered) (said : Reply →
 
   module _ (heard : Stream) (taken limit : ℕ) (items : List Heard) (rest : List ℕ) (left : Option (List ℕ)) (ends ends' : ℕ) (p : Progress (requests said) [] old items rest new) where
     abbrev wrote : End → Type 0
-    wrote end = WroteAlone said fixed heard taken limit ends ends' old.faults new.faults p.out end
+    wrote end = WroteAlone said fixed heard taken limit ends ends' left old.faults new.faults p.out end
 
-    pub wrote_alone : (end : End) → Ended is_last heard taken limit items rest left end → Reaches is_last heard taken limit items ends ends' end → wrote end
+    pub wrote_alone : (end : End) → Ended is_last heard taken limit items rest left end → Reaches is_last heard taken limit items ends ends' left end → wrote end
     wrote_alone Ends.Quit e (inl r) = (heard.whole, inr refl, r.1, all_alone heard.whole items rest p (r.0, e.0.1))
     wrote_alone Ends.Quit e (inr r) = (heard.items, inl (refl, r), e.1, all_alone heard.items items rest p e.0)
     wrote_alone Ends.InputEnd e r = all_alone heard.items items rest p e.0

@@ -23,14 +23,15 @@ stays_at_end is_last reads taken items left Ends.WriteFault h = inr h
 stays_at_end is_last reads taken items left Ends.InputTooLong h = tt
 stays_at_end is_last reads taken items left Ends.NoMemory h = inr h
 
-reaches_end : {Item : Type 0} (is_last : Item → Bool) (heard : ItemStream Item) (taken limit : ℕ) (items : List Item) (ends ends' : ℕ) (end : End) → CameToEnd taken limit ends ends' → Reaches is_last heard taken limit items ends ends' end
-reaches_end is_last heard taken limit items ends ends' Ends.Quit came = inr came
-reaches_end is_last heard taken limit items ends ends' Ends.InputEnd came = tt
-reaches_end is_last heard taken limit items ends ends' Ends.Cut came = tt
-reaches_end is_last heard taken limit items ends ends' Ends.ReadFault came = tt
-reaches_end is_last heard taken limit items ends ends' Ends.WriteFault came = inr came
-reaches_end is_last heard taken limit items ends ends' Ends.InputTooLong came = tt
-reaches_end is_last heard taken limit items ends ends' Ends.NoMemory came = inr came
+reaches_end : {Item : Type 0} (is_last : Item → Bool) (heard : ItemStream Item) (taken limit : ℕ) (items : List Item) (ends ends' : ℕ) (left : Option (List ℕ)) (end : End) → CameToEnd taken limit ends ends' left
+    → Reaches is_last heard taken limit items ends ends' left end
+reaches_end is_last heard taken limit items ends ends' left Ends.Quit came = inr came
+reaches_end is_last heard taken limit items ends ends' left Ends.InputEnd came = tt
+reaches_end is_last heard taken limit items ends ends' left Ends.Cut came = tt
+reaches_end is_last heard taken limit items ends ends' left Ends.ReadFault came = tt
+reaches_end is_last heard taken limit items ends ends' left Ends.WriteFault came = inr came
+reaches_end is_last heard taken limit items ends ends' left Ends.InputTooLong came = tt
+reaches_end is_last heard taken limit items ends ends' left Ends.NoMemory came = inr came
 
 module _ {Item : Type 0} (talk : Talk Item) (old : PointOf talk.Session) (reads : List ℕ → ItemStream Item) (before : Input) where
   -- nothing was taken yet
@@ -136,8 +137,8 @@ module _ {Item : Type 0} (talk : Talk Item) (old : PointOf talk.Session) (reads 
       ended_at : (n : ℕ) (items : List Item) (rest : List ℕ) (left : Option (List ℕ)) (end : End) → Ended talk.is_last (all []) n limit items rest left end → Ended talk.is_last (reads bytes) n limit items rest left end
       ended_at n items rest left end e = subst (λ (xs : List ℕ). Ended talk.is_last (reads xs) n limit items rest left end) (append-nil bytes) e
 
-      reaches_at : (n : ℕ) (items : List Item) (ends ends' : ℕ) (end : End) → Reaches talk.is_last (all []) n limit items ends ends' end → Reaches talk.is_last (reads bytes) n limit items ends ends' end
-      reaches_at n items ends ends' end e = subst (λ (xs : List ℕ). Reaches talk.is_last (reads xs) n limit items ends ends' end) (append-nil bytes) e
+      reaches_at : (n : ℕ) (items : List Item) (ends ends' : ℕ) (left : Option (List ℕ)) (end : End) → Reaches talk.is_last (all []) n limit items ends ends' left end → Reaches talk.is_last (reads bytes) n limit items ends ends' left end
+      reaches_at n items ends ends' left end e = subst (λ (xs : List ℕ). Reaches talk.is_last (reads xs) n limit items ends ends' left end) (append-nil bytes) e
 
       closing_at : (ends ends' : ℕ) (end : End) → Closing (all []) ends ends' end → Closing (reads bytes) ends ends' end
       closing_at ends ends' end e = subst (λ (xs : List ℕ). Closing (reads xs) ends ends' end) (append-nil bytes) e
@@ -164,7 +165,7 @@ module _ {Item : Type 0} (talk : Talk Item) (old : PointOf talk.Session) (reads 
             progress = quits.progress;
             pieces = in_pieces piece q.items [] new short q.progress;
             ended = ended_at (length bytes) quits.items [] last.left Ends.Quit ((sym (quits.reads []).0, refl), (quits.reads []).1);
-            reaches = reaches_at (length bytes) quits.items before.ends last.ends Ends.Quit (inl (sym (quits.whole []).0, (quits.whole []).1));
+            reaches = reaches_at (length bytes) quits.items before.ends last.ends last.left Ends.Quit (inl (sym (quits.whole []).0, (quits.whole []).1));
             closing = λ cut. same_ends ∙ s.same_ends;
             stays = inl (λ more. ([], (quits.reads more).0 ∙ sym (append-nil quits.items)));
           }
@@ -181,7 +182,7 @@ module _ {Item : Type 0} (talk : Talk Item) (old : PointOf talk.Session) (reads 
             progress = stops.progress;
             pieces = in_pieces piece q.items rest new short q.progress;
             ended = ended_at (length bytes) stops.items rest last.left Ends.WriteFault (stops.reads [], some);
-            reaches = reaches_at (length bytes) stops.items before.ends last.ends Ends.WriteFault (inl (stops.whole []));
+            reaches = reaches_at (length bytes) stops.items before.ends last.ends last.left Ends.WriteFault (inl (stops.whole []));
             closing = λ cut. same_ends ∙ s.same_ends;
             stays = inl stops.reads;
           }
@@ -198,7 +199,7 @@ module _ {Item : Type 0} (talk : Talk Item) (old : PointOf talk.Session) (reads 
             progress = stops.progress;
             pieces = in_pieces piece q.items rest new short q.progress;
             ended = ended_at (length bytes) stops.items rest last.left Ends.NoMemory (stops.reads []);
-            reaches = reaches_at (length bytes) stops.items before.ends last.ends Ends.NoMemory (inl (stops.whole []));
+            reaches = reaches_at (length bytes) stops.items before.ends last.ends last.left Ends.NoMemory (inl (stops.whole []));
             closing = tt;
             stays = inl stops.reads;
           }
@@ -267,6 +268,6 @@ module _ {Item : Type 0} (talk : Talk Item) (old : PointOf talk.Session) (reads 
             ended = ended_at [] last takes new (length (s.taken ++ [])) (goes.items ++ f.items) f.rest last.left end
                 (finish_both talk old _ mid after goes new end (length (s.taken ++ [])) limit last.left s.empty (omega (arith, counts)) at_end f);
             closing = closing_at [] last takes new before.ends last.ends end (close_both talk old _ mid after goes new before.ends last.ends end rose f);
-            reaches = reaches_end talk.is_last (reads (s.taken ++ [])) (length (s.taken ++ [])) limit (goes.items ++ f.items) before.ends last.ends end (omega (arith, counts), rose);
+            reaches = reaches_end talk.is_last (reads (s.taken ++ [])) (length (s.taken ++ [])) limit (goes.items ++ f.items) before.ends last.ends last.left end (omega (arith, counts), rose, at_end);
             stays = stays_at_end talk.is_last reads (s.taken ++ []) (goes.items ++ f.items) last.left end at_end;
           }

@@ -41,19 +41,19 @@ Closing heard ends ends' Ends.WriteFault = heard.cut ≡ true → ends' ≡ ends
 Closing heard ends ends' Ends.InputTooLong = ends' ≡ ends
 Closing heard ends ends' Ends.NoMemory = ⊤
 
--- the stream answered that nothing is left, before the limit
-abbrev pub CameToEnd : ℕ → ℕ → ℕ → ℕ → Type 0
-CameToEnd taken limit ends ends' = (taken < limit) × RoseBy 1 ends ends'
+-- the stream answered that nothing is left, before the limit, and where it tells, nothing was left of it
+abbrev pub CameToEnd : ℕ → ℕ → ℕ → ℕ → Option (List ℕ) → Type 0
+CameToEnd taken limit ends ends' left = (taken < limit) × RoseBy 1 ends ends' × IsAtEnd left
 
 -- An item that isn't whole is answered only at the stream's end: before it a last item is a whole one, and so are the items before a fault or want of memory.
-abbrev pub Reaches : {Item : Type 0} → (Item → Bool) → ItemStream Item → ℕ → ℕ → List Item → ℕ → ℕ → End → Type 0
-Reaches is_last heard taken limit items ends ends' Ends.Quit = ((items ≡ until_last is_last heard.whole) × (has_last is_last heard.whole ≡ true)) ⊎ CameToEnd taken limit ends ends'
-Reaches is_last heard taken limit items ends ends' Ends.InputEnd = ⊤
-Reaches is_last heard taken limit items ends ends' Ends.Cut = ⊤
-Reaches is_last heard taken limit items ends ends' Ends.ReadFault = ⊤
-Reaches is_last heard taken limit items ends ends' Ends.WriteFault = AnswersFront is_last heard.whole items ⊎ CameToEnd taken limit ends ends'
-Reaches is_last heard taken limit items ends ends' Ends.InputTooLong = ⊤
-Reaches is_last heard taken limit items ends ends' Ends.NoMemory = AnswersFront is_last heard.whole items ⊎ CameToEnd taken limit ends ends'
+abbrev pub Reaches : {Item : Type 0} → (Item → Bool) → ItemStream Item → ℕ → ℕ → List Item → ℕ → ℕ → Option (List ℕ) → End → Type 0
+Reaches is_last heard taken limit items ends ends' left Ends.Quit = ((items ≡ until_last is_last heard.whole) × (has_last is_last heard.whole ≡ true)) ⊎ CameToEnd taken limit ends ends' left
+Reaches is_last heard taken limit items ends ends' left Ends.InputEnd = ⊤
+Reaches is_last heard taken limit items ends ends' left Ends.Cut = ⊤
+Reaches is_last heard taken limit items ends ends' left Ends.ReadFault = ⊤
+Reaches is_last heard taken limit items ends ends' left Ends.WriteFault = AnswersFront is_last heard.whole items ⊎ CameToEnd taken limit ends ends' left
+Reaches is_last heard taken limit items ends ends' left Ends.InputTooLong = ⊤
+Reaches is_last heard taken limit items ends ends' left Ends.NoMemory = AnswersFront is_last heard.whole items ⊎ CameToEnd taken limit ends ends' left
 
 -- the items that were answered are the first ones however the stream goes on, unless it came to its end
 abbrev pub StaysFirst : {Item : Type 0} → (Item → Bool) → (List ℕ → ItemStream Item) → List ℕ → List Item → Option (List ℕ) → Type 0
@@ -109,7 +109,7 @@ pub record Conversed {Item : Type 0} (talk : Talk Item) (old : PointOf talk.Sess
   pub pieces : InPieces talk reads taken items progress.replies progress.out
   pub ended : Ended talk.is_last (reads taken) (length taken) limit items rest after.left end
   pub closing : Closing (reads taken) before.ends after.ends end
-  pub reaches : Reaches talk.is_last (reads taken) (length taken) limit items before.ends after.ends end
+  pub reaches : Reaches talk.is_last (reads taken) (length taken) limit items before.ends after.ends after.left end
   pub stays : Stays talk.is_last reads taken items after.left end
 
 -- that end, unless no memory was found

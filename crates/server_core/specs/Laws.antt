@@ -1,5 +1,5 @@
 -- When each end comes, and what was written where nobody else was there.
-use Rattle.std.specs.Prelude.{◌≡◌, ◌⊎◌, ℕ, ◌<◌, true, List, ◌++◌, length}
+use Rattle.std.specs.Prelude.{◌≡◌, ◌⊎◌, ℕ, ◌<◌, true, List, ◌++◌, length, Option}
 use Rattle.faults.specs.Counts.{RoseBy}
 use Rattle.request_form.specs.Session.{Fixed, AllOwn, IsNobody}
 use Rattle.request_form.specs.Transcript.{is_last, has_quit, first_session, SaysAlone, faults_in}
@@ -25,21 +25,21 @@ pub record SaysWithin (said : Reply → List ℕ) (fixed : Fixed) (heard : List 
   pub faults : AllWellHeard heard → RoseBy (faults_in IsNobody (first_session fixed 1) heard alone.replies alone.last alone.transcript) before after
 
 -- The items that a stream had to answer by then: all, where it came to its end before the limit, or the whole ones.
-abbrev pub IsDue : Stream → ℕ → ℕ → ℕ → ℕ → List Heard → Type 0
-IsDue heard taken limit ends ends' due = ((due ≡ heard.items) × CameToEnd taken limit ends ends') ⊎ (due ≡ heard.whole)
+abbrev pub IsDue : Stream → ℕ → ℕ → ℕ → ℕ → Option (List ℕ) → List Heard → Type 0
+IsDue heard taken limit ends ends' left due = ((due ≡ heard.items) × CameToEnd taken limit ends ends' left) ⊎ (due ≡ heard.whole)
 
 -- What was written where nobody else was there, by the end: what is said of the items that were due, or a front of that.
-abbrev pub WroteAlone : (Reply → List ℕ) → Fixed → Stream → ℕ → ℕ → ℕ → ℕ → ℕ → ℕ → List ℕ → End → Type 0
-WroteAlone said fixed heard taken limit ends ends' before after text Ends.Quit =
-    (due : List Heard) × IsDue heard taken limit ends ends' due × (has_quit due ≡ true) × SaysWithin said fixed due before after text
-WroteAlone said fixed heard taken limit ends ends' before after text Ends.InputEnd = SaysWithin said fixed heard.items before after text
-WroteAlone said fixed heard taken limit ends ends' before after text Ends.Cut = SaysWithin said fixed heard.whole before after text
-WroteAlone said fixed heard taken limit ends ends' before after text Ends.ReadFault = SaysWithin said fixed heard.whole before after text
-WroteAlone said fixed heard taken limit ends ends' before after text Ends.InputTooLong = SaysWithin said fixed heard.whole before after text
-WroteAlone said fixed heard taken limit ends ends' before after text Ends.WriteFault =
-    (due : List Heard) × IsDue heard taken limit ends ends' due × ((more : List ℕ) × (0 < length more) × SaysWithin said fixed due before after (text ++ more))
-WroteAlone said fixed heard taken limit ends ends' before after text Ends.NoMemory =
-    (due : List Heard) × IsDue heard taken limit ends ends' due × ((more : List ℕ) × SaysWithin said fixed due before after (text ++ more))
+abbrev pub WroteAlone : (Reply → List ℕ) → Fixed → Stream → ℕ → ℕ → ℕ → ℕ → Option (List ℕ) → ℕ → ℕ → List ℕ → End → Type 0
+WroteAlone said fixed heard taken limit ends ends' left before after text Ends.Quit =
+    (due : List Heard) × IsDue heard taken limit ends ends' left due × (has_quit due ≡ true) × SaysWithin said fixed due before after text
+WroteAlone said fixed heard taken limit ends ends' left before after text Ends.InputEnd = SaysWithin said fixed heard.items before after text
+WroteAlone said fixed heard taken limit ends ends' left before after text Ends.Cut = SaysWithin said fixed heard.whole before after text
+WroteAlone said fixed heard taken limit ends ends' left before after text Ends.ReadFault = SaysWithin said fixed heard.whole before after text
+WroteAlone said fixed heard taken limit ends ends' left before after text Ends.InputTooLong = SaysWithin said fixed heard.whole before after text
+WroteAlone said fixed heard taken limit ends ends' left before after text Ends.WriteFault =
+    (due : List Heard) × IsDue heard taken limit ends ends' left due × ((more : List ℕ) × (0 < length more) × SaysWithin said fixed due before after (text ++ more))
+WroteAlone said fixed heard taken limit ends ends' left before after text Ends.NoMemory =
+    (due : List Heard) × IsDue heard taken limit ends ends' left due × ((more : List ℕ) × SaysWithin said fixed due before after (text ++ more))
 
 -- Where the session was the first caller's first one, and has seen no event but its own in the end, what was written is said of a transcript alone.
 -- In that transcript the outside failed no more often than the service's count rose by.
@@ -47,4 +47,4 @@ abbrev pub ServedAlone : Type 0
 ServedAlone = (said : Reply → List ℕ) (fixed : Fixed) (old : Point) (reads : List ℕ → Stream) (before after : Input) (limit : ℕ) (new : Point) (end : End)
     → old.session ≡ first_session fixed 1 → AllOwn 1 new.session.seen
     → (served : Served said old reads before after limit new end)
-    → WroteAlone said fixed (reads served.taken) (length served.taken) limit before.ends after.ends old.faults new.faults served.progress.out end
+    → WroteAlone said fixed (reads served.taken) (length served.taken) limit before.ends after.ends after.left old.faults new.faults served.progress.out end
