@@ -15,6 +15,7 @@ use Rattle.read_board.specs.declared.refresh.Refresh.{Refresh}
 use Rattle.read_board.specs.Refreshes.{version_of, updates_of, on_board, covering, IsRising}
 use Rattle.read_board.specs.Laws.{ReadsAgree, Agrees}
 use Rattle.client_session.specs.Sessions.{SessionState}
+use Rattle.read_board.proofs.Fronts.{prefix_count}
 use Rattle.read_board.specs.declared.standing.Way.{Way}
 use Rattle.read_board.specs.Reads.{Goes, goes_by}
 
@@ -62,7 +63,7 @@ get_past [] ys k j a e is = let same : k ≡ j = omega (arith, e) in subst (λ (
 get_past (x ∷ xs) ys k zero a e is = absurd (omega (arith, e))
 get_past (x ∷ xs) ys k (suc j) a e is = get_past xs ys k j a (omega (arith, e)) is
 
-get_front : {A : Type 0} (xs ys : List A) (k : ℕ) (a : A) → slice_get xs k ≡ Some a → slice_get (xs ++ ys) k ≡ Some a
+pub get_front : {A : Type 0} (xs ys : List A) (k : ℕ) (a : A) → slice_get xs k ≡ Some a → slice_get (xs ++ ys) k ≡ Some a
 get_front [] ys k a is = absurd (cc (is))
 get_front (x ∷ xs) ys zero a is = is
 get_front (x ∷ xs) ys (suc k) a is = get_front xs ys k a is
@@ -82,17 +83,13 @@ later_has blob seen rest a b rising at is =
 content_stays : (us vs : List Update) (v : ℕ) → IsPrefix us vs → v ≤ length us → content vs v ≡ content us v
 content_stays us vs v p le = ap (λ (l : List Update). content_from [] (take v l)) (sym p.1) ∙ ap (λ (l : List Update). content_from [] l) (take-append-le v us p.0 le)
 
-prefix_count : (us vs : List Update) → IsPrefix us vs → length us ≤ length vs
-prefix_count [] vs p = omega arith
-prefix_count (u ∷ us) [] p = absurd (cc (p.1))
-prefix_count (u ∷ us) (v ∷ vs) p = let rest = prefix_count us vs (p.0, cc (p.1)) in omega (arith, rest)
-
 covers : (e : Refresh) (version : ℕ) → version ≤ version_of e → covering (Some e) version ≡ Some e
 covers e version le = let yes : nat_le version (version_of e) ≡ true = grind (arith, nat_tests, le) in rw yes refl
 
-blob_of : (blob : ℕ) (seen : List Refresh) (a : Refresh) → on_board blob seen ≡ Some a → a.blob ≡ blob
+-- the blob's last refresh stands in the list
+pub on_stands : (blob : ℕ) (seen : List Refresh) (a : Refresh) → on_board blob seen ≡ Some a → (i : ℕ) × (slice_get seen i ≡ Some a) × (a.blob ≡ blob)
 unfolding Found
-blob_of blob seen a at = ⊎_elim (λ (u : None ≡ Some a). absurd (cc (u))) (λ (u : (i : ℕ) × (slice_get seen i ≡ Some a) × (a.blob ≡ blob)). u.2) (found_in blob seen None a at)
+on_stands blob seen a at = ⊎_elim (λ (u : None ≡ Some a). absurd (cc (u))) (λ (u : (i : ℕ) × (slice_get seen i ≡ Some a) × (a.blob ≡ blob)). u) (found_in blob seen None a at)
 
 pub reads_agree : ReadsAgree
 reads_agree f log seen list blob v a prefix rising at holds le =
@@ -103,7 +100,7 @@ reads_agree f log seen list blob v a prefix rising at holds le =
     let has = later_has blob seen rest a b rising' at is in
     let count = prefix_count (updates_of a) (updates_of b) has in
     let within : v ≤ length (updates_of a) = omega (arith, le, length-updates a.snapshot.rows) in
-    let a_blob : a.blob ≡ blob = blob_of blob seen a at in
+    let a_blob : a.blob ≡ blob = (on_stands blob seen a at).2 in
     record {
       refresh = b;
       on = on;

@@ -31,3 +31,9 @@ prefix_whole (x ∷ xs) (y ∷ ys) p le =
 -- the same of equal lists
 pub prefix_as : {A : Type 0} → {xs xs' ys ys' : List A} → xs ≡ xs' → ys ≡ ys' → IsPrefix xs ys → IsPrefix xs' ys'
 prefix_as {A} {xs} {xs'} {ys} {ys'} e f p = subst (λ (l : List A). IsPrefix xs' l) f (subst (λ (l : List A). IsPrefix l ys) e p)
+
+-- a beginning is no longer
+pub prefix_count : {A : Type 0} (xs ys : List A) → IsPrefix xs ys → length xs ≤ length ys
+prefix_count [] ys p = omega arith
+prefix_count (x ∷ xs) [] p = absurd (cc (p.1))
+prefix_count (x ∷ xs) (y ∷ ys) p = let rest = prefix_count xs ys (p.0, cc (p.1)) in omega (arith, rest)

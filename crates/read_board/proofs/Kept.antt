@@ -1,13 +1,11 @@
 -- What a keeper keeps, as it adds a refresh and publishes.
-use Rattle.std.proofs.Common.{◌≡◌, ℕ, zero, suc, ◌+◌, ◌<◌, ◌≤◌, ◌==◌, Bool, true, false, List, [], ◌∷◌, ◌++◌, length, refl, ap, sym, ◌∙◌, subst, arith, if◌then◌else◌}
+use Rattle.std.proofs.Common.{◌≡◌, ℕ, zero, suc, ◌<◌, ◌≤◌, ◌==◌, Bool, true, false, List, [], ◌∷◌, ◌++◌, length, refl, ap, sym, ◌∙◌, subst, arith, if◌then◌else◌}
 use Rattle.std.specs.List.{All}
 use mathlib.Core.List.{IsPrefix}
-use Rattle.logbook.specs.Pages.{Named}
 use Rattle.client_session.specs.Sessions.{StoreState}
 use Rattle.read_board.specs.declared.refresh.Refresh.{Refresh}
 use Rattle.read_board.specs.Fronts.{BoardId, FrontState}
 use Rattle.read_board.specs.Refreshes.{place, put, latest_of, IsOn}
-use Rattle.read_board.specs.Rules.{head_of}
 use Rattle.read_board.specs.Keeping.{IsKeeping}
 use Rattle.read_board.proofs.Fronts.{prefix_self, prefix_trans}
 use Rattle.read_board.proofs.Latest.{put_latest}
@@ -40,37 +38,34 @@ all_put : (P : Refresh → Type 0) (rs : List Refresh) (r : Refresh) → All P r
 all_put P [] r all p = both_of P r [] p all
 all_put P (x ∷ xs) r all p = put_case P x r xs (x.blob == r.blob) (all_put P xs r (rest_of P x xs all) p) all p
 
-pub added : (front front' shown chart : FrontState) (on on' : List Refresh) (head : Named) (r : Refresh) → IsKeeping front shown chart on head → front'.list ≡ front.list ++ r ∷ [] → front'.board ≡ front.board
-    → on' ≡ put on r → place r.blob on < 64 → IsOn front.board.store r → IsKeeping front' shown chart on' head
-added front front' shown chart on on' head r k list board put_is there of_store = record {
+pub added : (front front' shown chart : FrontState) (on on' : List Refresh) (r : Refresh) → IsKeeping front shown chart on → front'.list ≡ front.list ++ r ∷ [] → front'.board ≡ front.board
+    → on' ≡ put on r → place r.blob on < 64 → IsOn front.board.store r → IsKeeping front' shown chart on'
+added front front' shown chart on on' r k list board put_is there of_store = record {
   latest = put_is ∙ (put_latest front.list on r k.latest ∙ ap latest_of (sym list));
   few = subst (λ (l : List Refresh). length l ≤ 64) (sym put_is) (put_few 64 on r k.few there);
   of_store = subst (λ (stores : List StoreState). All (IsOn stores) on') (ap (λ (b : BoardId). b.store) (sym board))
       (subst (λ (l : List Refresh). All (IsOn front.board.store) l) (sym put_is) (all_put (IsOn front.board.store) on r k.of_store of_store));
-  headed = k.headed ∙ ap (λ (b : BoardId). head_of b.book) (sym board);
   is_shown = k.is_shown;
   one_board = k.one_board ∙ sym board;
   begun = subst (λ (l : List Refresh). IsPrefix shown.list l) (sym list) (prefix_trans shown.list front.list (front.list ++ r ∷ []) k.begun (r ∷ [], refl));
 }
 
-pub published : (front shown shown' chart chart' : FrontState) (on : List Refresh) (head : Named) → IsKeeping front shown chart on head → shown' ≡ front → chart' ≡ front → IsKeeping front shown' chart' on head
-published front shown shown' chart chart' on head k shown_is chart_is = record {
+pub published : (front shown shown' chart chart' : FrontState) (on : List Refresh) → IsKeeping front shown chart on → shown' ≡ front → chart' ≡ front → IsKeeping front shown' chart' on
+published front shown shown' chart chart' on k shown_is chart_is = record {
   latest = k.latest;
   few = k.few;
   of_store = k.of_store;
-  headed = k.headed;
   is_shown = chart_is ∙ sym shown_is;
   one_board = ap (λ (f : FrontState). f.board) shown_is;
   begun = subst (λ (l : List Refresh). IsPrefix l front.list) (ap (λ (f : FrontState). f.list) (sym shown_is)) (prefix_self front.list);
 }
 
 -- nothing new is shown
-pub kept : (front shown chart chart' : FrontState) (on : List Refresh) (head : Named) → IsKeeping front shown chart on head → chart' ≡ chart → IsKeeping front shown chart' on head
-kept front shown chart chart' on head k same = record {
+pub kept : (front shown chart chart' : FrontState) (on : List Refresh) → IsKeeping front shown chart on → chart' ≡ chart → IsKeeping front shown chart' on
+kept front shown chart chart' on k same = record {
   latest = k.latest;
   few = k.few;
   of_store = k.of_store;
-  headed = k.headed;
   is_shown = same ∙ k.is_shown;
   one_board = k.one_board;
   begun = k.begun;

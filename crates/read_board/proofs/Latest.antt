@@ -127,9 +127,6 @@ module _ (blob version : ℕ) (log : List Refresh) (rs : List Refresh) (at : ℕ
   pub finds_older : (r : Refresh) → at < length rs → r ≡ get_or rs at r → version_of r < version → None ≡ covering (on_board blob log) version
   finds_older r less here lt = covers_not r version lt ∙ ap (λ o. covering o version) (ap (λ x. Some x) here ∙ sym (on_found blob log rs at r latest is less))
 
-  pub found_here : (r : Refresh) → at < length rs → r ≡ get_or rs at r → Some r ≡ on_board blob log
-  found_here r less here = ap (λ x. Some x) here ∙ sym (on_found blob log rs at r latest is less)
-
   pub full_here : at ≡ 64 → at ≤ length rs → length rs ≤ 64 → IsFullFor blob log
   full_here whole bound few = (on_missing blob log rs at latest is (omega (arith, whole, bound, few)), omega (arith, ap length latest, whole, bound, few))
 

@@ -8,3 +8,4 @@ pub mod Latest
 pub mod Reading
 pub mod Recent
 pub mod Refreshed
+pub mod Telling

@@ -42,7 +42,7 @@ sees_on s a b = ap (λ (h : List Event). record { fixed = s.fixed; caller = s.ca
 abbrev recent_of : Option Blob → ℕ → Store → Answered
 recent_of o blob s = elim o [ None ↦ refuse s (Refusals.NoBlob blob) | Some b ↦ (s, Outcomes.Recent (published b) (size_of b.updates (published b))) ]
 
-abbrev sized_of : Option Blob → ℕ → ℕ → Store → Answered
+abbrev pub sized_of : Option Blob → ℕ → ℕ → Store → Answered
 sized_of o blob version s =
     elim o [ None ↦ refuse s (Refusals.NoBlob blob) | Some b ↦ unless_refused s (not_published b version ∷ []) (s, Outcomes.Size (size_of b.updates version)) ]
 
@@ -66,7 +66,7 @@ size_some : (o : Option Blob) (blob v n : ℕ) (s : Store) → (sized_of o blob 
 size_some None blob v n s e = absurd (cc (e))
 size_some (Some b) blob v n s e = (b, refl)
 
-size_not_refused : (o : Option Blob) (b : Blob) (blob v : ℕ) (r : Refusal) (s : Store) → o ≡ Some b → v ≤ published b → (sized_of o blob v s).1 ≡ Outcomes.Refused r → ⊥
+pub size_not_refused : (o : Option Blob) (b : Blob) (blob v : ℕ) (r : Refusal) (s : Store) → o ≡ Some b → v ≤ published b → (sized_of o blob v s).1 ≡ Outcomes.Refused r → ⊥
 size_not_refused None b blob v r s is le e = absurd (cc (is))
 size_not_refused (Some c) b blob v r s is le e =
     let same : c ≡ b = cc (is) in

@@ -6,4 +6,5 @@ pub mod Keeping
 pub mod Refreshing
 pub mod Reads
 pub mod Laws
+pub mod Telling
 pub mod Causes

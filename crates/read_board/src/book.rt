@@ -1,13 +1,13 @@
 // The list of all refreshes of a board. It exists in the proofs alone, but for its length.
-ghost use Rattle.std.specs.Prelude.{◌≡◌, ◌+◌, ◌==◌, ◌<◌, ◌≤◌, ◌^◌, ◌++◌, ◌∷◌, [], length, MatchBool};
+ghost use Rattle.std.specs.Prelude.{◌≡◌, ◌+◌, ◌==◌, ◌<◌, ◌≤◌, ◌^◌, ◌++◌, ◌∷◌, [], length, MatchBool, IfSome, ⊤};
 ghost use mathlib.Core.List.{IsPrefix};
 ghost use Rattle.read_board.specs.Refreshes.{IsRising, MayFollow};
-ghost use Rattle.read_board.specs.Rules.{head_of, IsLonger};
+ghost use Rattle.read_board.specs.Rules.{head_of, IsPenOf};
 
 use crate::naming::StoreName;
 use crate::refresh::Refresh;
 use client_session::Shared;
-use logbook::{Gain, Offer, Plain, Play, Rule, Seen, Start, Word};
+use logbook::{Gain, Offer, Pen, Plain, Play, Rule, Seen, Start, Word};
 use std::marker::Model;
 
 // The rule of the list.
@@ -40,6 +40,15 @@ impl Gain<Refresh, u64> for Nothing {
     ghost after = { λ names about answer. ftrue };
 }
 
+// A step that makes room for one more refresh.
+pub(crate) struct Open;
+
+impl Play<Refresh, u64> for Open {
+    ghost use Rattle.read_board.specs.Rules.{Opens};
+
+    ghost then = { Opens };
+}
+
 // A step that adds a refresh.
 pub(crate) struct Add;
 
@@ -53,6 +62,24 @@ impl Plain<Refresh, Refresh, u64> for Add {
     ghost use Rattle.std.specs.Prelude.{None};
 
     ghost ask = { λ r. r };
+
+    ghost state = { λ _. None };
+}
+
+// A step that changes nothing.
+pub(crate) struct Meet;
+
+impl Play<Refresh, u64> for Meet {
+    ghost use Rattle.read_board.specs.Rules.{Meets};
+
+    ghost then = { Meets };
+}
+
+impl Plain<u64, Refresh, u64> for Meet {
+    ghost use Rattle.std.specs.Prelude.{None};
+    ghost use Rattle.read_board.specs.Rules.{no_entry};
+
+    ghost ask = { λ _. no_entry };
 
     ghost state = { λ _. None };
 }
@@ -77,7 +104,7 @@ impl Model for Front {
     ghost invariant = { λ f. (f.count ≡ length f.seen.log) × IsRising f.seen.log };
 }
 
-// The length of the list. The keeper alone has it.
+// Where the refreshes and the words are counted. The author alone has it.
 pub(crate) type Head = Word<Refresh, u64, Law>;
 
 impl Front {
@@ -87,13 +114,13 @@ impl Front {
         ensures empty { result.1.list ≡ [] }
         ensures store { result.1.board.store ≡ store.now ∷ [] }
     {
-        let (seen, mut first, _second) = Seen::open(Start::alone(), 0, 0);
+        let (seen, mut first, _second) = Seen::open(Start::alone(), 2, 0);
         let front = Front {
             count: 0,
             seen,
             of: StoreName::of(store),
         };
-        (Word::tracked(0, &mut first), front)
+        (Word::tracked(2, &mut first), front)
     }
 
     // How many refreshes it has.
@@ -131,28 +158,75 @@ impl Front {
         both.learn(&other.seen);
     }
 
-    // Adds a refresh to all that was seen, and says whether it did. It did not where the list is longer, which cannot be while the
-    // keeper alone adds.
-    pub(crate) fn add(&mut self, head: &Head, refresh: &Refresh) -> bool
+    // The pen of a new word, the one after so many, which are all that a list needs that has no more than was seen. There is none where the list
+    // is longer or has more words, which cannot be while its author alone adds.
+    pub(crate) fn pen_after(&self, head: &Head, words: u64) -> Option<Pen>
+        requires head { head.now ≡ head_of self.now.board.book }
+        requires room { length self.now.list + words + 1 < 2 ^ 64 }
+        requires few { words ≤ length self.now.list + 3 }
+        ensures book { IfSome result (λ p. p.book ≡ self.now.board.book) }
+        ensures pen { IfSome result (λ p. IsPenOf words p.nib) }
+    {
+        let mut seen = self.seen.again();
+        let mut offer: Offer<Refresh, u64, Law, Nothing> = seen.plain::<Nothing, u64, Meet>(&words);
+        let mut pen = seen.no_pen();
+        let all = self.count + words;
+        let found = head.compare_exchange::<Open, Nothing>(
+            all,
+            all + 1,
+            &mut seen,
+            &mut offer,
+            &mut pen,
+        );
+        if found != all {
+            return None;
+        }
+        let _word: Head = Word::tracked(0, &mut pen);
+        Some(pen)
+    }
+
+    // Adds a refresh to the list, and says whether it did. It did not where the words are more, which cannot be while the author alone adds.
+    pub(crate) fn add(&mut self, head: &Head, pen: &mut Pen, refresh: &Refresh) -> bool
         requires head { head.now ≡ head_of self.old.board.book }
-        requires room { length self.old.list + 1 < 2 ^ 64 }
+        requires book { pen.old.book ≡ self.old.board.book }
+        requires pen { IsPenOf (length self.old.list + 2) pen.old.nib }
+        requires room { length self.old.list + (length self.old.list + 5) < 2 ^ 64 }
         requires rising { MayFollow self.old.list refresh.now }
-        ensures added { MatchBool result (self.new.list ≡ self.old.list ++ refresh.now ∷ []) (IsLonger self.old.list self.new.list) }
+        ensures added { MatchBool result (self.new.list ≡ self.old.list ++ refresh.now ∷ []) (self.new.list ≡ self.old.list) }
+        ensures book { pen.new.book ≡ pen.old.book }
+        ensures pen { MatchBool result ⊤ (pen.new.nib ≡ pen.old.nib) }
         ensures board { self.new.board ≡ self.old.board }
     {
         let mut offer: Offer<Refresh, u64, Law, Nothing> = self
             .seen
             .plain::<Nothing, Refresh, Add>(refresh);
-        let mut pen = self.seen.no_pen();
-        let count = self.count;
+        let all = self.count + (self.count + 4);
         let found = head.compare_exchange::<Add, Nothing>(
-            count,
-            count + 1,
+            all,
+            all + 1,
             &mut self.seen,
             &mut offer,
-            &mut pen,
+            pen,
         );
-        self.count = if found == count { count + 1 } else { found };
-        found == count
+        if found != all {
+            return false;
+        }
+        self.count += 1;
+        true
+    }
+
+    // Whoever has the pen has seen all that anybody saw.
+    pub(crate) fn meet(&self, head: &Head, pen: &mut Pen, other: &Front)
+        requires head { head.now ≡ head_of self.now.board.book }
+        requires book { pen.old.book ≡ self.now.board.book }
+        requires pen { IsPenOf (length self.now.list + 2) pen.old.nib }
+        requires one_board { other.now.board.book ≡ self.now.board.book }
+        ensures begins { IsPrefix other.now.list self.now.list }
+        ensures pen { (pen.new.book ≡ pen.old.book) × (pen.new.nib ≡ pen.old.nib) }
+    {
+        let mut both = self.seen.again();
+        both.learn(&other.seen);
+        let mut offer: Offer<Refresh, u64, Law, Nothing> = both.plain::<Nothing, u64, Meet>(&0);
+        let _count = head.compare_exchange::<Meet, Nothing>(0, 0, &mut both, &mut offer, pen);
     }
 }

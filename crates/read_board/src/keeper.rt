@@ -7,12 +7,16 @@ ghost use Rattle.left_right.specs.Sides.{view};
 ghost use Rattle.read_board.specs.Refreshes.{place, put, on_board, MayFollow, IsFullFor, IsOn};
 ghost use Rattle.read_board.specs.Boards.{front_of};
 
-use crate::book::{Front, Head};
+use crate::author::Author;
+use crate::book::Front;
 use crate::chart::{Chart, copy, place_of};
 use crate::refresh::Refresh;
 use crate::shown::{BoardWriter, Sees};
+use crate::standing::StandingReader;
 use core::mem::replace_with;
 use faults::NoMemory;
+use page_store::Door;
+use ports::gate::Gate;
 use request_form::Fault;
 use std::alloc::Global;
 use std::marker::Model;
@@ -36,8 +40,7 @@ pub struct Keeper<R: Wait + Drop> {
     pub(crate) writer: BoardWriter,
     pub(crate) rt: R,
     pub(crate) alloc: Global,
-    pub(crate) head: Head,
-    pub(crate) front: Front,
+    pub(crate) author: Author,
     pub(crate) shown: Front,
     pub(crate) on: Vec<Refresh>,
 }
@@ -50,9 +53,9 @@ impl<R: Wait + Drop> Model for Keeper<R> {
     ghost use Rattle.read_board.specs.Boards.{front_of};
     ghost use Rattle.read_board.specs.Keeping.{IsKeeping};
 
-    ghost view = { λ k. record { board = k.front.board; all = k.front.list; shown = k.shown.list } };
+    ghost view = { λ k. record { board = k.author.board; all = k.author.list; shown = k.shown.list } };
 
-    ghost invariant = { λ k. IsKeeping k.front k.shown (front_of k.writer.desk.shown.value) k.on.items k.head };
+    ghost invariant = { λ k. IsKeeping k.author k.shown (front_of k.writer.desk.shown.value) k.on.items };
 }
 
 /// What was published when it was made, for one reader to learn.
@@ -104,15 +107,10 @@ impl<R: Wait + Drop> Keeper<R> {
         ensures board { self.new.board ≡ self.old.board }
     {
         let at = place_of(self.on.as_slice(), refresh.blob);
-        if self.front.len() == u64::MAX || self.on.reserve(1).is_err() {
-            return Err(NoMemory);
-        }
-        let mut front = self.front.again();
-        if !front.add(&self.head, &refresh) {
+        if self.on.reserve(1).is_err() || !self.author.add(&refresh) {
             return Err(NoMemory);
         }
         lay(&mut self.on, at, refresh);
-        self.front = front;
         Ok(())
     }
 
@@ -123,7 +121,7 @@ impl<R: Wait + Drop> Keeper<R> {
         ensures board { self.new.board ≡ self.old.board }
     {
         let on = copy(self.alloc, self.on.as_slice())?;
-        let chart = Chart::new(self.front.again(), on);
+        let chart = Chart::new(self.author.front().again(), on);
         let Ok(chart) = Arc::new(self.alloc, chart) else {
             return Err(NoMemory);
         };
@@ -131,24 +129,22 @@ impl<R: Wait + Drop> Keeper<R> {
             show(x.0, writer, x.1)
         });
         if shown {
-            self.shown = self.front.again();
+            self.shown = self.author.front().again();
             Ok(())
         } else {
             Err(NoMemory)
         }
     }
 
-    /// A blob's last refresh, pending or published, where it has one.
-    pub fn latest(&self, blob: u64) -> Option<&Refresh>
-        ensures found { option_copied result ≡ on_board blob self.now.all }
-        ensures of_store { IfSome result (λ r. IsOn self.now.board.store r.now) }
+    /// What a reader of its board has seen and learnt is a beginning of what this keeper made, and so is what it published. For proofs: it
+    /// changes nothing.
+    pub fn meet<'a, D: Door, G: Gate>(&mut self, reader: &StandingReader<'a, D, G>)
+        requires { reader.now.board ≡ self.old.board }
+        ensures begins { IsPrefix reader.now.list self.new.all }
+        ensures published { IsPrefix self.new.shown self.new.all }
+        ensures same { self.new ≡ self.old }
     {
-        let at = place_of(self.on.as_slice(), blob);
-        if at < self.on.len() {
-            Some(&self.on[at])
-        } else {
-            None
-        }
+        self.author.meet(reader.front());
     }
 
     /// What is published, for one reader to learn. It takes no turn. Where no memory is found nothing has changed.
@@ -168,8 +164,7 @@ impl<R: Wait + Drop> Drop for Keeper<R> {
             writer,
             rt,
             alloc: _,
-            head: _head,
-            front: _front,
+            author: _author,
             shown: _shown,
             on: _on,
         } = self;

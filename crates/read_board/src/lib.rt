@@ -5,6 +5,7 @@
 //! version up to the last one that it knows of a blob by the board, and any other one by its session.
 #![tactic(auto)]
 
+mod author;
 mod book;
 mod chart;
 mod keeper;

@@ -86,6 +86,13 @@ impl Reader {
         self.front.stands();
     }
 
+    // What it has seen and learnt.
+    pub(crate) fn front(&self) -> &Front
+        ensures { result.now ≡ record { board = self.now.board; list = self.now.list } }
+    {
+        &self.front
+    }
+
     pub(crate) fn has_place(&self) -> bool
         ensures { result ≡ self.now.has_place }
     {

@@ -5,7 +5,7 @@ ghost use Rattle.client_session.specs.Sessions.{Continues};
 ghost use Rattle.client_session.specs.TurnCounts.{TakesTurns};
 ghost use Rattle.read_board.specs.Refreshes.{IsFullFor, version_of};
 ghost use Rattle.read_board.specs.Refreshing.{Holds, AllHold, HasLooked, IsRecent, IsNotThere, Refreshed, LeftPending};
-ghost use Rattle.read_board.specs.Causes.{RefreshCause};
+ghost use Rattle.read_board.specs.Causes.{RefreshCause, FullLeaves};
 ghost use Rattle.read_board.specs.declared.keeper.RefreshFault.TheVariants.{BoardFull};
 
 use crate::keeper::{Keeper, RefreshFault};
@@ -48,7 +48,7 @@ impl<R: Wait + Drop> Keeper<R> {
     /// Opens the greatest published version of a blob by this session, puts it on the board, publishes all that is pending, and answers
     /// the version. Two turns; it waits until no reader looks at what was on the board before.
     ///
-    /// `BoardFull` comes first, exactly where 64 other blobs are on the board or pending. `NoBlob` comes where the blob isn't there.
+    /// `BoardFull` comes first, exactly where 64 other blobs are on the board or pending, and then all stays as it was. `NoBlob` comes where the blob isn't there.
     /// Where no memory is found the refresh may be pending, and then stands at the next publication. The session must be of the board's
     /// store, and each refresh that this keeper made must hold its blob's updates in what the session has seen; so it is again
     /// afterwards, and where the session goes on meanwhile (`laws::refreshes_stay`). The session sees others' events alone, and its
@@ -65,6 +65,7 @@ impl<R: Wait + Drop> Keeper<R> {
         ensures done { IfOk result (λ version. Refreshed self.old self.new blob version) }
         ensures recent { IfOk result (λ version. IsRecent session.old session.new blob version) }
         ensures cause { IfErr result (RefreshCause session.new blob) }
+        ensures full_leaves { IfErr result (FullLeaves self.old self.new session.old session.new) }
         ensures left { IfErr result (λ _. LeftPending self.old self.new blob) }
         ensures hold { AllHold session.new.store.fixed session.new.log self.new.all }
         ensures looked { HasLooked session.old session.new }

@@ -1,9 +1,10 @@
 // A board, with the places that its readers take.
-ghost use Rattle.std.specs.Prelude.{◌≡◌, ◌≤◌, ◌<◌, [], ◌∷◌, Some, IfSome, IfOk};
+ghost use Rattle.std.specs.Prelude.{◌≡◌, ◌≤◌, ◌<◌, ◌-◌, [], ◌∷◌, Some, IfSome, IfOk};
 ghost use Rattle.std.specs.List.{All};
 ghost use Rattle.left_right.specs.Sides.{view};
 ghost use Rattle.read_board.specs.Boards.{front_of, known};
 
+use crate::author::Author;
 use crate::book::Front;
 use crate::chart::Chart;
 use crate::keeper::{Keeper, MOST, show};
@@ -19,11 +20,12 @@ use std::marker::Model;
 use std::sync::{Arc, Wait};
 
 /// From where a board's readers come. It has the places that `left_right` gave, one for each reader that `Board::new` was told of, or
-/// fewer where it found no memory for them. A contract sees the board.
+/// fewer where it found no memory for them. A contract sees the board, and how many readers may still come.
 #[derive(Drop)]
 pub struct Stand {
     places: Vec<Place>,
     front: Front,
+    left: u32,
 }
 
 impl Model for Stand {
@@ -31,11 +33,11 @@ impl Model for Stand {
     ghost use Rattle.std.specs.List.{All};
     ghost use Rattle.left_right.specs.Sides.{view as seen_there};
     ghost use Rattle.read_board.specs.Boards.{known};
-    ghost use Rattle.read_board.specs.Fronts.{BoardId};
+    ghost use Rattle.read_board.specs.Keeping.{StandState};
 
-    ghost Value = { BoardId };
+    ghost Value = { StandState };
 
-    ghost view = { λ s. s.front.board };
+    ghost view = { λ s. record { board = s.front.board; left = s.left } };
 
     ghost invariant = { λ s. (s.front.list ≡ []) × All (λ p. known (seen_there p.place) ≡ Some s.front.board) s.places.items };
 }
@@ -126,10 +128,13 @@ impl Board {
     ) -> Result<(Keeper<R>, Stand), NoMemory>
         requires readers { (1 ≤ readers) × (readers ≤ 16) }
         ensures empty { IfOk result (λ b. (b.0.all ≡ []) × (b.0.shown ≡ [])) }
-        ensures board { IfOk result (λ b. b.1 ≡ b.0.board) }
+        ensures stand { IfOk result (λ b. b.1 ≡ record { board = b.0.board; left = readers }) }
         ensures store { IfOk result (λ b. b.0.board.store ≡ shared.now ∷ []) }
     {
-        let (head, front) = Front::open(shared);
+        let Some(author) = Author::new(shared) else {
+            return Err(NoMemory);
+        };
+        let front = author.front().again();
         let Ok(on) = Vec::with_capacity(alloc, MOST) else {
             return Err(NoMemory);
         };
@@ -138,14 +143,14 @@ impl Board {
         let stand = Stand {
             places,
             front: front.again(),
+            left: readers,
         };
         let keeper = Keeper {
             writer,
             rt,
             alloc,
-            head,
-            shown: front.again(),
-            front,
+            author,
+            shown: front,
             on,
         };
         Ok((keeper, stand))
@@ -153,18 +158,21 @@ impl Board {
 }
 
 impl Stand {
-    /// A reader that works with this session, which must be of the board's store. It has seen no refresh yet, and has a place as long as
-    /// the stand has one left: without a place it reads by its session alone.
+    /// The next reader, which works with this session. The session must be of the board's store, and there are no more readers than the
+    /// board was made for. It has seen no refresh yet, and has a place as long as the stand has one left: without a place it reads by its
+    /// session alone.
     pub fn reader<'a, D: Door, G: Gate>(
         &mut self,
         session: Session<'a, D, G>,
     ) -> StandingReader<'a, D, G>
-        requires { self.old.store ≡ session.store ∷ [] }
-        ensures board { result.board ≡ self.old }
+        requires store { self.old.board.store ≡ session.store ∷ [] }
+        requires left { 1 ≤ self.old.left }
+        ensures board { result.board ≡ self.old.board }
         ensures empty { result.list ≡ [] }
         ensures session { result.session ≡ session.entry }
-        ensures stand { self.new ≡ self.old }
+        ensures stand { self.new ≡ record self.old { left = self.old.left - 1 } }
     {
+        self.left -= 1;
         let reader = Reader::new(self.places.pop(), self.front.again());
         StandingReader::new(reader, session)
     }

@@ -1,5 +1,5 @@
 // A session that reads from the board where it can.
-ghost use Rattle.std.specs.Prelude.{◌≡◌, ◌+◌, ◌≤◌, [], ◌∷◌, sum_by, length};
+ghost use Rattle.std.specs.Prelude.{◌≡◌, ◌+◌, ◌≤◌, [], ◌∷◌, None, Some, IfErr, map, sum_by, length};
 ghost use mathlib.Core.List.{IsPrefix};
 ghost use Rattle.faults.specs.Counts.{RoseBy};
 ghost use Rattle.request_form.specs.Replies.{fault_count};
@@ -7,8 +7,9 @@ ghost use Rattle.client_session.specs.Results.{read_reply};
 ghost use Rattle.client_session.specs.Opening.{IsOfStore};
 ghost use Rattle.client_session.specs.Sessions.{Continues};
 ghost use Rattle.read_board.specs.Refreshes.{IsRising, version_of};
-ghost use Rattle.read_board.specs.Reads.{Goes, ByBoard, ByTurn, goes_by, bytes_said, said_by};
+ghost use Rattle.read_board.specs.Reads.{Goes, ByBoard, ByTurn, LostBy, goes_by, bytes_said, said_by};
 
+use crate::book::Front;
 use crate::keeper::Note;
 use crate::reader::Reader;
 use crate::refresh::Refresh;
@@ -27,7 +28,7 @@ use tree_geom::Steps;
 pub enum Way {
     /// By the board, with no turn.
     Board,
-    /// By a turn of the session.
+    /// By the session, with a turn unless it keeps a snapshot that reaches the version.
     Turn,
 }
 
@@ -64,6 +65,7 @@ fn by(way: Way, read: Result<Bytes, Fault>) -> Result<(Bytes, Way), Fault>
 fn read_refresh<'a, D: Door, G: Gate, L: Ledger>(
     session: &mut Session<'a, D, G>,
     on: &Refresh,
+    blob: u64,
     version: u64,
     offset: u64,
     count: u64,
@@ -72,6 +74,7 @@ fn read_refresh<'a, D: Door, G: Gate, L: Ledger>(
     requires of_store { IsOfStore session.old.store on.now.snapshot }
     requires within { version ≤ version_of on.now }
     ensures board { ByBoard on.now session.old version offset count result session.new steps.old steps.new }
+    ensures failed { IfErr result (LostBy (Some on.now) session.new blob version offset count (map D.faults session.old.doors) (map D.faults session.new.doors)) }
     ensures faults { RoseBy (fault_count (read_reply (bytes_said result))) (sum_by D.faults session.old.doors) (sum_by D.faults session.new.doors) }
     ensures goes_on { Continues session.old session.new }
 {
@@ -92,6 +95,8 @@ fn read_in_turn<'a, D: Door, G: Gate, R: Wait, L: Ledger>(
     steps: &mut Steps<L>,
 ) -> Result<(Bytes, Way), Fault>
     ensures turn { ByTurn session.old blob version offset count result session.new steps.old steps.new }
+    ensures failed { IfErr result (LostBy None session.new blob version offset count (map D.faults session.old.doors) (map D.faults session.new.doors)) }
+    ensures rest { session.new ≡ record session.old { log = session.new.log; doors = session.new.doors; turns = session.new.turns; opened = session.new.opened } }
     ensures faults { RoseBy (fault_count (read_reply (bytes_said result))) (sum_by D.faults session.old.doors) (sum_by D.faults session.new.doors) }
     ensures goes_on { Continues session.old session.new }
 {
@@ -108,6 +113,13 @@ impl<'a, D: Door, G: Gate> StandingReader<'a, D, G> {
         ensures { result ≡ record { board = reader.board; list = reader.list; has_place = reader.has_place; session = session.entry } }
     {
         StandingReader { reader, session }
+    }
+
+    // What it has seen and learnt.
+    pub(crate) fn front(&self) -> &Front
+        ensures { result.now ≡ record { board = self.now.board; list = self.now.list } }
+    {
+        self.reader.front()
     }
 
     /// Whether it has a place at the board.
@@ -143,8 +155,9 @@ impl<'a, D: Door, G: Gate> StandingReader<'a, D, G> {
     /// It looks at the board first. Where it has a place, and the version is at most that of the blob's last refresh that it then knows,
     /// it reads by the board: it takes no turn and waits for nobody, so what its session has seen stays. The bytes are those of the
     /// refresh's updates up to the version, and the refusals those of `Session::read_at`, in that order. Any other read is
-    /// `Session::read`, with its turn and its refusals. The count of the doors' faults and the number of nodes that are met are bounded
-    /// as there. Nothing is entered.
+    /// `Session::read`, with its refusals and one turn at most. The count of the doors' faults and the number of nodes that are met are
+    /// bounded as there, none where it is refused, and a lost page has the same cause. Nothing is entered, and but for what it saw, its
+    /// turns, its doors and what it keeps the session stays.
     pub fn read<R: Wait, L: Ledger>(
         &mut self,
         rt: &R,
@@ -157,14 +170,17 @@ impl<'a, D: Door, G: Gate> StandingReader<'a, D, G> {
         ensures seen { IsPrefix self.old.list self.new.list }
         ensures rising { IsRising self.new.list }
         ensures goes { Goes (goes_by self.new.has_place self.new.list blob version) self.old.session blob version offset count result self.new.session steps.old steps.new }
+        ensures failed { IfErr result (LostBy (goes_by self.new.has_place self.new.list blob version) self.new.session blob version offset count
+            (map D.faults self.old.session.doors) (map D.faults self.new.session.doors)) }
         ensures faults { RoseBy (fault_count (read_reply (bytes_said result))) (sum_by D.faults self.old.session.doors) (sum_by D.faults self.new.session.doors) }
         ensures goes_on { Continues self.old.session self.new.session }
+        ensures rest { self.new.session ≡ record self.old.session { log = self.new.session.log; doors = self.new.session.doors; turns = self.new.session.turns; opened = self.new.session.opened } }
         ensures kept { (self.new.board ≡ self.old.board) × (self.new.has_place ≡ self.old.has_place) }
     {
         self.reader.look();
         self.reader.stands();
         match self.reader.find(blob, version) {
-            Some(on) => read_refresh(&mut self.session, on, version, offset, count, steps),
+            Some(on) => read_refresh(&mut self.session, on, blob, version, offset, count, steps),
             None => read_in_turn(&mut self.session, rt, blob, version, offset, count, steps),
         }
     }

@@ -75,7 +75,8 @@ fn analysts_of<'a, R: Wait + Abort>(
     stand: &mut Stand,
 ) -> Vec<Analyst<'a>>
     requires owner { IsOwnerOf shared.now owner.old }
-    requires store { stand.old.store ≡ shared.now ∷ [] }
+    requires store { stand.old.board.store ≡ shared.now ∷ [] }
+    requires left { 16 ≤ stand.old.left }
 {
     let mut all = Vec::new(alloc);
     for number in 0..READERS {

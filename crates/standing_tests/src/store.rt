@@ -72,8 +72,8 @@ pub(crate) fn new_board<'a, 'r, R: Wait + Abort>(
     requires readers { (1 ≤ readers) × (readers ≤ 16) }
     ensures owner { IsOwnerOf shared.now owner.new }
     ensures may { MayRefresh result.0 result.1 }
-    ensures board { result.2 ≡ result.0.board }
-    ensures store { result.2.store ≡ shared.now ∷ [] }
+    ensures stand { result.2 ≡ record { board = result.0.board; left = readers } }
+    ensures store { result.0.board.store ≡ shared.now ∷ [] }
 {
     let (keeper, stand) = Board::new(rt, alloc, shared, readers).expect(rt, "memory");
     let session = new_session(rt, alloc, shared, owner);

@@ -21,9 +21,6 @@ use Rattle.watch_run.proofs.Idling.{idles_none, idles_both, idles_looked}
 abbrev step : ℕ → Option Refresh → Refresh → Option Refresh
 step blob found e = if e.blob == blob then Some e else found
 
-pub some_same : (a b : Refresh) → Some a ≡ Some b → a ≡ b
-some_same a b same = cc
-
 -- a refresh of the blob is the blob's last one
 pub on_pushed : (rs : List Refresh) (r : Refresh) → r.blob ≡ 1 → on_board 1 (rs ++ r ∷ []) ≡ Some r
 on_pushed rs r one =
@@ -42,18 +39,6 @@ found_on [] found all none = (let no : Some found ≡ None = none in cc)
 found_on (x ∷ xs) found all none =
     let yes : (x.blob == 1) ≡ true = (let one = of_first x xs all in grind (arith, nat_tests, one)) in
     found_on xs x (of_rest x xs all) (ap (λ (t : Bool). fold (step 1) (if t then Some x else Some found) xs) (sym yes) ∙ none)
-
--- what is found is of blob 1, where all are of it
-found_is_one : (xs : List Refresh) (found : Option Refresh) (r : Refresh) → All (λ (r : Refresh). r.blob ≡ 1) xs → ((f : Refresh) → found ≡ Some f → f.blob ≡ 1) → fold (step 1) found xs ≡ Some r → r.blob ≡ 1
-found_is_one [] found r all known is = known r is
-found_is_one (x ∷ xs) found r all known is =
-    let one : x.blob ≡ 1 = of_first x xs all in
-    let yes : (x.blob == 1) ≡ true = grind (arith, nat_tests, one) in
-    found_is_one xs (Some x) r (of_rest x xs all) (λ f same. (let is : x ≡ f = some_same x f same in ap (λ (r : Refresh). r.blob) (sym is) ∙ one))
-    (ap (λ (t : Bool). fold (step 1) (if t then Some x else found) xs) (sym yes) ∙ is)
-
-pub on_board_one : (all : List Refresh) (r : Refresh) → All (λ (r : Refresh). r.blob ≡ 1) all → on_board 1 all ≡ Some r → r.blob ≡ 1
-on_board_one all r of_one is = found_is_one all None r of_one (λ f no. absurd (let never : None ≡ Some f = no in cc)) is
 
 -- no board is full for blob 1 on which no other blob is
 pub not_full : (all : List Refresh) → All (λ (r : Refresh). r.blob ≡ 1) all → IsFullFor 1 all → ⊥

@@ -1,10 +1,9 @@
 // The last session of a watch, which refreshes the blob once more and reads what it then has.
-ghost use Rattle.std.specs.Prelude.{◌≡◌, ◌≢◌, ◌<◌, ◌≤◌, None, Some, sum_by, IfOk, IfErr};
+ghost use Rattle.std.specs.Prelude.{◌≡◌, ◌+◌, ◌<◌, sum_by, IfOk, IfErr};
 ghost use Rattle.faults.specs.Counts.{RoseBy};
-ghost use Rattle.client_session.specs.Sessions.{Continues};
-ghost use Rattle.read_board.specs.declared.refresh.Refresh.{Refresh};
-ghost use Rattle.read_board.specs.Refreshes.{on_board, version_of};
-ghost use Rattle.read_board.specs.Refreshing.{Holds};
+ghost use Rattle.blob_model.specs.History.{store_of};
+ghost use Rattle.version_manager.specs.Log.{events};
+ghost use Rattle.request_form.specs.PublishedReads.{IsPublishedIn};
 ghost use Rattle.update_work.specs.Updates.{told_faults};
 ghost use Rattle.watch_run.specs.Idling.{Idles};
 ghost use Rattle.watch_run.specs.Keeping.{MayRefresh};
@@ -13,15 +12,18 @@ ghost use Rattle.watch_run.specs.Lasts.{WholeRead, IsLast, LastHindered, updates
 use crate::keeping::refresh_blob;
 use crate::writing::BLOB;
 use blob_model::Bytes;
+use blob_model::laws::old_versions_stay;
 use client_session::Session;
 use page_store::Door;
 use ports::gate::Gate;
 use read_board::Keeper;
+use read_board::laws::refreshes_stay;
 use request_form::Fault;
 use std::marker::Brand;
 use std::sync::Wait;
 use std::sync::ledger::{Blank, Ledger};
 use tree_geom::Steps;
+use workload_law::laws::sessions_own;
 
 /// The last version of the watched blob, with all its bytes.
 #[derive(Drop)]
@@ -30,32 +32,35 @@ pub(crate) struct Last {
     pub(crate) bytes: Bytes,
 }
 
-// Reads the whole of the last refresh of the blob. Nobody counts its node steps.
-fn read_latest<W: Wait + Drop, D: Door, G: Gate, L: Ledger>(
-    keeper: &Keeper<W>,
+// Opens a published version of the blob by a turn, and reads the whole of it. Nobody counts its node steps.
+fn read_version<R: Wait, D: Door, G: Gate, L: Ledger>(
+    rt: &R,
     session: &mut Session<'_, D, G>,
+    version: u64,
     blank: Blank,
 ) -> Result<Bytes, Fault>
     requires name { blank.name ≡ L.name }
     requires parts { blank.parts ≡ L.parts }
     requires some { 0 < blank.parts }
-    requires may { MayRefresh keeper.now session.old }
-    requires there { on_board 1 keeper.now.all ≢ None }
-    ensures reads { (r : Refresh) → on_board 1 keeper.now.all ≡ Some r → Holds session.old.store.fixed session.old.log r → WholeRead (updates_seen session.old) (version_of r) result }
+    requires published { IsPublishedIn (store_of session.old.store.fixed.limits (events session.old.log)) 1 version }
+    ensures reads { WholeRead (updates_seen session.new) version result }
+    ensures one_turn { session.new.turns ≡ session.old.turns + 1 }
+    ensures idles { Idles session.old session.new }
     ensures rose { RoseBy (told_faults result) (sum_by D.faults session.old.doors) (sum_by D.faults session.new.doors) }
-    ensures rest { session.new ≡ record session.old { doors = session.new.doors } }
 {
+    sessions_own();
+    old_versions_stay();
     let mut steps = Steps::<L>::open(blank);
-    match keeper.latest(BLOB) {
-        Some(refresh) => {
-            let size = refresh.snapshot.size();
-            session.read_at(&refresh.snapshot, 0, size, &mut steps)
+    match session.open(rt, BLOB, version) {
+        Ok(snapshot) => {
+            let size = snapshot.size();
+            session.read_at(&snapshot, 0, size, &mut steps)
         }
-        None => unreachable!(),
+        Err(fault) => Err(fault),
     }
 }
 
-/// Refreshes the watched blob once more, and reads the whole of the version that the refresh answered.
+/// Refreshes the watched blob once more, and reads the whole of the version that the refresh answered, by a turn of its own.
 pub(crate) fn read_last<R: Wait, W: Wait + Drop, D: Door, G: Gate>(
     rt: &R,
     keeper: &mut Keeper<W>,
@@ -68,11 +73,12 @@ pub(crate) fn read_last<R: Wait, W: Wait + Drop, D: Door, G: Gate>(
     ensures rose { RoseBy (told_faults result) (sum_by D.faults session.old.doors) (sum_by D.faults session.new.doors) }
     ensures board { keeper.new.board ≡ keeper.old.board }
 {
+    refreshes_stay();
     let version = match refresh_blob(rt, keeper, session) {
         Ok(version) => version,
         Err(fault) => return Err(fault),
     };
-    match read_latest::<W, D, G, Brand>(keeper, session, Blank::new(1)) {
+    match read_version::<R, D, G, Brand>(rt, session, version, Blank::new(1)) {
         Ok(bytes) => Ok(Last { version, bytes }),
         Err(fault) => Err(fault),
     }

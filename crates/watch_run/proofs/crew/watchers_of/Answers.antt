@@ -3,6 +3,7 @@ use Rattle.std.proofs.lemmas.Grind.{common_steps}
 use Rattle.std.specs.Prelude.{sum_by}
 use Rattle.page_store.specs.Calls.{Traffic, no_door}
 use Rattle.client_session.specs.Sessions.{SessionState}
+use Rattle.read_board.specs.Keeping.{StandState}
 use Rattle.store_sessions.proofs.Traffics.{none_handed, handed_more, came_back_around}
 use Rattle.watch_run.specs.Stages.{Owner, IsIdle}
 use Rattle.watch_run.specs.Crews.{IsReadyToWatch}
@@ -24,13 +25,16 @@ makes-preserved g c =
     record {
       few = omega (arith, c.push_reserved.ensures.len, c.makes-test.true);
       room = search rules;
-      ready = all_more (IsReadyToWatch faults c.args.shared.now c.args.stand.now) c.makes.watchers.items _ _ c.push_reserved.ensures.items i.ready (record {
-        board_is = r.board ∙ i.stand;
+      ready = all_more (IsReadyToWatch faults c.args.shared.now c.args.stand.now.board) c.makes.watchers.items _ _ c.push_reserved.ensures.items i.ready (record {
+        board_is = r.board ∙ i.stand.0;
         idle = subst (λ (s : SessionState _). IsIdle c.args.shared.now s) (sym session) idle;
         no_fault = ap (λ (s : SessionState _). sum_by faults s.doors) session ∙ x.session.no_fault;
         told = refl;
       });
-      stand = r.stand ∙ i.stand;
+      stand = (
+        ap (λ (t : StandState). t.board) r.stand ∙ i.stand.0,
+        omega (arith, ap (λ (t : StandState). t.left) r.stand, i.stand.1, c.push_reserved.ensures.len, c.requires.few.1, c.makes-test.true),
+      );
       owner = x.owner;
       given = search rules;
       maker_true = x.truth_stays.0 i.maker_true;
@@ -46,7 +50,7 @@ makes-init g c = record {
   few = omega (arith, c.in-Ok.ensures.len);
   room = first_of (search rules, grind (arith, common_steps));
   ready = first_of (search rules, grind (arith, common_steps));
-  stand = refl;
+  stand = (refl, omega (arith, c.in-Ok.ensures.len));
   owner = c.requires.owner;
   given = first_of (search rules, grind (arith, common_steps));
   maker_true = c.requires.true_doors;

@@ -1,7 +1,7 @@
 use Rattle.std.proofs.Common.{◌≡◌, ap, arith}
 use Rattle.std.specs.Prelude.{sum_by}
 use Rattle.client_session.specs.Sessions.{SessionState}
-use Rattle.watch_run.proofs.Lasts.{last_missing, no_page, latest_is, last_holds_mid, last_read, last_unread}
+use Rattle.watch_run.proofs.Lasts.{last_missing, no_page, published_mid, last_read, last_unread}
 use Rattle.watch_run.proofs.last.read_last.Goals as goal
 
 pub returns-in-Err-clause-hindered : goal.returns-in-Err-clause-hindered
@@ -15,28 +15,21 @@ returns-in-Err-clause-rose g c =
     let none = no_page s' c.in-Err.fault c.in-Err.ensures.hindered in
     record { later = omega (arith, same); by = λ less. omega (arith, same, none) }
 
-pub returns-in-Ok-read_latest-clause-last : goal.returns-in-Ok-read_latest-clause-last
-returns-in-Ok-read_latest-clause-last g c =
-    let k = c.args.keeper.now in
-    let k' = c.refresh_blob.new.keeper in
-    let s = c.args.session.now in
-    let mid = c.refresh_blob.new.session in
-    let s' = c.read_latest.new.session in
-    let v = c.in-Ok.version in
+pub read_version-requires-clause-published : goal.read_version-requires-clause-published
+read_version-requires-clause-published g c =
     let x = c.in-Ok.ensures in
-    let y = c.in-Ok-read_latest.ensures in
-    let whole = y.reads x.done.refresh (latest_is k k' s mid s' v x.done x.refreshes.may y.rest) (last_holds_mid k k' s mid s' v x.done x.refreshes.may y.rest) in
-    last_read k k' s mid s' v x.done x.refreshes.may y.rest c.in-Ok-read_latest.bytes x.recent whole
+    published_mid c.args.keeper.now c.refresh_blob.new.keeper c.args.session.now c.refresh_blob.new.session c.refresh_blob.new.session c.in-Ok.version x.done x.refreshes.may
 
-pub returns-in-Err-read_latest-clause-hindered : goal.returns-in-Err-read_latest-clause-hindered
-returns-in-Err-read_latest-clause-hindered g c =
-    let k = c.args.keeper.now in
-    let k' = c.refresh_blob.new.keeper in
-    let s = c.args.session.now in
-    let mid = c.refresh_blob.new.session in
-    let s' = c.read_latest.new.session in
-    let v = c.in-Ok.version in
+pub returns-in-Ok-read_version-clause-last : goal.returns-in-Ok-read_version-clause-last
+returns-in-Ok-read_version-clause-last g c =
+    let s' = c.read_version.new.session in
     let x = c.in-Ok.ensures in
-    let y = c.in-Err-read_latest.ensures in
-    let whole = y.reads x.done.refresh (latest_is k k' s mid s' v x.done x.refreshes.may y.rest) (last_holds_mid k k' s mid s' v x.done x.refreshes.may y.rest) in
-    last_unread k k' s mid s' v x.done x.refreshes.may y.rest c.in-Err-read_latest.fault x.recent whole
+    last_read c.args.keeper.now c.refresh_blob.new.keeper c.args.session.now c.refresh_blob.new.session s' c.in-Ok.version x.done x.refreshes.may c.refreshes_stay.ensures c.read_version.ensures.idles.goes_on c.in-Ok-read_version.bytes x.recent
+    c.in-Ok-read_version.ensures.reads
+
+pub returns-in-Err-read_version-clause-hindered : goal.returns-in-Err-read_version-clause-hindered
+returns-in-Err-read_version-clause-hindered g c =
+    let s' = c.read_version.new.session in
+    let x = c.in-Ok.ensures in
+    last_unread c.args.keeper.now c.refresh_blob.new.keeper c.args.session.now c.refresh_blob.new.session s' c.in-Ok.version x.done x.refreshes.may c.refreshes_stay.ensures c.read_version.ensures.idles.goes_on c.in-Err-read_version.fault x.recent
+    c.in-Err-read_version.ensures.reads

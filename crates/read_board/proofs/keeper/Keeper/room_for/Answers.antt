@@ -8,11 +8,11 @@ pub returns-then-at-eq-MOST : goal.returns-then-at-eq-MOST
 returns-then-at-eq-MOST g c =
     let i = c.self.inside in
     let is = c.place_of-at.ensures.place ∙ ap (λ (s : List Refresh). place c.args.blob s) c.as_slice.ensures.value in
-    rw (← c.self.view_is) (record { full = (λ _. full_here c.args.blob 0 i.front.list i.on.items c.place_of-at.result c.self.invariant.latest is (search rules) (search rules) c.self.invariant.few, λ _. refl) })
+    rw (← c.self.view_is) (record { full = (λ _. full_here c.args.blob 0 i.author.list i.on.items c.place_of-at.result c.self.invariant.latest is (search rules) (search rules) c.self.invariant.few, λ _. refl) })
 
 pub returns-else-at-eq-MOST : goal.returns-else-at-eq-MOST
 returns-else-at-eq-MOST g c =
     let i = c.self.inside in
     let is = c.place_of-at.ensures.place ∙ ap (λ (s : List Refresh). place c.args.blob s) c.as_slice.ensures.value in
     rw (← c.self.view_is)
-    (record { full = (λ e. absurd (cc (e)), λ full. absurd (c.if-at-eq-MOST.false (only_full c.args.blob 0 i.front.list i.on.items c.place_of-at.result c.self.invariant.latest is (search rules) full))) })
+    (record { full = (λ e. absurd (cc (e)), λ full. absurd (c.if-at-eq-MOST.false (only_full c.args.blob 0 i.author.list i.on.items c.place_of-at.result c.self.invariant.latest is (search rules) full))) })
