@@ -3,3 +3,4 @@ pub mod Finishes
 pub mod Returns
 pub mod Fresh
 pub mod Early
+pub mod Hindered

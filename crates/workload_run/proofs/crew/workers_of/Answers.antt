@@ -32,7 +32,10 @@ makes-preserved g c = record {
   handed = handed_more g.M.DoorMaker.hands_out g.M.DoorMaker.takes_back c.args.shared.now.providers c.makes.before c.args.maker.now c.makes.maker c.open_session.new.maker c.makes.invariant.handed
       c.in-Ok-open_session.ensures.handed_out;
   doors = search rules;
-  plan_stays = search rules;
+  plan_stays = λ n door. (
+    λ makes. (c.open_session.ensures.plan_stays n door).0 ((c.makes.invariant.plan_stays n door).0 makes),
+    λ makes. (c.makes.invariant.plan_stays n door).1 ((c.open_session.ensures.plan_stays n door).1 makes),
+  );
   truth_stays = search rules;
 }
 
