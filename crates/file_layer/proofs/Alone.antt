@@ -193,11 +193,13 @@ module _ (law : OwnIsAlone) (made : OwnEventsAreMade) where
       grow (WhereAnswer.too_long fault long says is) = same_grows f f' is
       grow (WhereAnswer.told others gap short is tells) = seen_more others is
       grow (WhereAnswer.no_memory others gap short is says) = seen_more others is
+      grow (WhereAnswer.unsaid others gap short is says) = seen_more others is
 
       only : WhereAnswer among_others f blob version offset count reply f' → SeesOwn f' → WhereAnswer nobody f blob version offset count reply f'
       only (WhereAnswer.too_long fault long says is) own = WhereAnswer.too_long fault long says is
       only (WhereAnswer.told others gap short is tells) own = WhereAnswer.told others (gap_of others gap is own) short is tells
       only (WhereAnswer.no_memory others gap short is says) own = WhereAnswer.no_memory others (gap_of others gap is own) short is says
+      only (WhereAnswer.unsaid others gap short is says) own = WhereAnswer.unsaid others (gap_of others gap is own) short is says
 
   -- what comes behind a look at the names
   on_blob : (path : List ℕ) (seen f' : Files) (Among Alone : ℕ → FileReply → Files → Type 0) (reply : FileReply) (found : Result ℕ FindFault) → ((blob : ℕ) → IsPart seen f' (Among blob reply f') (Alone blob reply f'))

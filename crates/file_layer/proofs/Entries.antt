@@ -148,6 +148,7 @@ module _ (f' : Files) (reply : FileReply) where
   places f blob version offset count (WhereAnswer.too_long fault long says is) = same f f' is
   places f blob version offset count (WhereAnswer.told others gap short is tells) = asks f f' (sees f.store others) is
   places f blob version offset count (WhereAnswer.no_memory others gap short is says) = asks f f' (sees f.store others) is
+  places f blob version offset count (WhereAnswer.unsaid others gap short is says) = asks f f' (sees f.store others) is
 
   line_enters : (f : Files) (line : FileLine) → FileAnswers among_others f line reply f' → Enters f (line_made line reply) f'
   line_enters f (Lines.Mkdir path) h =

@@ -216,6 +216,9 @@ module _ (f : Files) (things : Things) (holds' : List HeldAppend) (st : Stands f
     where_step version offset count reply f' (WhereAnswer.no_memory others none short is says) =
         subst (λ (o : Option Fault). Stepped f' (λ m'. UnlessFault o m reply m' (WhereSays m b version offset count reply × (m' ≡ m)))) (sym short)
         (unchanged f' (λ m'. WhereSays m b version offset count reply × (m' ≡ m)) (still_files f' (sees s others) others is none refl) (WhereSays.out_of_memory says, refl))
+    where_step version offset count reply f' (WhereAnswer.unsaid others none short is says) =
+        subst (λ (o : Option Fault). Stepped f' (λ m'. UnlessFault o m reply m' (WhereSays m b version offset count reply × (m' ≡ m)))) (sym short)
+        (unchanged f' (λ m'. WhereSays m b version offset count reply × (m' ≡ m)) (still_files f' (sees s others) others is none refl) (WhereSays.unsaid says, refl))
 
     -- ---- looks at the last version
 
@@ -587,7 +590,7 @@ module _ (f : Files) (things : Things) (holds' : List HeldAppend) (st : Stands f
       let lists : Tree.Lists (names_of f.by things) path h.said = subst (λ (l : NameLog). Tree.Lists l path h.said) (ap (λ (g : Files). g.names) same ∙ names_are) h.lists in
       unchanged f' (λ m'. MapAnswers m (Lines.List path) reply m') same (told (list_is f.by m path h.said lists))
     where
-      told : Maps.ListSays m path (thing_at things path) (list_reply path h.said) ⊎ (list_reply path h.said ≡ store_fault Faults.NoMemory) → MapAnswers m (Lines.List path) reply m
+      told : Maps.ListSays m path (thing_at things path) (list_reply path h.said) ⊎ (list_reply path h.said ≡ Says.Unsaid) → MapAnswers m (Lines.List path) reply m
       told (inl says) = inl (subst (λ (r : FileReply). Maps.ListSays m path (thing_at things path) r) (sym h.is) says, refl)
       told (inr starved) = inr (h.is ∙ starved, refl)
 

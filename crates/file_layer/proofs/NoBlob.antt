@@ -118,6 +118,7 @@ module _ (m : PathMap) (reply : FileReply) (m' : PathMap) where
   where_no b version offset count (WhereSays.places free places says are) = said_so reply _ says (λ blob e. cc)
   where_no b version offset count (WhereSays.refused refusal is says) = said_so reply _ says (read_no b version offset count refusal is)
   where_no b version offset count (WhereSays.out_of_memory says) = said_so reply _ says (λ blob e. cc)
+  where_no b version offset count (WhereSays.unsaid says) = said_so reply _ says (λ blob e. cc)
 
   finish_no : (h : HeldAppend) (b : Blob) → FinishSays m h b reply m' → NamesNoBlob reply
   finish_no h b (FinishSays.done left says is) = said_so reply _ says (λ blob e. cc)

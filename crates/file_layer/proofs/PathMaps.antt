@@ -23,8 +23,8 @@ use Rattle.file_names.specs.declared.tree.FindFault.{FindFault}
 use Rattle.file_names.specs.declared.tree.FindFault.TheVariants as FindFaults
 use Rattle.file_names.specs.declared.tree.ListFault.{ListFault}
 use Rattle.file_names.specs.declared.tree.ListFault.TheVariants as ListFaults
-use Rattle.request_form.specs.declared.form.Fault.TheVariants as Faults
-use Rattle.file_layer.specs.Files.{list_reply, store_fault}
+use Rattle.file_text.specs.declared.form.FileReply.TheVariants as Says
+use Rattle.file_layer.specs.Files.{list_reply}
 use Rattle.file_layer.specs.PathMap.{Thing, PathMap, AreIn, thing_in, thing_at, entries_of, is_folder, with_content, put_in, fault_below, new_fault, ListSays}
 
 -- ---- the names of a map
@@ -137,7 +137,7 @@ module _ (by : ℕ) (m : PathMap) where
   not_both r p q = cc
 
   listed_cases : (path : List ℕ) (o : Option Thing) (said : Result (List Listed) ListFault) → ListsNamed log path (option_map named_of o) said
-      → ListSays m path o (list_reply path said) ⊎ (list_reply path said ≡ store_fault Faults.NoMemory)
+      → ListSays m path o (list_reply path said) ⊎ (list_reply path said ≡ Says.Unsaid)
   listed_cases path o (Err ListFaults.NoMemory) h = inr refl
   listed_cases path None (Ok listed) h = absurd (ok_err listed ListFaults.NoName h)
   listed_cases path None (Err ListFaults.NoName) h = inl refl
@@ -150,7 +150,7 @@ module _ (by : ℕ) (m : PathMap) where
   listed_cases path (Some (Thing.file blob content)) (Err ListFaults.NotFolder) h = inl refl
 
   pub list_is : (path : List ℕ) (said : Result (List Listed) ListFault) → Tree.Lists log path said
-      → ListSays m path (thing_at m.things path) (list_reply path said) ⊎ (list_reply path said ≡ store_fault Faults.NoMemory)
+      → ListSays m path (thing_at m.things path) (list_reply path said) ⊎ (list_reply path said ≡ Says.Unsaid)
   list_is path said h = listed_cases path (thing_at m.things path) said (subst (λ (o : Option Named). ListsNamed log path o said) (named_is by m.things path) h)
 
 -- ---- a file with other updates

@@ -113,7 +113,7 @@ module _ (gaps : Gaps) (seen f' : Files) (blob version offset count : ℕ) where
   -- what is said of a version that was opened
   pub where_opened : (v : Version) → Opens gaps seen blob version (Ok v) f' → read_fault count ≡ None → (said : Result FileReply NoMemory) → PlacesSaid f' (size_now v) offset count said
       → WhereAnswer gaps seen blob version offset count (said_of said) f'
-  where_opened v opens short (Err out) within = WhereAnswer.no_memory opens.others opens.is_gap short opens.is refl
+  where_opened v opens short (Err out) within = WhereAnswer.unsaid opens.others opens.is_gap short opens.is refl
   where_opened v opens short (Ok reply) (inl past) =
       WhereAnswer.told opens.others opens.is_gap short opens.is (subst (λ o. TellsWhere seen offset count o reply) (sym ((there v opens).0 past.0)) past.1)
   where_opened v opens short (Ok reply) (inr held) =

@@ -99,13 +99,13 @@ refused fault = Says.Refused fault
 abbrev pub store_fault : Fault → FileReply
 store_fault fault = Says.Refused (FileFaults.Store fault)
 
--- of a path that isn't entered: where the parent is at fault, it is named
+-- of a path that isn't entered: where the parent is at fault, it is named, and of want of memory nothing is said
 abbrev pub enter_refused : List ℕ → EnterFault → FileReply
 enter_refused path EnterFaults.NoParent = refused (FileFaults.NoName (parent_of path))
 enter_refused path EnterFaults.ParentNotFolder = refused (FileFaults.NotFolder (parent_of path))
 enter_refused path EnterFaults.Exists = refused (FileFaults.Exists path)
 enter_refused path EnterFaults.TooManyNames = refused FileFaults.TooManyNames
-enter_refused path EnterFaults.NoMemory = store_fault Faults.NoMemory
+enter_refused path EnterFaults.NoMemory = Says.Unsaid
 
 abbrev pub entered_reply : FileReply → List ℕ → Result (Unit {0}) EnterFault → FileReply
 entered_reply reply path (Ok done) = reply
@@ -115,7 +115,7 @@ abbrev pub list_reply : List ℕ → Result (List Listed) ListFault → FileRepl
 list_reply path (Ok listed) = Says.Listed listed
 list_reply path (Err ListFaults.NoName) = refused (FileFaults.NoName path)
 list_reply path (Err ListFaults.NotFolder) = refused (FileFaults.NotFolder path)
-list_reply path (Err ListFaults.NoMemory) = store_fault Faults.NoMemory
+list_reply path (Err ListFaults.NoMemory) = Says.Unsaid
 
 -- of a path that is no file
 abbrev pub find_refused : List ℕ → FindFault → FileReply
@@ -170,7 +170,7 @@ pub record MkdirAnswer (gaps : Gaps) (f : Files) (path : List ℕ) (reply : File
   pub is : reply ≡ entered_reply (Says.Folder path) path said
 
 -- A blob is created, and the path is entered as a file of this blob. Where another session entered it meanwhile, the blob has no
--- name.
+-- name; nor has it one where no memory was found for it, of which nothing is said, since the blob stays.
 pub data MakesFile (gaps : Gaps) (f : Files) (path : List ℕ) (reply : FileReply) (f' : Files) : Type 0 where
   not_created : (fault : Fault) → AsksStore gaps f Requests.Create (Replies.Refused fault) f' → reply ≡ store_fault fault → MakesFile gaps f path reply f'
   created : (mid : Files) (blob : ℕ) (said : Result (Unit {0}) EnterFault) → AsksStore gaps f Requests.Create (Replies.Created blob) mid → EntersNames gaps mid path (Nameds.File blob) said f'
@@ -252,6 +252,8 @@ pub data WhereAnswer (gaps : Gaps) (seen : Files) (blob version offset count : �
   told : (others : List Event) → gaps.store seen.store.caller others → read_fault count ≡ None → f' ≡ with_store seen (sees seen.store others)
       → TellsWhere seen offset count (outcome_at seen.store others (Calls.Read blob version offset count)) reply → WhereAnswer gaps seen blob version offset count reply f'
   no_memory : (others : List Event) → gaps.store seen.store.caller others → read_fault count ≡ None → f' ≡ with_store seen (sees seen.store others) → reply ≡ store_fault Faults.NoMemory
+      → WhereAnswer gaps seen blob version offset count reply f'
+  unsaid : (others : List Event) → gaps.store seen.store.caller others → read_fault count ≡ None → f' ≡ with_store seen (sees seen.store others) → reply ≡ Says.Unsaid
       → WhereAnswer gaps seen blob version offset count reply f'
 
 -- ---- all lines

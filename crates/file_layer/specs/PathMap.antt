@@ -152,6 +152,10 @@ read_refusal b version offset count = first_refusal (not_published b version ∷
 
 -- ---- what is said
 
+-- want of memory of which nothing is said
+abbrev pub SaysNothing : PathMap → FileReply → PathMap → Type 0
+SaysNothing m reply m' = (reply ≡ Says.Unsaid) × (m' ≡ m)
+
 -- a fault that leaves all as it was
 abbrev pub SaysFault : PathMap → Fault → FileReply → PathMap → Type 0
 SaysFault m fault reply m' = (reply ≡ store_fault fault) × (m' ≡ m)
@@ -169,12 +173,12 @@ FolderSays m path None reply m' = (reply ≡ Says.Folder path) × (m' ≡ and_th
 abbrev pub new_file : ℕ → Thing
 new_file blob = Thing.file blob (record { updates = []; finished = [] })
 
--- A new file is the next blob's. Where no memory is found for its name, the blob has none.
+-- A new file is the next blob's. Where no memory is found for its name, the blob has none, and nothing is said.
 pub data FileSays (m : PathMap) (path : List ℕ) (reply : FileReply) (m' : PathMap) : Type 0 where
   made : m.blobs ≢ m.fixed.limits.max_blobs → reply ≡ Says.File path (m.blobs + 1) → m' ≡ and_thing (and_blob m) path (new_file (m.blobs + 1)) → FileSays m path reply m'
   refused : m.blobs ≡ m.fixed.limits.max_blobs → SaysFault m (Faults.TooManyBlobs m.fixed.limits.max_blobs) reply m' → FileSays m path reply m'
   out_of_memory : SaysFault m Faults.NoMemory reply m' → FileSays m path reply m'
-  unnamed : m.blobs ≢ m.fixed.limits.max_blobs → SaysFault (and_blob m) Faults.NoMemory reply m' → FileSays m path reply m'
+  unnamed : m.blobs ≢ m.fixed.limits.max_blobs → SaysNothing (and_blob m) reply m' → FileSays m path reply m'
 
 abbrev pub MakeSays : PathMap → List ℕ → Option EnterFault → FileReply → PathMap → Type 0
 MakeSays m path (Some fault) reply m' = (reply ≡ enter_refused path fault) × (m' ≡ m)
@@ -212,6 +216,7 @@ pub data WhereSays (m : PathMap) (b : Blob) (version offset count : ℕ) (reply 
       → WhereSays m b version offset count reply
   refused : (refusal : Refusal) → read_refusal b version offset count ≡ Some refusal → reply ≡ store_fault (fault_of refusal) → WhereSays m b version offset count reply
   out_of_memory : reply ≡ store_fault Faults.NoMemory → WhereSays m b version offset count reply
+  unsaid : reply ≡ Says.Unsaid → WhereSays m b version offset count reply
 
 -- the pages of a file that the update of that number stores anew
 abbrev pub folds_at : PathMap → Blob → ℕ → List ℕ
@@ -264,13 +269,13 @@ ListSays m path (Some Thing.folder) reply = (listed : List Listed) × (reply ≡
 
 -- A line and its reply take the map to the next one.
 abbrev pub MapAnswers : PathMap → FileLine → FileReply → PathMap → Type 0
-MapAnswers m (Lines.Mkdir path) reply m' = FolderSays m path (new_fault m path) reply m' ⊎ SaysFault m Faults.NoMemory reply m'
+MapAnswers m (Lines.Mkdir path) reply m' = FolderSays m path (new_fault m path) reply m' ⊎ SaysNothing m reply m'
 MapAnswers m (Lines.Make path) reply m' = MakeSays m path (new_fault m path) reply m'
 MapAnswers m (Lines.Append path bytes) reply m' = AtFile m path (λ b reply m'. UnlessFault (bytes_fault m bytes) m reply m' (AppendSays m path b bytes reply m')) (thing_at m.things path) reply m'
 MapAnswers m (Lines.Read path version offset count) reply m' =
     AtFile m path (λ b reply m'. UnlessFault (read_fault count) m reply m' (ReadSays m b version offset count reply × (m' ≡ m))) (thing_at m.things path) reply m'
 MapAnswers m (Lines.Stat path) reply m' = (reply ≡ stat_reply m path (thing_at m.things path)) × (m' ≡ m)
-MapAnswers m (Lines.List path) reply m' = (ListSays m path (thing_at m.things path) reply × (m' ≡ m)) ⊎ SaysFault m Faults.NoMemory reply m'
+MapAnswers m (Lines.List path) reply m' = (ListSays m path (thing_at m.things path) reply × (m' ≡ m)) ⊎ SaysNothing m reply m'
 MapAnswers m (Lines.Where path version offset count) reply m' =
     AtFile m path (λ b reply m'. UnlessFault (read_fault count) m reply m' (WhereSays m b version offset count reply × (m' ≡ m))) (thing_at m.things path) reply m'
 MapAnswers m (Lines.Finish ticket) reply m' = TicketSays m ticket (held_in m.held ticket) reply m'

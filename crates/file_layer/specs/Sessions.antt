@@ -3,10 +3,10 @@ use Rattle.std.specs.Prelude.{◌≡◌, length, Result, Ok, Err}
 use Rattle.turn_lock.specs.Shown.{PassView}
 use Rattle.faults.specs.declared.no_memory.NoMemory.{NoMemory}
 use Rattle.client_session.specs.Sessions.{SessionState, session_of, Continues}
-use Rattle.request_form.specs.declared.form.Fault.TheVariants as Faults
 use Rattle.file_names.specs.declared.tree.Entered.{Entered}
 use Rattle.file_text.specs.declared.form.FileReply.{FileReply}
-use Rattle.file_layer.specs.Files.{Files, store_fault}
+use Rattle.file_text.specs.declared.form.FileReply.TheVariants as Says
+use Rattle.file_layer.specs.Files.{Files}
 
 -- a session of the store, and a pass of the names
 pub record FileState (D : Type 0) : Type 0 where
@@ -22,7 +22,7 @@ pub record GoesOn {D : Type 0} (old new : FileState D) : Type 0 where
   pub session : Continues old.session new.session
   pub names : new.names ≡ record old.names { seen = new.names.seen; turns = new.names.turns }
 
--- the reply that a line got: where no memory was found for the names, or for what is said of them, that is one too
+-- the reply that a line got: where no memory was found for the names, or for what is said of them, it isn't said
 abbrev pub said_of : Result FileReply NoMemory → FileReply
 said_of (Ok reply) = reply
-said_of (Err none) = store_fault Faults.NoMemory
+said_of (Err none) = Says.Unsaid

@@ -437,7 +437,8 @@ impl<'a, D: BesideDoor, G: Gate> FileSession<'a, D, G> {
     /// isn't there or is a file. `make` looks, creates a blob, and enters the name in a second turn of the names: it is Exists too
     /// where another session entered the name in between, and the blob has no name then. `where` tells, of each page that the range
     /// meets, the providers of the stored page that holds the first byte of the range in it; it asks no provider. Where no memory is
-    /// found for the names, or for what is said, what the line did before stands.
+    /// found for the names, or for what is said, what the line did before stands, and nothing is said. The reply that memory was wanting
+    /// is the store's alone: then neither the names nor the store have changed.
     pub fn answer<R: Wait + Threads + Sync>(
         &mut self,
         rt: &R,

@@ -42,6 +42,10 @@ abbrev pub pages_text : List PageHolders → List ℕ
 pages_text [] = codes " -"
 pages_text (held ∷ more) = flat_map page_text (held ∷ more)
 
+-- what is never said: no bytes spell it
+abbrev pub no_text : List ℕ
+no_text = 256 ∷ []
+
 -- a reply's line, without its end
 abbrev pub reply_text : FileReply → List ℕ
 reply_text (Replies.Folder path) = codes "folder " ++ path
@@ -56,6 +60,7 @@ reply_text (Replies.HeldBy pages) = codes "where" ++ pages_text pages
 reply_text (Replies.Finished published) = codes "published " ++ decimal published
 reply_text (Replies.Refused fault) = fault_text fault
 reply_text Replies.Bye = codes "bye"
+reply_text Replies.Unsaid = no_text
 
 -- how a reply is written: its line, ended by a line feed
 abbrev pub said : FileReply → List ℕ

@@ -209,6 +209,8 @@ pub enum FileReply {
     Refused(FileFault),
     /// The stream's lines have ended.
     Bye,
+    /// Memory was wanting where the names may have been asked already. Nothing is said of it, and the stream ends.
+    Unsaid,
 }
 
 /// One item of a stream of lines about files.

@@ -118,7 +118,7 @@ fn file_is_line(alloc: Global, blob: u64, version: u64, size: u64) -> Result<Vec
     Ok(format!(in alloc; "file blob {blob} version {version} size {size}\n")?.into_bytes())
 }
 
-/// A reply's line, with its end.
+/// A reply's line, with its end. There is none of `Unsaid`.
 pub fn reply_line(alloc: Global, reply: FileReply) -> Result<Vec<u8>, AllocError>
     ensures { IfOk result (λ line. line.items ≡ said reply) }
 {
@@ -160,5 +160,6 @@ pub fn reply_line(alloc: Global, reply: FileReply) -> Result<Vec<u8>, AllocError
         }
         FileReply::Refused(fault) => fault_line(alloc, fault),
         FileReply::Bye => b"bye\n".to_vec(alloc),
+        FileReply::Unsaid => Err(AllocError),
     }
 }
