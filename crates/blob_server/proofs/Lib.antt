@@ -1,4 +1,5 @@
 pub mod Accounting
+pub mod Beginnings
 pub mod Frames
 pub mod Idling
 pub mod Lents

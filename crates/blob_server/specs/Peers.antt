@@ -1,7 +1,8 @@
 -- What one connection is served, and what its session keeps.
-use Rattle.std.specs.Prelude.{◌≡◌, ℕ, Option, List, [], sum_by}
+use Rattle.std.specs.Prelude.{◌≡◌, ℕ, Option, Some, IfSome, List, [], sum_by}
 use Rattle.faults.specs.Counts.{RoseBy}
 use Rattle.blob_model.specs.History.{AllOther}
+use Rattle.ports.specs.Listener.{IsFresh}
 use Rattle.request_form.specs.Session.{Session}
 use Rattle.request_form.specs.HangUp.{GivenUpCounts, HungUp}
 use Rattle.request_form.specs.Answers.{max_update}
@@ -37,14 +38,19 @@ pub record IsIdle {D : Type 0} (store : StoreState) (session : SessionState D) :
 abbrev pub faults_of_doors : {D : Type 0} → (D → ℕ) → SessionState D → ℕ
 faults_of_doors faults session = sum_by faults session.doors
 
--- What `serve_peer` tells of a session and of a peer, of which these are the meanings: the session held no ticket, the connection came to this end, its
--- frames were answered as a session's requests are, and the peer's counts rose as the end says.
-pub record Converses {D P : Type 0} (faults : D → ℕ) (given left written : P → Option (List ℕ)) (ends read_faults write_faults : P → ℕ)
-    (old : SessionState D) (before after : P) (new : SessionState D) : Type 0 where
+-- What became of a session and of a new peer that it served, of which these are the meanings. Nothing was read of the peer yet and nothing was written to it,
+-- as far as it told, and the session held no ticket. The connection came to this end, its frames were answered as a session's requests are, and the peer's
+-- counts rose as the end says. Where the peer tells, its reads gave the bytes that were answered, and its writes took the replies to them.
+pub record Converses {D P : Type 0} (faults : D → ℕ) (given left written : P → Option (List ℕ)) (ends read_faults write_faults : P → ℕ) (old : SessionState D) (before : P)
+    (new : SessionState D) : Type 0 where
+  pub fresh : IsFresh (given before) (written before)
   pub idle : IsIdle old.store old
+  pub after : P
   pub end : End
   pub served : ServedFrames (record { session = session_of old; faults = sum_by faults old.doors; written = written before }) (record { given = given before; left = left before; ends = ends before })
       (record { given = given after; left = left after; ends = ends after }) (record { session = session_of new; faults = sum_by faults new.doors; written = written after }) end
+  pub gave : IfSome (given before) (λ _. given after ≡ Some served.served.taken)
+  pub got : IfSome (written before) (λ _. written after ≡ Some served.served.progress.out)
   pub faults_read : RoseBy (end_read_faults end) (read_faults before) (read_faults after)
   pub faults_written : RoseBy (end_write_faults end) (write_faults before) (write_faults after)
   pub ended : RoseBy (end_ends end) (ends before) (ends after)

@@ -1,5 +1,6 @@
 -- How serving ends, by what the listener did in the call, and what became of the peers that it handed out.
-use Rattle.std.specs.Prelude.{◌≡◌, ℕ, ◌+◌, ◌<◌, ◌≤◌, Bool, true, false, Result, Ok, Err, List, length, All, ⊤}
+use Rattle.std.specs.Prelude.{◌≡◌, ℕ, ◌+◌, ◌<◌, ◌≤◌, Bool, true, false, Result, Ok, Err, List, ◌++◌, length, All, ⊤}
+use Rattle.blob_model.specs.declared.call.Event.{Event}
 use Rattle.faults.specs.Counts.{RoseBy, count_after}
 use Rattle.page_store.specs.Calls.{Traffic, AllCameBack}
 use Rattle.blob_server.specs.declared.tally.Tally.{Tally}
@@ -51,14 +52,22 @@ LendsDoors hands_out takes_back doors first last (Ok peers) = Traffic hands_out 
 LendsDoors hands_out takes_back doors first last (Err Faults.Listener) = Traffic hands_out takes_back doors doors first last
 LendsDoors hands_out takes_back doors first last (Err Faults.NoMemory) = AllCameBack hands_out takes_back first last
 
--- This peer was served, as it came, by something that serves from that store: what served it, before and after, the peer when it was let go, and what
--- is told of these.
-pub record WasServed {S P H : Type 0} (home : S → H) (gives : S → P → P → S → Type 0) (store : H) (peer : P) : Type 0 where
+-- what was seen of a store is a beginning of this history
+abbrev pub IsBeginningOf : List Event → List Event → Type 0
+IsBeginningOf seen history = (more : List Event) × (history ≡ seen ++ more)
+
+-- so is what each of these has seen
+abbrev pub AllBegin : {S : Type 0} → (S → List Event) → List S → List Event → Type 0
+AllBegin saw services history = All (λ s. IsBeginningOf (saw s) history) services
+
+-- This peer was served, as it came, by something that serves from that store: what served it, before and after, and what is told of these. What that had
+-- seen of the store when it let the peer go is a beginning of this history.
+pub record WasServed {S P H : Type 0} (home : S → H) (saw : S → List Event) (gives : S → P → S → Type 0) (store : H) (history : List Event) (peer : P) : Type 0 where
   pub before : S
   pub after : S
-  pub left : P
   pub from_store : home before ≡ store
-  pub gave : gives before peer left after
+  pub gave : gives before peer after
+  pub begins : IsBeginningOf (saw after) history
 
 module _ {P : Type 0} where
   -- so many peers were served
@@ -74,10 +83,10 @@ module _ {P : Type 0} where
   ServesAll Served connections old new (Err Faults.NoMemory) = ⊤
 
   -- What a worker did with its pass: so many peers came to it, each of which it put into the queue or served itself, and what it took of the queue was
-  -- served.
-  pub record Accounts (Served : P → Type 0) (came : ℕ) (old new : Tally P) : Type 0 where
+  -- served. How they were served is told of each history that goes on from what was seen in the end.
+  pub record Accounts (Served : List Event → P → Type 0) (GoesOn : List Event → Type 0) (came : ℕ) (old new : Tally P) : Type 0 where
     pub parts : new.parts ≡ old.parts
     pub own : List P
-    pub own_served : All Served own
+    pub own_served : (history : List Event) → GoesOn history → All (Served history) own
     pub count : length own + new.put ≡ old.put + came
-    pub taken : All Served old.taken → All Served new.taken
+    pub taken : (history : List Event) → GoesOn history → All (Served history) old.taken → All (Served history) new.taken

@@ -4,6 +4,7 @@
 ghost use Rattle.std.specs.Prelude.{◌≡◌};
 
 mod bell;
+mod new_peer;
 mod peer;
 mod pool;
 mod queue;

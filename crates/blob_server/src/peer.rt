@@ -5,13 +5,16 @@ ghost use Rattle.frame_wire.specs.Said.{said};
 ghost use Rattle.faults.specs.Counts.{RoseBy};
 ghost use Rattle.server_core.specs.Served.{Served, end_read_faults, end_write_faults, end_ends};
 ghost use Rattle.client_session.specs.Sessions.{session_of};
-ghost use Rattle.blob_server.specs.Peers.{connection_limit, ServedFrames, IsIdle};
+ghost use Rattle.blob_server.specs.Peers.{connection_limit, ServedFrames, IsIdle, Converses};
+ghost use Rattle.blob_server.specs.Serving.{IsBeginningOf};
 
+use crate::new_peer::NewPeer;
 use client_session::Session;
 use frame_wire::FrameDialect;
 use page_fan::BesideDoor;
 use ports::gate::Gate;
 use ports::stream::{Sink, Source};
+use request_form::laws::{hang_ups_hold, runs_make_own_events};
 use server_core::{End, serve_stream};
 use std::alloc::Global;
 use std::sync::Wait;
@@ -48,7 +51,8 @@ fn serve_frames<R: Threads + Wait + Sync, P: Source + Sink, D: BesideDoor, G: Ga
 
 /// Serves one connection with frames by a session that holds no ticket, and then hangs the session up: tickets that the peer
 /// left are given up, and the next peer's are numbered from 1 again. A connection whose dialect finds no memory is ended at
-/// once. At most 4,294,967,296 bytes are taken of it. It tells how the connection ended, as the connection's counts do.
+/// once. At most 4,294,967,296 bytes are taken of it. It tells how the connection ended, as the connection's counts do. What the
+/// session had seen of its store it has seen still.
 pub fn serve_peer<R: Threads + Wait + Sync, P: Source + Sink, D: BesideDoor, G: Gate>(
     rt: &R,
     alloc: Global,
@@ -66,8 +70,28 @@ pub fn serve_peer<R: Threads + Wait + Sync, P: Source + Sink, D: BesideDoor, G: 
     ensures write_faults { RoseBy (end_write_faults result) (P.write_faults peer.old) (P.write_faults peer.new) }
     ensures ends { RoseBy (end_ends result) (P.ends peer.old) (P.ends peer.new) }
     ensures idle { IsIdle session.old.store session.new }
+    ensures saw { IsBeginningOf (session_of session.old).seen (session_of session.new).seen }
 {
+    // What was seen before is kept.
+    runs_make_own_events();
+    hang_ups_hold();
     let end = serve_frames(rt, alloc, session, peer);
     session.hang_up(rt);
     end
+}
+
+/// Serves a new peer as `serve_peer` does, and lets it go.
+pub(crate) fn serve_new<R: Threads + Wait + Sync, P: Source + Sink + Drop, D: BesideDoor, G: Gate>(
+    rt: &R,
+    alloc: Global,
+    session: &mut Session<'_, D, G>,
+    peer: NewPeer<P>,
+)
+    requires { IsIdle session.old.store session.old }
+    ensures converses { Converses D.faults P.given P.left P.written P.ends P.read_faults P.write_faults session.old peer session.new }
+    ensures idle { IsIdle session.old.store session.new }
+    ensures saw { IsBeginningOf (session_of session.old).seen (session_of session.new).seen }
+{
+    let mut peer = peer.into_peer();
+    serve_peer(rt, alloc, session, &mut peer);
 }

@@ -1,10 +1,12 @@
 // The workers: one takes the peers of the listener, and all serve them.
-ghost use Rattle.std.specs.Prelude.{◌≡◌, ◌<◌, ◌≤◌, [], All, true, vec_len, vec_capacity};
+ghost use Rattle.std.specs.Prelude.{◌≡◌, ◌<◌, ◌≤◌, List, [], All, true, vec_len, vec_capacity};
 ghost use Rattle.crossbeam_queue.specs.Passes.{view, IsSamePass, IsPassOf};
+ghost use Rattle.blob_model.specs.declared.call.Event.{Event};
 ghost use Rattle.blob_server.specs.Tallies.{tally, all_parts};
-ghost use Rattle.blob_server.specs.Serving.{TakesAs, WasServed, Accounts, ServedMany};
+ghost use Rattle.blob_server.specs.Serving.{TakesAs, IsBeginningOf, AllBegin, WasServed, Accounts, ServedMany};
 ghost use denote.Param.Send.{IsSync};
 
+use crate::new_peer::NewPeer;
 use crate::queue::PeerQueue;
 use crate::service::{PeerServer, serve_one};
 use crate::tally::PeerPass;
@@ -38,8 +40,9 @@ fn place_peer<R: Threads + Wait + Sync, P: Drop, S: PeerServer<P>>(
     requires parts { 0 < (view pass.old).parts }
     ensures ready { S.is_ready service.new }
     ensures home { S.home service.new ≡ S.home service.old }
+    ensures saw { IsBeginningOf (S.saw service.old) (S.saw service.new) }
     ensures pass { IsSamePass pass.old pass.new }
-    ensures served { Accounts (WasServed S.home S.gives (S.home service.old)) 1 (view pass.old) (view pass.new) }
+    ensures served { Accounts (WasServed S.home S.saw S.gives (S.home service.old)) (IsBeginningOf (S.saw service.new)) 1 (view pass.old) (view pass.new) }
 {
     if alone {
         serve_one(rt, alloc, service, peer);
@@ -49,12 +52,12 @@ fn place_peer<R: Threads + Wait + Sync, P: Drop, S: PeerServer<P>>(
 }
 
 // Takes so many peers of the listener, or fewer where it gives no more or fails, and answers how many they were.
-fn take_peers<R: Threads + Wait + Sync, Li: Listener, S: PeerServer<Li::Peer>>(
+fn take_peers<R: Threads + Wait + Sync, Li: Listener, S: PeerServer<NewPeer<Li::Peer>>>(
     rt: &R,
     alloc: Global,
-    queue: &PeerQueue<Li::Peer>,
+    queue: &PeerQueue<NewPeer<Li::Peer>>,
     service: &mut S,
-    pass: &mut PeerPass<Li::Peer>,
+    pass: &mut PeerPass<NewPeer<Li::Peer>>,
     net: &mut Li,
     connections: u32,
     alone: bool,
@@ -73,11 +76,13 @@ where
         (record { handed = Li.handed net.new; is_done = Li.is_done net.new; faults = Li.faults net.new }) }
     ensures listens { Li.listens net.new ≡ true }
     ensures here { Li.listens_at net.new ≡ Li.listens_at net.old }
-    ensures served { Accounts (WasServed S.home S.gives (S.home service.old)) result.peers (view pass.old) (view pass.new) }
+    ensures served { Accounts (WasServed S.home S.saw S.gives (S.home service.old)) (IsBeginningOf (S.saw service.new)) result.peers (view pass.old) (view pass.new) }
 {
     for taken in 0..connections {
         match net.accept(rt) {
-            Accepted::Peer(peer) => place_peer(rt, alloc, queue, service, pass, peer, alone),
+            Accepted::Peer(peer) => {
+                place_peer(rt, alloc, queue, service, pass, NewPeer::new(peer), alone)
+            }
             Accepted::Done => {
                 return TakenPeers {
                     peers: taken,
@@ -99,12 +104,12 @@ where
 }
 
 // The first worker: takes the peers, and then serves those that wait still.
-fn lead<R: Threads + Wait + Sync, Li: Listener, S: PeerServer<Li::Peer>>(
+fn lead<R: Threads + Wait + Sync, Li: Listener, S: PeerServer<NewPeer<Li::Peer>>>(
     rt: &R,
     alloc: Global,
-    queue: &PeerQueue<Li::Peer>,
+    queue: &PeerQueue<NewPeer<Li::Peer>>,
     service: &mut S,
-    pass: &mut PeerPass<Li::Peer>,
+    pass: &mut PeerPass<NewPeer<Li::Peer>>,
     net: &mut Li,
     connections: u32,
     alone: bool,
@@ -123,7 +128,7 @@ where
         (record { handed = Li.handed net.new; is_done = Li.is_done net.new; faults = Li.faults net.new }) }
     ensures listens { Li.listens net.new ≡ true }
     ensures here { Li.listens_at net.new ≡ Li.listens_at net.old }
-    ensures served { Accounts (WasServed S.home S.gives (S.home service.old)) result.peers (view pass.old) (view pass.new) }
+    ensures served { Accounts (WasServed S.home S.saw S.gives (S.home service.old)) (IsBeginningOf (S.saw service.new)) result.peers (view pass.old) (view pass.new) }
 {
     let taken = take_peers(rt, alloc, queue, service, pass, net, connections, alone);
     queue.close(rt);
@@ -145,7 +150,7 @@ fn work_by<R: Threads + Wait + Sync, P: Drop, S: PeerServer<P>>(
     ensures ready { S.is_ready result.0 }
     ensures home { S.home result.0 ≡ S.home service }
     ensures pass { IsPassOf queue.now.line result.1 }
-    ensures served { Accounts (WasServed S.home S.gives (S.home service)) 0 (view pass) (view result.1) }
+    ensures served { Accounts (WasServed S.home S.saw S.gives (S.home service)) (IsBeginningOf (S.saw result.0)) 0 (view pass) (view result.1) }
 {
     queue.work(rt, alloc, &mut service, &mut pass);
     (service, pass)
@@ -166,7 +171,7 @@ fn work_beside<R: Threads + Wait + Sync, P: Drop + Send, S: PeerServer<P> + Drop
     ensures ready { All (λ s. S.is_ready s × (S.home s ≡ shared.now)) result.0.items }
     ensures room { (vec_len result.0 ≡ vec_len services) × (vec_capacity result.0 ≡ vec_capacity services) }
     ensures pass { IsPassOf queue.now.line result.1 }
-    ensures served { Accounts (WasServed S.home S.gives (shared.now)) 0 (view pass) (view result.1) }
+    ensures served { Accounts (WasServed S.home S.saw S.gives shared.now) (AllBegin S.saw result.0.items) 0 (view pass) (view result.1) }
 {
     let Some(service) = services.pop() else {
         return (services, pass);
@@ -185,13 +190,13 @@ fn work_beside<R: Threads + Wait + Sync, P: Drop + Send, S: PeerServer<P> + Drop
             ensures ready { All (λ s. S.is_ready s × (S.home s ≡ shared.entry.now)) result.0.items }
             ensures room { (vec_len result.0 ≡ vec_len services) × (vec_capacity result.0 ≡ vec_capacity services) }
             ensures pass { IsPassOf queue.entry.now.line result.1 }
-            ensures served { Accounts (WasServed S.home S.gives shared.entry.now) 0 (view pass) (view result.1) }
+            ensures served { Accounts (WasServed S.home S.saw S.gives shared.entry.now) (AllBegin S.saw result.0.items) 0 (view pass) (view result.1) }
         { work_beside(rt, alloc, queue, services, pass, shared) },
         move || -> (S, PeerPass<P>)
             requires { S.is_ready service × IsPassOf queue.now.line own × (0 < (view own).parts) }
             ensures ready { S.is_ready result.0 × (S.home result.0 ≡ S.home service) }
             ensures pass { IsPassOf queue.entry.now.line result.1 }
-            ensures served { Accounts (WasServed S.home S.gives (S.home service)) 0 (view own) (view result.1) }
+            ensures served { Accounts (WasServed S.home S.saw S.gives (S.home service)) (IsBeginningOf (S.saw result.0)) 0 (view own) (view result.1) }
         { work_by(rt, alloc, queue, service, own) },
     );
     queue.absorb(&mut pass, own);
@@ -203,23 +208,23 @@ fn work_beside<R: Threads + Wait + Sync, P: Drop + Send, S: PeerServer<P> + Drop
 #[derive(Drop)]
 struct Leader<'d, 'n, Li: Listener, S> {
     alloc: Global,
-    queue: &'d PeerQueue<Li::Peer>,
+    queue: &'d PeerQueue<NewPeer<Li::Peer>>,
     service: S,
-    pass: PeerPass<Li::Peer>,
+    pass: PeerPass<NewPeer<Li::Peer>>,
     net: &'n mut Li,
     connections: u32,
     alone: bool,
 }
 
-impl<'d, 'n, Li: Listener, S: PeerServer<Li::Peer> + Drop> Task for Leader<'d, 'n, Li, S>
+impl<'d, 'n, Li: Listener, S: PeerServer<NewPeer<Li::Peer>> + Drop> Task for Leader<'d, 'n, Li, S>
 where
     Li::Peer: Drop,
 {
     ghost use Rattle.std.specs.Prelude.{◌≡◌, ◌<◌, true};
     ghost use Rattle.crossbeam_queue.specs.Passes.{view, IsPassOf};
-    ghost use Rattle.blob_server.specs.Serving.{TakesAs, WasServed, Accounts};
+    ghost use Rattle.blob_server.specs.Serving.{TakesAs, IsBeginningOf, WasServed, Accounts};
 
-    type Given = (TakenPeers, S, PeerPass<Li::Peer>, &'n mut Li);
+    type Given = (TakenPeers, S, PeerPass<NewPeer<Li::Peer>>, &'n mut Li);
 
     ghost can_run = { λ t. (Li.listens t.net.now ≡ true) × S.is_ready t.service × IsPassOf t.queue.now.line t.pass × (0 < (view t.pass).parts) };
 
@@ -227,12 +232,12 @@ where
         × TakesAs t.connections r.0.peers r.0.failed (record { handed = Li.handed t.net.now; is_done = Li.is_done t.net.now; faults = Li.faults t.net.now })
         (record { handed = Li.handed r.3.now; is_done = Li.is_done r.3.now; faults = Li.faults r.3.now })
         × S.is_ready r.1 × (S.home r.1 ≡ S.home t.service) × IsPassOf t.queue.now.line r.2
-        × Accounts (WasServed S.home S.gives (S.home t.service)) r.0.peers (view t.pass) (view r.2) };
+        × Accounts (WasServed S.home S.saw S.gives (S.home t.service)) (IsBeginningOf (S.saw r.1)) r.0.peers (view t.pass) (view r.2) };
 
     fn run<R: Threads + Wait + Sync>(
         self,
         rt: &R,
-    ) -> (TakenPeers, S, PeerPass<Li::Peer>, &'n mut Li) {
+    ) -> (TakenPeers, S, PeerPass<NewPeer<Li::Peer>>, &'n mut Li) {
         let Leader {
             alloc,
             queue,
@@ -261,13 +266,13 @@ where
 pub(crate) fn work_all<
     R: Threads + Wait + Sync,
     Li: Listener,
-    S: PeerServer<Li::Peer> + Drop + Send,
+    S: PeerServer<NewPeer<Li::Peer>> + Drop + Send,
 >(
     rt: &R,
     alloc: Global,
     shared: &Shared,
-    queue: &PeerQueue<Li::Peer>,
-    pass: PeerPass<Li::Peer>,
+    queue: &PeerQueue<NewPeer<Li::Peer>>,
+    pass: PeerPass<NewPeer<Li::Peer>>,
     first: S,
     others: Vec<S>,
     net: &mut Li,
@@ -288,7 +293,8 @@ where
     ensures first { S.is_ready result.1 × (S.home result.1 ≡ shared.now) }
     ensures others { All (λ s. S.is_ready s × (S.home s ≡ shared.now)) result.2.items }
     ensures count { vec_len result.2 ≡ vec_len others }
-    ensures served { ServedMany (WasServed S.home S.gives shared.now) result.0.peers }
+    ensures served { (history : List Event) → IsBeginningOf (S.saw result.1) history → AllBegin S.saw result.2.items history
+        → ServedMany (WasServed S.home S.saw S.gives shared.now history) result.0.peers }
 {
     let alone = others.is_empty();
     let mut pass = pass;
@@ -304,12 +310,12 @@ where
     };
     let ((others, mut pass), (taken, mut first, own, net)) = run_beside(
         rt,
-        move || -> (Vec<S>, PeerPass<Li::Peer>)
+        move || -> (Vec<S>, PeerPass<NewPeer<Li::Peer>>)
             requires { All (λ s. S.is_ready s × (S.home s ≡ shared.now)) others.items × IsPassOf queue.now.line pass × (0 < (view pass).parts) × (vec_len others ≤ (view pass).parts) }
             ensures ready { All (λ s. S.is_ready s × (S.home s ≡ shared.entry.now)) result.0.items }
             ensures count { vec_len result.0 ≡ vec_len others }
             ensures pass { IsPassOf queue.entry.now.line result.1 }
-            ensures served { Accounts (WasServed S.home S.gives shared.entry.now) 0 (view pass) (view result.1) }
+            ensures served { Accounts (WasServed S.home S.saw S.gives shared.entry.now) (AllBegin S.saw result.0.items) 0 (view pass) (view result.1) }
         { work_beside(rt, alloc, queue, others, pass, shared) },
         leader,
     );

@@ -2,7 +2,7 @@
 ghost use Rattle.std.specs.Prelude.{◌≡◌, ◌<◌, ◌-◌, [], length, IfOk, MatchOption};
 ghost use Rattle.crossbeam_queue.specs.Passes.{view, IsSamePass, IsPassOf};
 ghost use Rattle.blob_server.specs.Tallies.{tally, all_parts, after_put, both};
-ghost use Rattle.blob_server.specs.Serving.{WasServed, Accounts};
+ghost use Rattle.blob_server.specs.Serving.{IsBeginningOf, WasServed, Accounts};
 
 use crate::bell::Bell;
 use crate::service::{PeerServer, serve_one};
@@ -105,8 +105,9 @@ impl<P: Drop> PeerQueue<P> {
         requires parts { 0 < (view pass.old).parts }
         ensures ready { S.is_ready service.new }
         ensures home { S.home service.new ≡ S.home service.old }
+        ensures saw { IsBeginningOf (S.saw service.old) (S.saw service.new) }
         ensures pass { IsSamePass pass.old pass.new }
-        ensures served { Accounts (WasServed S.home S.gives (S.home service.old)) 1 (view pass.old) (view pass.new) }
+        ensures served { Accounts (WasServed S.home S.saw S.gives (S.home service.old)) (IsBeginningOf (S.saw service.new)) 1 (view pass.old) (view pass.new) }
     {
         match self.put(rt, pass, peer) {
             None => self.bell.ring(rt),
@@ -132,8 +133,9 @@ impl<P: Drop> PeerQueue<P> {
         requires parts { 0 < (view pass.old).parts }
         ensures ready { S.is_ready service.new }
         ensures home { S.home service.new ≡ S.home service.old }
+        ensures saw { IsBeginningOf (S.saw service.old) (S.saw service.new) }
         ensures pass { IsSamePass pass.old pass.new }
-        ensures served { Accounts (WasServed S.home S.gives (S.home service.old)) 0 (view pass.old) (view pass.new) }
+        ensures served { Accounts (WasServed S.home S.saw S.gives (S.home service.old)) (IsBeginningOf (S.saw service.new)) 0 (view pass.old) (view pass.new) }
     {
         for _ in rt.forever() {
             // What was told before the queue is looked at: a peer that comes after the look is told of after it.
@@ -163,7 +165,8 @@ impl<P: Drop> PeerQueue<P> {
         requires parts { (view pass.old).parts ≡ all_parts }
         ensures ready { S.is_ready service.new }
         ensures home { S.home service.new ≡ S.home service.old }
-        ensures served { Accounts (WasServed S.home S.gives (S.home service.old)) 0 (view pass.old) (view pass.new) }
+        ensures saw { IsBeginningOf (S.saw service.old) (S.saw service.new) }
+        ensures served { Accounts (WasServed S.home S.saw S.gives (S.home service.old)) (IsBeginningOf (S.saw service.new)) 0 (view pass.old) (view pass.new) }
         ensures all { (view pass.new).put ≡ length (view pass.new).taken }
     {
         for _ in rt.forever() {

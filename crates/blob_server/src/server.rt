@@ -1,7 +1,8 @@
 // The server.
 ghost use Rattle.std.specs.Prelude.{◌≡◌, ◌≤◌, ◌<◌, ◌+◌, ◌-◌, ◌*◌, ◌^◌, ◌↔◌, ℕ, true, IfErr};
 ghost use Rattle.turn_lock.specs.History.{Begins};
-ghost use Rattle.client_session.specs.Sessions.{IsOwnerOf};
+ghost use Rattle.version_manager.specs.Log.{events};
+ghost use Rattle.client_session.specs.Sessions.{IsOwnerOf, session_of};
 ghost use Rattle.blob_server.specs.Peers.{Converses};
 ghost use Rattle.blob_server.specs.Serving.{EndsAs, ServesAll, WasServed, MakesPasses, LendsDoors};
 ghost use Rattle.blob_server.specs.declared.server.ServeFault.TheVariants as Faults;
@@ -68,9 +69,10 @@ where
         (record { handed = Li.handed net.new; is_done = Li.is_done net.new; faults = Li.faults net.new })
         result }
 
-    // Each peer that the listener handed out was served by a session of this store, as `serve_peer` tells.
-    ensures served { ServesAll (WasServed (λ s. s.store)
-        (Converses M.Door.faults Li.Peer.given Li.Peer.left Li.Peer.written Li.Peer.ends Li.Peer.read_faults Li.Peer.write_faults) shared.now)
+    // Each peer that the listener handed out was served by a session of this store, as `serve_peer` tells, and what that session had seen when it let the
+    // peer go is a beginning of one history: that which the owner has seen in the end.
+    ensures served { ServesAll (WasServed (λ s. s.store) (λ s. (session_of s).seen)
+        (Converses M.Door.faults Li.Peer.given Li.Peer.left Li.Peer.written Li.Peer.ends Li.Peer.read_faults Li.Peer.write_faults) shared.now (events owner.new.seen))
         connections
         (record { handed = Li.handed net.old; is_done = Li.is_done net.old; faults = Li.faults net.old })
         (record { handed = Li.handed net.new; is_done = Li.is_done net.new; faults = Li.faults net.new })

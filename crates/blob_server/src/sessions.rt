@@ -53,7 +53,7 @@ pub(crate) fn sessions_of<'a, M: DoorMaker, G: Gate>(
     Ok(sessions)
 }
 
-/// Ends sessions: their passes go back to the store's owner, and their doors to the maker, which adds up what they counted.
+/// Ends sessions: their passes go back to the store's owner, which has then seen what each of them has, and their doors to the maker, which adds up what they counted.
 pub(crate) fn end_sessions<M: DoorMaker, G: Gate>(
     shared: &Shared,
     owner: &mut Owner,
@@ -65,6 +65,7 @@ pub(crate) fn end_sessions<M: DoorMaker, G: Gate>(
     ensures out { owner.old.out ≡ owner.new.out + vec_len sessions.entry }
     ensures made { owner.new.made ≡ owner.old.made }
     ensures seen { Begins owner.old.seen owner.new.seen }
+    ensures begin { All (λ s. Begins s.log owner.new.seen) sessions.entry.items }
     ensures owner { IsOwnerOf shared.now owner.new }
     ensures doors { min (M.faults maker.old + sum_by (faults_of_doors M.Door.faults) sessions.entry.items) (2 ^ 64 - 1) ≤ M.faults maker.new }
     ensures taken_back { Traffic M.hands_out M.takes_back 0 (vec_len sessions.entry * shared.now.providers) maker.old maker.new }

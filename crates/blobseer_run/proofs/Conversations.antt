@@ -24,13 +24,13 @@ some_and_none rest some none = omega (arith, some, ap length none)
 module _ {Item : Type 0} (d : Dialogue Item) (taken text rest : List ℕ) (old new : Outside) (status : ℕ) where
   module _ (full : length taken ≡ input_limit) (none : has_last d.is_last (d.heard taken).whole ≡ false) (wrote : rest ≡ []) (memory : status ≢ out_of_memory) where
     not_due : (due : List Item) → IsDue (d.heard taken) taken old new due → has_last d.is_last due ≡ true → ⊥
-    not_due due (IsDue.all less rose is) quits = less_and_full (length taken) input_limit less full
+    not_due due (IsDue.all less rose none_left is) quits = less_and_full (length taken) input_limit less full
     not_due due (IsDue.whole is) quits = false≢true (sym none ∙ (ap (has_last d.is_last) (sym is) ∙ quits))
 
     -- no other status comes where the input is full and its items are answered
     pub full_of : Ended d taken text rest old new status → status ≡ input_too_long
-    full_of (Ended.finished e less rose uncut r x) = absurd (less_and_full (length taken) input_limit less full)
-    full_of (Ended.cut e less rose cut quit r x) = absurd (less_and_full (length taken) input_limit less full)
+    full_of (Ended.finished e less rose none_left uncut r x) = absurd (less_and_full (length taken) input_limit less full)
+    full_of (Ended.cut e less rose none_left cut quit r x) = absurd (less_and_full (length taken) input_limit less full)
     full_of (Ended.quit e due is quits r x) = absurd (not_due due is quits)
     full_of (Ended.unread e less rose quit r x) = absurd (less_and_full (length taken) input_limit less full)
     full_of (Ended.unwritten e rose due is some x) = absurd (some_and_none rest some wrote)

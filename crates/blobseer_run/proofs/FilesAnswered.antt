@@ -191,7 +191,7 @@ lists_none log path (Some (Nameds.File blob)) = tt
 
 line_idle : (f : Files) (line : FileLine) → IdleReply f (Asked line)
 line_idle f (Lines.Mkdir path) = record {
-  reply = store_fault Faults.NoMemory;
+  reply = Says.Unsaid;
   answers = record { said = Err EnterFaults.NoMemory; enters = record { others = []; is_gap = refl; after = f.names ++ []; enters = refl; is = same_names f }; is = refl };
   calm = refl;
 }
@@ -208,7 +208,7 @@ line_idle f (Lines.Stat path) =
     let p = on_stat f path (stat_at f.names path) in
     record { reply = p.reply; answers = record { seen = f; looks = looks f; goes_on = p.answer }; calm = p.calm }
 line_idle f (Lines.List path) = record {
-  reply = store_fault Faults.NoMemory;
+  reply = Says.Unsaid;
   answers = record { looks = looks f; said = Err ListFaults.NoMemory; lists = lists_none f.names path (named_at f.names path); is = refl };
   calm = refl;
 }

@@ -126,10 +126,10 @@ module _ (law : OwnIsAlone) (made : OwnEventsAreMade) (fixed : Fixed) (providers
       net = net;
     }
 
-    quit : ((items ≡ until_last is_last (heard taken).whole) × (has_last is_last (heard taken).whole ≡ true)) ⊎ CameToEnd (length taken) input_limit old.ends new.ends
+    quit : ((items ≡ until_last is_last (heard taken).whole) × (has_last is_last (heard taken).whole ≡ true)) ⊎ CameToEnd (length taken) input_limit old.ends new.ends new.left
         → items ≡ until_last is_last (heard taken).items → has_last is_last (heard taken).items ≡ true → served.rest ≡ [] → Ended talk taken text [] old new (code_of Statuses.Done)
     quit (inl x) is quits none = Ended.quit refl (heard taken).whole (IsDue.whole refl) x.1 refl (says_all (heard taken).whole (whole_files_well taken) x.0 none)
-    quit (inr came) is quits none = Ended.quit refl (heard taken).items (IsDue.all came.0 came.1 refl) quits refl (says_all (heard taken).items (files_well taken) is none)
+    quit (inr came) is quits none = Ended.quit refl (heard taken).items (IsDue.all came.0 came.1 came.2 refl) quits refl (says_all (heard taken).items (files_well taken) is none)
 
     -- the lines that were due, of which those that were answered are the first
     record Front : Type 0 where
@@ -138,9 +138,9 @@ module _ (law : OwnIsAlone) (made : OwnEventsAreMade) (fixed : Fixed) (providers
       well : AllWellHeard due
       first_ones : AnswersFront is_last due items
 
-    front_of : AnswersFront is_last (heard taken).whole items ⊎ CameToEnd (length taken) input_limit old.ends new.ends → AnswersFront is_last (heard taken).items items → Front
+    front_of : AnswersFront is_last (heard taken).whole items ⊎ CameToEnd (length taken) input_limit old.ends new.ends new.left → AnswersFront is_last (heard taken).items items → Front
     front_of (inl f) g = record { due = (heard taken).whole; is = IsDue.whole refl; well = whole_files_well taken; first_ones = f }
-    front_of (inr came) g = record { due = (heard taken).items; is = IsDue.all came.0 came.1 refl; well = files_well taken; first_ones = g }
+    front_of (inr came) g = record { due = (heard taken).items; is = IsDue.all came.0 came.1 came.2 refl; well = files_well taken; first_ones = g }
 
     unwritten : Front → RoseBy 1 old.writes new.writes → 0 < length served.rest → (rest : List ℕ) × Ended talk taken text rest old new (code_of Statuses.WriteFault)
     unwritten f wrote some = (more f.due f.well f.first_ones, Ended.unwritten refl wrote f.due f.is (some_more _ _ some) (says_front f.due f.well f.first_ones))
@@ -155,7 +155,7 @@ module _ (law : OwnIsAlone) (made : OwnEventsAreMade) (fixed : Fixed) (providers
       did_with Ends.Quit s [] Statuses.Done net (quit Ends.Quit s s.named.lines.served.conversed.reaches e.0.0 e.1 e.0.1)
   did Ends.InputEnd s r w net =
       let e = s.named.lines.served.conversed.ended in
-      did_with Ends.InputEnd s [] Statuses.Done net (Ended.finished refl e.3 s.named.lines.served.conversed.closing e.2 refl (says_all Ends.InputEnd s _ (files_well s.named.lines.served.conversed.taken) e.0.0 e.0.1))
+      did_with Ends.InputEnd s [] Statuses.Done net (Ended.finished refl e.3 s.named.lines.served.conversed.closing e.4 e.2 refl (says_all Ends.InputEnd s _ (files_well s.named.lines.served.conversed.taken) e.0.0 e.0.1))
   did Ends.Cut s r w net =
       let no : true ≡ false = sym s.named.lines.served.conversed.ended.2 ∙ files_not_cut s.named.lines.served.conversed.taken in
       absurd (false≢true (sym no))

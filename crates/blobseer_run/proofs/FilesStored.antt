@@ -91,7 +91,7 @@ lines_back {D} faults store pass back names doors doors' input written same all 
 
 module _ {D : Type 0} (faults : D → ℕ) (store : StoreState) (pass back : PassOf) (names names_back : NamesPass) (doors doors' : List D) (start stop : FileState D) (before after : Input) (written written' : Option (List ℕ)) (end : End) where
   abbrev new : FileState D
-  new = record { session = record { store = store; caller = pass.caller; log = pass.seen; held = []; next = 1; doors = doors; limit = max_update; looks_first = false; turns = pass.turns }; names = names }
+  new = record { session = record { store = store; caller = pass.caller; log = pass.seen; held = []; next = 1; doors = doors; limit = max_update; looks_first = false; turns = pass.turns; opened = [] }; names = names }
 
   abbrev ServedFrom : FileState D → Type 0
   ServedFrom s = ServedFiles (record { session = files_of s; faults = sum_by faults s.session.doors; written = written }) before after input_limit (record { session = files_of stop; faults = sum_by faults stop.session.doors; written = written' }) end

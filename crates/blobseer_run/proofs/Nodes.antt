@@ -106,10 +106,10 @@ module _ (page : ℕ) (old new : Outside) (last : Node) where
       doors = doors;
     }
 
-    quit : ((items ≡ until_last is_quit (heard taken).whole) × (has_last is_quit (heard taken).whole ≡ true)) ⊎ CameToEnd (length taken) input_limit old.ends new.ends
+    quit : ((items ≡ until_last is_quit (heard taken).whole) × (has_last is_quit (heard taken).whole ≡ true)) ⊎ CameToEnd (length taken) input_limit old.ends new.ends new.left
         → items ≡ until_last is_quit (heard taken).items → has_last is_quit (heard taken).items ≡ true → s.conversed.rest ≡ [] → Ended (frames page) taken text [] old new (code_of Statuses.Done)
     quit (inl x) is quits none = Ended.quit refl (heard taken).whole (IsDue.whole refl) x.1 refl (all (heard taken).whole x.0 none)
-    quit (inr came) is quits none = Ended.quit refl (heard taken).items (IsDue.all came.0 came.1 refl) quits refl (all (heard taken).items is none)
+    quit (inr came) is quits none = Ended.quit refl (heard taken).items (IsDue.all came.0 came.1 came.2 refl) quits refl (all (heard taken).items is none)
 
     -- the frames that were due, of which those that were answered are the first
     pub record Front : Type 0 where
@@ -117,9 +117,9 @@ module _ (page : ℕ) (old new : Outside) (last : Node) where
       pub is : IsDue (heard taken) taken old new due
       pub first : AnswersFront is_quit due items
 
-    front_of : AnswersFront is_quit (heard taken).whole items ⊎ CameToEnd (length taken) input_limit old.ends new.ends → AnswersFront is_quit (heard taken).items items → Front
+    front_of : AnswersFront is_quit (heard taken).whole items ⊎ CameToEnd (length taken) input_limit old.ends new.ends new.left → AnswersFront is_quit (heard taken).items items → Front
     front_of (inl f) g = record { due = (heard taken).whole; is = IsDue.whole refl; first = f }
-    front_of (inr came) g = record { due = (heard taken).items; is = IsDue.all came.0 came.1 refl; first = g }
+    front_of (inr came) g = record { due = (heard taken).items; is = IsDue.all came.0 came.1 came.2 refl; first = g }
 
     unwritten : Front → RoseBy 1 old.writes new.writes → 0 < length s.conversed.rest → (rest : List ℕ) × Ended (frames page) taken text rest old new (code_of Statuses.WriteFault)
     unwritten f rose some = (more f.first.0, Ended.unwritten refl rose f.due f.is (some_more _ _ some) (front f.due f.first))
@@ -134,10 +134,10 @@ module _ (page : ℕ) (old new : Outside) (last : Node) where
       did_with Ends.Quit s [] Statuses.Done net doors (quit Ends.Quit s s.conversed.reaches e.0.0 e.1 e.0.1)
   did_node Ends.InputEnd s r w net doors =
       let e = s.conversed.ended in
-      did_with Ends.InputEnd s [] Statuses.Done net doors (Ended.finished refl e.3 s.conversed.closing e.2 refl (all Ends.InputEnd s _ e.0.0 e.0.1))
+      did_with Ends.InputEnd s [] Statuses.Done net doors (Ended.finished refl e.3 s.conversed.closing e.4 e.2 refl (all Ends.InputEnd s _ e.0.0 e.0.1))
   did_node Ends.Cut s r w net doors =
       let e = s.conversed.ended in
-      did_with Ends.Cut s [] Statuses.Done net doors (Ended.cut refl e.3 s.conversed.closing e.2 e.1 refl (all Ends.Cut s _ e.0.0 e.0.1))
+      did_with Ends.Cut s [] Statuses.Done net doors (Ended.cut refl e.3 s.conversed.closing e.4 e.2 e.1 refl (all Ends.Cut s _ e.0.0 e.0.1))
   did_node Ends.ReadFault s r w net doors =
       let e = s.conversed.ended in
       did_with Ends.ReadFault s [] Statuses.ReadFault net doors (Ended.unread refl e.2 r e.1 refl (all Ends.ReadFault s _ e.0.0 e.0.1))

@@ -3,16 +3,20 @@ use Rattle.std.proofs.Common.{◌≡◌, ◌⊎◌, inr, ℕ, ◌<◌, true, Lis
 use Rattle.std.specs.Prelude.{Option, IfSome, Err}
 use Rattle.std.specs.Io.KnownBytes.{Appends}
 use Rattle.std.proofs.KnownBytes.{Appends-nil}
-use Rattle.std.proofs.lemmas.List.{length-drop}
+use Rattle.std.proofs.lemmas.List.{length-drop, length-map}
 use Rattle.faults.specs.Counts.{RoseBy, count_after}
 use Rattle.faults.proofs.Counts.{RoseBy-trans}
-use Rattle.blob_server.specs.Serving.{Handing, TookPeers, FailedAfter, EndsAs}
+use Rattle.blob_model.specs.declared.call.Event.{Event}
+use Rattle.request_form.specs.Session.{Fixed}
+use Rattle.version_manager.specs.Log.{IsLog, IsHistory, events}
+use Rattle.client_session.specs.Sessions.{StoreState, SessionState, session_of}
+use Rattle.blob_server.specs.Serving.{Handing, TookPeers, FailedAfter, EndsAs, WasServed, ServedMany, ServesAll}
 use Rattle.blob_server.specs.declared.server.ServeFault.{ServeFault}
 use Rattle.blob_server.specs.declared.server.ServeFault.TheVariants as Faults
 use Rattle.blobseer_run.specs.declared.status.Status.{Status}
 use Rattle.blobseer_run.specs.Status.{code_of, write_fault, out_of_memory, listener_fault}
 use Rattle.blobseer_run.specs.Outside.{Net, Outside, LeavesInput}
-use Rattle.blobseer_run.specs.Hosting.{HandsOutNone, ListensAt, ListensAsBefore, Hosted, DidServe, served_line, status_of}
+use Rattle.blobseer_run.specs.Hosting.{HandsOutNone, ListensAt, ListensAsBefore, ServedByStore, Hosted, DidServe, served_line, status_of}
 use Rattle.blobseer_run.specs.Writing.{WritesLine, ToldLine}
 
 -- a write that failed after so many bytes of a line
@@ -23,6 +27,18 @@ told_part line n written written' writes writes' adds rose less = record {
   adds = adds;
   is_line = WritesLine.part refl (drop n line) (take-append-drop n line) (omega (arith, length-drop n line, less)) rose;
 }
+
+-- ---- what the store came to
+
+-- what its owner has seen in the end is a history of a desk
+pub by_store : {D P : Type 0} (Converses : SessionState D → P → SessionState D → Type 0) (store : StoreState) (fixed : Fixed) (seen : List (ℕ × Event))
+    → record { limits = store.fixed.limits; page = store.fixed.page_size } ≡ fixed → IsLog store.fixed seen → (n : ℕ)
+    → ServedMany (WasServed (λ s. s.store) (λ s. (session_of s).seen) Converses store (events seen)) n → ServedByStore Converses fixed n
+by_store Converses store fixed seen is log n many =
+    let history : IsHistory store.fixed.page_size store.fixed.limits (events seen) =
+    record { legal = log.legal; short = omega (arith, log.short, length-map seen (λ (x : ℕ × Event). x.1)); in_order = log.in_order } in
+    let P : Fixed → Type 0 = λ f. IsHistory f.page f.limits (events seen) in
+    record { store = store; keeps_to = is; history = events seen; is_history = subst P is history; served = many }
 
 -- ---- what the listener did, from before it listened
 module _ (connections : ℕ) (old mid new : Handing) (handed : mid.handed ≡ old.handed) (done : mid.is_done ≡ old.is_done) (rose : RoseBy 0 old.faults mid.faults) where
@@ -57,33 +73,35 @@ listens_there address told mid net is listens here stays =
 
 -- ---- how it ended, where the input was left alone
 
-module _ (address : List ℕ) (connections : ℕ) (old new : Outside) (input : LeavesInput old new) where
-  pub served_there : (peers status : ℕ) → ListensAt address new.net → TookPeers connections peers old.net.handing new.net.handing
-      → ToldLine (served_line peers) old.written new.written old.writes new.writes status → DidServe address connections old new status
-  served_there peers status listens took told = record { text = told.text; adds = told.adds; ended = Hosted.served peers listens took told.is_line; input = input }
+module _ (address : List ℕ) (connections : ℕ) (Served : ℕ → Type 0) (old new : Outside) (input : LeavesInput old new) where
+  pub served_there : (peers status : ℕ) → ListensAt address new.net → TookPeers connections peers old.net.handing new.net.handing → Served peers
+      → ToldLine (served_line peers) old.written new.written old.writes new.writes status → DidServe address connections Served old new status
+  served_there peers status listens took each told = record { text = told.text; adds = told.adds; ended = Hosted.served peers listens took each told.is_line; input = input }
 
   module _ (written : new.written ≡ old.written) where
-    unwritten : (status : ℕ) → Hosted address connections old.net new.net [] old.writes new.writes status → DidServe address connections old new status
+    unwritten : (status : ℕ) → Hosted address connections Served old.net new.net [] old.writes new.writes status → DidServe address connections Served old new status
     unwritten status hosted =
         let P : Option (List ℕ) → Type 0 = λ o. Appends old.written o [] in
         record { text = []; adds = subst P (sym written) (Appends-nil old.written); ended = hosted; input = input }
 
-    pub deaf_there : ListensAsBefore old.net new.net → HandsOutNone 1 old.net.handing new.net.handing → DidServe address connections old new listener_fault
+    pub deaf_there : ListensAsBefore old.net new.net → HandsOutNone 1 old.net.handing new.net.handing → DidServe address connections Served old new listener_fault
     deaf_there before none = unwritten listener_fault (Hosted.deaf refl before none refl)
 
-    unserved_there : ListensAt address new.net → FailedAfter connections old.net.handing new.net.handing → DidServe address connections old new listener_fault
-    unserved_there listens failed = unwritten listener_fault (Hosted.unserved refl listens failed refl)
+    unserved_there : ListensAt address new.net → (failed : FailedAfter connections old.net.handing new.net.handing) → Served failed.peers → DidServe address connections Served old new listener_fault
+    unserved_there listens failed each = unwritten listener_fault (Hosted.unserved refl listens failed each refl)
 
-    pub starved_there : ListensAsBefore old.net new.net ⊎ ListensAt address new.net → HandsOutNone 0 old.net.handing new.net.handing → DidServe address connections old new out_of_memory
+    pub starved_there : ListensAsBefore old.net new.net ⊎ ListensAt address new.net → HandsOutNone 0 old.net.handing new.net.handing → DidServe address connections Served old new out_of_memory
     starved_there listens none = unwritten out_of_memory (Hosted.starved refl listens none refl)
 
-    faulted : (mid : Handing) (fault : ServeFault) → ListensAt address new.net → mid.handed ≡ old.net.handing.handed → mid.is_done ≡ old.net.handing.is_done
-        → RoseBy 0 old.net.handing.faults mid.faults → EndsAs connections mid new.net.handing (Err fault) → DidServe address connections old new (code_of (status_of fault))
-    faulted mid Faults.Listener listens handed done rose ended = unserved_there listens (failed_since connections old.net.handing mid new.net.handing handed done rose ended)
-    faulted mid Faults.NoMemory listens handed done rose ended = starved_there (inr listens) (none_since connections old.net.handing mid new.net.handing handed done rose ended)
-
     -- it was ended early, by what the listener did from before it listened
-    pub faulted_there : (mid : Handing) (fault : ServeFault) (status : Status) → status ≡ status_of fault → ListensAt address new.net → mid.handed ≡ old.net.handing.handed
-        → mid.is_done ≡ old.net.handing.is_done → RoseBy 0 old.net.handing.faults mid.faults → EndsAs connections mid new.net.handing (Err fault) → DidServe address connections old new (code_of status)
-    faulted_there mid fault status is listens handed done rose ended =
-        subst (λ (s : Status). DidServe address connections old new (code_of s)) (sym is) (faulted mid fault listens handed done rose ended)
+    module _ {P : Type 0} (Was : P → Type 0) (each : (n : ℕ) → ServedMany Was n → Served n) (mid : Handing) (listens : ListensAt address new.net) (handed : mid.handed ≡ old.net.handing.handed)
+        (done : mid.is_done ≡ old.net.handing.is_done) (rose : RoseBy 0 old.net.handing.faults mid.faults) where
+      faulted : (fault : ServeFault) → EndsAs connections mid new.net.handing (Err fault) → ServesAll Was connections mid new.net.handing (Err fault)
+          → DidServe address connections Served old new (code_of (status_of fault))
+      unfolding failed_since
+      faulted Faults.Listener ended all = unserved_there listens (failed_since connections old.net.handing mid new.net.handing handed done rose all.0) (each all.0.peers all.1)
+      faulted Faults.NoMemory ended all = starved_there (inr listens) (none_since connections old.net.handing mid new.net.handing handed done rose ended)
+
+      pub faulted_there : (fault : ServeFault) (status : Status) → status ≡ status_of fault → EndsAs connections mid new.net.handing (Err fault)
+          → ServesAll Was connections mid new.net.handing (Err fault) → DidServe address connections Served old new (code_of status)
+      faulted_there fault status is ended all = subst (λ (s : Status). DidServe address connections Served old new (code_of s)) (sym is) (faulted fault ended all)

@@ -73,7 +73,7 @@ module _ (alone : Streams.ServedAlone) (histories : HistoriesAlone) (fixed : Fix
     own : AllOwn 1 s.lines.last.seen
     own = subst (AllOwn 1) (sym s.lines.sees) s.own
 
-    pub wrote : Streams.WroteAlone said fixed (heard s.lines.served.taken) (length s.lines.served.taken) input_limit old.ends new.ends faults faults' s.lines.served.progress.out end
+    pub wrote : Streams.WroteAlone said fixed (heard s.lines.served.taken) (length s.lines.served.taken) input_limit old.ends new.ends new.left faults faults' s.lines.served.progress.out end
     wrote = alone said fixed start heard (input_of old) (input_of new) input_limit stop end refl own s.lines.served
 
     abbrev taken : List ℕ
@@ -82,11 +82,11 @@ module _ (alone : Streams.ServedAlone) (histories : HistoriesAlone) (fixed : Fix
     abbrev text : List ℕ
     text = s.lines.served.progress.out
 
-    pub due_of : (due : List Heard) → Streams.IsDue (heard taken) (length taken) input_limit old.ends new.ends due → IsDue (heard taken) taken old new due
-    due_of due (inl x) = IsDue.all x.1.0 x.1.1 x.0
+    pub due_of : (due : List Heard) → Streams.IsDue (heard taken) (length taken) input_limit old.ends new.ends new.left due → IsDue (heard taken) taken old new due
+    due_of due (inl x) = IsDue.all x.1.0 x.1.1 x.1.2 x.0
     due_of due (inr e) = IsDue.whole e
 
-    pub well_due : (due : List Heard) → Streams.IsDue (heard taken) (length taken) input_limit old.ends new.ends due → AllWellHeard due
+    pub well_due : (due : List Heard) → Streams.IsDue (heard taken) (length taken) input_limit old.ends new.ends new.left due → AllWellHeard due
     well_due due (inl x) = subst AllWellHeard (sym x.0) (script_well taken)
     well_due due (inr e) = subst AllWellHeard (sym e) (whole_script_well taken)
 
@@ -96,11 +96,11 @@ module _ (alone : Streams.ServedAlone) (histories : HistoriesAlone) (fixed : Fix
     few_whole : length (heard taken).whole < 2 ^ 37
     few_whole = omega (arith, (script_few taken).1, s.lines.served.within)
 
-    few_due : (due : List Heard) → Streams.IsDue (heard taken) (length taken) input_limit old.ends new.ends due → length due < 2 ^ 37
+    few_due : (due : List Heard) → Streams.IsDue (heard taken) (length taken) input_limit old.ends new.ends new.left due → length due < 2 ^ 37
     few_due due (inl x) = subst (λ (l : List Heard). length l < 2 ^ 37) (sym x.0) few_items
     few_due due (inr e) = subst (λ (l : List Heard). length l < 2 ^ 37) (sym e) few_whole
 
-    pub says_due : (due : List Heard) (words : List ℕ) → Streams.IsDue (heard taken) (length taken) input_limit old.ends new.ends due → Streams.SaysWithin said fixed due faults faults' words → Says fixed calm old.doors new.doors due words
+    pub says_due : (due : List Heard) (words : List ℕ) → Streams.IsDue (heard taken) (length taken) input_limit old.ends new.ends new.left due → Streams.SaysWithin said fixed due faults faults' words → Says fixed calm old.doors new.doors due words
     says_due due words is within = says due words (well_due due is) (few_due due is) within
 
     pub says_whole : Streams.SaysWithin said fixed (heard taken).whole faults faults' text → Says fixed calm old.doors new.doors (heard taken).whole text
@@ -122,7 +122,7 @@ module _ (alone : Streams.ServedAlone) (histories : HistoriesAlone) (fixed : Fix
       let t = wrote Ends.Quit s in
       ran_with Ends.Quit s [] Statuses.Done net (Ended.quit refl t.0 (due_of Ends.Quit s t.0 t.1) t.2 refl (says_due Ends.Quit s t.0 _ t.1 t.3))
   ran Ends.InputEnd s r w net =
-      ran_with Ends.InputEnd s [] Statuses.Done net (Ended.finished refl s.lines.served.ended.3 s.lines.served.closing s.lines.served.ended.2 refl (says_all Ends.InputEnd s (wrote Ends.InputEnd s)))
+      ran_with Ends.InputEnd s [] Statuses.Done net (Ended.finished refl s.lines.served.ended.3 s.lines.served.closing s.lines.served.ended.4 s.lines.served.ended.2 refl (says_all Ends.InputEnd s (wrote Ends.InputEnd s)))
   ran Ends.Cut s r w net =
       let no : true ≡ false = sym s.lines.served.ended.2 ∙ script_not_cut s.lines.served.taken in
       absurd (false≢true (sym no))

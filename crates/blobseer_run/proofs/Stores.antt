@@ -46,7 +46,7 @@ lines_back {D} faults f pass back doors doors' input written same all =
 
 module _ {D : Type 0} (faults : D → ℕ) (store : StoreState) (pass back : PassView Event DeskFixed) (doors doors' : List D) (start stop : SessionState D) (before after : Input) (written written' : Option (List ℕ)) (end : End) where
   abbrev new : SessionState D
-  new = record { store = store; caller = pass.caller; log = pass.seen; held = []; next = 1; doors = doors; limit = max_update; looks_first = false; turns = pass.turns }
+  new = record { store = store; caller = pass.caller; log = pass.seen; held = []; next = 1; doors = doors; limit = max_update; looks_first = false; turns = pass.turns; opened = [] }
 
   abbrev ServedFrom : SessionState D → List ℕ → Type 0
   ServedFrom s fed = Served said (record { session = session_of s; faults = sum_by faults s.doors; written = written }) (λ more. heard (fed ++ more)) before after input_limit (record { session = session_of stop; faults = sum_by faults stop.doors; written = written' }) end

@@ -1,6 +1,6 @@
 -- What a conversation over the input and the output comes to, whatever its items are.
 use Rattle.std.specs.Prelude.{◌≡◌, ◌≢◌, ℕ, ◌<◌, ◌≤◌, Bool, true, false, List, [], ◌++◌, length}
-use Rattle.std.specs.Io.KnownBytes.{Appends}
+use Rattle.std.specs.Io.KnownBytes.{Appends, IsAtEnd}
 use Rattle.faults.specs.Counts.{RoseBy}
 use Rattle.item_stream.specs.Items.{ItemStream}
 use Rattle.item_stream.specs.Rounds.{has_last}
@@ -31,19 +31,19 @@ pub record Dialogue (Item : Type 0) : Type 1 where
   pub is_last : Item → Bool
   pub Says : List Item → List ℕ → Type 0
 
--- The items that are to be answered: all that are heard of an input that was read to its end, else the whole ones, which don't wait for the end.
+-- The items that are to be answered: all that are heard of an input that was read to its end, where nothing was left of it, else the whole ones, which don't wait for the end.
 pub data IsDue {Item : Type 0} (heard : ItemStream Item) (taken : List ℕ) (old new : Outside) (due : List Item) : Type 0 where
-  all : length taken < input_limit → RoseBy 1 old.ends new.ends → (due ≡ heard.items) → IsDue heard taken old new due
+  all : length taken < input_limit → RoseBy 1 old.ends new.ends → IsAtEnd new.left → (due ≡ heard.items) → IsDue heard taken old new due
   whole : (due ≡ heard.whole) → IsDue heard taken old new due
 
 -- How a conversation ended, by the status: the bytes that were taken, the text that was written, what of the replies wasn't written, and the objects before
 -- and after.
 pub data Ended {Item : Type 0} (d : Dialogue Item) (taken text rest : List ℕ) (old new : Outside) (status : ℕ) : Type 0 where
-  -- the input was read to its end, and all of it was answered
-  finished : (status ≡ done) → length taken < input_limit → RoseBy 1 old.ends new.ends → ((d.heard taken).cut ≡ false) → (rest ≡ []) → d.Says (d.heard taken).items text →
+  -- the input was read to its end, where nothing was left of it, and all of it was answered
+  finished : (status ≡ done) → length taken < input_limit → RoseBy 1 old.ends new.ends → IsAtEnd new.left → ((d.heard taken).cut ≡ false) → (rest ≡ []) → d.Says (d.heard taken).items text →
       Ended d taken text rest old new status
-  -- it was read to its end, which is inside an item, and the whole items before it, none of them a last one, were answered
-  cut : (status ≡ done) → length taken < input_limit → RoseBy 1 old.ends new.ends → ((d.heard taken).cut ≡ true) → (has_last d.is_last (d.heard taken).whole ≡ false) → (rest ≡ []) →
+  -- it was read to its end, where nothing was left of it, which is inside an item, and the whole items before it, none of them a last one, were answered
+  cut : (status ≡ done) → length taken < input_limit → RoseBy 1 old.ends new.ends → IsAtEnd new.left → ((d.heard taken).cut ≡ true) → (has_last d.is_last (d.heard taken).whole ≡ false) → (rest ≡ []) →
       d.Says (d.heard taken).whole text → Ended d taken text rest old new status
   -- a last item was answered, and nothing after it
   quit : (status ≡ done) → (due : List Item) → IsDue (d.heard taken) taken old new due → (has_last d.is_last due ≡ true) → (rest ≡ []) → d.Says due text →

@@ -2,6 +2,7 @@
 use Rattle.std.specs.Prelude.{◌≡◌, ◌≢◌, ◌↔◌, ℕ, Bool, true, false, List, None}
 use Rattle.faults.specs.Counts.{RoseBy}
 use Rattle.ports.specs.Files.{Files}
+use Rattle.request_form.specs.Session.{Fixed}
 use Rattle.settings.specs.declared.table.Command.{Command}
 use Rattle.settings.specs.declared.table.Command.TheVariants as Commands
 use Rattle.settings.specs.Values.{SettingsValues}
@@ -17,14 +18,14 @@ use Rattle.blobseer_run.specs.Watching as watching
 use Rattle.blobseer_run.specs.Told.{order_of_words, AsksFor, Settled, SettingsRefused, IsFileKnown, Stopped}
 use Rattle.blobseer_run.specs.Status.{done, words_refused, settings_refused, out_of_memory, input_too_long, load_ended_early}
 
--- what the command did with its settings
-abbrev pub Did : Command → SettingsValues → Type 0 → Outside → Outside → ℕ → Type 0
-Did Commands.Run settings calm old new status = DidRun (fixed_of settings) calm old new status
-Did Commands.Serve settings calm old new status = DidServe settings.listen settings.connections old new status
-Did Commands.Load settings calm old new status = loading.DidLoad (loading.plan_of settings) old new status
-Did Commands.Node settings calm old new status = DidNode settings.page old new status
-Did Commands.Files settings calm old new status = DidFiles (fixed_of settings) settings.providers calm old new status
-Did Commands.Watch settings calm old new status = watching.DidWatch (watching.plan_of settings) old new status
+-- what the command did with its settings, where that is told of peers that a store served
+abbrev pub Did : Command → SettingsValues → Type 0 → (Fixed → ℕ → Type 0) → Outside → Outside → ℕ → Type 0
+Did Commands.Run settings calm Serves old new status = DidRun (fixed_of settings) calm old new status
+Did Commands.Serve settings calm Serves old new status = DidServe settings.listen settings.connections (Serves (fixed_of settings)) old new status
+Did Commands.Load settings calm Serves old new status = loading.DidLoad settings.page (loading.plan_of settings) old new status
+Did Commands.Node settings calm Serves old new status = DidNode settings.page old new status
+Did Commands.Files settings calm Serves old new status = DidFiles (fixed_of settings) settings.providers calm old new status
+Did Commands.Watch settings calm Serves old new status = watching.DidWatch settings.page (watching.plan_of settings) old new status
 
 -- the command answers what comes in
 abbrev pub answers_input : Command → Bool
@@ -45,11 +46,11 @@ measures Commands.Files = false
 measures Commands.Watch = true
 
 -- A run was stopped before its command did anything, or the command did its work, and the doors that were made for it came back. The files are read before it.
-pub data Ran (words : List Bytes) (known : Files) (calm : Type 0) (Back : ℕ → Type 0) (files files' : ℕ) (old new : Outside) (status : ℕ) : Type 0 where
+pub data Ran (words : List Bytes) (known : Files) (calm : Type 0) (Serves : Fixed → ℕ → Type 0) (Back : ℕ → Type 0) (files files' : ℕ) (old new : Outside) (status : ℕ) : Type 0 where
   -- nothing was taken off the input or put on the output, the listener was left alone, no door was made, and no count rose but that of the files
-  stopped : Stopped words known files files' status → (new ≡ old) → Back 0 → Ran words known calm Back files files' old new status
-  did : (command : Command) → (settings : SettingsValues) → Settled words known command settings → Did command settings calm old new status → LendsBy command settings Back status →
-      Ran words known calm Back files files' old new status
+  stopped : Stopped words known files files' status → (new ≡ old) → Back 0 → Ran words known calm Serves Back files files' old new status
+  did : (command : Command) → (settings : SettingsValues) → Settled words known command settings → Did command settings calm Serves old new status → LendsBy command settings Back status →
+      Ran words known calm Serves Back files files' old new status
 
 -- ---- what follows for a status
 

@@ -1,9 +1,12 @@
--- What the command `watch` promises: the lines of its plan's summary.
+-- What the command `watch` promises: the lines of its plan's summary, and the history from which they come.
 use Rattle.std.specs.Prelude.{ℕ, List}
+use Rattle.blob_model.specs.Limits.{greatest}
+use Rattle.blob_model.specs.declared.call.Event.{Event}
+use Rattle.version_manager.specs.Log.{IsHistory}
 use Rattle.settings.specs.Values.{SettingsValues}
 use Rattle.watch_law.specs.declared.plan.WatchPlan.{WatchPlan}
 use Rattle.watch_law.specs.Said.{said}
-use Rattle.watch_law.specs.Watch.{summary_of}
+use Rattle.watch_law.specs.Watch.{IsWatch, summary_of}
 use Rattle.blobseer_run.specs.Outside.{Outside}
 use Rattle.blobseer_run.specs.Measuring.{DidMeasure}
 
@@ -15,6 +18,11 @@ plan_of settings = record { seed = settings.seed; readers = settings.readers; op
 abbrev pub watch_lines : WatchPlan → List ℕ
 watch_lines plan = said plan (summary_of plan)
 
--- A watch of the plan was run.
-abbrev pub DidWatch : WatchPlan → Outside → Outside → ℕ → Type 0
-DidWatch plan old new status = DidMeasure (watch_lines plan) old new status
+-- A store of that page size, with the greatest limits, came to this: its history is a watch's.
+pub record CameToWatch (page : ℕ) (plan : WatchPlan) (history : List Event) : Type 0 where
+  pub is_history : IsHistory page greatest history
+  pub watched : IsWatch plan history
+
+-- A watch of the plan was run over pages of that size.
+abbrev pub DidWatch : ℕ → WatchPlan → Outside → Outside → ℕ → Type 0
+DidWatch page plan old new status = DidMeasure (CameToWatch page plan) (watch_lines plan) old new status

@@ -4,7 +4,9 @@ ghost use Rattle.faults.specs.Counts.{RoseBy};
 ghost use Rattle.blobseer_run.specs.Outside.{NoneFell};
 ghost use Rattle.blobseer_run.specs.Store.{IsNewStore};
 ghost use Rattle.blobseer_run.specs.Lending.{CameBack, Lends};
-ghost use Rattle.blobseer_run.specs.Hosting.{served_line, status_of, DidServe};
+ghost use Rattle.blob_server.specs.Peers.{Converses};
+ghost use Rattle.blobseer_run.specs.Script.{fixed_of};
+ghost use Rattle.blobseer_run.specs.Hosting.{served_line, status_of, ServedByStore, DidServe};
 ghost use Rattle.blobseer_run.specs.Writing.{ToldLine};
 ghost use Rattle.blobseer_run.specs.Status.{code_of};
 
@@ -70,7 +72,9 @@ where
     M::Door: BesideDoor + Drop + Send,
     requires store { IsNewStore settings.now settings.now.limits shared owner }
     requires true_doors { M.is_true objects.old.doors.now }
-    ensures did { DidServe settings.now.listen settings.now.connections (⟦<Objects<'a, S, K, L, M> as Standing>⟧.stands objects.old)
+    ensures did { DidServe settings.now.listen settings.now.connections
+        (ServedByStore (Converses M.Door.faults L.Peer.given L.Peer.left L.Peer.written L.Peer.ends L.Peer.read_faults L.Peer.write_faults) (fixed_of settings.now))
+        (⟦<Objects<'a, S, K, L, M> as Standing>⟧.stands objects.old)
         (⟦<Objects<'a, S, K, L, M> as Standing>⟧.stands objects.new) (code_of result) }
     ensures lent { Lends (settings.now.workers * settings.now.providers) (CameBack M.hands_out M.takes_back objects.old.doors.now objects.new.doors.now) (code_of result) }
     ensures none_fell { NoneFell (⟦<Objects<'a, S, K, L, M> as Standing>⟧.stands objects.old) (⟦<Objects<'a, S, K, L, M> as Standing>⟧.stands objects.new) }
@@ -124,7 +128,9 @@ where
     L::Peer: Drop + Send,
     M::Door: BesideDoor + Drop + Send,
     requires true_doors { M.is_true objects.old.doors.now }
-    ensures did { DidServe settings.now.listen settings.now.connections (⟦<Objects<'a, S, K, L, M> as Standing>⟧.stands objects.old)
+    ensures did { DidServe settings.now.listen settings.now.connections
+        (ServedByStore (Converses M.Door.faults L.Peer.given L.Peer.left L.Peer.written L.Peer.ends L.Peer.read_faults L.Peer.write_faults) (fixed_of settings.now))
+        (⟦<Objects<'a, S, K, L, M> as Standing>⟧.stands objects.old)
         (⟦<Objects<'a, S, K, L, M> as Standing>⟧.stands objects.new) (code_of result) }
     ensures lent { Lends (settings.now.workers * settings.now.providers) (CameBack M.hands_out M.takes_back objects.old.doors.now objects.new.doors.now) (code_of result) }
     ensures none_fell { NoneFell (⟦<Objects<'a, S, K, L, M> as Standing>⟧.stands objects.old) (⟦<Objects<'a, S, K, L, M> as Standing>⟧.stands objects.new) }

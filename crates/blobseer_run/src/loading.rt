@@ -50,7 +50,7 @@ where
     M::Door: BesideDoor + Drop + Send,
     requires store { IsNewStore settings.now greatest shared owner }
     requires true_doors { M.is_true objects.old.doors.now }
-    ensures did { DidLoad (plan_of settings.now) (⟦<Objects<'a, S, K, L, M> as Standing>⟧.stands objects.old)
+    ensures did { DidLoad settings.now.page (plan_of settings.now) (⟦<Objects<'a, S, K, L, M> as Standing>⟧.stands objects.old)
         (⟦<Objects<'a, S, K, L, M> as Standing>⟧.stands objects.new) (code_of result) }
     ensures lent { Lends ((settings.now.workers + 2) * settings.now.providers) (CameBack M.hands_out M.takes_back objects.old.doors.now objects.new.doors.now) (code_of result) }
     ensures none_fell { NoneFell (⟦<Objects<'a, S, K, L, M> as Standing>⟧.stands objects.old) (⟦<Objects<'a, S, K, L, M> as Standing>⟧.stands objects.new) }
@@ -91,7 +91,7 @@ pub(crate) fn run_load<
 where
     M::Door: BesideDoor + Drop + Send,
     requires true_doors { M.is_true objects.old.doors.now }
-    ensures did { DidLoad (plan_of settings.now) (⟦<Objects<'a, S, K, L, M> as Standing>⟧.stands objects.old)
+    ensures did { DidLoad settings.now.page (plan_of settings.now) (⟦<Objects<'a, S, K, L, M> as Standing>⟧.stands objects.old)
         (⟦<Objects<'a, S, K, L, M> as Standing>⟧.stands objects.new) (code_of result) }
     ensures lent { Lends ((settings.now.workers + 2) * settings.now.providers) (CameBack M.hands_out M.takes_back objects.old.doors.now objects.new.doors.now) (code_of result) }
     ensures none_fell { NoneFell (⟦<Objects<'a, S, K, L, M> as Standing>⟧.stands objects.old) (⟦<Objects<'a, S, K, L, M> as Standing>⟧.stands objects.new) }

@@ -4,6 +4,8 @@ ghost use Rattle.faults.specs.Counts.{RoseBy};
 ghost use Rattle.blobseer_run.specs.Outside.{outside, NoneFell};
 ghost use Rattle.blobseer_run.specs.Lending.{CameBack, LendsBy};
 ghost use Rattle.blobseer_run.specs.Script.{IsCalm};
+ghost use Rattle.blob_server.specs.Peers.{Converses};
+ghost use Rattle.blobseer_run.specs.Hosting.{ServedByStore};
 ghost use Rattle.blobseer_run.specs.Run.{Did, Ran, RefusesWords, RefusesSettings, IsTaken, IsComplete};
 ghost use Rattle.blobseer_run.specs.Told.{NamesFile};
 ghost use Rattle.blobseer_run.specs.Status.{code_of, Tells};
@@ -49,7 +51,9 @@ where
     L::Peer: Drop + Send,
     M::Door: BesideDoor + Drop + Send,
     requires true_doors { M.is_true objects.old.doors.now }
-    ensures did { Did command settings.now (IsCalm M.Door.faults) (⟦<Objects<'a, S, K, L, M> as Standing>⟧.stands objects.old)
+    ensures did { Did command settings.now (IsCalm M.Door.faults)
+        (ServedByStore (Converses M.Door.faults L.Peer.given L.Peer.left L.Peer.written L.Peer.ends L.Peer.read_faults L.Peer.write_faults))
+        (⟦<Objects<'a, S, K, L, M> as Standing>⟧.stands objects.old)
         (⟦<Objects<'a, S, K, L, M> as Standing>⟧.stands objects.new) (code_of result) }
     ensures lent { LendsBy command settings.now (CameBack M.hands_out M.takes_back objects.old.doors.now objects.new.doors.now) (code_of result) }
     ensures none_fell { NoneFell (⟦<Objects<'a, S, K, L, M> as Standing>⟧.stands objects.old) (⟦<Objects<'a, S, K, L, M> as Standing>⟧.stands objects.new) }
@@ -121,7 +125,9 @@ where
     requires true_doors { M.is_true doors.old }
 
     // What it was told, what it took and wrote, and how it ended. Each door that was made in it came back before it answered.
-    ensures ran { Ran (map string_bytes words.now) (F.known files.old) (IsCalm M.Door.faults) (CameBack M.hands_out M.takes_back doors.old doors.new)
+    ensures ran { Ran (map string_bytes words.now) (F.known files.old) (IsCalm M.Door.faults)
+        (ServedByStore (Converses M.Door.faults L.Peer.given L.Peer.left L.Peer.written L.Peer.ends L.Peer.read_faults L.Peer.write_faults))
+        (CameBack M.hands_out M.takes_back doors.old doors.new)
         (F.faults files.old) (F.faults files.new)
         (outside (record { given = S.given script.old; left = S.left script.old; reads = S.read_faults script.old; ends = S.ends script.old })
         (record { written = K.written out.old; writes = K.write_faults out.old })

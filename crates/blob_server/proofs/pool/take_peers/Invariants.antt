@@ -1,6 +1,6 @@
 use Rattle.std.proofs.Common.{◌≡◌, true}
 use Rattle.crossbeam_queue.specs.Passes.{view, IsSamePass, IsPassOf}
-use Rattle.blob_server.specs.Serving.{WasServed, Accounts}
+use Rattle.blob_server.specs.Serving.{IsBeginningOf, WasServed, Accounts}
 use Rattle.blob_server.proofs.Taking.{Taken}
 use Rattle.blob_server.proofs.pool.take_peers.Given as goal
 
@@ -18,5 +18,5 @@ invariant-loop-taken g l =
       home : s.home l.service ≡ s.home l.fn.service;
       of_queue : IsPassOf l.queue.line l.pass;
       pass : IsSamePass l.fn.pass l.pass;
-      served : Accounts (WasServed s.home s.gives (s.home l.fn.service)) l.taken (view l.fn.pass) (view l.pass);
+      served : Accounts (WasServed s.home s.saw s.gives (s.home l.fn.service)) (IsBeginningOf (s.saw l.service)) l.taken (view l.fn.pass) (view l.pass);
     }

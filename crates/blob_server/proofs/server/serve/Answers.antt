@@ -1,9 +1,12 @@
-use Rattle.std.proofs.Common.{◌≡◌, List, subst, arith, rules}
+use Rattle.std.proofs.Common.{List, subst, arith, rules}
 use Rattle.std.specs.List.{All}
 use Rattle.page_store.specs.Calls.{no_door}
+use Rattle.turn_lock.proofs.Histories.{begins_both}
+use Rattle.version_manager.specs.Log.{events}
 use Rattle.client_session.specs.Sessions.{SessionState}
 use Rattle.blob_server.specs.Peers.{IsIdle}
-use Rattle.blob_server.proofs.Idling.{all_front, last_of, own_store, own_stores, that_stores}
+use Rattle.blob_server.proofs.Beginnings.{events_begin}
+use Rattle.blob_server.proofs.Idling.{all_front, last_of, own_store, own_stores, that_stores, sessions_begin}
 use Rattle.blob_server.proofs.Lents.{all_lent}
 use Rattle.blob_server.proofs.Taking.{served_till_then}
 use Rattle.blob_server.proofs.server.serve.Goals as goal
@@ -43,13 +46,19 @@ returns-clause-plan_stays g c n door =
 pub returns-then-taken-clause-served : goal.returns-then-taken-clause-served
 returns-then-taken-clause-served g c =
     let w = c.work_all-first.ensures in
-    served_till_then _ c.args.connections c.work_all-first.result.0.peers c.work_all-first.result.0.failed _ _ c.if-taken.true w.took w.served
+    let history = events c.end_sessions.new.owner.seen in
+    let begins = begins_both _ _ _ c.end_session.ensures.begins.1 c.end_sessions.ensures.seen in
+    served_till_then _ c.args.connections c.work_all-first.result.0.peers c.work_all-first.result.0.failed _ _ c.if-taken.true w.took
+    (w.served history (events_begin _ _ begins) (sessions_begin _ _ c.end_sessions.ensures.begin))
 
 pub returns-clause-served : goal.returns-clause-served
 returns-clause-served g c =
-    let w = c.work_all-first.ensures.served in
-    let number = w.number in
-    record { peers = w.peers; number = first_of (omega (arith, number), search rules); each = w.each }
+    let w = c.work_all-first.ensures in
+    let history = events c.end_sessions.new.owner.seen in
+    let begins = begins_both _ _ _ c.end_session.ensures.begins.1 c.end_sessions.ensures.seen in
+    let many = w.served history (events_begin _ _ begins) (sessions_begin _ _ c.end_sessions.ensures.begin) in
+    let number = many.number in
+    record { peers = many.peers; number = first_of (omega (arith, number), search rules); each = many.each }
 
 pub returns-in_default-clause-lent : goal.returns-in_default-clause-lent
 returns-in_default-clause-lent g c = (0, no_door)

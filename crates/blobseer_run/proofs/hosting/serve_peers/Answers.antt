@@ -10,7 +10,7 @@ serve_store-requires-clause-store g c κs within = subst (λ (s : SettingsValues
 
 pub returns-in_default-clause-did : goal.returns-in_default-clause-did
 returns-in_default-clause-did g c =
-    starved_there _ _ _ _ (record { given = refl; left = refl; reads = refl; ends = refl }) refl (inl (record { listens = refl; address = refl }))
+    starved_there _ _ _ _ _ (record { given = refl; left = refl; reads = refl; ends = refl }) refl (inl (record { listens = refl; address = refl }))
     (record { handed = refl; done = refl; rose = record { later = omega arith; by = λ less. omega arith } })
 
 pub returns-in_default-clause-lent : goal.returns-in_default-clause-lent

@@ -9,7 +9,7 @@ pub load_store-requires-clause-store : goal.load_store-requires-clause-store
 load_store-requires-clause-store g c κs within = subst (λ (b : Bounds). IsNewStore c.args.settings.now b c.in-Ok.shared c.in-Ok.owner) c.greatest.ensures c.in-Ok.ensures
 
 pub returns-in_default-clause-did : goal.returns-in_default-clause-did
-returns-in_default-clause-did g c = starved_there _ _ _ (record { given = refl; left = refl; reads = refl; ends = refl }) refl refl
+returns-in_default-clause-did g c = starved_there _ _ _ _ (record { given = refl; left = refl; reads = refl; ends = refl }) refl refl
 
 pub returns-in_default-clause-lent : goal.returns-in_default-clause-lent
 returns-in_default-clause-lent g c = none_made g.M.DoorMaker.hands_out g.M.DoorMaker.takes_back _ _

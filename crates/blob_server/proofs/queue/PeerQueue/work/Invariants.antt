@@ -1,6 +1,6 @@
 use Rattle.std.proofs.Common.{◌≡◌}
 use Rattle.crossbeam_queue.specs.Passes.{view, IsSamePass, IsPassOf}
-use Rattle.blob_server.specs.Serving.{WasServed, Accounts}
+use Rattle.blob_server.specs.Serving.{IsBeginningOf, WasServed, Accounts}
 use Rattle.blob_server.proofs.queue.PeerQueue.work.Given as goal
 
 -- what was taken so far was served
@@ -10,7 +10,8 @@ invariant-loop g l =
     record {
       ready : s.is_ready l.service;
       home : s.home l.service ≡ s.home l.fn.service;
+      saw : IsBeginningOf (s.saw l.fn.service) (s.saw l.service);
       of_queue : IsPassOf l.self.line l.pass;
       pass : IsSamePass l.fn.pass l.pass;
-      served : Accounts (WasServed s.home s.gives (s.home l.fn.service)) 0 (view l.fn.pass) (view l.pass);
+      served : Accounts (WasServed s.home s.saw s.gives (s.home l.fn.service)) (IsBeginningOf (s.saw l.service)) 0 (view l.fn.pass) (view l.pass);
     }
