@@ -2,12 +2,12 @@
 use Rattle.std.proofs.Common.{◌≡◌, ℕ, ◌+◌, ◌≤◌, List, [], ◌∷◌, refl, sym, ap, subst, arith, inl, inr}
 use Rattle.std.specs.Prelude.{Option, Some, None}
 use Rattle.blob_model.specs.Store.{Blob, blob_at, assigned}
-use Rattle.blob_model.specs.declared.call.Event.{Event}
 use Rattle.tree_geom.specs.declared.node.Node.{Node}
 use Rattle.tree_geom.specs.declared.node.NodeKey.{NodeKey}
 use Rattle.blob_core.specs.World.{World, UpdateEntry, empty_world, fold_at, kept_at, node_at, same_number, same_update, same_fold, same_key, bytes_of_pages}
 use Rattle.blob_core.specs.Woven.{woven}
 use Rattle.blob_core.specs.Steps.{IsAllowed, AllAllowed, after, world_after, folded_page, next_kept}
+use Rattle.blob_core.specs.Standing.{IsReached}
 use Rattle.blob_core.specs.declared.world.FoldKey.{FoldKey}
 use Rattle.blob_core.specs.declared.world.UpdateKey.{UpdateKey}
 use Rattle.blob_core.specs.declared.step.Step.{Step}
@@ -17,17 +17,13 @@ use Rattle.blob_core.proofs.Growing.{Cited}
 use Rattle.blob_core.proofs.Taken.{assign_done}
 use Rattle.blob_core.proofs.Keeping.{Stands, UpdateStands, empty_stands, with_update_is, with_node_is}
 use Rattle.blob_core.proofs.Running.{step_stands, stands_after}
-use Rattle.version_manager.specs.declared.journal.DeskFixed.{DeskFixed}
-use Rattle.world_acts.specs.Worlds.{IsWorldOf, HasAllOf, WorldsOnlyGrow}
-use Rattle.world_acts.proofs.Steps.{page_some}
+use Rattle.world_acts.specs.Worlds.{HasAllOf, WorldsOnlyGrow}
+use Rattle.world_acts.proofs.Steps.{worlds_are_reached}
 use Rattle.world_acts.proofs.Folding.{with_fold_is}
 
--- ---- what stands in each world of a history
-stands : Cited → (f : DeskFixed) (history : List (ℕ × Event)) (w : World) → IsWorldOf f history w → Stands f.page_size w
-stands c f history w a =
-    let p : ℕ = f.page_size in
-    let e : World = empty_world f.limits in
-    subst (λ (x : World). Stands p x) (sym a.is) (stands_after c p e a.steps (page_some p a.page_size) (empty_stands p f.limits) a.allowed)
+-- ---- what stands in each world that is reached
+pub stands : Cited → (p : ℕ) (w : World) → IsReached p w → Stands p w
+stands c p w a = subst (λ (x : World). Stands p x) (sym a.is) (stands_after c p (empty_world a.limits) a.steps a.some (empty_stands p a.limits) a.allowed)
 
 -- ---- what each step keeps
 pub has_itself : (w : World) → HasAllOf w w
@@ -42,7 +38,7 @@ has_further u v w a b = record {
 }
 
 -- the next version of a blob has nothing kept beside it yet
-next_is_new : (p : ℕ) (w : World) (blob : ℕ) (b : Blob) → Stands p w → blob_at w.store blob ≡ Some b → (o : Option UpdateEntry) → kept_at w.updates blob (assigned b + 1) ≡ o
+pub next_is_new : (p : ℕ) (w : World) (blob : ℕ) (b : Blob) → Stands p w → blob_at w.store blob ≡ Some b → (o : Option UpdateEntry) → kept_at w.updates blob (assigned b + 1) ≡ o
     → kept_at w.updates blob (assigned b + 1) ≡ None
 next_is_new p w blob b s is None e = e
 next_is_new p w blob b s is (Some kept) e =
@@ -50,7 +46,7 @@ next_is_new p w blob b s is (Some kept) e =
     let same : assigned x ≡ assigned b = ap (λ (y : Blob). assigned y) (one_value (blob_at w.store blob) x b at is) in
     absurd (omega arith)
 
-step_grows : (p : ℕ) (w : World) (step : Step) → Stands p w → IsAllowed p w step → HasAllOf w (after p w step)
+pub step_grows : (p : ℕ) (w : World) (step : Step) → Stands p w → IsAllowed p w step → HasAllOf w (after p w step)
 step_grows p w (Moves.PagePut page bytes) s ok = record {
   pages = λ n b is. entry_kept same_number w.pages page bytes n b (number_means page n) ok.0 is;
   updates = λ blob version kept is. is;
@@ -117,4 +113,6 @@ steps_grow c p w (step ∷ steps) pos s ok =
     (steps_grow c p (after p w step) steps pos (step_stands c p w step pos s ok.0) ok.1)
 
 pub worlds_only_grow : Cited → WorldsOnlyGrow
-worlds_only_grow c f history w steps a ok = steps_grow c f.page_size w steps (page_some f.page_size a.page_size) (stands c f history w a) ok
+worlds_only_grow c f history w steps a ok =
+    let reached = worlds_are_reached f history w a in
+    steps_grow c f.page_size w steps reached.some (stands c f.page_size w reached) ok

@@ -10,6 +10,7 @@ mod Reading
 mod Hinting
 mod Following
 mod Growing
+mod Commuting
 mod Ordering
 mod Histories
 mod Worked

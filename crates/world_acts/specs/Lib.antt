@@ -4,3 +4,4 @@ pub mod Pages
 pub mod Turns
 pub mod Puts
 pub mod Reads
+pub mod Commuting

@@ -1,5 +1,6 @@
 //! What ties the acts of the program to the steps of a world. A law is the contract of a function that does nothing.
 ghost use Rattle.world_acts.specs.Worlds.{EmptyIsAWorld, WorldsAreReached, StoresAgree, LineagesAgree, WorldsOnlyGrow, HistoriesHaveWorlds, StepsAreInOrder};
+ghost use Rattle.world_acts.specs.Commuting.{PutsCommute, SameWorldsGoOn};
 ghost use Rattle.world_acts.specs.Together.{SessionsTogether};
 ghost use Rattle.world_acts.specs.Pages.{PagePutsAreSteps, NumbersGoOn};
 ghost use Rattle.world_acts.specs.Turns.{CreatesAreSteps, BranchesAreSteps, NumberingsAreSteps, FinishesAreSteps, LooksAreNoSteps, WaitingAreOwn};
@@ -23,9 +24,15 @@ pub fn worlds_agree()
 /// What a world has stays in it as it is, whatever allowed steps follow: pages, the pages and hints of each update, pages that were stored
 /// anew, and nodes. So what one act put is there when a later act needs it, whoever acts between.
 ///
+/// Two puts, of which the second doesn't need the first, may change places: they are allowed in the other order too, and lead to the same world. Worlds
+/// that are the same go on in the same way: the same steps are allowed, and are the same events. So it makes no difference in which order the puts of
+/// many sessions come between two turns.
+///
 /// And no allowed steps finish an update that stores a page anew before the version before it is published.
 pub fn worlds_only_grow()
     ensures grow { WorldsOnlyGrow }
+    ensures commute { PutsCommute }
+    ensures go_on { SameWorldsGoOn }
     ensures in_order { StepsAreInOrder }
 {
     blob_core::steps_hold();

@@ -1,5 +1,6 @@
 use Rattle.blob_core.proofs.Growing.{Cited}
 use Rattle.world_acts.proofs.Growing.{worlds_only_grow}
+use Rattle.world_acts.proofs.Commuting.{puts_commute, same_worlds_go_on}
 use Rattle.world_acts.proofs.Ordering.{steps_in_order}
 use Rattle.world_acts.proofs.laws.worlds_only_grow.Goals as goal
 
@@ -29,4 +30,9 @@ returns c =
       inner = c.visited_are_few.ensures.inner;
       bounded = c.visited_are_few.ensures.bounded;
     } in
-    record { grow = worlds_only_grow cited; in_order = steps_in_order cited c.steps_hold.ensures.hold }
+    record {
+      grow = worlds_only_grow cited;
+      commute = puts_commute cited c.steps_hold.ensures.hold c.steps_hold.ensures.stays;
+      go_on = same_worlds_go_on cited c.steps_hold.ensures.hold c.steps_hold.ensures.stays;
+      in_order = steps_in_order cited c.steps_hold.ensures.hold;
+    }
