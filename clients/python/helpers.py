@@ -25,6 +25,8 @@ def free_port():
     while True:
         port = random.randrange(10_000, 30_000)
         with socket.socket() as free, contextlib.suppress(OSError):
+            # A process that another thread begins has a copy of this socket until it runs its program: with the option a server may bind beside that.
+            free.setsockopt(socket.SOL_SOCKET, socket.SO_REUSEADDR, 1)
             free.bind(("127.0.0.1", port))
             return port
 
