@@ -63,7 +63,8 @@ def host_and_port(server):
 
 @contextlib.contextmanager
 def played(*replies):
-    """A server that takes one connection, sends these bytes for whatever comes, and closes."""
+    """A server that takes one connection, sends these bytes for whatever comes, and closes once the client has: else what it left unread would
+    make the system reset the connection."""
     with socket.create_server(("127.0.0.1", 0)) as listener:
         def serve():
             peer, _ = listener.accept()
@@ -71,6 +72,10 @@ def played(*replies):
                 for reply in replies:
                     peer.recv(65536)
                     peer.sendall(reply)
+                with contextlib.suppress(OSError):
+                    peer.shutdown(socket.SHUT_WR)
+                    while peer.recv(65536):
+                        pass
 
         thread = threading.Thread(target=serve)
         thread.start()
