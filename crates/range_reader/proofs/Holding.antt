@@ -1,5 +1,5 @@
 -- The leaf that has a byte, and the stored page in which it has it.
-use Rattle.std.proofs.Common.{◌≡◌, ◌⊎◌, ℕ, ◌+◌, ◌-◌, ◌*◌, ◌/◌, ◌<◌, ◌≤◌, [], ◌∷◌, length, arith, refl, ap, sym, ◌∙◌, inl, inr, true, false}
+use Rattle.std.proofs.Common.{◌≡◌, ◌⊎◌, ℕ, ◌+◌, ◌-◌, ◌*◌, ◌/◌, ◌<◌, ◌≤◌, [], ◌∷◌, length, arith, ap, sym, ◌∙◌, inl, inr, true, false}
 use Rattle.std.specs.Prelude.{nat_lt}
 use Rattle.std.proofs.lemmas.Bool.{cases_lt}
 use Rattle.std.specs.List.{range_with_len, sum_by}
@@ -17,7 +17,7 @@ use Rattle.tree_geom.proofs.Spans.{page_pos}
 use Rattle.range_reader.specs.declared.source.LeafParts.{LeafParts}
 use Rattle.range_reader.specs.Reading.{falls, newest_in, backs_in, bound, page_in, own_start, own_len, IsLeafOf}
 use Rattle.range_reader.specs.Holders.{HasByte, piece_with}
-use Rattle.range_reader.proofs.Going.{in_newest}
+use Rattle.range_reader.proofs.Going.{newest_length}
 use Rattle.range_reader.proofs.Leaves.{LeafOf}
 use Rattle.range_reader.proofs.Rooted.{walk_bound}
 use Rattle.range_reader.proofs.Taking.{lens, first_is, second_is}
@@ -36,9 +36,7 @@ page_is p r at pos al whole le lt =
 -- a byte below the size is valid in the page at its newest version
 pub valid_newest : PageBytesStay → (s : Version) → IsVersion s → (i newest b : ℕ) → newest ≡ newest_in s (page_range s.page_size i) → b < s.page_size
     → i * s.page_size + b < size_now s → b < length (page_in s newest i)
-valid_newest stay s is i newest b same within valid =
-    let f : b + 0 < length (page_in s newest i) = (in_newest stay s is i newest b 1 (true ∷ []) same (omega arith) (omega arith)).valid 0 (omega arith) refl in
-    omega (arith, f)
+valid_newest stay s is i newest b same within valid = omega (arith, newest_length stay s is i newest same, within, valid)
 
 -- a walk to the page of a byte, and then along all its backs, is within the visit bound of a read of this one byte
 pub byte_bound : WalksAreBounded → ExtentsStand → (s : Version) → IsVersion s → (at : ℕ) → at < size_now s
@@ -63,6 +61,16 @@ pub record NextLeaf (s : Version) (j i b : ℕ) : Type 0 where
   pub stands : HasNodeFor s (back_of s.page_size (falls s) j i) (page_range s.page_size i)
   pub valid : b < length (page_in s (back_of s.page_size (falls s) j i) i)
 
+-- a byte that a leaf lacks lies before its own bytes or after them
+pub beside : (s : Version) (j i b : ℕ) → ¬ HasByte s j i b → (b < own_start s j i) ⊎ (own_start s j i + own_len s j i ≤ b)
+beside s j i b lacks = elim (cases_lt b (own_start s j i)) [
+  | inl below ↦ inl below
+  | inr from ↦ elim (cases_lt b (own_start s j i + own_len s j i)) [
+    | inl within ↦ absurd (lacks (from, within))
+    | inr above ↦ inr above
+  ]
+]
+
 -- where a leaf lacks a valid byte of its page, it has a back, and the byte is valid there too
 pub next_leaf : BacksHaveNoHoles → BacksLead → ExtentsStand → (s : Version) → IsVersion s → (j i b : ℕ) → HasNodeFor s j (page_range s.page_size i) → LeafOf s j i
     → b < length (page_in s j i) → ¬ HasByte s j i b → NextLeaf s j i b
@@ -70,14 +78,7 @@ next_leaf holes lead stand s is j i b has leaf valid lacks =
     let p : ℕ = s.page_size in
     let pos : 1 ≤ p = page_pos p is.page_size in
     let bounds = (stand (updates_of s) is.replayable).0 in
-    let out : (b < own_start s j i) ⊎ (own_start s j i + own_len s j i ≤ b) = elim (cases_lt b (own_start s j i)) [
-      | inl below ↦ inl below
-      | inr from ↦ elim (cases_lt b (own_start s j i + own_len s j i)) [
-        | inl within ↦ absurd (lacks (from, within))
-        | inr above ↦ inr above
-      ]
-    ] in
-    let rest = leaf.tells.rest b out valid in
+    let rest = leaf.tells.rest b (beside s j i b lacks) valid in
     let back = (holes p j i (falls s) pos bounds has rest.0.0).1 rest.0.1 in
     record { some = back.0; less = back.1; stands = lead p j i (falls s) pos bounds has back.0; valid = rest.2 }
 

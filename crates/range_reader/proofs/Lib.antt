@@ -9,6 +9,7 @@ pub mod Running
 pub mod Overlaying
 pub mod Leaves
 pub mod Taking
+pub mod Narrowing
 pub mod Along
 pub mod Going
 pub mod Walking

@@ -1,9 +1,8 @@
 -- How far a page of the buffer is filled, while the walk goes along the backs.
-use Rattle.std.proofs.Common.{◌≡◌, ◌⊎◌, ℕ, ◌+◌, ◌-◌, ◌*◌, ◌<◌, ◌≤◌, List, length, take, drop, arith, ap, sym, ◌∙◌, inl, inr, Bool, true, false, get_or}
+use Rattle.std.proofs.Common.{◌≡◌, ◌⊎◌, ℕ, ◌+◌, ◌-◌, ◌<◌, ◌≤◌, List, length, arith, ap, sym, ◌∙◌, inl, inr, Bool, true, false, get_or}
 use Rattle.std.proofs.lemmas.Bool.{cases_lt}
-use Rattle.std.proofs.lemmas.List.{ext_get_or}
 use Rattle.range_reader.specs.Filling.{Overlaid, Taken}
-use Rattle.range_reader.proofs.Parts.{either, part_read, length_part}
+use Rattle.range_reader.proofs.Parts.{either}
 
 -- bytes that are not wanted are there, from byte `begin` of the page on
 pub record AreThere (page : List ℕ) (begin : ℕ) (out : List ℕ) (marks : List Bool) : Type 0 where
@@ -70,17 +69,3 @@ module _ (st n : ℕ) (here older : List ℕ) (U : Type 0) (rest : (x : ℕ) →
   still_wanted count x few from t lt is =
       let l = left st n begin x marks marks' t (omega arith) is in
       (rest (begin + x) l.1 (from.valid x lt l.0)).0
-
--- where nothing is wanted any more, the bytes are the page's
-pub all_there : (p i : ℕ) (c : List ℕ) (begin : ℕ) (out : List ℕ) (marks : List Bool) → begin + length out ≤ p → i * p + begin + length out ≤ length c
-    → AreThere (take p (drop (i * p) c)) begin out marks → ((x : ℕ) → x < length out → get_or marks x false ≡ false)
-    → out ≡ take (i * p + begin + length out - (i * p + begin)) (drop (i * p + begin) c)
-all_there p i c begin out marks within valid there none =
-    let o : ℕ = i * p + begin in
-    let n : o + length out - o ≡ length out = omega arith in
-    let count : length (take (length out) (drop o c)) ≡ length out = length_part c o (length out) valid in
-    ext_get_or 0 out (take (length out) (drop o c)) (sym count)
-    (λ x lt.
-    let e : i * p + (begin + x) ≡ o + x = omega arith in
-    there.there x lt (none x lt) ∙ part_read 0 c (i * p) p (begin + x) (omega arith) ∙ ap (λ y. get_or c y 0) e ∙ sym (part_read 0 c o (length out) x lt))
-    ∙ ap (λ k. take k (drop o c)) (sym n)

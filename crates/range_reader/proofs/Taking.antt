@@ -1,5 +1,5 @@
 -- A leaf that has all that is wanted of its page.
-use Rattle.std.proofs.Common.{◌≡◌, ℕ, ◌+◌, ◌-◌, ◌<◌, ◌≤◌, List, [], length, take, drop, arith, ap, sym, ◌∙◌, subst, get_or}
+use Rattle.std.proofs.Common.{◌≡◌, ℕ, ◌+◌, ◌-◌, ◌<◌, ◌≤◌, List, length, take, drop, arith, ap, sym, ◌∙◌, subst, get_or}
 use Rattle.std.specs.Prelude.{slice_range}
 use Rattle.std.proofs.lemmas.List.{ext_get_or}
 use Rattle.tree_geom.specs.declared.node.Piece.{Piece}
@@ -11,7 +11,6 @@ use Rattle.range_reader.specs.declared.source.LeafParts.{LeafParts}
 use Rattle.range_reader.specs.Faults.{HasPieceIn}
 use Rattle.range_reader.specs.Reading.{falls, page_in, leaf_in, own_start, own_len, stored_bytes, IsLeafOf}
 use Rattle.range_reader.proofs.Parts.{part_read, length_part}
-use Rattle.range_reader.proofs.Standing.{AreThere}
 use Rattle.range_reader.proofs.Leaves.{LeafOf, IsPieceOf}
 use Rattle.range_reader.proofs.NodeParts.{pieces_in}
 
@@ -27,6 +26,15 @@ slice_in xs ys a b n one two same =
     ∙ ext_get_or 0 (take n (drop a xs)) (take n (drop b ys)) (left ∙ sym right)
     (λ y lt. part_read 0 xs a n y (omega (arith, left, lt)) ∙ same y (omega (arith, left, lt)) ∙ sym (part_read 0 ys b n y (omega (arith, left, lt))))
     ∙ ap (λ k. take k (drop b ys)) (sym f)
+
+-- a buffer that has n bytes of a list, one by one
+pub read_all : (xs : List ℕ) (a n : ℕ) (out : List ℕ) → length out ≡ n → a + n ≤ length xs → ((x : ℕ) → x < length out → get_or out x 0 ≡ get_or xs (a + x) 0)
+    → out ≡ slice_range xs a (a + n)
+read_all xs a n out len fits same =
+    let part : length (take n (drop a xs)) ≡ n = length_part xs a n fits in
+    let e : a + n - a ≡ n = omega arith in
+    ext_get_or 0 out (take n (drop a xs)) (len ∙ sym part) (λ x lt. same x lt ∙ sym (part_read 0 xs a n x (omega (arith, lt, len))))
+    ∙ ap (λ k. take k (drop a xs)) (sym e)
 
 -- ---- the pieces of a leaf by its parts
 pub lens : (s : Version) (j i : ℕ) (parts : LeafParts) → IsLeafOf s j i parts → parts.first.len + parts.second.len ≡ own_len s j i
@@ -74,12 +82,3 @@ module _ (s : Version) (j i : ℕ) (parts : LeafParts) (is : IsLeafOf s j i part
       let e : parts.second.from + skip + y ≡ parts.second.from + (skip + y) = omega arith in
       let f : own_start s j i + parts.first.len + (skip + y) ≡ begin + y = omega (arith, same) in
       ap (λ z. get_or (stored_bytes s j parts.second.page) z 0) e ∙ piece.same (skip + y) (omega (arith, lt, fits)) ∙ ap (λ z. get_or (page_in s j i) z 0) f)
-
--- the leaf's own bytes are the page's
-pub whole_there : (begin n : ℕ) (page here out : List ℕ) → page ≡ here → length out ≡ n → out ≡ slice_range here begin (begin + n) → AreThere page begin out []
-whole_there begin n page here out same len is = record {
-  there = λ x lt _.
-      let count : begin + n - begin ≡ n = omega arith in
-      ap (λ (l : List ℕ). get_or l x 0) is ∙ ap (λ c. get_or (take c (drop begin here)) x 0) count ∙ part_read 0 here begin n x (omega (arith, lt, len))
-      ∙ ap (λ (l : List ℕ). get_or l (begin + x) 0) (sym same);
-}

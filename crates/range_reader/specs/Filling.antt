@@ -27,3 +27,11 @@ pub record IsNextWanted (marks : List Bool) (first next : ℕ) : Type 0 where
   pub upto : next ≤ length marks
   pub none : (x : ℕ) → first ≤ x → x < next → slice_index_or marks x false ≢ true
   pub wanted : next < length marks → slice_index_or marks next false ≡ true
+
+-- The buffer has the page's bytes from byte `begin` on. Of those from the page's byte `low` on, up to byte `high`, it now has all but those from
+-- byte `low'` on, up to byte `high'`, and all others are as they were.
+pub record Narrowed (page : List ℕ) (begin low high low' high' : ℕ) (old new : List ℕ) : Type 0 where
+  pub front : (x : ℕ) → x < length old → low ≤ begin + x → begin + x < low' → slice_index new x ≡ slice_index page (begin + x)
+  pub end : (x : ℕ) → x < length old → high' ≤ begin + x → begin + x < high → slice_index new x ≡ slice_index page (begin + x)
+  pub below : (x : ℕ) → x < length old → begin + x < low → slice_index new x ≡ slice_index old x
+  pub above : (x : ℕ) → x < length old → high ≤ begin + x → slice_index new x ≡ slice_index old x

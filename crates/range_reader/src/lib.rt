@@ -7,6 +7,7 @@
 #![tactic(auto)]
 
 mod bound;
+mod gap;
 mod known;
 mod locate;
 mod marks;

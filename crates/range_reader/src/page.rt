@@ -1,13 +1,14 @@
 // The bytes of one page, from its newest leaf and along the backs.
-ghost use Rattle.std.specs.Prelude.{◌≡◌, ℕ, ◌+◌, ◌*◌, ◌^◌, ◌<◌, ◌≤◌, length, map, sum_by, All, IsTrue, IsFalse, IsSome, IsNone, IfSome, true, false, slice_index_or};
+ghost use Rattle.std.specs.Prelude.{◌≡◌, ℕ, ◌+◌, ◌*◌, ◌^◌, ◌<◌, ◌≤◌, length, map, sum_by, All, IsTrue, IsFalse, IsSome, IsNone, IfSome, true, false, slice_index_or, slice_range};
 ghost use Rattle.tree_geom.specs.Geometry.{page_range};
 ghost use Rattle.range_log.specs.Visits.{backs_of};
 ghost use Rattle.page_store.specs.Count.{HasRisen};
 ghost use Rattle.snapshot.specs.Versions.{size_now, HasNodeFor, IsVersionIn};
 ghost use Rattle.range_reader.specs.Filling.{Overlaid, Taken, IsNextWanted};
 ghost use Rattle.range_reader.specs.Reading.{falls, newest_in, bytes_at, page_in, own_start, own_len, IsLeafOf};
-ghost use Rattle.range_reader.specs.Faults.{CountsKept, PieceFailed, PageFailed};
+ghost use Rattle.range_reader.specs.Faults.{CountsKept, IsLedTo, PieceFailed, PageFailed};
 
+use crate::gap::{Gap, fill_end};
 use crate::marks::{first_marked, mark_all};
 use crate::piece::fill_piece;
 use crate::source::{LeafParts, ReadSource, leaf};
@@ -104,31 +105,33 @@ fn fill_wanted<D: Door>(
     Some(first_marked(marks, first, true))
 }
 
-// Fills `out` as `fill_page` does, byte by byte as the marks say. `newest_parts` are those of the newest leaf.
+// Fills `out` with bytes of the page from its byte `begin` on, as that version has them, byte by byte as the marks say: from the
+// version's leaf of the page, whose parts are at hand, and along the backs for the bytes that it lacks. False where all doors of
+// one stored page failed.
 fn fill_along<D: Door, L: Ledger>(
     source: &ReadSource,
     doors: &mut Doors<D>,
     steps: &mut Steps<L>,
-    newest: u64,
+    version: u64,
     page: u64,
-    newest_parts: LeafParts,
+    version_parts: LeafParts,
     begin: usize,
     marks: &mut [bool],
     out: &mut [u8],
 ) -> bool
     requires here { IsVersionIn source.now.nodes.now source.now.houses.now source.now.snapshot.now }
     requires doors { length doors.old ≡ length source.now.houses.now }
-    requires newest { newest ≡ newest_in source.now.snapshot.now (page_range source.now.snapshot.now.page_size page) }
-    requires has { HasNodeFor source.now.snapshot.now newest (page_range source.now.snapshot.now.page_size page) }
-    requires leaf { IsLeafOf source.now.snapshot.now newest page newest_parts }
+    requires led { IsLedTo source.now.snapshot.now page version }
+    requires has { HasNodeFor source.now.snapshot.now version (page_range source.now.snapshot.now.page_size page) }
+    requires leaf { IsLeafOf source.now.snapshot.now version page version_parts }
+    requires fits { page * source.now.snapshot.now.page_size ≤ 2 ^ 40 }
     requires within { begin + length out.old ≤ source.now.snapshot.now.page_size }
-    requires valid { page * source.now.snapshot.now.page_size + begin + length out.old ≤ size_now source.now.snapshot.now }
+    requires valid { begin + length out.old ≤ length (page_in source.now.snapshot.now version page) }
     requires some { 1 ≤ length out.old }
     requires marked { length marks.old ≡ length out.old }
-    ensures bytes { let s = source.now.snapshot.now in
-        All D.is_true doors.old → IsTrue result → out.new ≡ bytes_at s (page * s.page_size + begin) (length out.old) }
-    ensures steps { let s = source.now.snapshot.now in
-        steps.new ≤ steps.old + backs_of s.page_size (falls s) (length s.rows) page }
+    ensures bytes { All D.is_true doors.old → IsTrue result
+        → out.new ≡ slice_range (page_in source.now.snapshot.now version page) begin (begin + length out.old) }
+    ensures steps { let s = source.now.snapshot.now in steps.new ≤ steps.old + backs_of s.page_size (falls s) version page }
     ensures failed { IsFalse result → PageFailed source.now.snapshot.now (map D.faults doors.old) (map D.faults doors.new) page }
     ensures counted { IsFalse result → HasRisen (sum_by D.faults doors.old) (sum_by D.faults doors.new) }
     ensures kept { CountsKept (map D.faults doors.old) (map D.faults doors.new) (sum_by D.faults doors.old) (sum_by D.faults doors.new) }
@@ -145,8 +148,8 @@ fn fill_along<D: Door, L: Ledger>(
     source.snapshot.stands();
     mark_all(marks, true);
     let mut first = 0;
-    let mut at = newest;
-    let mut parts = newest_parts;
+    let mut at = version;
+    let mut parts = version_parts;
     loop {
         let Some(next) = fill_wanted(source, doors, at, page, parts, begin, first, marks, out)
         else {
@@ -161,9 +164,73 @@ fn fill_along<D: Door, L: Ledger>(
     }
 }
 
+// Does what `fill_along` does, without marks as long as what is still wanted lies side by side: each leaf has an end of it, or
+// nothing of it. Where a leaf has bytes between its ends, the rest is filled as the marks say.
+fn fill_ends<D: Door, L: Ledger>(
+    source: &ReadSource,
+    doors: &mut Doors<D>,
+    steps: &mut Steps<L>,
+    version: u64,
+    page: u64,
+    version_parts: LeafParts,
+    begin: usize,
+    marks: &mut [bool],
+    out: &mut [u8],
+) -> bool
+    requires here { IsVersionIn source.now.nodes.now source.now.houses.now source.now.snapshot.now }
+    requires doors { length doors.old ≡ length source.now.houses.now }
+    requires led { IsLedTo source.now.snapshot.now page version }
+    requires has { HasNodeFor source.now.snapshot.now version (page_range source.now.snapshot.now.page_size page) }
+    requires leaf { IsLeafOf source.now.snapshot.now version page version_parts }
+    requires fits { page * source.now.snapshot.now.page_size ≤ 2 ^ 40 }
+    requires within { begin + length out.old ≤ source.now.snapshot.now.page_size }
+    requires valid { begin + length out.old ≤ length (page_in source.now.snapshot.now version page) }
+    requires some { 1 ≤ length out.old }
+    requires marked { length marks.old ≡ length out.old }
+    ensures bytes { All D.is_true doors.old → IsTrue result
+        → out.new ≡ slice_range (page_in source.now.snapshot.now version page) begin (begin + length out.old) }
+    ensures steps { let s = source.now.snapshot.now in steps.new ≤ steps.old + backs_of s.page_size (falls s) version page }
+    ensures failed { IsFalse result → PageFailed source.now.snapshot.now (map D.faults doors.old) (map D.faults doors.new) page }
+    ensures counted { IsFalse result → HasRisen (sum_by D.faults doors.old) (sum_by D.faults doors.new) }
+    ensures kept { CountsKept (map D.faults doors.old) (map D.faults doors.new) (sum_by D.faults doors.old) (sum_by D.faults doors.new) }
+    ensures count { length doors.new ≡ length doors.old }
+    ensures truth_stays { All D.is_true doors.old → All D.is_true doors.new }
+{
+    range_log::laws::leaves_fill();
+    range_log::laws::folds_are();
+    range_log::laws::page_bytes_stay();
+    range_log::laws::links_name_nodes();
+    range_log::laws::no_holes();
+    range_log::laws::newest_is_greatest();
+    range_log::laws::backs_step();
+    source.snapshot.stands();
+    let mut gap = Gap {
+        low: begin,
+        high: begin + out.len(),
+    };
+    let mut at = version;
+    let mut parts = version_parts;
+    loop {
+        if gap.is_split_by(&parts) {
+            let wanted = &mut marks[gap.low - begin..gap.high - begin];
+            let rest = &mut out[gap.low - begin..gap.high - begin];
+            return fill_along(source, doors, steps, at, page, parts, gap.low, wanted, rest);
+        }
+        let Some(left) = fill_end(source, doors, at, page, parts, gap, begin, out) else {
+            return false;
+        };
+        if left.low == left.high {
+            return true;
+        }
+        gap = left;
+        at = parts.back;
+        parts = leaf(source.snapshot, source.nodes, at, page, steps);
+    }
+}
+
 // Fills `out` with bytes of the page from its byte `begin` on: from the newest leaf of the page, and along the backs for
-// the bytes that it lacks. A byte that a newer leaf has is never written again, and where the newest leaf has them all, no
-// mark is looked at. False where all doors of one stored page failed. `newest` is the version of the newest leaf.
+// the bytes that it lacks. A byte that a newer leaf has is never written again, and marks are made only where a leaf has bytes
+// between others that are still wanted. False where all doors of one stored page failed. `newest` is the version of the newest leaf.
 pub(crate) fn fill_page<D: Door, L: Ledger>(
     source: &ReadSource,
     doors: &mut Doors<D>,
@@ -195,10 +262,12 @@ pub(crate) fn fill_page<D: Door, L: Ledger>(
     range_log::laws::leaves_fill();
     range_log::laws::folds_are();
     range_log::laws::page_bytes_stay();
+    range_log::laws::newest_is_greatest();
+    range_log::laws::backs_step();
     source.snapshot.stands();
     let parts = leaf(source.snapshot, source.nodes, newest, page, steps);
     if parts.has_all(begin, out.len()) {
         return take_leaf(source, doors, newest, page, parts, begin, out);
     }
-    fill_along(source, doors, steps, newest, page, parts, begin, marks, out)
+    fill_ends(source, doors, steps, newest, page, parts, begin, marks, out)
 }

@@ -33,14 +33,20 @@ pub(crate) struct LeafParts {
 }
 
 impl LeafParts {
+    // The byte of the page at which the leaf's own bytes end.
+    #[inline(always)]
+    pub(crate) fn end(&self) -> usize
+        ensures { result ≡ self.now.start + (self.now.first.len + self.now.second.len) }
+    {
+        self.start as usize + self.first.len as usize + self.second.len as usize
+    }
+
     // Whether `count` bytes of the page from its byte `begin` on are all the leaf's own.
     pub(crate) fn has_all(&self, begin: usize, count: usize) -> bool
         requires { begin + count < 2 ^ 64 }
         ensures { IsTrue result ↔ (self.now.start ≤ begin) × (begin + count ≤ self.now.start + self.now.first.len + self.now.second.len) }
     {
-        let start = self.start as usize;
-        let end = start + self.first.len as usize + self.second.len as usize;
-        start <= begin && begin + count <= end
+        self.start as usize <= begin && begin + count <= self.end()
     }
 
     // Whether any of `count` bytes of the page from its byte `begin` on is the leaf's own.
@@ -49,9 +55,7 @@ impl LeafParts {
         requires { begin + count < 2 ^ 64 }
         ensures { IsTrue result ↔ (begin < self.now.start + (self.now.first.len + self.now.second.len)) × (self.now.start < begin + count) }
     {
-        let start = self.start as usize;
-        let end = start + self.first.len as usize + self.second.len as usize;
-        begin < end && start < begin + count
+        begin < self.end() && (self.start as usize) < begin + count
     }
 
     // The piece that has this byte of the page, which is one of the leaf's own.

@@ -1,42 +1,36 @@
-use Rattle.std.proofs.Common.{◌≡◌, ℕ, ◌+◌, ◌-◌, ◌*◌, ◌<◌, ◌≤◌, length, take, drop, map, arith, refl, ap, sym, ◌∙◌, subst, get_or, true, false}
+use Rattle.std.proofs.Common.{◌≡◌, ℕ, ◌<◌, ◌≤◌, length, map, arith, refl, ap, sym, ◌∙◌, subst, get_or, true, false}
 use Rattle.tree_geom.specs.Geometry.{page_range}
-use Rattle.range_log.specs.Updates.{page_bytes}
 use Rattle.range_log.specs.Rows.{back_of}
 use Rattle.range_log.specs.Visits.{backs_of}
 use Rattle.snapshot.specs.Versions.{updates_of, HasNodeFor}
 use Rattle.tree_geom.proofs.Spans.{page_pos}
-use Rattle.range_reader.specs.Faults.{IsLedTo, Newest, Back}
-use Rattle.range_reader.specs.Reading.{falls, content_of, page_in, own_start, own_len}
+use Rattle.range_reader.specs.Faults.{IsLedTo, Back}
+use Rattle.range_reader.specs.Reading.{falls, page_in, own_start, own_len}
 use Rattle.range_reader.proofs.Counting.{kept_yet, kept_twice, stored_since, risen_since}
-use Rattle.range_reader.proofs.Standing.{AreIn, there_after, in_after, still_wanted, all_there}
+use Rattle.range_reader.proofs.Standing.{AreIn, there_after, in_after, still_wanted}
 use Rattle.range_reader.proofs.Leaves.{leaf_of_version, IsOpen}
-use Rattle.range_reader.proofs.Along.{backs_at, same_backs}
-use Rattle.range_reader.proofs.Going.{no_longer, in_newest, back_less}
+use Rattle.range_reader.proofs.Along.{backs_at}
+use Rattle.range_reader.proofs.Going.{no_longer, back_less}
+use Rattle.range_reader.proofs.Taking.{read_all}
 use Rattle.range_reader.proofs.page.fill_along.Given.{Over}
 use Rattle.range_reader.proofs.page.fill_along.Goals.{Else-next-out}
 use Rattle.range_reader.proofs.page.fill_along.Goals as goal
 
 pub loop-next-init : goal.loop-next-init
-loop-next-init g c =
-    let s = c.args.source.now.snapshot.now in
-    let p = s.page_size in
-    let i = c.args.page in
-    let is = c.stands.ensures in
-    let P : ℕ → Type 0 = λ j. IsLedTo s i j in
-    record {
-      within = omega (arith, c.requires.some);
-      wanted = c.mark_all.ensures 0 (omega (arith, c.requires.some, c.requires.marked));
-      before = λ x lt. absurd (omega arith);
-      has = c.requires.has;
-      led = subst P (sym c.requires.newest) Newest;
-      leaf = c.requires.leaf;
-      ahead = omega (arith, same_backs c.newest_is_greatest.ensures.greatest c.backs_step.ensures p (length s.rows) c.args.newest i (falls s) c.requires.has c.requires.newest);
-      there = λ _. record { there = λ x lt no. absurd (let yes' : get_or c.mark_all.new.marks x false ≡ true = c.mark_all.ensures x (omega (arith, lt, c.requires.marked)) in cc) };
-      from = in_newest c.page_bytes_stay.ensures.bytes s is i c.args.newest c.args.begin (length c.args.out.now) c.mark_all.new.marks c.requires.newest c.requires.within c.requires.valid;
-      kept = kept_yet _ _;
-      count = refl;
-      truth = λ all. all;
-    }
+loop-next-init g c = record {
+  within = omega (arith, c.requires.some);
+  wanted = c.mark_all.ensures 0 (omega (arith, c.requires.some, c.requires.marked));
+  before = λ x lt. absurd (omega arith);
+  has = c.requires.has;
+  led = c.requires.led;
+  leaf = c.requires.leaf;
+  ahead = omega arith;
+  there = λ _. record { there = λ x lt no. absurd (let yes' : get_or c.mark_all.new.marks x false ≡ true = c.mark_all.ensures x (omega (arith, lt, c.requires.marked)) in cc) };
+  from = record { same = λ x lt yes'. refl; valid = λ x lt yes'. omega (arith, lt, c.requires.valid) };
+  kept = kept_yet _ _;
+  count = refl;
+  truth = λ all. all;
+}
 
 pub returns-in_default-clause-failed : goal.returns-in_default-clause-failed
 returns-in_default-clause-failed g c = λ _.
@@ -63,7 +57,6 @@ returns-in_default-clause-truth_stays g c = λ all. c.fill_wanted.ensures.truth_
 pub returns-then-next-out-clause-bytes : goal.returns-then-next-out-clause-bytes
 returns-then-next-out-clause-bytes g c = λ all _.
     let s = c.args.source.now.snapshot.now in
-    let p = s.page_size in
     let i = c.args.page in
     let at = c.loop-next.at in
     let begin = c.args.begin in
@@ -71,6 +64,7 @@ returns-then-next-out-clause-bytes g c = λ all _.
     let inv = c.loop-next.invariant in
     let fill = c.leaves_fill.ensures in
     let leaf = leaf_of_version fill.fill fill.fit fill.pieces c.folds_are.ensures.folds c.page_bytes_stay.ensures.bytes c.page_bytes_stay.ensures.extents s is at i inv.has in
+    let page = page_in s c.args.version i in
     let old = c.loop-next.marks in
     let new = c.fill_wanted.new.marks in
     let out = c.loop-next.out in
@@ -78,14 +72,13 @@ returns-then-next-out-clause-bytes g c = λ all _.
     let count : length out' ≡ length out = c.fill_wanted.auto.out in
     let marked : length old ≡ length out = omega (arith, c.loop-next.auto.marks, c.loop-next.auto.out, c.requires.marked, c.mark_all.auto.marks) in
     let taken = c.in-Some.ensures.taken refl in
-    let there = there_after (own_start s at i) (own_len s at i) (page_in s at i) (page_in s (back_of p (falls s) at i) i) (IsOpen s at i) leaf.tells.rest begin
-    (page_bytes p (updates_of s) (length s.rows) i) old new out out' count marked (inv.there all) inv.from (c.in-Some.ensures.overlaid (inv.truth all) refl) taken in
-    let len : length out' ≡ length c.args.out.now = count ∙ c.loop-next.auto.out in
-    let o = i * p + begin in
-    all_there p i (content_of s) begin out' new (omega (arith, len, c.requires.within)) (omega (arith, len, c.requires.valid)) there
-    (λ x lt. no_longer (own_start s at i) (own_len s at i) begin x c.loop-next.first c.in-Some.next old new taken (omega (arith, lt, count, marked))
-    inv.before c.in-Some.ensures.next.none (omega (arith, lt, c.if-next-out.true)))
-    ∙ ap (λ n. take (o + n - o) (drop o (content_of s))) len
+    let there = there_after (own_start s at i) (own_len s at i) (page_in s at i) (page_in s (back_of s.page_size (falls s) at i) i) (IsOpen s at i) leaf.tells.rest begin
+    page old new out out' count marked (inv.there all) inv.from (c.in-Some.ensures.overlaid (inv.truth all) refl) taken in
+    read_all page begin (length c.args.out.now) out' (count ∙ c.loop-next.auto.out) c.requires.valid
+    (λ x lt.
+    there.there x lt
+    (no_longer (own_start s at i) (own_len s at i) begin x c.loop-next.first c.in-Some.next old new taken (omega (arith, lt, count, marked))
+    inv.before c.in-Some.ensures.next.none (omega (arith, lt, c.if-next-out.true))))
 
 pub returns-then-next-out-clause-kept : goal.returns-then-next-out-clause-kept
 returns-then-next-out-clause-kept g c = kept_twice _ _ _ _ _ _ c.loop-next.invariant.kept c.fill_wanted.ensures.kept
@@ -115,7 +108,7 @@ has_back g c =
     let lt : c.in-Some.next < length out = omega (arith, next.upto, c.if-next-out.false, count, marked, marks_count) in
     let opened : IsOpen s at i =
     still_wanted (own_start s at i) (own_len s at i) (page_in s at i) (page_in s (back_of p (falls s) at i) i) (IsOpen s at i) leaf.tells.rest c.args.begin
-    (page_bytes p us (length s.rows) i) old new (length out) c.in-Some.next (omega (arith, marked)) inv.from
+    (page_in s c.args.version i) old new (length out) c.in-Some.next (omega (arith, marked)) inv.from
     (c.in-Some.ensures.taken refl) lt (next.wanted (omega (arith, lt, marked, marks_count))) in
     ((c.no_holes.ensures.backs p at i (falls s) (page_pos p is.page_size) (c.page_bytes_stay.ensures.extents us is.replayable).0 inv.has opened.0).1 opened.1).0
 
@@ -132,11 +125,6 @@ back_has g c =
 
 pub leaf-parts-requires-clause-has : goal.leaf-parts-requires-clause-has
 leaf-parts-requires-clause-has g c = back_has g (goal.at.leaf-parts-requires-clause-has g c).Else-next-out
-
-pub leaf-parts-requires-clause-fits : goal.leaf-parts-requires-clause-fits
-leaf-parts-requires-clause-fits g c =
-    let fits = c.stands.ensures.fits (length c.args.source.now.snapshot.now.rows) (omega arith) in
-    omega (arith, c.requires.valid, fits)
 
 pub loop-next-smaller : goal.loop-next-smaller
 loop-next-smaller g c =
@@ -164,7 +152,7 @@ loop-next-preserved g c =
     let has = inv.has in
     let fill = c.leaves_fill.ensures in
     let leaf = leaf_of_version fill.fill fill.fit fill.pieces c.folds_are.ensures.folds c.page_bytes_stay.ensures.bytes c.page_bytes_stay.ensures.extents s is at i has in
-    let page = page_bytes p us (length s.rows) i in
+    let page = page_in s c.args.version i in
     let old = c.loop-next.marks in
     let new = c.fill_wanted.new.marks in
     let out = c.loop-next.out in
@@ -181,8 +169,8 @@ loop-next-preserved g c =
     let some = has_back g rest in
     let backs = backs_at c.newest_is_greatest.ensures.greatest c.backs_step.ensures p at i xs has in
     let L : ℕ → Type 0 = λ j. IsLedTo s i j in
-    let A : ℕ → Type 0 = λ j. AreIn page (page_bytes p us j i) begin (length out') new in
-    let C : ℕ → Type 0 = λ n. AreIn page (page_bytes p us (back_of p xs at i) i) begin n new in
+    let A : ℕ → Type 0 = λ j. AreIn page (page_in s j i) begin (length out') new in
+    let C : ℕ → Type 0 = λ n. AreIn page (page_in s (back_of p xs at i) i) begin n new in
     let older = page_in s (back_of p xs at i) i in
     record {
       within = lt;

@@ -1,11 +1,10 @@
 use Rattle.std.proofs.Common.{◌≡◌, ℕ, ◌+◌, ◌<◌, ◌≤◌, length, map, get_or, false, true}
 use Rattle.std.specs.Prelude.{All, sum_by}
 use Rattle.tree_geom.specs.Geometry.{page_range}
-use Rattle.range_log.specs.Updates.{page_bytes}
 use Rattle.range_log.specs.Visits.{backs_of}
-use Rattle.snapshot.specs.Versions.{updates_of, HasNodeFor}
+use Rattle.snapshot.specs.Versions.{HasNodeFor}
 use Rattle.range_reader.specs.Faults.{CountsKept, IsLedTo}
-use Rattle.range_reader.specs.Reading.{falls, IsLeafOf}
+use Rattle.range_reader.specs.Reading.{falls, page_in, IsLeafOf}
 use Rattle.range_reader.proofs.Standing.{AreThere, AreIn}
 use Rattle.range_reader.proofs.page.fill_along.Given as goal
 
@@ -14,9 +13,8 @@ abbrev pub invariant-loop-next : goal.invariant-loop-next
 invariant-loop-next g l =
     let faults = g.D.Door.faults in
     let s = l.source.snapshot.now in
-    let us = updates_of s in
     let p = s.page_size in
-    let v = length s.rows in
+    let page = page_in s l.version l.page in
     record {
       within : l.first < length l.out;
       wanted : get_or l.marks l.first false ≡ true;
@@ -24,9 +22,9 @@ invariant-loop-next g l =
       has : HasNodeFor s l.at (page_range p l.page);
       led : IsLedTo s l.page l.at;
       leaf : IsLeafOf s l.at l.page l.parts;
-      ahead : l.steps + backs_of p (falls s) l.at l.page ≤ l.fn.steps + backs_of p (falls s) v l.page;
-      there : All g.D.Door.is_true l.fn.doors → AreThere (page_bytes p us v l.page) l.begin l.out l.marks;
-      from : AreIn (page_bytes p us v l.page) (page_bytes p us l.at l.page) l.begin (length l.out) l.marks;
+      ahead : l.steps + backs_of p (falls s) l.at l.page ≤ l.fn.steps + backs_of p (falls s) l.version l.page;
+      there : All g.D.Door.is_true l.fn.doors → AreThere page l.begin l.out l.marks;
+      from : AreIn page (page_in s l.at l.page) l.begin (length l.out) l.marks;
       kept : CountsKept (map faults l.fn.doors) (map faults l.doors) (sum_by faults l.fn.doors) (sum_by faults l.doors);
       count : length l.doors ≡ length l.fn.doors;
       truth : All g.D.Door.is_true l.fn.doors → All g.D.Door.is_true l.doors;

@@ -1,0 +1,34 @@
+use Rattle.std.proofs.Common.{◌≡◌, ◌+◌, ◌<◌, ◌≤◌, length, map}
+use Rattle.std.specs.Prelude.{All, sum_by}
+use Rattle.tree_geom.specs.Geometry.{page_range}
+use Rattle.range_log.specs.Visits.{backs_of}
+use Rattle.snapshot.specs.Versions.{HasNodeFor}
+use Rattle.range_reader.specs.Faults.{CountsKept, IsLedTo}
+use Rattle.range_reader.specs.Reading.{falls, page_in, IsLeafOf}
+use Rattle.range_reader.proofs.Narrowing.{AllBut, AreAlike}
+use Rattle.range_reader.proofs.page.fill_ends.Given as goal
+
+-- all bytes but those of the gap are there, and these are in the page at the leaf of version `at`
+abbrev pub invariant-loop-marks : goal.invariant-loop-marks
+invariant-loop-marks g l =
+    let faults = g.D.Door.faults in
+    let s = l.source.snapshot.now in
+    let p = s.page_size in
+    let page = page_in s l.version l.page in
+    record {
+      low : l.begin ≤ l.gap.low;
+      some : l.gap.low < l.gap.high;
+      high : l.gap.high ≤ l.begin + length l.out;
+      has : HasNodeFor s l.at (page_range p l.page);
+      led : IsLedTo s l.page l.at;
+      leaf : IsLeafOf s l.at l.page l.parts;
+      ahead : l.steps + backs_of p (falls s) l.at l.page ≤ l.fn.steps + backs_of p (falls s) l.version l.page;
+      there : All g.D.Door.is_true l.fn.doors → AllBut page l.begin l.gap.low l.gap.high l.out;
+      alike : AreAlike page (page_in s l.at l.page) l.gap.low l.gap.high;
+      kept : CountsKept (map faults l.fn.doors) (map faults l.doors) (sum_by faults l.fn.doors) (sum_by faults l.doors);
+      count : length l.doors ≡ length l.fn.doors;
+      truth : All g.D.Door.is_true l.fn.doors → All g.D.Door.is_true l.doors;
+    }
+
+abbrev pub decreases-loop-marks : goal.decreases-loop-marks
+decreases-loop-marks g l = l.at

@@ -1,0 +1,93 @@
+// The bytes of a page that a buffer for them lacks yet, where they lie side by side, and how a leaf fills them from an end.
+ghost use Rattle.std.specs.Prelude.{◌≡◌, ◌↔◌, ℕ, ◌+◌, ◌<◌, ◌≤◌, length, map, sum_by, All, IsTrue, IsNone, IfSome};
+ghost use Rattle.tree_geom.specs.Geometry.{page_range};
+ghost use Rattle.page_store.specs.Count.{HasRisen};
+ghost use Rattle.snapshot.specs.Versions.{HasNodeFor, IsVersionIn};
+ghost use Rattle.range_reader.specs.Filling.{Narrowed};
+ghost use Rattle.range_reader.specs.Reading.{page_in, IsLeafOf};
+ghost use Rattle.range_reader.specs.Holders.{HasByte};
+ghost use Rattle.range_reader.specs.Faults.{CountsKept, PieceFailed};
+
+use crate::source::{LeafParts, ReadSource};
+use crate::whole::take_leaf;
+use page_fan::Doors;
+use page_store::Door;
+
+/// The bytes of a page from its byte `low` on, up to byte `high`.
+#[derive(Clone, Copy)]
+pub(crate) struct Gap {
+    pub low: usize,
+    pub high: usize,
+}
+
+impl Gap {
+    // Whether the leaf's own bytes lie between the ends of the gap, so that some of it is left on both sides of them.
+    #[inline(always)]
+    pub(crate) fn is_split_by(&self, leaf: &LeafParts) -> bool
+        ensures { IsTrue result ↔ (self.now.low < leaf.now.start) × (leaf.now.start + (leaf.now.first.len + leaf.now.second.len) < self.now.high) }
+    {
+        self.low < leaf.start as usize && leaf.end() < self.high
+    }
+}
+
+// Fetches the bytes of a leaf of the page, that of update `j`, that lie in the gap, and tells what is left of the gap. The leaf
+// has an end of the gap, or nothing of it. The buffer begins at byte `begin` of the page. None where all doors of one stored
+// page failed.
+#[inline(always)]
+pub(crate) fn fill_end<D: Door>(
+    source: &ReadSource,
+    doors: &mut Doors<D>,
+    j: u64,
+    page: u64,
+    leaf: LeafParts,
+    gap: Gap,
+    begin: usize,
+    out: &mut [u8],
+) -> Option<Gap>
+    requires here { IsVersionIn source.now.nodes.now source.now.houses.now source.now.snapshot.now }
+    requires doors { length doors.old ≡ length source.now.houses.now }
+    requires has { HasNodeFor source.now.snapshot.now j (page_range source.now.snapshot.now.page_size page) }
+    requires leaf { IsLeafOf source.now.snapshot.now j page leaf }
+    requires within { begin + length out.old ≤ source.now.snapshot.now.page_size }
+    requires low { begin ≤ gap.low }
+    requires some { gap.low < gap.high }
+    requires high { gap.high ≤ begin + length out.old }
+    requires end { ¬ ((gap.low < leaf.start) × (leaf.start + (leaf.first.len + leaf.second.len) < gap.high)) }
+    ensures left { IfSome result (λ left. (gap.low ≤ left.low) × (left.low ≤ left.high) × (left.high ≤ gap.high)) }
+    ensures lacks { IfSome result (λ left. (b : ℕ) → left.low ≤ b → b < left.high → ¬ HasByte source.now.snapshot.now j page b) }
+    ensures narrowed { All D.is_true doors.old
+        → IfSome result (λ left. Narrowed (page_in source.now.snapshot.now j page) begin gap.low gap.high left.low left.high out.old out.new) }
+    ensures failed { IsNone result → PieceFailed source.now.snapshot.now (map D.faults doors.old) (map D.faults doors.new) page j }
+    ensures counted { IsNone result → HasRisen (sum_by D.faults doors.old) (sum_by D.faults doors.new) }
+    ensures kept { CountsKept (map D.faults doors.old) (map D.faults doors.new) (sum_by D.faults doors.old) (sum_by D.faults doors.new) }
+    ensures count { length doors.new ≡ length doors.old }
+    ensures truth_stays { All D.is_true doors.old → All D.is_true doors.new }
+{
+    source.snapshot.page_size().stands();
+    if !leaf.meets(gap.low, gap.high - gap.low) {
+        return Some(gap);
+    }
+    let from = gap.low.max(leaf.start as usize);
+    let to = gap.high.min(leaf.end());
+    if !take_leaf(
+        source,
+        doors,
+        j,
+        page,
+        leaf,
+        from,
+        &mut out[from - begin..to - begin],
+    ) {
+        return None;
+    }
+    if from == gap.low {
+        return Some(Gap {
+            low: to,
+            high: gap.high,
+        });
+    }
+    Some(Gap {
+        low: gap.low,
+        high: from,
+    })
+}
