@@ -3,7 +3,7 @@ use Rattle.std.proofs.Common.{◌≡◌, ◌⊎◌, ℕ, zero, suc, ◌+◌, ◌
 use Rattle.std.specs.Prelude.{slice_index}
 use Rattle.std.proofs.lemmas.Bool.{cases_lt}
 use Rattle.std.proofs.lemmas.Nat.{mul-le, pow_pos, div-mul-add}
-use Rattle.std.proofs.Math.Nat.{mul-div_cancel}
+use Rattle.std.proofs.Math.Nat.{mul-div_cancel, pow-le-pow_right}
 use Rattle.tree_geom.specs.declared.range.Range.{Range}
 use Rattle.tree_geom.specs.declared.touch.Touch.{Touch}
 use Rattle.tree_geom.specs.Geometry.{tree_range, page_range, left_half, right_half, height_of, span_of, Meets}
@@ -94,6 +94,23 @@ height_is heights p h pos =
     elim (cases_lt k h) [
       | inl lt ↦ absurd (let up : p * 2 ^ (k + 1) ≤ p * 2 ^ h = taller p (k + 1) h (omega arith) in let reach : p * 2 ^ h ≤ p * 2 ^ k = is.reaches in omega (arith, double p k, size_pos p k pos))
       | inr ge ↦ omega arith
+    ]
+
+-- each height below a root's has a place among those of an edge
+pub height_few : HeightsHold → SpanOfSome → (p n h : ℕ) → 4 ≤ p → span_of p n ≤ 2 ^ 40 → h < height_of p n → h < 39
+height_few heights span p n h wide fits low =
+    elim (cases_lt 0 n) [
+      | inr none ↦ absurd (let e : height_of p n ≤ 0 = (heights p n (omega arith)).least 0 (omega arith) in omega arith)
+      | inl some ↦ elim (cases_lt h 39) [
+        | inl done ↦ done
+        | inr ge ↦ absurd (
+            let two : 0 < 2 = omega arith in
+            let root : span_of p n ≡ p * 2 ^ height_of p n = span p n some in
+            let le : 39 ≤ height_of p n = omega arith in
+            let tall : 2 ^ 39 ≤ 2 ^ height_of p n = pow-le-pow_right two le in
+            let e : 4 * 2 ^ 39 ≤ p * 2 ^ height_of p n = mul-le 4 (2 ^ 39) p (2 ^ height_of p n) wide tall in
+            omega arith)
+      ]
     ]
 
 -- the range is one of the ranges beside an edge

@@ -1,9 +1,10 @@
 // The borders of an update's row, and their newest lower versions.
-ghost use Rattle.std.specs.Prelude.{◌≡◌, ◌⊎◌, ℕ, ◌+◌, ◌/◌, ◌<◌, ◌↔◌, List, IsTrue};
+ghost use Rattle.std.specs.Prelude.{◌≡◌, ◌⊎◌, ℕ, ◌+◌, ◌/◌, ◌^◌, ◌<◌, ◌↔◌, List, IsTrue};
 ghost use Rattle.tree_geom.specs.declared.touch.Touch.{Touch};
+ghost use Rattle.tree_geom.specs.Geometry.{tree_range, page_range, height_of};
 ghost use Rattle.range_log.specs.Log.{newest_of, touch_at};
 ghost use Rattle.range_log.specs.Depths.{depth_of};
-ghost use Rattle.border_hints.specs.Borders.{AreBorders, IsBorder};
+ghost use Rattle.border_hints.specs.Borders.{AreBorders, IsBorder, beside};
 
 use range_log::deeper;
 use std::marker::Model;
@@ -81,6 +82,43 @@ impl Borders {
             self.first.besides[level]
         } else {
             self.last.besides[level]
+        }
+    }
+
+    /// The newest lower version that touches the range beside the first page's way down the tree, at a height below the root's, or 0.
+    /// Where that range comes before the one on the way, it lies before all pages that the update touches.
+    pub fn below(&self, level: u32) -> u64
+        requires { level < height_of self.now.page_size self.now.touch.size }
+        ensures { (log : List Touch) (k : ℕ) → AreBorders log k self.now
+            → result ≡ newest_of self.now.page_size log k (tree_range self.now.page_size level (beside (self.now.touch.first / 2 ^ level))) }
+    {
+        tree_geom::laws::spans_hold();
+        self.page_size.stands();
+        self.first.besides[level as usize]
+    }
+
+    /// The same beside the last page's way down. Where that range comes behind the one on the way, it lies behind all pages that
+    /// the update touches.
+    pub fn above(&self, level: u32) -> u64
+        requires { level < height_of self.now.page_size self.now.touch.size }
+        ensures { (log : List Touch) (k : ℕ) → AreBorders log k self.now
+            → result ≡ newest_of self.now.page_size log k (tree_range self.now.page_size level (beside (self.now.touch.last / 2 ^ level))) }
+    {
+        tree_geom::laws::spans_hold();
+        self.page_size.stands();
+        self.last.besides[level as usize]
+    }
+
+    /// The newest lower version with a leaf of the update's first or its last page, or 0.
+    pub fn leaf(&self, page: u64) -> u64
+        requires edge { (page ≡ self.now.touch.first) ⊎ (page ≡ self.now.touch.last) }
+        ensures { (log : List Touch) (k : ℕ) → AreBorders log k self.now
+            → result ≡ newest_of self.now.page_size log k (page_range self.now.page_size page) }
+    {
+        if page == self.touch.first {
+            self.first.leaf
+        } else {
+            self.last.leaf
         }
     }
 

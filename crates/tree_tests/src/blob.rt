@@ -18,7 +18,6 @@ use publisher::{FinishFault, Window};
 use range_log::{OpenCopy, OpenList, OpenTouch};
 use range_reader::{ReadFault, holder, stated};
 use snapshot::Snapshot;
-use std::alloc::Global;
 use std::marker::{Brand, Model};
 use std::process::Abort;
 use std::sync::ledger::{Blank, Ledger};
@@ -248,21 +247,20 @@ impl Blob {
     }
 
     /// The plan of a ticket's update, and the node steps that it took.
-    pub fn plan<R: Abort + AllocGlobal>(&self, rt: &R, ticket: &Ticket) -> (PlannedRow, u64)
+    pub fn plan<'a, R: Abort>(&self, rt: &R, ticket: &'a Ticket) -> (PlannedRow<'a>, u64)
         requires { IsTicketOf self.now ticket.now }
         ensures { IsPlanOf self.now ticket.now result.0 }
     {
-        self.plan_counted::<Brand>(rt.alloc(), ticket, Blank::new(1))
+        self.plan_counted::<Brand>(ticket, Blank::new(1))
             .expect(rt, "memory")
     }
 
     // The same, counted in the blank.
-    fn plan_counted<L: Ledger>(
+    fn plan_counted<'a, L: Ledger>(
         &self,
-        alloc: Global,
-        ticket: &Ticket,
+        ticket: &'a Ticket,
         blank: Blank,
-    ) -> Result<(PlannedRow, u64), NoMemory>
+    ) -> Result<(PlannedRow<'a>, u64), NoMemory>
         requires own { IsTicketOf self.now ticket.now }
         requires name { blank.name ≡ L.name }
         requires parts { blank.parts ≡ L.parts }
@@ -270,7 +268,7 @@ impl Blob {
         ensures { IfOk result (λ r. IsPlanOf self.now ticket.now r.0) }
     {
         let mut steps = Steps::<L>::open(blank);
-        let planned = plan(alloc, ticket, &self.nodes, &mut steps)?;
+        let planned = plan(ticket, &self.nodes, &mut steps)?;
         Ok((planned, steps.taken()))
     }
 

@@ -71,7 +71,8 @@ fn planned<R: Abort + AllocGlobal>(
 ) -> (bool, u64) {
     let ticket = blob.ticket(rt, version, published);
     let (planned, steps) = blob.plan(rt, &ticket);
-    (planned.nodes() == want, steps)
+    let nodes = planned.nodes(rt.alloc()).expect(rt, "memory");
+    (nodes.as_slice() == want, steps)
 }
 
 // Checks that the plan of the version has just these nodes, with that version published.

@@ -23,7 +23,8 @@ fn is_plain<R: Abort + AllocGlobal>(rt: &R, blob: &Blob, version: u64, published
     let ticket = blob.ticket(rt, version, published);
     let (planned, _) = blob.plan(rt, &ticket);
     let plain = blob.plain(rt, version);
-    planned.nodes() == plain.as_slice()
+    let nodes = planned.nodes(rt.alloc()).expect(rt, "memory");
+    nodes.as_slice() == plain.as_slice()
 }
 
 // The size of a version below the last.

@@ -12,7 +12,7 @@ use Rattle.snapshot.proofs.Growing.{cut_count}
 use Rattle.border_hints.specs.Numbered.{NumberedUpdate, IsValidTicket, own_touch}
 use Rattle.tree_geom.proofs.Spans.{page_pos}
 use Rattle.tree_weaver.specs.Planned.{own_depth, own_folded, own_place}
-use Rattle.tree_weaver.proofs.Shapes.{page_low, page_high, uncovered_edge}
+use Rattle.tree_weaver.proofs.Shapes.{page_low, page_high, uncovered_edge, not_not}
 
 -- a page that the update touches begins before the update ends, and ends after it begins
 pub page_touched : (t : NumberedUpdate) (page size : ℕ) → IsValidTicket t → size ≡ t.snapshot.page_size → (own_touch t).first ≤ page → page ≤ (own_touch t).last
@@ -24,9 +24,11 @@ page_touched t page size is same first last =
     let high : page * p ≤ t.at + t.len - 1 = page_high (t.at + t.len - 1) p page last in
     (begins, omega (arith, begins, high, is.some), omega (arith, begins, low, same))
 
-pub folded_is : (t : NumberedUpdate) (page : ℕ) (whole : Bool) (depth : ℕ) → whole ≡ covers t.snapshot.page_size t.at t.len t.size page → depth ≡ own_depth t page
-    → (not whole && depth == 0) ≡ own_folded t page
-folded_is t page whole depth e f = ap (λ b. not b && depth == 0) e ∙ ap (λ d. not (covers t.snapshot.page_size t.at t.len t.size page) && d == 0) f
+-- it stores a page anew where it leaves some of it open and its leaf lies 0 deep
+pub folded_is : (t : NumberedUpdate) (page : ℕ) (open' : Bool) (depth : ℕ) → covers t.snapshot.page_size t.at t.len t.size page ≡ not open' → depth ≡ own_depth t page
+    → (open' && depth == 0) ≡ own_folded t page
+folded_is t page open' depth part is =
+    ap (λ b. b && depth == 0) (sym (not_not open')) ∙ ap (λ b. not b && depth == 0) (sym part) ∙ ap (λ d. not (covers t.snapshot.page_size t.at t.len t.size page) && d == 0) is
 
 -- the update's own stored pages are as many as its bytes need
 pub pages_counted : (t : NumberedUpdate) (told : Cut) (count : ℕ) → IsValidTicket t → told ≡ t.pages → IsCut told.page_size told.pages → count ≡ length told.pages

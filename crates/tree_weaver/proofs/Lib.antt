@@ -1,10 +1,12 @@
 pub mod Plans
 pub mod Shapes
+pub mod Links
 pub mod FoldedPages
 pub mod Storing
 pub mod Anew
 pub mod Filled
 pub mod Lost
+pub mod PutRows
 pub mod Putting
 pub mod StoredParts
 pub mod WovenRows

@@ -172,12 +172,12 @@ own_levels t touch p height a b c =
 abbrev pub numbered_node : NumberedUpdate → ℕ → ℕ → Range × Node
 numbered_node t h q = (tree_range t.snapshot.page_size h q, own_node t (tree_range t.snapshot.page_size h q))
 
-level_numbers : (t : NumberedUpdate) (u : Touch) (h : ℕ) → own_nodes t (level_of t.snapshot.page_size u h) ≡ map (numbered_node t h) (range_with_len (u.first / 2 ^ h) (u.last / 2 ^ h + 1 - u.first / 2 ^ h))
+pub level_numbers : (t : NumberedUpdate) (u : Touch) (h : ℕ) → own_nodes t (level_of t.snapshot.page_size u h) ≡ map (numbered_node t h) (range_with_len (u.first / 2 ^ h) (u.last / 2 ^ h + 1 - u.first / 2 ^ h))
 unfolding level_of
 level_numbers t u h = map-map (λ r. (r, own_node t r)) (λ q. tree_range t.snapshot.page_size h q) (range_with_len (u.first / 2 ^ h) (u.last / 2 ^ h + 1 - u.first / 2 ^ h))
 
--- one more node of a level
-pub level_more : (f : ℕ → Range × Node) (all old now : List (Range × Node)) (a q : ℕ) (x : Range × Node) → a ≤ q → old ≡ all ++ map f (range_with_len a (q - a)) → now ≡ old ++ x ∷ [] → x ≡ f q
+-- one more of a level, whatever is told of each number
+pub level_more : {X : Type 0} (f : ℕ → X) (all old now : List X) (a q : ℕ) (x : X) → a ≤ q → old ≡ all ++ map f (range_with_len a (q - a)) → now ≡ old ++ x ∷ [] → x ≡ f q
     → now ≡ all ++ map f (range_with_len a (q + 1 - a))
 level_more f all old now a q x le so_far more is =
     let n : ℕ = q - a in
@@ -197,59 +197,65 @@ quotients_rise a b w pos le =
       | inr done ↦ done
     ]
 
--- where a level's loop ends
-pub level_done : (t : NumberedUpdate) (u : Touch) (h q : ℕ) (all now : List (Range × Node)) → u.first ≤ u.last → u.last / 2 ^ h + 1 ≤ q
-    → (u.first / 2 ^ h ≤ u.last / 2 ^ h + 1 → q ≤ u.last / 2 ^ h + 1) → now ≡ all ++ map (numbered_node t h) (range_with_len (u.first / 2 ^ h) (q - u.first / 2 ^ h))
-    → now ≡ all ++ own_nodes t (level_of t.snapshot.page_size u h)
-level_done t u h q all now ordered past before is =
-    let rises : u.first / 2 ^ h ≤ u.last / 2 ^ h = quotients_rise u.first u.last (2 ^ h) (pow_pos h) ordered in
-    let e : q - u.first / 2 ^ h ≡ u.last / 2 ^ h + 1 - u.first / 2 ^ h = omega (arith, before (omega arith)) in
-    is ∙ ap (λ n. all ++ map (numbered_node t h) (range_with_len (u.first / 2 ^ h) n)) e ∙ ap (λ l. all ++ l) (sym (level_numbers t u h))
-
-levels_none : (p : ℕ) (u : Touch) → levels_of p u 0 ≡ []
+pub levels_none : (p : ℕ) (u : Touch) → levels_of p u 0 ≡ []
 unfolding levels_of
 levels_none p u = refl
 
-levels_next : (p : ℕ) (u : Touch) (h : ℕ) → levels_of p u (suc h) ≡ level_of p u h ++ levels_of p u h
+pub levels_next : (p : ℕ) (u : Touch) (h : ℕ) → levels_of p u (suc h) ≡ level_of p u h ++ levels_of p u h
 unfolding levels_of
 levels_next p u h = refl
 
--- one more level, from the largest ranges down
-pub level_added : (t : NumberedUpdate) (level : ℕ) (all old now : List (Range × Node)) → 1 ≤ level → old ++ own_nodes t (levels_of t.snapshot.page_size (own_touch t) level) ≡ all
-    → now ≡ old ++ own_nodes t (level_of t.snapshot.page_size (own_touch t) (level - 1)) → now ++ own_nodes t (levels_of t.snapshot.page_size (own_touch t) (level - 1)) ≡ all
-level_added t level all old now some so_far more =
-    let p : ℕ = t.snapshot.page_size in
-    let u : Touch = own_touch t in
+-- one more level, from the largest ranges down, whatever is told of each range
+pub level_added_to : {X : Type 0} (F : List Range → List X) → ((a b : List Range) → F (a ++ b) ≡ F a ++ F b) → (p : ℕ) (u : Touch) (level : ℕ) (all old now : List X) → 1 ≤ level
+    → old ++ F (levels_of p u level) ≡ all → now ≡ old ++ F (level_of p u (level - 1)) → now ++ F (levels_of p u (level - 1)) ≡ all
+level_added_to F joins p u level all old now some so_far more =
     let h : ℕ = level - 1 in
     let e : suc h ≡ level = omega arith in
-    let g : Range → Range × Node = λ r. (r, own_node t r) in
-    ap (λ l. l ++ own_nodes t (levels_of p u h)) more
-    ∙ append_assoc old (own_nodes t (level_of p u h)) (own_nodes t (levels_of p u h))
-    ∙ ap (λ l. old ++ l) (sym (map-append g (level_of p u h) (levels_of p u h)) ∙ ap (map g) (sym (levels_next p u h) ∙ ap (levels_of p u) e))
+    ap (λ l. l ++ F (levels_of p u h)) more
+    ∙ append_assoc old (F (level_of p u h)) (F (levels_of p u h))
+    ∙ ap (λ l. old ++ l) (sym (joins (level_of p u h) (levels_of p u h)) ∙ ap F (sym (levels_next p u h) ∙ ap (levels_of p u) e))
     ∙ so_far
 
--- all of them are planned, the height being as the code computes it
-pub levels_done : (t : NumberedUpdate) (level top p n : ℕ) (now : List (Range × Node)) → level ≡ 0 → p ≡ t.snapshot.page_size → n ≡ t.size → top ≡ height_of p n
-    → now ++ own_nodes t (levels_of t.snapshot.page_size (own_touch t) level) ≡ own_nodes t (levels_of t.snapshot.page_size (own_touch t) (top + 1)) → now ≡ own_nodes t (own_ranges t)
-levels_done t level top p n now none size whole high is =
+pub own_joins : (t : NumberedUpdate) (a b : List Range) → own_nodes t (a ++ b) ≡ own_nodes t a ++ own_nodes t b
+own_joins t a b = map-append (λ r. (r, own_node t r)) a b
+
+pub level_added : (t : NumberedUpdate) (level : ℕ) (all old now : List (Range × Node)) → 1 ≤ level → old ++ own_nodes t (levels_of t.snapshot.page_size (own_touch t) level) ≡ all
+    → now ≡ old ++ own_nodes t (level_of t.snapshot.page_size (own_touch t) (level - 1)) → now ++ own_nodes t (levels_of t.snapshot.page_size (own_touch t) (level - 1)) ≡ all
+level_added t level all old now some so_far more = level_added_to (own_nodes t) (own_joins t) t.snapshot.page_size (own_touch t) level all old now some so_far more
+
+-- all of them are told, the height being that of the update's tree
+pub levels_done : (t : NumberedUpdate) (level height : ℕ) (now : List (Range × Node)) → level ≡ 0 → height ≡ height_of t.snapshot.page_size t.size
+    → now ++ own_nodes t (levels_of t.snapshot.page_size (own_touch t) level) ≡ own_nodes t (levels_of t.snapshot.page_size (own_touch t) (height + 1)) → now ≡ own_nodes t (own_ranges t)
+levels_done t level height now none high is =
     let u : Touch = own_touch t in
     sym (append-nil now)
     ∙ ap (λ l. now ++ l) (sym (ap (own_nodes t) (ap (levels_of t.snapshot.page_size u) none ∙ levels_none t.snapshot.page_size u)))
     ∙ is
-    ∙ ap (own_nodes t) (own_levels t u t.snapshot.page_size top refl refl (own_height t p n top size whole high))
+    ∙ ap (own_nodes t) (own_levels t u t.snapshot.page_size height refl refl high)
 
-pub level_begun : (f : ℕ → Range × Node) (all : List (Range × Node)) (a q : ℕ) → q ≡ a → all ≡ all ++ map f (range_with_len a (q - a))
+pub level_begun : {X : Type 0} (f : ℕ → X) (all : List X) (a q : ℕ) → q ≡ a → all ≡ all ++ map f (range_with_len a (q - a))
 level_begun f all a q e =
     let z : q - a ≡ 0 = omega arith in
     sym (ap (λ n. all ++ map f (range_with_len a n)) z ∙ append-nil all)
 
--- the same of the end, where the code has the touch as another one's result
+-- where a level's loop has ended, it has told of all numbers of the level
+pub level_ended : (t : NumberedUpdate) (v : Touch) (h q : ℕ) → IsValidTicket t → 1 ≤ t.snapshot.page_size → v ≡ own_touch t → v.last / 2 ^ h + 1 ≤ q
+    → (v.first / 2 ^ h ≤ v.last / 2 ^ h + 1 → q ≤ v.last / 2 ^ h + 1)
+    → q - (own_touch t).first / 2 ^ h ≡ (own_touch t).last / 2 ^ h + 1 - (own_touch t).first / 2 ^ h
+level_ended t v h q is pos e past before =
+    let p : ℕ = t.snapshot.page_size in
+    let u : Touch = own_touch t in
+    let P : Touch → Type 0 = λ x. (x.last / 2 ^ h + 1 ≤ q) × (x.first / 2 ^ h ≤ x.last / 2 ^ h + 1 → q ≤ x.last / 2 ^ h + 1) in
+    let ends : P u = subst P e (past, before) in
+    let ordered : u.first ≤ u.last = quotients_rise t.at (t.at + t.len - 1) p pos (omega (arith, is.some)) in
+    let rises : u.first / 2 ^ h ≤ u.last / 2 ^ h = quotients_rise u.first u.last (2 ^ h) (pow_pos h) ordered in
+    omega (arith, ends.0, ends.1 (omega arith))
+
 pub level_finished : (t : NumberedUpdate) (v : Touch) (h q : ℕ) (all now : List (Range × Node)) → IsValidTicket t → 1 ≤ t.snapshot.page_size → v ≡ own_touch t → v.last / 2 ^ h + 1 ≤ q
     → (v.first / 2 ^ h ≤ v.last / 2 ^ h + 1 → q ≤ v.last / 2 ^ h + 1)
     → now ≡ all ++ map (numbered_node t h) (range_with_len ((own_touch t).first / 2 ^ h) (q - (own_touch t).first / 2 ^ h))
     → now ≡ all ++ own_nodes t (level_of t.snapshot.page_size (own_touch t) h)
 level_finished t v h q all now is pos e past before so_far =
-    let P : Touch → Type 0 = λ x. (x.last / 2 ^ h + 1 ≤ q) × (x.first / 2 ^ h ≤ x.last / 2 ^ h + 1 → q ≤ x.last / 2 ^ h + 1) in
-    let ends : P (own_touch t) = subst P e (past, before) in
-    let p : ℕ = t.snapshot.page_size in
-    level_done t (own_touch t) h q all now (quotients_rise t.at (t.at + t.len - 1) p pos (omega (arith, is.some))) ends.0 ends.1 so_far
+    so_far
+    ∙ ap (λ n. all ++ map (numbered_node t h) (range_with_len ((own_touch t).first / 2 ^ h) n)) (level_ended t v h q is pos e past before)
+    ∙ ap (λ l. all ++ l) (sym (level_numbers t (own_touch t) h))

@@ -1,5 +1,5 @@
 -- The ranges of a row's nodes, and the parts of its leaves.
-use Rattle.std.proofs.Common.{◌≡◌, ◌⊎◌, ℕ, zero, suc, ◌+◌, ◌-◌, ◌*◌, ◌/◌, ◌%◌, ◌^◌, ◌<◌, ◌≤◌, List, length, arith, inl, inr, refl, ap, sym, subst, ◌∙◌, true, false, Bool}
+use Rattle.std.proofs.Common.{◌≡◌, ◌⊎◌, ℕ, zero, suc, ◌+◌, ◌-◌, ◌*◌, ◌/◌, ◌^◌, ◌<◌, ◌≤◌, List, length, arith, inl, inr, refl, ap, sym, subst, ◌∙◌, true, false, Bool}
 use Rattle.std.specs.Prelude.{◌==◌, not, if◌then◌else◌}
 use Rattle.std.proofs.lemmas.Bool.{cases_order, false≢true}
 use Rattle.std.proofs.lemmas.Bool.Decides.{nat_tests}
@@ -14,9 +14,9 @@ use Rattle.range_log.specs.Depths.{depth_of}
 use Rattle.page_store.specs.Stored.{Cut, bytes_of_pages}
 use Rattle.range_log.specs.Laws.{NewestHits, NewestMisses}
 use Rattle.border_hints.specs.Numbered.{NumberedUpdate, own_touch, log_upto, IsValidTicket}
-use Rattle.border_hints.specs.Borders.{IsRowRange, IsBorder, BorderLinks, AreBorders}
+use Rattle.border_hints.specs.Borders.{IsRowRange, BorderLinks, AreBorders}
 use Rattle.border_hints.proofs.Depths.{depth_whole}
-use Rattle.tree_weaver.specs.Planned.{own_link, own_back, own_depth, own_leaf, own_inner, own_node, IsHalf}
+use Rattle.tree_weaver.specs.Planned.{own_link, own_back, own_depth, own_leaf, own_inner, own_node}
 use Rattle.tree_geom.proofs.Spans.{page_pos, size_pos}
 
 pub double : (p h : ℕ) → p * 2 ^ (h + 1) ≡ 2 * (p * 2 ^ h)
@@ -54,9 +54,6 @@ uncovered_edge tells at len p size i pos some fits low high un =
     ]
 
 -- ---- links
-pub border_half : (t : NumberedUpdate) (range : Range) → IsHalf t range → ¬ Meets t.snapshot.page_size (own_touch t) range → IsBorder t.snapshot.page_size (own_touch t) range
-border_half t range half apart = inl (record { node = half.node; of_row = half.of_row; inner = half.inner; half = half.half; untouched = apart })
-
 link_cases : (t : NumberedUpdate) → IsValidTicket t → t.version ≡ suc (t.version - 1)
 link_cases t is = omega (arith, is.version)
 
@@ -81,28 +78,37 @@ link_miss misses t range is own apart =
     sym (misses p (log_upto t) k range (subst P (sym here) apart)) ∙ ap (λ n. newest_of p (log_upto t) n range) (sym e)
 
 -- ---- the nodes of a level
--- the ranges that the touched pages meet have nodes in the row
+-- touched pages meet the ranges of a height from the first page's to the last page's
+pub number_met : (p h n : ℕ) (u : Touch) → 1 ≤ p → u.first / 2 ^ h ≤ n → n ≤ u.last / 2 ^ h → Meets p u (tree_range p h n)
+number_met p h n u pos from to =
+    let w : ℕ = 2 ^ h in
+    let wide : 1 ≤ w = pow_pos h in
+    let begins : n * w ≤ u.last = page_high u.last w n to in
+    let first : u.first < n * w + w = page_low u.first w n wide from in
+    let scaled : n * w * p ≤ u.last * p = mul-le (n * w) p u.last p begins (omega arith) in
+    let over : (u.first + 1) * p ≤ (n * w + w) * p = mul-le (u.first + 1) p (n * w + w) p (omega arith) (omega arith) in
+    let offset : n * (p * w) ≡ n * w * p = omega arith in
+    let size : p * w ≡ w * p = omega arith in
+    let both : (n * w + w) * p ≡ n * w * p + w * p = omega arith in
+    (omega arith, omega arith, size_pos p h pos)
+
+-- and these have nodes in the row
 pub level_range : HeightsHold → SpanOfSome → RangesNest → (p h q : ℕ) (u : Touch) → 1 ≤ p → 1 ≤ u.size → u.last * p < u.size → h ≤ height_of p u.size
     → u.first / 2 ^ h ≤ q → q ≤ u.last / 2 ^ h → IsRowRange p u (tree_range p h q)
 level_range heights span nest p h q u pos some ends low from to =
     let w : ℕ = 2 ^ h in
     let s : ℕ = p * w in
     let top : ℕ = height_of p u.size in
-    let wide : 1 ≤ w = pow_pos h in
     let reach : u.size ≤ p * 2 ^ top = (heights p u.size pos).reaches in
     let root : span_of p u.size ≡ p * 2 ^ top = span p u.size some in
     let begins : q * w ≤ u.last = page_high u.last w q to in
-    let first : u.first < q * w + w = page_low u.first w q wide from in
     let scaled : q * w * p ≤ u.last * p = mul-le (q * w) p u.last p begins (omega arith) in
-    let over : (u.first + 1) * p ≤ (q * w + w) * p = mul-le (u.first + 1) p (q * w + w) p (omega arith) (omega arith) in
     let offset : q * s ≡ q * w * p = omega arith in
-    let size : s ≡ w * p = omega arith in
-    let both : (q * w + w) * p ≡ q * w * p + w * p = omega arith in
     let inside : q * s + s ≤ 1 * (p * 2 ^ top) = nest p h top q 1 low (omega arith) in
     record {
       aligned = (h, q, refl);
       within = omega arith;
-      met = (omega arith, omega arith, size_pos p h pos);
+      met = number_met p h q u pos from to;
     }
 
 -- a page's node is its leaf, a larger range's an inner node
@@ -120,44 +126,40 @@ node_inner t h q wide =
     let test : (p * 2 ^ h == p) ≡ false = grind (arith, nat_tests) in
     sym (ap (λ b. if b then own_leaf t (q * (p * 2 ^ h) / p) else own_inner t (tree_range p h q)) test)
 
-pub inner_wide : (p h : ℕ) → 1 ≤ p → 1 ≤ h → (p < p * 2 ^ h) × (p * 2 ^ h % 2 ≡ 0)
+pub inner_wide : (p h : ℕ) → 1 ≤ p → 1 ≤ h → p < p * 2 ^ h
 inner_wide p zero pos some = absurd (omega arith)
 inner_wide p (suc h) pos some =
     let e : h + 1 ≡ suc h = omega arith in
     let d : p * 2 ^ suc h ≡ 2 * (p * 2 ^ h) = ap (λ n. p * 2 ^ n) (sym e) ∙ double p h in
     let f : p * 1 ≤ p * 2 ^ h = mul-le p 1 p (2 ^ h) (omega arith) (pow_pos h) in
-    (omega arith, omega arith)
+    omega arith
 
 -- ---- what the code tests and asks
-pub met_is : (p q : ℕ) (u v : Touch) (range : Range) (test : Bool) → q ≡ p → u ≡ v → test ≡ true → (test ≡ true → Meets q u range) → Meets p v range
-met_is p q u v range test e f is means =
-    let P : ℕ → Type 0 = λ n. Meets n v range in
-    let Q : Touch → Type 0 = λ w. Meets q w range in
-    subst P e (subst Q f (means is))
+pub not_not : (b : Bool) → not (not b) ≡ b
+not_not true = refl
+not_not false = refl
 
-pub apart_is : (p q : ℕ) (u v : Touch) (range : Range) (test : Bool) → q ≡ p → u ≡ v → test ≡ false → (Meets q u range → test ≡ true) → ¬ Meets p v range
-apart_is p q u v range test e f is means met =
-    let P : ℕ → Type 0 = λ n. Meets n v range in
-    let Q : Touch → Type 0 = λ w. Meets q w range in
-    let clash : false ≡ true = sym is ∙ means (subst Q (sym f) (subst P (sym e) met)) in
-    false≢true clash
+-- whether the update covers a page that it touches, as its touch tells
+pub cover_told : TouchesTellCover → (t : NumberedUpdate) (page : ℕ) (u : Touch) (open' : Bool) → IsValidTicket t → (own_touch t).first ≤ page → page ≤ (own_touch t).last
+    → u ≡ own_touch t → open' ≡ leaves_open u page → covers t.snapshot.page_size t.at t.len t.size page ≡ not open'
+cover_told tells t page u open' is from to same told =
+    let p : ℕ = t.snapshot.page_size in
+    let whole : Bool = covers p t.at t.len t.size page in
+    let e : open' ≡ not whole =
+    told ∙ ap (λ (v : Touch). leaves_open v page) same ∙ tells p t.at t.len t.size page (page_pos p is.published.page_size) is.some (omega (arith, is.size)) from to in
+    sym (not_not whole) ∙ ap not (sym e)
 
-pub asked : (b : BorderLinks) (t : NumberedUpdate) (range : Range) → b.page_size ≡ t.snapshot.page_size → b.touch ≡ own_touch t → IsBorder t.snapshot.page_size (own_touch t) range → IsBorder b.page_size b.touch range
-asked b t range e f is =
-    let P : ℕ → Type 0 = λ n. IsBorder n b.touch range in
-    let Q : Touch → Type 0 = λ w. IsBorder t.snapshot.page_size w range in
-    subst P (sym e) (subst Q (sym f) is)
+-- the back of a leaf that covers its page, and that of one that doesn't, as the borders tell it
+pub covered_back : (t : NumberedUpdate) (page : ℕ) → covers t.snapshot.page_size t.at t.len t.size page ≡ true → 0 ≡ own_back t page
+covered_back t page whole =
+    sym (ap (λ b. if b then 0 else newest_of t.snapshot.page_size (log_upto t) (t.version - 1) (page_range t.snapshot.page_size page)) whole)
 
-pub answered : (b : BorderLinks) (t : NumberedUpdate) (range : Range) (answer : ℕ) → b.page_size ≡ t.snapshot.page_size → AreBorders (log_upto t) (t.version - 1) b
-    → ((log : List Touch) (k : ℕ) → AreBorders log k b → answer ≡ newest_of b.page_size log k range) → answer ≡ newest_of t.snapshot.page_size (log_upto t) (t.version - 1) range
-answered b t range answer e are told = told (log_upto t) (t.version - 1) are ∙ ap (λ p. newest_of p (log_upto t) (t.version - 1) range) e
-
--- the back of a leaf that doesn't cover its page
-pub answered_back : (t : NumberedUpdate) (page answer : ℕ) (range : Range) → range ≡ page_range t.snapshot.page_size page → covers t.snapshot.page_size t.at t.len t.size page ≡ false
-    → answer ≡ newest_of t.snapshot.page_size (log_upto t) (t.version - 1) range → answer ≡ own_back t page
-answered_back t page answer range here part is =
-    let newest : Range → ℕ = newest_of t.snapshot.page_size (log_upto t) (t.version - 1) in
-    is ∙ ap newest here ∙ sym (ap (λ b. if b then 0 else newest (page_range t.snapshot.page_size page)) part)
+pub answered_back : (b : BorderLinks) (t : NumberedUpdate) (page answer : ℕ) → b.page_size ≡ t.snapshot.page_size → AreBorders (log_upto t) (t.version - 1) b
+    → ((log : List Touch) (k : ℕ) → AreBorders log k b → answer ≡ newest_of b.page_size log k (page_range b.page_size page))
+    → covers t.snapshot.page_size t.at t.len t.size page ≡ false → answer ≡ own_back t page
+answered_back b t page answer size are told part =
+    let newest : ℕ → ℕ = λ p. newest_of p (log_upto t) (t.version - 1) (page_range p page) in
+    told (log_upto t) (t.version - 1) are ∙ ap newest size ∙ sym (ap (λ b. if b then 0 else newest t.snapshot.page_size) part)
 
 -- how deep a leaf lies that covers its page
 pub covered_depth : MeetsIsTrue → TouchesTellCover → (t : NumberedUpdate) (page : ℕ) → IsValidTicket t → touch_at (log_upto t) t.version ≡ own_touch t → (own_touch t).first ≤ page → page ≤ (own_touch t).last
@@ -181,15 +183,7 @@ answered_depth b t page answer is size touch are own told =
     ∙ ap (λ p. depth_of p (log_upto t) (k + 1) page) size
     ∙ ap (λ n. depth_of t.snapshot.page_size (log_upto t) n page) e
 
--- ---- the code's ranges
-pub edge_border : (t : NumberedUpdate) (page : ℕ) (range : Range) → range ≡ page_range t.snapshot.page_size page → (page ≡ (own_touch t).first) ⊎ (page ≡ (own_touch t).last)
-    → IsBorder t.snapshot.page_size (own_touch t) range
-edge_border t page range is edge =
-    elim edge [
-      | inl first ↦ inr (inl (is ∙ ap (page_range t.snapshot.page_size) first))
-      | inr last ↦ inr (inr (is ∙ ap (page_range t.snapshot.page_size) last))
-    ]
-
+-- ---- the code's ranges and pages
 -- the page is an edge, as the borders tell it
 pub edge_page : (b : BorderLinks) (t : NumberedUpdate) (page : ℕ) → b.touch ≡ own_touch t → (page ≡ (own_touch t).first) ⊎ (page ≡ (own_touch t).last) → (page ≡ b.touch.first) ⊎ (page ≡ b.touch.last)
 edge_page b t page e is =

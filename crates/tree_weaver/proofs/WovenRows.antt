@@ -49,6 +49,14 @@ none_of l two a b =
     ∙ ap (λ o. cons_option o (cons_option (slice_index_or l 1 None) [])) (none_is (slice_index_or l 0 None) a)
     ∙ ap (λ o. cons_option o []) (none_is (slice_index_or l 1 None) b)
 
+nothing : (a b : Option ℕ) → cons_option a (cons_option b []) ≡ [] → (is_some a ≡ false) × (is_some b ≡ false)
+nothing (Some x) b e = absurd (let z : length (x ∷ cons_option b []) ≡ 0 = ap length e in omega arith)
+nothing None (Some y) e = absurd (let z : length (y ∷ []) ≡ 0 = ap length e in omega arith)
+nothing None None e = (refl, refl)
+
+pub nothing_of : (l : List (Option ℕ)) → length l ≡ 2 → filter_map (λ o. o) l ≡ [] → (is_some (slice_index_or l 0 None) ≡ false) × (is_some (slice_index_or l 1 None) ≡ false)
+nothing_of l two none = nothing (slice_index_or l 0 None) (slice_index_or l 1 None) (sym (two_of l two) ∙ none)
+
 pub none_lie : (houses : List House) (pages : List Stored) → pages ≡ [] → LieAmong houses pages
 none_lie houses pages e = subst (λ (l : List Stored). LieAmong houses l) (sym e) (λ k d lt. absurd (omega (arith, lt)))
 

@@ -1,5 +1,5 @@
 -- The row of a numbered update, by what its ticket tells.
-use Rattle.std.specs.Prelude.{◌≡◌, ◌⊎◌, ℕ, ◌+◌, ◌-◌, ◌/◌, ◌<◌, ◌==◌, ◌&&◌, not, Bool, if◌then◌else◌, suc, List, map}
+use Rattle.std.specs.Prelude.{◌≡◌, ℕ, ◌+◌, ◌-◌, ◌/◌, ◌≤◌, ◌==◌, ◌&&◌, not, Bool, if◌then◌else◌, suc, List, length, map}
 use Rattle.std.specs.List.{filter, position_or_len}
 use Rattle.tree_geom.specs.declared.range.Range.{Range}
 use Rattle.tree_geom.specs.declared.node.Node.{Node}
@@ -10,7 +10,7 @@ use Rattle.range_log.specs.Extents.{Extent}
 use Rattle.range_log.specs.Depths.{depth_of}
 use Rattle.range_log.specs.Rows.{edge_pages, levels_of, leaf_at, pages_in, valid_in, whole_leaf}
 use Rattle.border_hints.specs.Numbered.{NumberedUpdate, own_touch, log_upto}
-use Rattle.border_hints.specs.Borders.{IsRowRange}
+use Rattle.border_hints.specs.Borders.{BorderLinks, AreBorders}
 
 -- where the update falls
 abbrev pub own_extent : NumberedUpdate → Extent
@@ -77,9 +77,11 @@ pub record RowPlan : Type 0 where
   pub nodes : List (Range × Node)
   pub folded : List ℕ
 
--- the range is a half of a node of the update's row
-pub record IsHalf (t : NumberedUpdate) (range : Range) : Type 0 where
-  pub node : Range
-  pub of_row : IsRowRange t.snapshot.page_size (own_touch t) node
-  pub inner : t.snapshot.page_size < node.size
-  pub half : (range ≡ left_half node) ⊎ (range ≡ right_half node)
+-- by these its nodes are told: the borders of its row, the height of its tree, and so few stored pages that two more have numbers
+pub record TellsNodes (t : NumberedUpdate) (borders : BorderLinks) (height : ℕ) : Type 0 where
+  pub page_size : borders.page_size ≡ t.snapshot.page_size
+  pub touch : borders.touch ≡ own_touch t
+  pub newest : AreBorders (log_upto t) (t.version - 1) borders
+  pub height_is : height ≡ height_of t.snapshot.page_size t.size
+  pub low : height ≤ 38
+  pub few : length t.pages.pages ≤ 4294967293

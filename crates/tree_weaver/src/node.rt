@@ -1,51 +1,80 @@
 // The nodes of a numbered update.
 ghost use Rattle.std.specs.Prelude.{◌≡◌, ◌+◌, ◌-◌, ◌*◌, ◌/◌, ◌%◌, ◌^◌, ◌<◌, ◌≤◌, ◌↔◌, ◌==◌, length, min, true, IsTrue};
 ghost use Rattle.std.specs.List.{filter_map};
-ghost use Rattle.tree_geom.specs.Geometry.{left_half, right_half, covers};
+ghost use Rattle.tree_geom.specs.Geometry.{tree_range, left_half, right_half, height_of};
 ghost use Rattle.range_log.specs.Rows.{first_piece, second_piece, piece_count, leaf_start, leaf_from, leaf_len, pages_in, valid_in, whole_leaf};
 ghost use Rattle.border_hints.specs.Numbered.{log_upto, own_touch};
-ghost use Rattle.border_hints.specs.Borders.{AreBorders, IsRowRange, IsBorder};
-ghost use Rattle.tree_weaver.specs.Planned.{own_extent, own_link, own_back, own_depth, own_folded, own_folds, own_place, own_leaf, own_inner, IsHalf};
+ghost use Rattle.border_hints.specs.Borders.{AreBorders};
+ghost use Rattle.tree_weaver.specs.Planned.{own_extent, own_link, own_back, own_depth, own_folded, own_folds, own_place, own_leaf, own_inner};
 
 use border_hints::{Borders, Ticket};
 use tree_geom::laws::touches_tell_cover;
-use tree_geom::{Node, PageSize, Piece, Range, halves, meets, range_of_page};
+use tree_geom::{Node, PageSize, Piece};
 
-// The version that a node links to for a half of its range: the update's own, or else that over the border.
-fn link(ticket: &Ticket, borders: &Borders, range: Range) -> u64
+// The version that the node for range number `q` of a height links to for its lower half: the update's own, or else the newest lower
+// one. The half is range number `2 q` of the height below. An update that doesn't touch it begins behind it.
+fn low_link(ticket: &Ticket, borders: &Borders, level: u32, q: u64) -> u64
     requires page_size { borders.now.page_size ≡ ticket.now.snapshot.page_size }
     requires touch { borders.now.touch ≡ own_touch ticket.now }
     requires borders { AreBorders (log_upto ticket.now) (ticket.now.version - 1) borders.now }
-    requires half { IsHalf ticket.now range }
-    requires fits { range.offset + range.size ≤ 2 ^ 40 }
-    ensures { result ≡ own_link ticket.now range }
+    requires above { 1 ≤ level }
+    requires level { level ≤ height_of ticket.now.snapshot.page_size ticket.now.size }
+    requires low { height_of ticket.now.snapshot.page_size ticket.now.size ≤ 38 }
+    requires first { (own_touch ticket.now).first / 2 ^ level ≤ q }
+    requires last { q ≤ (own_touch ticket.now).last / 2 ^ level }
+    ensures { result ≡ own_link ticket.now (left_half (tree_range ticket.now.snapshot.page_size level q)) }
 {
     range_log::laws::newest_is_greatest();
     range_log::laws::logs_are_grown();
+    tree_geom::laws::ranges_align();
     let version = ticket.version();
-    let p = ticket.hints().snapshot.page_size();
-    if meets(p, &ticket.touch(), range) {
-        version
+    let under = level - 1;
+    if 2 * q < ticket.touch().first >> under {
+        borders.below(under)
     } else {
-        borders.of(range)
+        version
     }
 }
 
-/// The node of the update for a range of two pages or more, which is one of its row.
-pub(crate) fn inner(ticket: &Ticket, borders: &Borders, range: Range) -> Node
+// The same for its upper half, which is range number `2 q + 1` of the height below. An update that doesn't touch it ends before it.
+fn high_link(ticket: &Ticket, borders: &Borders, level: u32, q: u64) -> u64
     requires page_size { borders.now.page_size ≡ ticket.now.snapshot.page_size }
     requires touch { borders.now.touch ≡ own_touch ticket.now }
     requires borders { AreBorders (log_upto ticket.now) (ticket.now.version - 1) borders.now }
-    requires of_row { IsRowRange ticket.now.snapshot.page_size (own_touch ticket.now) range }
-    requires inner { ticket.now.snapshot.page_size < range.size }
-    requires even { range.size % 2 ≡ 0 }
-    requires fits { range.offset + range.size ≤ 2 ^ 40 }
-    ensures { result ≡ own_inner ticket.now range }
+    requires above { 1 ≤ level }
+    requires level { level ≤ height_of ticket.now.snapshot.page_size ticket.now.size }
+    requires low { height_of ticket.now.snapshot.page_size ticket.now.size ≤ 38 }
+    requires first { (own_touch ticket.now).first / 2 ^ level ≤ q }
+    requires last { q ≤ (own_touch ticket.now).last / 2 ^ level }
+    ensures { result ≡ own_link ticket.now (right_half (tree_range ticket.now.snapshot.page_size level q)) }
 {
-    let (low, high) = halves(range);
+    range_log::laws::newest_is_greatest();
+    range_log::laws::logs_are_grown();
+    tree_geom::laws::ranges_align();
+    let version = ticket.version();
+    let under = level - 1;
+    if ticket.touch().last >> under < 2 * q + 1 {
+        borders.above(under)
+    } else {
+        version
+    }
+}
+
+/// The node of the update for range number `q` of a height above the pages', which is one of its row.
+pub(crate) fn inner(ticket: &Ticket, borders: &Borders, level: u32, q: u64) -> Node
+    requires page_size { borders.now.page_size ≡ ticket.now.snapshot.page_size }
+    requires touch { borders.now.touch ≡ own_touch ticket.now }
+    requires borders { AreBorders (log_upto ticket.now) (ticket.now.version - 1) borders.now }
+    requires above { 1 ≤ level }
+    requires level { level ≤ height_of ticket.now.snapshot.page_size ticket.now.size }
+    requires low { height_of ticket.now.snapshot.page_size ticket.now.size ≤ 38 }
+    requires first { (own_touch ticket.now).first / 2 ^ level ≤ q }
+    requires last { q ≤ (own_touch ticket.now).last / 2 ^ level }
+    ensures { result ≡ own_inner ticket.now (tree_range ticket.now.snapshot.page_size level q) }
+{
     Node::Inner {
-        left: link(ticket, borders, low),
-        right: link(ticket, borders, high),
+        left: low_link(ticket, borders, level, q),
+        right: high_link(ticket, borders, level, q),
     }
 }
 
@@ -117,17 +146,6 @@ fn pieces(p: PageSize, from: u64, len: u64) -> (u32, Piece, Piece)
     }
 }
 
-// Whether the update's bytes are all valid bytes of the page.
-#[tactic(auto, using(crate::proofs::Shapes::page_low, crate::proofs::Shapes::page_high))]
-fn covers_page(ticket: &Ticket, page: u64) -> bool
-    requires last { page ≤ (own_touch ticket.now).last }
-    ensures { result ≡ covers ticket.now.snapshot.page_size ticket.now.at ticket.now.len ticket.now.size page }
-{
-    ticket.stands();
-    let p = ticket.hints().snapshot.page_size();
-    tree_geom::covers_page(p, ticket.at(), ticket.len(), ticket.size(), page)
-}
-
 // The newest lower version with a leaf of the page, and how deep the update's own leaf of it lies: how many backs lead on
 // from that. Both are 0 where the update covers the page. The update touches the page.
 #[tactic(auto, using(crate::proofs::Shapes::page_low, crate::proofs::Shapes::page_high))]
@@ -144,15 +162,13 @@ fn back(ticket: &Ticket, borders: &Borders, page: u64) -> (u64, u32)
     tree_geom::laws::meets_is_decided();
     touches_tell_cover();
     ticket.stands();
-    if covers_page(ticket, page) {
+    if !ticket.touch().leaves_open(page) {
         return (0, 0);
     }
-    let range = range_of_page(ticket.hints().snapshot.page_size(), page);
-    (borders.of(range), borders.depth(page))
+    (borders.leaf(page), borders.depth(page))
 }
 
 // Whether the update stores the page anew, which it touches.
-#[tactic(auto, using(crate::proofs::FoldedPages::folded_is))]
 fn folded(ticket: &Ticket, borders: &Borders, page: u64) -> bool
     requires page_size { borders.now.page_size ≡ ticket.now.snapshot.page_size }
     requires touch { borders.now.touch ≡ own_touch ticket.now }
@@ -161,9 +177,11 @@ fn folded(ticket: &Ticket, borders: &Borders, page: u64) -> bool
     requires last { page ≤ (own_touch ticket.now).last }
     ensures { result ≡ own_folded ticket.now page }
 {
-    let whole = covers_page(ticket, page);
+    touches_tell_cover();
+    ticket.stands();
+    let open = ticket.touch().leaves_open(page);
     let (_, depth) = back(ticket, borders, page);
-    !whole && depth == 0
+    open && depth == 0
 }
 
 /// The pages of the blob that the update stores anew, in their order.

@@ -3,34 +3,14 @@ ghost use Rattle.std.specs.Prelude.{◌≡◌, IfOk};
 ghost use Rattle.std.specs.Arc.{arc_value};
 ghost use Rattle.node_store.specs.House.{IsIn};
 ghost use Rattle.border_hints.specs.Numbered.{own_touch};
-ghost use Rattle.tree_weaver.specs.Planned.{own_ranges, ranges_of, nodes_of};
+ghost use Rattle.tree_weaver.specs.Planned.{own_ranges, ranges_of};
 
 use crate::planning::PlannedRow;
 use border_hints::Ticket;
-use node_store::{Folds, NoMemory, NodeHouse, Row, RowNodes};
+use node_store::{Folds, NoMemory, NodeHouse, Row};
 use std::alloc::Global;
 use std::sync::{Arc, Wait};
 use tree_geom::{height, span_stands};
-
-// Puts the planned nodes into a house, one after another.
-fn put_nodes<R: Wait>(
-    rt: &R,
-    alloc: Global,
-    version: u64,
-    planned: &PlannedRow,
-    nodes: &NodeHouse,
-) -> Result<RowNodes, NoMemory>
-    ensures here { IfOk result (λ row. IsIn nodes.now row.spot) }
-    ensures version { IfOk result (λ row. row.version ≡ version) }
-    ensures nodes { IfOk result (λ row. row.nodes ≡ nodes_of planned.now.nodes) }
-{
-    let list = planned.nodes();
-    let mut row = nodes.room(rt, alloc, version, list.len())?;
-    for i in 0..list.len() {
-        nodes.put(&mut row, list[i].1)?;
-    }
-    Ok(row)
-}
 
 /// Stores the planned nodes, and gives the row of the ticket's update with them, the update's pages, and the pages of the blob that
 /// the update stores anew. The planned nodes are those of the ticket, as `plan` gives them.
@@ -63,7 +43,7 @@ pub fn put_row<R: Wait>(
     let pages = Arc::try_clone(ticket.pages())?;
     let (blob, version) = (ticket.blob(), ticket.version());
     let (offset, touch) = (ticket.at(), ticket.touch());
-    let placed = put_nodes(rt, alloc, version, planned, nodes)?;
+    let placed = planned.put(rt, alloc, version, nodes)?;
     let row = Row::of(
         alloc,
         blob,

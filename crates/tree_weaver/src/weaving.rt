@@ -51,7 +51,7 @@ pub fn weave<R: Wait>(
     snapshot::laws::rows_stay();
     crate::laws::stored_rows_are_rows();
     ticket.stands();
-    let planned = planned::<Brand>(alloc, ticket, nodes, Blank::new(1))?;
+    let planned = planned::<Brand>(ticket, nodes, Blank::new(1))?;
     let [first, last] = planned.folded();
     if first.is_some() || last.is_some() {
         return Ok(None);
@@ -111,7 +111,7 @@ pub fn weave_anew<D: BesideDoor, R: Threads + Wait + Sync>(
     crate::laws::stored_rows_are_rows();
     bytes_anew_stand();
     ticket.stands();
-    let planned = planned::<Brand>(alloc, ticket, nodes, Blank::new(1))?;
+    let planned = planned::<Brand>(ticket, nodes, Blank::new(1))?;
     let [first, last] = planned.folded();
     match fold_pages(
         rt, alloc, ticket, nodes, loads, doors, houses, room, first, last,
@@ -135,12 +135,11 @@ fn bytes_anew_stand()
 }
 
 // The plan of the ticket's row, whose node steps nobody counts.
-fn planned<L: Ledger>(
-    alloc: Global,
-    ticket: &Ticket,
+fn planned<'a, L: Ledger>(
+    ticket: &'a Ticket,
     nodes: &NodeHouse,
     blank: Blank,
-) -> Result<PlannedRow, NoMemory>
+) -> Result<PlannedRow<'a>, NoMemory>
     requires here { NodesLieIn nodes.now ticket.now.snapshot }
     requires name { blank.name ≡ L.name }
     requires parts { blank.parts ≡ L.parts }
@@ -150,5 +149,5 @@ fn planned<L: Ledger>(
     ensures folded { IfOk result (λ row. (us : List Extent) → IsTicketAmong ticket.now us → row.folded ≡ folds_of ticket.now.snapshot.page_size us ticket.now.version) }
 {
     let mut steps = Steps::<L>::open(blank);
-    plan(alloc, ticket, nodes, &mut steps)
+    plan(ticket, nodes, &mut steps)
 }

@@ -9,8 +9,8 @@ fold_pages-requires-clause-folded g c = λ _ _.
     let two : length c.folded.result ≡ 2 = grind (arith, c.folded.type_inv) in
     named_anew c.args.ticket.now _ (λ us stands. sym (two_of c.folded.result two) ∙ c.folded.ensures ∙ c.in_ok-planned.ensures.folded us stands)
 
-pub returns-in-Ok-clause-woven : goal.returns-in-Ok-clause-woven
-returns-in-Ok-clause-woven g c =
+pub returns-in_ok-put_row-in-Ok-clause-woven : goal.returns-in_ok-put_row-in-Ok-clause-woven
+returns-in_ok-put_row-in-Ok-clause-woven g c =
     let t = c.args.ticket.now in
     let houses = c.args.houses.now in
     let row = arc_value c.in_ok-put_row-in-Ok.field-0 in
@@ -22,8 +22,8 @@ returns-in-Ok-clause-woven g c =
     (anew_told c.bytes_anew_stand.ensures t row _ c.stands.ensures c.requires.before
     (λ us stands. sym (two_of c.folded.result two) ∙ c.folded.ensures ∙ c.in_ok-planned.ensures.folded us stands) bytes) e.blob c.args.nodes.now e.here houses c.requires.pages lie
 
-pub returns-in-Ok-clause-untouched : goal.returns-in-Ok-clause-untouched
-returns-in-Ok-clause-untouched g c = λ none.
+pub returns-in_ok-put_row-in-Ok-clause-untouched : goal.returns-in_ok-put_row-in-Ok-clause-untouched
+returns-in_ok-put_row-in-Ok-clause-untouched g c = λ none.
     let two : length c.folded.result ≡ 2 = grind (arith, c.folded.type_inv) in
     let among = c.stands.ensures.stands in
     c.fold_pages.ensures.untouched (sym (two_of c.folded.result two) ∙ c.folded.ensures ∙ c.in_ok-planned.ensures.folded among.0 among.1 ∙ none among.0 among.1)
@@ -34,17 +34,17 @@ returns-in_err-put_row-in-Ok-clause-untouched g c = λ none.
     let among = c.stands.ensures.stands in
     c.fold_pages.ensures.untouched (sym (two_of c.folded.result two) ∙ c.folded.ensures ∙ c.in_ok-planned.ensures.folded among.0 among.1 ∙ none among.0 among.1)
 
-pub returns-clause-untouched : goal.returns-clause-untouched
-returns-clause-untouched g c = λ none.
+pub returns-in-Err-clause-untouched : goal.returns-in-Err-clause-untouched
+returns-in-Err-clause-untouched g c = λ none.
     let two : length c.folded.result ≡ 2 = grind (arith, c.folded.type_inv) in
     let among = c.stands.ensures.stands in
     c.fold_pages.ensures.untouched (sym (two_of c.folded.result two) ∙ c.folded.ensures ∙ c.in_ok-planned.ensures.folded among.0 among.1 ∙ none among.0 among.1)
 
-pub returns-in-Ok-clause-none_fell : goal.returns-in-Ok-clause-none_fell
-returns-in-Ok-clause-none_fell g c = c.fold_pages.ensures.kept.none_fell
+pub returns-in_ok-put_row-in-Ok-clause-none_fell : goal.returns-in_ok-put_row-in-Ok-clause-none_fell
+returns-in_ok-put_row-in-Ok-clause-none_fell g c = c.fold_pages.ensures.kept.none_fell
 
-pub returns-clause-none_fell : goal.returns-clause-none_fell
-returns-clause-none_fell g c = c.fold_pages.ensures.kept.none_fell
+pub returns-in-Err-clause-none_fell : goal.returns-in-Err-clause-none_fell
+returns-in-Err-clause-none_fell g c = c.fold_pages.ensures.kept.none_fell
 
 pub fold_pages-requires-clause-before : goal.fold_pages-requires-clause-before
 fold_pages-requires-clause-before g c = λ _ _. c.requires.before
@@ -55,17 +55,17 @@ fold_pages-requires-clause-room g c = λ _ _. c.requires.room
 pub fold_pages-requires-clause-doors : goal.fold_pages-requires-clause-doors
 fold_pages-requires-clause-doors g c = λ _ _. c.requires.doors
 
-pub returns-in-Ok-clause-sum_never_falls : goal.returns-in-Ok-clause-sum_never_falls
-returns-in-Ok-clause-sum_never_falls g c = c.fold_pages.ensures.kept.total
+pub returns-in_ok-put_row-in-Ok-clause-sum_never_falls : goal.returns-in_ok-put_row-in-Ok-clause-sum_never_falls
+returns-in_ok-put_row-in-Ok-clause-sum_never_falls g c = c.fold_pages.ensures.kept.total
 
-pub returns-in-Ok-clause-doors_stay : goal.returns-in-Ok-clause-doors_stay
-returns-in-Ok-clause-doors_stay g c = c.fold_pages.ensures.count
+pub returns-in_ok-put_row-in-Ok-clause-doors_stay : goal.returns-in_ok-put_row-in-Ok-clause-doors_stay
+returns-in_ok-put_row-in-Ok-clause-doors_stay g c = c.fold_pages.ensures.count
 
-pub returns-in-Ok-clause-room_stays : goal.returns-in-Ok-clause-room_stays
-returns-in-Ok-clause-room_stays g c = c.fold_pages.ensures.room_stays
+pub returns-in_ok-put_row-in-Ok-clause-room_stays : goal.returns-in_ok-put_row-in-Ok-clause-room_stays
+returns-in_ok-put_row-in-Ok-clause-room_stays g c = c.fold_pages.ensures.room_stays
 
-pub returns-in-Ok-clause-truth_stays : goal.returns-in-Ok-clause-truth_stays
-returns-in-Ok-clause-truth_stays g c = c.fold_pages.ensures.truth_stays
+pub returns-in_ok-put_row-in-Ok-clause-truth_stays : goal.returns-in_ok-put_row-in-Ok-clause-truth_stays
+returns-in_ok-put_row-in-Ok-clause-truth_stays g c = c.fold_pages.ensures.truth_stays
 
 pub returns-in_err-put_row-in-Ok-clause-sum_never_falls : goal.returns-in_err-put_row-in-Ok-clause-sum_never_falls
 returns-in_err-put_row-in-Ok-clause-sum_never_falls g c = c.fold_pages.ensures.kept.total
@@ -79,14 +79,14 @@ returns-in_err-put_row-in-Ok-clause-room_stays g c = c.fold_pages.ensures.room_s
 pub returns-in_err-put_row-in-Ok-clause-truth_stays : goal.returns-in_err-put_row-in-Ok-clause-truth_stays
 returns-in_err-put_row-in-Ok-clause-truth_stays g c = c.fold_pages.ensures.truth_stays
 
-pub returns-clause-sum_never_falls : goal.returns-clause-sum_never_falls
-returns-clause-sum_never_falls g c = c.fold_pages.ensures.kept.total
+pub returns-in-Err-clause-sum_never_falls : goal.returns-in-Err-clause-sum_never_falls
+returns-in-Err-clause-sum_never_falls g c = c.fold_pages.ensures.kept.total
 
-pub returns-clause-doors_stay : goal.returns-clause-doors_stay
-returns-clause-doors_stay g c = c.fold_pages.ensures.count
+pub returns-in-Err-clause-doors_stay : goal.returns-in-Err-clause-doors_stay
+returns-in-Err-clause-doors_stay g c = c.fold_pages.ensures.count
 
-pub returns-clause-room_stays : goal.returns-clause-room_stays
-returns-clause-room_stays g c = c.fold_pages.ensures.room_stays
+pub returns-in-Err-clause-room_stays : goal.returns-in-Err-clause-room_stays
+returns-in-Err-clause-room_stays g c = c.fold_pages.ensures.room_stays
 
-pub returns-clause-truth_stays : goal.returns-clause-truth_stays
-returns-clause-truth_stays g c = c.fold_pages.ensures.truth_stays
+pub returns-in-Err-clause-truth_stays : goal.returns-in-Err-clause-truth_stays
+returns-in-Err-clause-truth_stays g c = c.fold_pages.ensures.truth_stays

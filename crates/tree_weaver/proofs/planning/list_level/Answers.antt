@@ -3,7 +3,7 @@ use Rattle.tree_geom.specs.declared.touch.Touch.{Touch}
 use Rattle.border_hints.specs.Numbered.{own_touch}
 use Rattle.tree_geom.proofs.Spans.{page_pos}
 use Rattle.tree_weaver.proofs.Plans.{numbered_node, level_begun, level_more, level_finished}
-use Rattle.tree_weaver.proofs.planning.plan_level.Goals as goal
+use Rattle.tree_weaver.proofs.planning.list_level.Goals as goal
 
 pub loop-q-init : goal.loop-q-init
 loop-q-init c =
@@ -15,7 +15,7 @@ loop-q-preserved c =
     let t = c.args.ticket.now in
     let P : Touch → Type 0 = λ u. u.first / 2 ^ c.args.level ≤ c.loop-q.q in
     level_more (numbered_node t c.args.level) c.args.row.now.items c.loop-q.row.items c.push.new.self.items ((own_touch t).first / 2 ^ c.args.level) c.loop-q.q _
-    (subst P c.touch-touch.ensures c.loop-q.auto.q) c.loop-q.invariant c.in_ok-push.ensures.items c.node.ensures
+    (subst P c.touch-touch.ensures c.loop-q.auto.q) c.loop-q.invariant c.in_ok-push.ensures.items c.pair.ensures
 
 pub returns : goal.returns
 returns c =

@@ -2,7 +2,7 @@ use Rattle.std.proofs.Common.{◌≡◌, ◌-◌, ◌++◌, ◌/◌, ◌^◌, ma
 use Rattle.std.specs.List.{range_with_len}
 use Rattle.border_hints.specs.Numbered.{own_touch}
 use Rattle.tree_weaver.proofs.Plans.{numbered_node}
-use Rattle.tree_weaver.proofs.planning.plan_level.Given as goal
+use Rattle.tree_weaver.proofs.planning.list_level.Given as goal
 
 abbrev pub invariant-loop-q : goal.invariant-loop-q
 invariant-loop-q l =
