@@ -14,14 +14,15 @@ use Rattle.server_core.specs.Conversed.{Ended, Closing, Input, TakesOff, Stays, 
 use Rattle.server_core.proofs.GoingOn.{Goes-none, Progress-none, Progress-trans}
 use Rattle.server_core.proofs.Endings.{Serving, TakesOff-none, TakesOff-trans, Goes-feed, Goes-trans, Goes-quits, Goes-stops, whole_both, all_whole, no_quit_whole, finish_both, close_both}
 
-stays_at_end : {Item : Type 0} (is_last : Item → Bool) (reads : List ℕ → ItemStream Item) (taken : List ℕ) (items : List Item) (left : Option (List ℕ)) (end : End) → IsAtEnd left → Stays is_last reads taken items left end
-stays_at_end is_last reads taken items left Ends.Quit h = inr h
-stays_at_end is_last reads taken items left Ends.InputEnd h = tt
-stays_at_end is_last reads taken items left Ends.Cut h = tt
-stays_at_end is_last reads taken items left Ends.ReadFault h = tt
-stays_at_end is_last reads taken items left Ends.WriteFault h = inr h
-stays_at_end is_last reads taken items left Ends.InputTooLong h = tt
-stays_at_end is_last reads taken items left Ends.NoMemory h = inr h
+stays_at_end : {Item : Type 0} (is_last : Item → Bool) (reads : List ℕ → ItemStream Item) (taken : List ℕ) (limit : ℕ) (items : List Item) (ends ends' : ℕ) (left : Option (List ℕ)) (end : End)
+    → CameToEnd (length taken) limit ends ends' left → Stays is_last reads taken limit items ends ends' left end
+stays_at_end is_last reads taken limit items ends ends' left Ends.Quit came = inr came
+stays_at_end is_last reads taken limit items ends ends' left Ends.InputEnd came = tt
+stays_at_end is_last reads taken limit items ends ends' left Ends.Cut came = tt
+stays_at_end is_last reads taken limit items ends ends' left Ends.ReadFault came = tt
+stays_at_end is_last reads taken limit items ends ends' left Ends.WriteFault came = inr came
+stays_at_end is_last reads taken limit items ends ends' left Ends.InputTooLong came = tt
+stays_at_end is_last reads taken limit items ends ends' left Ends.NoMemory came = inr came
 
 reaches_end : {Item : Type 0} (is_last : Item → Bool) (heard : ItemStream Item) (taken limit : ℕ) (items : List Item) (ends ends' : ℕ) (left : Option (List ℕ)) (end : End) → CameToEnd taken limit ends ends' left
     → Reaches is_last heard taken limit items ends ends' left end
@@ -257,6 +258,7 @@ module _ {Item : Type 0} (talk : Talk Item) (old : PointOf talk.Session) (reads 
       Serving-finished new end rose at_end less f =
           let goes = goes_on [] last takes new in
           let counts = counts_both [] last takes new in
+          let came : CameToEnd (length (s.taken ++ [])) limit before.ends last.ends last.left = (omega (arith, counts), rose, at_end) in
           record {
             taken = s.taken ++ [];
             takes = takes_both [] last takes new;
@@ -268,6 +270,6 @@ module _ {Item : Type 0} (talk : Talk Item) (old : PointOf talk.Session) (reads 
             ended = ended_at [] last takes new (length (s.taken ++ [])) (goes.items ++ f.items) f.rest last.left end
                 (finish_both talk old _ mid after goes new end (length (s.taken ++ [])) limit last.left s.empty (omega (arith, counts)) at_end f);
             closing = closing_at [] last takes new before.ends last.ends end (close_both talk old _ mid after goes new before.ends last.ends end rose f);
-            reaches = reaches_end talk.is_last (reads (s.taken ++ [])) (length (s.taken ++ [])) limit (goes.items ++ f.items) before.ends last.ends last.left end (omega (arith, counts), rose, at_end);
-            stays = stays_at_end talk.is_last reads (s.taken ++ []) (goes.items ++ f.items) last.left end at_end;
+            reaches = reaches_end talk.is_last (reads (s.taken ++ [])) (length (s.taken ++ [])) limit (goes.items ++ f.items) before.ends last.ends last.left end came;
+            stays = stays_at_end talk.is_last reads (s.taken ++ []) limit (goes.items ++ f.items) before.ends last.ends last.left end came;
           }

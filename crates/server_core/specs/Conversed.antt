@@ -55,19 +55,20 @@ Reaches is_last heard taken limit items ends ends' left Ends.WriteFault = Answer
 Reaches is_last heard taken limit items ends ends' left Ends.InputTooLong = ⊤
 Reaches is_last heard taken limit items ends ends' left Ends.NoMemory = AnswersFront is_last heard.whole items ⊎ CameToEnd taken limit ends ends' left
 
--- the items that were answered are the first ones however the stream goes on, unless it came to its end
-abbrev pub StaysFirst : {Item : Type 0} → (Item → Bool) → (List ℕ → ItemStream Item) → List ℕ → List Item → Option (List ℕ) → Type 0
-StaysFirst is_last reads taken items left = ((more : List ℕ) → AnswersFront is_last (reads (taken ++ more)).items items) ⊎ IsAtEnd left
+-- The items that were answered are the first ones however the stream goes on, unless it came to its end.
+abbrev pub StaysFirst : {Item : Type 0} → (Item → Bool) → (List ℕ → ItemStream Item) → List ℕ → ℕ → List Item → ℕ → ℕ → Option (List ℕ) → Type 0
+StaysFirst is_last reads taken limit items ends ends' left =
+    ((more : List ℕ) → AnswersFront is_last (reads (taken ++ more)).items items) ⊎ CameToEnd (length taken) limit ends ends' left
 
 -- A Quit, a write fault and want of memory may come before the stream's end, and then no later byte changes what was answered.
-abbrev pub Stays : {Item : Type 0} → (Item → Bool) → (List ℕ → ItemStream Item) → List ℕ → List Item → Option (List ℕ) → End → Type 0
-Stays is_last reads taken items left Ends.Quit = StaysFirst is_last reads taken items left
-Stays is_last reads taken items left Ends.InputEnd = ⊤
-Stays is_last reads taken items left Ends.Cut = ⊤
-Stays is_last reads taken items left Ends.ReadFault = ⊤
-Stays is_last reads taken items left Ends.WriteFault = StaysFirst is_last reads taken items left
-Stays is_last reads taken items left Ends.InputTooLong = ⊤
-Stays is_last reads taken items left Ends.NoMemory = StaysFirst is_last reads taken items left
+abbrev pub Stays : {Item : Type 0} → (Item → Bool) → (List ℕ → ItemStream Item) → List ℕ → ℕ → List Item → ℕ → ℕ → Option (List ℕ) → End → Type 0
+Stays is_last reads taken limit items ends ends' left Ends.Quit = StaysFirst is_last reads taken limit items ends ends' left
+Stays is_last reads taken limit items ends ends' left Ends.InputEnd = ⊤
+Stays is_last reads taken limit items ends ends' left Ends.Cut = ⊤
+Stays is_last reads taken limit items ends ends' left Ends.ReadFault = ⊤
+Stays is_last reads taken limit items ends ends' left Ends.WriteFault = StaysFirst is_last reads taken limit items ends ends' left
+Stays is_last reads taken limit items ends ends' left Ends.InputTooLong = ⊤
+Stays is_last reads taken limit items ends ends' left Ends.NoMemory = StaysFirst is_last reads taken limit items ends ends' left
 
 -- where a stream stands as a source: the bytes that it gave, those that it has left, and its count of ends
 pub record Input : Type 0 where
@@ -110,7 +111,7 @@ pub record Conversed {Item : Type 0} (talk : Talk Item) (old : PointOf talk.Sess
   pub ended : Ended talk.is_last (reads taken) (length taken) limit items rest after.left end
   pub closing : Closing (reads taken) before.ends after.ends end
   pub reaches : Reaches talk.is_last (reads taken) (length taken) limit items before.ends after.ends after.left end
-  pub stays : Stays talk.is_last reads taken items after.left end
+  pub stays : Stays talk.is_last reads taken limit items before.ends after.ends after.left end
 
 -- that end, unless no memory was found
 abbrev pub IsEnd : End → End → Type 0
