@@ -1,11 +1,11 @@
 -- Snapshots that a session keeps: they stay good as its history goes on, and so are those of the versions below.
-use Rattle.std.proofs.Common.{◌≡◌, refl, sym, ◌∙◌, ap, subst, ℕ, zero, suc, ◌-◌, ◌^◌, ◌<◌, ◌≤◌, ◌==◌, Bool, true, false, List, [], ◌∷◌, ◌++◌, length, set, take, append_assoc, append-nil, Option, Some, None, Result, Ok, arith, length-append, length-take, length-take-le}
+use Rattle.std.proofs.Common.{◌≡◌, refl, sym, ◌∙◌, ap, subst, ℕ, zero, suc, ◌-◌, ◌<◌, ◌≤◌, ◌==◌, Bool, true, false, List, [], ◌∷◌, ◌++◌, length, set, take, append-nil, Option, Some, None, Result, Ok, Err, arith, inl, inr, length-append, length-take, length-take-le}
 use Rattle.std.specs.Prelude.{All, slice_get, if◌then◌else◌}
 use Rattle.std.proofs.Math.ListN.{length-set}
 use Rattle.std.proofs.lemmas.List.{map-append, take-take, take-append-le}
 use Rattle.std.proofs.lemmas.List.Elements.{All-weaker, All-take}
 use Rattle.std.proofs.lemmas.Option.{slice_get_within, get_or_from_slice_get}
-use Rattle.tree_geom.specs.Geometry.{IsPageSize}
+use Rattle.tree_geom.proofs.Spans.{page_pos}
 use Rattle.blob_model.specs.Content.{Update, content_from}
 use Rattle.blob_model.specs.Store.{Store, Blob, blob_at, empty_store}
 use Rattle.blob_model.specs.Answer.{Answered, answer, refuse}
@@ -19,7 +19,6 @@ use Rattle.blob_model.specs.declared.call.Refusal.TheVariants as Refusals
 use Rattle.blob_model.proofs.Stays.{store_kept, store_from-append}
 use Rattle.branching.specs.Parents.{origin_of}
 use Rattle.branching.specs.declared.Parent.{Parent}
-use Rattle.branching.proofs.Parents.{origin_older}
 use Rattle.range_log.specs.Updates.{extents}
 use Rattle.range_log.proofs.Bytes.{length-extents}
 use Rattle.range_log.proofs.Growth.{extents_grow}
@@ -32,30 +31,31 @@ use Rattle.snapshot.specs.Versions.{Version, IsVersion, IsRowOf, IsVersionIn, up
 use Rattle.snapshot.specs.Laws.{TellUpdates, RowsTell}
 use Rattle.snapshot.proofs.Lists.{length-updates, row_at_taken}
 use Rattle.turn_lock.specs.History.{Begins}
+use Rattle.turn_lock.proofs.Histories.{begins_both}
 use Rattle.version_manager.specs.Desks.{updates_in, updates_or_none}
 use Rattle.version_manager.specs.Log.{IsSnapshotOf, desk_at, events, outcome_in}
 use Rattle.version_manager.specs.Origins.{LieUnderOrigins, parents_after, parents_from, parents_of, origin_in}
 use Rattle.version_manager.specs.Stays.{same_update}
+use Rattle.version_manager.proofs.Origins.{from_append, origin_from}
 use Rattle.version_manager.specs.declared.journal.DeskFixed.{DeskFixed}
+use Rattle.version_manager.specs.declared.fault.OpenFault.{OpenFault}
 use Rattle.request_form.specs.PublishedReads.{IsPublishedIn}
+use Rattle.request_form.specs.Replies.{page_faults}
 use Rattle.request_form.specs.declared.form.Fault.{Fault}
-use Rattle.client_session.specs.Kept.{IsKept, Found, Coming}
+use Rattle.client_session.specs.Kept.{KeptVersion, IsKept, IsViewAmong, KeptAfter, Found, Coming, has_opened}
 use Rattle.client_session.specs.Opening.{Opening}
 use Rattle.client_session.specs.Sessions.{SessionState, StoreState}
 use Rattle.client_session.proofs.Ranges.{published_there, size_there}
 
 -- ---- as the history goes on
-begins_longer : (a b c : List (ℕ × Event)) → Begins a b → Begins b c → Begins a c
-begins_longer a b c (m, is) (n, goes) = (m ++ n, goes ∙ (ap (λ (l : List (ℕ × Event)). l ++ n) is ∙ append_assoc a m n))
-
 kept_longer : (f : DeskFixed) (log log' : List (ℕ × Event)) → Begins log log' → (v : Version) → IsKept f log v → IsKept f log' v
-kept_longer f log log' begins v k = record { front = k.front; begins = begins_longer k.front log log' k.begins begins; snapshot = k.snapshot; published = k.published }
+kept_longer f log log' begins v k = record { front = k.front; begins = begins_both k.front log log' k.begins begins; snapshot = k.snapshot; published = k.published }
 
 pub kept_stay : (f : DeskFixed) (log log' : List (ℕ × Event)) (vs : List Version) → Begins log log' → All (IsKept f log) vs → All (IsKept f log') vs
 kept_stay f log log' vs begins each = All-weaker (IsKept f log) (IsKept f log') (kept_longer f log log' begins) vs each
 
 -- one of those that are kept
-pub kept_one : (f : DeskFixed) (log : List (ℕ × Event)) (vs : List Version) (i : ℕ) (v : Version) → slice_get vs i ≡ Some v → All (IsKept f log) vs → IsKept f log v
+kept_one : (f : DeskFixed) (log : List (ℕ × Event)) (vs : List Version) (i : ℕ) (v : Version) → slice_get vs i ≡ Some v → All (IsKept f log) vs → IsKept f log v
 kept_one f log vs i v at each = subst (IsKept f log) (get_or_from_slice_get vs i v v at) (each i v (slice_get_within vs i v at))
 
 -- one that was opened just now
@@ -75,14 +75,18 @@ opened_kept {D = D} s s' blob version v o =
           (subst (λ (n : ℕ). IsPublishedIn (store_of f.limits (events s'.log)) blob n) (sym snap.rows) there);
     })
 
+-- ---- after a read
+-- one that came to its version, and one that did not
+pub kept_came : {D : Type 0} (s1 s' : SessionState D) (before : List KeptVersion) (blob version : ℕ) (said : Result (List ℕ) Fault) → s' ≡ record s1 { doors = s'.doors }
+    → has_opened s1.opened blob version ≡ true → KeptAfter said blob version before s'.opened
+kept_came {D = D} s1 s' before blob version said stays has =
+    let now : has_opened s'.opened blob version ≡ true = ap (λ (x : SessionState D). has_opened x.opened blob version) stays ∙ has in
+    record { there = λ came. now; or_before = inl now }
+
+pub kept_before : (fault : Fault) (blob version : ℕ) (before after : List KeptVersion) → page_faults fault ≡ 0 → after ≡ before → KeptAfter (Err fault) blob version before after
+kept_before fault blob version before after calm same = record { there = λ came. absurd (omega (arith, calm, came)); or_before = inr same }
+
 -- ---- rows of the versions below
-pow_some : (i : ℕ) → 1 ≤ 2 ^ i
-pow_some zero = omega arith
-pow_some (suc i) = let rest = pow_some i in omega (arith, rest)
-
-pub page_some : (p : ℕ) → IsPageSize p → 1 ≤ p
-page_some p is = subst (λ (n : ℕ). 1 ≤ n) (sym is.1) (pow_some is.0)
-
 -- an older version's rows are those of the same updates
 pub tells_older : RowsTell → (v : Version) (n : ℕ) → 1 ≤ v.page_size → IsVersion v → n ≤ length v.rows → TellUpdates v.page_size (updates v.rows) (take n v.rows)
 tells_older tell v n some is le =
@@ -156,19 +160,6 @@ few_from : (s : Store) (parents : List (Option Parent)) (es : List Event) → le
 few_from s parents [] few = few
 few_from s parents (e ∷ es) few = few_from (answer s (caller_of e) (call_of e)).0 (parents_after parents e) es (few_after s parents e few)
 
-from_append : (parents : List (Option Parent)) (xs ys : List Event) → parents_from parents (xs ++ ys) ≡ parents_from (parents_from parents xs) ys
-from_append parents [] ys = refl
-from_append parents (x ∷ xs) ys = from_append (parents_after parents x) xs ys
-
-origin_from : (parents : List (Option Parent)) (es : List Event) (blob version : ℕ) → blob ≤ length parents → origin_of (parents_from parents es) blob version ≡ origin_of parents blob version
-origin_from parents [] blob version le = refl
-origin_from parents (Events.Create caller ∷ es) blob version le = origin_from (None ∷ parents) es blob version (omega (arith, le)) ∙ origin_older None parents blob version le
-origin_from parents (Events.Assign caller at place bytes ∷ es) blob version le = origin_from parents es blob version le
-origin_from parents (Events.Finish caller at v ∷ es) blob version le = origin_from parents es blob version le
-origin_from parents (Events.Branch caller at v ∷ es) blob version le =
-    let next : Option Parent = Some (record { blob = at; version = v }) in
-    origin_from (next ∷ parents) es blob version (omega (arith, le)) ∙ origin_older next parents blob version le
-
 -- a blob that is there keeps the origins of its versions
 origin_stays : (f : DeskFixed) (log more : List (ℕ × Event)) (blob version : ℕ) (b : Blob) → blob_at (store_of f.limits (events log)) blob ≡ Some b
     → origin_in (events (log ++ more)) blob version ≡ origin_in (events log) blob version
@@ -187,7 +178,7 @@ get_taken (x ∷ xs) (suc n) zero row e = e
 get_taken (x ∷ xs) (suc n) (suc j) row e = get_taken xs n j row e
 
 -- ---- a version that is kept, or one below it, is found in the history
-pub found_kept : {D : Type 0} → RowsTell → (s : SessionState D) (v : Version) (n : ℕ) → IsVersion v → IsKept s.store.fixed s.log v → n ≤ length v.rows → Found s v.blob n (older_version v n) s
+found_kept : {D : Type 0} → RowsTell → (s : SessionState D) (v : Version) (n : ℕ) → IsVersion v → IsKept s.store.fixed s.log v → n ≤ length v.rows → Found s v.blob n (older_version v n) s
 found_kept tell s v n is k le =
     let f = s.store.fixed in
     let front = k.front in
@@ -200,7 +191,7 @@ found_kept tell s v n is k le =
     ∙ (ap (λ (x : Store). blob_at x v.blob) (store_from-append (empty_store f.limits) (events front) (events more)) ∙ there) in
     let longer : updates_in (desk_at f (front ++ more)) v.blob ≡ updates_in (desk_at f front) v.blob ++ stay.later =
     ap updates_or_none at_log ∙ (stay.updates ∙ ap (λ (o : Option Blob). updates_or_none o ++ stay.later) (sym at)) in
-    let some : 1 ≤ v.page_size = page_some v.page_size is.page_size in
+    let some : 1 ≤ v.page_size = page_pos v.page_size is.page_size in
     let older : TellUpdates f.page_size (updates v.rows) (take n v.rows) =
     subst (λ (p : ℕ). TellUpdates p (updates v.rows) (take n v.rows)) k.snapshot.page_size (tells_older tell v n some is le) in
     let tells : TellUpdates f.page_size (updates_in (desk_at f (front ++ more)) v.blob) (take n v.rows) =
@@ -221,8 +212,15 @@ found_kept tell s v n is k le =
       snapshot = subst (λ (l : List (ℕ × Event)). IsSnapshotOf f l v.blob n (older_version v n)) (sym begins) snap;
     }
 
+pub found_by_view : {D : Type 0} → RowsTell → (s : SessionState D) (vs : List Version) (blob version : ℕ) (view : Version) → All (IsKept s.store.fixed s.log) vs → IsViewAmong vs blob version view
+    → Found s blob version view s
+found_by_view tell s vs blob version view each among =
+    let kept : IsKept s.store.fixed s.log among.whole = kept_one s.store.fixed s.log vs among.covers.index among.whole among.covers.is each in
+    subst (λ (v : Version). Found s blob version v s) (sym among.is)
+    (subst (λ (b : ℕ). Found s b version (older_version among.whole version) s) among.covers.blob_is (found_kept tell s among.whole version among.stands kept among.covers.reaches))
+
 -- and so it is once the session has come there
-pub found_there : {A D : Type 0} {said : Result A Fault} (s s1 : SessionState D) (blob version : ℕ) (v : Version) → Coming s blob version said s1 → Found s1 blob version v s1 → Found s blob version v s1
+pub found_there : {A D : Type 0} {said : Result A OpenFault} (s s1 : SessionState D) (blob version : ℕ) (v : Version) → Coming s blob version said s1 → Found s1 blob version v s1 → Found s blob version v s1
 found_there {D = D} s s1 blob version v o f = record {
   gap = o.gap;
   others = o.others;

@@ -14,11 +14,12 @@ use Rattle.blob_model.specs.declared.call.Refusal.TheVariants as Refusals
 use Rattle.range_log.specs.Updates.{extents}
 use Rattle.snapshot.specs.Versions.{Version}
 use Rattle.snapshot.specs.Laws.{TellUpdates}
-use Rattle.version_manager.specs.Desks.{OnRefused, updates_in}
+use Rattle.version_manager.specs.Desks.{updates_in, unopened_size}
 use Rattle.version_manager.specs.Log.{IsSnapshotOf, desk_at, events, outcome_in}
 use Rattle.version_manager.specs.declared.journal.DeskFixed.{DeskFixed}
-use Rattle.version_manager.specs.declared.fault.DeskFault.{DeskFault}
-use Rattle.version_manager.specs.declared.fault.DeskFault.TheVariants as DeskFaults
+use Rattle.version_manager.specs.declared.fault.OpenFault.{OpenFault}
+use Rattle.version_manager.specs.declared.fault.OpenFault.TheVariants as OpenFaults
+use Rattle.request_form.specs.Replies.{fault_of}
 use Rattle.request_form.specs.Session.{Session, outcome_at}
 use Rattle.request_form.specs.Answers.{AfterGap, Answers, AreContents, ReadManyTurn, Unless, ranges_fault}
 use Rattle.request_form.specs.declared.form.Request.TheVariants as Requests
@@ -31,16 +32,17 @@ use Rattle.session_parts.specs.declared.reading.RangeFault.{RangeFault}
 use Rattle.session_parts.specs.declared.reading.RangeFault.TheVariants as RangeFaults
 use Rattle.session_parts.specs.Ranges.{IsMetByOne, OnRangePast, OnPageLost, joined, first_end_past, visits_of}
 use Rattle.session_parts.proofs.JoinedRanges.{some_past}
-use Rattle.client_session.specs.Results.{desk_fault, range_of, contents_reply}
+use Rattle.client_session.specs.Results.{starved_fault, unread_fault, range_of, contents_reply}
+use Rattle.client_session.specs.Memory.{IfNoMemory}
 use Rattle.client_session.specs.Kept.{Coming, Found}
 use Rattle.client_session.specs.Opening.{RangesCause, ReadsRanges}
 use Rattle.client_session.specs.Sessions.{SessionState, session_at, session_of, all_visits_seen, NoStepIfOneRefused}
 use Rattle.client_session.proofs.Turns.{outcome_of_gap, seen_gap}
-use Rattle.client_session.proofs.Ranges.{read_refused, read_past, read_within, not_below}
+use Rattle.client_session.proofs.Ranges.{read_refused, read_past, read_within, not_below, told_size}
 use Rattle.client_session.proofs.RangeAnswers.{IsThat, same_range, seen_to}
 
 -- ---- which of them end past the size
-none_of_both : (x : Bool) (end : ℕ) (o : Option ℕ) → (if x then Some end else o) ≡ None → (x ≡ false) × (o ≡ None)
+pub none_of_both : (x : Bool) (end : ℕ) (o : Option ℕ) → (if x then Some end else o) ≡ None → (x ≡ false) × (o ≡ None)
 none_of_both true end o e = cc
 none_of_both false end o e = (refl, e)
 
@@ -52,17 +54,24 @@ other_of_both : (x : Bool) (end : ℕ) (o : Option ℕ) → x ≡ false → (if 
 other_of_both true end o is = absurd (false≢true (sym is))
 other_of_both false end o is = refl
 
-within_by : (size end : ℕ) → nat_lt size end ≡ false → end ≤ size
+pub within_by : (size end : ℕ) → nat_lt size end ≡ false → end ≤ size
 within_by size end is = elim (cases_lt size end) [ inl past ↦ absurd (false≢true (sym is ∙ lt-ltb size end past)) | inr within ↦ within ]
 
 -- each of them ends within the size, where none is past it
-each_within : (size : ℕ) (ranges : List (ℕ × ℕ)) (range : ℕ × ℕ) → Contains ranges range → first_end_past size ranges ≡ None → range.0 + range.1 ≤ size
+pub each_within : (size : ℕ) (ranges : List (ℕ × ℕ)) (range : ℕ × ℕ) → Contains ranges range → first_end_past size ranges ≡ None → range.0 + range.1 ≤ size
 each_within size ranges range (k, lt, is) none =
     let there : slice_index_or ranges k (0, 0) ≡ range = get_or_default ranges k (0, 0) range lt ∙ is in
     elim (cases_lt size (range.0 + range.1)) [
       | inl past ↦ absurd (some_past size ranges k lt (subst (λ (r : ℕ × ℕ). size < r.0 + r.1) (sym there) past) none)
       | inr within ↦ within
     ]
+
+-- where no memory was found for their version, one of them may end past the size
+starved_cause : (p : ℕ) (us : List Update) (version size : ℕ) (ranges : List (ℕ × ℕ)) (o : Option ℕ) → first_end_past size ranges ≡ o → size ≡ size_of us version
+    → RangesCause p us version ranges (starved_fault size o)
+starved_cause p us version size ranges (Some end) first is =
+    RangesCause.past end (ap (λ (n : ℕ). Faults.RangePastSize end n) is) (subst (λ (n : ℕ). first_end_past n ranges ≡ Some end) is first)
+starved_cause p us version size ranges None first is = RangesCause.no_memory refl
 
 not_none : (o : Option ℕ) (end : ℕ) → o ≡ Some end → o ≢ None
 not_none o end is none = cc
@@ -73,10 +82,10 @@ not_both r bytes e = cc
 -- ---- a turn that left the history as it found it
 module _ (f : DeskFixed) (caller : ℕ) (log log' gap : List (ℕ × Event)) (others : AllOther caller (events gap)) (same : log' ≡ log ++ gap) (held : List OpenUpdate) (next limit blob version : ℕ) where
   -- the version isn't there: the first range is refused
-  refused_ranges : (fault : DeskFault) (ranges : List (ℕ × ℕ)) → 1 ≤ length ranges → OnRefused fault (λ r. outcome_in f (log ++ gap) caller (Calls.Size blob version) ≡ Outcomes.Refused r)
-      → AfterGap AllOther (session_at f caller log held next limit) (ReadManyTurn (session_at f caller log held next limit) blob version ranges) (Replies.Refused (desk_fault fault)) (session_at f caller log' held next limit)
-  refused_ranges fault [] some e = absurd (omega arith)
-  refused_ranges (DeskFaults.Refused r) (range ∷ ranges) some e =
+  refused_ranges : (r : Refusal) (ranges : List (ℕ × ℕ)) → 1 ≤ length ranges → outcome_in f (log ++ gap) caller (Calls.Size blob version) ≡ Outcomes.Refused r
+      → AfterGap AllOther (session_at f caller log held next limit) (ReadManyTurn (session_at f caller log held next limit) blob version ranges) (Replies.Refused (fault_of r)) (session_at f caller log' held next limit)
+  refused_ranges r [] some e = absurd (omega arith)
+  refused_ranges r (range ∷ ranges) some e =
       record {
         others = events gap;
         is_gap = others;
@@ -86,8 +95,6 @@ module _ (f : DeskFixed) (caller : ℕ) (log log' gap : List (ℕ × Event)) (ot
         said = refl;
         seen = seen_gap f caller log log' gap held next limit same;
       }
-  refused_ranges DeskFaults.NoMemory (range ∷ ranges) some e =
-      record { others = events gap; is_gap = others; turn = _; may = ReadManyTurn.out_of_memory; said = refl; seen = seen_gap f caller log log' gap held next limit same }
 
   -- the version is there, with so many bytes
   module _ (n : ℕ) (there : outcome_in f (log ++ gap) caller (Calls.Size blob version) ≡ Outcomes.Size n) where
@@ -207,6 +214,14 @@ module _ (f : DeskFixed) (caller : ℕ) (log log' gap : List (ℕ × Event)) (ot
             absurd (not_both r (take range.1 (drop range.0 (content updates version)))
             (sym e ∙ (outcome_of_gap f caller log' log' [] held next limit call ∙ (now ∙ read_within f (log ++ gap) caller blob version range.0 range.1 n there within))))
 
+  -- the version wasn't opened
+  unread_answer : (fault : OpenFault) (ranges : List (ℕ × ℕ)) → 1 ≤ length ranges → outcome_in f (log ++ gap) caller (Calls.Size blob version) ≡ unopened_size fault
+      → AfterGap AllOther (session_at f caller log held next limit) (ReadManyTurn (session_at f caller log held next limit) blob version ranges) (Replies.Refused (unread_fault fault ranges)) (session_at f caller log' held next limit)
+  unread_answer (OpenFaults.Refused r) ranges some e = refused_ranges r ranges some e
+  unread_answer (OpenFaults.NoMemory size) ranges some e =
+      failed_ranges size e ranges (starved_fault size (first_end_past size ranges))
+      (starved_cause f.page_size (updates_in (desk_at f (log ++ gap)) blob) version size ranges (first_end_past size ranges) refl (told_size f (log ++ gap) caller blob version size e))
+
 -- ---- a read of many ranges comes to its version, and then reads ranges of it
 few_together : (o : Option Fault) (s : Session) (reply : Reply) (s' : Session) (Answer : Type 0) → o ≡ None → Answer → Unless o s reply s' Answer
 few_together None s reply s' Answer is answer = answer
@@ -233,23 +248,20 @@ module _ {D : Type 0} (s s1 : SessionState D) (blob version : ℕ) (ranges : Lis
       subst (λ (x : Session). Answers AllOther (session_of s) (Requests.ReadMany blob version ranges) (contents_reply said) x) (sym now)
       (few_together (ranges_fault 0 ranges) (session_of s) (contents_reply said) (seen_to s s1.log) (AfterGap AllOther (session_of s) (ReadManyTurn (session_of s) blob version ranges) (contents_reply said) (seen_to s s1.log)) few answer)
 
-  pub unopened_ranges : {A : Type 0} (fault : Fault) → 1 ≤ length ranges → Coming {A = A} s blob version (Err fault) s1
-      → Answers AllOther (session_of s) (Requests.ReadMany blob version ranges) (contents_reply (Err fault)) (session_of s1)
+  pub unopened_ranges : {A : Type 0} (fault : OpenFault) → 1 ≤ length ranges → Coming {A = A} s blob version (Err fault) s1
+      → Answers AllOther (session_of s) (Requests.ReadMany blob version ranges) (contents_reply (Err (unread_fault fault ranges))) (session_of s1)
   unopened_ranges fault some o =
       let f = s.store.fixed in
-      let why = o.refused.why in
-      let refused : OnRefused why (λ r. outcome_in f (s.log ++ o.gap) s.caller (Calls.Size blob version) ≡ Outcomes.Refused r) =
-      subst (λ (l : List (ℕ × Event)). OnRefused why (λ r. outcome_in f l s.caller (Calls.Size blob version) ≡ Outcomes.Refused r)) o.log o.refused.refused
+      let reply : Reply = Replies.Refused (unread_fault fault ranges) in
+      let is : outcome_in f (s.log ++ o.gap) s.caller (Calls.Size blob version) ≡ unopened_size fault =
+      subst (λ (l : List (ℕ × Event)). outcome_in f l s.caller (Calls.Size blob version) ≡ unopened_size fault) o.log o.not_opened
       in
-      let reply : Reply = Replies.Refused (desk_fault why) in
       let answer : AfterGap AllOther (session_of s) (ReadManyTurn (session_of s) blob version ranges) reply (seen_to s s1.log) =
-      refused_ranges f s.caller s.log s1.log o.gap o.others o.log s.held s.next s.limit blob version why ranges some refused
+      unread_answer f s.caller s.log s1.log o.gap o.others o.log s.held s.next s.limit blob version fault ranges some is
       in
       let now : session_of s1 ≡ seen_to s s1.log = ap (λ (x : SessionState D). session_of x) o.same in
-      let same : reply ≡ Replies.Refused fault = ap Replies.Refused (sym o.refused.said) in
-      subst (λ (x : Session). Answers AllOther (session_of s) (Requests.ReadMany blob version ranges) (contents_reply (Err fault)) x) (sym now)
-      (subst (λ (x : Reply). Answers AllOther (session_of s) (Requests.ReadMany blob version ranges) x (seen_to s s1.log)) same
-      (few_together (ranges_fault 0 ranges) (session_of s) reply (seen_to s s1.log) (AfterGap AllOther (session_of s) (ReadManyTurn (session_of s) blob version ranges) reply (seen_to s s1.log)) few answer))
+      subst (λ (x : Session). Answers AllOther (session_of s) (Requests.ReadMany blob version ranges) reply x) (sym now)
+      (few_together (ranges_fault 0 ranges) (session_of s) reply (seen_to s s1.log) (AfterGap AllOther (session_of s) (ReadManyTurn (session_of s) blob version ranges) reply (seen_to s s1.log)) few answer)
 
   -- no node was met where a range is refused
   pub no_step_opened : (s' : SessionState D) (v : Version) → Found s blob version v s1 → s' ≡ record s1 { doors = s'.doors } → (before after : ℕ)
@@ -318,3 +330,14 @@ reads_ranges p version us ranges (Err (RangeFaults.PageFault page)) is refused p
     let none : first_end_past (size_of us version) ranges ≡ None = none_if (first_end_past (size_of us version) ranges) (λ end e. not_lost page end (size_of us version) (refused end e)) in
     record { bytes = tt; within = tt; cause = RangesCause.lost page refl none lost }
 reads_ranges p version us ranges (Err RangeFaults.NoMemory) is refused past lost = record { bytes = tt; within = tt; cause = RangesCause.no_memory refl }
+
+-- where they aren't read for want of memory, all lie within the size
+not_that : (end size : ℕ) → IsThat (Err RangeFaults.NoMemory) (Err (RangeFaults.RangePastSize end size)) → ⊥
+not_that end size e = cc
+
+pub ranges_starved : (size : ℕ) (ranges : List (ℕ × ℕ)) (r : Result (List ℕ) RangeFault) → ((end : ℕ) → first_end_past size ranges ≡ Some end → IsThat r (Err (RangeFaults.RangePastSize end size)))
+    → IfErr (range_of r) (λ fault. IfNoMemory fault (first_end_past size ranges ≡ None))
+ranges_starved size ranges (Ok bytes) refused = tt
+ranges_starved size ranges (Err (RangeFaults.RangePastSize end n)) refused = λ is. let never : ⊥ = cc in absurd never
+ranges_starved size ranges (Err (RangeFaults.PageFault page)) refused = λ is. let never : ⊥ = cc in absurd never
+ranges_starved size ranges (Err RangeFaults.NoMemory) refused = λ is. none_if (first_end_past size ranges) (λ end e. not_that end size (refused end e))

@@ -1,6 +1,7 @@
 -- What a session has seen where it answers want of memory.
-use Rattle.std.proofs.Common.{◌≡◌, sym, ◌∙◌, ap, subst, ℕ, ◌≤◌, true, false, List, [], ◌++◌, append-nil, length, Option, Some, Result, Ok, Err}
-use Rattle.std.specs.Prelude.{IfErr}
+use Rattle.std.proofs.Common.{◌≡◌, refl, sym, ◌∙◌, ap, subst, ℕ, ◌+◌, ◌≤◌, true, false, List, [], ◌∷◌, ◌++◌, append-nil, length, Option, Some, None, Result, Ok, Err}
+use Rattle.std.specs.Prelude.{nat_lt, IfErr}
+use Rattle.blob_model.specs.Content.{size_of}
 use Rattle.blob_model.specs.Store.{Store, Blob}
 use Rattle.blob_model.specs.Answer.{repair_refusal}
 use Rattle.blob_model.specs.History.{is_refused, store_of}
@@ -13,25 +14,32 @@ use Rattle.blob_model.specs.declared.call.Refusal.{Refusal}
 use Rattle.blob_model.specs.declared.call.Refusal.TheVariants as Refusals
 use Rattle.border_hints.specs.Numbered.{NumberedUpdate}
 use Rattle.snapshot.specs.Versions.{Version}
+use Rattle.snapshot.specs.Laws.{TellUpdates}
 use Rattle.turn_lock.specs.Shown.{PassView, Turned}
-use Rattle.version_manager.specs.Desks.{IsUnfinished, IsTicketOf, finished_or_not, is_finished_in, updates_in, OnNoMemory}
+use Rattle.version_manager.specs.Desks.{IsUnfinished, IsTicketOf, finished_or_not, is_finished_in, updates_in, OnNoMemory, unopened_size}
 use Rattle.version_manager.specs.Laws.{GapsAreOfOthers}
-use Rattle.version_manager.specs.Log.{Changed, Finishes, Opened, desk_at, events, outcome_in}
+use Rattle.version_manager.specs.Log.{Changed, Finishes, desk_at, events, outcome_in}
 use Rattle.version_manager.specs.Stays.{ticket_stays}
 use Rattle.version_manager.specs.declared.journal.DeskFixed.{DeskFixed}
 use Rattle.version_manager.specs.declared.fault.DeskFault.{DeskFault}
 use Rattle.version_manager.specs.declared.fault.DeskFault.TheVariants as DeskFaults
+use Rattle.version_manager.specs.declared.fault.OpenFault.{OpenFault}
+use Rattle.version_manager.specs.declared.fault.OpenFault.TheVariants as OpenFaults
 use Rattle.request_form.specs.Replies.{fault_of}
 use Rattle.request_form.specs.Session.{Session}
 use Rattle.request_form.specs.declared.form.Fault.{Fault}
 use Rattle.request_form.specs.declared.form.Fault.TheVariants as Faults
+use Rattle.session_parts.specs.Ranges.{OverUpdates, first_end_past}
 use Rattle.session_parts.specs.Tickets.{OpenUpdate, IsHeldAt}
 use Rattle.client_session.specs.Finishing.{bare, settles}
-use Rattle.client_session.specs.Memory.{IfNoMemory, IsTakenNow, IsLeft, IsHeldLeft}
-use Rattle.client_session.specs.Kept.{Found}
-use Rattle.client_session.specs.Results.{desk_fault, told_of, opened_of}
+use Rattle.client_session.specs.Memory.{IfNoMemory, IsTakenNow, AreTakenNow, IsLeft, IsHeldLeft}
+use Rattle.client_session.specs.Kept.{Coming, Found}
+use Rattle.client_session.specs.Opening.{Opening}
+use Rattle.client_session.specs.Results.{desk_fault, told_of, opened_of, starved_fault, unread_fault}
 use Rattle.client_session.specs.Sessions.{SessionState, session_at, session_of}
 use Rattle.client_session.proofs.Finished.{numbered_there, report_said}
+use Rattle.client_session.proofs.Ranges.{read_within, told_size}
+use Rattle.client_session.proofs.ManyRanges.{none_of_both, within_by, each_within}
 use Rattle.client_session.proofs.StoreAnswers.{refusal_of_numbered}
 use Rattle.client_session.proofs.Turns.{Took, took, outcome_of_gap}
 
@@ -63,7 +71,7 @@ module _ (f : DeskFixed) (caller : ℕ) (log log' : List (ℕ × Event)) (held :
   taken_gap : (gap : List (ℕ × Event)) (call : Call) → log' ≡ log ++ gap → is_refused (outcome_in f (log ++ gap) caller call) ≡ false → IsTakenNow (session_at f caller log' held next limit) call
   taken_gap gap call same e = taken_seen call (ap (λ (h : List (ℕ × Event)). is_refused (outcome_in f h caller call)) same ∙ e)
 
-  -- a change, and a look at a version
+  -- a change
   pub changed_memory : (call : Call) (event : Event) (r : Result ℕ DeskFault)
       → Took caller log log' (λ before after. Changed f call event (λ (id : ℕ). Outcomes.Blob id) (λ (x : DeskFault). x) before caller r after)
       → IfErr (told_of r) (λ fault. IfNoMemory fault (IsTakenNow (session_at f caller log' held next limit) call))
@@ -71,19 +79,83 @@ module _ (f : DeskFixed) (caller : ℕ) (log log' : List (ℕ × Event)) (held :
   changed_memory call event (Err (DeskFaults.Refused refusal)) t = refused_else refusal _
   changed_memory call event (Err DeskFaults.NoMemory) t = λ is. taken_gap t.gap call t.gives.same t.gives.memory
 
-  pub opened_memory : (blob version : ℕ) (r : Result Version DeskFault) → Took caller log log' (λ before after. Opened f blob version before caller r after)
-      → IfErr (opened_of r) (λ fault. IfNoMemory fault (IsTakenNow (session_at f caller log' held next limit) (Calls.Size blob version)))
-  opened_memory blob version (Ok v) t = tt
-  opened_memory blob version (Err (DeskFaults.Refused refusal)) t = refused_else refusal _
-  opened_memory blob version (Err DeskFaults.NoMemory) t = λ is. taken_gap t.gap (Calls.Size blob version) t.gives.same t.gives.memory
+  -- a range within a version that is there, and many
+  read_taken : (blob version offset count n : ℕ) → outcome_in f log' caller (Calls.Size blob version) ≡ Outcomes.Size n → offset + count ≤ n
+      → IsTakenNow (session_at f caller log' held next limit) (Calls.Read blob version offset count)
+  read_taken blob version offset count n there within =
+      let inside : offset + count ≤ size_of (updates_in (desk_at f log') blob) version = subst (λ (m : ℕ). offset + count ≤ m) (told_size f log' caller blob version n there) within in
+      taken_seen (Calls.Read blob version offset count) (ap is_refused (read_within f log' caller blob version offset count n there inside))
 
--- a version that was come to is there
-pub found_taken : {A D : Type 0} (s s1 s' : SessionState D) (blob version : ℕ) (v : Version) (said : Result A Fault) → Found s blob version v s1 → s' ≡ record s1 { doors = s'.doors }
-    → IfErr said (λ fault. IfNoMemory fault (IsTakenNow (session_of s') (Calls.Size blob version)))
-found_taken s s1 s' blob version v (Ok bytes) o stays = tt
-found_taken s s1 s' blob version v (Err fault) o stays = λ is.
-    subst (λ (x : Session). IsTakenNow x (Calls.Size blob version)) (sym (ap session_of stays ∙ ap session_of o.same))
-    (taken_seen s.store.fixed s.caller s.log s1.log s.held s.next s.limit (Calls.Size blob version) (ap is_refused o.done))
+  ranges_taken : (blob version n : ℕ) (ranges : List (ℕ × ℕ)) → outcome_in f log' caller (Calls.Size blob version) ≡ Outcomes.Size n → first_end_past n ranges ≡ None
+      → AreTakenNow (session_at f caller log' held next limit) blob version ranges
+  ranges_taken blob version n ranges there none = record {
+    there = taken_seen (Calls.Size blob version) (ap is_refused there);
+    each = λ range among. read_taken blob version range.0 range.1 n there (each_within n ranges range among none);
+  }
+
+-- ---- a version that wasn't opened
+-- it is there where no memory was found
+pub opening_memory : {D : Type 0} (s s1 : SessionState D) (blob version : ℕ) (r : Result Version OpenFault) → Opening s blob version (opened_of r) s1
+    → IfErr r (λ fault. outcome_in s.store.fixed s1.log s.caller (Calls.Size blob version) ≡ unopened_size fault)
+    → IfErr (opened_of r) (λ fault. IfNoMemory fault (IsTakenNow (session_of s1) (Calls.Size blob version)))
+opening_memory s s1 blob version (Ok v) o is = tt
+opening_memory s s1 blob version (Err (OpenFaults.Refused refusal)) o is = refused_else refusal _
+opening_memory s s1 blob version (Err (OpenFaults.NoMemory size)) o is = λ none.
+    subst (λ (x : Session). IsTakenNow x (Calls.Size blob version)) (sym (ap session_of o.same))
+    (taken_seen s.store.fixed s.caller s.log s1.log s.held s.next s.limit (Calls.Size blob version) (ap is_refused is))
+
+-- and the ranges lie within it
+starved_none : (size : ℕ) (o : Option ℕ) → starved_fault size o ≡ Faults.NoMemory → o ≡ None
+starved_none size (Some end) is = let never : ⊥ = cc in absurd never
+starved_none size None is = refl
+
+one_within : (size offset count : ℕ) → first_end_past size ((offset, count) ∷ []) ≡ None → offset + count ≤ size
+one_within size offset count none = within_by size (offset + count) (none_of_both (nat_lt size (offset + count)) (offset + count) None none).0
+
+module _ {A D : Type 0} (s s1 : SessionState D) (blob version : ℕ) where
+  pub read_unread : (offset count : ℕ) (fault : OpenFault) → Coming {A = A} s blob version (Err fault) s1
+      → IfNoMemory (unread_fault fault ((offset, count) ∷ [])) (IsTakenNow (session_of s1) (Calls.Read blob version offset count))
+  read_unread offset count (OpenFaults.Refused refusal) o = refused_else refusal _
+  read_unread offset count (OpenFaults.NoMemory size) o = λ is.
+      subst (λ (x : Session). IsTakenNow x (Calls.Read blob version offset count)) (sym (ap session_of o.same))
+      (read_taken s.store.fixed s.caller s.log s1.log s.held s.next s.limit blob version offset count size o.not_opened
+      (one_within size offset count (starved_none size (first_end_past size ((offset, count) ∷ [])) is)))
+
+  pub ranges_unread : (ranges : List (ℕ × ℕ)) (fault : OpenFault) → Coming {A = A} s blob version (Err fault) s1
+      → IfNoMemory (unread_fault fault ranges) (AreTakenNow (session_of s1) blob version ranges)
+  ranges_unread ranges (OpenFaults.Refused refusal) o = refused_else refusal _
+  ranges_unread ranges (OpenFaults.NoMemory size) o = λ is.
+      subst (λ (x : Session). AreTakenNow x blob version ranges) (sym (ap session_of o.same))
+      (ranges_taken s.store.fixed s.caller s.log s1.log s.held s.next s.limit blob version size ranges o.not_opened (starved_none size (first_end_past size ranges) is))
+
+-- ---- a version that was come to
+module _ {D : Type 0} (s s1 s' : SessionState D) (blob version : ℕ) (v : Version) (o : Found s blob version v s1) (stays : s' ≡ record s1 { doors = s'.doors }) where
+  found_session : session_of s' ≡ session_at s.store.fixed s.caller s1.log s.held s.next s.limit
+  found_session = ap session_of stays ∙ ap session_of o.same
+
+  found_tells : TellUpdates v.page_size (updates_in (desk_at s.store.fixed s1.log) blob) v.rows
+  found_tells = subst (λ (p : ℕ). TellUpdates p (updates_in (desk_at s.store.fixed s1.log) blob) v.rows) (sym o.snapshot.page_size) o.snapshot.tells
+
+  -- its size, by the updates that its rows tell
+  found_size : size_of (updates_in (desk_at s.store.fixed s1.log) blob) (length v.rows) ≡ o.size
+  found_size = ap (size_of (updates_in (desk_at s.store.fixed s1.log) blob)) o.snapshot.rows ∙ sym (told_size s.store.fixed s1.log s.caller blob version o.size o.done)
+
+  pub found_within : (offset count : ℕ) (said : Result (List ℕ) Fault) → OverUpdates v (λ us. IfErr said (λ fault. IfNoMemory fault (offset + count ≤ size_of us (length v.rows))))
+      → IfErr said (λ fault. IfNoMemory fault (IsTakenNow (session_of s') (Calls.Read blob version offset count)))
+  found_within offset count (Ok bytes) within = tt
+  found_within offset count (Err fault) within = λ is.
+      subst (λ (x : Session). IsTakenNow x (Calls.Read blob version offset count)) (sym found_session)
+      (read_taken s.store.fixed s.caller s.log s1.log s.held s.next s.limit blob version offset count o.size o.done
+      (subst (λ (n : ℕ). offset + count ≤ n) found_size (within (updates_in (desk_at s.store.fixed s1.log) blob) found_tells is)))
+
+  pub found_all_within : (ranges : List (ℕ × ℕ)) (said : Result (List ℕ) Fault)
+      → OverUpdates v (λ us. IfErr said (λ fault. IfNoMemory fault (first_end_past (size_of us (length v.rows)) ranges ≡ None)))
+      → IfErr said (λ fault. IfNoMemory fault (AreTakenNow (session_of s') blob version ranges))
+  found_all_within ranges (Ok bytes) within = tt
+  found_all_within ranges (Err fault) within = λ is.
+      subst (λ (x : Session). AreTakenNow x blob version ranges) (sym found_session)
+      (ranges_taken s.store.fixed s.caller s.log s1.log s.held s.next s.limit blob version o.size ranges o.done
+      (subst (λ (n : ℕ). first_end_past n ranges ≡ None) found_size (within (updates_in (desk_at s.store.fixed s1.log) blob) found_tells is)))
 
 -- ---- an update that is left
 -- it is, where it is numbered and isn't finished

@@ -1,7 +1,7 @@
 -- What a session answers a read, by what its turn and its walk gave.
-use Rattle.std.proofs.Common.{◌≡◌, refl, sym, ◌∙◌, ap, ℕ, ◌+◌, ◌<◌, ◌≤◌, subst, List, ◌++◌, length, take, drop, Result, Ok, Err, Bool, true, false, Some, None, arith}
+use Rattle.std.proofs.Common.{◌≡◌, refl, sym, ◌∙◌, ap, ℕ, ◌+◌, ◌<◌, ◌≤◌, subst, List, [], ◌∷◌, ◌++◌, length, take, drop, Result, Ok, Err, Bool, true, false, Some, None, arith, inl, inr}
 use Rattle.std.specs.Prelude.{nat_lt, if◌then◌else◌, IfOk, OnOk, IfErr}
-use Rattle.std.proofs.lemmas.Bool.{ltb-true, false≢true}
+use Rattle.std.proofs.lemmas.Bool.{ltb-true, false≢true, cases_lt}
 use Rattle.faults.specs.Counts.{RoseBy}
 use Rattle.blob_model.specs.Answer.{answer}
 use Rattle.blob_model.specs.Content.{Update, content, size_of}
@@ -13,11 +13,13 @@ use Rattle.blob_model.specs.declared.call.Event.{Event}
 use Rattle.blob_model.specs.declared.call.Outcome.TheVariants as Outcomes
 use Rattle.blob_model.specs.declared.call.Refusal.{Refusal}
 use Rattle.blob_model.specs.declared.call.Refusal.TheVariants as Refusals
-use Rattle.version_manager.specs.Desks.{OnRefused, updates_in}
+use Rattle.version_manager.specs.Desks.{updates_in, unopened_size}
 use Rattle.version_manager.specs.Log.{Opened, IsSnapshotOf, desk_at, events, outcome_in}
 use Rattle.version_manager.specs.declared.journal.DeskFixed.{DeskFixed}
-use Rattle.version_manager.specs.declared.fault.DeskFault.{DeskFault}
 use Rattle.version_manager.specs.declared.fault.DeskFault.TheVariants as DeskFaults
+use Rattle.version_manager.specs.declared.fault.OpenFault.{OpenFault}
+use Rattle.version_manager.specs.declared.fault.OpenFault.TheVariants as OpenFaults
+use Rattle.request_form.specs.Replies.{fault_of}
 use Rattle.request_form.specs.Session.{Session}
 use Rattle.request_form.specs.Answers.{AfterGap, Answers, ReadTurn, Unless, read_fault, max_read}
 use Rattle.request_form.specs.declared.form.Request.TheVariants as Requests
@@ -28,13 +30,14 @@ use Rattle.request_form.specs.declared.form.Fault.TheVariants as Faults
 use Rattle.session_parts.specs.declared.reading.RangeFault.{RangeFault}
 use Rattle.session_parts.specs.declared.reading.RangeFault.TheVariants as RangeFaults
 use Rattle.session_parts.specs.Tickets.{OpenUpdate}
-use Rattle.session_parts.specs.Ranges.{IsMet, OnRangePast, OnPageLost}
-use Rattle.client_session.specs.Results.{desk_fault, opened_of, range_of, read_reply}
-use Rattle.client_session.specs.Opening.{Opening, RangeCause, ReadsRange}
+use Rattle.session_parts.specs.Ranges.{IsMet, OnRangePast, OnPageLost, first_end_past}
+use Rattle.client_session.specs.Results.{open_fault, opened_of, starved_fault, unread_fault, range_of, read_reply}
+use Rattle.client_session.specs.Opening.{Opening, NotOpened, RangeCause, ReadsRange}
+use Rattle.client_session.specs.Memory.{IfNoMemory}
 use Rattle.client_session.specs.Kept.{Coming, Found}
 use Rattle.client_session.specs.Sessions.{SessionState, session_at, session_of}
 use Rattle.client_session.proofs.Turns.{Took, outcome_of_gap, seen_gap}
-use Rattle.client_session.proofs.Ranges.{read_refused, read_past, read_within, count_within, not_below}
+use Rattle.client_session.proofs.Ranges.{read_refused, read_past, read_within, count_within, not_below, told_size}
 
 -- ---- the count of faults
 pub rose_none : (n a b : ℕ) → n ≡ 0 → a ≤ b → RoseBy n a b
@@ -74,8 +77,41 @@ reads_range p version offset count us (Err (RangeFaults.PageFault page)) few is 
 reads_range p version offset count us (Err RangeFaults.NoMemory) few is within refused past lost met =
     record { bytes = tt; few = tt; within = tt; cause = RangeCause.no_memory refl }
 
+-- where it isn't read for want of memory, it lies within the size
+not_that : (end size : ℕ) → IsThat (Err RangeFaults.NoMemory) (Err (RangeFaults.RangePastSize end size)) → ⊥
+not_that end size e = cc
+
+pub range_starved : (size end : ℕ) (r : Result (List ℕ) RangeFault) → (size < end → IsThat r (Err (RangeFaults.RangePastSize end size)))
+    → IfErr (range_of r) (λ fault. IfNoMemory fault (end ≤ size))
+range_starved size end (Ok bytes) refused = tt
+range_starved size end (Err (RangeFaults.RangePastSize e n)) refused = λ is. let never : ⊥ = cc in absurd never
+range_starved size end (Err (RangeFaults.PageFault page)) refused = λ is. let never : ⊥ = cc in absurd never
+range_starved size end (Err RangeFaults.NoMemory) refused = λ is. elim (cases_lt size end) [
+  | inl past ↦ absurd (not_that end size (refused past))
+  | inr within ↦ within
+]
+
+-- where no memory was found for its version, it may end past the size
+starved_cause : (p : ℕ) (us : List Update) (version offset count size : ℕ) (x : Bool) → nat_lt size (offset + count) ≡ x → size ≡ size_of us version → count ≤ max_read
+    → RangeCause p us version offset count (starved_fault size (if x then Some (offset + count) else None))
+starved_cause p us version offset count size true past is few =
+    let size_past : size < offset + count = ltb-true size (offset + count) past in
+    RangeCause.past (ap (λ (n : ℕ). Faults.RangePastSize (offset + count) n) is) few (subst (λ (n : ℕ). n < offset + count) is size_past)
+starved_cause p us version offset count size false within is few = RangeCause.no_memory refl
+
 -- the version was opened, or wasn't
-pub opening_told : {D : Type 0} (s : SessionState D) (log' : List (ℕ × Event)) (blob version : ℕ) (r : Result Version DeskFault)
+not_opened_for : (f : DeskFixed) (log : List (ℕ × Event)) (caller blob version : ℕ) (fault : OpenFault) → outcome_in f log caller (Calls.Size blob version) ≡ unopened_size fault
+    → NotOpened f log caller blob version (open_fault fault)
+not_opened_for f log caller blob version (OpenFaults.Refused refusal) e = record { why = DeskFaults.Refused refusal; said = refl; refused = e }
+not_opened_for f log caller blob version (OpenFaults.NoMemory size) e = record { why = DeskFaults.NoMemory; said = refl; refused = tt }
+
+pub not_opened_told : (f : DeskFixed) (caller : ℕ) (log log' : List (ℕ × Event)) (blob version : ℕ) (r : Result Version OpenFault)
+    → Took caller log log' (λ before after. Opened f blob version before caller r after) → IfErr r (λ fault. outcome_in f log' caller (Calls.Size blob version) ≡ unopened_size fault)
+not_opened_told f caller log log' blob version (Ok v) t = tt
+not_opened_told f caller log log' blob version (Err fault) t =
+    subst (λ (l : List (ℕ × Event)). outcome_in f l caller (Calls.Size blob version) ≡ unopened_size fault) (sym t.gives.same) t.gives.not_opened
+
+pub opening_told : {D : Type 0} (s : SessionState D) (log' : List (ℕ × Event)) (blob version : ℕ) (r : Result Version OpenFault)
     → Took s.caller s.log log' (λ before after. Opened s.store.fixed blob version before s.caller r after) → Opening s blob version (opened_of r) (record s { log = log'; turns = s.turns + 1 })
 opening_told s log' blob version (Ok v) t =
     let here = subst (λ (l : List (ℕ × Event)). IsSnapshotOf s.store.fixed l blob version v) (sym t.gives.same) t.gives.snapshot in
@@ -99,11 +135,7 @@ opening_told s log' blob version (Err fault) t = record {
   done = tt;
   snapshot = tt;
   of_store = tt;
-  refused = record {
-    why = fault;
-    said = refl;
-    refused = subst (λ (l : List (ℕ × Event)). OnRefused fault (λ refusal. outcome_in s.store.fixed l s.caller (Calls.Size blob version) ≡ Outcomes.Refused refusal)) (sym t.gives.same) t.gives.refused;
-  };
+  refused = not_opened_for s.store.fixed log' s.caller blob version fault (not_opened_told s.store.fixed s.caller s.log log' blob version (Err fault) t);
 }
 
 not_both : (r : Refusal) (bytes : List ℕ) → Outcomes.Refused r ≡ Outcomes.Content bytes → ⊥
@@ -112,9 +144,9 @@ not_both r bytes e = cc
 -- a turn that left the history as it found it
 module _ (f : DeskFixed) (caller : ℕ) (log log' gap : List (ℕ × Event)) (others : AllOther caller (events gap)) (same : log' ≡ log ++ gap) (held : List OpenUpdate) (next limit blob version offset count : ℕ) where
   -- the version isn't there
-  pub refused_read : (fault : DeskFault) → OnRefused fault (λ r. outcome_in f (log ++ gap) caller (Calls.Size blob version) ≡ Outcomes.Refused r)
-      → AfterGap AllOther (session_at f caller log held next limit) (ReadTurn (session_at f caller log held next limit) blob version offset count) (Replies.Refused (desk_fault fault)) (session_at f caller log' held next limit)
-  refused_read (DeskFaults.Refused r) e =
+  refused_read : (r : Refusal) → outcome_in f (log ++ gap) caller (Calls.Size blob version) ≡ Outcomes.Refused r
+      → AfterGap AllOther (session_at f caller log held next limit) (ReadTurn (session_at f caller log held next limit) blob version offset count) (Replies.Refused (fault_of r)) (session_at f caller log' held next limit)
+  refused_read r e =
       record {
         others = events gap;
         is_gap = others;
@@ -123,7 +155,6 @@ module _ (f : DeskFixed) (caller : ℕ) (log log' gap : List (ℕ × Event)) (ot
         said = refl;
         seen = seen_gap f caller log log' gap held next limit same;
       }
-  refused_read DeskFaults.NoMemory e = record { others = events gap; is_gap = others; turn = _; may = ReadTurn.out_of_memory; said = refl; seen = seen_gap f caller log log' gap held next limit same }
 
   -- the version is there, with so many bytes
   module _ (n : ℕ) (there : outcome_in f (log ++ gap) caller (Calls.Size blob version) ≡ Outcomes.Size n) where
@@ -179,6 +210,15 @@ module _ (f : DeskFixed) (caller : ℕ) (log log' gap : List (ℕ × Event)) (ot
     range_answer (Ok bytes) few r = content_read bytes r.within r.bytes
     range_answer (Err fault) few r = failed_read fault few r.cause
 
+  -- the version wasn't opened
+  pub unread_answer : (fault : OpenFault) → count ≤ max_read → outcome_in f (log ++ gap) caller (Calls.Size blob version) ≡ unopened_size fault
+      → AfterGap AllOther (session_at f caller log held next limit) (ReadTurn (session_at f caller log held next limit) blob version offset count)
+      (Replies.Refused (unread_fault fault ((offset, count) ∷ []))) (session_at f caller log' held next limit)
+  unread_answer (OpenFaults.Refused r) few e = refused_read r e
+  unread_answer (OpenFaults.NoMemory size) few e =
+      failed_read size e (starved_fault size (first_end_past size ((offset, count) ∷ []))) few
+      (starved_cause f.page_size (updates_in (desk_at f (log ++ gap)) blob) version offset count size (nat_lt size (offset + count)) refl (told_size f (log ++ gap) caller blob version size e) few)
+
 -- ---- a read comes to its version, and then reads a range of it
 -- a session that has seen more
 abbrev pub seen_to : {D : Type 0} → SessionState D → List (ℕ × Event) → Session
@@ -205,20 +245,17 @@ module _ {D : Type 0} (s s1 : SessionState D) (blob version offset count : ℕ) 
       subst (λ (x : Session). Answers AllOther (session_of s) (Requests.Read blob version offset count) (read_reply said) x) (sym now)
       (few_enough (session_of s) count (read_reply said) (seen_to s s1.log) (AfterGap AllOther (session_of s) (ReadTurn (session_of s) blob version offset count) (read_reply said) (seen_to s s1.log)) few answer)
 
-  pub unopened_read : {A : Type 0} (fault : Fault) → Coming {A = A} s blob version (Err fault) s1
-      → Answers AllOther (session_of s) (Requests.Read blob version offset count) (read_reply (Err fault)) (session_of s1)
+  pub unopened_read : {A : Type 0} (fault : OpenFault) → Coming {A = A} s blob version (Err fault) s1
+      → Answers AllOther (session_of s) (Requests.Read blob version offset count) (read_reply (Err (unread_fault fault ((offset, count) ∷ [])))) (session_of s1)
   unopened_read fault o =
       let f = s.store.fixed in
-      let why = o.refused.why in
-      let refused : OnRefused why (λ r. outcome_in f (s.log ++ o.gap) s.caller (Calls.Size blob version) ≡ Outcomes.Refused r) =
-      subst (λ (l : List (ℕ × Event)). OnRefused why (λ r. outcome_in f l s.caller (Calls.Size blob version) ≡ Outcomes.Refused r)) o.log o.refused.refused
+      let reply : Reply = Replies.Refused (unread_fault fault ((offset, count) ∷ [])) in
+      let is : outcome_in f (s.log ++ o.gap) s.caller (Calls.Size blob version) ≡ unopened_size fault =
+      subst (λ (l : List (ℕ × Event)). outcome_in f l s.caller (Calls.Size blob version) ≡ unopened_size fault) o.log o.not_opened
       in
-      let answer : AfterGap AllOther (session_of s) (ReadTurn (session_of s) blob version offset count) (Replies.Refused (desk_fault why)) (seen_to s s1.log) =
-      refused_read f s.caller s.log s1.log o.gap o.others o.log s.held s.next s.limit blob version offset count why refused
+      let answer : AfterGap AllOther (session_of s) (ReadTurn (session_of s) blob version offset count) reply (seen_to s s1.log) =
+      unread_answer f s.caller s.log s1.log o.gap o.others o.log s.held s.next s.limit blob version offset count fault few is
       in
-      let reply : Reply = Replies.Refused (desk_fault why) in
       let now : session_of s1 ≡ seen_to s s1.log = ap (λ (x : SessionState D). session_of x) o.same in
-      let same : reply ≡ Replies.Refused fault = ap Replies.Refused (sym o.refused.said) in
-      subst (λ (x : Session). Answers AllOther (session_of s) (Requests.Read blob version offset count) (read_reply (Err fault)) x) (sym now)
-      (subst (λ (x : Reply). Answers AllOther (session_of s) (Requests.Read blob version offset count) x (seen_to s s1.log)) same
-      (few_enough (session_of s) count reply (seen_to s s1.log) (AfterGap AllOther (session_of s) (ReadTurn (session_of s) blob version offset count) reply (seen_to s s1.log)) few answer))
+      subst (λ (x : Session). Answers AllOther (session_of s) (Requests.Read blob version offset count) reply x) (sym now)
+      (few_enough (session_of s) count reply (seen_to s s1.log) (AfterGap AllOther (session_of s) (ReadTurn (session_of s) blob version offset count) reply (seen_to s s1.log)) few answer)

@@ -94,6 +94,19 @@ module _ (f : DeskFixed) (log : List (ℕ × Event)) (caller blob version offset
       → outcome_in f log caller (Calls.Read blob version offset count) ≡ Outcomes.Content (take count (drop offset (content (updates_in (desk_at f log) blob) version)))
   read_within within = within_in (store_of f.limits (events log)) (blob_at (store_of f.limits (events log)) blob) blob version offset count n there within
 
+-- the size that is told is that of the version
+size_by : (s : Store) (x : Bool) (r : Refusal) (m n : ℕ) → (unless_refused s (record { refuses = x; refusal = r } ∷ []) (s, Outcomes.Size m)).1 ≡ Outcomes.Size n → n ≡ m
+size_by s true r m n e = let no : ⊥ = cc in absurd no
+size_by s false r m n e = cc
+
+size_in_one : (s : Store) (o : Option Blob) (blob version n : ℕ) → (in_one s o blob (sized s version)).1 ≡ Outcomes.Size n → n ≡ size_of (updates_or_none o) version
+size_in_one s None blob version n e = let no : ⊥ = cc in absurd no
+size_in_one s (Some b) blob version n e = size_by s (nat_lt (published b) version) (Refusals.NotPublished version (published b)) (size_of b.updates version) n e
+
+pub told_size : (f : DeskFixed) (log : List (ℕ × Event)) (caller blob version n : ℕ) → outcome_in f log caller (Calls.Size blob version) ≡ Outcomes.Size n
+    → n ≡ size_of (updates_in (desk_at f log) blob) version
+told_size f log caller blob version n e = size_in_one (store_of f.limits (events log)) (blob_at (store_of f.limits (events log)) blob) blob version n e
+
 -- how many bytes a range within the size has
 pub count_within : (bytes : List ℕ) (offset count : ℕ) → offset + count ≤ length bytes → length (take count (drop offset bytes)) ≡ count
 count_within bytes offset count within = simp (length-take, length-drop) (omega arith)

@@ -15,6 +15,7 @@ use Rattle.version_manager.specs.Log.{IsLog, Looked, Opened, Changed, tag, event
 use Rattle.version_manager.specs.declared.journal.DeskFixed.{DeskFixed}
 use Rattle.version_manager.specs.declared.fault.DeskFault.{DeskFault}
 use Rattle.version_manager.specs.declared.fault.DeskFault.TheVariants as DeskFaults
+use Rattle.version_manager.specs.declared.fault.OpenFault.{OpenFault}
 use Rattle.request_form.specs.Session.{Session, sees, outcome_at}
 use Rattle.request_form.specs.Replies.{reply_of}
 use Rattle.blob_model.specs.declared.call.Refusal.{Refusal}
@@ -45,7 +46,7 @@ module _ (f : DeskFixed) (caller : ℕ) (log log' : List (ℕ × Event)) where
   pub went_looked : (call : Call) (said : Outcome) → Took caller log log' (λ before after. Looked f call before caller said after) → Went f log log'
   went_looked call said t = record { begins = (t.gap, t.gives.same); log_is = subst (IsLog f) (sym t.gives.same) t.gives.log }
 
-  pub went_opened : (blob version : ℕ) (said : Result Version DeskFault) → Took caller log log' (λ before after. Opened f blob version before caller said after) → Went f log log'
+  pub went_opened : (blob version : ℕ) (said : Result Version OpenFault) → Took caller log log' (λ before after. Opened f blob version before caller said after) → Went f log log'
   went_opened blob version said t = record { begins = (t.gap, t.gives.same); log_is = subst (IsLog f) (sym t.gives.same) t.gives.log }
 
   pub went_changed : {A E : Type 0} → (call : Call) (event : Event) (tells : A → Outcome) (fault : E → DeskFault) (r : Result A E)

@@ -1,7 +1,8 @@
 -- What a session knows where it answers want of memory: nothing that it has seen stands against the call.
-use Rattle.std.specs.Prelude.{◌≡◌, ℕ, false, List, []}
+use Rattle.std.specs.Prelude.{◌≡◌, ℕ, false, List, [], Contains}
 use Rattle.blob_model.specs.History.{is_refused}
 use Rattle.blob_model.specs.declared.call.Call.{Call}
+use Rattle.blob_model.specs.declared.call.Call.TheVariants as Calls
 use Rattle.request_form.specs.Session.{Session, outcome_at}
 use Rattle.request_form.specs.Answers.{IsUnfinishedAt}
 use Rattle.request_form.specs.declared.form.Fault.{Fault}
@@ -15,6 +16,11 @@ IfNoMemory fault P = fault ≡ Faults.NoMemory → P
 -- the store of all that the session has seen refuses nothing of the call
 abbrev pub IsTakenNow : Session → Call → Type 0
 IsTakenNow s call = is_refused (outcome_at s [] call) ≡ false
+
+-- it refuses neither the version nor any of these ranges of it
+pub record AreTakenNow (s : Session) (blob version : ℕ) (ranges : List (ℕ × ℕ)) : Type 0 where
+  pub there : IsTakenNow s (Calls.Size blob version)
+  pub each : (range : ℕ × ℕ) → Contains ranges range → IsTakenNow s (Calls.Read blob version range.0 range.1)
 
 -- in that store the update is numbered, and isn't finished
 abbrev pub IsLeft : Session → ℕ → ℕ → Type 0

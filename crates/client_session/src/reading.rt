@@ -1,20 +1,19 @@
-// Many ranges of a version, read in one turn.
+// Many ranges of a version, read in one turn at most.
 ghost use Rattle.std.specs.Prelude.{◌≡◌, ◌≢◌, ℕ, ◌+◌, ◌<◌, ◌≤◌, true, false, length, map, sum_by, IfOk, OnOk, IfErr, None, Some};
 ghost use Rattle.faults.specs.Counts.{RoseBy};
 ghost use Rattle.blob_model.specs.History.{AllOther};
-ghost use Rattle.blob_model.specs.declared.call.Call.TheVariants as Calls;
 ghost use Rattle.request_form.specs.Replies.{fault_count};
 ghost use Rattle.request_form.specs.Answers.{Answers, ranges_fault};
 ghost use Rattle.request_form.specs.declared.form.Request.TheVariants as Requests;
 ghost use Rattle.request_form.specs.declared.form.Fault.TheVariants as Faults;
 ghost use Rattle.session_parts.specs.Ranges.{bytes_in};
 ghost use Rattle.client_session.specs.Losses.{IfPageLost, LostInRanges};
-ghost use Rattle.client_session.specs.Memory.{IfNoMemory, IsTakenNow};
+ghost use Rattle.client_session.specs.Memory.{IfNoMemory, AreTakenNow};
 ghost use Rattle.client_session.specs.Results.{contents_reply};
-ghost use Rattle.client_session.specs.Kept.{has_opened, CameThere, RangesByKept};
+ghost use Rattle.client_session.specs.Kept.{has_opened, KeptAfter, RangesByKept};
 ghost use Rattle.client_session.specs.Sessions.{session_of, Continues, all_visits_seen, NoStepIfOneRefused};
 
-use crate::session::{MAX_READ, Session, range_told};
+use crate::session::{MAX_READ, Session, kept_view, range_told, unread};
 use blob_model::Bytes;
 use page_store::Door;
 use ports::gate::Gate;
@@ -48,9 +47,9 @@ impl<'a, D: Door, G: Gate> Session<'a, D, G> {
     /// `ReadTooLong` comes first, exactly where the ranges have more than 16,777,216 bytes together, with the length of the first
     /// range at which the running sum is past that. Then come the store's refusals, of a range that ends past the version's size the
     /// first one's, and then `PageFault`, only where every door failed of a stored page that the named page of one of the ranges
-    /// needs. `NoMemory` comes only where the version is published. It takes one turn for all ranges, or none, as `read` does, and keeps
-    /// what it opens. From there it goes through the tree holding no lock, and the clause `steps` bounds how many nodes it meets: none
-    /// where it is refused.
+    /// needs. `NoMemory` comes only where the store of what the session has seen then refuses nothing: the version is published, and all
+    /// ranges lie within its size. It takes one turn for all ranges, or none, as `read` does, and keeps what it opens. From there it goes
+    /// through the tree holding no lock, and the clause `steps` bounds how many nodes it meets: none where it is refused.
     pub fn read_many<R: Wait, L: Ledger>(
         &mut self,
         rt: &R,
@@ -66,13 +65,13 @@ impl<'a, D: Door, G: Gate> Session<'a, D, G> {
         ensures one_turn { ranges_fault 0 ranges.now ≡ None → has_opened self.old.opened blob version ≡ false → self.new.turns ≡ self.old.turns + 1 }
         ensures no_turn { ranges_fault 0 ranges.now ≢ None → self.new.turns ≡ self.old.turns }
         ensures by_opened { has_opened self.old.opened blob version ≡ true → self.new ≡ record self.old { doors = self.new.doors } }
-        ensures keeps { CameThere result → has_opened self.new.opened blob version ≡ true }
+        ensures keeps { KeptAfter result blob version self.old.opened self.new.opened }
         ensures few { length self.new.opened ≤ 4 }
         ensures steps { steps.new ≤ steps.old + all_visits_seen (session_of self.new) blob version ranges.now }
         ensures failed { IfErr result (λ fault. IfPageLost fault
             (LostInRanges self.old.store self.new.log blob version ranges.now (map D.faults self.old.doors) (map D.faults self.new.doors))) }
         ensures no_step { NoStepIfOneRefused (session_of self.new) blob version ranges.now steps.old steps.new }
-        ensures memory { IfErr result (λ fault. IfNoMemory fault (IsTakenNow (session_of self.new) (Calls.Size blob version))) }
+        ensures memory { IfErr result (λ fault. IfNoMemory fault (AreTakenNow (session_of self.new) blob version ranges.now)) }
     {
         let _few = self.opened.count();
         let pairs = ranges.as_slice();
@@ -82,7 +81,7 @@ impl<'a, D: Door, G: Gate> Session<'a, D, G> {
         };
         match self.come(rt, blob, version) {
             Ok(_) => self.read_pairs(blob, version, pairs, count, steps),
-            Err(fault) => Err(fault),
+            Err(fault) => Err(unread(fault, pairs)),
         }
     }
 
@@ -105,11 +104,10 @@ impl<'a, D: Door, G: Gate> Session<'a, D, G> {
         snapshot::laws::rows_tell();
         let _few = self.opened.count();
         let shared = self.shared;
-        let kept = self.opened.of(blob, version).unwrap();
-        kept.stands();
+        let view = kept_view(&self.opened, blob, version);
         range_told(read_ranges(
             self.alloc,
-            &kept.view_at(version),
+            &view,
             shared.nodes(),
             shared.houses(),
             &mut self.doors,

@@ -11,13 +11,15 @@ ghost use Rattle.request_form.specs.declared.form.Fault.TheVariants as Faults;
 ghost use Rattle.blob_model.specs.Content.{size_of};
 ghost use Rattle.range_log.specs.Updates.{extents};
 ghost use Rattle.range_log.specs.Visits.{visits};
+ghost use Rattle.version_manager.specs.Desks.{unopened_size};
+ghost use Rattle.version_manager.specs.Log.{outcome_in};
 ghost use Rattle.session_parts.specs.Ranges.{OverUpdates};
 ghost use Rattle.range_reader.specs.Faults.{PageFailedIn};
 ghost use Rattle.client_session.specs.Losses.{IfPageLost, LostInRead};
 ghost use Rattle.client_session.specs.Memory.{IfNoMemory, IsTakenNow};
-ghost use Rattle.client_session.specs.Results.{desk_fault, told_of, opened_of, range_of, create_reply, branch_reply, read_reply};
+ghost use Rattle.client_session.specs.Results.{desk_fault, told_of, opened_of, unread_fault, range_of, create_reply, branch_reply, read_reply};
 ghost use Rattle.client_session.specs.Opening.{Opening, IsOfStore, ReadsRange};
-ghost use Rattle.client_session.specs.Kept.{has_opened, CameThere, Coming, ReadByKept};
+ghost use Rattle.client_session.specs.Kept.{all_kept, has_opened, IsViewAmong, KeptAfter, Coming, ReadByKept};
 ghost use Rattle.client_session.specs.Sessions.{IsPassOf, session_of, pass_of, Continues, visits_seen, NoStepIfRefused, IsSettled, AnswersAsPublished};
 
 use crate::shared::Shared;
@@ -28,14 +30,14 @@ use page_store::Door;
 use ports::gate::Gate;
 use range_reader::ReadRoom;
 use request_form::{Fault, NoMemory};
-use session_parts::{Opened, RangeFault, Tickets, UpdateLimit, read_range};
+use session_parts::{Opened, RangeFault, Tickets, UpdateLimit, first_past, read_range};
 use snapshot::{Snapshot, View};
 use std::alloc::Global;
 use std::marker::Model;
 use std::sync::Wait;
 use std::sync::ledger::Ledger;
 use tree_geom::Steps;
-use version_manager::{DeskFault, Pass};
+use version_manager::{DeskFault, OpenFault, Pass};
 
 // The most bytes of a read.
 pub(crate) const MAX_READ: u64 = 16_777_216;
@@ -66,14 +68,40 @@ fn told(answer: Result<u64, DeskFault>) -> Result<u64, Fault>
 }
 
 // The desk's snapshot as the session's.
-fn opened(answer: Result<Snapshot, DeskFault>) -> Result<Snapshot, Fault>
+fn opened(answer: Result<Snapshot, OpenFault>) -> Result<Snapshot, Fault>
     ensures is { result ≡ opened_of answer }
     ensures calm { IfErr result (λ fault. page_faults fault ≡ 0) }
 {
     match answer {
         Ok(snapshot) => Ok(snapshot),
-        Err(fault) => Err(fault_of(fault)),
+        Err(OpenFault::Refused(refusal)) => Err(Fault::of(refusal)),
+        Err(OpenFault::NoMemory { .. }) => Err(Fault::NoMemory),
     }
+}
+
+// Why ranges of a version aren't read that the desk didn't open. Where it found no memory for that, one of them may end past the
+// version's size.
+pub(crate) fn unread(fault: OpenFault, ranges: &[(u64, u64)]) -> Fault
+    ensures is { result ≡ unread_fault fault ranges.now }
+    ensures calm { page_faults result ≡ 0 }
+{
+    match fault {
+        OpenFault::Refused(refusal) => Fault::of(refusal),
+        OpenFault::NoMemory { size } => match first_past(size, ranges) {
+            Some(end) => Fault::RangePastSize { end, size },
+            None => Fault::NoMemory,
+        },
+    }
+}
+
+// The view of a version by which it is read, of the snapshot of its blob that is kept.
+pub(crate) fn kept_view(opened: &Opened, blob: u64, version: u64) -> View<'_>
+    requires { has_opened (all_kept opened.now) blob version ≡ true }
+    ensures { IsViewAmong opened.now blob version result }
+{
+    let kept = opened.of(blob, version).unwrap();
+    kept.stands();
+    kept.view_at(version)
 }
 
 // What the session says of a range.
@@ -228,13 +256,15 @@ impl<'a, D: Door, G: Gate> Session<'a, D, G> {
         })
     }
 
-    /// Ends the session. Its pass has seen what the session has, and is of the store still. Tickets that it holds are dropped with
-    /// it, and their updates stay unfinished: hang up first.
+    /// Ends the session. Its pass has seen what the session has, and is of the store still; its doors give back what was put, one to
+    /// each provider, so that a session can be made of both again. Tickets that it holds are dropped with it, and their updates stay
+    /// unfinished: hang up first.
     pub fn into_parts(self) -> (Pass, Doors<D>)
         ensures pass { result.0 ≡ pass_of self.entry }
         ensures pass_is { IsPassOf self.entry.store result.0 }
         ensures doors { result.1 ≡ self.entry.doors }
         ensures count { length result.1 ≡ self.entry.store.providers }
+        ensures true_doors { All D.is_true result.1 }
     {
         let Session {
             alloc: _,
@@ -369,11 +399,12 @@ impl<'a, D: Door, G: Gate> Session<'a, D, G> {
     ///
     /// `ReadTooLong` comes first, exactly where more than 16,777,216 bytes are asked for, then the store's refusals, then
     /// `PageFault`, only where every door failed of a stored page that the named page of the range needs. `NoMemory` comes only where
-    /// the version is published. Where the session keeps a snapshot of the blob that reaches the version, it reads by that: it takes no
-    /// turn, waits for nobody and sees nothing new. Else it takes one turn, in which it gets the version's snapshot, and keeps that,
-    /// whatever becomes of the range. From there it goes through the tree holding no lock, and the clause `steps` bounds how many nodes it
-    /// meets: none where it is refused. Where the version is published in any history that the session has seen, the reply is what the
-    /// store of that history answers, whatever has come since.
+    /// the store of what the session has seen then refuses nothing: the version is published, and the range lies within its size. Where
+    /// the session keeps a snapshot of the blob that reaches the version, it reads by that: it takes no turn, waits for nobody and sees
+    /// nothing new. Else it takes one turn, in which it gets the version's snapshot, and keeps that, whatever becomes of the range; where
+    /// it gets none, what it keeps stays. From there it goes through the tree holding no lock, and the clause `steps` bounds how many
+    /// nodes it meets: none where it is refused. Where the version is published in any history that the session has seen, the reply is
+    /// what the store of that history answers, whatever has come since.
     pub fn read<R: Wait, L: Ledger>(
         &mut self,
         rt: &R,
@@ -390,14 +421,14 @@ impl<'a, D: Door, G: Gate> Session<'a, D, G> {
         ensures one_turn { count ≤ max_read → has_opened self.old.opened blob version ≡ false → self.new.turns ≡ self.old.turns + 1 }
         ensures no_turn { max_read < count → self.new.turns ≡ self.old.turns }
         ensures by_opened { has_opened self.old.opened blob version ≡ true → self.new ≡ record self.old { doors = self.new.doors } }
-        ensures keeps { CameThere result → has_opened self.new.opened blob version ≡ true }
+        ensures keeps { KeptAfter result blob version self.old.opened self.new.opened }
         ensures few { length self.new.opened ≤ 4 }
         ensures steps { steps.new ≤ steps.old + visits_seen (session_of self.new) blob version offset count }
         ensures failed { IfErr result (λ fault. IfPageLost fault
             (LostInRead self.old.store self.new.log blob version offset count (map D.faults self.old.doors) (map D.faults self.new.doors))) }
         ensures stays { AnswersAsPublished (session_of self.new) (record { blob = blob; version = version; offset = offset; count = count }) (read_reply result) }
         ensures no_step { NoStepIfRefused (session_of self.new) blob version offset count steps.old steps.new }
-        ensures memory { IfErr result (λ fault. IfNoMemory fault (IsTakenNow (session_of self.new) (Calls.Size blob version))) }
+        ensures memory { IfErr result (λ fault. IfNoMemory fault (IsTakenNow (session_of self.new) (Calls.Read blob version offset count))) }
     {
         let _few = self.opened.count();
         if MAX_READ < count {
@@ -406,27 +437,41 @@ impl<'a, D: Door, G: Gate> Session<'a, D, G> {
         request_form::laws::published_reads_stay();
         match self.come(rt, blob, version) {
             Ok(_) => self.read_kept(blob, version, offset, count, steps),
-            Err(fault) => Err(fault),
+            Err(fault) => Err(unread(fault, &[(offset, count)])),
         }
     }
 
     // Comes to a version that is read then: by a snapshot that is kept, or by one that is opened in a turn, and kept.
-    pub(crate) fn come<R: Wait>(&mut self, rt: &R, blob: u64, version: u64) -> Result<(), Fault>
+    pub(crate) fn come<R: Wait>(&mut self, rt: &R, blob: u64, version: u64) -> Result<(), OpenFault>
         ensures coming { Coming self.old blob version result self.new }
-        ensures calm { IfErr result (λ fault. page_faults fault ≡ 0) }
         ensures goes_on { Continues self.old self.new }
-        ensures memory { IfErr result (λ fault. IfNoMemory fault (IsTakenNow (session_of self.new) (Calls.Size blob version))) }
     {
         if self.opened.of(blob, version).is_some() {
             return Ok(());
         }
-        match self.open(rt, blob, version) {
+        match self.snapshot_of(rt, blob, version) {
             Ok(snapshot) => {
                 self.opened.keep(snapshot);
                 Ok(())
             }
             Err(fault) => Err(fault),
         }
+    }
+
+    // The snapshot of a published version, or why the desk has none, in one turn.
+    fn snapshot_of<R: Wait>(
+        &mut self,
+        rt: &R,
+        blob: u64,
+        version: u64,
+    ) -> Result<Snapshot, OpenFault>
+        ensures opening { Opening self.old blob version (opened_of result) self.new }
+        ensures not_opened { IfErr result (λ fault. outcome_in self.old.store.fixed self.new.log self.old.caller (Calls.Size blob version) ≡ unopened_size fault) }
+        ensures goes_on { Continues self.old self.new }
+    {
+        version_manager::laws::gaps_are_of_others();
+        let shared = self.shared;
+        shared.desk().snapshot_of(rt, &mut self.pass, blob, version)
     }
 
     // Reads a range of a version by the snapshot that is kept.
@@ -448,11 +493,10 @@ impl<'a, D: Door, G: Gate> Session<'a, D, G> {
         snapshot::laws::rows_tell();
         let _few = self.opened.count();
         let shared = self.shared;
-        let kept = self.opened.of(blob, version).unwrap();
-        kept.stands();
+        let view = kept_view(&self.opened, blob, version);
         range_told(read_range(
             self.alloc,
-            &kept.view_at(version),
+            &view,
             shared.nodes(),
             shared.houses(),
             &mut self.doors,
@@ -474,9 +518,7 @@ impl<'a, D: Door, G: Gate> Session<'a, D, G> {
         ensures goes_on { Continues self.old self.new }
         ensures memory { IfErr result (λ fault. IfNoMemory fault (IsTakenNow (session_of self.new) (Calls.Size blob version))) }
     {
-        version_manager::laws::gaps_are_of_others();
-        let shared = self.shared;
-        opened(shared.desk().snapshot_of(rt, &mut self.pass, blob, version))
+        opened(self.snapshot_of(rt, blob, version))
     }
 
     /// The house of the store's nodes. Those of each snapshot that this session opened lie there, so that the stored pages of such a

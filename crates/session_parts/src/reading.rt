@@ -164,8 +164,8 @@ pub fn read_range<D: Door, L: Ledger>(
     }
 }
 
-// The end of the first of these ranges that ends past the size.
-fn first_past(size: u64, ranges: &[(u64, u64)]) -> Option<u128>
+/// The end of the first of these ranges that ends past the size.
+pub fn first_past(size: u64, ranges: &[(u64, u64)]) -> Option<u128>
     ensures { result ≡ first_end_past size ranges.now }
 {
     for range in ranges {

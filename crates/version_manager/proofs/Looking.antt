@@ -7,12 +7,11 @@ use Rattle.blob_model.specs.Answer.{Answered, unless_refused, in_blob, not_publi
 use Rattle.blob_model.specs.History.{store_of}
 use Rattle.blob_model.specs.declared.call.Event.{Event}
 use Rattle.blob_model.specs.declared.call.Outcome.TheVariants as Outcomes
-use Rattle.blob_model.specs.declared.call.Refusal.{Refusal}
 use Rattle.blob_model.specs.declared.call.Refusal.TheVariants as Refusals
 use Rattle.publisher.specs.Windows.{Numbered}
 use Rattle.version_manager.specs.declared.fault.DeskFault.{DeskFault}
 use Rattle.version_manager.specs.declared.fault.DeskFault.TheVariants.{Refused, NoMemory}
-use Rattle.version_manager.specs.Desks.{OnRefused, OnNoMemory}
+use Rattle.version_manager.specs.Desks.{OnNoMemory}
 use Rattle.version_manager.specs.DeskInvariant.{KeepsDesk}
 use Rattle.version_manager.proofs.Stores.{in_blob_here, in_blob_none}
 use Rattle.version_manager.proofs.Desks.{absent, IsHere}
@@ -37,10 +36,6 @@ sync_of s version b = unless_refused s (not_numbered b version ∷ pending b ver
 
 abbrev pub status_of : Store → Blob → Answered
 status_of s b = (s, Outcomes.Status (assigned b) (published b) (held b))
-
-pub on_refused : (fault : DeskFault) (P Q : Refusal → Type 0) → ((r : Refusal) → P r → Q r) → OnRefused fault P → OnRefused fault Q
-on_refused (Refused r) P Q f h = f r h
-on_refused NoMemory P Q f h = h
 
 pub on_no_memory : (fault : DeskFault) (P Q : Type 0) → (P → Q) → OnNoMemory fault P → OnNoMemory fault Q
 on_no_memory (Refused r) P Q f h = h

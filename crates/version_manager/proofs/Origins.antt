@@ -7,6 +7,7 @@ use Rattle.std.proofs.lemmas.Bool.{cases_lt}
 use Rattle.std.proofs.lemmas.Bool.Decides.{nat_tests}
 use Rattle.std.proofs.lemmas.Option.{slice_get-get_or, slice_get_within, none-some, same_Some}
 use Rattle.blob_model.specs.declared.call.Event.{Event}
+use Rattle.blob_model.specs.declared.call.Event.TheVariants as Events
 use Rattle.branching.specs.Parents.{origin_of}
 use Rattle.branching.specs.declared.Parent.{Parent}
 use Rattle.branching.proofs.Parents.{origin_older, origin_past, origin_own, origin_shared}
@@ -19,12 +20,22 @@ use Rattle.version_manager.proofs.Desks.{by_test}
 use Rattle.version_manager.proofs.Stores.{get-set_is, get-set_other, get-push_last, get-push_other}
 
 -- ---- the history
-from_next : (parents : List (Option Parent)) (h : List Event) (e : Event) → parents_from parents (h ++ e ∷ []) ≡ parents_after (parents_from parents h) e
-from_next parents [] e = refl
-from_next parents (x ∷ xs) e = from_next (parents_after parents x) xs e
+pub from_append : (parents : List (Option Parent)) (xs ys : List Event) → parents_from parents (xs ++ ys) ≡ parents_from (parents_from parents xs) ys
+from_append parents [] ys = refl
+from_append parents (x ∷ xs) ys = from_append (parents_after parents x) xs ys
 
 pub parents_next : (h : List Event) (e : Event) → parents_of (h ++ e ∷ []) ≡ parents_after (parents_of h) e
-parents_next h e = from_next [] h e
+parents_next h e = from_append [] h (e ∷ [])
+
+-- the versions of a blob that is there keep their origins
+pub origin_from : (parents : List (Option Parent)) (es : List Event) (blob version : ℕ) → blob ≤ length parents → origin_of (parents_from parents es) blob version ≡ origin_of parents blob version
+origin_from parents [] blob version le = refl
+origin_from parents (Events.Create caller ∷ es) blob version le = origin_from (None ∷ parents) es blob version (omega (arith, le)) ∙ origin_older None parents blob version le
+origin_from parents (Events.Assign caller at place bytes ∷ es) blob version le = origin_from parents es blob version le
+origin_from parents (Events.Finish caller at v ∷ es) blob version le = origin_from parents es blob version le
+origin_from parents (Events.Branch caller at v ∷ es) blob version le =
+    let next : Option Parent = Some (record { blob = at; version = v }) in
+    origin_from (next ∷ parents) es blob version (omega (arith, le)) ∙ origin_older next parents blob version le
 
 -- what is kept of the windows of the history with one event more
 pub origins_after : (h h' : List Event) (e : Event) (ws ws' : List Numbered) → h' ≡ h ++ e ∷ [] → ws' ≡ ws → KeepsOrigins (parents_after (parents_of h) e) ws → KeepsOrigins (parents_of h') ws'

@@ -17,8 +17,9 @@ use Rattle.snapshot.specs.Laws.{TellUpdates}
 use Rattle.border_hints.specs.Numbered.{NumberedUpdate}
 use Rattle.publisher.specs.Windows.{Numbered}
 use Rattle.version_manager.specs.declared.fault.DeskFault.{DeskFault}
+use Rattle.version_manager.specs.declared.fault.OpenFault.{OpenFault}
 use Rattle.version_manager.specs.declared.journal.DeskFixed.{DeskFixed}
-use Rattle.version_manager.specs.Desks.{DeskState, OnRefused, OnNoMemory, IsTicketOf, IsRowFor, IsNumbering, IsUnfinished, HasHints, HasHintsBelow, refusal_in, ticket_refusal, with_event, store_now, outcome_now, updates_in, is_finished_in}
+use Rattle.version_manager.specs.Desks.{DeskState, OnRefused, OnNoMemory, IsTicketOf, IsRowFor, IsNumbering, IsUnfinished, HasHints, HasHintsBelow, refusal_in, ticket_refusal, unopened_size, with_event, store_now, outcome_now, updates_in, is_finished_in}
 use Rattle.version_manager.specs.Folds.{IsInOrder, AreInOrder}
 use Rattle.version_manager.specs.Origins.{LieUnderOrigins}
 use Rattle.version_manager.specs.Log.{IsLog, Looked, Changed, IsNewTicket, IsSnapshotOf, Opened, IsWaitingTicket, Reissued, Foreseen, Finishes, desk_at, events, tagged, tag, fixed_of}
@@ -161,7 +162,7 @@ looked d call caller said legal short order is =
     let P : DeskState → Type 0 = λ s. said ≡ outcome_now s caller call in
     record { log = is_log d d refl legal short order; same = refl; said_is = subst P (sym (at_now d)) (is caller) }
 
-snapshot_by : (d : DeskState) (blob version : ℕ) (r : Result Version DeskFault) → IfOk r (λ s. s.blob ≡ blob) → IfOk r (λ s. length s.rows ≡ version) → IfOk r (λ s. s.page_size ≡ d.page_size)
+snapshot_by : (d : DeskState) (blob version : ℕ) (r : Result Version OpenFault) → IfOk r (λ s. s.blob ≡ blob) → IfOk r (λ s. length s.rows ≡ version) → IfOk r (λ s. s.page_size ≡ d.page_size)
     → IfOk r (λ s. TellUpdates d.page_size (updates_in d blob) s.rows) → IfOk r (λ s. IsVersionIn d.nodes d.houses s) → IfOk r (λ s. LieUnderOrigins d.history blob s.rows)
     → IfOk r (λ s. IsSnapshotOf (fixed_of d) (tagged d.history) blob version s)
 snapshot_by d blob version (Err x) id rows page tells here origins = tt
@@ -170,23 +171,20 @@ snapshot_by d blob version (Ok s) id rows page tells here origins =
     let O : List Event → Type 0 = λ l. LieUnderOrigins l blob s.rows in
     record { blob_is = id; rows = rows; page_size = page; tells = subst T (sym (at_now d)) tells; here = here; origins = subst O (sym (events_tagged d.history)) origins }
 
-pub opened : (d : DeskState) (blob version caller : ℕ) (r : Result Version DeskFault) → IsLegal d.limits d.history → length d.history < 2 ^ 38 → AreInOrder d.page_size d.limits d.history
+pub opened : (d : DeskState) (blob version caller : ℕ) (r : Result Version OpenFault) → IsLegal d.limits d.history → length d.history < 2 ^ 38 → AreInOrder d.page_size d.limits d.history
     → ((c : ℕ) → IfOk r (λ s. outcome_now d c (Calls.Size blob version) ≡ Outcomes.Size (size_now s)))
-    → ((c : ℕ) → IfErr r (λ fault. OnRefused fault (λ x. outcome_now d c (Calls.Size blob version) ≡ Outcomes.Refused x)))
-    → ((c : ℕ) → IfErr r (λ fault. OnNoMemory fault (is_refused (outcome_now d c (Calls.Size blob version)) ≡ false)))
+    → ((c : ℕ) → IfErr r (λ fault. outcome_now d c (Calls.Size blob version) ≡ unopened_size fault))
     → IfOk r (λ s. s.blob ≡ blob) → IfOk r (λ s. length s.rows ≡ version) → IfOk r (λ s. s.page_size ≡ d.page_size)
     → IfOk r (λ s. TellUpdates d.page_size (updates_in d blob) s.rows) → IfOk r (λ s. IsVersionIn d.nodes d.houses s) → IfOk r (λ s. LieUnderOrigins d.history blob s.rows)
     → Opened (fixed_of d) blob version (tagged d.history) caller r (tagged d.history)
-opened d blob version caller r legal short order size refused memory id rows page tells here origins =
+opened d blob version caller r legal short order size not_opened id rows page tells here origins =
     let D : DeskState → Type 0 = λ x. IfOk r (λ s. outcome_now x caller (Calls.Size blob version) ≡ Outcomes.Size (size_now s)) in
-    let R : DeskState → Type 0 = λ x. IfErr r (λ fault. OnRefused fault (λ y. outcome_now x caller (Calls.Size blob version) ≡ Outcomes.Refused y)) in
-    let M : DeskState → Type 0 = λ x. IfErr r (λ fault. OnNoMemory fault (is_refused (outcome_now x caller (Calls.Size blob version)) ≡ false)) in
+    let N : DeskState → Type 0 = λ x. IfErr r (λ fault. outcome_now x caller (Calls.Size blob version) ≡ unopened_size fault) in
     record {
       log = is_log d d refl legal short order;
       same = refl;
       done = subst D (sym (at_now d)) (size caller);
-      refused = subst R (sym (at_now d)) (refused caller);
-      memory = subst M (sym (at_now d)) (memory caller);
+      not_opened = subst N (sym (at_now d)) (not_opened caller);
       snapshot = snapshot_by d blob version r id rows page tells here origins;
     }
 

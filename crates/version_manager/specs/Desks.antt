@@ -25,6 +25,8 @@ use Rattle.publisher.specs.Windows.{Numbered, version_of, waiting_of, opens_from
 use Rattle.version_manager.specs.Origins.{LieUnderOrigins}
 use Rattle.version_manager.specs.declared.fault.DeskFault.{DeskFault}
 use Rattle.version_manager.specs.declared.fault.DeskFault.TheVariants.{Refused, NoMemory}
+use Rattle.version_manager.specs.declared.fault.OpenFault.{OpenFault}
+use Rattle.version_manager.specs.declared.fault.OpenFault.TheVariants as OpenFaults
 
 -- how much it takes, its page size, the houses of its pages and the house of its nodes, the history of all that it accepted, and
 -- the numbered updates of each blob, blob 1 first
@@ -126,6 +128,11 @@ OnRefused NoMemory P = Unit {0}
 abbrev pub OnNoMemory : DeskFault → Type 0 → Type 0
 OnNoMemory (Refused refusal) P = Unit {0}
 OnNoMemory NoMemory P = P
+
+-- what the store answers of the size of a version that was not opened: its refusal, or the size where no memory was found
+abbrev pub unopened_size : OpenFault → Outcome
+unopened_size (OpenFaults.Refused refusal) = Outcomes.Refused refusal
+unopened_size (OpenFaults.NoMemory size) = Outcomes.Size size
 
 -- ---- tickets
 -- the numbering of an update of this caller on the blob, with these hints and pages

@@ -17,8 +17,9 @@ use Rattle.border_hints.specs.Numbered.{NumberedUpdate}
 use Rattle.version_manager.specs.Folds.{IsInOrder, AreInOrder}
 use Rattle.version_manager.specs.Origins.{LieUnderOrigins}
 use Rattle.version_manager.specs.declared.fault.DeskFault.{DeskFault}
+use Rattle.version_manager.specs.declared.fault.OpenFault.{OpenFault}
 use Rattle.version_manager.specs.declared.journal.DeskFixed.{DeskFixed}
-use Rattle.version_manager.specs.Desks.{DeskState, OnRefused, OnNoMemory, IsTicketOf, IsRowFor, IsUnfinished, HasHints, HasHintsBelow, outcome_now, updates_in, is_finished_in, most_bytes, refusal_in, ticket_refusal}
+use Rattle.version_manager.specs.Desks.{DeskState, OnRefused, OnNoMemory, IsTicketOf, IsRowFor, IsUnfinished, HasHints, HasHintsBelow, outcome_now, updates_in, is_finished_in, most_bytes, refusal_in, ticket_refusal, unopened_size}
 
 -- an event with its caller
 abbrev pub tag : Event → ℕ × Event
@@ -120,13 +121,12 @@ pub record IsSnapshotOf (f : DeskFixed) (log : List (ℕ × Event)) (blob versio
   pub here : IsVersionIn f.nodes f.houses s
   pub origins : LieUnderOrigins (events log) blob s.rows
 
--- A look at the size of a version, with its snapshot. It finds no memory only where the store refuses nothing.
-pub record Opened (f : DeskFixed) (blob version : ℕ) (before : List (ℕ × Event)) (caller : ℕ) (said : Result Version DeskFault) (after : List (ℕ × Event)) : Type 0 where
+-- A look at the size of a version, with its snapshot. Where it finds no memory for that the size is told alone.
+pub record Opened (f : DeskFixed) (blob version : ℕ) (before : List (ℕ × Event)) (caller : ℕ) (said : Result Version OpenFault) (after : List (ℕ × Event)) : Type 0 where
   pub log : IsLog f before
   pub same : after ≡ before
   pub done : IfOk said (λ s. outcome_in f before caller (Calls.Size blob version) ≡ Outcomes.Size (size_now s))
-  pub refused : IfErr said (λ fault. OnRefused fault (λ refusal. outcome_in f before caller (Calls.Size blob version) ≡ Outcomes.Refused refusal))
-  pub memory : IfErr said (λ fault. OnNoMemory fault (is_refused (outcome_in f before caller (Calls.Size blob version)) ≡ false))
+  pub not_opened : IfErr said (λ fault. outcome_in f before caller (Calls.Size blob version) ≡ unopened_size fault)
   pub snapshot : IfOk said (λ s. IsSnapshotOf f before blob version s)
 
 -- The ticket of a waiting version of the blob, with the hints of this history: it is of the history, whoever asked for it. Its pages, and

@@ -5,7 +5,7 @@ ghost use Rattle.blob_model.specs.declared.call.Event.TheVariants as Events;
 ghost use Rattle.blob_model.specs.declared.call.Outcome.TheVariants as Outcomes;
 
 use crate::desk::Desk;
-use crate::fault::DeskFault;
+use crate::fault::{DeskFault, OpenFault};
 use blob_model::{Outcome, Place, Refusal};
 use border_hints::Ticket;
 use node_store::Row;
@@ -147,13 +147,13 @@ pub struct Open {
 impl Act<Desk> for Open {
     ghost use Rattle.version_manager.specs.Log.{Opened};
 
-    type Answer = Result<Snapshot, DeskFault>;
+    type Answer = Result<Snapshot, OpenFault>;
 
     ghost ready = { λ _ _ _. Unit {0} };
 
     ghost gives = { λ a before f by said after. Opened f a.blob a.version before by said after };
 
-    fn act(self, state: &mut Desk, _caller: u32) -> Result<Snapshot, DeskFault> {
+    fn act(self, state: &mut Desk, _caller: u32) -> Result<Snapshot, OpenFault> {
         let Open { blob, version } = self;
         state.stands();
         state.snapshot_of(blob, version)

@@ -14,13 +14,13 @@ ghost use Rattle.blob_model.specs.declared.call.Event.TheVariants as Events;
 ghost use Rattle.blob_model.specs.declared.call.Outcome.TheVariants as Outcomes;
 ghost use Rattle.version_manager.specs.Desks.{empty_desk, store_now, outcome_now, updates_in, window_in, with_event, windows_with, windows_and};
 ghost use Rattle.version_manager.specs.Desks.{is_finished_in, OnRefused, OnNoMemory, IsUnfinished, IsNumbering, IsTicketOf, IsRowFor, HasHints, HasHintsBelow};
-ghost use Rattle.version_manager.specs.Desks.{most_bytes, refusal_in, ticket_refusal, opens_below};
+ghost use Rattle.version_manager.specs.Desks.{most_bytes, refusal_in, ticket_refusal, opens_below, unopened_size};
 ghost use Rattle.version_manager.specs.Folds.{IsInOrder, AreInOrder};
 ghost use Rattle.version_manager.specs.Origins.{LieUnderOrigins};
 
 use crate::blob::{branch_in, first_in, refusal_of_update, ticket_again, ticket_over};
 use crate::entry::{Change, Entry};
-use crate::fault::DeskFault;
+use crate::fault::{DeskFault, OpenFault};
 use crate::looks::{no_ticket, recent_in, size_in, snapshot_in, status_in, sync_in};
 use crate::waiting::{WaitingList, WaitingUpdate};
 use blob_model::{Limits, Outcome, Place, Refusal};
@@ -341,23 +341,22 @@ impl Desk {
         Ok(id)
     }
 
-    /// The snapshot of a published version. `Refused` in the order of the reasons, as the size of the version is. Each of its
-    /// rows is stored under the blob that its version was numbered in.
-    pub fn snapshot_of(&self, blob: u64, version: u64) -> Result<Snapshot, DeskFault>
+    /// The snapshot of a published version. `Refused` in the order of the reasons, as the size of the version is; `NoMemory` tells
+    /// the version's size. Each of the snapshot's rows is stored under the blob that its version was numbered in.
+    pub fn snapshot_of(&self, blob: u64, version: u64) -> Result<Snapshot, OpenFault>
         ensures size { (caller : ℕ) → IfOk result (λ s. outcome_now self.now caller (Calls.Size blob version) ≡ Outcomes.Size (size_now s)) }
         ensures this { IfOk result (λ s. s ≡ older_version (version_of (window_in self.now blob)) version) }
         ensures blob { IfOk result (λ s. s.blob ≡ blob) }
         ensures version { IfOk result (λ s. length s.rows ≡ version) }
         ensures page_size { IfOk result (λ s. s.page_size ≡ self.now.page_size) }
         ensures tells { IfOk result (λ s. TellUpdates self.now.page_size (updates_in self.now blob) s.rows) }
-        ensures refused { (caller : ℕ) → IfErr result (λ fault. OnRefused fault (λ refusal. outcome_now self.now caller (Calls.Size blob version) ≡ Outcomes.Refused refusal)) }
-        ensures memory { (caller : ℕ) → IfErr result (λ fault. OnNoMemory fault (is_refused (outcome_now self.now caller (Calls.Size blob version)) ≡ false)) }
+        ensures not_opened { (caller : ℕ) → IfErr result (λ fault. outcome_now self.now caller (Calls.Size blob version) ≡ unopened_size fault) }
         ensures here { IfOk result (λ s. IsVersionIn self.now.nodes self.now.houses s) }
         ensures origins { IfOk result (λ s. LieUnderOrigins self.now.history blob s.rows) }
     {
         match index_of(&self.windows, blob) {
             Some(index) => snapshot_in(&self.windows[index], version),
-            None => Err(DeskFault::Refused(Refusal::NoBlob { blob })),
+            None => Err(OpenFault::Refused(Refusal::NoBlob { blob })),
         }
     }
 

@@ -11,3 +11,14 @@ pub enum DeskFault {
     #[error("no memory")]
     NoMemory,
 }
+
+/// Why a desk handed out no snapshot of a version.
+#[derive(Clone, Copy, Debug, PartialEq, Eq, Error)]
+pub enum OpenFault {
+    /// The store refuses the size of the version.
+    #[error("the store refuses the call")]
+    Refused(Refusal),
+    /// Memory was refused. The version is published, and has `size` bytes.
+    #[error("no memory to open a version of {size} bytes")]
+    NoMemory { size: u64 },
+}

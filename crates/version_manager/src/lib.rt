@@ -36,6 +36,6 @@ mod shared;
 mod waiting;
 
 pub use desk::Desk;
-pub use fault::DeskFault;
+pub use fault::{DeskFault, OpenFault};
 pub use journal::DeskFixed;
 pub use shared::{DeskOut, Owner, Pass, SharedDesk};

@@ -1,18 +1,17 @@
 // Looks at one blob, over its window alone. What a clause says of a blob holds of each one that the window keeps.
-ghost use Rattle.std.specs.Prelude.{◌≡◌, ℕ, false, List, [], ◌∷◌, length, ◌<◌, ◌≤◌, IfOk, IfErr, IfNone};
+ghost use Rattle.std.specs.Prelude.{◌≡◌, ℕ, List, [], ◌∷◌, length, ◌<◌, ◌≤◌, IfOk, IfErr, IfNone};
 ghost use Rattle.blob_model.specs.Content.{size_of};
 ghost use Rattle.blob_model.specs.Limits.{Bounds};
 ghost use Rattle.blob_model.specs.Store.{Store, Blob, assigned, published, held};
 ghost use Rattle.blob_model.specs.Answer.{first_refusal, unless_refused, not_published, not_numbered, already, pending};
-ghost use Rattle.blob_model.specs.History.{is_refused};
 ghost use Rattle.blob_model.specs.declared.call.Outcome.TheVariants as Outcomes;
 ghost use Rattle.publisher.specs.Windows.{published_of, version_of};
 ghost use Rattle.snapshot.specs.Laws.{TellUpdates};
 ghost use Rattle.snapshot.specs.Versions.{older_version, size_now};
-ghost use Rattle.version_manager.specs.Desks.{OnRefused, OnNoMemory};
+ghost use Rattle.version_manager.specs.Desks.{unopened_size};
 ghost use Rattle.version_manager.specs.DeskInvariant.{Keeps};
 
-use crate::fault::DeskFault;
+use crate::fault::OpenFault;
 use blob_model::{Outcome, Refusal};
 use publisher::{NoMemory, Window};
 use snapshot::Snapshot;
@@ -110,24 +109,24 @@ pub(crate) fn status_in(window: &Window) -> Outcome
     }
 }
 
-/// The snapshot of a published version.
-pub(crate) fn snapshot_in(window: &Window, version: u64) -> Result<Snapshot, DeskFault>
+/// The snapshot of a published version. Where memory is refused it tells the version's size.
+pub(crate) fn snapshot_in(window: &Window, version: u64) -> Result<Snapshot, OpenFault>
     ensures size { (limits : Bounds) (s : Store) (b : Blob) → Keeps limits window.now b
         → IfOk result (λ x. (unless_refused s (not_published b version ∷ []) (s, Outcomes.Size (size_of b.updates version))).1 ≡ Outcomes.Size (size_now x)) }
-    ensures refused { (limits : Bounds) (s : Store) (b : Blob) → Keeps limits window.now b
-        → IfErr result (λ fault. OnRefused fault (λ refusal. (unless_refused s (not_published b version ∷ []) (s, Outcomes.Size (size_of b.updates version))).1 ≡ Outcomes.Refused refusal)) }
-    ensures memory { (limits : Bounds) (s : Store) (b : Blob) → Keeps limits window.now b
-        → IfErr result (λ fault. OnNoMemory fault (is_refused (unless_refused s (not_published b version ∷ []) (s, Outcomes.Size (size_of b.updates version))).1 ≡ false)) }
+    ensures not_opened { (limits : Bounds) (s : Store) (b : Blob) → Keeps limits window.now b
+        → IfErr result (λ fault. (unless_refused s (not_published b version ∷ []) (s, Outcomes.Size (size_of b.updates version))).1 ≡ unopened_size fault) }
     ensures this { IfOk result (λ x. x ≡ older_version (version_of window.now) version) }
     ensures version { IfOk result (λ x. length x.rows ≡ version) }
     ensures tells { (limits : Bounds) (b : Blob) → Keeps limits window.now b → IfOk result (λ x. TellUpdates window.now.page_size b.updates x.rows) }
 {
     window.stands();
     if let Some(refusal) = unpublished(window, version) {
-        return Err(DeskFault::Refused(refusal));
+        return Err(OpenFault::Refused(refusal));
     }
     match window.snapshot_at(version) {
         Ok(snapshot) => Ok(snapshot),
-        Err(NoMemory) => Err(DeskFault::NoMemory),
+        Err(NoMemory) => Err(OpenFault::NoMemory {
+            size: window.snapshot().size_at(version),
+        }),
     }
 }

@@ -14,7 +14,7 @@ use crate::acts::{
     Assign, Branch, Create, Finish, Foresee, Open, Recent, Reissue, Size, Status, Sync,
 };
 use crate::desk::Desk;
-use crate::fault::DeskFault;
+use crate::fault::{DeskFault, OpenFault};
 use blob_model::{Outcome, Place, Refusal};
 use border_hints::Ticket;
 use node_store::Row;
@@ -198,14 +198,14 @@ impl SharedDesk {
         self.turn.with_turn(rt, pass, Branch { blob, version })
     }
 
-    /// The snapshot of a published version, in one turn. Refused as the size of the version is.
+    /// The snapshot of a published version, in one turn. `Refused` as the size of the version is; `NoMemory` tells the version's size.
     pub fn snapshot_of<R: Wait>(
         &self,
         rt: &R,
         pass: &mut Pass,
         blob: u64,
         version: u64,
-    ) -> Result<Snapshot, DeskFault>
+    ) -> Result<Snapshot, OpenFault>
         requires { pass.old.lock ≡ self.now }
         ensures pass { pass.new ≡ record pass.old { seen = pass.new.seen; turns = pass.new.turns } }
         ensures one_turn { pass.new.turns ≡ pass.old.turns + 1 }

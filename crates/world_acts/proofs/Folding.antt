@@ -23,9 +23,10 @@ use Rattle.blob_core.specs.declared.step.Step.TheVariants as Moves
 use Rattle.blob_core.proofs.Lists.{entry_new, one_value}
 use Rattle.version_manager.specs.Desks.{updates_in, published_in, published_or_none}
 use Rattle.version_manager.specs.Log.{desk_at, events}
+use Rattle.tree_geom.proofs.Spans.{page_pos}
 use Rattle.world_acts.specs.Worlds.{IsWorldOf, IsStep, StoresAgree}
 use Rattle.world_acts.specs.Puts.{FoldPutsAreSteps}
-use Rattle.world_acts.proofs.Steps.{page_some, quiet_step, worlds_are_reached}
+use Rattle.world_acts.proofs.Steps.{quiet_step, worlds_are_reached}
 use Rattle.world_acts.proofs.Weaving.{TicketBlob, ticket_blob, folds_up_to}
 
 fold_itself : (k : FoldKey) → same_fold k k ≡ true
@@ -83,7 +84,7 @@ pub fold_putting : StoresAgree → StepsHold → ReachedStays → BytesAnewStand
 fold_putting agree hold reached anew_stand f history w t page a valid ticket own hinted before anew =
     let p : ℕ = f.page_size in
     let v : ℕ = t.version in
-    let pos : 1 ≤ p = page_some p a.page_size in
+    let pos : 1 ≤ p = page_pos p a.page_size in
     let us : List Update = updates_in (desk_at f history) t.blob in
     let tb : TicketBlob f history w t = ticket_blob agree f history w t a ticket own in
     let b : Blob = tb.b in

@@ -39,9 +39,10 @@ use Rattle.version_manager.specs.Desks.{updates_or_none, published_or_none}
 use Rattle.version_manager.specs.Folds.{IsInOrder, AreInOrder}
 use Rattle.version_manager.specs.Log.{IsLog, events, tag, tagged}
 use Rattle.version_manager.proofs.Orders.{order_front}
+use Rattle.tree_geom.proofs.Spans.{page_pos}
 use Rattle.world_acts.specs.Worlds.{IsWorldOf, IsStep, StoresAgree, HasAllOf, WorldsOnlyGrow, HistoriesHaveWorlds}
 use Rattle.world_acts.specs.Together.{IsPutFor, ArePutsFor, IsTurnOf, IsActsOf, AreActs, in_turn, SessionsTogether}
-use Rattle.world_acts.proofs.Steps.{page_some, world_append, allowed_append, events_append, one_step, quiet_step, empty_is_a_world, worlds_are_reached}
+use Rattle.world_acts.proofs.Steps.{world_append, allowed_append, events_append, one_step, quiet_step, empty_is_a_world, worlds_are_reached}
 use Rattle.world_acts.proofs.Turns.{accepted, events_more}
 use Rattle.world_acts.proofs.Pages.{page_putting, numbers_go_on}
 use Rattle.world_acts.proofs.Folding.{contains_some, known_after}
@@ -155,7 +156,7 @@ module _ (grow : WorldsOnlyGrow) (e : Event) (of_page : (page : ℕ) (bytes : Li
   cutting zero w bytes a some few = absurd (omega (arith, some, few))
   cutting (suc most) w bytes a some few =
       let p : ℕ = f.page_size in
-      let pos : 1 ≤ p = page_some p a.page_size in
+      let pos : 1 ≤ p = page_pos p a.page_size in
       let (n, new) = numbers_go_on w in
       elim (cases_lt p (length bytes)) [
         | inr last ↦
@@ -211,7 +212,7 @@ module _ (agree : StoresAgree) (hold : StepsHold) (reached : ReachedStays) (grow
       let p : ℕ = f.page_size in
       let one : Contains anew page = all page (0, omega arith, refl) in
       let k : WeavesRow p w blob b version = weaves w a in
-      let met = ((folds_are p version (extents b.updates) (page_some p a.page_size) (bounds w a) (own w a).some (long w a)).0 page).0 one in
+      let met = ((folds_are p version (extents b.updates) (page_pos p a.page_size) (bounds w a) (own w a).some (long w a)).0 page).0 one in
       let folded : IsFolded p w blob version b page = record { kept = k.kept; there = k.there; met = met.0; anew = k.folded page ∙ met.1 } in
       let step : IsStep f w (Moves.FoldPut blob version page) history =
       quiet_step f history w (Moves.FoldPut blob version page) a (b, own w a, folded, before (contains_some anew page one)) refl in
@@ -234,7 +235,7 @@ module _ (agree : StoresAgree) (hold : StepsHold) (reached : ReachedStays) (grow
   weaving [] all w a folds = record { more = none_more e f history w a; known = λ r c. absurd (omega (arith, c.1)) }
   weaving (r ∷ ranges) all w a folds =
       let p : ℕ = f.page_size in
-      let pos : 1 ≤ p = page_some p a.page_size in
+      let pos : 1 ≤ p = page_pos p a.page_size in
       let key : NodeKey = record { blob = blob; version = version; range = r } in
       let k : WeavesRow p w blob b version = weaves w a in
       let has : HasNode p (log_of p b.updates) version r = all r (0, omega arith, refl) in
@@ -285,7 +286,7 @@ module _ (agree : StoresAgree) (hold : StepsHold) (reached : ReachedStays) (grow
       let long : version ≤ length (extents b.updates) = omega (arith, range.1, length-extents b.updates) in
       let keys : List Range = row_keys_of p (log_of p b.updates) version in
       let rows = weaving agree hold reached grow f history blob version b own e of_fold of_node keys
-      (λ r c. (row_keys_exact p version (extents b.updates) r (page_some p a.page_size) bounds range.0 long).0 c) u x folds.known in
+      (λ r c. (row_keys_exact p version (extents b.updates) r (page_pos p a.page_size) bounds range.0 long).0 c) u x folds.known in
       let v : World = rows.more.to in
       let y : IsWorldOf f history v = rows.more.world in
       let T : Store → Type 0 = λ s. is_refused (answer s caller (Calls.Finish blob version)).1 ≡ false in

@@ -29,7 +29,7 @@ use Rattle.blob_core.proofs.Keeping.{Stands, empty_stands, in_bounds}
 use Rattle.blob_core.proofs.Running.{stands_after}
 use Rattle.version_manager.specs.Desks.{updates_or_none, published_or_none}
 use Rattle.world_acts.specs.Worlds.{StepsAreInOrder}
-use Rattle.world_acts.proofs.Steps.{page_some}
+use Rattle.tree_geom.proofs.Spans.{page_pos}
 use Rattle.world_acts.proofs.Following.{IsAfterPublished, Follows, steps_follow}
 
 -- ---- the step of an event
@@ -124,7 +124,7 @@ finish_follows c p w caller blob version b pos s follow there ok folds =
 
 pub steps_in_order : Cited → StepsHold → StepsAreInOrder
 steps_in_order c hold p limits steps page allowed before later by blob version split folds =
-    let pos : 1 ≤ p = page_some p page in
+    let pos : 1 ≤ p = page_pos p page in
     let empty : World = empty_world limits in
     let x : StepOf p empty before (Events.Finish by blob version) = step_of p empty steps before later (Events.Finish by blob version) allowed split in
     let u : World = world_after p empty x.done in

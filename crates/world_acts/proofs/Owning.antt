@@ -19,6 +19,7 @@ use Rattle.version_manager.specs.Origins.{parents_after, parents_from, parents_o
 use Rattle.version_manager.specs.declared.journal.DeskFixed.{DeskFixed}
 use Rattle.version_manager.specs.Desks.{IsUnfinished, updates_or_none, finished_or_not}
 use Rattle.version_manager.specs.Log.{IsLog, events, desk_at}
+use Rattle.version_manager.proofs.Origins.{from_append, origin_from}
 use Rattle.world_acts.specs.Turns.{WaitingAreOwn}
 use Rattle.std.proofs.lemmas.List.{map-append}
 
@@ -124,21 +125,6 @@ owns limits history legal =
     owns_from (empty_store limits) [] history (record { count = refl; own = λ blob version b is e. refl }) legal
 
 -- ---- in a desk's history
-from_append : (parents : List (Option Parent)) (xs ys : List Event) → parents_from parents (xs ++ ys) ≡ parents_from (parents_from parents xs) ys
-from_append parents [] ys = refl
-from_append parents (x ∷ xs) ys = from_append (parents_after parents x) xs ys
-
--- an origin stays
-origin_from : (parents : List (Option Parent)) (es : List Event) (blob version : ℕ) → blob ≤ length parents → origin_of (parents_from parents es) blob version ≡ origin_of parents blob version
-origin_from parents [] blob version le = refl
-origin_from parents (Events.Create caller ∷ es) blob version le =
-    origin_from (None ∷ parents) es blob version (omega (arith, le)) ∙ origin_older None parents blob version le
-origin_from parents (Events.Assign caller at place bytes ∷ es) blob version le = origin_from parents es blob version le
-origin_from parents (Events.Finish caller at v ∷ es) blob version le = origin_from parents es blob version le
-origin_from parents (Events.Branch caller at v ∷ es) blob version le =
-    let next : Option Parent = Some (record { blob = at; version = v }) in
-    origin_from (next ∷ parents) es blob version (omega (arith, le)) ∙ origin_older next parents blob version le
-
 own_by : (s : Store) (parents : List (Option Parent)) (more : List Event) (blob version : ℕ) (o : Option Blob) → Owns s parents → blob_at s blob ≡ o → 1 ≤ version
     → version ≤ length (updates_or_none o) → finished_or_not o version ≡ false → origin_of (parents_from parents more) blob version ≡ blob
 own_by s parents more blob version None owns is some le e = absurd (omega (arith, some, le))

@@ -1,8 +1,8 @@
 -- One step more, in a world of a history.
-use Rattle.std.proofs.Common.{◌≡◌, ℕ, ◌≤◌, ◌^◌, zero, suc, List, [], ◌∷◌, ◌++◌, refl, sym, ap, subst, ◌∙◌, arith, append_assoc, append-nil}
+use Rattle.std.proofs.Common.{◌≡◌, ℕ, List, [], ◌∷◌, ◌++◌, refl, sym, ap, subst, ◌∙◌, arith, append_assoc, append-nil}
 use Rattle.blob_model.specs.History.{store_of}
 use Rattle.blob_model.specs.declared.call.Event.{Event}
-use Rattle.tree_geom.specs.Geometry.{IsPageSize}
+use Rattle.tree_geom.proofs.Spans.{page_pos}
 use Rattle.blob_core.specs.World.{World, empty_world}
 use Rattle.blob_core.specs.Steps.{IsAllowed, AllAllowed, after, world_after, events_from, events_of}
 use Rattle.blob_core.specs.Promises.{StepsHold}
@@ -13,14 +13,6 @@ use Rattle.version_manager.specs.Log.{IsLog, events}
 use Rattle.version_manager.specs.Origins.{parents_from, parents_of}
 use Rattle.version_manager.proofs.Orders.{none_in_order}
 use Rattle.world_acts.specs.Worlds.{IsWorldOf, IsStep, EmptyIsAWorld, WorldsAreReached, StoresAgree, LineagesAgree}
-
--- ---- page sizes
-pow_some : (i : ℕ) → 1 ≤ 2 ^ i
-pow_some zero = omega arith
-pow_some (suc i) = let rest = pow_some i in omega (arith, rest)
-
-pub page_some : (p : ℕ) → IsPageSize p → 1 ≤ p
-page_some p is = subst (λ (n : ℕ). 1 ≤ n) (sym is.1) (pow_some is.0)
 
 -- ---- lists of steps, one after the other
 pub world_append : (p : ℕ) (w : World) (xs ys : List Step) → world_after p w (xs ++ ys) ≡ world_after p (world_after p w xs) ys
@@ -95,7 +87,7 @@ pub worlds_are_reached : WorldsAreReached
 worlds_are_reached f history w a = record {
   limits = f.limits;
   within = a.within;
-  some = page_some f.page_size a.page_size;
+  some = page_pos f.page_size a.page_size;
   steps = a.steps;
   allowed = a.allowed;
   is = a.is;
@@ -104,7 +96,7 @@ worlds_are_reached f history w a = record {
 pub stores_agree : StepsHold → StoresAgree
 stores_agree hold f history w a =
     ap (λ (x : World). x.store) a.is
-    ∙ (hold f.page_size f.limits a.steps (page_some f.page_size a.page_size) a.allowed).store
+    ∙ (hold f.page_size f.limits a.steps (page_pos f.page_size a.page_size) a.allowed).store
     ∙ ap (λ (l : List Event). store_of f.limits l) a.changes
 
 pub lineages_agree : LineagesAgree

@@ -35,10 +35,11 @@ use Rattle.blob_core.proofs.Lists.{entry_new, one_value}
 use Rattle.version_manager.specs.declared.journal.DeskFixed.{DeskFixed}
 use Rattle.version_manager.specs.Desks.{IsTicketOf, updates_in, updates_or_none}
 use Rattle.version_manager.specs.Log.{desk_at, events}
+use Rattle.tree_geom.proofs.Spans.{page_pos}
 use Rattle.world_acts.specs.Worlds.{IsWorldOf, StoresAgree}
 use Rattle.world_acts.specs.Turns.{IsOwn}
 use Rattle.world_acts.specs.Puts.{NodePutsAreSteps, key_of}
-use Rattle.world_acts.proofs.Steps.{page_some, quiet_step, worlds_are_reached, lineages_agree}
+use Rattle.world_acts.proofs.Steps.{quiet_step, worlds_are_reached, lineages_agree}
 
 -- ---- lists
 pub unmap : {A B : Type 0} (g : A → B) (xs : List A) (k : ℕ) (y : B) → k < length (map g xs) → get_or (map g xs) k y ≡ y → (x : A) × Contains xs x × (g x ≡ y)
@@ -123,7 +124,7 @@ pub node_putting : StoresAgree → StepsHold → ReachedStays → NodePutsAreSte
 node_putting agree hold reached f history w t planned r n a ticket own nodes folded among there =
     let p : ℕ = f.page_size in
     let v : ℕ = t.version in
-    let pos : 1 ≤ p = page_some p a.page_size in
+    let pos : 1 ≤ p = page_pos p a.page_size in
     let us : List Update = updates_in (desk_at f history) t.blob in
     let tb : TicketBlob f history w t = ticket_blob agree f history w t a ticket own in
     let b : Blob = tb.b in

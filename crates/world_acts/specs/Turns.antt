@@ -27,6 +27,7 @@ use Rattle.version_manager.specs.Desks.{IsUnfinished}
 use Rattle.version_manager.specs.Log.{IsLog, Looked, Changed, MayAssign, IsNewTicket, MayFinish, Opened, Reissued, Foreseen, desk_at, events}
 use Rattle.version_manager.specs.Origins.{origin_in}
 use Rattle.version_manager.specs.declared.fault.DeskFault.{DeskFault}
+use Rattle.version_manager.specs.declared.fault.OpenFault.{OpenFault}
 use Rattle.version_manager.specs.declared.journal.DeskFixed.{DeskFixed}
 use Rattle.world_acts.specs.Worlds.{IsWorldOf, IsStep}
 use Rattle.world_acts.specs.Pages.{AreThePages}
@@ -98,7 +99,7 @@ FinishesAreSteps = (f : DeskFixed) (before now : List (ℕ × Event)) (w : World
 pub record LooksAreNoSteps : Type 0 where
   pub looked : (f : DeskFixed) (before now : List (ℕ × Event)) (w : World) (caller : ℕ) (call : Call) (said : Outcome) → IsWorldOf f before w
       → Looked f call before caller said now → IsWorldOf f now w
-  pub opened : (f : DeskFixed) (before now : List (ℕ × Event)) (w : World) (caller blob version : ℕ) (said : Result Version DeskFault) → IsWorldOf f before w
+  pub opened : (f : DeskFixed) (before now : List (ℕ × Event)) (w : World) (caller blob version : ℕ) (said : Result Version OpenFault) → IsWorldOf f before w
       → Opened f blob version before caller said now → IsWorldOf f now w
   pub reissued : (f : DeskFixed) (before now : List (ℕ × Event)) (w : World) (blob version : ℕ) (said : Result NumberedUpdate DeskFault) → IsWorldOf f before w
       → Reissued f blob version before said now → IsWorldOf f now w

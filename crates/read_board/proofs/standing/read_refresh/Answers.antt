@@ -11,7 +11,7 @@ use Rattle.client_session.specs.Results.{read_reply}
 use Rattle.read_board.specs.declared.standing.Way.{Way}
 use Rattle.read_board.specs.declared.standing.Way.TheVariants as Ways
 use Rattle.read_board.specs.Reads.{ByBoard, bytes_said}
-use Rattle.client_session.proofs.Kept.{page_some}
+use Rattle.tree_geom.proofs.Spans.{page_pos}
 use Rattle.read_board.proofs.Reading.{board_read, of_store_older, same_bytes, lost_as, stays_on}
 use Rattle.read_board.proofs.standing.read_refresh.Goals as goal
 
@@ -24,7 +24,7 @@ pub returns-clause-board : goal.returns-clause-board
 returns-clause-board g c =
     let on = c.args.on.now in
     let x = c.read_view.ensures in
-    let some = page_some on.snapshot.page_size c.stands.ensures.page_size in
+    let some = page_pos on.snapshot.page_size c.stands.ensures.page_size in
     subst (λ (said : Result (List ℕ × Way) Fault). ByBoard on c.args.session.now c.args.version c.args.offset c.args.count said c.read_view.new.self c.args.steps.now c.read_view.new.steps) (sym c.by.ensures)
     (board_read on c.args.session.now c.read_view.new.self c.args.version c.args.offset c.args.count c.rows_tell.ensures some c.stands.ensures c.requires.of_store c.requires.within c.view_at-older.result c.view_at-older.ensures c.read_view.result c.args.steps.now c.read_view.new.steps x.seen_stays x.reads x.too_long x.past x.steps x.no_step x.no_step_too_long)
 

@@ -23,7 +23,7 @@ returns-then-is_some-clause-coming g c =
       one_turn = λ none. absurd (false≢true (sym none ∙ has));
       keeps = has;
       stays = tt;
-      refused = tt;
+      not_opened = tt;
     }
 
 pub invariant_of-self : goal.invariant_of-self
@@ -33,7 +33,7 @@ invariant_of-self g c =
     let v = c.in-Ok.snapshot in
     let new : IsKept i.shared.now.fixed i.pass.seen v =
     subst (λ (x : SessionState g.row.D.Denot). IsKept x.store.fixed x.log v) (sym c.self-2.view_is)
-    (opened_kept c.args.self.now c.open.new.self c.args.blob c.args.version v c.in-Ok.ensures.opening) in
+    (opened_kept c.args.self.now c.snapshot_of.new.self c.args.blob c.args.version v c.in-Ok.ensures.opening) in
     record {
       pass_is = s.pass_is;
       holding = s.holding;

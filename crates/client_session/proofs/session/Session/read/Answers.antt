@@ -1,11 +1,12 @@
-use Rattle.std.proofs.Common.{◌≡◌, ◌∙◌, sym, ap, arith}
+use Rattle.std.proofs.Common.{◌≡◌, ◌∙◌, refl, sym, ap, arith}
 use Rattle.request_form.specs.PublishedReads.{Range}
+use Rattle.request_form.specs.declared.form.Fault.TheVariants as Faults
 use Rattle.client_session.specs.Sessions.{StoreState, session_of}
 use Rattle.client_session.specs.Kept.{Found}
-use Rattle.client_session.proofs.Kept.{found_there}
+use Rattle.client_session.proofs.Kept.{found_there, kept_came, kept_before}
 use Rattle.client_session.proofs.Losses.{read_lost}
 use Rattle.client_session.proofs.RangeAnswers.{opened_read, unopened_read}
-use Rattle.client_session.proofs.Memory.{found_taken}
+use Rattle.client_session.proofs.Memory.{found_within, read_unread}
 use Rattle.client_session.proofs.session.Session.read.Goals as goal
 
 pub returns-in-Ok-clause-answers : goal.returns-in-Ok-clause-answers
@@ -36,7 +37,7 @@ returns-in-Ok-clause-stays g c = λ history more seen published.
 
 pub returns-in-Err-clause-answers : goal.returns-in-Err-clause-answers
 returns-in-Err-clause-answers g c =
-    unopened_read c.args.self.now c.come.new.self c.args.blob c.args.version c.args.offset c.args.count (omega (arith, c.if-count-gt-MAX_READ.false)) c.in-Err.fault c.in-Err.ensures.coming
+    rw c.unread.ensures.is (unopened_read c.args.self.now c.come.new.self c.args.blob c.args.version c.args.offset c.args.count (omega (arith, c.if-count-gt-MAX_READ.false)) c.in-Err.fault c.in-Err.ensures.coming)
 
 pub returns-in-Err-clause-stays : goal.returns-in-Err-clause-stays
 returns-in-Err-clause-stays g c = λ history more seen published.
@@ -55,4 +56,21 @@ pub returns-in-Ok-clause-memory : goal.returns-in-Ok-clause-memory
 returns-in-Ok-clause-memory g c =
     let by = c.read_kept.ensures.by in
     let found : Found c.args.self.now c.args.blob c.args.version by.v c.come.new.self = found_there c.args.self.now c.come.new.self c.args.blob c.args.version by.v c.come.ensures.coming by.found in
-    found_taken c.args.self.now c.come.new.self c.read_kept.new.self c.args.blob c.args.version by.v c.read_kept.result found c.read_kept.ensures.seen_stays
+    found_within c.args.self.now c.come.new.self c.read_kept.new.self c.args.blob c.args.version by.v found c.read_kept.ensures.seen_stays c.args.offset c.args.count c.read_kept.result by.memory
+
+pub returns-in-Err-clause-memory : goal.returns-in-Err-clause-memory
+returns-in-Err-clause-memory g c =
+    rw c.unread.ensures.is (read_unread c.args.self.now c.come.new.self c.args.blob c.args.version c.args.offset c.args.count c.in-Err.fault c.in-Err.ensures.coming)
+
+pub returns-then-count-gt-MAX_READ-clause-keeps : goal.returns-then-count-gt-MAX_READ-clause-keeps
+returns-then-count-gt-MAX_READ-clause-keeps g c =
+    let kept = (c.args.self.now).opened in
+    kept_before (Faults.ReadTooLong c.args.count) c.args.blob c.args.version kept kept refl refl
+
+pub returns-in-Ok-clause-keeps : goal.returns-in-Ok-clause-keeps
+returns-in-Ok-clause-keeps g c =
+    kept_came c.come.new.self c.read_kept.new.self (c.args.self.now).opened c.args.blob c.args.version c.read_kept.result c.read_kept.ensures.seen_stays c.in-Ok.ensures.coming.keeps
+
+pub returns-in-Err-clause-keeps : goal.returns-in-Err-clause-keeps
+returns-in-Err-clause-keeps g c =
+    kept_before c.unread.result c.args.blob c.args.version (c.args.self.now).opened (c.come.new.self).opened c.unread.ensures.calm c.in-Err.ensures.coming.stays

@@ -1,21 +1,21 @@
-use Rattle.std.proofs.Common.{◌≡◌, ℕ, ◌<◌, false, List, map, length, sym, ◌∙◌, ap, subst, arith}
+use Rattle.std.proofs.Common.{◌≡◌, ℕ, ◌<◌, List, map, length, sym, ◌∙◌, ap, subst, arith}
 use Rattle.std.specs.Prelude.{IfOk, IfErr}
 use Rattle.std.specs.Arc.{arc_value}
 use Rattle.blob_model.specs.Answer.{answer}
 use Rattle.blob_model.specs.Content.{Update}
-use Rattle.blob_model.specs.History.{store_of, is_refused}
+use Rattle.blob_model.specs.History.{store_of}
 use Rattle.blob_model.specs.declared.call.Call.TheVariants as Calls
 use Rattle.blob_model.specs.declared.call.Outcome.TheVariants as Outcomes
 use Rattle.blob_model.specs.declared.call.Refusal.TheVariants as Refusals
 use Rattle.snapshot.specs.Laws.{TellUpdates}
 use Rattle.snapshot.specs.Versions.{Version, IsVersionIn, size_now}
-use Rattle.version_manager.specs.declared.fault.DeskFault.{DeskFault}
-use Rattle.version_manager.specs.Desks.{DeskState, no_window, OnRefused, OnNoMemory, updates_in, updates_or_none}
+use Rattle.version_manager.specs.declared.fault.OpenFault.{OpenFault}
+use Rattle.version_manager.specs.Desks.{DeskState, no_window, updates_in, updates_or_none, unopened_size}
 use Rattle.version_manager.specs.Entries.{event_of}
 use Rattle.version_manager.specs.Origins.{LieUnderOrigins, parents_of}
 use Rattle.version_manager.proofs.Desks.{at_index}
 use Rattle.version_manager.proofs.Houses.{AreRowsIn, older_in, window_lies}
-use Rattle.version_manager.proofs.Looking.{look_none, look_at, on_refused, on_no_memory, size_in}
+use Rattle.version_manager.proofs.Looking.{look_none, look_at, size_in}
 use Rattle.version_manager.proofs.Origins.{origins_at, older_under}
 use Rattle.version_manager.proofs.Results.{if_ok, if_err}
 use Rattle.version_manager.proofs.desk.Desk.snapshot_of.Goals as goal
@@ -55,27 +55,17 @@ returns-in-Some-clause-tells c =
     let R : ℕ → Type 0 = λ p. IfOk c.snapshot_in.result (λ (a : Version). TellUpdates p b.updates a.rows) in
     subst P c.self.view_is (subst Q (ap updates_or_none (sym x.found.at)) (subst R x.page (c.snapshot_in.ensures.tells d.limits b x.keeps)))
 
-pub returns-in-Some-clause-refused : goal.returns-in-Some-clause-refused
-returns-in-Some-clause-refused c = λ caller.
+pub returns-in-Some-clause-not_opened : goal.returns-in-Some-clause-not_opened
+returns-in-Some-clause-not_opened c = λ caller.
     let d = c.self.inside in
     let h = map event_of d.history.items in
     let x = at_index d.limits d.page_size h d.windows.items c.self.invariant.kept c.args.blob c.in-Some.index _ c.index.result.now d.windows.ok.0 c.in-Some.ensures c.index.ensures in
     let s = store_of d.limits h in
-    let P : DeskState → Type 0 = λ v. IfErr c.snapshot_in.result (λ (fault : DeskFault). OnRefused fault (λ refusal. (answer (store_of v.limits v.history) caller (Calls.Size c.args.blob c.args.version)).1 ≡ Outcomes.Refused refusal)) in
+    let P : DeskState → Type 0 = λ v. IfErr c.snapshot_in.result (λ (fault : OpenFault). (answer (store_of v.limits v.history) caller (Calls.Size c.args.blob c.args.version)).1 ≡ unopened_size fault) in
     subst P c.self.view_is (
-    if_err c.snapshot_in.result _ _ (λ fault e. on_refused fault _ _ (λ r f. look_at d.limits d.page_size h d.windows.items c.self.invariant.kept c.args.blob (size_in s c.args.version) x.found ∙ f) e)
-    (c.snapshot_in.ensures.refused d.limits s x.found.b x.keeps)
+    if_err c.snapshot_in.result _ _ (λ fault e. look_at d.limits d.page_size h d.windows.items c.self.invariant.kept c.args.blob (size_in s c.args.version) x.found ∙ e)
+    (c.snapshot_in.ensures.not_opened d.limits s x.found.b x.keeps)
     )
-
-pub returns-in-Some-clause-memory : goal.returns-in-Some-clause-memory
-returns-in-Some-clause-memory c = λ caller.
-    let d = c.self.inside in
-    let h = map event_of d.history.items in
-    let x = at_index d.limits d.page_size h d.windows.items c.self.invariant.kept c.args.blob c.in-Some.index _ c.index.result.now d.windows.ok.0 c.in-Some.ensures c.index.ensures in
-    let s = store_of d.limits h in
-    let look = look_at d.limits d.page_size h d.windows.items c.self.invariant.kept c.args.blob (size_in s c.args.version) x.found in
-    let P : DeskState → Type 0 = λ v. IfErr c.snapshot_in.result (λ (fault : DeskFault). OnNoMemory fault (is_refused (answer (store_of v.limits v.history) caller (Calls.Size c.args.blob c.args.version)).1 ≡ false)) in
-    subst P c.self.view_is (if_err c.snapshot_in.result _ _ (λ fault e. on_no_memory fault _ _ (λ f. ap is_refused look ∙ f) e) (c.snapshot_in.ensures.memory d.limits s x.found.b x.keeps))
 
 pub returns-in-Some-clause-here : goal.returns-in-Some-clause-here
 returns-in-Some-clause-here c =
@@ -100,8 +90,8 @@ returns-in-Some-clause-origins c =
     let P : DeskState → Type 0 = λ s. IfOk c.snapshot_in.result (λ (a : Version). LieUnderOrigins s.history blob a.rows) in
     subst P c.self.view_is (if_ok c.snapshot_in.result _ _ (λ (a : Version) e. subst O (sym e) (older_under h blob c.args.version w under)) c.snapshot_in.ensures.this)
 
-pub returns-in-None-clause-refused : goal.returns-in-None-clause-refused
-returns-in-None-clause-refused c = λ caller.
+pub returns-in-None-clause-not_opened : goal.returns-in-None-clause-not_opened
+returns-in-None-clause-not_opened c = λ caller.
     let d = c.self.inside in
     let h = map event_of d.history.items in
     let s = store_of d.limits h in
