@@ -2,6 +2,7 @@
 use Rattle.std.proofs.Common.{◌≡◌, ◌⊎◌, inl, inr, ℕ, ◌-◌, List, [], ◌∷◌, ◌++◌, refl, sym, ap, subst, ◌∙◌, append-nil}
 use Rattle.std.specs.Prelude.{Option, Some, None, Result, Ok, Err}
 use Rattle.blob_model.specs.History.{events_by, AllOther}
+use Rattle.blob_model.specs.Laws.{FinishedByEvents, OldVersionsStay}
 use Rattle.blob_model.specs.declared.call.Event.{Event}
 use Rattle.blob_model.specs.declared.call.Event.TheVariants as Events
 use Rattle.blob_model.specs.declared.call.Place.{Place}
@@ -18,7 +19,10 @@ use Rattle.workload_law.specs.Numbered.{IsNumberedBy}
 use Rattle.workload_law.specs.Sessions.{FinishesItsOwn}
 use Rattle.workload_law.specs.Ends.{Leaves, Holds, StopsAt, UpdateHindered, FinishEnds, FinishesEnd, LeavesAdd, HoldsStay, HoldsItsOwn, ReportsLeave, HindrancesStay, still_held}
 use Rattle.update_work.specs.Updates.{update_events, awaited_by, IsStopped, IsHindered, FinishTold, FinishedFor, StandsAt, StandsAfter, HasHungUp, HungUpFor, HasWaited}
+use Rattle.update_work.specs.Left.{IsLeft, left_by}
+use Rattle.update_work.specs.declared.updating.Stopped.{Stopped}
 use Rattle.update_work.proofs.Updates.{leaves_same, same_fault}
+use Rattle.update_work.proofs.Settled.{settled_gone, finish_left, left_on}
 
 -- ---- one finish
 
@@ -28,26 +32,7 @@ no_finish published fault e = cc
 awaited_is : (told : Result ℕ Fault) (version : ℕ) → awaited_by told ≡ Some version → (least : ℕ) × (told ≡ Err (Faults.Pending version least))
 awaited_is (Ok published) version e = absurd (let no : None ≡ Some version = e in cc)
 awaited_is (Err (Faults.Pending v least)) version e = (least, let same : v ≡ version = cc in ap (λ (n : ℕ). Err (Faults.Pending n least)) same)
-awaited_is (Err (Faults.NoBlob x)) version e = absurd (let no : None ≡ Some version = e in cc)
-awaited_is (Err (Faults.NotPublished x y)) version e = absurd (let no : None ≡ Some version = e in cc)
-awaited_is (Err (Faults.OffsetPastSize x y)) version e = absurd (let no : None ≡ Some version = e in cc)
-awaited_is (Err (Faults.BlobTooBig x y)) version e = absurd (let no : None ≡ Some version = e in cc)
-awaited_is (Err (Faults.TooManyVersions x)) version e = absurd (let no : None ≡ Some version = e in cc)
-awaited_is (Err (Faults.TooManyOpen x)) version e = absurd (let no : None ≡ Some version = e in cc)
-awaited_is (Err (Faults.TooManyBlobs x)) version e = absurd (let no : None ≡ Some version = e in cc)
-awaited_is (Err (Faults.Already x)) version e = absurd (let no : None ≡ Some version = e in cc)
-awaited_is (Err Faults.NoMemory) version e = absurd (let no : None ≡ Some version = e in cc)
-awaited_is (Err Faults.EmptyUpdate) version e = absurd (let no : None ≡ Some version = e in cc)
-awaited_is (Err (Faults.UpdateTooLong x)) version e = absurd (let no : None ≡ Some version = e in cc)
-awaited_is (Err (Faults.RangePastSize x y)) version e = absurd (let no : None ≡ Some version = e in cc)
-awaited_is (Err (Faults.NoTicket x)) version e = absurd (let no : None ≡ Some version = e in cc)
-awaited_is (Err Faults.TooManyTickets) version e = absurd (let no : None ≡ Some version = e in cc)
-awaited_is (Err (Faults.PageFault x)) version e = absurd (let no : None ≡ Some version = e in cc)
-awaited_is (Err Faults.Malformed) version e = absurd (let no : None ≡ Some version = e in cc)
-awaited_is (Err (Faults.FrameTooLong x)) version e = absurd (let no : None ≡ Some version = e in cc)
-awaited_is (Err Faults.BadFrame) version e = absurd (let no : None ≡ Some version = e in cc)
-awaited_is (Err (Faults.ReadTooLong x)) version e = absurd (let no : None ≡ Some version = e in cc)
-awaited_is (Err (Faults.NoMemoryTicket x)) version e = absurd (let no : None ≡ Some version = e in cc)
+awaited_is (Err fault) version e = absurd (let no : None ≡ Some version = e in cc)
 
 -- a finish that waits isn't awaited for nothing
 not_awaited : (fault : Fault) (version least : ℕ) → awaited_by (Err fault) ≡ None → fault ≡ Faults.Pending version least → ⊥
@@ -68,23 +53,26 @@ module _ (ends : FinishesEnd) (mid : Session) (blob number : ℕ) (told : Result
     holds_on fault before least is (FinishEnds.hinders f said other hindered stops) = absurd (other before least (sym (same_fault fault f said) ∙ is))
 
     finish_hinders : (fault : Fault) → UpdateHindered s.fixed.limits s.fixed.page s.caller blob place bytes s.seen s'.seen fault → StopsAt s blob place bytes (still_held number fault) s'
-        → IsHindered s blob place bytes fault (still_held number fault) s'
-    finish_hinders fault hindered stops = record {
+        → IsLeft s blob place bytes (left_by (Err fault)) s' → IsHindered s blob place bytes fault (still_held number fault) s'
+    finish_hinders fault hindered stops left = record {
       more = [];
       of_others = ap (λ (h : List Event). events_by s.caller h) (append-nil s.seen);
       hindered = subst (λ (h : List Event). UpdateHindered s.fixed.limits s.fixed.page s.caller blob place bytes h s'.seen fault) (sym (append-nil s.seen)) hindered;
       stops = stops;
+      settled = settled_gone s blob place bytes number fault s' left;
     }
 
-    by_end : (r : Result ℕ Fault) → awaited_by r ≡ None → Ended (finish_reply r) → FinishTold s blob place bytes number r s'
-    by_end (Ok published) settled (FinishEnds.does p said l t) = record { version = version; leaves = l; none_held = t ∙ none }
-    by_end (Ok published) settled (FinishEnds.waits least said h) = absurd (no_finish published (Faults.Pending (version - 1) least) (sym said))
-    by_end (Ok published) settled (FinishEnds.hinders f said other hindered stops) = absurd (no_finish published f (sym said))
-    by_end (Err fault) settled (FinishEnds.does p said l t) = absurd (no_finish p fault said)
-    by_end (Err fault) settled (FinishEnds.waits least said h) =
+    by_end : (r : Result ℕ Fault) → awaited_by r ≡ None → IsLeft s blob place bytes (left_by r) s' → Ended (finish_reply r) → FinishTold s blob place bytes number r s'
+    by_end (Ok published) settled left (FinishEnds.does p said l t) = record { version = version; leaves = l; none_held = t ∙ none }
+    by_end (Ok published) settled left (FinishEnds.waits least said h) = absurd (no_finish published (Faults.Pending (version - 1) least) (sym said))
+    by_end (Ok published) settled left (FinishEnds.hinders f said other hindered stops) = absurd (no_finish published f (sym said))
+    by_end (Err fault) settled left (FinishEnds.does p said l t) = absurd (no_finish p fault said)
+    by_end (Err fault) settled left (FinishEnds.waits least said h) =
         absurd (not_awaited fault (version - 1) least settled (same_fault fault (Faults.Pending (version - 1) least) said))
-    by_end (Err fault) settled (FinishEnds.hinders f said other hindered stops) =
-        subst (λ (x : Fault). IsHindered s blob place bytes x (still_held number x) s') (sym (same_fault fault f said)) (finish_hinders f hindered stops)
+    by_end (Err fault) settled left (FinishEnds.hinders f said other hindered stops) =
+        let same : fault ≡ f = same_fault fault f said in
+        subst (λ (x : Fault). IsHindered s blob place bytes x (still_held number x) s') (sym same)
+        (finish_hinders f hindered stops (subst (λ (x : Fault). IsLeft s blob place bytes (left_by (Err x)) s') same left))
 
   pub finish_waits : (version : ℕ) → awaited_by told ≡ Some version → (s : Session) (place : Place) (bytes : List ℕ) (v : ℕ) → s.tickets ≡ [] → Holds s blob place bytes number v mid
       → Holds s blob place bytes number v s'
@@ -93,8 +81,10 @@ module _ (ends : FinishesEnd) (mid : Session) (blob number : ℕ) (told : Result
       holds_on s place bytes v none holds (Faults.Pending version is.0) version is.0 refl
       (subst (λ (r : Result ℕ Fault). FinishEnds s blob place bytes number v (finish_reply r) s') is.1 (ended s place bytes v none holds))
 
-  pub finish_told : awaited_by told ≡ None → FinishedFor blob number mid told s'
-  finish_told settled s place bytes version none holds = by_end s place bytes version none holds told settled (ended s place bytes version none holds)
+  pub finish_told : FinishedByEvents → OldVersionsStay → awaited_by told ≡ None → FinishedFor blob number mid told s'
+  finish_told by_events stay settled s place bytes version none holds =
+      let left : IsLeft s blob place bytes (left_by told) s' = finish_left s mid blob place bytes number version holds by_events stay none told s' answers settled in
+      (by_end s place bytes version none holds told settled left (ended s place bytes version none holds), left)
 
 -- ---- one finish after another
 
@@ -118,16 +108,17 @@ stands_told s blob place bytes number (Err fault) s' hindered = StandsAt.hindere
 
 module _ (blob number : ℕ) (mid : Session) (told : Result ℕ Fault) (s' : Session) (finished : FinishedFor blob number mid told s') where
   pub stands_finished : (s : Session) (place : Place) (bytes : List ℕ) → s.tickets ≡ [] → (ticket : Option ℕ) → ticket ≡ Some number → StopsAt s blob place bytes ticket mid
-      → StandsAt s blob place bytes s'
+      → StandsAt s blob place bytes s' × IsLeft s blob place bytes (left_by told) s'
   stands_finished s place bytes none ticket is (StopsAt.unnumbered gone l t) = absurd (never_none number (sym is ∙ gone))
   stands_finished s place bytes none ticket is (StopsAt.numbered gone l t) = absurd (never_none number (sym is ∙ gone))
   stands_finished s place bytes none ticket is (StopsAt.held n version at holds) =
       let same : number ≡ n = some_or_none number n (sym is ∙ at) in
       let here : Holds s blob place bytes number version mid = subst (λ (k : ℕ). Holds s blob place bytes k version mid) (sym same) holds in
-      stands_told s blob place bytes number told s' (finished s place bytes version none here)
+      let ends = finished s place bytes version none here in
+      (stands_told s blob place bytes number told s' ends.0, ends.1)
 
-pub stands_still : (blob : ℕ) (ticket : Option ℕ) (mid : Session) → StandsAfter blob ticket mid mid
-stands_still blob ticket mid s place bytes none stops = StandsAt.hindered ticket stops
+pub stands_still : (blob : ℕ) (ticket : Option ℕ) (mid : Session) → ticket ≡ None → StandsAfter blob ticket mid None mid
+stands_still blob ticket mid gone s place bytes none stops settled = (StandsAt.hindered ticket stops, settled gone)
 
 -- ---- hanging up
 
@@ -185,52 +176,74 @@ module _ (s : Session) (counts : GivenUpCounts) (s' : Session) (up : HungUp AllO
 
 module _ (adds : LeavesAdd) (own_held : HoldsItsOwn) (reports : ReportsLeave) (blob : ℕ) (mid : Session) (counts : GivenUpCounts) (s' : Session) (none_held : s'.tickets ≡ [])
     (up : HungUp AllOther mid counts s') where
-  module _ (s : Session) (place : Place) (bytes : List ℕ) (none : s.tickets ≡ []) where
+  module _ (s : Session) (place : Place) (bytes : List ℕ) (none : s.tickets ≡ []) (last : Option Fault) (left : IsLeft s blob place bytes last mid) where
     abbrev this : Event
     this = Events.Assign s.caller blob place bytes
 
     -- it left this before it hung up, and this by it
     stopped_with : (version : ℕ) (own more rest : List Event) → (own ++ more) ++ rest ≡ update_events s.caller blob place bytes version → Leaves s own mid → Leaves mid more s'
-        → HasHungUp s blob place bytes s'
-    stopped_with version own more rest split first second =
-        record { version = version; stopped = record { own = own ++ more; rest = rest; split = split; leaves = adds s mid s' own more first second; none_held = none_held } }
+        → (events_by s.caller mid.seen ≡ events_by s.caller s.seen → events_by s.caller s'.seen ≡ events_by s.caller s.seen) → HasHungUp s blob place bytes last s'
+    stopped_with version own more rest split first second same = record {
+      version = version;
+      stopped = record { own = own ++ more; rest = rest; split = split; leaves = adds s mid s' own more first second; none_held = none_held };
+      left = left_on s blob place bytes mid s' second.more second.seen same last left;
+    }
 
-    stopped_held : (ticket : HeldTicket) → ticket.blob ≡ blob → Leaves s (this ∷ []) mid → Reports mid ticket s' → HasHungUp s blob place bytes s'
-    stopped_held ticket is l (inl r) = stopped_with 0 (this ∷ []) [] (Events.Finish s.caller blob 0 ∷ []) refl l r
+    -- it held nothing
+    same_own : (own : List Event) → Leaves s own mid → Leaves mid [] s' → events_by s.caller mid.seen ≡ events_by s.caller s.seen → events_by s.caller s'.seen ≡ events_by s.caller s.seen
+    same_own own first second e =
+        subst (λ (c : ℕ). events_by c s'.seen ≡ events_by c mid.seen ++ []) first.caller second.mine ∙ (append-nil (events_by s.caller mid.seen) ∙ e)
+
+    stopped_free : (version : ℕ) (own rest : List Event) → (own ++ []) ++ rest ≡ update_events s.caller blob place bytes version → Leaves s own mid → mid.tickets ≡ []
+        → HasHungUp s blob place bytes last s'
+    stopped_free version own rest split first gone =
+        let second : Leaves mid [] s' = hung_none mid counts s' up gone in
+        stopped_with version own [] rest split first second (same_own own first second)
+
+    -- a numbering is an event of its own
+    one_more : (l : List Event) → l ++ this ∷ [] ≡ l → ⊥
+    one_more [] e = let no : (this ∷ []) ≡ [] = e in cc
+    one_more (x ∷ l) e = one_more l cc
+
+    stopped_held : (ticket : HeldTicket) → ticket.blob ≡ blob → Leaves s (this ∷ []) mid → Reports mid ticket s' → HasHungUp s blob place bytes last s'
+    stopped_held ticket is l (inl r) =
+        stopped_with 0 (this ∷ []) [] (Events.Finish s.caller blob 0 ∷ []) refl l r (λ e. absurd (one_more (events_by s.caller s.seen) (sym l.mine ∙ e)))
     stopped_held ticket is l (inr r) =
         stopped_with ticket.version (this ∷ []) (Events.Finish s.caller blob ticket.version ∷ []) [] refl l
         (subst (λ (b : ℕ). Leaves mid (Events.Finish s.caller b ticket.version ∷ []) s') is (subst (λ (c : ℕ). Leaves mid (Events.Finish c ticket.blob ticket.version ∷ []) s') l.caller r))
+        (λ e. absurd (one_more (events_by s.caller s.seen) (sym l.mine ∙ e)))
 
-    stopped_at : (held : Option ℕ) → StopsAt s blob place bytes held mid → HasHungUp s blob place bytes s'
-    stopped_at held (StopsAt.unnumbered gone l t) = stopped_with 0 [] [] (update_events s.caller blob place bytes 0) refl l (hung_none mid counts s' up (t ∙ none))
-    stopped_at held (StopsAt.numbered gone l t) = stopped_with 0 (this ∷ []) [] (Events.Finish s.caller blob 0 ∷ []) refl l (hung_none mid counts s' up (t ∙ none))
+    stopped_at : (held : Option ℕ) → StopsAt s blob place bytes held mid → HasHungUp s blob place bytes last s'
+    stopped_at held (StopsAt.unnumbered gone l t) = stopped_free 0 [] (update_events s.caller blob place bytes 0) refl l (t ∙ none)
+    stopped_at held (StopsAt.numbered gone l t) = stopped_free 0 (this ∷ []) (Events.Finish s.caller blob 0 ∷ []) refl l (t ∙ none)
     stopped_at held (StopsAt.held number version at h) =
         let ticket : HeldTicket = record { number = number; blob = blob; version = version } in
         let one : mid.tickets ≡ ticket ∷ [] = h.tickets ∙ ap (λ (ts : List HeldTicket). ts ++ ticket ∷ []) none in
         stopped_held ticket refl h.leaves (hung_one mid counts s' up reports ticket one (own_held s blob place bytes number version mid h))
 
-    pub hung_at : StandsAt s blob place bytes mid → HasHungUp s blob place bytes s'
+    pub hung_at : StandsAt s blob place bytes mid → HasHungUp s blob place bytes last s'
     hung_at (StandsAt.hindered ticket stops) = stopped_at ticket stops
-    hung_at (StandsAt.finished done) =
-        stopped_with done.version (update_events s.caller blob place bytes done.version) [] [] refl done.leaves (hung_none mid counts s' up done.none_held)
+    hung_at (StandsAt.finished done) = stopped_free done.version (update_events s.caller blob place bytes done.version) [] refl done.leaves done.none_held
 
 -- a session that hung up as it stopped at an update
-pub hung_up_for : LeavesAdd → HoldsItsOwn → ReportsLeave → (blob : ℕ) (held : Option ℕ) (old mid : Session) (counts : GivenUpCounts) (s' : Session) → s'.tickets ≡ [] → HungUp AllOther mid counts s'
-    → StandsAfter blob held old mid → HungUpFor blob held old s'
-hung_up_for adds own_held reports blob held old mid counts s' none_held up stands s place bytes none stops =
-    hung_at adds own_held reports blob mid counts s' none_held up s place bytes none (stands s place bytes none stops)
+pub hung_up_for : LeavesAdd → HoldsItsOwn → ReportsLeave → (blob : ℕ) (held : Option ℕ) (last : Option Fault) (old mid : Session) (counts : GivenUpCounts) (s' : Session) → s'.tickets ≡ []
+    → HungUp AllOther mid counts s' → StandsAfter blob held old last mid → HungUpFor blob held old last s'
+hung_up_for adds own_held reports blob held last old mid counts s' none_held up stands s place bytes none stops settled =
+    let stood = stands s place bytes none stops settled in
+    hung_at adds own_held reports blob mid counts s' none_held up s place bytes none last stood.1 stood.0
 
 -- what hindered the update stands once it hung up
-pub stopped : HindrancesStay → (s : Session) (blob : ℕ) (place : Place) (bytes : List ℕ) (fault : Fault) (held : Option ℕ) (mid s' : Session) (later : List Event) → s'.seen ≡ mid.seen ++ later
-    → s.tickets ≡ [] → IsHindered s blob place bytes fault held mid → HungUpFor blob held mid s' → IsStopped s blob place bytes fault s'
-stopped stay s blob place bytes fault held mid s' later seen none hindered hung =
-    let up : HasHungUp s blob place bytes s' = hung s place bytes none hindered.stops in
+pub stopped : HindrancesStay → (s : Session) (blob : ℕ) (place : Place) (bytes : List ℕ) (stop : Stopped) (held : Option ℕ) (mid s' : Session) (later : List Event) → s'.seen ≡ mid.seen ++ later
+    → s.tickets ≡ [] → IsHindered s blob place bytes stop.fault held mid → HungUpFor blob held mid stop.left s' → IsStopped s blob place bytes stop s'
+stopped stay s blob place bytes stop held mid s' later seen none hindered hung =
+    let up : HasHungUp s blob place bytes stop.left s' = hung s place bytes none hindered.stops hindered.settled in
     record {
       version = up.version;
       stopped = up.stopped;
       more = hindered.more;
       of_others = hindered.of_others;
       hindered =
-          subst (λ (h : List Event). UpdateHindered s.fixed.limits s.fixed.page s.caller blob place bytes (s.seen ++ hindered.more) h fault) (sym seen)
-          (stay s.fixed.limits s.fixed.page s.caller blob place bytes (s.seen ++ hindered.more) mid.seen later fault hindered.hindered);
+          subst (λ (h : List Event). UpdateHindered s.fixed.limits s.fixed.page s.caller blob place bytes (s.seen ++ hindered.more) h stop.fault) (sym seen)
+          (stay s.fixed.limits s.fixed.page s.caller blob place bytes (s.seen ++ hindered.more) mid.seen later stop.fault hindered.hindered);
+      left = up.left;
     }

@@ -1,4 +1,5 @@
 pub mod Updates
+pub mod Settled
 pub mod Finishes
 pub mod Returns
 pub mod Fresh

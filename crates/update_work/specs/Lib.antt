@@ -1,4 +1,5 @@
 pub mod Updates
+pub mod Left
 pub mod Making
 pub mod Callers
 pub mod Ending

@@ -15,7 +15,9 @@ use Rattle.session_parts.specs.declared.done.Updated.TheVariants as WholeUpdates
 use Rattle.client_session.specs.Sessions.{SessionState, Continues, session_of}
 use Rattle.faults.specs.Counts.{RoseBy}
 use Rattle.workload_law.specs.Ends.{Leaves, Holds, UpdateHindered, StopsAt, ticket_of, still_held}
+use Rattle.update_work.specs.Left.{IsSettled, IsLeft, left_by}
 use Rattle.update_work.specs.declared.finishing.Stop.{Stop}
+use Rattle.update_work.specs.declared.updating.Stopped.{Stopped}
 
 -- an update's own two events: its numbering and its finish
 abbrev pub update_events : ℕ → ℕ → Place → List ℕ → ℕ → List Event
@@ -65,20 +67,23 @@ pub record StoppedWithin (s : Session) (events : List Event) (s' : Session) : Ty
   pub leaves : Leaves s own s'
   pub none_held : s'.tickets ≡ []
 
--- The update wasn't done, and the session hung up. It tells what hindered the last try, when the session had seen more of others.
-pub record IsStopped (s : Session) (blob : ℕ) (place : Place) (bytes : List ℕ) (fault : Fault) (s' : Session) : Type 0 where
+-- The update wasn't done, and the session hung up. It tells what hindered the last try, when the session had seen more of others, and what
+-- is left of the update.
+pub record IsStopped (s : Session) (blob : ℕ) (place : Place) (bytes : List ℕ) (stop : Stopped) (s' : Session) : Type 0 where
   pub version : ℕ
   pub stopped : StoppedWithin s (update_events s.caller blob place bytes version) s'
   pub more : List Event
   pub of_others : events_by s.caller (s.seen ++ more) ≡ events_by s.caller s.seen
-  pub hindered : UpdateHindered s.fixed.limits s.fixed.page s.caller blob place bytes (s.seen ++ more) s'.seen fault
+  pub hindered : UpdateHindered s.fixed.limits s.fixed.page s.caller blob place bytes (s.seen ++ more) s'.seen stop.fault
+  pub left : IsLeft s blob place bytes stop.left s'
 
--- The same before it hung up: it may hold the update under a ticket.
+-- The same before it hung up: it may hold the update under a ticket, and where it holds none nothing is left of it.
 pub record IsHindered (s : Session) (blob : ℕ) (place : Place) (bytes : List ℕ) (fault : Fault) (ticket : Option ℕ) (s' : Session) : Type 0 where
   pub more : List Event
   pub of_others : events_by s.caller (s.seen ++ more) ≡ events_by s.caller s.seen
   pub hindered : UpdateHindered s.fixed.limits s.fixed.page s.caller blob place bytes (s.seen ++ more) s'.seen fault
   pub stops : StopsAt s blob place bytes ticket s'
+  pub settled : ticket ≡ None → IsSettled s blob place bytes s'
 
 -- the update is held back under a ticket
 pub record IsHeldBack (s : Session) (blob : ℕ) (place : Place) (bytes : List ℕ) (number version : ℕ) (s' : Session) : Type 0 where
@@ -97,9 +102,9 @@ UpdateCompleted s blob place bytes (Ok done) s' = IsUpdated s blob place bytes s
 UpdateCompleted s blob place bytes (Err stop) s' = IsHindered s blob place bytes stop.fault stop.held s'
 
 -- which of them it was in the end
-abbrev pub UpdateTold : {A : Type 0} → Session → ℕ → Place → List ℕ → Result A Fault → Session → Type 0
+abbrev pub UpdateTold : {A : Type 0} → Session → ℕ → Place → List ℕ → Result A Stopped → Session → Type 0
 UpdateTold s blob place bytes (Ok done) s' = IsUpdated s blob place bytes s'
-UpdateTold s blob place bytes (Err fault) s' = IsStopped s blob place bytes fault s'
+UpdateTold s blob place bytes (Err stop) s' = IsStopped s blob place bytes stop s'
 
 -- ---- updates that are held
 
@@ -108,10 +113,10 @@ abbrev pub FinishTold : Session → ℕ → Place → List ℕ → ℕ → Resul
 FinishTold s blob place bytes number (Ok published) s' = IsUpdated s blob place bytes s'
 FinishTold s blob place bytes number (Err fault) s' = IsHindered s blob place bytes fault (still_held number fault) s'
 
--- so it ended for each update that the session may hold under that number, if it held no other
+-- So it ended for each update that the session may hold under that number, if it held no other, and this is what is left of it.
 abbrev pub FinishedFor : ℕ → ℕ → Session → Result ℕ Fault → Session → Type 0
 FinishedFor blob number mid told s' = (s : Session) (place : Place) (bytes : List ℕ) (version : ℕ) → s.tickets ≡ [] → Holds s blob place bytes number version mid
-    → FinishTold s blob place bytes number told s'
+    → FinishTold s blob place bytes number told s' × IsLeft s blob place bytes (left_by told) s'
 
 -- and so the whole update ended
 abbrev pub CompletedFor : {A : Type 0} → ℕ → ℕ → ℕ → Session → Result A Stop → Session → Type 0
@@ -123,18 +128,22 @@ pub data StandsAt (s : Session) (blob : ℕ) (place : Place) (bytes : List ℕ) 
   hindered : (ticket : Option ℕ) → StopsAt s blob place bytes ticket s' → StandsAt s blob place bytes s'
   finished : IsUpdated s blob place bytes s' → StandsAt s blob place bytes s'
 
--- so it stands, whatever the update is at which it stopped
-abbrev pub StandsAfter : ℕ → Option ℕ → Session → Session → Type 0
-StandsAfter blob ticket mid s' = (s : Session) (place : Place) (bytes : List ℕ) → s.tickets ≡ [] → StopsAt s blob place bytes ticket mid → StandsAt s blob place bytes s'
+-- so it stands, and this is what is left, whatever the update is at which it stopped
+abbrev pub StandsAfter : ℕ → Option ℕ → Session → Option Fault → Session → Type 0
+StandsAfter blob ticket mid left s' = (s : Session) (place : Place) (bytes : List ℕ) → s.tickets ≡ [] → StopsAt s blob place bytes ticket mid
+    → (ticket ≡ None → IsSettled s blob place bytes mid) → StandsAt s blob place bytes s' × IsLeft s blob place bytes left s'
 
--- A session that stopped at an update hung up. It had done the update's events from their beginning on, as far as it came.
-pub record HasHungUp (s : Session) (blob : ℕ) (place : Place) (bytes : List ℕ) (s' : Session) : Type 0 where
+-- A session that stopped at an update hung up. It had done the update's events from their beginning on, as far as it came, and this is
+-- what is left.
+pub record HasHungUp (s : Session) (blob : ℕ) (place : Place) (bytes : List ℕ) (last : Option Fault) (s' : Session) : Type 0 where
   pub version : ℕ
   pub stopped : StoppedWithin s (update_events s.caller blob place bytes version) s'
+  pub left : IsLeft s blob place bytes last s'
 
 -- so it did, whatever the update is at which it stopped
-abbrev pub HungUpFor : ℕ → Option ℕ → Session → Session → Type 0
-HungUpFor blob ticket mid s' = (s : Session) (place : Place) (bytes : List ℕ) → s.tickets ≡ [] → StopsAt s blob place bytes ticket mid → HasHungUp s blob place bytes s'
+abbrev pub HungUpFor : ℕ → Option ℕ → Session → Option Fault → Session → Type 0
+HungUpFor blob ticket mid last s' = (s : Session) (place : Place) (bytes : List ℕ) → s.tickets ≡ [] → StopsAt s blob place bytes ticket mid
+    → (ticket ≡ None → IsSettled s blob place bytes mid) → HasHungUp s blob place bytes last s'
 
 -- ---- waiting
 

@@ -5,8 +5,10 @@ ghost use Rattle.faults.specs.Counts.{RoseBy};
 ghost use Rattle.client_session.specs.Sessions.{session_of, Continues};
 ghost use Rattle.workload_law.specs.Ends.{ticket_of, still_held};
 ghost use Rattle.update_work.specs.Updates.{awaited_by, told_faults, stop_faults, FinishedFor, CompletedFor, StandsAfter, HungUpFor};
+ghost use Rattle.update_work.specs.Left.{left_by, left_faults};
 
 use crate::waiting::wait_for;
+use blob_model::laws::{finished_by_events, old_versions_stay};
 use client_session::{Session, Started};
 use page_fan::BesideDoor;
 use ports::gate::Gate;
@@ -72,6 +74,8 @@ fn finish_when_ready<R: Threads + Wait + Sync, D: BesideDoor, G: Gate>(
 {
     calls_end();
     calls_leave();
+    finished_by_events();
+    old_versions_stay();
     'tries: for _ in rt.forever() {
         let told = session.finish(rt, ticket);
         match awaited(&told) {
@@ -103,36 +107,52 @@ pub(crate) fn finish_held<R: Threads + Wait + Sync, D: BesideDoor, G: Gate>(
     }
 }
 
-// Finishes the update at which the session stopped, where it holds that under this ticket. It may be hindered again.
+// Why an update isn't finished whose finish told that, if it isn't.
+fn unfinished(told: Result<u64, Fault>) -> Option<Fault>
+    ensures left { result ≡ left_by told }
+    ensures faults { left_faults result ≡ told_faults told }
+{
+    match told {
+        Ok(_published) => None,
+        Err(Fault::Already { .. }) => None,
+        Err(fault) => Some(fault),
+    }
+}
+
+// Finishes the update at which the session stopped, where it holds that under this ticket. It answers what hindered that, if it was
+// hindered again.
 fn finish_last<R: Threads + Wait + Sync, D: BesideDoor, G: Gate>(
     rt: &R,
     session: &mut Session<'_, D, G>,
     blob: u64,
     held: Option<u64>,
-)
+) -> Option<Fault>
     requires sync { IsSync R.row }
-    ensures stands { StandsAfter blob held (session_of session.old) (session_of session.new) }
-    ensures faults { RoseBy 0 (sum_by D.faults session.old.doors) (sum_by D.faults session.new.doors) }
+    ensures stands { StandsAfter blob held (session_of session.old) result (session_of session.new) }
+    ensures faults { RoseBy (left_faults result) (sum_by D.faults session.old.doors) (sum_by D.faults session.new.doors) }
     ensures goes_on { Continues session.old session.new }
 {
-    if let Some(ticket) = held {
-        let _finished = finish_when_ready(rt, session, blob, ticket);
+    match held {
+        Some(ticket) => unfinished(finish_when_ready(rt, session, blob, ticket)),
+        None => None,
     }
 }
 
-/// Stops at an update that wasn't done: finishes it, where the session holds it under this ticket, and hangs up.
+/// Stops at an update that wasn't done: finishes it, where the session holds it under this ticket, and hangs up. It answers what
+/// hindered that finish, if it was hindered again.
 pub(crate) fn finish_and_hang_up<R: Threads + Wait + Sync, D: BesideDoor, G: Gate>(
     rt: &R,
     session: &mut Session<'_, D, G>,
     blob: u64,
     held: Option<u64>,
-)
+) -> Option<Fault>
     requires sync { IsSync R.row }
-    ensures hung_up { HungUpFor blob held (session_of session.old) (session_of session.new) }
-    ensures faults { RoseBy 0 (sum_by D.faults session.old.doors) (sum_by D.faults session.new.doors) }
+    ensures hung_up { HungUpFor blob held (session_of session.old) result (session_of session.new) }
+    ensures faults { RoseBy (left_faults result) (sum_by D.faults session.old.doors) (sum_by D.faults session.new.doors) }
     ensures goes_on { Continues session.old session.new }
 {
     calls_leave();
-    finish_last(rt, session, blob, held);
+    let left = finish_last(rt, session, blob, held);
     session.hang_up(rt);
+    left
 }

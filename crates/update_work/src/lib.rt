@@ -11,4 +11,4 @@ mod waiting;
 
 pub use ending::{EarlyEnd, early_end};
 pub use making::make_blob;
-pub use updating::update;
+pub use updating::{Stopped, update};

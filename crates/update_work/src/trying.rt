@@ -7,6 +7,7 @@ ghost use Rattle.client_session.specs.Sessions.{session_of, Continues};
 ghost use Rattle.client_session.specs.Updates.{update_reply, start_reply};
 ghost use Rattle.workload_law.specs.Ends.{UpdateEnds};
 ghost use Rattle.update_work.specs.Updates.{is_full as is_full_of, IsOneUpdate, IsReady, UpdateTried, told_faults};
+ghost use Rattle.update_work.specs.Left.{SettledTry};
 
 use crate::waiting::wait_for_room;
 use blob_model::Place;
@@ -37,6 +38,7 @@ fn update_once<R: Threads + Wait + Sync, D: BesideDoor, G: Gate>(
     requires bytes { IsOneUpdate bytes.now }
     requires ready { IsReady (session_of session.old) }
     ensures ends { UpdateEnds (session_of session.old) blob place bytes.now (updated_reply place result) (session_of session.new) }
+    ensures settled { SettledTry (session_of session.old) blob place bytes.now result (session_of session.new) }
     ensures faults { RoseBy (told_faults result) (sum_by D.faults session.old.doors) (sum_by D.faults session.new.doors) }
     ensures goes_on { Continues session.old session.new }
 {

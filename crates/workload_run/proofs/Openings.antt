@@ -12,6 +12,7 @@ use Rattle.workload_law.specs.Load.{zeros_of}
 use Rattle.workload_law.specs.Ends.{CreateHindered, UpdateHindered, Leaves, LeavesAdd}
 use Rattle.workload_law.specs.Closing.{OpeningHindered}
 use Rattle.update_work.specs.Updates.{update_events, IsUpdated, IsStopped}
+use Rattle.update_work.specs.declared.updating.Stopped.{Stopped}
 use Rattle.update_work.specs.Callers.{IsFresh}
 use Rattle.update_work.specs.Making.{HasDoneOwn, HasNotMade}
 use Rattle.workload_run.specs.Opening.{HasOpened, HasNotOpened}
@@ -81,8 +82,9 @@ module _ (adds : LeavesAdd) (plan : LoadPlan) (s : Session) (fresh : IsFresh 0 s
     hindered = OpeningHindered.in_grid (own_events create_one one did) (hindered_at create_one one s' fault did lost);
   }
 
-  pub no_zeros : (two : Session) (fault : Fault) (s' : Session) → HasDoneOwn s create_both two → IsStopped two 2 Append (zeros_of plan) fault s' → HasNotOpened plan fault s s'
-  no_zeros two fault s' did stop =
+  pub no_zeros : (two : Session) (told : Stopped) (s' : Session) → HasDoneOwn s create_both two → IsStopped two 2 Append (zeros_of plan) told s' → HasNotOpened plan told.fault s s'
+  no_zeros two told s' did stop =
+      let fault : Fault = told.fault in
       let caller : two.caller ≡ 1 = caller_at create_both two did in
       let first : List Event = two.seen ++ stop.more in
       let own : events_by 1 first ≡ create_both = subst (λ (c : ℕ). events_by c first ≡ events_by c two.seen) caller stop.of_others ∙ own_events create_both two did in

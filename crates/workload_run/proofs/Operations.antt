@@ -14,6 +14,7 @@ use Rattle.workload_law.specs.Ends.{Leaves, UpdateHindered, LeavesAdd}
 use Rattle.workload_law.specs.Closing.{OperationHindered, IdleOwnsAll}
 use Rattle.workload_law.specs.Laws.{StoppedHaveBegun}
 use Rattle.update_work.specs.Updates.{update_events, IsUpdated, IsStopped}
+use Rattle.update_work.specs.declared.updating.Stopped.{Stopped}
 use Rattle.workload_run.specs.Work.{HasOperated, HasStoppedAt, HasWorked, HasEndedEarly}
 use Rattle.update_work.specs.Callers.{IsFresh}
 
@@ -49,8 +50,9 @@ module _ (plan : LoadPlan) (worker op : ℕ) where
           none_held = done.none_held;
         }
 
-    pub stopped_in_cell : LeavesAdd → s.fixed.limits ≡ greatest → (s' : Session) (fault : Fault) → IsStopped mid 2 (WriteAt (cell_offset plan worker op)) cell_bytes fault s' → HasStoppedAt plan worker op fault s s'
-    stopped_in_cell adds limits s' fault stop =
+    pub stopped_in_cell : LeavesAdd → s.fixed.limits ≡ greatest → (s' : Session) (told : Stopped) → IsStopped mid 2 (WriteAt (cell_offset plan worker op)) cell_bytes told s' → HasStoppedAt plan worker op told.fault s s'
+    stopped_in_cell adds limits s' told stop =
+        let fault : Fault = told.fault in
         let split : stop.stopped.own ++ stop.stopped.rest ≡ cell_events stop.version =
         subst (λ (c : ℕ). stop.stopped.own ++ stop.stopped.rest ≡ update_events c 2 (WriteAt (cell_offset plan worker op)) cell_bytes stop.version) goes_caller stop.stopped.split in
         let hindered : UpdateHindered greatest s.fixed.page (worker + 1) 2 (WriteAt (cell_offset plan worker op)) cell_bytes (mid.seen ++ stop.more) s'.seen fault =
@@ -72,8 +74,9 @@ module _ (plan : LoadPlan) (worker op : ℕ) where
           hindered = subst (λ (h : List Event). OperationHindered plan s.fixed.page worker op h s'.seen fault) first (OperationHindered.in_cell hindered);
         }
 
-  pub stopped_in_record : (s : Session) → s.caller ≡ worker + 1 → s.fixed.limits ≡ greatest → (s' : Session) (fault : Fault) → IsStopped s 1 Append record_bytes fault s' → HasStoppedAt plan worker op fault s s'
-  stopped_in_record s caller limits s' fault stop =
+  pub stopped_in_record : (s : Session) → s.caller ≡ worker + 1 → s.fixed.limits ≡ greatest → (s' : Session) (told : Stopped) → IsStopped s 1 Append record_bytes told s' → HasStoppedAt plan worker op told.fault s s'
+  stopped_in_record s caller limits s' told stop =
+      let fault : Fault = told.fault in
       let split : stop.stopped.own ++ stop.stopped.rest ≡ record_events stop.version =
       subst (λ (c : ℕ). stop.stopped.own ++ stop.stopped.rest ≡ update_events c 1 Append record_bytes stop.version) caller stop.stopped.split in
       let hindered : UpdateHindered greatest s.fixed.page (worker + 1) 1 Append record_bytes (s.seen ++ stop.more) s'.seen fault =

@@ -48,6 +48,6 @@ pub(crate) fn open_blobs<R: Threads + Wait + Sync, D: BesideDoor, G: Gate>(
     }
     match update(rt, session, GRID, Place::Append, zeros) {
         Ok(()) => Ok(()),
-        Err(no_zeros) => Err(no_zeros),
+        Err(no_zeros) => Err(no_zeros.fault),
     }
 }

@@ -47,13 +47,13 @@ fn operate<R: Threads + Wait + Sync, D: BesideDoor, G: Gate>(
     let recorded = record(worker, op);
     match update(rt, session, LOG, Place::Append, &recorded) {
         Ok(()) => {}
-        Err(fault) => return Err(fault),
+        Err(stopped) => return Err(stopped.fault),
     }
     let offset = plan.cell_offset(worker, op);
     let written = cell(plan.seed, worker, op);
     match update(rt, session, GRID, Place::WriteAt(offset), &written) {
         Ok(()) => Ok(()),
-        Err(lost) => Err(lost),
+        Err(lost) => Err(lost.fault),
     }
 }
 

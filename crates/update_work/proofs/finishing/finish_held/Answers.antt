@@ -7,10 +7,10 @@ use Rattle.update_work.proofs.finishing.finish_held.Goals as goal
 
 pub returns-in-Ok-clause-told : goal.returns-in-Ok-clause-told
 returns-in-Ok-clause-told g c s place bytes none holds =
-    c.in-Ok.ensures.told s place bytes c.args.started.version none
+    (c.in-Ok.ensures.told s place bytes c.args.started.version none
     (holds_waited c.calls_leave.ensures.held c.args.blob c.args.started.ticket (session_of c.args.session.now) (session_of c.wait_for.new.session) c.wait_for.ensures.waited
     s place bytes c.args.started.version
-    holds)
+    holds)).0
 
 pub returns-in-Err-clause-told : goal.returns-in-Err-clause-told
 returns-in-Err-clause-told g c s place bytes none holds =
@@ -18,4 +18,4 @@ returns-in-Err-clause-told g c s place bytes none holds =
     (c.in-Err.ensures.told s place bytes c.args.started.version none
     (holds_waited c.calls_leave.ensures.held c.args.blob c.args.started.ticket (session_of c.args.session.now) (session_of c.wait_for.new.session) c.wait_for.ensures.waited
     s place bytes c.args.started.version
-    holds))
+    holds)).0

@@ -19,7 +19,7 @@ tries-init g c =
 pub returns-in-None-awaited-clause-told : goal.returns-in-None-awaited-clause-told
 returns-in-None-awaited-clause-told g c s place bytes version none holds =
     finish_told c.calls_end.ensures.finishes (session_of c.tries.session) c.args.blob c.args.ticket c.finish-told.result (session_of c.finish-told.new.self) c.finish-told.ensures.answers
-    (sym c.in-None-awaited.ensures) s place bytes version none (c.tries.invariant.holds s place bytes version none holds)
+    c.finished_by_events.ensures c.old_versions_stay.ensures (sym c.in-None-awaited.ensures) s place bytes version none (c.tries.invariant.holds s place bytes version none holds)
 
 pub tries-preserved : goal.tries-preserved
 tries-preserved g c =

@@ -23,7 +23,7 @@ returns-then-not-is_full-clause-told g c =
     let laws = c.calls_leave.ensures in
     let short : is_full once.result ≡ false = sym c.is_full.ensures ∙ c.if-not-is_full.true in
     tried laws.add laws.stops laws.holds (session_of c.args.session.now) (session_of c.tries.session) c.args.blob c.args.place c.args.bytes.now (session_of once.new.session)
-    c.requires.ready.none_held c.tries.invariant.waited once.result once.ensures.ends short
+    c.requires.ready.none_held c.tries.invariant.waited once.result once.ensures.ends short once.ensures.settled
 
 pub tries-preserved : goal.tries-preserved
 tries-preserved g c =

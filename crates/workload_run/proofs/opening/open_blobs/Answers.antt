@@ -1,11 +1,12 @@
-use Rattle.std.proofs.Common.{List, ℕ, subst}
+use Rattle.std.proofs.Common.{List, ℕ, ◌+◌, subst}
 use Rattle.std.specs.Prelude.{sum_by}
 use Rattle.blob_model.specs.declared.call.Place.TheVariants.{Append}
 use Rattle.request_form.specs.Replies.{page_faults}
 use Rattle.client_session.specs.Sessions.{session_of}
 use Rattle.client_session.proofs.Waiting.{goes_both}
 use Rattle.update_work.specs.Updates.{IsUpdated, IsStopped}
-use Rattle.update_work.proofs.Updates.{rose_both}
+use Rattle.update_work.specs.Left.{left_faults}
+use Rattle.update_work.proofs.Updates.{rose_both, rose_less}
 use Rattle.workload_run.proofs.Openings.{made_one, made_both, opened, no_log, no_grid, no_zeros}
 use Rattle.workload_run.proofs.opening.open_blobs.Goals as goal
 
@@ -77,5 +78,8 @@ returns-in-Err-update-clause-faults g c =
     let count = sum_by g.D.Door.faults in
     let first = count c.args.session.now.doors in
     let two = count c.make_blob-2.new.session.doors in
-    rose_both 0 (page_faults c.in-Err-update.no_zeros) first two (count c.update.new.session.doors)
-    (rose_both 0 0 first (count c.make_blob.new.session.doors) two c.in-Ok.ensures.faults c.in-Ok-make_blob.ensures.faults) c.in-Err-update.ensures.faults
+    let last = count c.update.new.session.doors in
+    let stop = c.in-Err-update.no_zeros in
+    rose_less (page_faults stop.fault) (left_faults stop.left) first last
+    (rose_both 0 (page_faults stop.fault + left_faults stop.left) first two last
+    (rose_both 0 0 first (count c.make_blob.new.session.doors) two c.in-Ok.ensures.faults c.in-Ok-make_blob.ensures.faults) c.in-Err-update.ensures.faults)

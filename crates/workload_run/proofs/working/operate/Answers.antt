@@ -1,4 +1,4 @@
-use Rattle.std.proofs.Common.{ℕ, List, subst}
+use Rattle.std.proofs.Common.{ℕ, ◌+◌, List, subst}
 use Rattle.std.specs.Prelude.{sum_by}
 use Rattle.blob_model.specs.declared.call.Place.TheVariants.{WriteAt, Append}
 use Rattle.request_form.specs.Replies.{page_faults}
@@ -6,7 +6,8 @@ use Rattle.client_session.specs.Sessions.{session_of}
 use Rattle.client_session.proofs.Waiting.{goes_both}
 use Rattle.workload_law.specs.Pieces.{cell_of}
 use Rattle.update_work.specs.Updates.{IsUpdated, IsStopped}
-use Rattle.update_work.proofs.Updates.{rose_both}
+use Rattle.update_work.specs.Left.{left_faults}
+use Rattle.update_work.proofs.Updates.{rose_both, rose_less}
 use Rattle.workload_run.proofs.Operations.{operated, stopped_in_record, stopped_in_cell}
 use Rattle.workload_run.proofs.working.operate.Goals as goal
 
@@ -14,8 +15,8 @@ pub returns-in-Err-clause-operated : goal.returns-in-Err-clause-operated
 returns-in-Err-clause-operated g c =
     let s = session_of c.args.session.now in
     let s' = session_of c.update.new.session in
-    stopped_in_record c.args.plan.now c.args.worker c.args.op s c.requires.caller c.requires.limits s' c.in-Err.fault
-    (subst (λ (b : List ℕ). IsStopped s 1 Append b c.in-Err.fault s') c.record-recorded.ensures c.in-Err.ensures.told)
+    stopped_in_record c.args.plan.now c.args.worker c.args.op s c.requires.caller c.requires.limits s' c.in-Err.stopped
+    (subst (λ (b : List ℕ). IsStopped s 1 Append b c.in-Err.stopped s') c.record-recorded.ensures c.in-Err.ensures.told)
 
 pub returns-in-Ok-update-clause-operated : goal.returns-in-Ok-update-clause-operated
 returns-in-Ok-update-clause-operated g c =
@@ -51,5 +52,14 @@ returns-in-Ok-update-clause-faults g c =
 pub returns-in-Err-update-clause-faults : goal.returns-in-Err-update-clause-faults
 returns-in-Err-update-clause-faults g c =
     let count = sum_by g.D.Door.faults in
-    rose_both 0 (page_faults c.in-Err-update.lost) (count c.args.session.now.doors) (count c.update.new.session.doors) (count c.update-2.new.session.doors)
-    c.in-Ok.ensures.faults c.in-Err-update.ensures.faults
+    let stop = c.in-Err-update.lost in
+    let first = count c.args.session.now.doors in
+    let last = count c.update-2.new.session.doors in
+    rose_less (page_faults stop.fault) (left_faults stop.left) first last
+    (rose_both 0 (page_faults stop.fault + left_faults stop.left) first (count c.update.new.session.doors) last c.in-Ok.ensures.faults c.in-Err-update.ensures.faults)
+
+pub returns-in-Err-clause-faults : goal.returns-in-Err-clause-faults
+returns-in-Err-clause-faults g c =
+    let count = sum_by g.D.Door.faults in
+    let stop = c.in-Err.stopped in
+    rose_less (page_faults stop.fault) (left_faults stop.left) (count c.args.session.now.doors) (count c.update.new.session.doors) c.in-Err.ensures.faults
