@@ -1,10 +1,9 @@
 -- The doors that were made for a command came back.
-use Rattle.std.proofs.Common.{◌≡◌, inl, inr, ℕ, ◌+◌, ◌*◌, arith, refl, sym, ap, subst}
+use Rattle.std.proofs.Common.{◌≡◌, inl, inr, ℕ, refl, sym, ap, subst}
 use Rattle.std.specs.Prelude.{Err}
 use Rattle.page_store.specs.Calls.{Traffic, no_door, AllCameBack}
 use Rattle.store_sessions.proofs.Traffics.{went_back}
 use Rattle.blob_server.specs.Serving.{LendsDoors}
-use Rattle.watch_run.specs.Doors.{SessionsLent}
 use Rattle.blob_server.specs.declared.server.ServeFault.{ServeFault}
 use Rattle.blob_server.specs.declared.server.ServeFault.TheVariants as ServeFaults
 use Rattle.settings.specs.declared.table.Command.{Command}
@@ -12,7 +11,7 @@ use Rattle.settings.specs.Values.{SettingsValues}
 use Rattle.blobseer_run.specs.declared.status.Status.{Status}
 use Rattle.blobseer_run.specs.Status.{code_of, out_of_memory}
 use Rattle.blobseer_run.specs.Hosting as hosting
-use Rattle.blobseer_run.specs.Lending.{CameBack, LendsBy, Lends, LendsWatch}
+use Rattle.blobseer_run.specs.Lending.{CameBack, LendsBy, Lends}
 use Rattle.blobseer_run.proofs.Early.{IsEarly}
 
 module _ {M : Type 0} (hands_out takes_back : M → M → Type 0) where
@@ -46,22 +45,6 @@ module _ {M : Type 0} (hands_out takes_back : M → M → Type 0) where
   faulted doors n first last fault status as_many is back =
       let there : LendsDoors hands_out takes_back doors first last (Err fault) = subst (λ (m : ℕ). LendsDoors hands_out takes_back m first last (Err fault)) as_many back in
       subst (λ (s : Status). Lends doors (CameBack hands_out takes_back first last) (code_of s)) (sym is) (faulted_as doors first last fault there)
-
-  -- all sessions of a watch had their doors
-  pub watched : (readers many providers doors status : ℕ) (first last : M) → many ≡ readers → doors ≡ providers
-      → SessionsLent hands_out takes_back doors (4 + many) (4 + 2 * many) first last → LendsWatch readers providers (CameBack hands_out takes_back first last) status
-  watched readers many providers doors status first last same is lent =
-      let whole : LendsWatch many doors (CameBack hands_out takes_back first last) status =
-      record { sessions = lent.sessions; no_fewer = lent.no_fewer; no_more = lent.no_more; lends = Lends.whole lent.traffic } in
-      let all : LendsWatch readers doors (CameBack hands_out takes_back first last) status =
-      subst (λ (r : ℕ). LendsWatch r doors (CameBack hands_out takes_back first last) status) same whole in
-      subst (λ (d : ℕ). LendsWatch readers d (CameBack hands_out takes_back first last) status) is all
-
-  -- not all of them had
-  pub watched_early : (readers providers status : ℕ) (first last : M) → Lends ((4 + readers) * providers) (CameBack hands_out takes_back first last) status
-      → LendsWatch readers providers (CameBack hands_out takes_back first last) status
-  watched_early readers providers status first last lends =
-      record { sessions = 4 + readers; no_fewer = grind (arith); no_more = grind (arith); lends = lends }
 
   -- a measure that was ended early
   pub ended_early : (doors : ℕ) (first last : M) (status : Status) (before after : ℕ) → IsEarly status before after → AllCameBack hands_out takes_back first last

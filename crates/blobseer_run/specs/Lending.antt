@@ -1,5 +1,5 @@
 -- The doors that a command has made, and that they come back before it answers.
-use Rattle.std.specs.Prelude.{◌≡◌, ◌⊎◌, ℕ, ◌+◌, ◌*◌, ◌≤◌}
+use Rattle.std.specs.Prelude.{◌≡◌, ◌⊎◌, ℕ, ◌+◌, ◌*◌}
 use Rattle.page_store.specs.Calls.{Traffic}
 use Rattle.settings.specs.declared.table.Command.{Command}
 use Rattle.settings.specs.declared.table.Command.TheVariants as Commands
@@ -19,19 +19,12 @@ pub data Lends (doors : ℕ) (Back : ℕ → Type 0) (status : ℕ) : Type 0 whe
   -- none, as it couldn't listen
   deaf : Back 0 → (status ≡ listener_fault) → Lends doors Back status
 
--- What doors were made for a watch: those of the writer, the keeper, the first session and the last, and of each reader, and for a
--- reader without a place those of one session more.
-pub record LendsWatch (readers providers : ℕ) (Back : ℕ → Type 0) (status : ℕ) : Type 0 where
-  pub sessions : ℕ
-  pub no_fewer : 4 + readers ≤ sessions
-  pub no_more : sessions ≤ 4 + 2 * readers
-  pub lends : Lends (sessions * providers) Back status
-
--- what doors were made for each command: one to each provider for each session
+-- what doors were made for each command: one to each provider for each session; a watch has those of the writer, the keeper, the first
+-- session and the last, and of each reader
 abbrev pub LendsBy : Command → SettingsValues → (ℕ → Type 0) → ℕ → Type 0
 LendsBy Commands.Run settings Back status = Lends settings.providers Back status
 LendsBy Commands.Serve settings Back status = Lends (settings.workers * settings.providers) Back status
 LendsBy Commands.Load settings Back status = Lends ((settings.workers + 2) * settings.providers) Back status
 LendsBy Commands.Node settings Back status = Back 0
 LendsBy Commands.Files settings Back status = Lends settings.providers Back status
-LendsBy Commands.Watch settings Back status = LendsWatch settings.readers settings.providers Back status
+LendsBy Commands.Watch settings Back status = Lends ((4 + settings.readers) * settings.providers) Back status

@@ -1,9 +1,9 @@
 // A watch is run over a new store.
-ghost use Rattle.std.specs.Prelude.{◌≡◌, ◌↔◌};
+ghost use Rattle.std.specs.Prelude.{◌≡◌, ◌+◌, ◌*◌, ◌↔◌};
 ghost use Rattle.blob_model.specs.Limits.{greatest};
 ghost use Rattle.blobseer_run.specs.Outside.{NoneFell};
 ghost use Rattle.blobseer_run.specs.Store.{IsNewStore};
-ghost use Rattle.blobseer_run.specs.Lending.{CameBack, LendsWatch};
+ghost use Rattle.blobseer_run.specs.Lending.{CameBack, Lends};
 ghost use Rattle.blobseer_run.specs.Watching.{plan_of, DidWatch};
 ghost use Rattle.blobseer_run.specs.Status.{code_of};
 
@@ -52,7 +52,7 @@ where
     requires true_doors { M.is_true objects.old.doors.now }
     ensures did { DidWatch settings.now.page (plan_of settings.now) (⟦<Objects<'a, S, K, L, M> as Standing>⟧.stands objects.old)
         (⟦<Objects<'a, S, K, L, M> as Standing>⟧.stands objects.new) (code_of result) }
-    ensures lent { LendsWatch settings.now.readers settings.now.providers (CameBack M.hands_out M.takes_back objects.old.doors.now objects.new.doors.now) (code_of result) }
+    ensures lent { Lends ((4 + settings.now.readers) * settings.now.providers) (CameBack M.hands_out M.takes_back objects.old.doors.now objects.new.doors.now) (code_of result) }
     ensures none_fell { NoneFell (⟦<Objects<'a, S, K, L, M> as Standing>⟧.stands objects.old) (⟦<Objects<'a, S, K, L, M> as Standing>⟧.stands objects.new) }
     ensures truth_stays { M.is_true objects.old.doors.now ↔ M.is_true objects.new.doors.now }
     ensures names { ⟦<Objects<'a, S, K, L, M> as Standing>⟧.names objects.new ≡ ⟦<Objects<'a, S, K, L, M> as Standing>⟧.names objects.old }
@@ -93,7 +93,7 @@ where
     requires true_doors { M.is_true objects.old.doors.now }
     ensures did { DidWatch settings.now.page (plan_of settings.now) (⟦<Objects<'a, S, K, L, M> as Standing>⟧.stands objects.old)
         (⟦<Objects<'a, S, K, L, M> as Standing>⟧.stands objects.new) (code_of result) }
-    ensures lent { LendsWatch settings.now.readers settings.now.providers (CameBack M.hands_out M.takes_back objects.old.doors.now objects.new.doors.now) (code_of result) }
+    ensures lent { Lends ((4 + settings.now.readers) * settings.now.providers) (CameBack M.hands_out M.takes_back objects.old.doors.now objects.new.doors.now) (code_of result) }
     ensures none_fell { NoneFell (⟦<Objects<'a, S, K, L, M> as Standing>⟧.stands objects.old) (⟦<Objects<'a, S, K, L, M> as Standing>⟧.stands objects.new) }
     ensures truth_stays { M.is_true objects.old.doors.now ↔ M.is_true objects.new.doors.now }
     ensures names { ⟦<Objects<'a, S, K, L, M> as Standing>⟧.names objects.new ≡ ⟦<Objects<'a, S, K, L, M> as Standing>⟧.names objects.old }

@@ -1,12 +1,14 @@
 -- Nothing but the outside hinders the writer.
-use Rattle.std.proofs.Common.{◌≡◌, ℕ, zero, suc, ◌*◌, ◌≤◌, List, [], ◌∷◌, ◌++◌, length, refl, sym, ap, subst, ◌∙◌, arith, append_assoc}
+use Rattle.std.proofs.Common.{◌≡◌, ℕ, zero, suc, ◌*◌, ◌≤◌, List, [], ◌∷◌, ◌++◌, length, refl, sym, ap, subst, ◌∙◌, arith, append_assoc, append-nil}
+use Rattle.std.specs.Prelude.{Some}
 use Rattle.std.specs.List.{All, Contains}
 use Rattle.std.proofs.lemmas.Bool.{true≢false}
 use Rattle.std.proofs.lemmas.List.{take_at}
 use Rattle.std.proofs.lemmas.List.Elements.{All-nil, All-push, All-append, All-take, All-contains}
 use Rattle.blob_model.specs.Content.{Update}
 use Rattle.blob_model.specs.Limits.{greatest}
-use Rattle.blob_model.specs.Store.{size_now, empty_store}
+use Rattle.blob_model.specs.Laws.{OldVersionsStay}
+use Rattle.blob_model.specs.Store.{Blob, blob_at, size_now, empty_store}
 use Rattle.blob_model.specs.Answer.{answer}
 use Rattle.blob_model.specs.History.{store_of, IsLegal}
 use Rattle.blob_model.specs.declared.call.Call.TheVariants as Calls
@@ -20,15 +22,16 @@ use Rattle.request_form.specs.Replies.{fault_of}
 use Rattle.request_form.specs.declared.form.Fault.{Fault}
 use Rattle.workload_law.specs.Numbered.{IsNumberedBy}
 use Rattle.workload_law.specs.Sessions.{FinishesItsOwn}
-use Rattle.workload_law.specs.Ends.{UpdateHindered, IsOutside, IsPageOf, AnyPage}
+use Rattle.workload_law.specs.Ends.{UpdateHindered, IsOutside, IsPageOf}
 use Rattle.workload_law.proofs.Appends.{Appends}
 use Rattle.workload_law.proofs.GoingOn.{limits_stay, only_full}
 use Rattle.workload_law.proofs.Grid.{cell_length}
-use Rattle.workload_law.proofs.Lost.{outside_as}
+use Rattle.workload_law.proofs.Lost.{outside_as, append_ends}
 use Rattle.workload_law.proofs.OneCaller.{legal_front}
 use Rattle.workload_law.proofs.OwnEvents.{nobody_else}
+use Rattle.workload_law.proofs.Blobs.{some_is}
 use Rattle.watch_law.specs.declared.plan.WatchPlan.{WatchPlan}
-use Rattle.watch_law.specs.Watch.{IsSized, piece_of, operation, HasWritten, HasBegun, IsUnderway}
+use Rattle.watch_law.specs.Watch.{IsSized, piece_of, operation, IsWatchPage, HasWritten, HasBegun, IsUnderway}
 use Rattle.watch_law.proofs.Written.{begun_counts, blob_there, blob_after, blob_updates, size_is}
 
 -- ---- whose finishes there are
@@ -99,10 +102,29 @@ module _ (plan : WatchPlan) (history : List Event) (sized : IsSized plan) (legal
         only_full (store_of greatest (Events.Create 1 ∷ es)) 1 (blob_after es) 2 Append (piece_of plan op) (blob_there es front_legal) (limits_stay (empty_store greatest) (Events.Create 1 ∷ es))
         (omega arith) (omega (arith, front_size, front_few, cell_length plan.seed 0 op)) (omega (arith, front_few)) refusal refused
 
-  module _ (p op : ℕ) (seen more later : List Event) (fault : Fault) (goes : history ≡ seen ++ more) where
-    by_outside : UpdateHindered greatest p 2 1 Append (piece_of plan op) (Events.Create 1 ∷ later) seen fault → IsOutside AnyPage fault
+  -- the blob comes to no more bytes than the writer appends
+  all_size : size_now (blob_after under.written) ≤ 16 * plan.ops
+  all_size =
+      let whole : history ≡ Events.Create 1 ∷ (under.written ++ []) = under.is ∙ ap (λ (l : List Event). Events.Create 1 ∷ l) (sym (append-nil under.written)) in
+      omega (arith, front_size under.written [] whole, ap (λ (l : List Update). length l) (blob_updates under.written), (begun_counts plan under.written under.begun).few)
+
+  module _ (stay : OldVersionsStay) (p op : ℕ) (seen more later : List Event) (fault : Fault) (goes : history ≡ seen ++ more) where
+    -- an update ends within them
+    own_page : (page : ℕ) → IsPageOf greatest p 2 1 Append (piece_of plan op) (Events.Create 1 ∷ later) seen page → IsWatchPage plan p page
+    own_page page (IsPageOf.of_bytes lt) = omega (arith, lt, sized.some_ops, cell_length plan.seed 0 op)
+    own_page page (IsPageOf.of_blob before rest version at size split mine numbered within) =
+        let this : Event = Events.Assign 2 1 Append (piece_of plan op) in
+        let whole : history ≡ before ++ this ∷ (rest ++ more) = goes ∙ (ap (λ (l : List Event). l ++ more) split ∙ append_assoc before (this ∷ rest) more) in
+        let ends = append_ends stay greatest 2 1 (piece_of plan op) version at size before (rest ++ more) numbered in
+        let there : blob_at (store_of greatest (before ++ this ∷ (rest ++ more))) 1 ≡ Some (blob_after under.written) =
+        ap (λ (h : List Event). blob_at (store_of greatest h) 1) (sym whole ∙ under.is) ∙ blob_there under.written (subst (λ (h : List Event). IsLegal greatest h) under.is legal)
+        in
+        let same : ends.0 ≡ blob_after under.written = some_is (blob_at (store_of greatest (before ++ this ∷ (rest ++ more))) 1) ends.0 (blob_after under.written) ends.1 there in
+        omega (arith, within (omega (arith, cell_length plan.seed 0 op)), ends.2, ap (λ (b : Blob). size_now b) same, all_size)
+
+    by_outside : UpdateHindered greatest p 2 1 Append (piece_of plan op) (Events.Create 1 ∷ later) seen fault → IsOutside (IsWatchPage plan p) fault
     by_outside (UpdateHindered.outside out) =
-        outside_as (IsPageOf greatest p 2 1 Append (piece_of plan op) (Events.Create 1 ∷ later) seen) AnyPage (λ page its. tt) fault out
+        outside_as (IsPageOf greatest p 2 1 Append (piece_of plan op) (Events.Create 1 ∷ later) seen) (IsWatchPage plan p) own_page fault out
     by_outside (UpdateHindered.refused r other) =
         let front : List Event = later ++ r.others in
         let whole : history ≡ Events.Create 1 ∷ (front ++ (r.rest ++ more)) =
@@ -118,7 +140,8 @@ module _ (plan : WatchPlan) (history : List Event) (sized : IsSized plan) (legal
         in
         absurd (true≢false (sym found ∙ nobody_else greatest history legal each_own 2 1 version at size Append (piece_of plan op) before between (rest ++ more) whole numbered gap))
 
-pub nothing_else_hinders : (plan : WatchPlan) (history : List Event) → IsSized plan → IsLegal greatest history → IsUnderway plan history → FinishesItsOwn greatest history 2
+pub nothing_else_hinders : OldVersionsStay → (plan : WatchPlan) (history : List Event) → IsSized plan → IsLegal greatest history → IsUnderway plan history → FinishesItsOwn greatest history 2
     → (p op : ℕ) (seen more later : List Event) (fault : Fault) → history ≡ seen ++ more
-    → UpdateHindered greatest p 2 1 Append (piece_of plan op) (Events.Create 1 ∷ later) seen fault → IsOutside AnyPage fault
-nothing_else_hinders plan history sized legal under own p op seen more later fault goes hindered = by_outside plan history sized legal under own p op seen more later fault goes hindered
+    → UpdateHindered greatest p 2 1 Append (piece_of plan op) (Events.Create 1 ∷ later) seen fault → IsOutside (IsWatchPage plan p) fault
+nothing_else_hinders stay plan history sized legal under own p op seen more later fault goes hindered =
+    by_outside plan history sized legal under own stay p op seen more later fault goes hindered

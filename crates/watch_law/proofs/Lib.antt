@@ -1,4 +1,5 @@
 pub mod Written
 pub mod Together
 pub mod Going
+pub mod Pieces
 mod Worked

@@ -1,9 +1,10 @@
 -- What the callers of a watch do to the store.
-use Rattle.std.specs.Prelude.{◌≡◌, ◌≢◌, ℕ, zero, suc, ◌*◌, ◌≤◌, List, [], ◌∷◌, ◌++◌}
+use Rattle.std.specs.Prelude.{◌≡◌, ◌≢◌, ℕ, zero, suc, ◌+◌, ◌*◌, ◌<◌, ◌≤◌, List, [], ◌∷◌, ◌++◌}
 use Rattle.blob_model.specs.History.{events_by}
 use Rattle.blob_model.specs.declared.call.Place.TheVariants.{Append}
 use Rattle.blob_model.specs.declared.call.Event.{Event}
 use Rattle.blob_model.specs.declared.call.Event.TheVariants as Events
+use Rattle.request_form.specs.PublishedReads.{Range}
 use Rattle.workload_law.specs.Pieces.{cell_of}
 use Rattle.watch_law.specs.declared.plan.WatchPlan.{WatchPlan}
 use Rattle.watch_law.specs.declared.plan.WatchSummary.{WatchSummary}
@@ -18,6 +19,14 @@ pub record IsSized (plan : WatchPlan) : Type 0 where
 -- the bytes of an update, which count from 0: those of a load's cell whose worker is 0
 abbrev pub piece_of : WatchPlan → ℕ → List ℕ
 piece_of plan op = cell_of plan.seed 0 op
+
+-- where they lie: they are the last bytes of the version that the update makes
+abbrev pub range_of : ℕ → Range
+range_of op = record { blob = 1; version = op + 1; offset = 16 * op; count = 16 }
+
+-- a page of p bytes that begins within the bytes that the writer appends
+abbrev pub IsWatchPage : WatchPlan → ℕ → ℕ → Type 0
+IsWatchPage plan p page = p * page < 16 * plan.ops
 
 -- The writer's operation, as caller 2: its bytes are appended to blob 1, which is numbered, and finished under a version of the blob.
 abbrev pub operation : WatchPlan → ℕ → ℕ → List Event

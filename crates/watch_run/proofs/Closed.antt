@@ -1,8 +1,8 @@
 -- What a watch came to, and why it ended early, once its store is closed.
-use Rattle.std.proofs.Common.{◌≡◌, ◌≢◌, ◌⊎◌, inl, inr, ℕ, zero, suc, ◌+◌, ◌*◌, ◌-◌, ◌<◌, ◌≤◌, ◌==◌, Bool, true, false, List, [], ◌∷◌, ◌++◌, refl, sym, ap, subst, ◌∙◌, append_assoc, append-nil, arith, Contains}
+use Rattle.std.proofs.Common.{◌≡◌, ◌≢◌, ◌⊎◌, inl, inr, ℕ, zero, suc, ◌+◌, ◌*◌, ◌-◌, ◌<◌, ◌≤◌, ◌==◌, Bool, true, false, List, [], ◌∷◌, ◌++◌, length, refl, sym, ap, subst, ◌∙◌, append_assoc, append-nil, arith, Contains}
 use Rattle.std.specs.Prelude.{Option, Some, None, Result, Ok, Err}
 use Rattle.std.proofs.lemmas.Bool.{eq-eqb, eqb-true, true≢false}
-use Rattle.std.proofs.lemmas.List.{append_cancel_left}
+use Rattle.std.proofs.lemmas.List.{append_cancel_left, length-map}
 use Rattle.std.proofs.lemmas.List.Elements.{filter-append}
 use Rattle.blob_model.specs.Content.{size_of}
 use Rattle.blob_model.specs.Limits.{Bounds, greatest}
@@ -12,6 +12,7 @@ use Rattle.blob_model.specs.History.{store_of, caller_of, events_by, IsLegal, is
 use Rattle.blob_model.specs.declared.call.Call.TheVariants as Calls
 use Rattle.blob_model.specs.declared.call.Event.{Event}
 use Rattle.blob_model.specs.declared.call.Event.TheVariants as Events
+use Rattle.blob_model.specs.declared.call.Outcome.{Outcome}
 use Rattle.blob_model.specs.declared.call.Outcome.TheVariants as Outcomes
 use Rattle.blob_model.specs.declared.call.Place.TheVariants.{Append}
 use Rattle.turn_lock.specs.History.{Begins, LacksUngiven}
@@ -21,18 +22,24 @@ use Rattle.version_manager.specs.Log.{tagged, events}
 use Rattle.version_manager.specs.Laws.{EntriesAreEvents}
 use Rattle.version_manager.specs.declared.journal.DeskFixed.{DeskFixed}
 use Rattle.request_form.specs.Answers.{max_read}
+use Rattle.request_form.specs.PublishedReads.{read_outcome}
+use Rattle.request_form.specs.Replies.{reply_of}
+use Rattle.request_form.specs.declared.form.Reply.TheVariants as Replies
 use Rattle.request_form.specs.declared.form.Fault.{Fault}
-use Rattle.workload_law.specs.Ends.{IsOutside, NoPage, AnyPage, UpdateHindered, CreateHindered}
+use Rattle.request_form.specs.declared.form.Fault.TheVariants as Faults
+use Rattle.workload_law.specs.Ends.{IsOutside, NoPage, UpdateHindered, CreateHindered}
 use Rattle.workload_law.proofs.Closing.{nobodys_are_none}
 use Rattle.workload_law.proofs.Lost.{outside_as}
 use Rattle.workload_law.proofs.OneCaller.{legal_front}
 use Rattle.update_work.proofs.Returns.{none_by, events_append, no_front}
 use Rattle.watch_law.specs.declared.plan.WatchPlan.{WatchPlan}
 use Rattle.watch_law.specs.declared.plan.WatchSummary.{WatchSummary}
-use Rattle.watch_law.specs.Watch.{IsSized, piece_of, HaveCome, IsUnderway, IsWatch, summary_of}
-use Rattle.watch_law.specs.Laws.{ComeTogether, WatchesAreDone, BlobsAreThere, NothingElseHinders, IsDone}
+use Rattle.watch_law.specs.Watch.{IsSized, piece_of, range_of, IsWatchPage, HasWritten, HaveCome, IsUnderway, IsWatch, summary_of}
+use Rattle.watch_law.specs.Laws.{ComeTogether, WatchesAreDone, BlobsAreThere, NothingElseHinders, IsDone, VersionsAreSized, PieceOutcome, PiecesAreTold}
 use Rattle.watch_run.specs.Stages.{Entries, Owner, IsUnopened, IsWatched}
+use Rattle.watch_run.specs.Stops.{IsPageSeen, IsRefusedIn, Stops}
 use Rattle.watch_run.specs.Ending.{IsSeenLast, HasWrittenAll, EndsBy, WatchEnds, TellsWatch}
+use Rattle.watch_run.proofs.Refusals.{same_fault}
 
 -- two summaries that tell the same
 same_summary : (a b : WatchSummary) → a.size ≡ b.size → a.versions ≡ b.versions → a.agree ≡ b.agree → a ≡ b
@@ -69,6 +76,33 @@ or_not n m P same apart false is = apart (λ e. true≢false (sym (eq-eqb n m e)
 none_is_some : (b : Blob) (o : Option Blob) → o ≡ Some b → o ≡ None → ⊥
 none_is_some b o is none = (let no : Some b ≡ None = sym is ∙ none in cc)
 
+-- ---- beginnings of a watch's history
+-- where a blob is there something was entered
+some_there : (es : List Event) (b : Blob) → blob_at (store_of greatest es) 1 ≡ Some b → 1 ≤ length es
+some_there [] b at = absurd (cc (at))
+some_there (e ∷ es) b at = omega arith
+
+first_event : (x y : Event) (xs ys : List Event) → x ∷ xs ≡ y ∷ ys → (x ≡ y) × (xs ≡ ys)
+first_event x y xs ys e = (cc, cc)
+
+under_front : (plan : WatchPlan) (history : List Event) → IsUnderway plan history → (es more : List Event) → history ≡ es ++ more → 1 ≤ length es → IsUnderway plan es
+under_front plan history under [] more whole some = absurd (omega (arith, some))
+under_front plan history under (e ∷ es) more whole some =
+    let (made, rest) = first_event (Events.Create 1) e under.written (es ++ more) (sym under.is ∙ whole) in
+    record {
+      written = es;
+      is = ap (λ (x : Event). x ∷ es) (sym made);
+      begun = (more ++ under.begun.0, subst (λ (l : List Event). HasWritten plan plan.ops l) (ap (λ (l : List Event). l ++ under.begun.0) rest ∙ append_assoc es more under.begun.0) under.begun.1);
+    }
+
+-- a reader is told no other refusal than that the version isn't published
+not_told : (plan : WatchPlan) (fault : Fault) (op : ℕ) (outcome : Outcome) → PieceOutcome plan op outcome → Replies.Refused fault ≡ reply_of outcome
+    → ((version last : ℕ) → fault ≢ Faults.NotPublished version last) → ⊥
+not_told plan fault op outcome (PieceOutcome.read is) told other =
+    (let no : Replies.Refused fault ≡ Replies.Content (piece_of plan op) = told ∙ ap (λ (o : Outcome). reply_of o) is in cc)
+not_told plan fault op outcome (PieceOutcome.unpublished last le is) told other =
+    other (op + 1) last (same_fault fault (Faults.NotPublished (op + 1) last) (told ∙ ap (λ (o : Outcome). reply_of o) is))
+
 module _ (are : EntriesAreEvents) (plan : WatchPlan) (sized : IsSized plan) (f : DeskFixed) (limits : f.limits ≡ greatest) (owner : Owner) (tags : owner.seen ≡ tagged (events owner.seen)) (legal : IsLegal greatest (events owner.seen))
     (kept : (c : ℕ) → 0 < c → c ≤ owner.made → Contains owner.kept c) (lacks : LacksUngiven owner.made owner.seen) where
   history : List Event
@@ -79,7 +113,10 @@ module _ (are : EntriesAreEvents) (plan : WatchPlan) (sized : IsSized plan) (f :
   ungiven c not = none_by are owner.seen c tags (lacks c not)
 
   -- ---- nothing was made
-  unopened_outside : (fault : Fault) → IsUnopened fault owner → IsOutside AnyPage fault
+  no_page_lost : (fault : Fault) → IsOutside NoPage fault → IsOutside (IsWatchPage plan f.page_size) fault
+  no_page_lost fault out = outside_as NoPage (IsWatchPage plan f.page_size) (λ page none. absurd none) fault out
+
+  unopened_outside : (fault : Fault) → IsUnopened fault owner → IsOutside (IsWatchPage plan f.page_size) fault
   unfolding history
   unopened_outside fault u = by_cause u.hindered
     where
@@ -94,8 +131,8 @@ module _ (are : EntriesAreEvents) (plan : WatchPlan) (sized : IsSized plan) (f :
       empty : history ≡ []
       empty = nobodys_are_none [] history none
 
-      by_cause : CreateHindered greatest 1 [] (events u.seen) fault → IsOutside AnyPage fault
-      by_cause (CreateHindered.outside out) = outside_as NoPage AnyPage (λ page none. tt) fault out
+      by_cause : CreateHindered greatest 1 [] (events u.seen) fault → IsOutside (IsWatchPage plan f.page_size) fault
+      by_cause (CreateHindered.outside out) = no_page_lost fault out
       by_cause (CreateHindered.refused r) =
           let seen_none : events u.seen ≡ [] = no_front (events u.seen) (events u.begins.0) (sym (begins_events u.seen owner.seen u.begins) ∙ empty) in
           let others : r.others ≡ [] = no_front r.others r.rest (sym r.split ∙ seen_none) in
@@ -140,12 +177,42 @@ module _ (are : EntriesAreEvents) (plan : WatchPlan) (sized : IsSized plan) (f :
     unfolding history
     under = record { written = events_by 2 history; is = history_is; begun = w.begun }
 
-    writer_outside : NothingElseHinders → (p op : ℕ) (seen : Entries) (later : List Event) (fault : Fault) → Begins seen owner.seen
-        → UpdateHindered greatest p 2 1 Append (piece_of plan op) (events first ++ later) (events seen) fault → IsOutside AnyPage fault
+    writer_outside : NothingElseHinders → (op : ℕ) (seen : Entries) (later : List Event) (fault : Fault) → Begins seen owner.seen
+        → UpdateHindered greatest f.page_size 2 1 Append (piece_of plan op) (events first ++ later) (events seen) fault → IsOutside (IsWatchPage plan f.page_size) fault
     unfolding history
-    writer_outside nothing p op seen later fault begins hindered =
-        nothing plan history sized legal under w.own p op (events seen) (events begins.0) later fault (begins_events seen owner.seen begins)
-        (subst (λ (l : List Event). UpdateHindered greatest p 2 1 Append (piece_of plan op) (l ++ later) (events seen) fault) first_is hindered)
+    writer_outside nothing op seen later fault begins hindered =
+        nothing plan history sized legal under w.own f.page_size op (events seen) (events begins.0) later fault (begins_events seen owner.seen begins)
+        (subst (λ (l : List Event). UpdateHindered greatest f.page_size 2 1 Append (piece_of plan op) (l ++ later) (events seen) fault) first_is hindered)
+
+    -- ---- a reader stopped, or the last session
+    module _ (log : Entries) (begins : Begins log owner.seen) where
+      whole : history ≡ events log ++ events begins.0
+      unfolding history
+      whole = begins_events log owner.seen begins
+
+      front_legal : IsLegal greatest (events log)
+      unfolding history
+      front_legal = legal_front (empty_store greatest) (events log) (events begins.0) (subst (λ (h : List Event). IsLegal greatest h) whole legal)
+
+      front_under : 1 ≤ length (events log) → IsUnderway plan (events log)
+      front_under some = under_front plan history under (events log) (events begins.0) whole some
+
+    -- a version that was published lies within what the writer appends
+    page_within : VersionsAreSized → (page : ℕ) → IsPageSeen f owner.seen page → IsWatchPage plan f.page_size page
+    page_within sizes page s =
+        let log = s.before in
+        let b = s.published.0 in
+        let at : blob_at (store_of greatest (events log)) 1 ≡ Some b = ap (λ (l : Bounds). blob_at (store_of l (events log)) 1) (sym limits) ∙ s.published.1 in
+        let v = sizes plan (events log) (front_legal log s.begins) (front_under log s.begins (some_there (events log) b at)) b at s.version s.published.2 in
+        let size : size_of (updates_or_none (blob_at (store_of f.limits (events log)) 1)) s.version ≡ 16 * s.version = ap (λ (o : Option Blob). size_of (updates_or_none o) s.version) s.published.1 ∙ v.size in
+        omega (arith, s.within, size, v.few)
+
+    stops_outside : VersionsAreSized → PiecesAreTold → (fault : Fault) → Stops f owner.seen fault → IsOutside (IsWatchPage plan f.page_size) fault
+    stops_outside sizes pieces fault (Stops.outside out) = outside_as (IsPageSeen f owner.seen) (IsWatchPage plan f.page_size) (page_within sizes) fault out
+    stops_outside sizes pieces fault (Stops.refused log some begins r) =
+        let some_events : 1 ≤ length (events log) = omega (arith, some, length-map log (λ (x : ℕ × Event). x.1)) in
+        absurd (not_told plan fault r.op (read_outcome (store_of greatest (events log)) (range_of r.op)) (pieces plan (events log) (front_legal log begins) (front_under log begins some_events) r.op)
+        (r.told ∙ ap (λ (l : Bounds). reply_of (read_outcome (store_of l (events log)) (range_of r.op))) limits) r.other)
 
     not_missing : BlobsAreThere → (seen : Entries) → Begins first seen → Begins seen owner.seen → blob_at (store_of greatest (events seen)) 1 ≡ None → ⊥
     unfolding history
@@ -219,11 +286,12 @@ module _ (are : EntriesAreEvents) (plan : WatchPlan) (sized : IsSized plan) (f :
       not_long long = omega (arith, long, size_all, sized.ops)
 
   -- ---- all ends
-  module _ (together : ComeTogether) (dones : WatchesAreDone) (there : BlobsAreThere) (nothing : NothingElseHinders) where
-    fault_outside : (fault : Fault) → EndsBy plan f owner fault → IsOutside AnyPage fault
-    fault_outside fault (EndsBy.outside out) = out
+  module _ (together : ComeTogether) (dones : WatchesAreDone) (there : BlobsAreThere) (nothing : NothingElseHinders) (sizes : VersionsAreSized) (pieces : PiecesAreTold) where
+    fault_outside : (fault : Fault) → EndsBy plan f owner fault → IsOutside (IsWatchPage plan f.page_size) fault
+    fault_outside fault (EndsBy.outside out) = no_page_lost fault out
     fault_outside fault (EndsBy.unopened u) = unopened_outside fault u
-    fault_outside fault (EndsBy.writer first w p op seen later begins hindered) = writer_outside together first w nothing p op seen later fault begins hindered
+    fault_outside fault (EndsBy.stops first w by) = stops_outside together first w sizes pieces fault by
+    fault_outside fault (EndsBy.writer first w op seen later begins hindered) = writer_outside together first w nothing op seen later fault begins hindered
     fault_outside fault (EndsBy.missing first w seen from begins none) = absurd (not_missing together first w there seen from begins none)
     fault_outside fault (EndsBy.too_long first old new w all begins version size last long) = absurd (not_long together first w dones old new all begins version size last long)
 
@@ -232,7 +300,7 @@ module _ (are : EntriesAreEvents) (plan : WatchPlan) (sized : IsSized plan) (f :
     closed_is summary (first, (old, (new, (w, (all, (begins, (last, agree))))))) =
         watch together first w dones old new all begins summary.versions summary.size last
 
-    pub closed : (told : Result WatchSummary Fault) → WatchEnds plan f told owner → TellsWatch plan told
+    pub closed : (told : Result WatchSummary Fault) → WatchEnds plan f told owner → TellsWatch plan f.page_size told
     closed (Err fault) by = fault_outside fault by
     closed (Ok summary) (first, (old, (new, (w, (all, (begins, (last, agree))))))) =
         same_summary summary (summary_of plan) (size_all together first w dones old new all begins summary.versions summary.size last)

@@ -1,6 +1,6 @@
 -- Readers that end one after another, from the last to the first.
 use Rattle.std.proofs.Common.{◌≡◌, ℕ, ◌+◌, ◌-◌, ◌^◌, ◌<◌, ◌≤◌, min, List, [], ◌∷◌, ◌++◌, length, refl, sym, subst, arith}
-use Rattle.std.specs.Prelude.{Option, Some, None, All}
+use Rattle.std.specs.Prelude.{Option, Some, None, IfSome, All}
 use Rattle.std.proofs.Math.ListN.{get_or-append}
 use Rattle.std.proofs.lemmas.List.Elements.{All-push}
 use Rattle.std.proofs.lemmas.List.{get_or_push, length-append}
@@ -16,22 +16,24 @@ use Rattle.client_session.specs.Sessions.{StoreState, SessionState}
 use Rattle.update_work.proofs.Fresh.{rose_stop}
 use Rattle.watch_run.specs.declared.last.Last.{Last}
 use Rattle.watch_run.specs.Agreeing.{IsVersionIn, IsSeenBy, IsSeenIn}
-use Rattle.watch_run.specs.Stages.{Entries, Owner, LeavesWatch}
-use Rattle.watch_run.proofs.Stages.{leaves_both}
+use Rattle.watch_run.specs.Stages.{Entries}
+use Rattle.watch_run.specs.Stops.{Stops}
+use Rattle.watch_run.proofs.Stops.{stops_on}
 
--- what is known as long as no reader stopped: all that ended agree
-pub record AllAgree (old new : Owner) (agree left all : ℕ) : Type 0 where
-  pub count : agree + left ≡ all
-  pub leaves : LeavesWatch old new
-
-abbrev pub AgreeSoFar : Option Fault → Owner → Owner → ℕ → ℕ → ℕ → Type 0
-AgreeSoFar None old new agree left all = AllAgree old new agree left all
-AgreeSoFar (Some fault) old new agree left all = Unit {0}
+-- as long as no reader stopped, all that ended agree
+abbrev pub AgreeSoFar : Option Fault → ℕ → ℕ → ℕ → Type 0
+AgreeSoFar None agree left all = agree + left ≡ all
+AgreeSoFar (Some fault) agree left all = Unit {0}
 
 -- one more reader agrees
-pub agree_more : (stop : Option Fault) (old mid new : Owner) (agree one left less all : ℕ) → AgreeSoFar stop old mid agree left all → LeavesWatch mid new → one ≡ 1 → left ≡ less + 1 → AgreeSoFar stop old new (agree + one) less all
-agree_more None old mid new agree one left less all so more is fewer = record { count = omega (arith, so.count, is, fewer); leaves = leaves_both old mid new so.leaves more }
-agree_more (Some fault) old mid new agree one left less all so more is fewer = tt
+pub agree_more : (stop : Option Fault) (agree one left less all : ℕ) → AgreeSoFar stop agree left all → one ≡ 1 → left ≡ less + 1 → AgreeSoFar stop (agree + one) less all
+agree_more None agree one left less all so is fewer = omega (arith, so, is, fewer)
+agree_more (Some fault) agree one left less all so is fewer = tt
+
+-- why a reader stopped, as more is seen
+pub stop_on : (f : DeskFixed) (seen seen' : Entries) (stop : Option Fault) → Begins seen seen' → IfSome stop (Stops f seen) → IfSome stop (Stops f seen')
+stop_on f seen seen' None more by = tt
+stop_on f seen seen' (Some fault) more by = stops_on f seen seen' fault more by
 
 -- ---- one more in a list
 pub all_more : {X : Type 0} (P : X → Type 0) (xs ys : List X) (x : X) → ys ≡ xs ++ x ∷ [] → All P xs → P x → All P ys

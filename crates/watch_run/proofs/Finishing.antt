@@ -15,12 +15,15 @@ use Rattle.client_session.specs.Sessions.{StoreState, SessionState}
 use Rattle.read_board.specs.declared.refresh.Refresh.{Refresh}
 use Rattle.read_board.specs.Keeping.{KeeperState}
 use Rattle.read_board.specs.Refreshes.{version_of, on_board}
+use Rattle.workload_law.specs.Ends.{IsOutside}
 use Rattle.watch_run.specs.declared.last.Last.{Last}
 use Rattle.watch_run.specs.Agreeing.{IsVersionIn, IsToldBy, IsSeenIn}
 use Rattle.watch_run.specs.Ending.{IsSeenLast, HasReadBack, HasFinished, FinishHindered}
 use Rattle.watch_run.specs.Lasts.{updates_seen, IsLast, LastHindered}
 use Rattle.watch_run.specs.Stages.{Entries, Owner, LeavesWatch}
+use Rattle.watch_run.specs.Stops.{IsPageSeen, Stops}
 use Rattle.watch_run.proofs.Stages.{leaves_both}
+use Rattle.watch_run.proofs.Stops.{outside_on, stops_on}
 
 published_there : (o : Option Blob) (b : Blob) (version : ℕ) → o ≡ Some b → version ≤ published_or_none o → version ≤ published b
 published_there o b version at le = subst (λ (n : ℕ). version ≤ n) (ap published_or_none at) le
@@ -73,7 +76,8 @@ module _ {D : Type 0} (k : KeeperState) (s s' : SessionState D) (last : Last) (i
 -- why nothing came of it
 pub finish_hindered : {D : Type 0} (s s' : SessionState D) (fault : Fault) (store : StoreState) (old new : Owner) → LastHindered s s' fault → s.store ≡ store → s'.store ≡ store → s.log ≡ old.seen → Begins s.log s'.log
     → LeavesWatch old new → Begins s'.log new.seen → FinishHindered store.fixed old new fault
-finish_hindered s s' fault store old new (LastHindered.outside out) before after log goes leaves begins = FinishHindered.outside out
+finish_hindered s s' fault store old new (LastHindered.outside out) before after log goes leaves begins =
+    FinishHindered.stops leaves (Stops.outside (outside_on store.fixed s'.log new.seen fault begins (subst (λ (x : StoreState). IsOutside (IsPageSeen x.fixed s'.log) fault) after out)))
 finish_hindered s s' fault store old new (LastHindered.missing none) before after log goes leaves begins = FinishHindered.missing leaves s'.log (subst (λ (l : Entries). Begins l s'.log) log goes) begins none
 finish_hindered s s' fault store old new (LastHindered.too_long version recent long) before after log goes leaves begins =
     FinishHindered.too_long leaves s'.log begins version (size_of (updates_seen s') version) (record {
@@ -86,7 +90,7 @@ finish_hindered s s' fault store old new (LastHindered.too_long version recent l
 
 -- ---- what comes later
 pub finish_later : (f : DeskFixed) (old mid new : Owner) (fault : Fault) → FinishHindered f old mid fault → LeavesWatch mid new → FinishHindered f old new fault
-finish_later f old mid new fault (FinishHindered.outside out) more = FinishHindered.outside out
+finish_later f old mid new fault (FinishHindered.stops leaves by) more = FinishHindered.stops (leaves_both old mid new leaves more) (stops_on f mid.seen new.seen fault more.comes.begins by)
 finish_later f old mid new fault (FinishHindered.missing leaves seen from to none) more =
     FinishHindered.missing (leaves_both old mid new leaves more) seen from (begins_both seen mid.seen new.seen to more.comes.begins) none
 finish_later f old mid new fault (FinishHindered.too_long leaves seen to version size last long) more =

@@ -1,5 +1,5 @@
 -- What the last session of a watch reads.
-use Rattle.std.proofs.Common.{◌≡◌, inl, inr, ℕ, ◌+◌, ◌<◌, ◌≤◌, List, [], ◌∷◌, ◌++◌, length, take, refl, sym, ap, subst, ◌∙◌, arith}
+use Rattle.std.proofs.Common.{◌≡◌, inl, inr, ℕ, ◌+◌, ◌*◌, ◌<◌, ◌≤◌, List, [], ◌∷◌, ◌++◌, length, take, refl, sym, ap, subst, ◌∙◌, arith}
 use Rattle.std.specs.Prelude.{Some, Result, Ok, Err}
 use Rattle.std.proofs.lemmas.List.{get_or_push, length-append, take_all}
 use Rattle.blob_model.specs.Content.{Update, content, size_of}
@@ -34,39 +34,42 @@ use Rattle.read_board.specs.Laws.{RefreshesStay}
 use Rattle.read_board.proofs.Recent.{size_not_refused}
 use Rattle.workload_law.specs.Sessions.{GapsHaveNoOwn}
 use Rattle.workload_law.specs.Ends.{IsOutside}
+use Rattle.workload_law.proofs.Lost.{outside_as}
 use Rattle.update_work.proofs.Returns.{events_append}
 use Rattle.watch_run.specs.Idling.{Idles}
 use Rattle.watch_run.specs.Keeping.{MayRefresh, RefreshHindered}
 use Rattle.watch_run.specs.Lasts.{updates_seen, WholeRead, IsLast, LastHindered}
+use Rattle.watch_run.specs.Stops.{IsPageSeen}
 use Rattle.watch_run.proofs.Idling.{idles_gap}
 use Rattle.watch_run.proofs.Kept.{on_pushed}
+use Rattle.watch_run.proofs.Stops.{itself}
 
 abbrev Entries : Type 0
 Entries = List (ℕ × Event)
 
 -- ---- one read
 module _ (p : ℕ) (us : List Update) (n size : ℕ) (is_size : size ≡ size_of us n) where
-  whole_in : (said : Result (List ℕ) Fault) → ReadsRange p us n 0 size said → WholeRead us n said
+  whole_in : (said : Result (List ℕ) Fault) → ReadsRange p us n 0 size said → WholeRead p us n said
   whole_in (Ok bytes) reads =
       let all : bytes ≡ content us n = reads.bytes ∙ (ap (λ (k : ℕ). take k (content us n)) is_size ∙ take_all (length (content us n)) (content us n) (omega arith)) in
       (all, omega (arith, ap (λ (l : List ℕ). length l) all, is_size, reads.few))
   whole_in (Err fault) reads = by_cause reads.cause
     where
-      by_cause : RangeCause p us n 0 size fault → WholeRead us n (Err fault)
+      by_cause : RangeCause p us n 0 size fault → WholeRead p us n (Err fault)
       by_cause (RangeCause.too_long is long) = inr (omega (arith, long, is_size))
       by_cause (RangeCause.past is within past) = absurd (omega (arith, past, is_size))
-      by_cause (RangeCause.lost page is within ends met) = inl (IsOutside.lost page tt is)
+      by_cause (RangeCause.lost page is within ends met) = inl (IsOutside.lost page (omega (arith, met.begins, is_size)) is)
       by_cause (RangeCause.no_memory is) = inl (IsOutside.starved is)
 
 -- a read of the whole of a version that was opened is one of what the store holds
 pub whole_opened : (f : DeskFixed) (log : Entries) (version : ℕ) (snapshot : Version) (size : ℕ) (said : Result (List ℕ) Fault) → IsSnapshotOf f log 1 version snapshot → size ≡ size_now snapshot
-    → OverUpdates snapshot (λ us. ReadsRange snapshot.page_size us (length snapshot.rows) 0 size said) → WholeRead (updates_in (desk_at f log) 1) version said
+    → OverUpdates snapshot (λ us. ReadsRange snapshot.page_size us (length snapshot.rows) 0 size said) → WholeRead f.page_size (updates_in (desk_at f log) 1) version said
 whole_opened f log version snapshot size said is is_size reads =
     let us : List Update = updates_in (desk_at f log) 1 in
     let n : ℕ = length snapshot.rows in
     let tells : TellUpdates snapshot.page_size us snapshot.rows = subst (λ (p : ℕ). TellUpdates p us snapshot.rows) (sym is.page_size) is.tells in
     let same : size ≡ size_of us n = is_size ∙ ap (λ (l : List ℕ). length l) (is.tells.leave n (omega arith)) in
-    subst (λ (k : ℕ). WholeRead us k said) is.rows (whole_in snapshot.page_size us n size same said (reads us tells))
+    subst (λ (k : ℕ). WholeRead f.page_size us k said) is.rows (subst (λ (p : ℕ). WholeRead p us n said) is.page_size (whole_in snapshot.page_size us n size same said (reads us tells)))
 
 -- a version that is published is opened, if memory is found
 open_starved : (f : DeskFixed) (log : Entries) (caller version : ℕ) (fault : Fault) → IsPublishedIn (store_of f.limits (events log)) 1 version → NotOpened f log caller 1 version fault → fault ≡ Faults.NoMemory
@@ -94,12 +97,14 @@ module _ {D : Type 0} (s mid s' : SessionState D) (version : ℕ) where
     seen_opened = ap (λ (x : SessionState D). updates_seen x) o.same
 
   pub opened_read : (snapshot : Version) → Opening s 1 version (Ok snapshot) mid → (size : ℕ) (said : Result (List ℕ) Fault) → s' ≡ record mid { doors = s'.doors } → size ≡ size_now snapshot
-      → OverUpdates snapshot (λ us. ReadsRange snapshot.page_size us (length snapshot.rows) 0 size said) → WholeRead (updates_seen s') version said
+      → OverUpdates snapshot (λ us. ReadsRange snapshot.page_size us (length snapshot.rows) 0 size said) → WholeRead s'.store.fixed.page_size (updates_seen s') version said
   opened_read snapshot o size said rest is_size reads =
-      subst (λ (us : List Update). WholeRead us version said) (sym (ap (λ (x : SessionState D). updates_seen x) rest ∙ seen_opened (Ok snapshot) o))
-      (whole_opened s.store.fixed mid.log version snapshot size said o.snapshot is_size reads)
+      subst (λ (us : List Update). WholeRead s'.store.fixed.page_size us version said) (sym (ap (λ (x : SessionState D). updates_seen x) rest ∙ seen_opened (Ok snapshot) o))
+      (subst (λ (p : ℕ). WholeRead p (updates_in (desk_at s.store.fixed mid.log) 1) version said)
+      (sym (ap (λ (x : SessionState D). x.store.fixed.page_size) rest ∙ ap (λ (x : SessionState D). x.store.fixed.page_size) o.same))
+      (whole_opened s.store.fixed mid.log version snapshot size said o.snapshot is_size reads))
 
-  pub not_opened : OldVersionsStay → (fault : Fault) → Opening s 1 version (Err fault) mid → IsPublishedIn (store_of s.store.fixed.limits (events s.log)) 1 version → WholeRead (updates_seen mid) version (Err fault)
+  pub not_opened : OldVersionsStay → (fault : Fault) → Opening s 1 version (Err fault) mid → IsPublishedIn (store_of s.store.fixed.limits (events s.log)) 1 version → WholeRead mid.store.fixed.page_size (updates_seen mid) version (Err fault)
   not_opened stay fault o published =
       inl (IsOutside.starved (open_starved s.store.fixed mid.log s.caller version fault (published_on stay s.store.fixed s.log mid.log o.gap version o.log published) o.refused))
 
@@ -111,18 +116,21 @@ module _ {D : Type 0} (k k' : KeeperState) (s mid s' : SessionState D) (version 
   pub latest_is : on_board 1 k'.all ≡ Some done.refresh
   latest_is = ap (λ (l : List Refresh). on_board 1 l) done.all ∙ on_pushed k.all done.refresh done.blob_is
 
-  -- the version that the refresh answered is published
+  -- the version that the refresh answered is published where the refresh holds
+  published_by : (f : DeskFixed) (log : Entries) → Holds f log done.refresh → IsPublishedIn (store_of f.limits (events log)) 1 version
+  published_by f log h =
+      let at : (b : Blob) × (blob_at (store_of f.limits (events log)) 1 ≡ Some b) =
+      subst (λ (n : ℕ). (b : Blob) × (blob_at (store_of f.limits (events log)) n ≡ Some b)) done.blob_is h.there
+      in
+      let le : version ≤ published_in (desk_at f log) 1 =
+      subst (λ (v : ℕ). v ≤ published_in (desk_at f log) 1) done.version_is (subst (λ (n : ℕ). version_of done.refresh ≤ published_in (desk_at f log) n) done.blob_is h.published)
+      in
+      (at.0, at.1, subst (λ (n : ℕ). version ≤ n) (ap published_or_none at.1) le)
+
   pub published_mid : IsPublishedIn (store_of mid.store.fixed.limits (events mid.log)) 1 version
   published_mid =
       let f = mid.store.fixed in
-      let h = last_holds f mid.log k.all done.refresh (subst (λ (l : List Refresh). AllHold f mid.log l) done.all may.hold) in
-      let at : (b : Blob) × (blob_at (store_of f.limits (events mid.log)) 1 ≡ Some b) =
-      subst (λ (n : ℕ). (b : Blob) × (blob_at (store_of f.limits (events mid.log)) n ≡ Some b)) done.blob_is h.there
-      in
-      let le : version ≤ published_in (desk_at f mid.log) 1 =
-      subst (λ (v : ℕ). v ≤ published_in (desk_at f mid.log) 1) done.version_is (subst (λ (n : ℕ). version_of done.refresh ≤ published_in (desk_at f mid.log) n) done.blob_is h.published)
-      in
-      (at.0, at.1, subst (λ (n : ℕ). version ≤ n) (ap published_or_none at.1) le)
+      published_by f mid.log (last_holds f mid.log k.all done.refresh (subst (λ (l : List Refresh). AllHold f mid.log l) done.all may.hold))
 
   module _ (stay : RefreshesStay) (on : Continues mid s') where
     last_holds_now : Holds s'.store.fixed s'.log done.refresh
@@ -135,7 +143,7 @@ module _ {D : Type 0} (k k' : KeeperState) (s mid s' : SessionState D) (version 
     recent_now : IsRecent s mid 1 version → IsRecent s s' 1 version
     recent_now r = record { mid = r.mid; begins = r.begins; goes_on = begins_both r.mid mid.log s'.log r.goes_on on.begins; is = r.is }
 
-    pub last_read : (bytes : List ℕ) → IsRecent s mid 1 version → WholeRead (updates_seen s') version (Ok bytes) → IsLast k' s s' version bytes
+    pub last_read : (bytes : List ℕ) → IsRecent s mid 1 version → WholeRead s'.store.fixed.page_size (updates_seen s') version (Ok bytes) → IsLast k' s s' version bytes
     last_read bytes recent whole = record {
       refresh = done.refresh;
       of_one = done.blob_is;
@@ -148,8 +156,13 @@ module _ {D : Type 0} (k k' : KeeperState) (s mid s' : SessionState D) (version 
       few = whole.1;
     }
 
-    pub last_unread : (fault : Fault) → IsRecent s mid 1 version → WholeRead (updates_seen s') version (Err fault) → LastHindered s s' fault
-    last_unread fault recent (inl out) = LastHindered.outside out
+    -- a page that it lost is one of that version
+    page_there : (page : ℕ) → s'.store.fixed.page_size * page < size_of (updates_seen s') version → IsPageSeen s'.store.fixed s'.log page
+    page_there page lt = record { before = s'.log; begins = itself s'.log; version = version; published = published_by s'.store.fixed s'.log last_holds_now; within = lt }
+
+    pub last_unread : (fault : Fault) → IsRecent s mid 1 version → WholeRead s'.store.fixed.page_size (updates_seen s') version (Err fault) → LastHindered s s' fault
+    last_unread fault recent (inl out) =
+        LastHindered.outside (outside_as (λ page. s'.store.fixed.page_size * page < size_of (updates_seen s') version) (IsPageSeen s'.store.fixed s'.log) page_there fault out)
     last_unread fault recent (inr long) = LastHindered.too_long version (recent_now recent) long
 
 pub last_missing : {D : Type 0} (s s' : SessionState D) (fault : Fault) → RefreshHindered s' fault → LastHindered s s' fault

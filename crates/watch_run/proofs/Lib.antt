@@ -3,6 +3,8 @@ pub mod Stages
 pub mod Idling
 pub mod Kept
 pub mod ReadOn
+pub mod Refusals
+pub mod Stops
 pub mod Lasts
 pub mod Compared
 pub mod Ends

@@ -1,5 +1,5 @@
 -- What the owner has seen as passes come back.
-use Rattle.std.proofs.Common.{◌≡◌, ◌⊎◌, inl, inr, ⊎_elim, ℕ, ◌+◌, ◌≤◌, List, [], ◌∷◌, ◌++◌, sym, ap, subst, ◌∙◌, append-nil, arith, Contains}
+use Rattle.std.proofs.Common.{◌≡◌, ◌⊎◌, inl, inr, ⊎_elim, ℕ, ◌+◌, ◌≤◌, List, [], ◌∷◌, ◌++◌, length, refl, sym, ap, subst, ◌∙◌, append-nil, arith, Contains}
 use Rattle.std.specs.Prelude.{Result, Ok, Err}
 use Rattle.std.proofs.lemmas.List.Elements.{Contains-append_left, Contains-push, Contains-push_cases}
 use Rattle.blob_model.specs.Limits.{Bounds, greatest}
@@ -12,7 +12,7 @@ use Rattle.version_manager.specs.Log.{tagged, events}
 use Rattle.version_manager.specs.Laws.{EntriesAreEvents}
 use Rattle.request_form.specs.declared.form.Fault.{Fault}
 use Rattle.client_session.specs.Sessions.{StoreState, SessionState, IsOwnerOf, session_of}
-use Rattle.store_sessions.specs.Made.{IsNewSession}
+use Rattle.store_sessions.specs.Made.{IsNewSession, IsRenewed}
 use Rattle.workload_law.specs.Ends.{CreateHindered}
 use Rattle.workload_law.specs.Closing.{OwnsStay}
 use Rattle.workload_law.specs.Sessions.{FinishesItsOwn}
@@ -160,6 +160,11 @@ module _ {D : Type 0} (are : EntriesAreEvents) (s s' : SessionState D) (old new 
   opens_as limits (Ok done) ends = opened ends
   opens_as limits (Err fault) ends = (out, inr (unopened limits fault ends))
 
+-- where something was entered, something is there
+pub some_created : (log : Entries) → events_by 1 (events log) ≡ Events.Create 1 ∷ [] → 1 ≤ length log
+some_created [] created = absurd (let no : [] ≡ Events.Create 1 ∷ [] = created in cc)
+some_created (x ∷ xs) created = omega arith
+
 -- ---- one after another
 pub comes_both : (old mid new : Owner) → ComesBack old mid → ComesBack mid new → ComesBack old new
 comes_both old mid new one two = record {
@@ -171,26 +176,43 @@ comes_both old mid new one two = record {
 pub leaves_both : (old mid new : Owner) → LeavesWatch old mid → LeavesWatch mid new → LeavesWatch old new
 leaves_both old mid new one two = record { comes = comes_both old mid new one.comes two.comes; watched = λ plan first w. two.watched plan first (one.watched plan first w) }
 
+-- nothing more was seen, and whoever came back meanwhile entered nothing
+module _ (old new : Owner) (seen : new.seen ≡ old.seen) (keeps : (c : ℕ) → Contains old.kept c → Contains new.kept c)
+    (none : (c : ℕ) → Contains new.kept c → Contains old.kept c ⊎ (events_by c (events new.seen) ≡ [])) where
+  idle_still : (c : ℕ) → (Contains old.kept c → events_by c (events old.seen) ≡ []) → Contains old.kept c ⊎ (events_by c (events new.seen) ≡ []) → events_by c (events new.seen) ≡ []
+  idle_still c was (inl before) = subst (λ (l : Entries). events_by c (events l) ≡ []) (sym seen) (was before)
+  idle_still c was (inr nothing) = nothing
+
+  pub leaves_seen : LeavesWatch old new
+  leaves_seen = record {
+    comes = record {
+      begins = ([], seen ∙ sym (append-nil old.seen));
+      keeps = keeps;
+      stays = λ c k. ap (λ (l : Entries). events_by c (events l)) seen;
+    };
+    watched = λ plan first w. record {
+      begins = subst (λ (l : Entries). Begins first l) (sym seen) w.begins;
+      created_first = w.created_first;
+      kept_first = keeps 1 w.kept_first;
+      created = subst (λ (l : Entries). events_by 1 (events l) ≡ Events.Create 1 ∷ []) (sym seen) w.created;
+      fresh = w.fresh;
+      kept_writer = keeps 2 w.kept_writer;
+      begun = subst (λ (l : Entries). HasBegun plan (events_by 2 (events l))) (sym seen) w.begun;
+      own = subst (λ (l : Entries). FinishesItsOwn greatest (events l) 2) (sym seen) w.own;
+      idle = λ c other k. idle_still c (w.idle c other) (none c k);
+    };
+  }
+
 -- as further passes are made, nothing changes
 pub leaves_given : (old new : Owner) → new.seen ≡ old.seen → new.kept ≡ old.kept → LeavesWatch old new
-leaves_given old new seen kept = record {
-  comes = record {
-    begins = ([], seen ∙ sym (append-nil old.seen));
-    keeps = λ c k. subst (λ (l : List ℕ). Contains l c) (sym kept) k;
-    stays = λ c k. ap (λ (l : Entries). events_by c (events l)) seen;
-  };
-  watched = λ plan first w. record {
-    begins = subst (λ (l : Entries). Begins first l) (sym seen) w.begins;
-    created_first = w.created_first;
-    kept_first = subst (λ (l : List ℕ). Contains l 1) (sym kept) w.kept_first;
-    created = subst (λ (l : Entries). events_by 1 (events l) ≡ Events.Create 1 ∷ []) (sym seen) w.created;
-    fresh = w.fresh;
-    kept_writer = subst (λ (l : List ℕ). Contains l 2) (sym kept) w.kept_writer;
-    begun = subst (λ (l : Entries). HasBegun plan (events_by 2 (events l))) (sym seen) w.begun;
-    own = subst (λ (l : Entries). FinishesItsOwn greatest (events l) 2) (sym seen) w.own;
-    idle = λ c other k. subst (λ (l : Entries). events_by c (events l) ≡ []) (sym seen) (w.idle c other (subst (λ (l : List ℕ). Contains l c) kept k));
-  };
-}
+leaves_given old new seen kept =
+    leaves_seen old new seen (λ c k. subst (λ (l : List ℕ). Contains l c) (sym kept) k) (λ c k. inl (subst (λ (l : List ℕ). Contains l c) kept k))
+
+-- no session could be made
+pub leaves_unmade : (are : EntriesAreEvents) (store : StoreState) (old new : Owner) → IsOwnerOf store new → new.seen ≡ old.seen → ((c : ℕ) → Contains old.kept c → Contains new.kept c)
+    → ((c : ℕ) → Contains new.kept c → Contains old.kept c ⊎ (entries_by c new.seen ≡ [])) → LeavesWatch old new
+leaves_unmade are store old new owner seen keeps none =
+    leaves_seen old new seen keeps (λ c k. ⊎_elim (λ (before : Contains old.kept c). inl before) (λ (nothing : entries_by c new.seen ≡ []). inr (none_by are new.seen c owner.log.tags nothing)) (none c k))
 
 -- a session that was just made, with a pass after the second
 pub new_idle : {D : Type 0} (faults : D → ℕ) (are : EntriesAreEvents) (store : StoreState) (owner : Owner) (s : SessionState D) → owner.seen ≡ tagged (events owner.seen) → 2 ≤ owner.made → IsNewSession faults store owner s → IsIdle store s
@@ -199,6 +221,32 @@ new_idle faults are store owner s tags two new = record {
   caller = omega (arith, new.caller, two);
   none = none_by are s.log s.caller (subst (λ (l : Entries). l ≡ tagged (events l)) (sym new.log) tags) new.none;
 }
+
+-- and one that was made of another's doors
+pub renewed_idle : {D : Type 0} (are : EntriesAreEvents) (store : StoreState) (owner : Owner) (seen : Entries) (ended s : SessionState D) → seen ≡ tagged (events seen) → 2 ≤ owner.made
+    → IsRenewed store owner seen ended s → IsIdle store s
+renewed_idle are store owner seen ended s tags two new = record {
+  of_store = new.of_store;
+  caller = omega (arith, new.caller, two);
+  none = none_by are s.log s.caller (subst (λ (l : Entries). l ≡ tagged (events l)) (sym new.log) tags) new.none;
+}
+
+-- ---- a session ended, and another was to be made of its doors
+module _ {D : Type 0} (are : EntriesAreEvents) (stay : OwnsStay) (store : StoreState) (s : SessionState D) (old new : Owner) (idle : IsIdle store s) where
+  pub leaves_renewed : new.seen ≡ tagged (events new.seen) → new.kept ≡ old.kept ++ s.caller ∷ [] → Begins old.seen new.seen × Begins s.log new.seen → entries_by s.caller new.seen ≡ entries_by s.caller s.log
+      → ((c : ℕ) → Contains old.kept c → entries_by c new.seen ≡ entries_by c old.seen) → LeavesWatch old new
+  leaves_renewed tags kept begins own before =
+      leaves_watch are stay s.caller s.log old new (record { tags = tags; kept = kept; begins = begins.0; begins_log = begins.1; own = own; before = before }) idle.caller idle.none
+
+-- it couldn't be made
+module _ {D : Type 0} (are : EntriesAreEvents) (stay : OwnsStay) (store : StoreState) (s : SessionState D) (old new : Owner) (idle : IsIdle store s) where
+  pub leaves_unrenewed : IsOwnerOf store new → Begins old.seen new.seen × Begins s.log new.seen → entries_by s.caller new.seen ≡ entries_by s.caller s.log
+      → ((c : ℕ) → Contains old.kept c → entries_by c new.seen ≡ entries_by c old.seen) → ((c : ℕ) → Contains (old.kept ++ s.caller ∷ []) c → Contains new.kept c)
+      → ((c : ℕ) → Contains new.kept c → Contains (old.kept ++ s.caller ∷ []) c ⊎ (entries_by c new.seen ≡ [])) → LeavesWatch old new
+  leaves_unrenewed owner begins own before keeps_all none =
+      -- the owner, once the ended session's pass alone was back
+      let ended : Owner = record old { seen = new.seen; kept = old.kept ++ s.caller ∷ [] } in
+      leaves_both old ended new (leaves_renewed are stay store s old ended idle owner.log.tags refl begins own before) (leaves_unmade are store ended new owner refl keeps_all none)
 
 -- the other callers' passes were made once the blob was
 pub called : (old new : Owner) (readers : ℕ) → IsOpened old → new ≡ record old { made = old.made + 2 + readers; out = old.out + 2 + readers } → IsCalled new readers

@@ -39,7 +39,7 @@ own_of plan s s' (Ok done) ends = ends.own
 own_of plan s s' (Err fault) ends = ends.own
 
 module _ {D : Type 0} (are : EntriesAreEvents) (stay : OwnsStay) (plan : WatchPlan) (f : DeskFixed) (s s' : SessionState D) (told : Told) (ends : WriteEnds plan told (session_of s) (session_of s')) (first one : Owner)
-    (took : TookBack 2 s'.log first one) (called : IsCalled first plan.readers) (log : s.log ≡ first.seen) (fresh : events_by 2 (events first.seen) ≡ []) where
+    (took : TookBack 2 s'.log first one) (called : IsCalled first plan.readers) (log : s.log ≡ first.seen) (fresh : events_by 2 (events first.seen) ≡ []) (fixed : s.store.fixed ≡ f) where
   pub watched_one : IsWatched plan first.seen one
   watched_one = writer_back are stay s'.log first one took called.kept called.created fresh (own_of plan s s' told ends) plan (begun_by plan s s' told ends)
 
@@ -55,8 +55,9 @@ module _ {D : Type 0} (are : EntriesAreEvents) (stay : OwnsStay) (plan : WatchPl
     pub ends_by_writer : (fault : Fault) → told ≡ Err fault → EndsBy plan f last fault
     ends_by_writer fault is =
         let stop : StoppedWriting plan fault (session_of s) (session_of s') = subst (λ (t : Told). WriteEnds plan t (session_of s) (session_of s')) is ends in
-        EndsBy.writer first.seen watched_last s.store.fixed.page_size stop.op s'.log stop.later log_last
-        (subst (λ (l : Entries). UpdateHindered greatest s.store.fixed.page_size 2 1 Append (piece_of plan stop.op) (events l ++ stop.later) (events s'.log) fault) log stop.hindered)
+        EndsBy.writer first.seen watched_last stop.op s'.log stop.later log_last
+        (subst (λ (x : DeskFixed). UpdateHindered greatest x.page_size 2 1 Append (piece_of plan stop.op) (events first.seen ++ stop.later) (events s'.log) fault) fixed
+        (subst (λ (l : Entries). UpdateHindered greatest s.store.fixed.page_size 2 1 Append (piece_of plan stop.op) (events l ++ stop.later) (events s'.log) fault) log stop.hindered))
 
     -- the keeper stopped
     pub ends_by_keeper : (k : SessionState D) (fault : Fault) → Begins first.seen k.log → Begins k.log last.seen → RefreshHindered k fault → EndsBy plan f last fault
@@ -83,7 +84,7 @@ module _ {D : Type 0} (are : EntriesAreEvents) (stay : OwnsStay) (plan : WatchPl
     }
 
     by_hindered : (fault : Fault) → FinishHindered f two three fault → EndsBy plan f three fault
-    by_hindered fault (FinishHindered.outside out) = EndsBy.outside out
+    by_hindered fault (FinishHindered.stops more by) = EndsBy.stops first.seen (more.watched plan first.seen watched_two) by
     by_hindered fault (FinishHindered.missing more seen from to none) =
         EndsBy.missing first.seen (more.watched plan first.seen watched_two) seen (begins_both first.seen two.seen seen watched_two.begins from) to none
     by_hindered fault (FinishHindered.too_long more seen to version size last long) =
@@ -99,12 +100,12 @@ same_count : (a b : Told) → a ≡ b → told_faults a ≡ told_faults b
 same_count a b same = ap (λ (t : Told). told_faults t) same
 
 module _ {D : Type 0} (are : EntriesAreEvents) (stay : OwnsStay) (plan : WatchPlan) (f : DeskFixed) (s s' k : SessionState D) (written kept : Told) (ends : WriteEnds plan written (session_of s) (session_of s')) (first one last : Owner)
-    (took : TookBack 2 s'.log first one) (called : IsCalled first plan.readers) (log : s.log ≡ first.seen) (fresh : events_by 2 (events first.seen) ≡ []) (leaves : LeavesWatch one last) (from : Begins first.seen k.log) (to : Begins k.log last.seen)
+    (took : TookBack 2 s'.log first one) (called : IsCalled first plan.readers) (log : s.log ≡ first.seen) (fresh : events_by 2 (events first.seen) ≡ []) (fixed : s.store.fixed ≡ f) (leaves : LeavesWatch one last) (from : Begins first.seen k.log) (to : Begins k.log last.seen)
     (hindered : IfErr kept (RefreshHindered k)) where
   stopped_by : (w x : Told) → written ≡ w → kept ≡ x → (fault : Fault) → result_and w x ≡ Err fault → EndsBy plan f last fault
-  stopped_by (Err stop) x is also fault which = ends_by_writer are stay plan f s s' written ends first one took called log fresh last leaves fault (is ∙ which)
+  stopped_by (Err stop) x is also fault which = ends_by_writer are stay plan f s s' written ends first one took called log fresh fixed last leaves fault (is ∙ which)
   stopped_by (Ok done) x is also fault which =
-      ends_by_keeper are stay plan f s s' written ends first one took called log fresh last leaves k fault from to (subst (λ (t : Told). IfErr t (RefreshHindered k)) (also ∙ which) hindered)
+      ends_by_keeper are stay plan f s s' written ends first one took called log fresh fixed last leaves k fault from to (subst (λ (t : Told). IfErr t (RefreshHindered k)) (also ∙ which) hindered)
 
   pub ends_early : (fault : Fault) → result_and written kept ≡ Err fault → EndsBy plan f last fault
   ends_early fault which = stopped_by written kept refl refl fault which

@@ -11,6 +11,7 @@ use Rattle.workload_law.specs.Ends.{Leaves, UpdateHindered}
 use Rattle.workload_law.specs.Closing.{IdleOwnsAll}
 use Rattle.update_work.specs.Updates.{update_events, IsUpdated, IsStopped}
 use Rattle.update_work.specs.Callers.{IsFresh}
+use Rattle.update_work.specs.declared.updating.Stopped.{Stopped}
 use Rattle.watch_law.specs.declared.plan.WatchPlan.{WatchPlan}
 use Rattle.watch_law.specs.Watch.{piece_of, operation, HasWritten, HasBegun}
 use Rattle.watch_run.specs.Writing.{Wrote, StoppedWriting}
@@ -89,8 +90,9 @@ module _ (plan : WatchPlan) (op : ℕ) (s mid s' : Session) (limits : s.fixed.li
         ready = record { none_held = done.none_held; limit = done.leaves.limit wrote.ready.limit };
       }
 
-  pub stopped_writing : op < plan.ops → (fault : Fault) → IsStopped mid 1 Append (piece_of plan op) fault s' → StoppedWriting plan fault s s'
-  stopped_writing within fault stop =
+  pub stopped_writing : op < plan.ops → (told : Stopped) → IsStopped mid 1 Append (piece_of plan op) told s' → StoppedWriting plan told.fault s s'
+  stopped_writing within told stop =
+      let fault : Fault = told.fault in
       let x = stop.stopped in
       let split : x.own ++ x.rest ≡ operation plan op stop.version = x.split ∙ ap (λ (c : ℕ). update_events c 1 Append (piece_of plan op) stop.version) wrote.caller in
       let begun : HasBegun plan (events_by 2 mid.seen ++ x.own) = begun_within plan op stop.version (events_by 2 mid.seen) x.own x.rest wrote.written within split in

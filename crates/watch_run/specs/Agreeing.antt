@@ -1,5 +1,5 @@
 -- What the readers of a watch are compared with.
-use Rattle.std.specs.Prelude.{◌≡◌, ◌≤◌, List, length, Some}
+use Rattle.std.specs.Prelude.{◌≡◌, ℕ, ◌*◌, ◌<◌, ◌≤◌, List, length, Some}
 use Rattle.blob_model.specs.Content.{content}
 use Rattle.blob_model.specs.History.{store_of}
 use Rattle.turn_lock.specs.History.{Begins}
@@ -19,6 +19,10 @@ use Rattle.watch_run.specs.Stages.{Entries}
 pub record IsVersionIn (f : DeskFixed) (log : Entries) (last : Last) : Type 0 where
   pub bytes_are : last.bytes ≡ content (updates_in (desk_at f log) 1) last.version
   pub few : length last.bytes ≤ max_read
+
+-- a page of p bytes that begins within them
+abbrev pub IsPageOfLast : ℕ → Last → ℕ → Type 0
+IsPageOfLast p last page = p * page < length last.bytes
 
 -- the last of these refreshes of blob 1 is of that version, and holds its updates in a history in which these are the version's bytes
 pub record IsToldBy (list : List Refresh) (last : Last) : Type 0 where

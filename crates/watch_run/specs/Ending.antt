@@ -12,14 +12,15 @@ use Rattle.version_manager.specs.Log.{events, desk_at}
 use Rattle.version_manager.specs.declared.journal.DeskFixed.{DeskFixed}
 use Rattle.request_form.specs.Answers.{max_read}
 use Rattle.request_form.specs.declared.form.Fault.{Fault}
-use Rattle.workload_law.specs.Ends.{IsOutside, AnyPage, UpdateHindered}
+use Rattle.workload_law.specs.Ends.{IsOutside, NoPage, UpdateHindered}
 use Rattle.read_board.specs.declared.refresh.Refresh.{Refresh}
 use Rattle.watch_law.specs.declared.plan.WatchPlan.{WatchPlan}
 use Rattle.watch_law.specs.declared.plan.WatchSummary.{WatchSummary}
-use Rattle.watch_law.specs.Watch.{piece_of, HasWritten, summary_of}
+use Rattle.watch_law.specs.Watch.{piece_of, IsWatchPage, HasWritten, summary_of}
 use Rattle.watch_run.specs.declared.last.Last.{Last}
 use Rattle.watch_run.specs.Agreeing.{IsToldBy, IsSeenIn}
 use Rattle.watch_run.specs.Stages.{Entries, Owner, IsUnopened, IsWatched, LeavesWatch}
+use Rattle.watch_run.specs.Stops.{Stops}
 
 -- ---- the last version
 -- The version was the recent one in a history between the first and the last of these, and this is its size in the last.
@@ -38,12 +39,13 @@ pub record HasWrittenAll (plan : WatchPlan) (seen : Entries) (owner : Owner) : T
   pub same : events_by 2 (events seen) ≡ events_by 2 (events owner.seen)
   pub begins : Begins seen owner.seen
 
--- why a watch ended early, where pages have p bytes
+-- why a watch ended early
 pub data EndsBy (plan : WatchPlan) (f : DeskFixed) (owner : Owner) (fault : Fault) : Type 0 where
-  outside : IsOutside AnyPage fault → EndsBy plan f owner fault
+  outside : IsOutside NoPage fault → EndsBy plan f owner fault
   unopened : IsUnopened fault owner → EndsBy plan f owner fault
-  writer : (first : Entries) → IsWatched plan first owner → (p op : ℕ) (seen : Entries) (later : List Event) → Begins seen owner.seen
-      → UpdateHindered greatest p 2 1 Append (piece_of plan op) (events first ++ later) (events seen) fault → EndsBy plan f owner fault
+  stops : (first : Entries) → IsWatched plan first owner → Stops f owner.seen fault → EndsBy plan f owner fault
+  writer : (first : Entries) → IsWatched plan first owner → (op : ℕ) (seen : Entries) (later : List Event) → Begins seen owner.seen
+      → UpdateHindered greatest f.page_size 2 1 Append (piece_of plan op) (events first ++ later) (events seen) fault → EndsBy plan f owner fault
   missing : (first : Entries) → IsWatched plan first owner → (seen : Entries) → Begins first seen → Begins seen owner.seen
       → blob_at (store_of greatest (events seen)) 1 ≡ None → EndsBy plan f owner fault
   too_long : (first old new : Entries) → IsWatched plan first owner → HasWrittenAll plan old owner → Begins new owner.seen → (version size : ℕ) → IsSeenLast f old new version size
@@ -69,7 +71,7 @@ pub record HasFinished (f : DeskFixed) (readers : ℕ) (old new : Owner) (summar
 
 -- why they didn't come to it
 pub data FinishHindered (f : DeskFixed) (old new : Owner) (fault : Fault) : Type 0 where
-  outside : IsOutside AnyPage fault → FinishHindered f old new fault
+  stops : LeavesWatch old new → Stops f new.seen fault → FinishHindered f old new fault
   missing : LeavesWatch old new → (seen : Entries) → Begins old.seen seen → Begins seen new.seen → blob_at (store_of greatest (events seen)) 1 ≡ None → FinishHindered f old new fault
   too_long : LeavesWatch old new → (seen : Entries) → Begins seen new.seen → (version size : ℕ) → IsSeenLast f old.seen seen version size → max_read < size → FinishHindered f old new fault
 
@@ -84,6 +86,7 @@ WatchEnds plan f (Ok summary) owner =
 WatchEnds plan f (Err fault) owner = EndsBy plan f owner fault
 
 -- ---- once it is closed
-abbrev pub TellsWatch : WatchPlan → Result WatchSummary Fault → Type 0
-TellsWatch plan (Ok summary) = summary ≡ summary_of plan
-TellsWatch plan (Err fault) = IsOutside AnyPage fault
+-- a page has p bytes
+abbrev pub TellsWatch : WatchPlan → ℕ → Result WatchSummary Fault → Type 0
+TellsWatch plan p (Ok summary) = summary ≡ summary_of plan
+TellsWatch plan p (Err fault) = IsOutside (IsWatchPage plan p) fault

@@ -1,5 +1,5 @@
 -- What the last session of a watch reads.
-use Rattle.std.specs.Prelude.{◌≡◌, ◌⊎◌, ℕ, ◌<◌, ◌≤◌, List, length, Some, None, Result, Ok, Err}
+use Rattle.std.specs.Prelude.{◌≡◌, ◌⊎◌, ℕ, ◌*◌, ◌<◌, ◌≤◌, List, length, Some, None, Result, Ok, Err}
 use Rattle.blob_model.specs.Content.{Update, content, size_of}
 use Rattle.blob_model.specs.Limits.{greatest}
 use Rattle.blob_model.specs.Store.{blob_at}
@@ -13,16 +13,17 @@ use Rattle.read_board.specs.declared.refresh.Refresh.{Refresh}
 use Rattle.read_board.specs.Keeping.{KeeperState}
 use Rattle.read_board.specs.Refreshes.{version_of, on_board}
 use Rattle.read_board.specs.Refreshing.{Holds, IsRecent}
-use Rattle.workload_law.specs.Ends.{IsOutside, AnyPage}
+use Rattle.workload_law.specs.Ends.{IsOutside}
+use Rattle.watch_run.specs.Stops.{IsPageSeen}
 
 -- blob 1's updates, in what the session has seen
 abbrev pub updates_seen : {D : Type 0} → SessionState D → List Update
 updates_seen s = updates_in (desk_at s.store.fixed s.log) 1
 
--- a version of these updates was read whole, or it is too long for a read, or the outside failed
-abbrev pub WholeRead : List Update → ℕ → Result (List ℕ) Fault → Type 0
-WholeRead us version (Ok bytes) = (bytes ≡ content us version) × (length bytes ≤ max_read)
-WholeRead us version (Err fault) = IsOutside AnyPage fault ⊎ (max_read < size_of us version)
+-- A version of these updates was read whole, or it is too long for a read, or the outside failed. A page has p bytes, and one that is lost begins within the version.
+abbrev pub WholeRead : ℕ → List Update → ℕ → Result (List ℕ) Fault → Type 0
+WholeRead p us version (Ok bytes) = (bytes ≡ content us version) × (length bytes ≤ max_read)
+WholeRead p us version (Err fault) = IsOutside (λ page. p * page < size_of us version) fault ⊎ (max_read < size_of us version)
 
 -- The last refresh of the keeper is of that version and published, its session has seen the version's updates, and these are its bytes.
 pub record IsLast {D : Type 0} (k : KeeperState) (s s' : SessionState D) (version : ℕ) (bytes : List ℕ) : Type 0 where
@@ -38,6 +39,6 @@ pub record IsLast {D : Type 0} (k : KeeperState) (s s' : SessionState D) (versio
 
 -- why nothing was read: by the outside; or the blob isn't there; or its last version is too long for a read
 pub data LastHindered {D : Type 0} (s s' : SessionState D) (fault : Fault) : Type 0 where
-  outside : IsOutside AnyPage fault → LastHindered s s' fault
+  outside : IsOutside (IsPageSeen s'.store.fixed s'.log) fault → LastHindered s s' fault
   missing : blob_at (store_of greatest (events s'.log)) 1 ≡ None → LastHindered s s' fault
   too_long : (version : ℕ) → IsRecent s s' 1 version → max_read < size_of (updates_seen s') version → LastHindered s s' fault

@@ -2,6 +2,7 @@ pub mod Idling
 pub mod Doors
 pub mod Writing
 pub mod Keeping
+pub mod Stops
 pub mod Readers
 pub mod Stages
 pub mod Crews

@@ -10,7 +10,7 @@ use Rattle.version_manager.specs.declared.journal.DeskFixed.{DeskFixed}
 use Rattle.version_manager.specs.Log.{events}
 use Rattle.request_form.specs.declared.form.Fault.{Fault}
 use Rattle.client_session.specs.Sessions.{StoreState, SessionState}
-use Rattle.workload_law.specs.Ends.{IsOutside, AnyPage, CreateHindered}
+use Rattle.workload_law.specs.Ends.{IsOutside, NoPage, CreateHindered}
 use Rattle.workload_law.specs.Sessions.{FinishesItsOwn}
 use Rattle.watch_law.specs.declared.plan.WatchPlan.{WatchPlan}
 use Rattle.watch_law.specs.Watch.{HasBegun}
@@ -49,7 +49,7 @@ pub record IsUnopened (fault : Fault) (owner : Owner) : Type 0 where
 -- how the opening ended; where memory was wanting for its session no pass may be made
 abbrev pub OpensAs : {A : Type 0} → Result A Fault → Owner → Type 0
 OpensAs (Ok done) owner = IsOpened owner
-OpensAs (Err fault) owner = (owner.out ≡ 0) × (IsOutside AnyPage fault ⊎ IsUnopened fault owner)
+OpensAs (Err fault) owner = (owner.out ≡ 0) × (IsOutside NoPage fault ⊎ IsUnopened fault owner)
 
 -- ---- once the writer's pass came back
 

@@ -1,9 +1,9 @@
 // What ends a watch: each reader reads what the last session read.
 ghost use Rattle.std.specs.Prelude.{◌≡◌, ◌<◌, true, IfOk, IfErr, sum_by};
 ghost use Rattle.faults.specs.Counts.{RoseBy};
-ghost use Rattle.workload_law.specs.Ends.{IsOutside, AnyPage};
+ghost use Rattle.workload_law.specs.Ends.{IsOutside};
 ghost use Rattle.update_work.specs.Updates.{told_faults};
-ghost use Rattle.watch_run.specs.Agreeing.{IsToldBy, IsSeenBy};
+ghost use Rattle.watch_run.specs.Agreeing.{IsPageOfLast, IsToldBy, IsSeenBy};
 ghost use Rattle.watch_run.specs.Idling.{Idles};
 ghost use Rattle.watch_run.specs.Readers.{HasRead};
 
@@ -34,7 +34,7 @@ pub(crate) fn compare_by_place<R: Wait, D: Door, G: Gate, L: Ledger>(
     requires place { reader.old.has_place ≡ true }
     requires told { IsToldBy note.list last.now }
     ensures agrees { IfOk result (λ same. same ≡ true) }
-    ensures stop { IfErr result (IsOutside AnyPage) }
+    ensures stop { IfErr result (IsOutside (IsPageOfLast reader.old.session.store.fixed.page_size last.now)) }
     ensures read { HasRead D.faults (told_faults result) reader.old reader.new }
 {
     sessions_own();
@@ -60,7 +60,7 @@ pub(crate) fn compare_by_turn<R: Wait, D: Door, G: Gate, L: Ledger>(
     requires some { 0 < blank.parts }
     requires seen { IsSeenBy session.old last.now }
     ensures agrees { IfOk result (λ same. same ≡ true) }
-    ensures stop { IfErr result (IsOutside AnyPage) }
+    ensures stop { IfErr result (IsOutside (IsPageOfLast session.old.store.fixed.page_size last.now)) }
     ensures idles { Idles session.old session.new }
     ensures rose { RoseBy (told_faults result) (sum_by D.faults session.old.doors) (sum_by D.faults session.new.doors) }
 {

@@ -39,7 +39,7 @@ fn watchers_of<'a, M: DoorMaker, G: Gate>(
     requires few { (count ≤ 16) × (count ≤ stand.old.left) }
     requires store { stand.old.board.store ≡ shared.now ∷ [] }
     requires true_doors { M.is_true maker.old }
-    ensures ready { IfOk result (λ watchers. All (IsReadyToWatch M.Door.faults shared.now stand.old.board) watchers.items) }
+    ensures ready { IfOk result (λ watchers. All (IsReadyToWatch M.Door.faults shared.now owner.new.seen stand.old.board) watchers.items) }
     ensures count { IfOk result (λ watchers. vec_len watchers ≡ count) }
     ensures given { OnOk result (owner.new ≡ record owner.old { made = owner.old.made + count; out = owner.old.out + count }) }
     ensures none_out { OnErr result (owner.new.out ≡ owner.old.out) }
@@ -87,7 +87,7 @@ pub(crate) fn crew_of<'a, M: DoorMaker, G: Gate>(
     requires true_doors { M.is_true maker.old }
     ensures writer { IfOk result (λ crew. IsNewSession M.Door.faults shared.now owner.old crew.writer) }
     ensures keeping { IfOk result (λ crew. IsNewSession M.Door.faults shared.now (record owner.old { made = owner.old.made + 1; out = owner.old.out + 1 }) crew.keeping) }
-    ensures ready { IfOk result (λ crew. All (IsReadyToWatch M.Door.faults shared.now stand.old.board) crew.watchers.items) }
+    ensures ready { IfOk result (λ crew. All (IsReadyToWatch M.Door.faults shared.now owner.new.seen stand.old.board) crew.watchers.items) }
     ensures count { IfOk result (λ crew. vec_len crew.watchers ≡ readers) }
     ensures given { OnOk result (owner.new ≡ record owner.old { made = owner.old.made + 2 + readers; out = owner.old.out + 2 + readers }) }
     ensures none_out { OnErr result (owner.new.out ≡ owner.old.out) }

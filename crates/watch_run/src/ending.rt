@@ -2,19 +2,18 @@
 ghost use Rattle.std.specs.Prelude.{◌≡◌, ◌≤◌, ◌<◌, ◌+◌, ◌-◌, ◌*◌, ◌^◌, ◌↔◌, ℕ, true, IfOk, IfErr, IfSome, vec_len, All};
 ghost use Rattle.client_session.specs.Sessions.{IsOwnerOf};
 ghost use Rattle.page_store.specs.Calls.{Traffic};
-ghost use Rattle.store_sessions.specs.Lent.{LentDoors};
-ghost use Rattle.workload_law.specs.Ends.{IsOutside, AnyPage};
 ghost use Rattle.update_work.specs.Updates.{told_faults};
 ghost use Rattle.watch_run.specs.Stages.{IsIdle, LeavesWatch};
-ghost use Rattle.watch_run.specs.Doors.{EndDoors};
-ghost use Rattle.watch_run.specs.Crews.{IsEndable, IsDoneWatching, stop_faults};
+ghost use Rattle.update_work.specs.Left.{left_faults};
+ghost use Rattle.watch_run.specs.Crews.{IsEndable, IsDoneWatching};
 ghost use Rattle.watch_run.specs.Agreeing.{IsToldBy, IsSeenIn};
+ghost use Rattle.watch_run.specs.Stops.{Stops};
 
 use crate::agreeing::{compare_by_place, compare_by_turn};
 use crate::last::Last;
 use crate::making::end_idle;
 use crate::reading::Watcher;
-use client_session::{Owner, Shared};
+use client_session::{Owner, Session, Shared};
 use page_store::DoorMaker;
 use ports::gate::Gate;
 use read_board::{Keeper, StandingReader};
@@ -23,7 +22,8 @@ use std::alloc::Global;
 use std::marker::Brand;
 use std::sync::Wait;
 use std::sync::ledger::Blank;
-use store_sessions::open_session;
+use store_sessions::renew_session;
+use workload_law::laws::loads_close;
 
 /// Ends all readers, whose passes and doors go back, and answers the fault of the lowest that didn't come to its end.
 pub(crate) fn end_watchers<M: DoorMaker, G: Gate>(
@@ -33,12 +33,12 @@ pub(crate) fn end_watchers<M: DoorMaker, G: Gate>(
     mut watchers: Vec<Watcher<'_, M::Door, G>>,
 ) -> Option<Fault>
     requires owner { IsOwnerOf shared.now owner.old }
-    requires endable { All (IsEndable M.Door.faults shared.now) watchers.items }
-    ensures stop { IfSome result (IsOutside AnyPage) }
+    requires endable { All (IsEndable M.Door.faults shared.now owner.old.seen) watchers.items }
+    ensures stop { IfSome result (Stops shared.now.fixed owner.new.seen) }
     ensures leaves { LeavesWatch owner.old owner.new }
     ensures out { owner.old.out ≡ owner.new.out + vec_len watchers.entry }
     ensures owner { IsOwnerOf shared.now owner.new }
-    ensures doors { M.faults maker.new < 2 ^ 64 - 1 → M.faults maker.old + stop_faults result ≤ M.faults maker.new }
+    ensures doors { M.faults maker.new < 2 ^ 64 - 1 → M.faults maker.old + left_faults result ≤ M.faults maker.new }
     ensures taken_back { Traffic M.hands_out M.takes_back 0 (vec_len watchers.entry * shared.now.providers) maker.old maker.new }
     ensures truth_stays { M.is_true maker.old ↔ M.is_true maker.new }
     ensures plan_stays { (n : ℕ) (door : _) → M.makes maker.old n door ↔ M.makes maker.new n door }
@@ -70,8 +70,9 @@ fn agree_by_place<R: Wait, W: Wait + Drop, M: DoorMaker, G: Gate>(
     requires board { reader.board ≡ keeper.now.board }
     requires place { reader.has_place ≡ true }
     requires told { IsToldBy keeper.now.shown last.now }
+    requires seen { IsSeenIn shared.now.fixed owner.old.seen last.now }
     ensures agrees { IfOk result (λ same. same ≡ true) }
-    ensures stop { IfErr result (IsOutside AnyPage) }
+    ensures stop { IfErr result (Stops shared.now.fixed owner.new.seen) }
     ensures leaves { LeavesWatch owner.old owner.new }
     ensures out { owner.old.out ≡ owner.new.out + 1 }
     ensures made { owner.new.made ≡ owner.old.made }
@@ -96,7 +97,8 @@ fn agree_by_place<R: Wait, W: Wait + Drop, M: DoorMaker, G: Gate>(
     told
 }
 
-// Whether one more session reads the last version's bytes, in place of a reader that has no place, whose session has ended.
+// Whether one more session reads the last version's bytes, in place of a reader that has no place. It is made of the doors of the reader's
+// session, which ends, and ends then itself.
 fn agree_by_turn<R: Wait, M: DoorMaker, G: Gate>(
     rt: &R,
     alloc: Global,
@@ -105,33 +107,35 @@ fn agree_by_turn<R: Wait, M: DoorMaker, G: Gate>(
     maker: &mut M,
     gate: &G,
     last: &Last,
+    session: Session<'_, M::Door, G>,
 ) -> Result<bool, Fault>
     requires owner { IsOwnerOf shared.now owner.old }
     requires passes_left { (3 ≤ owner.old.made) × (owner.old.made < 1024) }
-    requires true_doors { M.is_true maker.old }
+    requires idle { IsIdle shared.now session }
     requires seen { IsSeenIn shared.now.fixed owner.old.seen last.now }
     ensures agrees { IfOk result (λ same. same ≡ true) }
-    ensures stop { IfErr result (IsOutside AnyPage) }
-    ensures leaves { IfOk result (λ _. LeavesWatch owner.old owner.new) }
-    ensures out { owner.new.out ≡ owner.old.out }
+    ensures stop { IfErr result (Stops shared.now.fixed owner.new.seen) }
+    ensures leaves { LeavesWatch owner.old owner.new }
+    ensures out { owner.old.out ≡ owner.new.out + 1 }
     ensures made { (owner.old.made ≤ owner.new.made) × (owner.new.made ≤ owner.old.made + 1) }
     ensures seen { IsSeenIn shared.now.fixed owner.new.seen last.now }
     ensures owner { IsOwnerOf shared.now owner.new }
     ensures doors { M.faults maker.new < 2 ^ 64 - 1 → M.faults maker.old + told_faults result ≤ M.faults maker.new }
-    ensures lent { LentDoors M.hands_out M.takes_back shared.now.providers maker.old maker.new result }
+    ensures taken_back { Traffic M.hands_out M.takes_back 0 shared.now.providers maker.old maker.new }
     ensures truth_stays { M.is_true maker.old ↔ M.is_true maker.new }
     ensures plan_stays { (n : ℕ) (door : _) → M.makes maker.old n door ↔ M.makes maker.new n door }
 {
     version_manager::laws::entries_are_events();
-    let Ok(mut session) = open_session(alloc, shared, owner, maker, gate) else {
+    loads_close();
+    let Ok(mut next) = renew_session(alloc, shared, owner, maker, gate, session) else {
         return Err(Fault::NoMemory);
     };
-    let told = compare_by_turn::<R, M::Door, G, Brand>(rt, &mut session, last, Blank::new(1));
-    end_idle(shared, owner, maker, session);
+    let told = compare_by_turn::<R, M::Door, G, Brand>(rt, &mut next, last, Blank::new(1));
+    end_idle(shared, owner, maker, next);
     told
 }
 
-// Whether a reader that came to its end reads the last version's bytes, by its place or by one more session. Its session ends.
+// Whether a reader that came to its end reads the last version's bytes, by its place or by one more session of its doors. Its session ends.
 fn agree_one<R: Wait, W: Wait + Drop, M: DoorMaker, G: Gate>(
     rt: &R,
     alloc: Global,
@@ -145,28 +149,27 @@ fn agree_one<R: Wait, W: Wait + Drop, M: DoorMaker, G: Gate>(
 ) -> Result<bool, Fault>
     requires owner { IsOwnerOf shared.now owner.old }
     requires passes_left { (3 ≤ owner.old.made) × (owner.old.made < 1024) }
-    requires true_doors { M.is_true maker.old }
     requires idle { IsIdle shared.now reader.session }
     requires board { reader.board ≡ keeper.now.board }
     requires told { IsToldBy keeper.now.shown last.now }
     requires seen { IsSeenIn shared.now.fixed owner.old.seen last.now }
     ensures agrees { IfOk result (λ same. same ≡ true) }
-    ensures stop { IfErr result (IsOutside AnyPage) }
-    ensures leaves { IfOk result (λ _. LeavesWatch owner.old owner.new) }
+    ensures stop { IfErr result (Stops shared.now.fixed owner.new.seen) }
+    ensures leaves { LeavesWatch owner.old owner.new }
     ensures seen { IsSeenIn shared.now.fixed owner.new.seen last.now }
     ensures out { owner.old.out ≡ owner.new.out + 1 }
     ensures made { (owner.old.made ≤ owner.new.made) × (owner.new.made ≤ owner.old.made + 1) }
     ensures owner { IsOwnerOf shared.now owner.new }
     ensures doors { M.faults maker.new < 2 ^ 64 - 1 → M.faults maker.old + told_faults result ≤ M.faults maker.new }
-    ensures lent { EndDoors M.hands_out M.takes_back shared.now.providers 0 1 1 maker.old maker.new result }
+    ensures taken_back { Traffic M.hands_out M.takes_back 0 shared.now.providers maker.old maker.new }
     ensures truth_stays { M.is_true maker.old ↔ M.is_true maker.new }
     ensures plan_stays { (n : ℕ) (door : _) → M.makes maker.old n door ↔ M.makes maker.new n door }
 {
     if reader.has_place() {
         return agree_by_place(rt, shared, owner, maker, keeper, last, reader);
     }
-    end_idle(shared, owner, maker, reader.into_session());
-    agree_by_turn(rt, alloc, shared, owner, maker, gate, last)
+    let session = reader.into_session();
+    agree_by_turn(rt, alloc, shared, owner, maker, gate, last, session)
 }
 
 // Whether a reader reads the last version's bytes, or why it didn't come to its end. Its session ends.
@@ -183,19 +186,18 @@ fn agree_with<R: Wait, W: Wait + Drop, M: DoorMaker, G: Gate>(
 ) -> Result<bool, Fault>
     requires owner { IsOwnerOf shared.now owner.old }
     requires passes_left { (3 ≤ owner.old.made) × (owner.old.made < 1024) }
-    requires true_doors { M.is_true maker.old }
-    requires done { IsDoneWatching M.Door.faults shared.now keeper.now.board watcher }
+    requires done { IsDoneWatching M.Door.faults shared.now owner.old.seen keeper.now.board watcher }
     requires told { IsToldBy keeper.now.shown last.now }
     requires seen { IsSeenIn shared.now.fixed owner.old.seen last.now }
     ensures agrees { IfOk result (λ same. same ≡ true) }
-    ensures stop { IfErr result (IsOutside AnyPage) }
-    ensures leaves { IfOk result (λ _. LeavesWatch owner.old owner.new) }
+    ensures stop { IfErr result (Stops shared.now.fixed owner.new.seen) }
+    ensures leaves { LeavesWatch owner.old owner.new }
     ensures seen { IsSeenIn shared.now.fixed owner.new.seen last.now }
     ensures out { owner.old.out ≡ owner.new.out + 1 }
     ensures made { (owner.old.made ≤ owner.new.made) × (owner.new.made ≤ owner.old.made + 1) }
     ensures owner { IsOwnerOf shared.now owner.new }
     ensures doors { M.faults maker.new < 2 ^ 64 - 1 → M.faults maker.old + told_faults result ≤ M.faults maker.new }
-    ensures lent { EndDoors M.hands_out M.takes_back shared.now.providers 0 1 1 maker.old maker.new result }
+    ensures taken_back { Traffic M.hands_out M.takes_back 0 shared.now.providers maker.old maker.new }
     ensures truth_stays { M.is_true maker.old ↔ M.is_true maker.new }
     ensures plan_stays { (n : ℕ) (door : _) → M.makes maker.old n door ↔ M.makes maker.new n door }
 {
@@ -224,17 +226,16 @@ pub(crate) fn agree_all<R: Wait, W: Wait + Drop, M: DoorMaker, G: Gate>(
 ) -> Result<u32, Fault>
     requires owner { IsOwnerOf shared.now owner.old }
     requires passes_left { (3 ≤ owner.old.made) × (owner.old.made + vec_len watchers < 1024) }
-    requires true_doors { M.is_true maker.old }
-    requires done { All (IsDoneWatching M.Door.faults shared.now keeper.now.board) watchers.items }
+    requires done { All (IsDoneWatching M.Door.faults shared.now owner.old.seen keeper.now.board) watchers.items }
     requires told { IsToldBy keeper.now.shown last.now }
     requires seen { IsSeenIn shared.now.fixed owner.old.seen last.now }
     ensures all { IfOk result (λ agree. agree ≡ vec_len watchers.entry) }
-    ensures stop { IfErr result (IsOutside AnyPage) }
-    ensures leaves { IfOk result (λ _. LeavesWatch owner.old owner.new) }
+    ensures stop { IfErr result (Stops shared.now.fixed owner.new.seen) }
+    ensures leaves { LeavesWatch owner.old owner.new }
     ensures out { owner.old.out ≡ owner.new.out + vec_len watchers.entry }
     ensures owner { IsOwnerOf shared.now owner.new }
     ensures doors { M.faults maker.new < 2 ^ 64 - 1 → M.faults maker.old + told_faults result ≤ M.faults maker.new }
-    ensures lent { EndDoors M.hands_out M.takes_back shared.now.providers 0 (vec_len watchers.entry) (vec_len watchers.entry) maker.old maker.new result }
+    ensures taken_back { Traffic M.hands_out M.takes_back 0 (vec_len watchers.entry * shared.now.providers) maker.old maker.new }
     ensures truth_stays { M.is_true maker.old ↔ M.is_true maker.new }
     ensures plan_stays { (n : ℕ) (door : _) → M.makes maker.old n door ↔ M.makes maker.new n door }
 {

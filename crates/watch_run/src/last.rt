@@ -43,7 +43,7 @@ fn read_version<R: Wait, D: Door, G: Gate, L: Ledger>(
     requires parts { blank.parts ≡ L.parts }
     requires some { 0 < blank.parts }
     requires published { IsPublishedIn (store_of session.old.store.fixed.limits (events session.old.log)) 1 version }
-    ensures reads { WholeRead (updates_seen session.new) version result }
+    ensures reads { WholeRead session.new.store.fixed.page_size (updates_seen session.new) version result }
     ensures one_turn { session.new.turns ≡ session.old.turns + 1 }
     ensures idles { Idles session.old session.new }
     ensures rose { RoseBy (told_faults result) (sum_by D.faults session.old.doors) (sum_by D.faults session.new.doors) }

@@ -9,6 +9,7 @@ mod ending;
 mod keeping;
 mod last;
 mod making;
+mod meeting;
 mod reading;
 mod watching;
 mod writing;

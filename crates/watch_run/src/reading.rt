@@ -1,9 +1,9 @@
 // The work of a watch's readers.
-ghost use Rattle.std.specs.Prelude.{◌≡◌, ◌≤◌, ◌<◌, ◌+◌, ◌^◌, IfErr, sum_by};
-ghost use Rattle.workload_law.specs.Ends.{IsOutside, AnyPage};
+ghost use Rattle.std.specs.Prelude.{◌≡◌, ◌≢◌, ◌≤◌, ◌<◌, ◌+◌, ◌^◌, ℕ, IfErr, OnOk, sum_by};
+ghost use Rattle.request_form.specs.declared.form.Fault.TheVariants.{NotPublished};
 ghost use Rattle.update_work.specs.Updates.{told_faults};
 ghost use Rattle.request_form.specs.Replies.{page_faults};
-ghost use Rattle.watch_run.specs.Readers.{HasRead, HasWatched, HaveWatched};
+ghost use Rattle.watch_run.specs.Readers.{ReadHindered, HasRead, HasWatched, HaveWatched};
 
 use crate::writing::BLOB;
 use page_store::Door;
@@ -37,15 +37,16 @@ impl<'a, D: Door, G: Gate> Model for Watcher<'a, D, G> {
     ghost view = { λ w. record { reader = w.reader; told = w.told } };
 }
 
-// Why a reader stops: a page was lost, or no memory was found. A version that isn't published yet is passed over; the store
-// refuses nothing else that a reader asks for.
+// A version that isn't published yet is passed over. Whatever else a reader is refused stops it.
 fn stop_of(fault: Fault) -> Result<(), Fault>
-    ensures outside { IfErr result (IsOutside AnyPage) }
+    ensures same { IfErr result (λ stop. stop ≡ fault) }
+    ensures other { IfErr result (λ stop. (version last : ℕ) → stop ≢ NotPublished version last) }
+    ensures passes { OnOk result ((version : ℕ) × ((last : ℕ) × (fault ≡ NotPublished version last))) }
     ensures faults { told_faults result ≡ page_faults fault }
 {
     match fault {
-        Fault::PageFault { .. } | Fault::NoMemory => Err(fault),
-        _ => Ok(()),
+        Fault::NotPublished { .. } => Ok(()),
+        _ => Err(fault),
     }
 }
 
@@ -61,7 +62,7 @@ fn read_uncounted<R: Wait, D: Door, G: Gate, L: Ledger>(
     requires some { 0 < blank.parts }
     requires few { op < 2 ^ 32 }
     ensures read { HasRead D.faults (told_faults result) reader.old reader.new }
-    ensures stop { IfErr result (IsOutside AnyPage) }
+    ensures stop { IfErr result (ReadHindered reader.new) }
 {
     sessions_own();
     let mut steps = Steps::<L>::open(blank);
@@ -78,7 +79,7 @@ fn read_versions<R: Wait, D: Door, G: Gate>(
     plan: &WatchPlan,
 ) -> Result<(), Fault>
     ensures read { HasRead D.faults (told_faults result) reader.old reader.new }
-    ensures stop { IfErr result (IsOutside AnyPage) }
+    ensures stop { IfErr result (ReadHindered reader.new) }
 {
     'reads: for op in 0..plan.ops {
         match read_uncounted::<R, D, G, Brand>(rt, reader, op as u64, Blank::new(1)) {

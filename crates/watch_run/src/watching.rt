@@ -3,16 +3,15 @@ ghost use Rattle.std.specs.Prelude.{◌≡◌, ◌≤◌, ◌<◌, ◌+◌, ◌-
 ghost use Rattle.blob_model.specs.Limits.{greatest};
 ghost use Rattle.client_session.specs.Sessions.{IsOwnerOf};
 ghost use Rattle.version_manager.specs.Log.{IsHistory, fixed_of};
-ghost use Rattle.watch_law.specs.Watch.{IsSized, IsWatch, summary_of};
+ghost use Rattle.watch_law.specs.Watch.{IsSized, IsWatch, IsWatchPage, summary_of};
 ghost use Rattle.update_work.specs.Updates.{told_faults};
 ghost use Rattle.read_board.specs.Refreshing.{AllHold};
 ghost use Rattle.store_sessions.specs.Made.{IsNewSession};
 ghost use Rattle.store_sessions.specs.Lent.{LentDoors};
-ghost use Rattle.watch_run.specs.Doors.{EndDoors, LentSessions};
-ghost use Rattle.watch_run.specs.Stages.{IsCalled};
+ghost use Rattle.watch_run.specs.Doors.{EndDoors};
+ghost use Rattle.watch_run.specs.Stages.{IsCalled, LeavesWatch};
 ghost use Rattle.watch_run.specs.Crews.{IsReadyToWatch, IsDoneWatching};
 ghost use Rattle.watch_run.specs.Ending.{HasReadBack, FinishHindered, Finishes, WatchEnds};
-ghost use Rattle.workload_law.specs.Ends.{AnyPage};
 ghost use Rattle.update_work.specs.Ending.{EndsEarly};
 
 use crate::beside::work_beside;
@@ -20,12 +19,13 @@ use crate::crew::{Crew, crew_of};
 use crate::ending::{agree_all, end_watchers};
 use crate::last::{Last, read_last};
 use crate::making::{end_idle, open_store};
+use crate::meeting::meet_all;
 use crate::reading::Watcher;
 use client_session::{Owner, Shared};
 use page_fan::BesideDoor;
 use page_store::DoorMaker;
 use ports::gate::Gate;
-use read_board::laws::refreshes_stay;
+use read_board::laws::{board_reads_tell, refreshes_stay};
 use read_board::{Board, Keeper};
 use request_form::{Fault, NoMemory};
 use std::alloc::Global;
@@ -35,7 +35,7 @@ use store_sessions::{end_session, open_session};
 pub use update_work::EarlyEnd as WatchFault;
 use update_work::early_end;
 use version_manager::Desk;
-use watch_law::laws::{watches_are_done, watches_close};
+use watch_law::laws::{pieces_are_told, watches_are_done, watches_close};
 use watch_law::{WatchPlan, WatchSummary};
 use workload_law::laws::loads_close;
 
@@ -60,6 +60,7 @@ where
     requires true_doors { M.is_true doors.old }
     ensures read { IfOk result (HasReadBack shared.now.fixed keeper.new.shown owner.old owner.new) }
     ensures hindered { IfErr result (FinishHindered shared.now.fixed owner.old owner.new) }
+    ensures leaves { LeavesWatch owner.old owner.new }
     ensures board { keeper.new.board ≡ keeper.old.board }
     ensures out { owner.new.out ≡ owner.old.out }
     ensures made { (owner.old.made ≤ owner.new.made) × (owner.new.made ≤ owner.old.made + 1) }
@@ -98,12 +99,12 @@ where
     requires of_one { All (λ r. r.blob ≡ 1) keeper.all }
     requires passes_left { (3 ≤ owner.old.made) × (owner.old.made + vec_len watchers < 1000) }
     requires true_doors { M.is_true doors.old }
-    requires done { All (IsDoneWatching M.Door.faults shared.now keeper.board) watchers.items }
+    requires done { All (IsDoneWatching M.Door.faults shared.now owner.old.seen keeper.board) watchers.items }
     ensures finishes { Finishes shared.now.fixed (vec_len watchers.entry) result owner.old owner.new }
     ensures out { owner.old.out ≡ owner.new.out + vec_len watchers.entry }
     ensures owner { IsOwnerOf shared.now owner.new }
     ensures doors { M.faults doors.new < 2 ^ 64 - 1 → M.faults doors.old + told_faults result ≤ M.faults doors.new }
-    ensures lent { EndDoors M.hands_out M.takes_back shared.now.providers 1 (1 + vec_len watchers.entry) (vec_len watchers.entry) doors.old doors.new result }
+    ensures lent { EndDoors M.hands_out M.takes_back shared.now.providers (vec_len watchers.entry) doors.old doors.new result }
     ensures truth_stays { M.is_true doors.old ↔ M.is_true doors.new }
     ensures plan_stays { (n : ℕ) (door : _) → M.makes doors.old n door ↔ M.makes doors.new n door }
 {
@@ -149,26 +150,28 @@ where
     requires board { (keeper.board.store ≡ shared.now ∷ []) × (keeper.all ≡ []) }
     requires writer { IsNewSession M.Door.faults shared.now (record owner.old { made = 1 }) crew.writer }
     requires keeping { IsNewSession M.Door.faults shared.now (record owner.old { made = 2 }) crew.keeping }
-    requires ready { All (IsReadyToWatch M.Door.faults shared.now keeper.board) crew.watchers.items }
+    requires ready { All (IsReadyToWatch M.Door.faults shared.now owner.old.seen keeper.board) crew.watchers.items }
     requires count { vec_len crew.watchers ≡ plan.now.readers }
     requires true_doors { M.is_true doors.old }
     ensures ends { WatchEnds plan.now shared.now.fixed result owner.new }
     ensures none_out { owner.new.out ≡ 0 }
     ensures owner { IsOwnerOf shared.now owner.new }
     ensures doors { M.faults doors.new < 2 ^ 64 - 1 → M.faults doors.old + told_faults result ≤ M.faults doors.new }
-    ensures lent { EndDoors M.hands_out M.takes_back shared.now.providers 1 (1 + plan.now.readers) (2 + plan.now.readers) doors.old doors.new result }
+    ensures lent { EndDoors M.hands_out M.takes_back shared.now.providers (2 + plan.now.readers) doors.old doors.new result }
     ensures truth_stays { M.is_true doors.old ↔ M.is_true doors.new }
     ensures plan_stays { (n : ℕ) (door : _) → M.makes doors.old n door ↔ M.makes doors.new n door }
 {
     version_manager::laws::entries_are_events();
     loads_close();
     refreshes_stay();
-    let (keeper, crew, written, kept) = work_beside(rt, plan, keeper, crew);
+    board_reads_tell();
+    let (mut keeper, crew, written, kept) = work_beside(rt, plan, keeper, crew);
     let Crew {
         writer,
         keeping,
         watchers,
     } = crew;
+    meet_all(&mut keeper, watchers.as_slice());
     end_session(shared, owner, doors, writer);
     end_idle(shared, owner, doors, keeping);
     match written.and(kept) {
@@ -204,7 +207,7 @@ where
     ensures none_out { owner.new.out ≡ 0 }
     ensures owner { IsOwnerOf shared.now owner.new }
     ensures doors { M.faults doors.new < 2 ^ 64 - 1 → M.faults doors.old + told_faults result ≤ M.faults doors.new }
-    ensures lent { LentSessions M.hands_out M.takes_back shared.now.providers (4 + plan.now.readers) (4 + 2 * plan.now.readers) doors.old doors.new result }
+    ensures lent { LentDoors M.hands_out M.takes_back ((4 + plan.now.readers) * shared.now.providers) doors.old doors.new result }
     ensures truth_stays { M.is_true doors.old ↔ M.is_true doors.new }
     ensures plan_stays { (n : ℕ) (door : _) → M.makes doors.old n door ↔ M.makes doors.new n door }
 {
@@ -226,12 +229,12 @@ where
 /// in a thread of its own where one can be made; one after another where none can. The writer does an update again that is refused as
 /// too many wait, and finishes one that is held back; a reader passes over versions that aren't published yet. Who is refused otherwise,
 /// or finds no memory, or loses a page, stops, and the others go on to their ends. Then one more session refreshes the blob and reads it
-/// whole, and each reader learns what the keeper published and reads the same; a reader without a place does so by a new session.
+/// whole, and each reader learns what the keeper published and reads the same; a reader without a place does so by a new session of its doors.
 ///
 /// It answers the last version with its size, and how many readers read the same bytes, which is the plan's summary at every schedule,
 /// and the desk of the closed store, whose history is a watch's. Where the opening, the writer, the keeper, a reader or the last session
-/// didn't come to its end it answers why, of the lowest such caller: a page was lost, and then the count of `doors` rose, or no memory was found. When it
-/// answers, all passes and all doors have gone back. The gate is called between the acts of updates.
+/// didn't come to its end it answers why, of the lowest such caller: a page was lost that begins within what the writer appends, and then the count of
+/// `doors` rose, or no memory was found. When it answers, all passes and all doors have gone back. The gate is called between the acts of updates.
 pub fn watch<R: Threads + Wait + Sync, M: DoorMaker, G: Gate + Sync>(
     rt: &R,
     alloc: Global,
@@ -259,17 +262,18 @@ where
     ensures fixed { IfOk result (λ r. fixed_of r.1 ≡ shared.fixed) }
 
     // Why it ended early.
-    ensures early { IfErr result (λ fault. EndsEarly AnyPage fault (M.faults doors.old) (M.faults doors.new)) }
+    ensures early { IfErr result (λ fault. EndsEarly (IsWatchPage plan shared.fixed.page_size) fault (M.faults doors.old) (M.faults doors.new)) }
 
-    // The first session, the writer's, the keeper's, those of the readers and the last one had a door to each provider, and one more session for
-    // each reader without a place. All doors came back. What they counted went to the maker, which makes the doors that it made before.
-    ensures lent { LentSessions M.hands_out M.takes_back shared.providers (4 + plan.readers) (4 + 2 * plan.readers) doors.old doors.new result }
+    // The first session, the writer's, the keeper's, those of the readers and the last one had a door to each provider, and no door was made beside
+    // these. All came back. What they counted went to the maker, which makes the doors that it made before.
+    ensures lent { LentDoors M.hands_out M.takes_back ((4 + plan.readers) * shared.providers) doors.old doors.new result }
     ensures doors { M.faults doors.new < 2 ^ 64 - 1 → M.faults doors.old ≤ M.faults doors.new }
     ensures truth_stays { M.is_true doors.old ↔ M.is_true doors.new }
     ensures plan_stays { (n : ℕ) (door : _) → M.makes doors.old n door ↔ M.makes doors.new n door }
 {
     watches_close();
     watches_are_done();
+    pieces_are_told();
     version_manager::laws::entries_are_events();
     let mut owner = owner;
     let told = run_watch(rt, alloc, &shared, &mut owner, doors, gate, &plan);

@@ -41,7 +41,7 @@ pub(crate) fn write_all<R: Threads + Wait + Sync, D: BesideDoor, G: Gate>(
         let piece = plan.piece(op as u64);
         match update(rt, session, BLOB, Place::Append, &piece) {
             Ok(()) => {}
-            Err(fault) => return Err(fault),
+            Err(stopped) => return Err(stopped.fault),
         }
     }
     Ok(())

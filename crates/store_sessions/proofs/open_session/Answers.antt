@@ -1,7 +1,7 @@
-use Rattle.std.proofs.Common.{◌≡◌, ℕ, List, [], length, ◌∙◌, ap, subst, sym, sum_by, arith}
+use Rattle.std.proofs.Common.{◌≡◌, ℕ, List, [], length, ◌∙◌, ap, subst, sym, sum_by, arith, Contains}
 use Rattle.blob_model.specs.declared.call.Event.{Event}
 use Rattle.turn_lock.specs.History.{entries_by}
-use Rattle.turn_lock.specs.Shown.{PassView}
+use Rattle.turn_lock.specs.Shown.{OwnerView, PassView}
 use Rattle.version_manager.specs.declared.journal.DeskFixed.{DeskFixed}
 use Rattle.client_session.specs.Sessions.{SessionState}
 use Rattle.page_store.specs.Calls.{Traffic}
@@ -28,6 +28,10 @@ returns-in-Ok-new-clause-session g c =
       limit = ap (λ (s : SessionState _). s.limit) is;
       no_fault = ap (λ (s : SessionState _). sum_by faults s.doors) is ∙ fresh_doors faults c.in-Ok.doors c.in-Ok.ensures.fresh;
     }
+
+pub returns-in-Ok-new-clause-keeps : goal.returns-in-Ok-new-clause-keeps
+returns-in-Ok-new-clause-keeps g c k there =
+    subst (λ (l : List ℕ). Contains l k) (sym (ap (λ (o : OwnerView Event DeskFixed). o.kept) c.in-Ok-pass.ensures.counts)) there
 
 pub returns-in-Ok-new-clause-handed_out : goal.returns-in-Ok-new-clause-handed_out
 returns-in-Ok-new-clause-handed_out g c =

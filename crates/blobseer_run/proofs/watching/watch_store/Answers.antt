@@ -1,4 +1,4 @@
-use Rattle.std.proofs.Common.{ℕ, List, refl, ap}
+use Rattle.std.proofs.Common.{ℕ, List, ◌+◌, ◌*◌, refl, ◌∙◌, ap}
 use Rattle.blob_model.specs.Limits.{greatest}
 use Rattle.blob_model.specs.declared.call.Event.{Event}
 use Rattle.version_manager.specs.Log.{IsHistory}
@@ -8,7 +8,7 @@ use Rattle.watch_law.specs.Watch.{IsWatch}
 use Rattle.watch_law.specs.declared.plan.WatchPlan.{WatchPlan}
 use Rattle.blobseer_run.specs.Watching.{plan_of, CameToWatch, DidWatch}
 use Rattle.blobseer_run.proofs.Early.{ended_so}
-use Rattle.blobseer_run.proofs.Lendings.{watched, watched_early, ended_early}
+use Rattle.blobseer_run.proofs.Lendings.{all_sessions, ended_early}
 use Rattle.blobseer_run.proofs.Measures.{whole_there, ended_there, at_plan}
 use Rattle.blobseer_run.proofs.watching.watch_store.Goals as goal
 
@@ -30,9 +30,10 @@ returns-in-Err-clause-did g c =
 
 pub returns-in-Ok-clause-lent : goal.returns-in-Ok-clause-lent
 returns-in-Ok-clause-lent g c =
-    watched g.M.DoorMaker.hands_out g.M.DoorMaker.takes_back _ _ _ _ _ _ _ (ap (λ (s : SettingsValues). s.readers) c.settings.view_is) c.requires.store.providers c.in-Ok.ensures.lent
+    let many = ap (λ n. (4 + c.args.settings.now.readers) * n) c.requires.store.providers in
+    let of_settings = ap (λ (s : SettingsValues). (4 + s.readers) * c.args.shared.providers) c.settings.view_is in
+    all_sessions g.M.DoorMaker.hands_out g.M.DoorMaker.takes_back _ _ _ _ _ (of_settings ∙ many) c.in-Ok.ensures.lent
 
 pub returns-in-Err-clause-lent : goal.returns-in-Err-clause-lent
 returns-in-Err-clause-lent g c =
-    let early = ended_so _ c.in-Err.fault _ _ _ c.status_of.ensures c.in-Err.ensures.early in
-    watched_early g.M.DoorMaker.hands_out g.M.DoorMaker.takes_back _ _ _ _ _ (ended_early g.M.DoorMaker.hands_out g.M.DoorMaker.takes_back _ _ _ _ _ _ early c.in-Err.ensures.lent)
+    ended_early g.M.DoorMaker.hands_out g.M.DoorMaker.takes_back _ _ _ _ _ _ (ended_so _ c.in-Err.fault _ _ _ c.status_of.ensures c.in-Err.ensures.early) c.in-Err.ensures.lent

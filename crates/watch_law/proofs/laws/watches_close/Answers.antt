@@ -10,4 +10,4 @@ pub returns-clause-there : goal.returns-clause-there
 returns-clause-there c later legal = (blob_after later, blob_there later legal)
 
 pub returns-clause-writer : goal.returns-clause-writer
-returns-clause-writer c = nothing_else_hinders
+returns-clause-writer c = nothing_else_hinders c.old_versions_stay.ensures

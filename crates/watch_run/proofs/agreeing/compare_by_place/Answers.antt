@@ -6,6 +6,8 @@ use Rattle.request_form.specs.Replies.{page_faults}
 use Rattle.client_session.specs.Sessions.{SessionState}
 use Rattle.read_board.specs.Laws.{Agrees}
 use Rattle.read_board.specs.Reads.{goes_by}
+use Rattle.workload_law.specs.Ends.{IsOutside}
+use Rattle.watch_run.specs.Agreeing.{IsPageOfLast}
 use Rattle.watch_run.specs.Idling.{Idles}
 use Rattle.watch_run.proofs.Idling.{idles_goes}
 use Rattle.watch_run.proofs.Compared.{prefix_both, place_reads, place_stop}
@@ -31,7 +33,8 @@ returns-clause-stop g c =
     let agrees : Agrees t.fixed t.log r.list 1 last.version =
     c.reads_agree.ensures t.fixed t.log c.args.note.list r.list 1 last.version t.refresh (prefix_both c.args.note.list c.learn.new.self.list r.list c.learn.ensures.learnt x.seen) x.rising t.latest t.holds (omega (arith, t.version_is))
     in
-    place_stop t.fixed t.log r.list 1 last.version agrees r.has_place (x.kept.1 ∙ (c.learn.ensures.kept.1 ∙ c.requires.place)) c.learn.new.self.session r.session c.len-count.result last.bytes c.in-Err.fault _ _ x.goes c.len-count.ensures t.is_version.bytes_are t.is_version.few
+    subst (λ (s : SessionState _). IsOutside (IsPageOfLast s.store.fixed.page_size last) c.in-Err.fault) c.learn.ensures.kept.2
+    (place_stop t.fixed t.log r.list 1 last.version agrees r.has_place (x.kept.1 ∙ (c.learn.ensures.kept.1 ∙ c.requires.place)) c.learn.new.self.session r.session c.len-count.result last.bytes c.in-Err.fault _ _ x.goes c.len-count.ensures t.is_version.bytes_are t.is_version.few)
 
 pub returns-in-Ok-clause-read : goal.returns-in-Ok-clause-read
 returns-in-Ok-clause-read g c =

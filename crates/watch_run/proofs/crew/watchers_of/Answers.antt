@@ -1,12 +1,13 @@
 use Rattle.std.proofs.Common.{rules, ◌≡◌, ◌∙◌, ◌*◌, ℕ, vec_len, ap, subst, sym, refl, arith}
 use Rattle.std.proofs.lemmas.Grind.{common_steps}
-use Rattle.std.specs.Prelude.{sum_by}
+use Rattle.std.specs.Prelude.{sum_by, All}
 use Rattle.page_store.specs.Calls.{Traffic, no_door}
 use Rattle.client_session.specs.Sessions.{SessionState}
 use Rattle.read_board.specs.Keeping.{StandState}
 use Rattle.store_sessions.proofs.Traffics.{none_handed, handed_more, came_back_around}
-use Rattle.watch_run.specs.Stages.{Owner, IsIdle}
-use Rattle.watch_run.specs.Crews.{IsReadyToWatch}
+use Rattle.watch_run.specs.Stages.{Entries, Owner, IsIdle}
+use Rattle.watch_run.specs.Crews.{IsEndable, IsReadyToWatch}
+use Rattle.watch_run.proofs.Crews.{all_ready_end}
 use Rattle.watch_run.proofs.Ends.{all_more, kept_both}
 use Rattle.watch_run.proofs.Stages.{new_idle}
 use Rattle.watch_run.proofs.crew.watchers_of.Goals as goal
@@ -25,8 +26,9 @@ makes-preserved g c =
     record {
       few = omega (arith, c.push_reserved.ensures.len, c.makes-test.true);
       room = search rules;
-      ready = all_more (IsReadyToWatch faults c.args.shared.now c.args.stand.now.board) c.makes.watchers.items _ _ c.push_reserved.ensures.items i.ready (record {
+      ready = all_more (IsReadyToWatch faults c.args.shared.now c.args.owner.now.seen c.args.stand.now.board) c.makes.watchers.items _ _ c.push_reserved.ensures.items i.ready (record {
         board_is = r.board ∙ i.stand.0;
+        log = ap (λ (s : SessionState _). s.log) session ∙ (x.session.log ∙ ap (λ (o : Owner). o.seen) i.given);
         idle = subst (λ (s : SessionState _). IsIdle c.args.shared.now s) (sym session) idle;
         no_fault = ap (λ (s : SessionState _). sum_by faults s.doors) session ∙ x.session.no_fault;
         told = refl;
@@ -60,6 +62,18 @@ makes-init g c = record {
   plan_stays = λ n door. (λ h. h, λ h. h);
   truth_stays = (λ t. t, λ t. t);
 }
+
+pub returns-clause-ready : goal.returns-clause-ready
+returns-clause-ready g c =
+    let i = c.makes.invariant in
+    subst (λ (l : Entries). All (IsReadyToWatch g.M.Door.Door.faults c.args.shared.now l c.args.stand.now.board) c.makes.watchers.items) (sym (ap (λ (o : Owner). o.seen) i.given)) i.ready
+
+pub end_watchers-none-requires-clause-endable : goal.end_watchers-none-requires-clause-endable
+end_watchers-none-requires-clause-endable g c =
+    let i = c.makes.invariant in
+    let faults = g.M.Door.Door.faults in
+    let seen = c.open_session.ensures.seen ∙ ap (λ (o : Owner). o.seen) i.given in
+    subst (λ (l : Entries). All (IsEndable faults c.args.shared.now l) c.makes.watchers.items) (sym seen) (all_ready_end faults c.args.shared.now c.args.owner.now.seen c.args.stand.now.board c.makes.watchers.items i.ready)
 
 pub returns-in_default-clause-all_back : goal.returns-in_default-clause-all_back
 returns-in_default-clause-all_back g c = (0, no_door)

@@ -12,7 +12,7 @@ invariant-makes g l =
     record {
       few : vec_len l.watchers ≤ l.count;
       room : l.count ≤ vec_capacity l.watchers;
-      ready : All (IsReadyToWatch g.M.Door.Door.faults l.shared l.fn.stand.board) l.watchers.items;
+      ready : All (IsReadyToWatch g.M.Door.Door.faults l.shared l.fn.owner.seen l.fn.stand.board) l.watchers.items;
       stand : (l.stand.board ≡ l.fn.stand.board) × (l.stand.left + vec_len l.watchers ≡ l.fn.stand.left);
       owner : IsOwnerOf l.shared l.owner;
       given : l.owner ≡ record l.fn.owner { made = l.fn.owner.made + vec_len l.watchers; out = l.fn.owner.out + vec_len l.watchers };

@@ -1,12 +1,15 @@
-use Rattle.std.proofs.Common.{◌+◌, ◌-◌, ◌^◌, ◌≤◌, min, sym, subst, arith}
-use Rattle.std.specs.Prelude.{sum_by}
-use Rattle.client_session.specs.Sessions.{SessionState}
+use Rattle.std.proofs.Common.{◌+◌, ◌-◌, ◌^◌, ◌≤◌, min, refl, sym, subst, arith}
+use Rattle.std.specs.Prelude.{sum_by, IfErr}
+use Rattle.client_session.specs.Sessions.{StoreState, SessionState}
+use Rattle.workload_law.specs.Ends.{IsOutside}
 use Rattle.update_work.specs.Updates.{told_faults}
+use Rattle.watch_run.specs.Agreeing.{IsPageOfLast}
 use Rattle.watch_run.specs.Readers.{HasRead}
 use Rattle.watch_run.specs.Stages.{IsIdle}
-use Rattle.watch_run.proofs.Crews.{idle_on}
+use Rattle.watch_run.proofs.Crews.{idle_on, told_lost}
 use Rattle.watch_run.proofs.Ends.{rose_told}
 use Rattle.watch_run.proofs.ReadOn.{read_none}
+use Rattle.watch_run.proofs.Stops.{stops_of_last}
 use Rattle.watch_run.proofs.ending.agree_by_place.Goals.{in-Ok, in-Err}
 use Rattle.watch_run.proofs.ending.agree_by_place.Goals as goal
 
@@ -20,6 +23,19 @@ end_idle-requires-clause-idle g c =
     ]
     in
     subst (λ (s : SessionState _). IsIdle c.args.shared.now s) (sym c.into_session.ensures) (idle_on c.args.shared.now c.args.reader.session c.match-note.reader.session c.requires.idle read.idles)
+
+pub returns-clause-stop : goal.returns-clause-stop
+returns-clause-stop g c =
+    let f = c.args.shared.now.fixed in
+    let last = c.args.last.now in
+    let of_store = c.requires.idle.of_store in
+    let out : IfErr c.match-note.told (IsOutside (IsPageOfLast f.page_size last)) =
+    elim c.match-note.branch [
+      | in-Ok w ↦ rw w.told-is (subst (λ (t : StoreState). IfErr w.compare_by_place-told.result (IsOutside (IsPageOfLast t.fixed.page_size last))) of_store w.compare_by_place-told.ensures.stop)
+      | in-Err w ↦ rw w.told-is (IsOutside.starved refl)
+    ]
+    in
+    told_lost c.match-note.told (λ fault by. stops_of_last f c.args.owner.now.seen c.end_idle.new.owner.seen last c.requires.seen c.end_idle.ensures.leaves.comes.begins fault by) out
 
 pub returns-clause-doors : goal.returns-clause-doors
 returns-clause-doors g c =

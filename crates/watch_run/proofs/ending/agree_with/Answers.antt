@@ -1,25 +1,28 @@
-use Rattle.std.proofs.Common.{◌∙◌, ◌+◌, ◌-◌, ◌^◌, ◌<◌, ◌≤◌, min, ap, subst, sym, arith}
+use Rattle.std.proofs.Common.{◌⊎◌, ◌∙◌, ◌+◌, ◌-◌, ◌^◌, ◌<◌, ◌≤◌, min, ap, subst, sym, arith}
 use Rattle.std.specs.Prelude.{sum_by, IfErr}
 use Rattle.request_form.specs.Replies.{page_faults}
 use Rattle.client_session.specs.Sessions.{SessionState}
-use Rattle.workload_law.specs.Ends.{IsOutside, AnyPage}
+use Rattle.turn_lock.specs.History.{Begins}
 use Rattle.watch_run.specs.Readers.{WatcherState}
 use Rattle.update_work.specs.Callers.{Told}
 use Rattle.update_work.specs.Updates.{told_faults}
 use Rattle.update_work.proofs.Fresh.{rose_stop}
-use Rattle.watch_run.proofs.Doors.{doors_of, one_ended}
+use Rattle.watch_run.specs.Stops.{Stops}
 use Rattle.watch_run.proofs.Ends.{seen_on}
+use Rattle.watch_run.proofs.Stops.{stops_either}
 use Rattle.watch_run.proofs.ending.agree_with.Goals as goal
 
 pub returns-in-Err-clause-stop : goal.returns-in-Err-clause-stop
 returns-in-Err-clause-stop g c =
-    subst (λ (t : Told). IfErr t (IsOutside AnyPage)) (ap (λ (w : WatcherState _). w.told) (sym c.watcher.view_is) ∙ c.in-Err.is) c.requires.done.endable.stop
-
-pub returns-in-Err-clause-lent : goal.returns-in-Err-clause-lent
-returns-in-Err-clause-lent g c =
-    let m = g.M.DoorMaker in
-    doors_of m.hands_out m.takes_back c.args.shared.now.providers 0 0 1 c.args.maker.now c.end_idle.new.maker
-    (one_ended m.hands_out m.takes_back c.args.shared.now.providers c.args.maker.now c.end_idle.new.maker c.end_idle.ensures.taken_back)
+    let w = c.args.watcher in
+    let f = c.args.shared.now.fixed in
+    let old = c.args.owner.now.seen in
+    let new = c.end_idle.new.owner.seen in
+    let e = c.end_idle.ensures in
+    let told = ap (λ (w : WatcherState _). w.told) (sym c.watcher.view_is) ∙ c.in-Err.is in
+    let session = c.into_session.ensures ∙ ap (λ (w : WatcherState _). w.reader.session) c.watcher.view_is in
+    stops_either f old w.reader.session.log new c.in-Err.fault e.leaves.comes.begins (subst (λ (s : SessionState _). Begins s.log new) session e.begins)
+    (subst (λ (t : Told). IfErr t (λ fault. Stops f old fault ⊎ Stops f w.reader.session.log fault)) told c.requires.done.endable.stop)
 
 pub returns-in-Err-clause-seen : goal.returns-in-Err-clause-seen
 returns-in-Err-clause-seen g c = seen_on c.args.shared.now.fixed c.args.owner.now.seen c.end_idle.new.owner.seen c.args.last.now c.requires.seen c.end_idle.ensures.leaves.comes.begins

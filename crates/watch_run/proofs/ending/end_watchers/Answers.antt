@@ -1,15 +1,19 @@
-use Rattle.std.proofs.Common.{refl, ◌≡◌, ◌∙◌, List, [], ◌∷◌, ◌++◌, ◌+◌, ◌-◌, ◌^◌, ◌<◌, ◌≤◌, min, ap, subst, sym, arith}
+use Rattle.std.proofs.Common.{refl, ◌≡◌, ◌⊎◌, ◌∙◌, List, [], ◌∷◌, ◌++◌, ◌+◌, ◌-◌, ◌^◌, ◌<◌, ◌≤◌, min, ap, subst, sym, arith}
 use Rattle.std.specs.Prelude.{sum_by, All, IfErr}
+use Rattle.turn_lock.specs.History.{Begins}
+use Rattle.turn_lock.proofs.Histories.{begins_both}
 use Rattle.request_form.specs.Replies.{page_faults}
 use Rattle.client_session.specs.Sessions.{SessionState}
-use Rattle.workload_law.specs.Ends.{IsOutside, AnyPage}
 use Rattle.update_work.specs.Updates.{told_faults}
 use Rattle.update_work.proofs.Fresh.{rose_stop}
 use Rattle.watch_run.specs.Readers.{WatcherState}
 use Rattle.update_work.specs.Callers.{Told}
-use Rattle.watch_run.specs.Crews.{IsEndable, stop_faults}
+use Rattle.update_work.specs.Left.{left_faults}
+use Rattle.watch_run.specs.Crews.{IsEndable}
 use Rattle.watch_run.specs.Stages.{IsIdle}
-use Rattle.watch_run.proofs.Ends.{all_front, all_last, rose_on, lower}
+use Rattle.watch_run.specs.Stops.{Stops}
+use Rattle.watch_run.proofs.Ends.{all_front, all_last, rose_on, lower, stop_on}
+use Rattle.watch_run.proofs.Stops.{stops_either}
 use Rattle.watch_run.proofs.Stages.{leaves_both, leaves_given}
 use Rattle.store_sessions.proofs.Traffics.{none_gone, gone_more, all_gone}
 use Rattle.watch_run.proofs.ending.end_watchers.Goals as goal
@@ -23,8 +27,8 @@ loop-watcher-preserved-in-Err g c =
     let store = c.args.shared.now in
     let one : WatcherState _ = record { reader = c.watcher.inside.reader; told = c.watcher.inside.told } in
     let joined : c.loop-watcher.watchers.items ≡ c.pop.new.self.items ++ one ∷ [] = c.in-Some.ensures.items ∙ ap (λ (w : WatcherState _). c.pop.new.self.items ++ w ∷ []) (sym c.watcher.view_is) in
-    let all = subst (λ (l : List (WatcherState _)). All (IsEndable faults store) l) joined i.endable in
-    let last = all_last (IsEndable faults store) c.pop.new.self.items one all in
+    let all = subst (λ (l : List (WatcherState _)). All (IsEndable faults store c.args.owner.now.seen) l) joined i.endable in
+    let last = all_last (IsEndable faults store c.args.owner.now.seen) c.pop.new.self.items one all in
     let told = c.in-Err.is in
     let session = c.into_session.ensures in
     let counted = subst (λ (t : Told). sum_by faults one.reader.session.doors < 2 ^ 64 - 1 → told_faults t ≤ sum_by faults one.reader.session.doors) told last.counted in
@@ -33,10 +37,12 @@ loop-watcher-preserved-in-Err g c =
       owner = e.owner;
       leaves = leaves_both _ _ _ i.leaves e.leaves;
       out = omega (arith, i.out, e.out, c.in-Some.ensures.cases);
-      endable = all_front (IsEndable faults store) c.pop.new.self.items one all;
-      stop = subst (λ (t : Told). IfErr t (IsOutside AnyPage)) told last.stop;
+      endable = all_front (IsEndable faults store c.args.owner.now.seen) c.pop.new.self.items one all;
+      stop = stops_either store.fixed c.args.owner.now.seen one.reader.session.log c.end_idle.new.owner.seen c.in-Err.fault (begins_both c.args.owner.now.seen c.loop-watcher.owner.seen c.end_idle.new.owner.seen i.leaves.comes.begins e.leaves.comes.begins)
+          (subst (λ (s : SessionState _). Begins s.log c.end_idle.new.owner.seen) session e.begins)
+          (subst (λ (t : Told). IfErr t (λ fault. Stops store.fixed c.args.owner.now.seen fault ⊎ Stops store.fixed one.reader.session.log fault)) told last.stop);
       doors = rose_stop (page_faults c.in-Err.fault) (counts c.args.maker.now) (counts c.loop-watcher.maker) (sum_by faults one.reader.session.doors) (counts c.end_idle.new.maker)
-          (lower (stop_faults c.loop-watcher.stop) (counts c.args.maker.now) (counts c.loop-watcher.maker) i.doors) counted back;
+          (lower (left_faults c.loop-watcher.stop) (counts c.args.maker.now) (counts c.loop-watcher.maker) i.doors) counted back;
       gone = gone_more g.M.DoorMaker.hands_out g.M.DoorMaker.takes_back store.providers c.args.watchers.len c.loop-watcher.watchers.len c.pop.new.self.len c.args.maker.now c.loop-watcher.maker
           c.end_idle.new.maker (sym c.in-Some.ensures.cases) i.gone e.taken_back;
       plan_stays = λ n door. (λ h. (e.plan_stays n door).0 ((i.plan_stays n door).0 h), λ h. (i.plan_stays n door).1 ((e.plan_stays n door).1 h));
@@ -52,14 +58,14 @@ loop-watcher-preserved g c =
     let store = c.args.shared.now in
     let one : WatcherState _ = record { reader = c.watcher.inside.reader; told = c.watcher.inside.told } in
     let joined : c.loop-watcher.watchers.items ≡ c.pop.new.self.items ++ one ∷ [] = c.in-Some.ensures.items ∙ ap (λ (w : WatcherState _). c.pop.new.self.items ++ w ∷ []) (sym c.watcher.view_is) in
-    let all = subst (λ (l : List (WatcherState _)). All (IsEndable faults store) l) joined i.endable in
+    let all = subst (λ (l : List (WatcherState _)). All (IsEndable faults store c.args.owner.now.seen) l) joined i.endable in
     record {
       owner = e.owner;
       leaves = leaves_both _ _ _ i.leaves e.leaves;
       out = omega (arith, i.out, e.out, c.in-Some.ensures.cases);
-      endable = all_front (IsEndable faults store) c.pop.new.self.items one all;
-      stop = i.stop;
-      doors = rose_on (stop_faults c.loop-watcher.stop) (counts c.args.maker.now) (counts c.loop-watcher.maker) (sum_by faults c.into_session.result.doors) (counts c.end_idle.new.maker) i.doors e.doors;
+      endable = all_front (IsEndable faults store c.args.owner.now.seen) c.pop.new.self.items one all;
+      stop = stop_on store.fixed c.loop-watcher.owner.seen c.end_idle.new.owner.seen c.loop-watcher.stop e.leaves.comes.begins i.stop;
+      doors = rose_on (left_faults c.loop-watcher.stop) (counts c.args.maker.now) (counts c.loop-watcher.maker) (sum_by faults c.into_session.result.doors) (counts c.end_idle.new.maker) i.doors e.doors;
       gone = gone_more g.M.DoorMaker.hands_out g.M.DoorMaker.takes_back store.providers c.args.watchers.len c.loop-watcher.watchers.len c.pop.new.self.len c.args.maker.now c.loop-watcher.maker
           c.end_idle.new.maker (sym c.in-Some.ensures.cases) i.gone e.taken_back;
       plan_stays = λ n door. (λ h. (e.plan_stays n door).0 ((i.plan_stays n door).0 h), λ h. (i.plan_stays n door).1 ((e.plan_stays n door).1 h));
@@ -87,7 +93,7 @@ loop-watcher-init g c = record {
 pub end_idle-requires-clause-idle : goal.end_idle-requires-clause-idle
 end_idle-requires-clause-idle g c =
     let store = c.args.shared.now in
-    let endable = IsEndable g.M.Door.Door.faults store in
+    let endable = IsEndable g.M.Door.Door.faults store c.args.owner.now.seen in
     let all = subst (λ (l : List (WatcherState _)). All endable l) c.in-Some.ensures.items c.loop-watcher.invariant.endable in
     let last = all_last endable c.pop.new.self.items c.in-Some.watcher all in
     subst (λ (s : SessionState _). IsIdle store s) (sym (c.into_session.ensures ∙ ap (λ (w : WatcherState _). w.reader.session) c.watcher.view_is)) last.idle

@@ -2,9 +2,10 @@ use Rattle.std.proofs.Common.{◌≡◌, ℕ, ◌+◌, ◌-◌, ◌^◌, ◌<◌
 use Rattle.std.specs.Prelude.{◌↔◌, All, IfSome}
 use Rattle.client_session.specs.Sessions.{IsOwnerOf}
 use Rattle.store_sessions.proofs.Traffics.{HaveGone}
-use Rattle.workload_law.specs.Ends.{IsOutside, AnyPage}
 use Rattle.watch_run.specs.Stages.{LeavesWatch}
-use Rattle.watch_run.specs.Crews.{IsEndable, stop_faults}
+use Rattle.watch_run.specs.Stops.{Stops}
+use Rattle.update_work.specs.Left.{left_faults}
+use Rattle.watch_run.specs.Crews.{IsEndable}
 use Rattle.watch_run.proofs.ending.end_watchers.Given as goal
 
 abbrev pub invariant-loop-watcher : goal.invariant-loop-watcher
@@ -15,9 +16,9 @@ invariant-loop-watcher g l =
       owner : IsOwnerOf l.shared l.owner;
       leaves : LeavesWatch l.fn.owner l.owner;
       out : l.fn.owner.out + vec_len l.watchers ≡ l.owner.out + vec_len l.fn.watchers;
-      endable : All (IsEndable g.M.Door.Door.faults l.shared) l.watchers.items;
-      stop : IfSome l.stop (IsOutside AnyPage);
-      doors : faults l.maker < 2 ^ 64 - 1 → faults l.fn.maker + stop_faults l.stop ≤ faults l.maker;
+      endable : All (IsEndable g.M.Door.Door.faults l.shared l.fn.owner.seen) l.watchers.items;
+      stop : IfSome l.stop (Stops l.shared.fixed l.owner.seen);
+      doors : faults l.maker < 2 ^ 64 - 1 → faults l.fn.maker + left_faults l.stop ≤ faults l.maker;
       gone : HaveGone g.M.DoorMaker.hands_out g.M.DoorMaker.takes_back l.shared.providers (vec_len l.fn.watchers) (vec_len l.watchers) l.fn.maker l.maker;
       plan_stays : (n : ℕ) (door : _) → g.M.DoorMaker.makes l.fn.maker n door ↔ g.M.DoorMaker.makes l.maker n door;
       truth_stays : is_true l.fn.maker ↔ is_true l.maker;

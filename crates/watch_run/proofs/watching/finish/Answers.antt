@@ -4,10 +4,11 @@ use Rattle.request_form.specs.Replies.{page_faults}
 use Rattle.read_board.specs.Fronts.{BoardId}
 use Rattle.watch_run.specs.Crews.{IsDoneWatching}
 use Rattle.watch_run.specs.Ending.{FinishHindered}
-use Rattle.watch_run.proofs.Crews.{all_done_end}
+use Rattle.watch_run.proofs.Crews.{all_done_on, all_done_end}
 use Rattle.watch_run.proofs.Ends.{rose_later, rose_before}
-use Rattle.watch_run.proofs.Doors.{read_and_ended, came_and_ended, readers_ended}
+use Rattle.watch_run.proofs.Doors.{read_and_ended, came_and_ended}
 use Rattle.watch_run.proofs.Finishing.{finished, finish_later}
+use Rattle.watch_run.proofs.Stages.{leaves_both}
 use Rattle.watch_run.proofs.watching.finish.Goals as goal
 
 pub agree_all-requires-clause-told : goal.agree_all-requires-clause-told
@@ -18,7 +19,7 @@ agree_all-requires-clause-seen g c = c.in-Ok.ensures.read.known
 
 pub returns-in-Ok-agree_all-clause-finishes : goal.returns-in-Ok-agree_all-clause-finishes
 returns-in-Ok-agree_all-clause-finishes g c =
-    finished c.args.shared.now.fixed c.read_back.new.keeper.shown _ c.args.owner.now c.read_back.new.owner c.agree_all.new.owner c.in-Ok.last c.in-Ok.ensures.read c.in-Ok-agree_all.ensures.leaves _ _ c.len.ensures c.in-Ok-agree_all.ensures.all
+    finished c.args.shared.now.fixed c.read_back.new.keeper.shown _ c.args.owner.now c.read_back.new.owner c.agree_all.new.owner c.in-Ok.last c.in-Ok.ensures.read c.agree_all.ensures.leaves _ _ c.len.ensures c.in-Ok-agree_all.ensures.all
 
 pub returns-in-Ok-agree_all-clause-plan_stays : goal.returns-in-Ok-agree_all-clause-plan_stays
 returns-in-Ok-agree_all-clause-plan_stays g c n door =
@@ -27,10 +28,12 @@ returns-in-Ok-agree_all-clause-plan_stays g c n door =
     (λ h. (e.plan_stays n door).0 ((i.plan_stays n door).0 h), λ h. (i.plan_stays n door).1 ((e.plan_stays n door).1 h))
 
 pub returns-in-Ok-clause-finishes : goal.returns-in-Ok-clause-finishes
-returns-in-Ok-clause-finishes g c = FinishHindered.outside c.in-Err-agree_all.ensures.stop
+returns-in-Ok-clause-finishes g c =
+    FinishHindered.stops (leaves_both c.args.owner.now c.read_back.new.owner c.agree_all.new.owner c.read_back.ensures.leaves c.agree_all.ensures.leaves) c.in-Err-agree_all.ensures.stop
 
 pub returns-in-Some-clause-finishes : goal.returns-in-Some-clause-finishes
-returns-in-Some-clause-finishes g c = FinishHindered.outside c.in-Some.ensures.stop
+returns-in-Some-clause-finishes g c =
+    FinishHindered.stops (leaves_both c.args.owner.now c.read_back.new.owner c.end_watchers.new.owner c.read_back.ensures.leaves c.end_watchers.ensures.leaves) c.in-Some.ensures.stop
 
 pub returns-clause-finishes : goal.returns-clause-finishes
 returns-clause-finishes g c = finish_later c.args.shared.now.fixed c.args.owner.now c.read_back.new.owner c.end_watchers.new.owner c.in-Err.fault c.in-Err.ensures.hindered c.end_watchers.ensures.leaves
@@ -38,29 +41,27 @@ returns-clause-finishes g c = finish_later c.args.shared.now.fixed c.args.owner.
 pub returns-in-Ok-agree_all-clause-lent : goal.returns-in-Ok-agree_all-clause-lent
 returns-in-Ok-agree_all-clause-lent g c =
     let m = g.M.DoorMaker in
-    read_and_ended m.hands_out m.takes_back c.args.shared.now.providers (vec_len c.args.watchers) c.args.doors.now c.read_back.new.doors c.agree_all.new.maker c.in-Ok.ensures.lent c.in-Ok-agree_all.ensures.lent
+    read_and_ended m.hands_out m.takes_back c.args.shared.now.providers (vec_len c.args.watchers) c.args.doors.now c.read_back.new.doors c.agree_all.new.maker c.in-Ok.ensures.lent c.agree_all.ensures.taken_back
 
 pub returns-in-Ok-clause-lent : goal.returns-in-Ok-clause-lent
 returns-in-Ok-clause-lent g c =
     let m = g.M.DoorMaker in
     let p = c.args.shared.now.providers in
-    came_and_ended m.hands_out m.takes_back p (vec_len c.args.watchers) c.args.doors.now c.read_back.new.doors c.agree_all.new.maker (p, c.in-Ok.ensures.lent) c.in-Err-agree_all.ensures.lent
+    came_and_ended m.hands_out m.takes_back p (vec_len c.args.watchers) c.args.doors.now c.read_back.new.doors c.agree_all.new.maker (p, c.in-Ok.ensures.lent) c.agree_all.ensures.taken_back
 
 pub returns-in-Some-clause-lent : goal.returns-in-Some-clause-lent
 returns-in-Some-clause-lent g c =
     let m = g.M.DoorMaker in
     let p = c.args.shared.now.providers in
     let n = vec_len c.args.watchers in
-    came_and_ended m.hands_out m.takes_back p n c.args.doors.now c.read_back.new.doors c.end_watchers.new.maker c.in-Err.ensures.lent
-    (readers_ended m.hands_out m.takes_back p n c.args.doors.now c.read_back.new.doors c.end_watchers.new.maker c.end_watchers.ensures.taken_back)
+    came_and_ended m.hands_out m.takes_back p n c.args.doors.now c.read_back.new.doors c.end_watchers.new.maker c.in-Err.ensures.lent c.end_watchers.ensures.taken_back
 
 pub returns-clause-lent : goal.returns-clause-lent
 returns-clause-lent g c =
     let m = g.M.DoorMaker in
     let p = c.args.shared.now.providers in
     let n = vec_len c.args.watchers in
-    came_and_ended m.hands_out m.takes_back p n c.args.doors.now c.read_back.new.doors c.end_watchers.new.maker c.in-Err.ensures.lent
-    (readers_ended m.hands_out m.takes_back p n c.args.doors.now c.read_back.new.doors c.end_watchers.new.maker c.end_watchers.ensures.taken_back)
+    came_and_ended m.hands_out m.takes_back p n c.args.doors.now c.read_back.new.doors c.end_watchers.new.maker c.in-Err.ensures.lent c.end_watchers.ensures.taken_back
 
 pub agree_all-requires-clause-passes_left : goal.agree_all-requires-clause-passes_left
 agree_all-requires-clause-passes_left g c =
@@ -68,15 +69,21 @@ agree_all-requires-clause-passes_left g c =
     let p = c.requires.passes_left in
     (omega (arith, m.0, p.0), omega (arith, m.1, p.1))
 
-pub agree_all-requires-clause-true_doors : goal.agree_all-requires-clause-true_doors
-agree_all-requires-clause-true_doors g c = c.read_back.ensures.truth_stays.0 c.requires.true_doors
-
 pub agree_all-requires-clause-done : goal.agree_all-requires-clause-done
 agree_all-requires-clause-done g c =
-    subst (λ (b : BoardId). All (IsDoneWatching g.M.Door.Door.faults c.args.shared.now b) c.args.watchers.items) (sym c.read_back.ensures.board) c.requires.done
+    let faults = g.M.Door.Door.faults in
+    let store = c.args.shared.now in
+    let seen = c.read_back.new.owner.seen in
+    subst (λ (b : BoardId). All (IsDoneWatching faults store seen b) c.args.watchers.items) (sym c.read_back.ensures.board)
+    (all_done_on faults store c.args.owner.now.seen seen c.args.keeper.board c.read_back.ensures.leaves.comes.begins c.args.watchers.items c.requires.done)
 
 pub end_watchers-requires-clause-endable : goal.end_watchers-requires-clause-endable
-end_watchers-requires-clause-endable g c = all_done_end g.M.Door.Door.faults c.args.shared.now c.args.keeper.board c.args.watchers.items c.requires.done
+end_watchers-requires-clause-endable g c =
+    let faults = g.M.Door.Door.faults in
+    let store = c.args.shared.now in
+    let seen = c.read_back.new.owner.seen in
+    all_done_end faults store seen c.args.keeper.board c.args.watchers.items
+    (all_done_on faults store c.args.owner.now.seen seen c.args.keeper.board c.read_back.ensures.leaves.comes.begins c.args.watchers.items c.requires.done)
 
 pub returns-in-Ok-agree_all-clause-out : goal.returns-in-Ok-agree_all-clause-out
 returns-in-Ok-agree_all-clause-out g c = omega (arith, c.read_back.ensures.out, c.agree_all.ensures.out)

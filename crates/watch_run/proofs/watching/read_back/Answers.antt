@@ -1,14 +1,17 @@
-use Rattle.std.proofs.Common.{◌∙◌, ◌∷◌, [], ap, subst, sym, arith}
+use Rattle.std.proofs.Common.{◌∙◌, ◌∷◌, [], refl, ap, subst, sym, arith}
 use Rattle.std.specs.Prelude.{sum_by}
 use Rattle.client_session.specs.Sessions.{StoreState}
 use Rattle.read_board.specs.Refreshing.{AllHold}
 use Rattle.store_sessions.proofs.Traffics
 use Rattle.update_work.specs.Updates.{told_faults}
+use Rattle.workload_law.specs.Ends.{IsOutside}
+use Rattle.watch_run.specs.Ending.{FinishHindered}
 use Rattle.watch_run.specs.Stages.{Owner, Entries}
+use Rattle.watch_run.specs.Stops.{Stops}
 use Rattle.watch_run.proofs.Crews.{idle_on, told_read, told_lost}
 use Rattle.watch_run.proofs.Ends.{rose_told}
 use Rattle.watch_run.proofs.Finishing.{finish_hindered, read_back}
-use Rattle.watch_run.proofs.Stages.{new_idle, leaves_both, leaves_given}
+use Rattle.watch_run.proofs.Stages.{new_idle, leaves_both, leaves_given, leaves_unmade}
 use Rattle.watch_run.proofs.watching.read_back.Goals as goal
 
 pub read_last-told-requires : goal.read_last-told-requires
@@ -52,6 +55,23 @@ returns-clause-hindered g c =
     told_lost c.read_last-told.result
     (λ fault by. finish_hindered c.in-Ok.session c.read_last-told.new.session fault c.args.shared.now old new by x.session.of_store (r.idles.goes_on.store ∙ x.session.of_store) x.session.log r.idles.goes_on.begins leaves e.begins)
     r.hindered
+
+pub returns-clause-leaves : goal.returns-clause-leaves
+returns-clause-leaves g c =
+    let x = c.in-Ok.ensures in
+    leaves_both c.args.owner.now c.open_session.new.owner c.end_idle.new.owner
+    (leaves_given c.args.owner.now c.open_session.new.owner (ap (λ (o : Owner). o.seen) x.given) (ap (λ (o : Owner). o.kept) x.given)) c.end_idle.ensures.leaves
+
+pub returns-in_default-clause-leaves : goal.returns-in_default-clause-leaves
+returns-in_default-clause-leaves g c =
+    let x = c.open_session.ensures in
+    leaves_unmade c.entries_are_events.ensures c.args.shared.now c.args.owner.now c.open_session.new.owner x.owner x.seen x.keeps c.in_default.ensures.none_entered
+
+pub returns-in_default-clause-hindered : goal.returns-in_default-clause-hindered
+returns-in_default-clause-hindered g c =
+    let x = c.open_session.ensures in
+    FinishHindered.stops (leaves_unmade c.entries_are_events.ensures c.args.shared.now c.args.owner.now c.open_session.new.owner x.owner x.seen x.keeps c.in_default.ensures.none_entered)
+    (Stops.outside (IsOutside.starved refl))
 
 pub returns-clause-plan_stays : goal.returns-clause-plan_stays
 returns-clause-plan_stays g c n door =

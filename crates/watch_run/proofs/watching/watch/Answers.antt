@@ -4,12 +4,11 @@ use Rattle.blob_model.specs.History.{IsLegal}
 use Rattle.blob_model.specs.declared.call.Event.{Event}
 use Rattle.turn_lock.specs.History.{LacksUngiven}
 use Rattle.version_manager.specs.Log.{events}
-use Rattle.workload_law.specs.Ends.{AnyPage}
 use Rattle.watch_run.proofs.Closed.{closed, closed_is}
 use Rattle.update_work.specs.declared.ending.EarlyEnd.{EarlyEnd}
 use Rattle.update_work.proofs.Early.{early_of}
 use Rattle.update_work.proofs.Returns.{closed_history, events_tagged}
-use Rattle.watch_law.specs.Watch.{IsWatch}
+use Rattle.watch_law.specs.Watch.{IsWatch, IsWatchPage}
 use Rattle.update_work.specs.Ending.{EndsEarly}
 use Rattle.watch_run.proofs.watching.watch.Goals as goal
 
@@ -24,9 +23,10 @@ returns-in-Ok-told-clause-watched g c =
     let lacks = subst (λ (l : List (ℕ × Event)). LacksUngiven owner.made l) c.in-Ok.ensures.history c.in-Ok.ensures.no_other in
     let legal = subst (λ (b : Bounds). IsLegal b (events owner.seen)) c.requires.limits o.log.legal in
     let x = c.watches_close.ensures in
+    let p = c.pieces_are_told.ensures in
     let seen : events owner.seen ≡ c.in-Ok.desk.history = ap (λ (l : List (ℕ × Event)). events l) (sym c.in-Ok.ensures.history) ∙ events_tagged c.in-Ok.desk.history in
     subst (λ (h : List Event). IsWatch c.args.plan h) seen
-    (closed_is c.entries_are_events.ensures c.args.plan c.requires.sized c.args.shared.fixed c.requires.limits owner o.log.tags legal c.in-Ok.ensures.all_kept lacks x.together c.watches_are_done.ensures x.there x.writer
+    (closed_is c.entries_are_events.ensures c.args.plan c.requires.sized c.args.shared.fixed c.requires.limits owner o.log.tags legal c.in-Ok.ensures.all_kept lacks x.together c.watches_are_done.ensures x.there x.writer p.sizes p.told
     c.in-Ok-told.summary c.in-Ok-told.ensures.ends)
 
 pub returns-in-Ok-told-clause-summary : goal.returns-in-Ok-told-clause-summary
@@ -36,7 +36,8 @@ returns-in-Ok-told-clause-summary g c =
     let lacks = subst (λ (l : List (ℕ × Event)). LacksUngiven owner.made l) c.in-Ok.ensures.history c.in-Ok.ensures.no_other in
     let legal = subst (λ (b : Bounds). IsLegal b (events owner.seen)) c.requires.limits o.log.legal in
     let x = c.watches_close.ensures in
-    let tells = closed c.entries_are_events.ensures c.args.plan c.requires.sized c.args.shared.fixed c.requires.limits owner o.log.tags legal c.in-Ok.ensures.all_kept lacks x.together c.watches_are_done.ensures x.there x.writer in
+    let p = c.pieces_are_told.ensures in
+    let tells = closed c.entries_are_events.ensures c.args.plan c.requires.sized c.args.shared.fixed c.requires.limits owner o.log.tags legal c.in-Ok.ensures.all_kept lacks x.together c.watches_are_done.ensures x.there x.writer p.sizes p.told in
     tells (Ok c.in-Ok-told.summary) c.in-Ok-told.ensures.ends
 
 pub returns-in-Err-clause-early : goal.returns-in-Err-clause-early
@@ -46,6 +47,8 @@ returns-in-Err-clause-early g c =
     let lacks = subst (λ (l : List (ℕ × Event)). LacksUngiven owner.made l) c.in-Ok.ensures.history c.in-Ok.ensures.no_other in
     let legal = subst (λ (b : Bounds). IsLegal b (events owner.seen)) c.requires.limits o.log.legal in
     let x = c.watches_close.ensures in
-    let tells = closed c.entries_are_events.ensures c.args.plan c.requires.sized c.args.shared.fixed c.requires.limits owner o.log.tags legal c.in-Ok.ensures.all_kept lacks x.together c.watches_are_done.ensures x.there x.writer in
-    let why = early_of AnyPage c.in-Err.fault (tells (Err c.in-Err.fault) c.in-Err.ensures.ends) (g.M.DoorMaker.faults c.args.doors.now) (g.M.DoorMaker.faults c.run_watch-told.new.doors) c.in-Err.ensures.doors in
-    subst (λ (f : EarlyEnd). EndsEarly AnyPage f (g.M.DoorMaker.faults c.args.doors.now) (g.M.DoorMaker.faults c.run_watch-told.new.doors)) (sym c.early_end.ensures) why
+    let p = c.pieces_are_told.ensures in
+    let tells = closed c.entries_are_events.ensures c.args.plan c.requires.sized c.args.shared.fixed c.requires.limits owner o.log.tags legal c.in-Ok.ensures.all_kept lacks x.together c.watches_are_done.ensures x.there x.writer p.sizes p.told in
+    let page = IsWatchPage c.args.plan c.args.shared.fixed.page_size in
+    let why = early_of page c.in-Err.fault (tells (Err c.in-Err.fault) c.in-Err.ensures.ends) (g.M.DoorMaker.faults c.args.doors.now) (g.M.DoorMaker.faults c.run_watch-told.new.doors) c.in-Err.ensures.doors in
+    subst (λ (f : EarlyEnd). EndsEarly page f (g.M.DoorMaker.faults c.args.doors.now) (g.M.DoorMaker.faults c.run_watch-told.new.doors)) (sym c.early_end.ensures) why

@@ -1,4 +1,4 @@
-use Rattle.std.proofs.Common.{◌≡◌, ◌∙◌, ◌+◌, ◌*◌, [], ℕ, length, vec_len, sym, ap, subst, arith}
+use Rattle.std.proofs.Common.{◌≡◌, ◌∙◌, ◌+◌, ◌*◌, List, [], ℕ, length, vec_len, sym, ap, subst, arith}
 use Rattle.std.specs.Prelude.{All, sum_by}
 use Rattle.request_form.specs.Replies.{page_faults}
 use Rattle.page_store.specs.Calls.{Traffic}
@@ -7,17 +7,21 @@ use Rattle.turn_lock.proofs.Histories.{begins_both}
 use Rattle.version_manager.specs.Log.{tagged, events}
 use Rattle.client_session.specs.Sessions.{StoreState}
 use Rattle.read_board.specs.Fronts.{BoardId}
+use Rattle.read_board.specs.declared.refresh.Refresh.{Refresh}
+use Rattle.read_board.specs.Keeping.{KeeperState}
 use Rattle.read_board.specs.Refreshing.{AllHold}
+use Rattle.watch_run.specs.Readers.{WatcherState, StandsAt, HasMet}
 use Rattle.update_work.proofs.Returns.{none_by}
 use Rattle.update_work.proofs.Fresh.{fresh_at}
 use Rattle.watch_run.specs.Ending.{Finishes}
 use Rattle.watch_run.specs.Doors.{EndDoors}
-use Rattle.watch_run.proofs.Doors.{crew_told, crew_ended, readers_ended}
+use Rattle.watch_run.proofs.Doors.{crew_told, crew_ended}
 use Rattle.update_work.specs.Updates.{told_faults}
-use Rattle.watch_run.specs.Crews.{IsDoneWatching, stop_faults}
+use Rattle.update_work.specs.Left.{left_faults}
+use Rattle.watch_run.specs.Crews.{IsDoneWatching}
 use Rattle.watch_run.specs.Stages.{Entries, Owner}
-use Rattle.watch_run.proofs.Crews.{idle_on, all_done, all_done_end}
-use Rattle.watch_run.proofs.Stages.{TookBack, took, new_idle, leaves_both}
+use Rattle.watch_run.proofs.Crews.{idle_on, all_stand, all_done, all_done_end}
+use Rattle.watch_run.proofs.Stages.{TookBack, took, new_idle, leaves_both, some_created}
 use Rattle.watch_run.proofs.Ends.{rose_told, rose_after, rose_early}
 use Rattle.watch_run.proofs.Works.{ends_by_finish, ends_early, both_done, early_counts}
 use Rattle.watch_run.proofs.watching.work.Goals as goal
@@ -36,32 +40,74 @@ end_idle-requires-clause-idle g c =
     (new_idle g.M.Door.Door.faults c.entries_are_events.ensures c.args.shared.now owner c.args.crew.keeping c.requires.owner.log.tags (omega arith) c.requires.keeping)
     c.work_beside-keeper.ensures.kept.refreshes.idles
 
+pub meet_all-requires : goal.meet_all-requires
+meet_all-requires g c =
+    let faults = g.M.Door.Door.faults in
+    let store = c.args.shared.now in
+    let ws = c.args.crew.watchers in
+    let r = c.work_beside-keeper.result in
+    let x = c.work_beside-keeper.ensures in
+    let count : length r.1.watchers.items ≡ length ws.items = omega (arith, x.count, ws.ok.0, r.1.watchers.ok.0) in
+    let stand = all_stand faults store c.args.owner.now.seen c.args.keeper.board ws.items r.1.watchers.items count c.requires.ready x.watched in
+    record {
+      board = subst (λ (l : List (WatcherState _)). All (StandsAt r.0.board) l) (sym c.as_slice.ensures.value) (subst (λ (b : BoardId). All (StandsAt b) r.1.watchers.items) (sym x.kept.refreshes.board) stand);
+    }
+
+pub finish-requires-clause-store : goal.finish-requires-clause-store
+finish-requires-clause-store g c κs within =
+    ap (λ (k : KeeperState). k.board.store) c.meet_all.ensures.same ∙ (ap (λ (b : BoardId). b.store) c.work_beside-keeper.ensures.kept.refreshes.board ∙ c.requires.board.0)
+
+pub finish-requires-clause-of_one : goal.finish-requires-clause-of_one
+finish-requires-clause-of_one g c κs within =
+    subst (λ (k : KeeperState). All (λ (r : Refresh). r.blob ≡ 1) k.all) (sym c.meet_all.ensures.same) c.work_beside-keeper.ensures.kept.refreshes.may.of_one
+
 pub finish-requires-clause-hold : goal.finish-requires-clause-hold
 finish-requires-clause-hold g c κs within =
     let r = c.work_beside-keeper.result in
     let kept = c.work_beside-keeper.ensures.kept.refreshes in
-    c.refreshes_stay.ensures c.args.shared.now.fixed r.1.keeping.log c.end_idle.new.owner.seen r.0.all c.end_idle.ensures.begins
-    (subst (λ (t : StoreState). AllHold t.fixed r.1.keeping.log r.0.all) (kept.idles.goes_on.store ∙ c.requires.keeping.of_store) kept.may.hold)
+    let seen = c.end_idle.new.owner.seen in
+    let f = c.args.shared.now.fixed in
+    subst (λ (k : KeeperState). AllHold f seen k.all) (sym c.meet_all.ensures.same)
+    (c.refreshes_stay.ensures f r.1.keeping.log seen r.0.all c.end_idle.ensures.begins
+    (subst (λ (t : StoreState). AllHold t.fixed r.1.keeping.log r.0.all) (kept.idles.goes_on.store ∙ c.requires.keeping.of_store) kept.may.hold))
 
 pub finish-requires-clause-done : goal.finish-requires-clause-done
 finish-requires-clause-done g c κs within =
     let faults = g.M.Door.Door.faults in
     let store = c.args.shared.now in
+    let before = c.args.owner.now.seen in
+    let seen = c.end_idle.new.owner.seen in
+    let board = c.args.keeper.board in
     let ws = c.args.crew.watchers in
     let r = c.work_beside-keeper.result in
     let x = c.work_beside-keeper.ensures in
+    let kept = x.kept.refreshes in
+    let law = c.board_reads_tell.ensures in
     let count : length r.1.watchers.items ≡ length ws.items = omega (arith, x.count, ws.ok.0, r.1.watchers.ok.0) in
-    subst (λ (b : BoardId). All (IsDoneWatching faults store b) r.1.watchers.items) (sym x.kept.refreshes.board) (all_done faults store c.args.keeper.board ws.items r.1.watchers.items count c.requires.ready x.watched)
+    let from = subst (λ (l : Entries). Begins l r.1.keeping.log) c.requires.keeping.log kept.idles.goes_on.begins in
+    let hold = subst (λ (t : StoreState). AllHold t.fixed r.1.keeping.log r.0.all) (kept.idles.goes_on.store ∙ c.requires.keeping.of_store) kept.may.hold in
+    let met = subst (λ (l : List (WatcherState _)). All (HasMet r.0.all) l) c.as_slice.ensures.value c.meet_all.ensures.met in
+    subst (λ (b : BoardId). All (IsDoneWatching faults store seen b) r.1.watchers.items) (sym (ap (λ (k : KeeperState). k.board) c.meet_all.ensures.same ∙ kept.board))
+    (all_done faults store law.tell board before r.1.keeping.log seen (some_created before c.requires.opened.created) from c.end_idle.ensures.begins r.0.all hold ws.items r.1.watchers.items count c.requires.ready x.watched met)
 
 pub end_watchers-later-requires-clause-endable : goal.end_watchers-later-requires-clause-endable
 end_watchers-later-requires-clause-endable g c =
     let faults = g.M.Door.Door.faults in
     let store = c.args.shared.now in
+    let before = c.args.owner.now.seen in
+    let seen = c.end_idle.new.owner.seen in
+    let board = c.args.keeper.board in
     let ws = c.args.crew.watchers in
     let r = c.work_beside-keeper.result in
     let x = c.work_beside-keeper.ensures in
+    let kept = x.kept.refreshes in
+    let law = c.board_reads_tell.ensures in
     let count : length r.1.watchers.items ≡ length ws.items = omega (arith, x.count, ws.ok.0, r.1.watchers.ok.0) in
-    all_done_end faults store c.args.keeper.board r.1.watchers.items (all_done faults store c.args.keeper.board ws.items r.1.watchers.items count c.requires.ready x.watched)
+    let from = subst (λ (l : Entries). Begins l r.1.keeping.log) c.requires.keeping.log kept.idles.goes_on.begins in
+    let hold = subst (λ (t : StoreState). AllHold t.fixed r.1.keeping.log r.0.all) (kept.idles.goes_on.store ∙ c.requires.keeping.of_store) kept.may.hold in
+    let met = subst (λ (l : List (WatcherState _)). All (HasMet r.0.all) l) c.as_slice.ensures.value c.meet_all.ensures.met in
+    all_done_end faults store seen board r.1.watchers.items
+    (all_done faults store law.tell board before r.1.keeping.log seen (some_created before c.requires.opened.created) from c.end_idle.ensures.begins r.0.all hold ws.items r.1.watchers.items count c.requires.ready x.watched met)
 
 pub returns-in-Ok-clause-ends : goal.returns-in-Ok-clause-ends
 returns-in-Ok-clause-ends g c =
@@ -80,7 +126,8 @@ returns-in-Ok-clause-ends g c =
     let caller : s'.caller ≡ 2 = x.written.goes_on.caller ∙ c.requires.writer.caller in
     let took = subst (λ (n : ℕ). TookBack n s'.log first one) caller (took c.args.shared.now s'.caller s'.log first one e.counts e.begins e.own e.before e.owner) in
     let fresh = none_by are first.seen 2 c.requires.owner.log.tags (subst (λ (l : Entries). entries_by 2 l ≡ []) c.requires.writer.log (subst (λ (n : ℕ). entries_by n s.log ≡ []) c.requires.writer.caller c.requires.writer.none)) in
-    ends_by_finish are stay plan f s s' r.2 x.written.ends first one took c.requires.opened c.requires.writer.log fresh (both_done r.2 r.3 c.in-Ok.field-0 (sym c.and.ensures ∙ c.in-Ok.is)) two c.finish.new.owner c.end_idle.ensures.leaves
+    let fixed = ap (λ (t : StoreState). t.fixed) c.requires.writer.of_store in
+    ends_by_finish are stay plan f s s' r.2 x.written.ends first one took c.requires.opened c.requires.writer.log fresh fixed (both_done r.2 r.3 c.in-Ok.field-0 (sym c.and.ensures ∙ c.in-Ok.is)) two c.finish.new.owner c.end_idle.ensures.leaves
     c.finish.result (subst (λ (n : ℕ). Finishes f n c.finish.result two c.finish.new.owner) (x.count ∙ c.requires.count) c.finish.ensures.finishes)
 
 pub returns-in-Err-clause-ends : goal.returns-in-Err-clause-ends
@@ -105,7 +152,8 @@ returns-in-Err-clause-ends g c =
     let later = c.end_watchers-later.ensures.leaves in
     let from = subst (λ (l : Entries). Begins l k.log) c.requires.keeping.log x.kept.refreshes.idles.goes_on.begins in
     let to = begins_both k.log two.seen last.seen c.end_idle.ensures.begins later.comes.begins in
-    ends_early are stay plan f s s' k r.2 r.3 x.written.ends first one last took c.requires.opened c.requires.writer.log fresh (leaves_both one two last c.end_idle.ensures.leaves later) from to x.kept.hindered
+    let fixed = ap (λ (t : StoreState). t.fixed) c.requires.writer.of_store in
+    ends_early are stay plan f s s' k r.2 r.3 x.written.ends first one last took c.requires.opened c.requires.writer.log fresh fixed (leaves_both one two last c.end_idle.ensures.leaves later) from to x.kept.hindered
     c.in-Err.fault (sym c.and.ensures ∙ c.in-Err.is)
 
 pub returns-in-Ok-clause-plan_stays : goal.returns-in-Ok-clause-plan_stays
@@ -131,7 +179,7 @@ returns-in-Ok-clause-lent g c =
     let last = c.finish.new.doors in
     let count : vec_len c.work_beside-keeper.result.1.watchers ≡ n = c.work_beside-keeper.ensures.count ∙ c.requires.count in
     crew_told m.hands_out m.takes_back p n c.args.doors.now c.end_session.new.maker mid last c.end_session.ensures.taken_back c.end_idle.ensures.taken_back c.finish.result
-    (subst (λ (k : ℕ). EndDoors m.hands_out m.takes_back p 1 (1 + k) k mid last c.finish.result) count c.finish.ensures.lent)
+    (subst (λ (k : ℕ). EndDoors m.hands_out m.takes_back p k mid last c.finish.result) count c.finish.ensures.lent)
 
 pub returns-in-Err-clause-lent : goal.returns-in-Err-clause-lent
 returns-in-Err-clause-lent g c =
@@ -143,7 +191,7 @@ returns-in-Err-clause-lent g c =
     let last = c.end_watchers-later.new.maker in
     let count : vec_len c.work_beside-keeper.result.1.watchers ≡ n = c.work_beside-keeper.ensures.count ∙ c.requires.count in
     crew_ended m.hands_out m.takes_back p n first c.end_session.new.maker mid last c.end_session.ensures.taken_back c.end_idle.ensures.taken_back
-    (readers_ended m.hands_out m.takes_back p n first mid last (subst (λ (k : ℕ). Traffic m.hands_out m.takes_back 0 (k * p) mid last) count c.end_watchers-later.ensures.taken_back))
+    (subst (λ (k : ℕ). Traffic m.hands_out m.takes_back 0 (k * p) mid last) count c.end_watchers-later.ensures.taken_back)
 
 pub finish-requires-clause-passes_left : goal.finish-requires-clause-passes_left
 finish-requires-clause-passes_left g c κs within =
@@ -181,7 +229,7 @@ returns-in-Err-clause-doors g c =
     let n = told_faults r.2 in
     let first = counts c.args.doors.now in
     let one = counts c.end_session.new.maker in
-    rose_early n (page_faults c.in-Err.fault) (stop_faults c.end_watchers-later.result) first one (sum_by faults r.1.keeping.doors) (counts c.end_idle.new.maker)
+    rose_early n (page_faults c.in-Err.fault) (left_faults c.end_watchers-later.result) first one (sum_by faults r.1.keeping.doors) (counts c.end_idle.new.maker)
     (counts c.end_watchers-later.new.maker)
     (early_counts r.1.keeping r.2 r.3 c.in-Err.fault x.kept.hindered (sym c.and.ensures ∙ c.in-Err.is))
     (rose_told n first first (sum_by faults c.args.crew.writer.doors) (sum_by faults r.1.writer.doors) one (λ _. omega arith) x.written.rose c.end_session.ensures.doors) c.end_idle.ensures.doors

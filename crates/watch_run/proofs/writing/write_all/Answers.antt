@@ -1,10 +1,12 @@
-use Rattle.std.proofs.Common.{◌<◌, ℕ, List, refl, sym, subst, append-nil, [], arith}
+use Rattle.std.proofs.Common.{◌<◌, ◌+◌, ℕ, List, refl, sym, subst, append-nil, [], arith}
 use Rattle.std.specs.Prelude.{sum_by}
 use Rattle.blob_model.specs.declared.call.Place.TheVariants.{Append}
+use Rattle.request_form.specs.Replies.{page_faults}
 use Rattle.client_session.specs.Sessions.{session_of}
 use Rattle.client_session.proofs.Waiting.{goes_both}
 use Rattle.update_work.specs.Updates.{IsUpdated, IsStopped}
-use Rattle.update_work.proofs.Updates.{rose_both}
+use Rattle.update_work.specs.Left.{left_faults}
+use Rattle.update_work.proofs.Updates.{rose_both, rose_less}
 use Rattle.watch_run.proofs.Written.{wrote_none, wrote_more, stopped_writing}
 use Rattle.watch_run.proofs.writing.write_all.Goals as goal
 
@@ -18,8 +20,17 @@ ops-init g c = record {
 pub returns-in-Err-clause-ends : goal.returns-in-Err-clause-ends
 returns-in-Err-clause-ends g c =
     let within : c.ops.op < c.args.plan.now.ops = c.ops-test.true in
-    stopped_writing c.args.plan.now c.ops.op (session_of c.args.session.now) (session_of c.ops.session) (session_of c.update.new.session) c.requires.fresh.limits c.ops.invariant.wrote within c.in-Err.fault
-    (subst (λ (b : List ℕ). IsStopped (session_of c.ops.session) 1 Append b c.in-Err.fault (session_of c.update.new.session)) c.piece-piece.ensures c.in-Err.ensures.told)
+    stopped_writing c.args.plan.now c.ops.op (session_of c.args.session.now) (session_of c.ops.session) (session_of c.update.new.session) c.requires.fresh.limits c.ops.invariant.wrote within c.in-Err.stopped
+    (subst (λ (b : List ℕ). IsStopped (session_of c.ops.session) 1 Append b c.in-Err.stopped (session_of c.update.new.session)) c.piece-piece.ensures c.in-Err.ensures.told)
+
+pub returns-in-Err-clause-faults : goal.returns-in-Err-clause-faults
+returns-in-Err-clause-faults g c =
+    let count = sum_by g.D.Door.faults in
+    let stop = c.in-Err.stopped in
+    let first = count c.args.session.now.doors in
+    let last = count c.update.new.session.doors in
+    rose_less (page_faults stop.fault) (left_faults stop.left) first last
+    (rose_both 0 (page_faults stop.fault + left_faults stop.left) first (count c.ops.session.doors) last c.ops.invariant.rose c.in-Err.ensures.faults)
 
 pub ops-preserved : goal.ops-preserved
 ops-preserved g c =
