@@ -3,49 +3,18 @@
 //! A door's puts and gets are numbered together, from 1. Of three providers, each page has two, so that it is lost only where both
 //! of its doors fail.
 
-use crate::program::{RUN, run_over};
+use crate::program::{maker_of, said_over};
 use crate::rows::{ROWS, Row, count_lines, split_lines};
-use page_store::FlakyMaker;
-use ports::memory::{MemSink, MemSource};
 use std::alloc::Global;
 use std::process::Abort;
 use std::sync::Wait;
 use std::thread::Threads;
 
+// Pages of four bytes over three providers, with two replicas of each.
+const THREE: &str = "run --page 4 --providers 3 --replicas 2";
+
 // Past the calls of any door here.
 const CALLS: u64 = 14;
-
-// Past the bytes of any replies here.
-const ROOM: usize = 4096;
-
-// Doors 1 to 3 that fail at calls of these two numbers: the door of that place alone, or all three. 0 is no call.
-fn maker_of<R: Abort>(rt: &R, alloc: Global, alone: Option<usize>, calls: &[u64; 2]) -> FlakyMaker {
-    let mut lists = Vec::new(alloc);
-    for index in 0..3usize {
-        let fails = match alone {
-            Some(door) => door == index,
-            None => true,
-        };
-        let failing: &[u64] = if fails { calls.as_slice() } else { &[] };
-        let list = failing.to_vec(alloc).expect(rt, "memory");
-        lists.push(list).expect(rt, "memory");
-    }
-    FlakyMaker::new(alloc, lists)
-}
-
-// What the program writes to a row's script over those doors, where it ends with status 0.
-fn said_to<R: Wait + Threads + Sync + Abort>(
-    rt: &R,
-    alloc: Global,
-    row: &Row,
-    doors: &mut FlakyMaker,
-) -> MemSink {
-    let bytes = row.script.as_bytes().to_vec(alloc).expect(rt, "memory");
-    let source = MemSource::new(bytes, ROOM, Vec::new(alloc));
-    let ran = run_over(rt, alloc, RUN, source, ROOM, doors);
-    assert!(rt; ran.ended_with(0), "another status");
-    ran.out
-}
 
 // Where one door fails, once or at two calls in a row, the other replica of each page is there and nothing is seen of it. A failing
 // call is counted once.
@@ -53,22 +22,26 @@ fn check_alone<R: Wait + Threads + Sync + Abort>(
     rt: &R,
     alloc: Global,
     row: &Row,
-    door: usize,
-    calls: [u64; 2],
+    failing: &[&[u64]],
 ) {
-    let mut doors = maker_of(rt, alloc, Some(door), &calls);
-    let said = said_to(rt, alloc, row, &mut doors);
+    let mut doors = maker_of(rt, alloc, failing);
     let script = row.script;
+    let said = said_over(rt, alloc, THREE, script, &mut doors);
     let is_so = said.bytes() == row.replies.as_bytes() && doors.faults() <= 2;
     assert!(rt; is_so, "{script}");
 }
 
+// One of three doors fails at these calls.
+fn check_each<R: Wait + Threads + Sync + Abort>(rt: &R, alloc: Global, row: &Row, calls: &[u64]) {
+    check_alone(rt, alloc, row, &[calls, &[], &[]]);
+    check_alone(rt, alloc, row, &[&[], calls, &[]]);
+    check_alone(rt, alloc, row, &[&[], &[], calls]);
+}
+
 fn check_doors<R: Wait + Threads + Sync + Abort>(rt: &R, alloc: Global, row: &Row) {
-    for door in 0..3 {
-        for before in 0..CALLS {
-            check_alone(rt, alloc, row, door, [before + 1, 0]);
-            check_alone(rt, alloc, row, door, [before + 1, before + 2]);
-        }
+    for before in 0..CALLS {
+        check_each(rt, alloc, row, &[before + 1]);
+        check_each(rt, alloc, row, &[before + 1, before + 2]);
     }
 }
 
@@ -326,14 +299,14 @@ fn check_case<R: Wait + Threads + Sync + Abort>(
     rt: &R,
     alloc: Global,
     row: &Row,
-    calls: &[u64; 2],
+    calls: &[u64],
     failed: u64,
     kept: usize,
     instead: &str,
 ) {
-    let mut doors = maker_of(rt, alloc, None, calls);
-    let said = said_to(rt, alloc, row, &mut doors);
+    let mut doors = maker_of(rt, alloc, &[calls, calls, calls]);
     let script = row.script;
+    let said = said_over(rt, alloc, THREE, script, &mut doors);
     let replies = row.replies.as_bytes();
     let is_so = is_said(said.bytes(), replies, kept, instead.as_bytes());
     assert!(rt; is_so && doors.faults() >= failed, "{script}");
@@ -343,6 +316,14 @@ fn check_case<R: Wait + Threads + Sync + Abort>(
 fn a_call_of_all_doors_fails_at_once(rt: HostRuntime) {
     for (index, calls, failed, kept, instead) in CASES.as_slice() {
         let row = ROWS.get(*index).expect(&rt, "a row");
-        check_case(&rt, rt.alloc(), row, calls, *failed, *kept, instead);
+        check_case(
+            &rt,
+            rt.alloc(),
+            row,
+            calls.as_slice(),
+            *failed,
+            *kept,
+            instead,
+        );
     }
 }

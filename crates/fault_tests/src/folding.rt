@@ -1,16 +1,11 @@
 //! Doors that fail at each call of a finish that stores a page of the blob anew.
 
-use crate::program::run_over;
+use crate::program::{maker_of, said_over};
 use crate::rows::split_lines;
-use page_store::FlakyMaker;
-use ports::memory::MemSource;
 use std::alloc::Global;
 use std::process::Abort;
 use std::sync::Wait;
 use std::thread::Threads;
-
-// Past the bytes of any replies here.
-const ROOM: usize = 4096;
 
 // One provider, whose door's calls are numbered from 1: each of the first seventeen updates puts one page.
 const WORDS: &str = "run --page 4 --providers 1 --replicas 1";
@@ -66,16 +61,6 @@ static CALLS: [(u64, &str, &str); 6] = [
     ),
 ];
 
-// Doors that fail at these calls, the list of provider 1 first.
-fn maker_of<R: Abort>(rt: &R, alloc: Global, failing: &[&[u64]]) -> FlakyMaker {
-    let mut lists = Vec::new(alloc);
-    for calls in failing {
-        let list = calls.to_vec(alloc).expect(rt, "memory");
-        lists.push(list).expect(rt, "memory");
-    }
-    FlakyMaker::new(alloc, lists)
-}
-
 // Over doors that fail at these calls, and so many times in all, the versions and then these lines are answered so.
 fn answered_so<R: Wait + Threads + Sync + Abort>(
     rt: &R,
@@ -87,11 +72,10 @@ fn answered_so<R: Wait + Threads + Sync + Abort>(
     faults: u64,
 ) -> bool {
     let script = format!(in alloc; "{BEFORE}{lines}").expect(rt, "memory");
-    let source = MemSource::new(script.into_bytes(), ROOM, Vec::new(alloc));
     let mut doors = maker_of(rt, alloc, failing);
-    let ran = run_over(rt, alloc, words, source, ROOM, &mut doors);
-    let (_, said) = split_lines(ran.out.bytes(), LINES);
-    said == replies.as_bytes() && ran.ended_with(0) && doors.faults() == faults
+    let out = said_over(rt, alloc, words, script.as_str(), &mut doors);
+    let (_, said) = split_lines(out.bytes(), LINES);
+    said == replies.as_bytes() && doors.faults() == faults
 }
 
 // So it is over one door of which this call fails.

@@ -1,4 +1,5 @@
-//! Tests in which everything outside fails once: each call of each door, each read, and the write before each byte.
+//! Tests in which each call of each door fails once, also those of an update that stores a page anew. Reads and writes that fail are shown by
+//! scripts.
 #![tactic(auto)]
 
 #[cfg(test)]
@@ -9,5 +10,3 @@ mod folding;
 mod program;
 #[cfg(test)]
 mod rows;
-#[cfg(test)]
-mod streams;

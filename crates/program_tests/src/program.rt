@@ -2,16 +2,18 @@
 
 ghost use Rattle.std.specs.Prelude.{◌≡◌};
 
-use crate::words::words_of;
 use blob_model::Bytes;
 use blobseer_run::run;
 use page_fan::BesideDoor;
 use page_store::{DoorMaker, FlakyMaker};
-use ports::gate::FreeGate;
+use ports::files::Files;
+use ports::gate::{FreeGate, Gate};
+use ports::listener::Listener;
 use ports::mem_files::MemFiles;
 use ports::mem_listener::MemListener;
 use ports::memory::{MemSink, MemSource};
 use ports::pair::Pair;
+use ports::stream::{Sink, Source};
 use std::alloc::Global;
 use std::collections::BTreeMap;
 use std::process::Abort;
@@ -31,6 +33,16 @@ pub struct Row<'a> {
     pub script: &'a str,
     pub out: &'a str,
     pub status: u8,
+}
+
+// The words of a line, which stand between single spaces.
+fn words_of<R: Abort>(rt: &R, alloc: Global, line: &str) -> Vec<String> {
+    let mut words = Vec::new(alloc);
+    for part in line.split(' ') {
+        let word = String::from_str(alloc, part).expect(rt, "memory");
+        words.push(word).expect(rt, "memory");
+    }
+    words
 }
 
 // A listener to which nobody comes.
@@ -54,34 +66,35 @@ fn input_of<R: Abort>(rt: &R, alloc: Global, script: &str) -> MemSource {
     MemSource::new(bytes, 7, Vec::new(alloc))
 }
 
-// The status of a row's run. Nothing is said of it here, so that what `run` ensures stands in no goal of the tests.
-fn status_of<R: Wait + Threads + Sync + Abort, M: DoorMaker>(
+// The status of a run. It is one call over any types, and nothing is said of it, so that what `run` ensures is looked at once and stands
+// in no goal of the tests.
+fn status_of<
+    R: Wait + Threads + Sync,
+    S: Source,
+    K: Sink,
+    E: Sink,
+    L: Listener,
+    F: Files,
+    M: DoorMaker,
+    G: Gate + Sync,
+>(
     rt: &R,
     alloc: Global,
-    row: &Row,
-    out: &mut MemSink,
-    err: &mut MemSink,
+    words: &[String],
+    script: &mut S,
+    out: &mut K,
+    err: &mut E,
+    net: &mut L,
+    files: &mut F,
     doors: &mut M,
+    gate: &G,
 ) -> u8
 where
+    L::Peer: Drop + Send,
     M::Door: BesideDoor + Drop + Send,
     requires { M.is_true doors.old }
 {
-    let words = words_of(rt, alloc, row.line);
-    let mut source = input_of(rt, alloc, row.script);
-    let mut files = file_of(rt, alloc, row.text);
-    run(
-        rt,
-        alloc,
-        words.as_slice(),
-        &mut source,
-        out,
-        err,
-        &mut nobody(alloc),
-        &mut files,
-        doors,
-        &FreeGate,
-    )
+    run(rt, alloc, words, script, out, err, net, files, doors, gate)
 }
 
 // The line that the error output gets.
@@ -90,6 +103,15 @@ fn error_line(status: u8) -> &'static str {
         8 => "blobseer: load ended early\n",
         _ => "",
     }
+}
+
+// The program wrote what a row says, and ended so.
+fn check_ended<R: Abort>(rt: &R, row: &Row, out: &MemSink, err: &MemSink, status: u8) {
+    let is_so = out.bytes() == row.out.as_bytes()
+        && err.bytes() == error_line(status).as_bytes()
+        && status == row.status;
+    let line = row.line;
+    assert!(rt; is_so, "{line}");
 }
 
 /// The program comes to what a row says, with doors of this maker.
@@ -105,11 +127,20 @@ where
 {
     let mut out = MemSink::new(alloc, ROOM).expect(rt, "memory");
     let mut err = MemSink::new(alloc, ROOM).expect(rt, "memory");
-    let status = status_of(rt, alloc, row, &mut out, &mut err, doors);
-    let line = row.line;
-    assert_eq!(rt; out.bytes(), row.out.as_bytes(), "{line}");
-    assert_eq!(rt; err.bytes(), error_line(status).as_bytes(), "{line}");
-    assert_eq!(rt; status, row.status, "{line}");
+    let words = words_of(rt, alloc, row.line);
+    let status = status_of(
+        rt,
+        alloc,
+        words.as_slice(),
+        &mut input_of(rt, alloc, row.script),
+        &mut out,
+        &mut err,
+        &mut nobody(alloc),
+        &mut file_of(rt, alloc, row.text),
+        doors,
+        &FreeGate,
+    );
+    check_ended(rt, row, &out, &err, status);
 }
 
 // A maker of doors that fail at a row's calls.

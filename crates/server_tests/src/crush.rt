@@ -1,9 +1,7 @@
 //! One peer more than the other workers and the queue can take.
 ghost use Rattle.std.specs.Prelude.{◌≡◌};
 
-use crate::crowd::store_of;
-use blob_server::serve;
-use page_store::PlainMaker;
+use crate::peers::run_over;
 use ports::gate::FreeGate;
 use ports::listener::{Accepted, Listener};
 use ports::stream::{Ends, Sink, Source, Taken, Written};
@@ -141,20 +139,8 @@ fn all_that_can_wait_are_taken_and_the_first_worker_comes_back_from_one_that_is_
         hall: &hall,
         handed: 0,
     };
-    let mut maker = PlainMaker::new();
-    let (shared, mut owner) = store_of(&rt, alloc);
-    let served = serve(
-        &rt,
-        alloc,
-        &shared,
-        &mut owner,
-        &mut net,
-        &mut maker,
-        &FreeGate,
-        16,
-        CRUSH + 1,
-    );
-    assert!(rt; shared.close(owner).is_ok(), "a pass is out");
-    assert!(rt; served == Ok(u64::from(CRUSH + 1)), "not all came");
+    let words = "serve --listen x:1 --workers 16 --connections 81";
+    let ran = run_over(&rt, alloc, words, &mut net, 64, &FreeGate);
+    ran.check(&rt, words, "served 81\n", "", 0);
     assert!(rt; !hall.ran_out.load(Ordering::SeqCst), "one waited in vain");
 }

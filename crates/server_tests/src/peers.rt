@@ -2,8 +2,11 @@
 ghost use Rattle.std.specs.Prelude.{◌≡◌, true};
 
 use blobseer_run::run;
-use page_store::PlainMaker;
+use page_fan::BesideDoor;
+use page_store::{DoorMaker, PlainMaker};
+use ports::files::Files;
 use ports::gate::Gate;
+use ports::listener::Listener;
 use ports::mem_files::MemFiles;
 use ports::mem_listener::MemListener;
 use ports::memory::{MemSink, MemSource};
@@ -60,8 +63,8 @@ fn failing_listener<'a, R: Abort>(
     listener
 }
 
-/// A listener at this address, to which peers come that borrow these ends. The accept of that number fails, from 1; 0 is none.
-pub(crate) fn listener_of<'a, R: Abort>(
+// A listener at this address, to which peers come that borrow these ends. The accept of that number fails, from 1; 0 is none.
+fn listener_of<'a, R: Abort>(
     rt: &R,
     alloc: Global,
     address: &str,
@@ -103,8 +106,68 @@ fn words_of<R: Abort>(rt: &R, alloc: Global, line: &str) -> Vec<String> {
     words
 }
 
-/// The program with the words of a line, over an empty script, no files, a listener at the address `x:1` to which these peers come
-/// and whose accept of that number fails, and an output that takes so many bytes.
+// The status of a run. It is one call over any types, and nothing is said of it, so that what `run` ensures is looked at once and stands
+// in no goal of the tests.
+fn status_of<
+    R: Wait + Threads + Sync,
+    S: Source,
+    K: Sink,
+    E: Sink,
+    L: Listener,
+    F: Files,
+    M: DoorMaker,
+    G: Gate + Sync,
+>(
+    rt: &R,
+    alloc: Global,
+    words: &[String],
+    script: &mut S,
+    out: &mut K,
+    err: &mut E,
+    net: &mut L,
+    files: &mut F,
+    doors: &mut M,
+    gate: &G,
+) -> u8
+where
+    L::Peer: Drop + Send,
+    M::Door: BesideDoor + Drop + Send,
+    requires { M.is_true doors.old }
+{
+    run(rt, alloc, words, script, out, err, net, files, doors, gate)
+}
+
+/// The program with the words of a line, over an empty script, no files, a listener, and an output that takes so many bytes.
+pub(crate) fn run_over<R: Threads + Wait + Sync + Abort, L: Listener, G: Gate + Sync>(
+    rt: &R,
+    alloc: Global,
+    words: &str,
+    net: &mut L,
+    room: usize,
+    gate: &G,
+) -> Ran
+where
+    L::Peer: Drop + Send,
+{
+    let words = words_of(rt, alloc, words);
+    let mut out = MemSink::new(alloc, room).expect(rt, "memory");
+    let mut err = MemSink::new(alloc, ROOM).expect(rt, "memory");
+    let status = status_of(
+        rt,
+        alloc,
+        words.as_slice(),
+        &mut MemSource::new(Vec::new(alloc), 64, Vec::new(alloc)),
+        &mut out,
+        &mut err,
+        net,
+        &mut MemFiles::new(alloc, BTreeMap::new(alloc)),
+        &mut PlainMaker::new(),
+        gate,
+    );
+    Ran { out, err, status }
+}
+
+/// The same with a listener at the address `x:1` to which these peers come and whose accept of that number fails.
 pub(crate) fn run_peers<R: Threads + Wait + Sync + Abort, G: Gate + Sync>(
     rt: &R,
     alloc: Global,
@@ -114,20 +177,6 @@ pub(crate) fn run_peers<R: Threads + Wait + Sync + Abort, G: Gate + Sync>(
     room: usize,
     gate: &G,
 ) -> Ran {
-    let words = words_of(rt, alloc, words);
-    let mut out = MemSink::new(alloc, room).expect(rt, "memory");
-    let mut err = MemSink::new(alloc, ROOM).expect(rt, "memory");
-    let status = run(
-        rt,
-        alloc,
-        words.as_slice(),
-        &mut MemSource::new(Vec::new(alloc), 64, Vec::new(alloc)),
-        &mut out,
-        &mut err,
-        &mut listener_of(rt, alloc, "x:1", lines, failing),
-        &mut MemFiles::new(alloc, BTreeMap::new(alloc)),
-        &mut PlainMaker::new(),
-        gate,
-    );
-    Ran { out, err, status }
+    let mut net = listener_of(rt, alloc, "x:1", lines, failing);
+    run_over(rt, alloc, words, &mut net, room, gate)
 }

@@ -7,8 +7,6 @@ mod calls;
 #[cfg(test)]
 mod hanging_up;
 #[cfg(test)]
-mod hindered;
-#[cfg(test)]
 mod repairing;
 #[cfg(test)]
 mod store;

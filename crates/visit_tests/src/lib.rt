@@ -2,7 +2,11 @@
 #![tactic(auto)]
 
 #[cfg(test)]
+mod bounds;
+#[cfg(test)]
 mod parts;
+#[cfg(test)]
+mod plain;
 #[cfg(test)]
 mod store;
 #[cfg(test)]

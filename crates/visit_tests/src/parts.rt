@@ -1,6 +1,8 @@
-//! A blob that is written in small parts: every range of every version is read, and the node steps are counted. What is read then is
-//! shown by a script.
+//! A blob that is written in small parts, so that two of its pages are stored anew in between: of every range of every version it is told
+//! beforehand how many node steps a read may take, and then they are counted. What is read then is shown by a script.
 
+use crate::bounds::told;
+use crate::plain::{Written, plain_bound};
 use crate::store::{create, new_session, store_of, update};
 use crate::visits::{Part, counted};
 use blob_model::Place;
@@ -31,14 +33,14 @@ impl Dice {
     }
 }
 
-// Writes one to three bytes somewhere among the first ten, and gives the size of the blob then.
+// Writes one to three bytes somewhere among the first ten of a blob of that size.
 fn write_part<R: Threads + Wait + Sync + Abort>(
     rt: &R,
     session: &mut Session<'_, PlainDoor, FreeGate>,
     dice: &mut Dice,
     before: u64,
     byte: u8,
-) -> u64 {
+) -> Written {
     let at = dice.below(10);
     let count = dice.below(3).saturating_add(1);
     let bytes = [byte; 3];
@@ -46,76 +48,77 @@ fn write_part<R: Threads + Wait + Sync + Abort>(
         .get(..count as usize)
         .expect(rt, "at most three bytes");
     assert!(rt; update(rt, session, Place::WriteAt(at), bytes));
-    before.max(at.saturating_add(count))
-}
-
-// The node steps that are promised where the tree has three levels: for each page the leaf, fifteen more that it leads to, and the
-// way to it.
-fn most_steps(part: Part) -> u64 {
-    if part.count == 0 {
-        return 0;
+    let end = at.saturating_add(count);
+    Written {
+        at,
+        end,
+        size: before.max(end),
     }
-    let last = part.offset.saturating_add(part.count).saturating_sub(1) / 4;
-    let pages = last.saturating_sub(part.offset / 4).saturating_add(1);
-    pages.saturating_mul(17).saturating_add(4)
 }
 
-// Reads each range from a byte on.
+// Reads each range of the last version that these updates leave, from a byte on.
 fn check_from<R: Threads + Wait + Sync + Abort>(
     rt: &R,
     session: &mut Session<'_, PlainDoor, FreeGate>,
-    version: u64,
+    written: &[Written],
     offset: u64,
     size: u64,
 ) {
     for count in 0..size.saturating_sub(offset).saturating_add(1) {
         let part = Part {
-            version,
+            version: written.len() as u64,
             offset,
             count,
         };
+        let most = told(rt, session, part);
         let (bytes, steps) = counted(rt, session, part);
-        assert!(rt; bytes.len() as u64 == count && steps <= most_steps(part));
+        assert!(rt; most == plain_bound(written, part) && steps <= most);
+        assert!(rt; bytes.len() as u64 == count);
     }
 }
 
-// Reads each range of a version.
+// Reads each range of the last version that these updates leave.
 fn check_version<R: Threads + Wait + Sync + Abort>(
     rt: &R,
     session: &mut Session<'_, PlainDoor, FreeGate>,
-    version: u64,
+    written: &[Written],
     size: u64,
 ) {
     for offset in 0..size {
-        check_from(rt, session, version, offset, size);
+        check_from(rt, session, written, offset, size);
     }
 }
 
-// Writes a blob, and gives the size of each of its versions, from 1 on.
+// Writes a blob, and gives its updates.
 fn write_all<R: Threads + Wait + Sync + Abort>(
     rt: &R,
     alloc: Global,
     session: &mut Session<'_, PlainDoor, FreeGate>,
-) -> Vec<u64> {
+) -> Vec<Written> {
     create(rt, session);
     assert!(rt; update(rt, session, Place::Append, FIRST));
     let mut dice = Dice { state: 1 };
-    let mut size = FIRST.len() as u64;
-    let mut sizes = vec![in alloc; size].expect(rt, "memory");
+    let mut last = Written {
+        at: 0,
+        end: FIRST.len() as u64,
+        size: FIRST.len() as u64,
+    };
+    let mut written = vec![in alloc; last].expect(rt, "memory");
     for byte in 0..WRITES {
-        size = write_part(rt, session, &mut dice, size, byte);
-        sizes.push(size).expect(rt, "memory");
+        last = write_part(rt, session, &mut dice, last.size, byte);
+        written.push(last).expect(rt, "memory");
     }
-    sizes
+    written
 }
 
 #[test]
-fn a_page_that_is_changed_in_small_parts_stays_cheap_to_read(rt: HostRuntime) {
+fn a_page_that_is_changed_in_small_parts_stays_as_cheap_to_read_as_it_is_stated(rt: HostRuntime) {
     let alloc = rt.alloc();
     let (shared, mut owner) = store_of(&rt, alloc, 4);
     let mut session = new_session(&rt, alloc, &shared, &mut owner);
-    let sizes = write_all(&rt, alloc, &mut session);
-    for (before, size) in sizes.iter().enumerate() {
-        check_version(&rt, &mut session, before as u64 + 1, *size);
+    let written = write_all(&rt, alloc, &mut session);
+    for (before, last) in written.iter().enumerate() {
+        let first = written.get(..before + 1).expect(&rt, "so many updates");
+        check_version(&rt, &mut session, first, last.size);
     }
 }

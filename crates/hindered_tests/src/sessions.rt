@@ -1,0 +1,87 @@
+//! A store, and sessions of it whose doors fail or don't.
+ghost use Rattle.provider_manager.specs.Book.{AreCounts};
+ghost use Rattle.client_session.specs.Sessions.{IsOwnerOf, session_of};
+ghost use Rattle.update_work.specs.Updates.{IsReady};
+
+use blob_model::Limits;
+use client_session::{Owner, Session, Shared};
+use page_fan::Doors;
+use page_store::{DoorMaker, FlakyDoor, FlakyMaker, PlainDoor, PlainMaker};
+use ports::gate::FreeGate;
+use std::alloc::Global;
+use std::process::Abort;
+use tree_geom::PageSize;
+
+/// A session whose doors don't fail.
+pub(crate) type Plain<'a> = Session<'a, PlainDoor, FreeGate>;
+
+/// A session whose doors fail at some calls.
+pub(crate) type Flaky<'a> = Session<'a, FlakyDoor, FreeGate>;
+
+/// A store with no blobs, and its owner: pages of four bytes, and so many providers and replicas of each page.
+pub(crate) fn store_of<R: Abort>(
+    rt: &R,
+    alloc: Global,
+    providers: u32,
+    replicas: u32,
+) -> (Shared, Owner)
+    requires { AreCounts providers replicas }
+    ensures { IsOwnerOf result.0 result.1 }
+{
+    let p = PageSize::new(4).expect(rt, "a page size");
+    Shared::new(alloc, Limits::greatest(), p, providers, replicas).expect(rt, "memory")
+}
+
+// The next session of a store, with doors of that maker.
+fn session_by<'a, M: DoorMaker, R: Abort>(
+    rt: &R,
+    alloc: Global,
+    shared: &'a Shared,
+    owner: &mut Owner,
+    maker: &mut M,
+) -> Session<'a, M::Door, FreeGate>
+where
+    M::Door: Drop,
+    requires owner { IsOwnerOf shared.now owner.old }
+    requires true_doors { M.is_true maker.old }
+    ensures ready { IsReady (session_of result) }
+    ensures owner { IsOwnerOf shared.now owner.new }
+{
+    let doors = Doors::new(alloc, maker, shared.providers()).expect(rt, "memory");
+    let pass = shared.pass(owner).expect(rt, "a pass");
+    let made = Session::new(alloc, shared, &FreeGate, pass, doors);
+    made.ok().expect(rt, "memory")
+}
+
+/// The next session of a store, with plain doors.
+pub(crate) fn plain_session<'a, R: Abort>(
+    rt: &R,
+    alloc: Global,
+    shared: &'a Shared,
+    owner: &mut Owner,
+) -> Plain<'a>
+    requires owner { IsOwnerOf shared.now owner.old }
+    ensures owner { IsOwnerOf shared.now owner.new }
+{
+    session_by(rt, alloc, shared, owner, &mut PlainMaker::new())
+}
+
+/// The next session of a store, with a door to each of its providers that fails at those calls.
+pub(crate) fn flaky_session<'a, R: Abort>(
+    rt: &R,
+    alloc: Global,
+    shared: &'a Shared,
+    owner: &mut Owner,
+    failing: &[u64],
+) -> Flaky<'a>
+    requires owner { IsOwnerOf shared.now owner.old }
+    ensures ready { IsReady (session_of result) }
+    ensures owner { IsOwnerOf shared.now owner.new }
+{
+    let mut lists = Vec::new(alloc);
+    for _ in 0..shared.providers() {
+        let list = failing.to_vec(alloc).expect(rt, "memory");
+        lists.push(list).expect(rt, "memory");
+    }
+    session_by(rt, alloc, shared, owner, &mut FlakyMaker::new(alloc, lists))
+}
