@@ -1,4 +1,4 @@
--- What the command `watch` promises: the lines of its plan's summary, and the history from which they come.
+-- What the command `watch` promises: the lines of its plan's summary, the history from which they come, and what was done.
 use Rattle.std.specs.Prelude.{ℕ, List}
 use Rattle.blob_model.specs.Limits.{greatest}
 use Rattle.blob_model.specs.declared.call.Event.{Event}
@@ -6,6 +6,7 @@ use Rattle.version_manager.specs.Log.{IsHistory}
 use Rattle.settings.specs.Values.{SettingsValues}
 use Rattle.watch_law.specs.declared.plan.WatchPlan.{WatchPlan}
 use Rattle.watch_law.specs.Said.{said}
+use Rattle.watch_law.specs.Notes.{NotesState, HasDone}
 use Rattle.watch_law.specs.Watch.{IsWatch, summary_of}
 use Rattle.blobseer_run.specs.Outside.{Outside}
 use Rattle.blobseer_run.specs.Measuring.{DidMeasure}
@@ -18,10 +19,12 @@ plan_of settings = record { seed = settings.seed; readers = settings.readers; op
 abbrev pub watch_lines : WatchPlan → List ℕ
 watch_lines plan = said plan (summary_of plan)
 
--- A store of that page size, with the greatest limits, came to this: its history is a watch's.
+-- A store of that page size, with the greatest limits, came to this: its history is a watch's; and this is what the keeper and the readers did.
 pub record CameToWatch (page : ℕ) (plan : WatchPlan) (history : List Event) : Type 0 where
   pub is_history : IsHistory page greatest history
   pub watched : IsWatch plan history
+  pub notes : NotesState
+  pub did : HasDone plan notes
 
 -- A watch of the plan was run over pages of that size.
 abbrev pub DidWatch : ℕ → WatchPlan → Outside → Outside → ℕ → Type 0

@@ -25,7 +25,7 @@ use std::mem;
 use std::sync::Wait;
 use std::thread::Threads;
 use watch_law::{WatchPlan, lines};
-use watch_run::watch;
+use watch_run::watch_noted;
 
 // Runs the watch of these settings over that store, and writes what it came to. The store is closed before that, and the doors are
 // with their maker again.
@@ -62,8 +62,8 @@ where
         readers: settings.readers,
         ops: settings.ops,
     };
-    match watch(rt, alloc, shared, owner, objects.doors, gate, plan) {
-        Ok((summary, desk)) => {
+    match watch_noted(rt, alloc, shared, owner, objects.doors, gate, plan) {
+        Ok((summary, desk, _notes)) => {
             // The process ends, and gives the memory of all pages and nodes back at once.
             mem::forget(desk);
             tell_lines(lines(alloc, &plan, &summary), objects.out)

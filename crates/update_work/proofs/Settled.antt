@@ -26,8 +26,8 @@ use Rattle.workload_law.specs.Ends.{IsOutside, IsPageOf, Holds, ticket_of, still
 use Rattle.workload_law.proofs.Lost.{outside_as, fold_within}
 use Rattle.workload_law.proofs.Marks.{already_by_events}
 use Rattle.workload_law.proofs.OwnEvents.{gap_has_none, numbering_is_own}
-use Rattle.update_work.specs.Updates.{awaited_by, told_faults}
-use Rattle.update_work.specs.Left.{IsSettled, SettledTry, PageSince, IsLeft, left_by, left_faults}
+use Rattle.update_work.specs.Updates.{awaited_by}
+use Rattle.update_work.specs.Left.{IsSettled, SettledTry, PageSince, IsLeft, left_by}
 use Rattle.update_work.proofs.Updates.{no_reply, no_start, same_fault}
 
 -- ---- what events finish
@@ -126,12 +126,6 @@ gone_is number fault e = absurd (let no : Some number ≡ None = e in cc)
 pub settled_gone : (s : Session) (blob : ℕ) (place : Place) (bytes : List ℕ) (number : ℕ) (fault : Fault) (s' : Session) → IsLeft s blob place bytes (left_by (Err fault)) s'
     → still_held number fault ≡ None → IsSettled s blob place bytes s'
 settled_gone s blob place bytes number fault s' left gone = subst (λ (o : Option Fault). IsLeft s blob place bytes o s') (gone_is number fault gone) left
-
--- what is left counts as what was told
-pub left_counts : (told : Result ℕ Fault) → left_faults (left_by told) ≡ told_faults told
-left_counts (Ok published) = refl
-left_counts (Err (Faults.Already version)) = refl
-left_counts (Err fault) = refl
 
 module _ (s mid : Session) (blob : ℕ) (place : Place) (bytes : List ℕ) (number version : ℕ) (h : Holds s blob place bytes number version mid) where
   abbrev this : Event

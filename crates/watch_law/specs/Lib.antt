@@ -1,3 +1,4 @@
 pub mod Watch
 pub mod Laws
 pub mod Said
+pub mod Notes

@@ -1,9 +1,9 @@
 -- What a watch came to, and why it ended early, once its store is closed.
-use Rattle.std.proofs.Common.{◌≡◌, ◌≢◌, ◌⊎◌, inl, inr, ℕ, zero, suc, ◌+◌, ◌*◌, ◌-◌, ◌<◌, ◌≤◌, ◌==◌, Bool, true, false, List, [], ◌∷◌, ◌++◌, length, refl, sym, ap, subst, ◌∙◌, append_assoc, append-nil, arith, Contains}
-use Rattle.std.specs.Prelude.{Option, Some, None, Result, Ok, Err}
+use Rattle.std.proofs.Common.{◌≡◌, ◌≢◌, ◌⊎◌, inl, inr, ℕ, zero, suc, ◌+◌, ◌*◌, ◌-◌, ◌<◌, ◌≤◌, ◌==◌, Bool, true, false, List, [], ◌∷◌, ◌++◌, length, refl, sym, ap, subst, ◌∙◌, append_assoc, append-nil, arith, Contains, get_or}
+use Rattle.std.specs.Prelude.{Option, Some, None, Result, Ok, Err, All}
 use Rattle.std.proofs.lemmas.Bool.{eq-eqb, eqb-true, true≢false}
-use Rattle.std.proofs.lemmas.List.{append_cancel_left, length-map}
-use Rattle.std.proofs.lemmas.List.Elements.{filter-append}
+use Rattle.std.proofs.lemmas.List.{append_cancel_left, length-append, length-map}
+use Rattle.std.proofs.lemmas.List.Elements.{All-push, filter-append}
 use Rattle.blob_model.specs.Content.{size_of}
 use Rattle.blob_model.specs.Limits.{Bounds, greatest}
 use Rattle.blob_model.specs.Store.{Blob, blob_at, empty_store}
@@ -22,7 +22,7 @@ use Rattle.version_manager.specs.Log.{tagged, events}
 use Rattle.version_manager.specs.Laws.{EntriesAreEvents}
 use Rattle.version_manager.specs.declared.journal.DeskFixed.{DeskFixed}
 use Rattle.request_form.specs.Answers.{max_read}
-use Rattle.request_form.specs.PublishedReads.{read_outcome}
+use Rattle.request_form.specs.PublishedReads.{IsPublishedIn, read_outcome}
 use Rattle.request_form.specs.Replies.{reply_of}
 use Rattle.request_form.specs.declared.form.Reply.TheVariants as Replies
 use Rattle.request_form.specs.declared.form.Fault.{Fault}
@@ -35,10 +35,13 @@ use Rattle.update_work.proofs.Returns.{none_by, events_append, no_front}
 use Rattle.watch_law.specs.declared.plan.WatchPlan.{WatchPlan}
 use Rattle.watch_law.specs.declared.plan.WatchSummary.{WatchSummary}
 use Rattle.watch_law.specs.Watch.{IsSized, piece_of, range_of, IsWatchPage, HasWritten, HaveCome, IsUnderway, IsWatch, summary_of}
+use Rattle.watch_law.specs.Notes.{NotesState, IsPiece, HasDone}
 use Rattle.watch_law.specs.Laws.{ComeTogether, WatchesAreDone, BlobsAreThere, NothingElseHinders, IsDone, VersionsAreSized, PieceOutcome, PiecesAreTold}
 use Rattle.watch_run.specs.Stages.{Entries, Owner, IsUnopened, IsWatched}
-use Rattle.watch_run.specs.Stops.{IsPageSeen, IsRefusedIn, Stops}
-use Rattle.watch_run.specs.Ending.{IsSeenLast, HasWrittenAll, EndsBy, WatchEnds, TellsWatch}
+use Rattle.watch_run.specs.Stops.{IsPageSeen, Stops}
+use Rattle.watch_run.specs.Noting.{IsPieceSeen}
+use Rattle.watch_run.specs.Ending.{IsSeenLast, HasWrittenAll, EndsBy, WatchEnds, TellsWatch, NotesSeen}
+use Rattle.watch_run.proofs.Noted.{all_noted_as}
 use Rattle.watch_run.proofs.Refusals.{same_fault}
 
 -- two summaries that tell the same
@@ -102,6 +105,15 @@ not_told plan fault op outcome (PieceOutcome.read is) told other =
     (let no : Replies.Refused fault ≡ Replies.Content (piece_of plan op) = told ∙ ap (λ (o : Outcome). reply_of o) is in cc)
 not_told plan fault op outcome (PieceOutcome.unpublished last le is) told other =
     other (op + 1) last (same_fault fault (Faults.NotPublished (op + 1) last) (told ∙ ap (λ (o : Outcome). reply_of o) is))
+
+-- what it is given are an update's bytes
+same_bytes : (a b : List ℕ) → Replies.Content a ≡ Replies.Content b → a ≡ b
+same_bytes a b e = cc
+
+bytes_told : (plan : WatchPlan) (op : ℕ) (bytes : List ℕ) (outcome : Outcome) → PieceOutcome plan op outcome → Replies.Content bytes ≡ reply_of outcome → IsPiece plan op bytes
+bytes_told plan op bytes outcome (PieceOutcome.read is) told = same_bytes bytes (piece_of plan op) (told ∙ ap (λ (o : Outcome). reply_of o) is)
+bytes_told plan op bytes outcome (PieceOutcome.unpublished last le is) told =
+    absurd (let no : Replies.Content bytes ≡ Replies.Refused (Faults.NotPublished (op + 1) last) = told ∙ ap (λ (o : Outcome). reply_of o) is in cc)
 
 module _ (are : EntriesAreEvents) (plan : WatchPlan) (sized : IsSized plan) (f : DeskFixed) (limits : f.limits ≡ greatest) (owner : Owner) (tags : owner.seen ≡ tagged (events owner.seen)) (legal : IsLegal greatest (events owner.seen))
     (kept : (c : ℕ) → 0 < c → c ≤ owner.made → Contains owner.kept c) (lacks : LacksUngiven owner.made owner.seen) where
@@ -214,6 +226,17 @@ module _ (are : EntriesAreEvents) (plan : WatchPlan) (sized : IsSized plan) (f :
         absurd (not_told plan fault r.op (read_outcome (store_of greatest (events log)) (range_of r.op)) (pieces plan (events log) (front_legal log begins) (front_under log begins some_events) r.op)
         (r.told ∙ ap (λ (l : Bounds). reply_of (read_outcome (store_of l (events log)) (range_of r.op))) limits) r.other)
 
+    -- ---- what was noted
+    piece_is : PiecesAreTold → (op : ℕ) (bytes : List ℕ) → IsPieceSeen f owner.seen op bytes → IsPiece plan op bytes
+    piece_is pieces op bytes s =
+        let some_events : 1 ≤ length (events s.log) = omega (arith, s.some, length-map s.log (λ (x : ℕ × Event). x.1)) in
+        bytes_told plan op bytes (read_outcome (store_of greatest (events s.log)) (range_of op)) (pieces plan (events s.log) (front_legal s.log s.begins) (front_under s.log s.begins some_events) op)
+        (s.told ∙ ap (λ (l : Bounds). reply_of (read_outcome (store_of l (events s.log)) (range_of op))) limits)
+
+    version_within : VersionsAreSized → (version : ℕ) → IsPublishedIn (store_of f.limits (events owner.seen)) 1 version → version ≤ plan.ops
+    unfolding history
+    version_within sizes version (b, at, out) = (sizes plan history legal under b (ap (λ (l : Bounds). blob_at (store_of l history) 1) (sym limits) ∙ at) version out).few
+
     not_missing : BlobsAreThere → (seen : Entries) → Begins first seen → Begins seen owner.seen → blob_at (store_of greatest (events seen)) 1 ≡ None → ⊥
     unfolding history
     not_missing there seen from begins none =
@@ -295,13 +318,25 @@ module _ (are : EntriesAreEvents) (plan : WatchPlan) (sized : IsSized plan) (f :
     fault_outside fault (EndsBy.missing first w seen from begins none) = absurd (not_missing together first w there seen from begins none)
     fault_outside fault (EndsBy.too_long first old new w all begins version size last long) = absurd (not_long together first w dones old new all begins version size last long)
 
-    pub closed_is : (summary : WatchSummary) → WatchEnds plan f (Ok summary) owner → IsWatch plan (events owner.seen)
+    pub closed_is : (done : WatchSummary × NotesState) → WatchEnds plan f (Ok done) owner → IsWatch plan (events owner.seen)
     unfolding history
-    closed_is summary (first, (old, (new, (w, (all, (begins, (last, agree))))))) =
-        watch together first w dones old new all begins summary.versions summary.size last
+    closed_is done (first, (old, (new, (w, (all, (begins, (last, agree))))))) =
+        watch together first w dones old new all begins done.0.versions done.0.size last
 
-    pub closed : (told : Result WatchSummary Fault) → WatchEnds plan f told owner → TellsWatch plan f.page_size told
+    pub closed_done : (done : WatchSummary × NotesState) → WatchEnds plan f (Ok done) owner → NotesSeen plan f owner.seen done.0.versions done.1 → HasDone plan done.1
+    closed_done done (first, (old, (new, (w, (all, (begins, (last, agree))))))) seen =
+        let version : ℕ = done.0.versions in
+        let is : version ≡ plan.ops = versions together first w dones old new all begins version done.0.size last in
+        let front : All (λ (v : ℕ). v ≤ plan.ops) seen.before = λ k d lt. version_within together first w sizes (get_or seen.before k d) (seen.published k d lt) in
+        record {
+          count = omega (arith, ap (λ (l : List ℕ). length l) seen.refreshes, length-append seen.before (version ∷ []), seen.count);
+          few = subst (λ (l : List ℕ). All (λ (v : ℕ). v ≤ plan.ops) l) (sym seen.refreshes) (All-push (λ (v : ℕ). v ≤ plan.ops) seen.before version front (omega (arith, is)));
+          last = (seen.before, seen.refreshes ∙ ap (λ (v : ℕ). seen.before ++ v ∷ []) is);
+          readings = all_noted_as (IsPieceSeen f owner.seen) (IsPiece plan) (piece_is together first w pieces) plan.ops plan.readers done.1.readings seen.readings;
+        }
+
+    pub closed : (told : Result (WatchSummary × NotesState) Fault) → WatchEnds plan f told owner → TellsWatch plan f.page_size told
     closed (Err fault) by = fault_outside fault by
-    closed (Ok summary) (first, (old, (new, (w, (all, (begins, (last, agree))))))) =
-        same_summary summary (summary_of plan) (size_all together first w dones old new all begins summary.versions summary.size last)
-        (versions together first w dones old new all begins summary.versions summary.size last) agree
+    closed (Ok done) (first, (old, (new, (w, (all, (begins, (last, agree))))))) =
+        same_summary done.0 (summary_of plan) (size_all together first w dones old new all begins done.0.versions done.0.size last)
+        (versions together first w dones old new all begins done.0.versions done.0.size last) agree

@@ -6,7 +6,7 @@ use Rattle.std.proofs.lemmas.List.{take_all}
 use mathlib.Core.List.{IsPrefix}
 use Rattle.blob_model.specs.Content.{content, size_of}
 use Rattle.blob_model.specs.Store.{Store, Blob, blob_at, published}
-use Rattle.blob_model.specs.Answer.{Answered, Test, bytes_of, unless_refused, not_published, range_past_size}
+use Rattle.blob_model.specs.Answer.{Answered, bytes_of, unless_refused, not_published, range_past_size}
 use Rattle.blob_model.specs.History.{store_of, AllOther}
 use Rattle.blob_model.specs.declared.call.Event.{Event}
 use Rattle.blob_model.specs.declared.call.Outcome.{Outcome}

@@ -1,5 +1,5 @@
 -- Readers that are made, and that have read.
-use Rattle.std.proofs.Common.{◌≡◌, ◌⊎◌, inl, inr, ℕ, ◌-◌, ◌<◌, ◌≤◌, List, [], length, sym, ap, subst, ◌∙◌, arith, get_or}
+use Rattle.std.proofs.Common.{◌≡◌, ◌⊎◌, inl, inr, ℕ, ◌<◌, ◌≤◌, List, [], length, sym, ap, subst, ◌∙◌, arith, get_or}
 use Rattle.std.specs.Prelude.{Result, Ok, Err, All, IfOk, IfErr}
 use Rattle.blob_model.specs.History.{events_by}
 use Rattle.turn_lock.specs.History.{Begins}
@@ -10,8 +10,8 @@ use Rattle.read_board.specs.Fronts.{BoardId}
 use Rattle.read_board.specs.declared.refresh.Refresh.{Refresh}
 use Rattle.read_board.specs.Refreshing.{AllHold}
 use Rattle.read_board.specs.Telling.{BoardReadsTell}
-use Rattle.update_work.specs.Callers.{Told}
 use Rattle.update_work.specs.Updates.{told_faults}
+use Rattle.watch_law.specs.declared.plan.WatchPlan.{WatchPlan}
 use Rattle.watch_run.specs.Idling.{Idles}
 use Rattle.watch_run.specs.Readers.{WatcherState, StandsAt, HasMet, HasWatched, HaveWatched}
 use Rattle.watch_run.specs.Stages.{Entries, IsIdle}
@@ -45,8 +45,8 @@ module _ {D : Type 0} (faults : D → ℕ) (store : StoreState) where
     seen_by_owner log fault (inr by) = inr by
 
     -- one that has read is done
-    done_of : (w w' : WatcherState D) → IsReadyToWatch faults store before board w → HasWatched faults w w' → HasMet all w' → IsDoneWatching faults store seen board w'
-    done_of w w' ready has met =
+    done_of : (plan : WatchPlan) (w w' : WatcherState D) → IsReadyToWatch faults store before board w → HasWatched faults plan w w' → HasMet all w' → IsDoneWatching faults store seen board w'
+    done_of plan w w' ready has met =
         let idle : IsIdle store w'.reader.session = idle_on store w.reader.session w'.reader.session ready.idle has.read.idles in
         let own : 1 ≤ length w'.reader.session.log = some_more before w'.reader.session.log (subst (λ (l : Entries). Begins l w'.reader.session.log) ready.log has.read.idles.goes_on.begins) some in
         record {
@@ -58,15 +58,15 @@ module _ {D : Type 0} (faults : D → ℕ) (store : StoreState) where
           };
         }
 
-    pub all_done : (ws ws' : List (WatcherState D)) → length ws' ≡ length ws → All (IsReadyToWatch faults store before board) ws → HaveWatched faults ws ws' → All (HasMet all) ws'
+    pub all_done : (plan : WatchPlan) (ws ws' : List (WatcherState D)) → length ws' ≡ length ws → All (IsReadyToWatch faults store before board) ws → HaveWatched faults plan ws ws' → All (HasMet all) ws'
         → All (IsDoneWatching faults store seen board) ws'
-    all_done ws ws' count ready have met k d lt =
+    all_done plan ws ws' count ready have met k d lt =
         let there : k < length ws = omega (arith, lt, count) in
-        done_of (get_or ws k d) (get_or ws' k d) (ready k d there) (have k d there) (met k d lt)
+        done_of plan (get_or ws k d) (get_or ws' k d) (ready k d there) (have k d there) (met k d lt)
 
   -- they stand at the board still
-  pub all_stand : (before : Entries) (board : BoardId) (ws ws' : List (WatcherState D)) → length ws' ≡ length ws → All (IsReadyToWatch faults store before board) ws → HaveWatched faults ws ws' → All (StandsAt board) ws'
-  all_stand before board ws ws' count ready have k d lt =
+  pub all_stand : (plan : WatchPlan) (before : Entries) (board : BoardId) (ws ws' : List (WatcherState D)) → length ws' ≡ length ws → All (IsReadyToWatch faults store before board) ws → HaveWatched faults plan ws ws' → All (StandsAt board) ws'
+  all_stand plan before board ws ws' count ready have k d lt =
       let there : k < length ws = omega (arith, lt, count) in
       (have k d there).read.board ∙ (ready k d there).board_is
 
@@ -98,6 +98,6 @@ module _ {D : Type 0} (faults : D → ℕ) (store : StoreState) where
       let w = get_or ws k d in
       record {
         idle = ready.idle;
-        counted = λ less. (let none = ap (λ (t : Told). told_faults t) ready.told in omega (arith, none));
-        stop = subst (λ (t : Told). IfErr t (λ fault. Stops store.fixed seen fault ⊎ Stops store.fixed w.reader.session.log fault)) (sym ready.told) tt;
+        counted = λ less. (let none = ap (λ (t : Result (List ℕ) Fault). told_faults t) ready.told in omega (arith, none));
+        stop = subst (λ (t : Result (List ℕ) Fault). IfErr t (λ fault. Stops store.fixed seen fault ⊎ Stops store.fixed w.reader.session.log fault)) (sym ready.told) tt;
       }

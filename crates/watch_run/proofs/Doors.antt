@@ -1,5 +1,5 @@
 -- The doors of a watch's sessions, one call after another.
-use Rattle.std.proofs.Common.{◌≡◌, ◌∙◌, ℕ, suc, ◌+◌, ◌*◌, arith, refl, sym, ap, subst}
+use Rattle.std.proofs.Common.{◌≡◌, ℕ, suc, ◌+◌, ◌*◌, arith, refl, sym, ap, subst}
 use Rattle.std.proofs.Math.Nat.{suc-mul, zero-mul, add-mul}
 use Rattle.std.specs.Prelude.{Result, Ok, Err}
 use Rattle.page_store.specs.Calls.{Traffic, AllCameBack}

@@ -1,7 +1,8 @@
 -- What a watch's keeper keeps from refresh to refresh.
-use Rattle.std.proofs.Common.{◌≡◌, ◌⊎◌, ⊎_elim, ℕ, suc, ◌+◌, ◌==◌, Bool, true, List, [], ◌∷◌, ◌++◌, fold, if◌then◌else◌, refl, sym, ap, subst, ◌∙◌, arith}
+use Rattle.std.proofs.Common.{◌≡◌, ◌⊎◌, ⊎_elim, ℕ, suc, ◌+◌, ◌==◌, Bool, true, List, [], ◌∷◌, ◌++◌, length, map, fold, if◌then◌else◌, refl, sym, ap, subst, ◌∙◌, arith}
 use Rattle.std.specs.Prelude.{Option, Some, None, All}
 use Rattle.std.proofs.lemmas.Bool.Decides.{nat_tests}
+use Rattle.std.proofs.lemmas.List.{length-append, map_push}
 use Rattle.std.proofs.lemmas.List.Elements.{All-push}
 use Rattle.std.proofs.lemmas.List.Sums.{fold_push}
 use Rattle.blob_model.specs.Limits.{Bounds}
@@ -13,13 +14,22 @@ use Rattle.client_session.specs.Sessions.{SessionState, StoreState, Continues}
 use Rattle.workload_law.specs.Sessions.{GapsHaveNoOwn}
 use Rattle.read_board.specs.declared.refresh.Refresh.{Refresh}
 use Rattle.read_board.specs.Keeping.{KeeperState}
-use Rattle.read_board.specs.Refreshes.{on_board, IsFullFor}
-use Rattle.read_board.specs.Refreshing.{AllHold, HasLooked, IsNotThere, LeftPending}
+use Rattle.read_board.specs.Refreshes.{version_of, on_board, IsFullFor}
+use Rattle.read_board.specs.Refreshing.{AllHold, HasLooked, IsNotThere, LeftPending, Refreshed}
 use Rattle.watch_run.specs.Keeping.{MayRefresh, RefreshHindered, Refreshes}
 use Rattle.watch_run.proofs.Idling.{idles_none, idles_both, idles_looked}
 
 abbrev step : ℕ → Option Refresh → Refresh → Option Refresh
 step blob found e = if e.blob == blob then Some e else found
+
+-- one more refresh
+pub one_more : (k k' : KeeperState) (version : ℕ) → Refreshed k k' 1 version → length k'.all ≡ length k.all + 1
+one_more k k' version done = ap (λ (l : List Refresh). length l) done.all ∙ length-append k.all (done.refresh ∷ [])
+
+pub versions_more : (k k' : KeeperState) (version : ℕ) → Refreshed k k' 1 version → map version_of k'.all ≡ map version_of k.all ++ version ∷ []
+versions_more k k' version done =
+    ap (λ (l : List Refresh). map version_of l) done.all
+    ∙ (map_push version_of k.all done.refresh ∙ ap (λ (v : ℕ). map version_of k.all ++ v ∷ []) done.version_is)
 
 -- a refresh of the blob is the blob's last one
 pub on_pushed : (rs : List Refresh) (r : Refresh) → r.blob ≡ 1 → on_board 1 (rs ++ r ∷ []) ≡ Some r

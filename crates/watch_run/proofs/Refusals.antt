@@ -1,5 +1,5 @@
 -- Reads that were refused.
-use Rattle.std.proofs.Common.{◌≡◌, ◌≢◌, ◌⊎◌, inl, inr, ℕ, ◌+◌, ◌*◌, ◌<◌, ◌≤◌, Bool, true, false, if◌then◌else◌, List, [], ◌∷◌, ◌++◌, refl, sym, ap, subst, ◌∙◌, append-nil, arith}
+use Rattle.std.proofs.Common.{◌≡◌, ◌≢◌, ◌⊎◌, inl, inr, ℕ, ◌+◌, ◌*◌, ◌<◌, ◌≤◌, Bool, true, false, if◌then◌else◌, List, [], ◌∷◌, refl, sym, ap, subst, ◌∙◌, append-nil, arith}
 use Rattle.std.specs.Prelude.{Option, Some, None, Ok, Err, IfErr, nat_lt}
 use Rattle.std.proofs.lemmas.Bool.Decides.{nat_tests}
 use Rattle.blob_model.specs.Content.{size_of}
@@ -18,7 +18,7 @@ use Rattle.version_manager.specs.declared.journal.DeskFixed.{DeskFixed}
 use Rattle.request_form.specs.Answers.{Turn, AfterGap, ReadTurn, Unless, Answers, max_read}
 use Rattle.request_form.specs.PublishedReads.{Range, read_outcome}
 use Rattle.request_form.specs.Replies.{reply_of, fault_of}
-use Rattle.request_form.specs.Session.{Session, sees, outcome_at}
+use Rattle.request_form.specs.Session.{Session, sees}
 use Rattle.request_form.specs.Turns.{with_tickets, and_made}
 use Rattle.request_form.specs.declared.form.Request.TheVariants as Requests
 use Rattle.request_form.specs.declared.form.Reply.TheVariants as Replies

@@ -1,19 +1,16 @@
 -- Why readers and the last session of a watch stop, as more is seen.
-use Rattle.std.proofs.Common.{◌≡◌, ◌⊎◌, inl, inr, ℕ, ◌+◌, ◌*◌, ◌<◌, ◌≤◌, List, [], ◌++◌, length, take, drop, refl, sym, ap, subst, ◌∙◌, append-nil, arith}
-use Rattle.std.specs.Prelude.{Option, Some, Result, Ok, Err}
+use Rattle.std.proofs.Common.{◌≡◌, ◌⊎◌, inl, inr, ℕ, ◌+◌, ◌*◌, ◌≤◌, List, [], length, take, drop, refl, sym, ap, subst, ◌∙◌, append-nil, arith}
+use Rattle.std.specs.Prelude.{Some, Result, Ok, Err}
 use mathlib.Core.List.{IsPrefix}
 use Rattle.std.proofs.lemmas.List.{length-append}
 use Rattle.blob_model.specs.Content.{content, size_of}
-use Rattle.blob_model.specs.Store.{Blob, blob_at}
+use Rattle.blob_model.specs.Store.{blob_at}
 use Rattle.blob_model.specs.History.{store_of}
 use Rattle.turn_lock.specs.History.{Begins}
 use Rattle.turn_lock.proofs.Histories.{begins_both}
-use Rattle.version_manager.specs.Desks.{updates_in, updates_or_none}
-use Rattle.version_manager.specs.Log.{desk_at, events}
+use Rattle.version_manager.specs.Log.{events}
 use Rattle.version_manager.specs.declared.journal.DeskFixed.{DeskFixed}
-use Rattle.request_form.specs.Answers.{max_read}
 use Rattle.request_form.specs.PublishedReads.{Tells, read_outcome}
-use Rattle.request_form.specs.Replies.{reply_of}
 use Rattle.request_form.specs.declared.form.Reply.TheVariants as Replies
 use Rattle.request_form.specs.declared.form.Fault.{Fault}
 use Rattle.request_form.specs.declared.form.Fault.TheVariants as Faults

@@ -1,6 +1,6 @@
 -- How a watch's work ends, by how its callers did.
 use Rattle.std.proofs.Common.{◌≡◌, ◌+◌, ◌≤◌, List, [], ◌++◌, refl, sym, ap, subst, ◌∙◌, append-nil, arith}
-use Rattle.std.specs.Prelude.{Result, Ok, Err, IfErr}
+use Rattle.std.specs.Prelude.{Result, Ok, Err, IfErr, OnOk}
 use Rattle.std.specs.Result.{result_and}
 use Rattle.blob_model.specs.Limits.{greatest}
 use Rattle.blob_model.specs.History.{events_by}
@@ -21,6 +21,7 @@ use Rattle.update_work.specs.Updates.{told_faults}
 use Rattle.watch_law.specs.declared.plan.WatchPlan.{WatchPlan}
 use Rattle.watch_law.specs.declared.plan.WatchSummary.{WatchSummary}
 use Rattle.watch_law.specs.Watch.{piece_of, HasWritten, HasBegun}
+use Rattle.watch_law.specs.Notes.{NotesState}
 use Rattle.watch_run.specs.Ending.{HasWrittenAll, EndsBy, FinishHindered, Finishes, WatchEnds}
 use Rattle.watch_run.specs.Keeping.{RefreshHindered}
 use Rattle.update_work.specs.Callers.{Told}
@@ -90,8 +91,8 @@ module _ {D : Type 0} (are : EntriesAreEvents) (stay : OwnsStay) (plan : WatchPl
     by_hindered fault (FinishHindered.too_long more seen to version size last long) =
         EndsBy.too_long first.seen two.seen seen (more.watched plan first.seen watched_two) (written_all more) to version size last long
 
-    pub ends_by_finish : (all : Result WatchSummary Fault) → Finishes f plan.readers all two three → WatchEnds plan f all three
-    ends_by_finish (Ok summary) done =
+    pub ends_by_finish : (all : Result (WatchSummary × NotesState) Fault) → Finishes f plan.readers all two three → WatchEnds plan f all three
+    ends_by_finish (Ok told) done =
         (first.seen, (two.seen, (done.seen, (done.leaves.watched plan first.seen watched_two, (written_all done.leaves, (done.begins, (done.last, done.agree)))))))
     ends_by_finish (Err fault) by = by_hindered fault by
 
@@ -119,6 +120,12 @@ early_counts k (Ok done) (Err stop) fault hindered which =
     let none = no_page k stop hindered in
     omega (arith, same, none)
 early_counts k (Ok done) (Ok also) fault hindered which = absurd (let no : Ok also ≡ Err fault = which in cc)
+
+-- so of the keeper what holds where it came to its end
+pub kept_done : (written kept : Told) (done : Unit {0}) (P : Type 0) → result_and written kept ≡ Ok done → OnOk kept P → P
+kept_done (Ok done) (Ok also) one P which p = p
+kept_done (Ok done) (Err fault) one P which p = absurd (let no : Err fault ≡ Ok one = which in cc)
+kept_done (Err fault) kept one P which p = absurd (let no : Err fault ≡ Ok one = which in cc)
 
 pub both_done : (written kept : Told) (done : Unit {0}) → result_and written kept ≡ Ok done → written ≡ Ok tt
 both_done (Ok done) kept one which = refl

@@ -1,5 +1,5 @@
 -- How a watch ends.
-use Rattle.std.specs.Prelude.{◌≡◌, ℕ, ◌+◌, ◌<◌, ◌-◌, List, ◌++◌, length, None, Result, Ok, Err}
+use Rattle.std.specs.Prelude.{◌≡◌, ℕ, ◌+◌, ◌<◌, List, [], ◌∷◌, ◌++◌, length, map, None, Result, Ok, Err, All}
 use Rattle.blob_model.specs.Content.{size_of}
 use Rattle.blob_model.specs.Limits.{greatest}
 use Rattle.blob_model.specs.Store.{blob_at}
@@ -11,14 +11,20 @@ use Rattle.version_manager.specs.Desks.{updates_in, published_in}
 use Rattle.version_manager.specs.Log.{events, desk_at}
 use Rattle.version_manager.specs.declared.journal.DeskFixed.{DeskFixed}
 use Rattle.request_form.specs.Answers.{max_read}
+use Rattle.request_form.specs.PublishedReads.{IsPublishedIn}
 use Rattle.request_form.specs.declared.form.Fault.{Fault}
 use Rattle.workload_law.specs.Ends.{IsOutside, NoPage, UpdateHindered}
 use Rattle.read_board.specs.declared.refresh.Refresh.{Refresh}
+use Rattle.read_board.specs.Refreshes.{version_of}
 use Rattle.watch_law.specs.declared.plan.WatchPlan.{WatchPlan}
 use Rattle.watch_law.specs.declared.plan.WatchSummary.{WatchSummary}
 use Rattle.watch_law.specs.Watch.{piece_of, IsWatchPage, HasWritten, summary_of}
+use Rattle.watch_law.specs.Notes.{NotesState, HaveNoted}
 use Rattle.watch_run.specs.declared.last.Last.{Last}
 use Rattle.watch_run.specs.Agreeing.{IsToldBy, IsSeenIn}
+use Rattle.watch_run.specs.Crews.{AllCameToEnd}
+use Rattle.watch_run.specs.Noting.{IsPieceSeen}
+use Rattle.watch_run.specs.Readers.{WatcherState}
 use Rattle.watch_run.specs.Stages.{Entries, Owner, IsUnopened, IsWatched, LeavesWatch}
 use Rattle.watch_run.specs.Stops.{Stops}
 
@@ -75,18 +81,32 @@ pub data FinishHindered (f : DeskFixed) (old new : Owner) (fault : Fault) : Type
   missing : LeavesWatch old new → (seen : Entries) → Begins old.seen seen → Begins seen new.seen → blob_at (store_of greatest (events seen)) 1 ≡ None → FinishHindered f old new fault
   too_long : LeavesWatch old new → (seen : Entries) → Begins seen new.seen → (version size : ℕ) → IsSeenLast f old.seen seen version size → max_read < size → FinishHindered f old new fault
 
-abbrev pub Finishes : DeskFixed → ℕ → Result WatchSummary Fault → Owner → Owner → Type 0
-Finishes f readers (Ok summary) old new = HasFinished f readers old new summary
+abbrev pub Finishes : DeskFixed → ℕ → Result (WatchSummary × NotesState) Fault → Owner → Owner → Type 0
+Finishes f readers (Ok done) old new = HasFinished f readers old new done.0
 Finishes f readers (Err fault) old new = FinishHindered f old new fault
 
+-- What is noted then: the versions of these refreshes of the keeper, and last of one more; and what these readers read, all of whom came to their ends.
+pub record NotesOf {D : Type 0} (all : List Refresh) (ws : List (WatcherState D)) (seen : Entries) (version : ℕ) (notes : NotesState) : Type 0 where
+  pub refreshes : notes.refreshes ≡ map version_of all ++ version ∷ []
+  pub readings : AllCameToEnd seen ws notes.readings
+
 -- what a watch came to, or why it ended early
-abbrev pub WatchEnds : WatchPlan → DeskFixed → Result WatchSummary Fault → Owner → Type 0
-WatchEnds plan f (Ok summary) owner =
-    (first : Entries) × ((old : Entries) × ((new : Entries) × (IsWatched plan first owner × (HasWrittenAll plan old owner × (Begins new owner.seen × (IsSeenLast f old new summary.versions summary.size × (summary.agree ≡ plan.readers)))))))
+abbrev pub WatchEnds : WatchPlan → DeskFixed → Result (WatchSummary × NotesState) Fault → Owner → Type 0
+WatchEnds plan f (Ok done) owner =
+    (first : Entries) × ((old : Entries) × ((new : Entries) × (IsWatched plan first owner × (HasWrittenAll plan old owner
+    × (Begins new owner.seen × (IsSeenLast f old new done.0.versions done.0.size × (done.0.agree ≡ plan.readers)))))))
 WatchEnds plan f (Err fault) owner = EndsBy plan f owner fault
+
+-- What is noted then: as many refreshes as the plan has operations, of versions that are published in what was seen, and one of the last version; and of each reader, in order, what it read.
+pub record NotesSeen (plan : WatchPlan) (f : DeskFixed) (seen : Entries) (version : ℕ) (notes : NotesState) : Type 0 where
+  pub before : List ℕ
+  pub count : length before ≡ plan.ops
+  pub refreshes : notes.refreshes ≡ before ++ version ∷ []
+  pub published : All (λ (v : ℕ). IsPublishedIn (store_of f.limits (events seen)) 1 v) before
+  pub readings : HaveNoted (IsPieceSeen f seen) plan.ops plan.readers notes.readings
 
 -- ---- once it is closed
 -- a page has p bytes
-abbrev pub TellsWatch : WatchPlan → ℕ → Result WatchSummary Fault → Type 0
-TellsWatch plan p (Ok summary) = summary ≡ summary_of plan
+abbrev pub TellsWatch : WatchPlan → ℕ → Result (WatchSummary × NotesState) Fault → Type 0
+TellsWatch plan p (Ok done) = done.0 ≡ summary_of plan
 TellsWatch plan p (Err fault) = IsOutside (IsWatchPage plan p) fault

@@ -1,5 +1,5 @@
 -- What a watch's keeper keeps from refresh to refresh, and why a refresh isn't done.
-use Rattle.std.specs.Prelude.{◌≡◌, [], ◌∷◌, None, All, IfErr}
+use Rattle.std.specs.Prelude.{◌≡◌, ◌+◌, [], ◌∷◌, length, None, All, IfErr, OnOk}
 use Rattle.blob_model.specs.Limits.{greatest}
 use Rattle.blob_model.specs.Store.{blob_at}
 use Rattle.blob_model.specs.History.{store_of}
@@ -12,6 +12,7 @@ use Rattle.read_board.specs.Keeping.{KeeperState}
 use Rattle.read_board.specs.Refreshing.{AllHold}
 use Rattle.watch_run.specs.Idling.{Idles}
 use Rattle.update_work.specs.Callers.{Told}
+use Rattle.watch_law.specs.declared.plan.WatchPlan.{WatchPlan}
 
 -- The keeper may refresh by this session, and all its refreshes are of blob 1.
 pub record MayRefresh {D : Type 0} (k : KeeperState) (s : SessionState D) : Type 0 where
@@ -32,7 +33,8 @@ pub record Refreshes {D : Type 0} (k k' : KeeperState) (s s' : SessionState D) :
   pub idles : Idles s s'
   pub rest : s' ≡ record s { log = s'.log; turns = s'.turns }
 
--- a keeper that was handed its session has ended
-pub record HasKept {D : Type 0} (told : Told) (k k' : KeeperState) (s s' : SessionState D) : Type 0 where
+-- a keeper that was handed its session has ended: where it came to its end, it refreshed as often as the plan has operations
+pub record HasKept {D : Type 0} (plan : WatchPlan) (told : Told) (k k' : KeeperState) (s s' : SessionState D) : Type 0 where
+  pub count : OnOk told (length k'.all ≡ length k.all + plan.ops)
   pub hindered : IfErr told (RefreshHindered s')
   pub refreshes : Refreshes k k' s s'

@@ -3,6 +3,7 @@ pub mod Doors
 pub mod Writing
 pub mod Keeping
 pub mod Stops
+pub mod Noting
 pub mod Readers
 pub mod Stages
 pub mod Crews

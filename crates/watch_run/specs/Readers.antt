@@ -1,5 +1,5 @@
 -- The readers of a watch, each with how it ended.
-use Rattle.std.specs.Prelude.{◌≡◌, ℕ, ◌+◌, ◌*◌, ◌<◌, List, Some, IfErr, sum_by, slice_index_or, length}
+use Rattle.std.specs.Prelude.{◌≡◌, ℕ, ◌+◌, ◌*◌, ◌<◌, List, Some, Result, IfOk, IfErr, sum_by, slice_index_or, length}
 use mathlib.Core.List.{IsPrefix}
 use Rattle.faults.specs.Counts.{RoseBy}
 use Rattle.request_form.specs.declared.form.Fault.{Fault}
@@ -11,14 +11,16 @@ use Rattle.read_board.specs.Reads.{goes_by}
 use Rattle.read_board.specs.Refreshes.{updates_of}
 use Rattle.workload_law.specs.Ends.{IsOutside}
 use Rattle.update_work.specs.Updates.{told_faults}
+use Rattle.watch_law.specs.declared.plan.WatchPlan.{WatchPlan}
+use Rattle.watch_law.specs.Notes.{HasNoted}
 use Rattle.watch_run.specs.Idling.{Idles}
 use Rattle.watch_run.specs.Stops.{IsPageSeen, IsRefusedIn}
-use Rattle.update_work.specs.Callers.{Told}
+use Rattle.watch_run.specs.Noting.{PieceRead}
 
--- a reader, and how it ended
+-- a reader, and what it read, or why it stopped
 pub record WatcherState (D : Type 0) : Type 0 where
   pub reader : StandingState D
-  pub told : Told
+  pub told : Result (List ℕ) Fault
 
 -- it stands at that board
 abbrev pub StandsAt : {D : Type 0} → BoardId → WatcherState D → Type 0
@@ -43,11 +45,12 @@ module _ {D : Type 0} (faults : D → ℕ) where
     pub idles : Idles old.session new.session
     pub rose : RoseBy count (sum_by faults old.session.doors) (sum_by faults new.session.doors)
 
-  -- a reader has read what it was to read, or it stopped at a read
-  pub record HasWatched (old new : WatcherState D) : Type 0 where
+  -- a reader has read each version of the plan, or it stopped at a read
+  pub record HasWatched (plan : WatchPlan) (old new : WatcherState D) : Type 0 where
     pub read : HasRead (told_faults new.told) old.reader new.reader
     pub stop : IfErr new.told (ReadHindered new.reader)
+    pub noted : IfOk new.told (HasNoted (PieceRead old.reader new.reader) plan.ops)
 
   -- so it is of the readers at all places
-  abbrev pub HaveWatched : List (WatcherState D) → List (WatcherState D) → Type 0
-  HaveWatched old new = (place : ℕ) (d : WatcherState D) → place < length old → HasWatched (slice_index_or old place d) (slice_index_or new place d)
+  abbrev pub HaveWatched : WatchPlan → List (WatcherState D) → List (WatcherState D) → Type 0
+  HaveWatched plan old new = (place : ℕ) (d : WatcherState D) → place < length old → HasWatched plan (slice_index_or old place d) (slice_index_or new place d)

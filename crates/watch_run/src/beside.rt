@@ -48,7 +48,7 @@ fn keep_by<'a, R: Wait, W: Wait + Drop, D: BesideDoor, G: Gate>(
     session: Session<'a, D, G>,
 ) -> (Keeper<W>, Session<'a, D, G>, Result<(), Fault>)
     requires may { MayRefresh keeper session }
-    ensures { HasKept result.2 keeper result.0 session.entry result.1 }
+    ensures { HasKept plan.now result.2 keeper result.0 session.entry result.1 }
 {
     let mut keeper = keeper;
     let mut session = session;
@@ -62,7 +62,7 @@ fn watch_by<'a, R: Threads + Wait + Sync, D: BesideDoor + Send, G: Gate + Sync>(
     plan: &WatchPlan,
     mut watchers: Vec<Watcher<'a, D, G>>,
 ) -> Vec<Watcher<'a, D, G>>
-    ensures watched { HaveWatched D.faults watchers.entry.items result.items }
+    ensures watched { HaveWatched D.faults plan.now watchers.entry.items result.items }
     ensures count { vec_len result ≡ vec_len watchers.entry }
 {
     watch_beside(rt, plan, watchers.as_mut_slice());
@@ -89,19 +89,19 @@ fn keep_and_watch<
 )
     requires sync { IsSync R.row }
     requires may { MayRefresh keeper session }
-    ensures kept { HasKept result.0.2 keeper result.0.0 session.entry result.0.1 }
-    ensures watched { HaveWatched D.faults watchers.entry.items result.1.items }
+    ensures kept { HasKept plan.now result.0.2 keeper result.0.0 session.entry result.0.1 }
+    ensures watched { HaveWatched D.faults plan.now watchers.entry.items result.1.items }
     ensures count { vec_len result.1 ≡ vec_len watchers.entry }
 {
     thread::join(
         rt,
         move || -> (Keeper<W>, Session<'_, D, G>, Result<(), Fault>)
             requires { MayRefresh keeper session }
-            ensures { HasKept result.2 keeper result.0 session.entry result.1 }
+            ensures { HasKept plan.entry.now result.2 keeper result.0 session.entry result.1 }
         { keep_by(rt, plan, keeper, session) },
         move || -> Vec<Watcher<'_, D, G>>
             requires { IsSync R.row }
-            ensures watched { HaveWatched D.faults watchers.entry.items result.items }
+            ensures watched { HaveWatched D.faults plan.entry.now watchers.entry.items result.items }
             ensures count { vec_len result ≡ vec_len watchers.entry }
         { watch_by(rt, plan, watchers) },
     )
@@ -131,8 +131,8 @@ pub(crate) fn work_beside<
     requires fresh { IsFresh 1 (session_of crew.writer) }
     requires may { MayRefresh keeper crew.keeping }
     ensures written { HasWrittenBy D.faults plan.now result.2 crew.entry.writer result.1.writer }
-    ensures kept { HasKept result.3 keeper result.0 crew.entry.keeping result.1.keeping }
-    ensures watched { HaveWatched D.faults crew.entry.watchers.items result.1.watchers.items }
+    ensures kept { HasKept plan.now result.3 keeper result.0 crew.entry.keeping result.1.keeping }
+    ensures watched { HaveWatched D.faults plan.now crew.entry.watchers.items result.1.watchers.items }
     ensures count { vec_len result.1.watchers ≡ vec_len crew.entry.watchers }
 {
     let Crew {
@@ -151,8 +151,8 @@ pub(crate) fn work_beside<
             Vec<Watcher<'_, D, G>>,
         )
             requires { IsSync R.row × MayRefresh keeper keeping }
-            ensures kept { HasKept result.0.2 keeper result.0.0 keeping.entry result.0.1 }
-            ensures watched { HaveWatched D.faults watchers.entry.items result.1.items }
+            ensures kept { HasKept plan.entry.now result.0.2 keeper result.0.0 keeping.entry result.0.1 }
+            ensures watched { HaveWatched D.faults plan.entry.now watchers.entry.items result.1.items }
             ensures count { vec_len result.1 ≡ vec_len watchers.entry }
         { keep_and_watch(rt, plan, keeper, keeping, watchers) },
     );

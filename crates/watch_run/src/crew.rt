@@ -6,6 +6,7 @@ ghost use Rattle.store_sessions.specs.Made.{IsNewSession};
 ghost use Rattle.watch_run.specs.Crews.{IsReadyToWatch};
 
 use crate::ending::end_watchers;
+use crate::notes::Readings;
 use crate::reading::Watcher;
 use client_session::{Owner, Session, Shared};
 use page_store::{Door, DoorMaker};
@@ -58,7 +59,7 @@ fn watchers_of<'a, M: DoorMaker, G: Gate>(
         match open_session(alloc, shared, owner, maker, gate) {
             Ok(session) => watchers.push_reserved(Watcher {
                 reader: stand.reader(session),
-                told: Ok(()),
+                told: Ok(Readings::none()),
             }),
             Err(NoMemory) => {
                 let _none = end_watchers(shared, owner, maker, watchers);

@@ -5,13 +5,15 @@ ghost use Rattle.page_store.specs.Calls.{Traffic};
 ghost use Rattle.update_work.specs.Updates.{told_faults};
 ghost use Rattle.watch_run.specs.Stages.{IsIdle, LeavesWatch};
 ghost use Rattle.update_work.specs.Left.{left_faults};
-ghost use Rattle.watch_run.specs.Crews.{IsEndable, IsDoneWatching};
+ghost use Rattle.watch_run.specs.Crews.{IsEndable, IsDoneWatching, CameToEnd, AllCameToEnd};
+ghost use Rattle.turn_lock.specs.History.{Begins};
 ghost use Rattle.watch_run.specs.Agreeing.{IsToldBy, IsSeenIn};
 ghost use Rattle.watch_run.specs.Stops.{Stops};
 
 use crate::agreeing::{compare_by_place, compare_by_turn};
 use crate::last::Last;
 use crate::making::end_idle;
+use crate::notes::Readings;
 use crate::reading::Watcher;
 use client_session::{Owner, Session, Shared};
 use page_store::DoorMaker;
@@ -47,8 +49,9 @@ pub(crate) fn end_watchers<M: DoorMaker, G: Gate>(
     while let Some(watcher) = watchers.pop() {
         let Watcher { reader, told } = watcher;
         end_idle(shared, owner, maker, reader.into_session());
-        if let Err(fault) = told {
-            stop = Some(fault);
+        match told {
+            Ok(_readings) => {}
+            Err(fault) => stop = Some(fault),
         }
     }
     watchers.destroy_empty();
@@ -74,6 +77,7 @@ fn agree_by_place<R: Wait, W: Wait + Drop, M: DoorMaker, G: Gate>(
     ensures agrees { IfOk result (λ same. same ≡ true) }
     ensures stop { IfErr result (Stops shared.now.fixed owner.new.seen) }
     ensures leaves { LeavesWatch owner.old owner.new }
+    ensures begins { Begins reader.entry.session.log owner.new.seen }
     ensures out { owner.old.out ≡ owner.new.out + 1 }
     ensures made { owner.new.made ≡ owner.old.made }
     ensures owner { IsOwnerOf shared.now owner.new }
@@ -116,6 +120,7 @@ fn agree_by_turn<R: Wait, M: DoorMaker, G: Gate>(
     ensures agrees { IfOk result (λ same. same ≡ true) }
     ensures stop { IfErr result (Stops shared.now.fixed owner.new.seen) }
     ensures leaves { LeavesWatch owner.old owner.new }
+    ensures begins { Begins session.entry.log owner.new.seen }
     ensures out { owner.old.out ≡ owner.new.out + 1 }
     ensures made { (owner.old.made ≤ owner.new.made) × (owner.new.made ≤ owner.old.made + 1) }
     ensures seen { IsSeenIn shared.now.fixed owner.new.seen last.now }
@@ -156,6 +161,7 @@ fn agree_one<R: Wait, W: Wait + Drop, M: DoorMaker, G: Gate>(
     ensures agrees { IfOk result (λ same. same ≡ true) }
     ensures stop { IfErr result (Stops shared.now.fixed owner.new.seen) }
     ensures leaves { LeavesWatch owner.old owner.new }
+    ensures begins { Begins reader.entry.session.log owner.new.seen }
     ensures seen { IsSeenIn shared.now.fixed owner.new.seen last.now }
     ensures out { owner.old.out ≡ owner.new.out + 1 }
     ensures made { (owner.old.made ≤ owner.new.made) × (owner.new.made ≤ owner.old.made + 1) }
@@ -172,7 +178,7 @@ fn agree_one<R: Wait, W: Wait + Drop, M: DoorMaker, G: Gate>(
     agree_by_turn(rt, alloc, shared, owner, maker, gate, last, session)
 }
 
-// Whether a reader reads the last version's bytes, or why it didn't come to its end. Its session ends.
+// Whether a reader reads the last version's bytes, and what it read before; or why it didn't come to its end. Its session ends.
 fn agree_with<R: Wait, W: Wait + Drop, M: DoorMaker, G: Gate>(
     rt: &R,
     alloc: Global,
@@ -183,13 +189,14 @@ fn agree_with<R: Wait, W: Wait + Drop, M: DoorMaker, G: Gate>(
     keeper: &Keeper<W>,
     last: &Last,
     watcher: Watcher<'_, M::Door, G>,
-) -> Result<bool, Fault>
+) -> Result<(bool, Readings), Fault>
     requires owner { IsOwnerOf shared.now owner.old }
     requires passes_left { (3 ≤ owner.old.made) × (owner.old.made < 1024) }
     requires done { IsDoneWatching M.Door.faults shared.now owner.old.seen keeper.now.board watcher }
     requires told { IsToldBy keeper.now.shown last.now }
     requires seen { IsSeenIn shared.now.fixed owner.old.seen last.now }
-    ensures agrees { IfOk result (λ same. same ≡ true) }
+    ensures agrees { IfOk result (λ r. r.0 ≡ true) }
+    ensures ended { IfOk result (λ r. CameToEnd owner.new.seen watcher.entry r.1) }
     ensures stop { IfErr result (Stops shared.now.fixed owner.new.seen) }
     ensures leaves { LeavesWatch owner.old owner.new }
     ensures seen { IsSeenIn shared.now.fixed owner.new.seen last.now }
@@ -203,7 +210,12 @@ fn agree_with<R: Wait, W: Wait + Drop, M: DoorMaker, G: Gate>(
 {
     let Watcher { reader, told } = watcher;
     match told {
-        Ok(()) => agree_one(rt, alloc, shared, owner, maker, gate, keeper, last, reader),
+        Ok(readings) => {
+            match agree_one(rt, alloc, shared, owner, maker, gate, keeper, last, reader) {
+                Ok(same) => Ok((same, readings)),
+                Err(stopped) => Err(stopped),
+            }
+        }
         Err(fault) => {
             end_idle(shared, owner, maker, reader.into_session());
             Err(fault)
@@ -211,8 +223,8 @@ fn agree_with<R: Wait, W: Wait + Drop, M: DoorMaker, G: Gate>(
     }
 }
 
-/// How many readers read the last version's bytes. All their sessions end. Where a reader didn't come to its end, or its last read failed,
-/// it answers why, of the lowest such reader.
+/// How many readers read the last version's bytes, and what all of them read before, one reader's reads after another's. All their sessions
+/// end. Where a reader didn't come to its end, or its last read failed, it answers why, of the lowest such reader.
 pub(crate) fn agree_all<R: Wait, W: Wait + Drop, M: DoorMaker, G: Gate>(
     rt: &R,
     alloc: Global,
@@ -223,13 +235,14 @@ pub(crate) fn agree_all<R: Wait, W: Wait + Drop, M: DoorMaker, G: Gate>(
     keeper: &Keeper<W>,
     last: &Last,
     mut watchers: Vec<Watcher<'_, M::Door, G>>,
-) -> Result<u32, Fault>
+) -> Result<(u32, Readings), Fault>
     requires owner { IsOwnerOf shared.now owner.old }
     requires passes_left { (3 ≤ owner.old.made) × (owner.old.made + vec_len watchers < 1024) }
     requires done { All (IsDoneWatching M.Door.faults shared.now owner.old.seen keeper.now.board) watchers.items }
     requires told { IsToldBy keeper.now.shown last.now }
     requires seen { IsSeenIn shared.now.fixed owner.old.seen last.now }
-    ensures all { IfOk result (λ agree. agree ≡ vec_len watchers.entry) }
+    ensures all { IfOk result (λ r. r.0 ≡ vec_len watchers.entry) }
+    ensures ended { IfOk result (λ r. AllCameToEnd owner.new.seen watchers.entry.items r.1) }
     ensures stop { IfErr result (Stops shared.now.fixed owner.new.seen) }
     ensures leaves { LeavesWatch owner.old owner.new }
     ensures out { owner.old.out ≡ owner.new.out + vec_len watchers.entry }
@@ -240,16 +253,20 @@ pub(crate) fn agree_all<R: Wait, W: Wait + Drop, M: DoorMaker, G: Gate>(
     ensures plan_stays { (n : ℕ) (door : _) → M.makes maker.old n door ↔ M.makes maker.new n door }
 {
     let mut agree: u32 = 0;
+    let mut readings = Readings::none();
     let mut stop = None;
     while let Some(watcher) = watchers.pop() {
         match agree_with(rt, alloc, shared, owner, maker, gate, keeper, last, watcher) {
-            Ok(same) => agree += u32::from(same),
+            Ok((same, own)) => {
+                agree += u32::from(same);
+                readings.put_before(&own);
+            }
             Err(fault) => stop = Some(fault),
         }
     }
     watchers.destroy_empty();
     match stop {
         Some(fault) => Err(fault),
-        None => Ok(agree),
+        None => Ok((agree, readings)),
     }
 }

@@ -1,5 +1,5 @@
 // The work of a watch's keeper.
-ghost use Rattle.std.specs.Prelude.{◌≡◌, IfOk, IfErr};
+ghost use Rattle.std.specs.Prelude.{◌≡◌, ◌+◌, IfOk, IfErr, OnOk, length};
 ghost use Rattle.read_board.specs.Refreshing.{Refreshed, IsRecent};
 ghost use Rattle.watch_run.specs.Keeping.{MayRefresh, RefreshHindered, Refreshes};
 
@@ -44,6 +44,7 @@ pub(crate) fn keep_all<R: Wait, W: Wait + Drop, D: Door, G: Gate>(
     plan: &WatchPlan,
 ) -> Result<(), Fault>
     requires may { MayRefresh keeper.old session.old }
+    ensures count { OnOk result (length keeper.new.all ≡ length keeper.old.all + plan.now.ops) }
     ensures hindered { IfErr result (RefreshHindered session.new) }
     ensures refreshes { Refreshes keeper.old keeper.new session.old session.new }
 {

@@ -6,6 +6,7 @@ ghost use Rattle.version_manager.specs.Log.{events};
 ghost use Rattle.request_form.specs.PublishedReads.{IsPublishedIn};
 ghost use Rattle.update_work.specs.Updates.{told_faults};
 ghost use Rattle.watch_run.specs.Idling.{Idles};
+ghost use Rattle.read_board.specs.Refreshing.{Refreshed};
 ghost use Rattle.watch_run.specs.Keeping.{MayRefresh};
 ghost use Rattle.watch_run.specs.Lasts.{WholeRead, IsLast, LastHindered, updates_seen};
 
@@ -68,6 +69,7 @@ pub(crate) fn read_last<R: Wait, W: Wait + Drop, D: Door, G: Gate>(
 ) -> Result<Last, Fault>
     requires may { MayRefresh keeper.old session.old }
     ensures last { IfOk result (λ last. IsLast keeper.new session.old session.new last.version last.bytes) }
+    ensures refreshed { IfOk result (λ last. Refreshed keeper.old keeper.new 1 last.version) }
     ensures hindered { IfErr result (LastHindered session.old session.new) }
     ensures idles { Idles session.old session.new }
     ensures rose { RoseBy (told_faults result) (sum_by D.faults session.old.doors) (sum_by D.faults session.new.doors) }

@@ -10,9 +10,11 @@ mod keeping;
 mod last;
 mod making;
 mod meeting;
+mod notes;
 mod reading;
 mod watching;
 mod writing;
 
+pub use notes::WatchNotes;
 pub use watch_law::{WatchPlan, WatchSummary};
-pub use watching::{WatchFault, watch};
+pub use watching::{WatchFault, watch, watch_noted};

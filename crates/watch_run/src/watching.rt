@@ -4,14 +4,15 @@ ghost use Rattle.blob_model.specs.Limits.{greatest};
 ghost use Rattle.client_session.specs.Sessions.{IsOwnerOf};
 ghost use Rattle.version_manager.specs.Log.{IsHistory, fixed_of};
 ghost use Rattle.watch_law.specs.Watch.{IsSized, IsWatch, IsWatchPage, summary_of};
+ghost use Rattle.watch_law.specs.Notes.{HasDone};
 ghost use Rattle.update_work.specs.Updates.{told_faults};
-ghost use Rattle.read_board.specs.Refreshing.{AllHold};
+ghost use Rattle.read_board.specs.Refreshing.{AllHold, Refreshed};
 ghost use Rattle.store_sessions.specs.Made.{IsNewSession};
 ghost use Rattle.store_sessions.specs.Lent.{LentDoors};
 ghost use Rattle.watch_run.specs.Doors.{EndDoors};
 ghost use Rattle.watch_run.specs.Stages.{IsCalled, LeavesWatch};
 ghost use Rattle.watch_run.specs.Crews.{IsReadyToWatch, IsDoneWatching};
-ghost use Rattle.watch_run.specs.Ending.{HasReadBack, FinishHindered, Finishes, WatchEnds};
+ghost use Rattle.watch_run.specs.Ending.{HasReadBack, FinishHindered, Finishes, NotesOf, WatchEnds, NotesSeen};
 ghost use Rattle.update_work.specs.Ending.{EndsEarly};
 
 use crate::beside::work_beside;
@@ -20,6 +21,7 @@ use crate::ending::{agree_all, end_watchers};
 use crate::last::{Last, read_last};
 use crate::making::{end_idle, open_store};
 use crate::meeting::meet_all;
+use crate::notes::WatchNotes;
 use crate::reading::Watcher;
 use client_session::{Owner, Shared};
 use page_fan::BesideDoor;
@@ -59,6 +61,7 @@ where
     requires passes_left { (3 ≤ owner.old.made) × (owner.old.made < 1024) }
     requires true_doors { M.is_true doors.old }
     ensures read { IfOk result (HasReadBack shared.now.fixed keeper.new.shown owner.old owner.new) }
+    ensures refreshed { IfOk result (λ last. Refreshed keeper.old keeper.new 1 last.version) }
     ensures hindered { IfErr result (FinishHindered shared.now.fixed owner.old owner.new) }
     ensures leaves { LeavesWatch owner.old owner.new }
     ensures board { keeper.new.board ≡ keeper.old.board }
@@ -79,7 +82,7 @@ where
     told
 }
 
-// The last session reads the blob, and then each reader, once the writer and the keeper came to their ends.
+// The last session reads the blob, and then each reader, once the writer and the keeper came to their ends. It answers what they did, too.
 fn finish<R: Threads + Wait + Sync, W: Wait + Drop, M: DoorMaker, G: Gate>(
     rt: &R,
     alloc: Global,
@@ -89,7 +92,7 @@ fn finish<R: Threads + Wait + Sync, W: Wait + Drop, M: DoorMaker, G: Gate>(
     gate: &G,
     keeper: Keeper<W>,
     watchers: Vec<Watcher<'_, M::Door, G>>,
-) -> Result<WatchSummary, Fault>
+) -> Result<(WatchSummary, WatchNotes), Fault>
 where
     M::Door: BesideDoor + Drop,
     requires owner { IsOwnerOf shared.now owner.old }
@@ -101,6 +104,7 @@ where
     requires true_doors { M.is_true doors.old }
     requires done { All (IsDoneWatching M.Door.faults shared.now owner.old.seen keeper.board) watchers.items }
     ensures finishes { Finishes shared.now.fixed (vec_len watchers.entry) result owner.old owner.new }
+    ensures noted { IfOk result (λ done. NotesOf keeper.all watchers.entry.items owner.new.seen done.0.versions done.1) }
     ensures out { owner.old.out ≡ owner.new.out + vec_len watchers.entry }
     ensures owner { IsOwnerOf shared.now owner.new }
     ensures doors { M.faults doors.new < 2 ^ 64 - 1 → M.faults doors.old + told_faults result ≤ M.faults doors.new }
@@ -114,11 +118,14 @@ where
             match agree_all(
                 rt, alloc, shared, owner, doors, gate, &keeper, &last, watchers,
             ) {
-                Ok(agree) => Ok(WatchSummary {
-                    size: last.bytes.len() as u64,
-                    versions: last.version,
-                    agree,
-                }),
+                Ok((agree, readings)) => {
+                    let summary = WatchSummary {
+                        size: last.bytes.len() as u64,
+                        versions: last.version,
+                        agree,
+                    };
+                    Ok((summary, WatchNotes::new(&keeper, readings)))
+                }
                 Err(stopped) => Err(stopped),
             }
         }
@@ -140,7 +147,7 @@ fn work<R: Threads + Wait + Sync, W: Wait + Drop + Send, M: DoorMaker, G: Gate +
     plan: &WatchPlan,
     keeper: Keeper<W>,
     crew: Crew<'_, M::Door, G>,
-) -> Result<WatchSummary, Fault>
+) -> Result<(WatchSummary, WatchNotes), Fault>
 where
     M::Door: BesideDoor + Drop + Send,
     requires sized { IsSized plan.now }
@@ -154,6 +161,7 @@ where
     requires count { vec_len crew.watchers ≡ plan.now.readers }
     requires true_doors { M.is_true doors.old }
     ensures ends { WatchEnds plan.now shared.now.fixed result owner.new }
+    ensures noted { IfOk result (λ done. NotesSeen plan.now shared.now.fixed owner.new.seen done.0.versions done.1) }
     ensures none_out { owner.new.out ≡ 0 }
     ensures owner { IsOwnerOf shared.now owner.new }
     ensures doors { M.faults doors.new < 2 ^ 64 - 1 → M.faults doors.old + told_faults result ≤ M.faults doors.new }
@@ -192,7 +200,7 @@ fn run_watch<R: Threads + Wait + Sync, M: DoorMaker, G: Gate + Sync>(
     doors: &mut M,
     gate: &G,
     plan: &WatchPlan,
-) -> Result<WatchSummary, Fault>
+) -> Result<(WatchSummary, WatchNotes), Fault>
 where
     M::Door: BesideDoor + Drop + Send,
     requires sized { IsSized plan.now }
@@ -204,6 +212,7 @@ where
     requires none_kept { owner.old.kept ≡ [] }
     requires true_doors { M.is_true doors.old }
     ensures ends { WatchEnds plan.now shared.now.fixed result owner.new }
+    ensures noted { IfOk result (λ done. NotesSeen plan.now shared.now.fixed owner.new.seen done.0.versions done.1) }
     ensures none_out { owner.new.out ≡ 0 }
     ensures owner { IsOwnerOf shared.now owner.new }
     ensures doors { M.faults doors.new < 2 ^ 64 - 1 → M.faults doors.old + told_faults result ≤ M.faults doors.new }
@@ -231,10 +240,72 @@ where
 /// or finds no memory, or loses a page, stops, and the others go on to their ends. Then one more session refreshes the blob and reads it
 /// whole, and each reader learns what the keeper published and reads the same; a reader without a place does so by a new session of its doors.
 ///
-/// It answers the last version with its size, and how many readers read the same bytes, which is the plan's summary at every schedule,
-/// and the desk of the closed store, whose history is a watch's. Where the opening, the writer, the keeper, a reader or the last session
-/// didn't come to its end it answers why, of the lowest such caller: a page was lost that begins within what the writer appends, and then the count of
-/// `doors` rose, or no memory was found. When it answers, all passes and all doors have gone back. The gate is called between the acts of updates.
+/// It answers the last version with its size, and how many readers read the same bytes, which is the plan's summary at every schedule;
+/// the desk of the closed store, whose history is a watch's; and, for contracts alone, what the keeper and the readers did. The keeper refreshed
+/// as often as the plan has operations, and the last session once more. Each refresh got a version of the plan, and the last one its last
+/// version. Each reader read each version once, in order, and got the bytes of its update, or was told that it isn't published yet.
+///
+/// Where the opening, the writer, the keeper, a reader or the last session didn't come to its end it answers why, of the lowest such caller: a page
+/// was lost that begins within what the writer appends, and then the count of `doors` rose, or no memory was found. When it answers, all passes
+/// and all doors have gone back. The gate is called between the acts of updates.
+pub fn watch_noted<R: Threads + Wait + Sync, M: DoorMaker, G: Gate + Sync>(
+    rt: &R,
+    alloc: Global,
+    shared: Shared,
+    owner: Owner,
+    doors: &mut M,
+    gate: &G,
+    plan: WatchPlan,
+) -> Result<(WatchSummary, Desk, WatchNotes), WatchFault>
+where
+    M::Door: BesideDoor + Drop + Send,
+    requires sized { IsSized plan }
+    requires owner { IsOwnerOf shared owner }
+    requires limits { shared.fixed.limits ≡ greatest }
+    requires no_pass { owner.made ≡ 0 }
+    requires none_out { owner.out ≡ 0 }
+    requires new { owner.seen ≡ [] }
+    requires none_kept { owner.kept ≡ [] }
+    requires true_doors { M.is_true doors.old }
+
+    // What the keeper and the readers did.
+    ensures did { IfOk result (λ r. HasDone plan r.2) }
+
+    // What the watch came to, and what its store holds then.
+    ensures summary { IfOk result (λ r. r.0 ≡ summary_of plan) }
+    ensures history { IfOk result (λ r. IsHistory shared.fixed.page_size greatest r.1.history) }
+    ensures watched { IfOk result (λ r. IsWatch plan r.1.history) }
+    ensures fixed { IfOk result (λ r. fixed_of r.1 ≡ shared.fixed) }
+
+    // Why it ended early.
+    ensures early { IfErr result (λ fault. EndsEarly (IsWatchPage plan shared.fixed.page_size) fault (M.faults doors.old) (M.faults doors.new)) }
+
+    // The first session, the writer's, the keeper's, those of the readers and the last one had a door to each provider, and no door was made beside
+    // these. All came back. What they counted went to the maker, which makes the doors that it made before.
+    ensures lent { LentDoors M.hands_out M.takes_back ((4 + plan.readers) * shared.providers) doors.old doors.new result }
+    ensures doors { M.faults doors.new < 2 ^ 64 - 1 → M.faults doors.old ≤ M.faults doors.new }
+    ensures truth_stays { M.is_true doors.old ↔ M.is_true doors.new }
+    ensures plan_stays { (n : ℕ) (door : _) → M.makes doors.old n door ↔ M.makes doors.new n door }
+{
+    watches_close();
+    watches_are_done();
+    pieces_are_told();
+    version_manager::laws::entries_are_events();
+    let mut owner = owner;
+    let told = run_watch(rt, alloc, &shared, &mut owner, doors, gate, &plan);
+    let Ok(desk) = shared.close(owner) else {
+        // All passes came back.
+        unreachable!()
+    };
+    // The desk's history is legal.
+    desk.stands();
+    match told {
+        Ok((summary, notes)) => Ok((summary, desk, notes)),
+        Err(fault) => Err(early_end(fault)),
+    }
+}
+
+/// Runs a watch as `watch_noted` does, and answers the same but for what the keeper and the readers did.
 pub fn watch<R: Threads + Wait + Sync, M: DoorMaker, G: Gate + Sync>(
     rt: &R,
     alloc: Global,
@@ -271,20 +342,8 @@ where
     ensures truth_stays { M.is_true doors.old ↔ M.is_true doors.new }
     ensures plan_stays { (n : ℕ) (door : _) → M.makes doors.old n door ↔ M.makes doors.new n door }
 {
-    watches_close();
-    watches_are_done();
-    pieces_are_told();
-    version_manager::laws::entries_are_events();
-    let mut owner = owner;
-    let told = run_watch(rt, alloc, &shared, &mut owner, doors, gate, &plan);
-    let Ok(desk) = shared.close(owner) else {
-        // All passes came back.
-        unreachable!()
-    };
-    // The desk's history is legal.
-    desk.stands();
-    match told {
-        Ok(summary) => Ok((summary, desk)),
-        Err(fault) => Err(early_end(fault)),
+    match watch_noted(rt, alloc, shared, owner, doors, gate, plan) {
+        Ok((summary, desk, _notes)) => Ok((summary, desk)),
+        Err(fault) => Err(fault),
     }
 }

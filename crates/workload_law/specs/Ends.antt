@@ -30,10 +30,6 @@ pub data IsOutside (IsPage : ℕ → Type 0) (fault : Fault) : Type 0 where
 abbrev pub NoPage : ℕ → Type 0
 NoPage page = ⊥
 
--- where it isn't said which pages can be lost
-abbrev pub AnyPage : ℕ → Type 0
-AnyPage page = Unit {0}
-
 -- A page that an update can lose, where pages have p bytes and are numbered from 0: a page of its bytes, which are stored as they
 -- come; or a page of the blob that it stores anew, which begins before the update ends there. It was numbered then, after as many
 -- events of its caller as at first.

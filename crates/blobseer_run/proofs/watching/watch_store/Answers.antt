@@ -5,6 +5,7 @@ use Rattle.version_manager.specs.Log.{IsHistory}
 use Rattle.settings.specs.Values.{SettingsValues}
 use Rattle.watch_law.specs.Said.{said}
 use Rattle.watch_law.specs.Watch.{IsWatch}
+use Rattle.watch_law.specs.Notes.{NotesState, HasDone}
 use Rattle.watch_law.specs.declared.plan.WatchPlan.{WatchPlan}
 use Rattle.blobseer_run.specs.Watching.{plan_of, CameToWatch, DidWatch}
 use Rattle.blobseer_run.proofs.Early.{ended_so}
@@ -13,14 +14,14 @@ use Rattle.blobseer_run.proofs.Measures.{whole_there, ended_there, at_plan}
 use Rattle.blobseer_run.proofs.watching.watch_store.Goals as goal
 
 -- what the closed store came to
-came_of : (page : ℕ) (plan : WatchPlan) (history : List Event) → IsHistory page greatest history → IsWatch plan history → CameToWatch page plan history
-came_of page plan history is_history watched = record { is_history = is_history; watched = watched }
+came_of : (page : ℕ) (plan : WatchPlan) (history : List Event) (notes : NotesState) → IsHistory page greatest history → IsWatch plan history → HasDone plan notes → CameToWatch page plan history
+came_of page plan history notes is_history watched did = record { is_history = is_history; watched = watched; notes = notes; did = did }
 
 pub returns-in-Ok-clause-did : goal.returns-in-Ok-clause-did
 returns-in-Ok-clause-did g c =
     let lines = ap (said _) c.in-Ok.ensures.summary in
     let told = c.tell_lines.ensures.told _ c.lines.ensures in
-    let came = came_of _ _ _ c.in-Ok.ensures.history c.in-Ok.ensures.watched in
+    let came = came_of _ _ _ _ c.in-Ok.ensures.history c.in-Ok.ensures.watched c.in-Ok.ensures.did in
     let did = whole_there _ _ _ _ (record { given = refl; left = refl; reads = refl; ends = refl }) refl _ _ lines c.in-Ok.desk.history came told in
     at_plan DidWatch _ _ _ _ _ _ _ c.requires.store.page_size (ap (λ (s : SettingsValues). plan_of s) c.settings.view_is) did
 

@@ -1,4 +1,4 @@
-use Rattle.std.proofs.Common.{rules, ◌≡◌, ◌∙◌, ◌*◌, ℕ, vec_len, ap, subst, sym, refl, arith}
+use Rattle.std.proofs.Common.{rules, ◌≡◌, ◌∙◌, ◌*◌, ℕ, List, Ok, vec_len, ap, subst, sym, refl, arith}
 use Rattle.std.proofs.lemmas.Grind.{common_steps}
 use Rattle.std.specs.Prelude.{sum_by, All}
 use Rattle.page_store.specs.Calls.{Traffic, no_door}
@@ -31,7 +31,7 @@ makes-preserved g c =
         log = ap (λ (s : SessionState _). s.log) session ∙ (x.session.log ∙ ap (λ (o : Owner). o.seen) i.given);
         idle = subst (λ (s : SessionState _). IsIdle c.args.shared.now s) (sym session) idle;
         no_fault = ap (λ (s : SessionState _). sum_by faults s.doors) session ∙ x.session.no_fault;
-        told = refl;
+        told = ap (λ (l : List ℕ). Ok l) c.none.ensures;
       });
       stand = (
         ap (λ (t : StandState). t.board) r.stand ∙ i.stand.0,

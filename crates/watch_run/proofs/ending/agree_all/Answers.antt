@@ -8,6 +8,7 @@ use Rattle.update_work.specs.Left.{left_faults}
 use Rattle.watch_run.specs.Crews.{IsDoneWatching}
 use Rattle.store_sessions.proofs.Traffics.{none_gone, gone_more, all_gone}
 use Rattle.watch_run.proofs.Crews.{done_on}
+use Rattle.watch_run.proofs.Noted.{ReadSoFar, none_so_far, more_so_far, all_so_far}
 use Rattle.watch_run.proofs.Ends.{AgreeSoFar, all_front, all_last, agree_more, stop_on}
 use Rattle.watch_run.proofs.Stages.{leaves_both, leaves_given}
 use Rattle.watch_run.proofs.ending.agree_all.Goals as goal
@@ -32,6 +33,8 @@ loop-watcher-preserved-in-Ok g c =
       out = omega (arith, i.out, e.out, len);
       done = all_front done c.pop.new.self.items c.in-Some.watcher all;
       seen = e.seen;
+      read = more_so_far c.loop-watcher.stop c.loop-watcher.owner.seen c.agree_with.new.owner.seen c.args.watchers.items c.loop-watcher.watchers.items c.pop.new.self.items c.in-Some.watcher _
+          c.loop-watcher.readings _ e.leaves.comes.begins c.in-Some.ensures.items e.ended c.put_before.ensures i.read;
       gone = gone_more g.M.DoorMaker.hands_out g.M.DoorMaker.takes_back c.args.shared.now.providers (vec_len c.args.watchers) (vec_len c.loop-watcher.watchers) (vec_len c.pop.new.self) c.args.maker.now
           c.loop-watcher.maker c.agree_with.new.maker len i.gone c.agree_with.ensures.taken_back;
       plan_stays = λ n door. (λ h. (e.plan_stays n door).0 ((i.plan_stays n door).0 h), λ h. (i.plan_stays n door).1 ((e.plan_stays n door).1 h));
@@ -57,6 +60,7 @@ loop-watcher-preserved g c =
       out = omega (arith, i.out, e.out, len);
       done = all_front done c.pop.new.self.items c.in-Some.watcher all;
       seen = e.seen;
+      read = tt;
       gone = gone_more g.M.DoorMaker.hands_out g.M.DoorMaker.takes_back c.args.shared.now.providers (vec_len c.args.watchers) (vec_len c.loop-watcher.watchers) (vec_len c.pop.new.self) c.args.maker.now
           c.loop-watcher.maker c.agree_with.new.maker len i.gone c.agree_with.ensures.taken_back;
       plan_stays = λ n door. (λ h. (e.plan_stays n door).0 ((i.plan_stays n door).0 h), λ h. (i.plan_stays n door).1 ((e.plan_stays n door).1 h));
@@ -94,6 +98,7 @@ loop-watcher-init g c = record {
   out = refl;
   done = c.requires.done;
   seen = c.requires.seen;
+  read = none_so_far c.args.owner.now.seen c.args.watchers.items _ c.none-readings.ensures;
   stop = tt;
   doors = λ less. omega arith;
   gone = none_gone g.M.DoorMaker.hands_out g.M.DoorMaker.takes_back c.args.shared.now.providers (vec_len c.args.watchers) c.args.maker.now;
@@ -131,3 +136,9 @@ pub returns-in-Some-stop-clause-doors : goal.returns-in-Some-stop-clause-doors
 returns-in-Some-stop-clause-doors g c = λ less.
     let counts = g.M.DoorMaker.faults in
     subst (λ (o : Option Fault). counts c.args.maker.now + left_faults o ≤ counts c.loop-watcher.maker) c.in-Some-stop.is (c.loop-watcher.invariant.doors less)
+
+pub returns-in-None-clause-ended : goal.returns-in-None-clause-ended
+returns-in-None-clause-ended g c =
+    let l = c.loop-watcher in
+    let so = subst (λ (o : Option Fault). ReadSoFar o l.owner.seen c.args.watchers.items l.watchers.items l.readings) c.in-None.is l.invariant.read in
+    all_so_far l.owner.seen c.args.watchers.items l.watchers.items l.readings (omega (arith, l.watchers.ok.0, c.in_default.ensures.cases.0)) so

@@ -8,6 +8,7 @@ use Rattle.watch_run.specs.Stops.{Stops}
 use Rattle.update_work.specs.Left.{left_faults}
 use Rattle.watch_run.specs.Crews.{IsDoneWatching}
 use Rattle.watch_run.proofs.Ends.{AgreeSoFar}
+use Rattle.watch_run.proofs.Noted.{ReadSoFar}
 use Rattle.watch_run.proofs.ending.agree_all.Given as goal
 
 abbrev pub invariant-loop-watcher : goal.invariant-loop-watcher
@@ -23,6 +24,7 @@ invariant-loop-watcher g l =
       out : l.fn.owner.out + vec_len l.watchers ≡ l.owner.out + vec_len l.fn.watchers;
       done : All (IsDoneWatching g.M.Door.Door.faults l.shared l.fn.owner.seen l.keeper.board) l.watchers.items;
       seen : IsSeenIn l.shared.fixed l.owner.seen l.last;
+      read : ReadSoFar l.stop l.owner.seen l.fn.watchers.items l.watchers.items l.readings;
       stop : IfSome l.stop (Stops l.shared.fixed l.owner.seen);
       doors : faults l.maker < 2 ^ 64 - 1 → faults l.fn.maker + left_faults l.stop ≤ faults l.maker;
       gone : HaveGone g.M.DoorMaker.hands_out g.M.DoorMaker.takes_back l.shared.providers (vec_len l.fn.watchers) (vec_len l.watchers) l.fn.maker l.maker;

@@ -1,5 +1,7 @@
 use Rattle.std.proofs.Common.{◌+◌, ◌-◌, ◌^◌, ◌≤◌, min, refl, sym, subst, arith}
 use Rattle.std.specs.Prelude.{sum_by, IfErr}
+use Rattle.turn_lock.specs.History.{Begins}
+use Rattle.turn_lock.proofs.Histories.{begins_both}
 use Rattle.client_session.specs.Sessions.{StoreState, SessionState}
 use Rattle.workload_law.specs.Ends.{IsOutside}
 use Rattle.update_work.specs.Updates.{told_faults}
@@ -51,3 +53,15 @@ returns-clause-doors g c =
     in
     let back = subst (λ (s : SessionState _). min (old + sum_by faults s.doors) (2 ^ 64 - 1) ≤ new) c.into_session.ensures c.end_idle.ensures.doors in
     rose_told (told_faults c.match-note.told) old old (sum_by faults c.args.reader.session.doors) (sum_by faults c.match-note.reader.session.doors) new (λ _. omega arith) read.rose back
+
+pub returns-clause-begins : goal.returns-clause-begins
+returns-clause-begins g c =
+    let faults = g.M.Door.Door.faults in
+    let read : HasRead faults (told_faults c.match-note.told) c.args.reader c.match-note.reader =
+    elim c.match-note.branch [
+      | in-Ok w ↦ rw (w.reader-is, w.told-is) w.compare_by_place-told.ensures.read
+      | in-Err w ↦ rw (w.reader-is, w.told-is) (read_none faults c.args.reader)
+    ]
+    in
+    begins_both c.args.reader.session.log c.match-note.reader.session.log c.end_idle.new.owner.seen read.idles.goes_on.begins
+    (subst (λ (s : SessionState _). Begins s.log c.end_idle.new.owner.seen) c.into_session.ensures c.end_idle.ensures.begins)

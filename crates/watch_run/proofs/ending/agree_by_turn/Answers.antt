@@ -1,4 +1,4 @@
-use Rattle.std.proofs.Common.{◌≡◌, ◌∙◌, ◌+◌, ◌-◌, ◌^◌, ◌≤◌, List, min, refl, ap, subst, arith}
+use Rattle.std.proofs.Common.{◌-◌, refl, ap, subst, arith}
 use Rattle.std.specs.Prelude.{sum_by}
 use Rattle.page_store.specs.Calls.{Traffic}
 use Rattle.turn_lock.proofs.Histories.{begins_both}
@@ -108,3 +108,10 @@ returns-clause-truth_stays g c =
     let i = c.renew_session.ensures in
     let e = c.end_idle.ensures in
     (λ t. e.truth_stays.0 (i.truth_stays.0 t), λ t. i.truth_stays.1 (e.truth_stays.1 t))
+
+pub returns-in_default-clause-begins : goal.returns-in_default-clause-begins
+returns-in_default-clause-begins g c = c.renew_session.ensures.begins.1
+
+pub returns-clause-begins : goal.returns-clause-begins
+returns-clause-begins g c =
+    begins_both c.args.session.log c.renew_session.new.owner.seen c.end_idle.new.owner.seen c.renew_session.ensures.begins.1 c.end_idle.ensures.leaves.comes.begins

@@ -1,4 +1,6 @@
-use Rattle.std.proofs.Common.{arith}
+use Rattle.std.proofs.Common.{subst, arith}
+use Rattle.turn_lock.specs.History.{Begins}
+use Rattle.client_session.specs.Sessions.{SessionState}
 use Rattle.watch_run.proofs.Ends.{seen_on}
 use Rattle.watch_run.proofs.ending.agree_one.Goals as goal
 
@@ -8,3 +10,6 @@ returns-then-has_place-clause-seen g c =
 
 pub returns-then-has_place-clause-made : goal.returns-then-has_place-clause-made
 returns-then-has_place-clause-made g c = let e = c.agree_by_place.ensures.made in (omega (arith, e), omega (arith, e))
+
+pub returns-clause-begins : goal.returns-clause-begins
+returns-clause-begins g c = subst (λ (s : SessionState _). Begins s.log c.agree_by_turn.new.owner.seen) c.into_session-session.ensures c.agree_by_turn.ensures.begins

@@ -1,10 +1,10 @@
-use Rattle.std.proofs.Common.{◌⊎◌, ◌∙◌, ◌+◌, ◌-◌, ◌^◌, ◌<◌, ◌≤◌, min, ap, subst, sym, arith}
-use Rattle.std.specs.Prelude.{sum_by, IfErr}
+use Rattle.std.proofs.Common.{◌⊎◌, ◌∙◌, ℕ, List, ◌+◌, ◌-◌, ◌^◌, ◌<◌, ◌≤◌, min, ap, subst, sym, arith}
+use Rattle.std.specs.Prelude.{Result, sum_by, IfErr}
 use Rattle.request_form.specs.Replies.{page_faults}
 use Rattle.client_session.specs.Sessions.{SessionState}
 use Rattle.turn_lock.specs.History.{Begins}
 use Rattle.watch_run.specs.Readers.{WatcherState}
-use Rattle.update_work.specs.Callers.{Told}
+use Rattle.request_form.specs.declared.form.Fault.{Fault}
 use Rattle.update_work.specs.Updates.{told_faults}
 use Rattle.update_work.proofs.Fresh.{rose_stop}
 use Rattle.watch_run.specs.Stops.{Stops}
@@ -22,7 +22,7 @@ returns-in-Err-clause-stop g c =
     let told = ap (λ (w : WatcherState _). w.told) (sym c.watcher.view_is) ∙ c.in-Err.is in
     let session = c.into_session.ensures ∙ ap (λ (w : WatcherState _). w.reader.session) c.watcher.view_is in
     stops_either f old w.reader.session.log new c.in-Err.fault e.leaves.comes.begins (subst (λ (s : SessionState _). Begins s.log new) session e.begins)
-    (subst (λ (t : Told). IfErr t (λ fault. Stops f old fault ⊎ Stops f w.reader.session.log fault)) told c.requires.done.endable.stop)
+    (subst (λ (t : Result (List ℕ) Fault). IfErr t (λ fault. Stops f old fault ⊎ Stops f w.reader.session.log fault)) told c.requires.done.endable.stop)
 
 pub returns-in-Err-clause-seen : goal.returns-in-Err-clause-seen
 returns-in-Err-clause-seen g c = seen_on c.args.shared.now.fixed c.args.owner.now.seen c.end_idle.new.owner.seen c.args.last.now c.requires.seen c.end_idle.ensures.leaves.comes.begins
@@ -38,7 +38,13 @@ returns-in-Err-clause-doors g c =
     let new = counts c.end_idle.new.maker in
     let told = ap (λ (w : WatcherState _). w.told) (sym c.watcher.view_is) ∙ c.in-Err.is in
     let doors = c.args.watcher.reader.session.doors in
-    let counted = subst (λ (t : Told). sum_by faults doors < 2 ^ 64 - 1 → told_faults t ≤ sum_by faults doors) told c.requires.done.endable.counted in
+    let counted = subst (λ (t : Result (List ℕ) Fault). sum_by faults doors < 2 ^ 64 - 1 → told_faults t ≤ sum_by faults doors) told c.requires.done.endable.counted in
     let session = c.into_session.ensures ∙ ap (λ (w : WatcherState _). w.reader.session) c.watcher.view_is in
     let back = subst (λ (s : SessionState _). min (old + sum_by faults s.doors) (2 ^ 64 - 1) ≤ new) session c.end_idle.ensures.doors in
     rose_stop (page_faults c.in-Err.fault) old old (sum_by faults doors) new (λ _. omega arith) counted back
+
+pub returns-in-Ok-agree_one-clause-ended : goal.returns-in-Ok-agree_one-clause-ended
+returns-in-Ok-agree_one-clause-ended g c = record {
+  told = ap (λ (w : WatcherState _). w.told) (sym c.watcher.view_is) ∙ c.in-Ok.is;
+  begins = subst (λ (w : WatcherState _). Begins w.reader.session.log c.agree_one.new.owner.seen) c.watcher.view_is c.agree_one.ensures.begins;
+}

@@ -1,5 +1,5 @@
-use Rattle.std.proofs.Common.{refl, ◌≡◌, ◌⊎◌, ◌∙◌, List, [], ◌∷◌, ◌++◌, ◌+◌, ◌-◌, ◌^◌, ◌<◌, ◌≤◌, min, ap, subst, sym, arith}
-use Rattle.std.specs.Prelude.{sum_by, All, IfErr}
+use Rattle.std.proofs.Common.{refl, ◌≡◌, ◌⊎◌, ◌∙◌, ℕ, List, [], ◌∷◌, ◌++◌, ◌+◌, ◌-◌, ◌^◌, ◌<◌, ◌≤◌, min, ap, subst, sym, arith}
+use Rattle.std.specs.Prelude.{Result, sum_by, All, IfErr}
 use Rattle.turn_lock.specs.History.{Begins}
 use Rattle.turn_lock.proofs.Histories.{begins_both}
 use Rattle.request_form.specs.Replies.{page_faults}
@@ -7,7 +7,7 @@ use Rattle.client_session.specs.Sessions.{SessionState}
 use Rattle.update_work.specs.Updates.{told_faults}
 use Rattle.update_work.proofs.Fresh.{rose_stop}
 use Rattle.watch_run.specs.Readers.{WatcherState}
-use Rattle.update_work.specs.Callers.{Told}
+use Rattle.request_form.specs.declared.form.Fault.{Fault}
 use Rattle.update_work.specs.Left.{left_faults}
 use Rattle.watch_run.specs.Crews.{IsEndable}
 use Rattle.watch_run.specs.Stages.{IsIdle}
@@ -18,8 +18,8 @@ use Rattle.watch_run.proofs.Stages.{leaves_both, leaves_given}
 use Rattle.store_sessions.proofs.Traffics.{none_gone, gone_more, all_gone}
 use Rattle.watch_run.proofs.ending.end_watchers.Goals as goal
 
-pub loop-watcher-preserved-in-Err : goal.loop-watcher-preserved-in-Err
-loop-watcher-preserved-in-Err g c =
+pub loop-watcher-preserved : goal.loop-watcher-preserved
+loop-watcher-preserved g c =
     let counts = g.M.DoorMaker.faults in
     let faults = g.M.Door.Door.faults in
     let i = c.loop-watcher.invariant in
@@ -31,7 +31,7 @@ loop-watcher-preserved-in-Err g c =
     let last = all_last (IsEndable faults store c.args.owner.now.seen) c.pop.new.self.items one all in
     let told = c.in-Err.is in
     let session = c.into_session.ensures in
-    let counted = subst (λ (t : Told). sum_by faults one.reader.session.doors < 2 ^ 64 - 1 → told_faults t ≤ sum_by faults one.reader.session.doors) told last.counted in
+    let counted = subst (λ (t : Result (List ℕ) Fault). sum_by faults one.reader.session.doors < 2 ^ 64 - 1 → told_faults t ≤ sum_by faults one.reader.session.doors) told last.counted in
     let back = subst (λ (s : SessionState _). min (counts c.loop-watcher.maker + sum_by faults s.doors) (2 ^ 64 - 1) ≤ counts c.end_idle.new.maker) session e.doors in
     record {
       owner = e.owner;
@@ -40,7 +40,7 @@ loop-watcher-preserved-in-Err g c =
       endable = all_front (IsEndable faults store c.args.owner.now.seen) c.pop.new.self.items one all;
       stop = stops_either store.fixed c.args.owner.now.seen one.reader.session.log c.end_idle.new.owner.seen c.in-Err.fault (begins_both c.args.owner.now.seen c.loop-watcher.owner.seen c.end_idle.new.owner.seen i.leaves.comes.begins e.leaves.comes.begins)
           (subst (λ (s : SessionState _). Begins s.log c.end_idle.new.owner.seen) session e.begins)
-          (subst (λ (t : Told). IfErr t (λ fault. Stops store.fixed c.args.owner.now.seen fault ⊎ Stops store.fixed one.reader.session.log fault)) told last.stop);
+          (subst (λ (t : Result (List ℕ) Fault). IfErr t (λ fault. Stops store.fixed c.args.owner.now.seen fault ⊎ Stops store.fixed one.reader.session.log fault)) told last.stop);
       doors = rose_stop (page_faults c.in-Err.fault) (counts c.args.maker.now) (counts c.loop-watcher.maker) (sum_by faults one.reader.session.doors) (counts c.end_idle.new.maker)
           (lower (left_faults c.loop-watcher.stop) (counts c.args.maker.now) (counts c.loop-watcher.maker) i.doors) counted back;
       gone = gone_more g.M.DoorMaker.hands_out g.M.DoorMaker.takes_back store.providers c.args.watchers.len c.loop-watcher.watchers.len c.pop.new.self.len c.args.maker.now c.loop-watcher.maker
@@ -49,8 +49,8 @@ loop-watcher-preserved-in-Err g c =
       truth_stays = (λ t. e.truth_stays.0 (i.truth_stays.0 t), λ t. i.truth_stays.1 (e.truth_stays.1 t));
     }
 
-pub loop-watcher-preserved : goal.loop-watcher-preserved
-loop-watcher-preserved g c =
+pub loop-watcher-preserved-in-Ok : goal.loop-watcher-preserved-in-Ok
+loop-watcher-preserved-in-Ok g c =
     let counts = g.M.DoorMaker.faults in
     let faults = g.M.Door.Door.faults in
     let i = c.loop-watcher.invariant in

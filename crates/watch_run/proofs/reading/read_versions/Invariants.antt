@@ -1,8 +1,13 @@
+use Rattle.watch_law.specs.Notes.{HasNoted}
+use Rattle.watch_run.specs.Noting.{PieceRead}
 use Rattle.watch_run.specs.Readers.{HasRead}
 use Rattle.watch_run.proofs.reading.read_versions.Given as goal
 
 abbrev pub invariant-reads : goal.invariant-reads
-invariant-reads g l = HasRead g.D.Door.faults 0 l.fn.reader l.reader
+invariant-reads g l = record {
+  read : HasRead g.D.Door.faults 0 l.fn.reader l.reader;
+  noted : HasNoted (PieceRead l.fn.reader l.reader) l.op l.readings;
+}
 
-abbrev pub ghosts-read_uncounted : goal.ghosts-read_uncounted
-ghosts-read_uncounted g a = record { name = a.blank.name; parts = a.blank.parts }
+abbrev pub ghosts-read_noted : goal.ghosts-read_noted
+ghosts-read_noted g a = record { name = a.blank.name; parts = a.blank.parts }

@@ -1,10 +1,12 @@
-use Rattle.std.proofs.Common.{vec_len, sym, subst, arith}
+use Rattle.std.proofs.Common.{◌∙◌, ℕ, List, vec_len, sym, ap, subst, arith}
 use Rattle.std.specs.Prelude.{All}
 use Rattle.request_form.specs.Replies.{page_faults}
 use Rattle.read_board.specs.Fronts.{BoardId}
-use Rattle.watch_run.specs.Crews.{IsDoneWatching}
+use Rattle.watch_law.specs.Notes.{NotesState}
+use Rattle.watch_run.specs.Crews.{IsDoneWatching, AllCameToEnd}
 use Rattle.watch_run.specs.Ending.{FinishHindered}
 use Rattle.watch_run.proofs.Crews.{all_done_on, all_done_end}
+use Rattle.watch_run.proofs.Kept.{versions_more}
 use Rattle.watch_run.proofs.Ends.{rose_later, rose_before}
 use Rattle.watch_run.proofs.Doors.{read_and_ended, came_and_ended}
 use Rattle.watch_run.proofs.Finishing.{finished, finish_later}
@@ -20,6 +22,14 @@ agree_all-requires-clause-seen g c = c.in-Ok.ensures.read.known
 pub returns-in-Ok-agree_all-clause-finishes : goal.returns-in-Ok-agree_all-clause-finishes
 returns-in-Ok-agree_all-clause-finishes g c =
     finished c.args.shared.now.fixed c.read_back.new.keeper.shown _ c.args.owner.now c.read_back.new.owner c.agree_all.new.owner c.in-Ok.last c.in-Ok.ensures.read c.agree_all.ensures.leaves _ _ c.len.ensures c.in-Ok-agree_all.ensures.all
+
+pub returns-in-Ok-agree_all-clause-noted : goal.returns-in-Ok-agree_all-clause-noted
+returns-in-Ok-agree_all-clause-noted g c =
+    let seen = c.agree_all.new.owner.seen in
+    record {
+      refreshes = ap (λ (n : NotesState). n.refreshes) c.new.ensures ∙ versions_more c.args.keeper c.read_back.new.keeper c.in-Ok.last.version c.in-Ok.ensures.refreshed;
+      readings = subst (λ (l : List ℕ). AllCameToEnd seen c.args.watchers.items l) (sym (ap (λ (n : NotesState). n.readings) c.new.ensures)) c.in-Ok-agree_all.ensures.ended;
+    }
 
 pub returns-in-Ok-agree_all-clause-plan_stays : goal.returns-in-Ok-agree_all-clause-plan_stays
 returns-in-Ok-agree_all-clause-plan_stays g c n door =

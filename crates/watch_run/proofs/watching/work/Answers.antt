@@ -1,5 +1,5 @@
-use Rattle.std.proofs.Common.{◌≡◌, ◌∙◌, ◌+◌, ◌*◌, List, [], ℕ, length, vec_len, sym, ap, subst, arith}
-use Rattle.std.specs.Prelude.{All, sum_by}
+use Rattle.std.proofs.Common.{◌≡◌, ◌∙◌, ◌*◌, List, [], ℕ, length, vec_len, sym, ap, subst, arith}
+use Rattle.std.specs.Prelude.{All, IfOk, sum_by}
 use Rattle.request_form.specs.Replies.{page_faults}
 use Rattle.page_store.specs.Calls.{Traffic}
 use Rattle.turn_lock.specs.History.{entries_by, Begins}
@@ -13,7 +13,9 @@ use Rattle.read_board.specs.Refreshing.{AllHold}
 use Rattle.watch_run.specs.Readers.{WatcherState, StandsAt, HasMet}
 use Rattle.update_work.proofs.Returns.{none_by}
 use Rattle.update_work.proofs.Fresh.{fresh_at}
-use Rattle.watch_run.specs.Ending.{Finishes}
+use Rattle.watch_law.specs.Notes.{HaveNoted}
+use Rattle.watch_run.specs.Noting.{IsPieceSeen}
+use Rattle.watch_run.specs.Ending.{Finishes, NotesOf}
 use Rattle.watch_run.specs.Doors.{EndDoors}
 use Rattle.watch_run.proofs.Doors.{crew_told, crew_ended}
 use Rattle.update_work.specs.Updates.{told_faults}
@@ -23,7 +25,8 @@ use Rattle.watch_run.specs.Stages.{Entries, Owner}
 use Rattle.watch_run.proofs.Crews.{idle_on, all_stand, all_done, all_done_end}
 use Rattle.watch_run.proofs.Stages.{TookBack, took, new_idle, leaves_both, some_created}
 use Rattle.watch_run.proofs.Ends.{rose_told, rose_after, rose_early}
-use Rattle.watch_run.proofs.Works.{ends_by_finish, ends_early, both_done, early_counts}
+use Rattle.watch_run.proofs.Noted.{all_read, notes_seen}
+use Rattle.watch_run.proofs.Works.{ends_by_finish, ends_early, both_done, kept_done, early_counts}
 use Rattle.watch_run.proofs.watching.work.Goals as goal
 
 pub work_beside-keeper-requires-clause-fresh : goal.work_beside-keeper-requires-clause-fresh
@@ -48,7 +51,7 @@ meet_all-requires g c =
     let r = c.work_beside-keeper.result in
     let x = c.work_beside-keeper.ensures in
     let count : length r.1.watchers.items ≡ length ws.items = omega (arith, x.count, ws.ok.0, r.1.watchers.ok.0) in
-    let stand = all_stand faults store c.args.owner.now.seen c.args.keeper.board ws.items r.1.watchers.items count c.requires.ready x.watched in
+    let stand = all_stand faults store c.args.plan.now c.args.owner.now.seen c.args.keeper.board ws.items r.1.watchers.items count c.requires.ready x.watched in
     record {
       board = subst (λ (l : List (WatcherState _)). All (StandsAt r.0.board) l) (sym c.as_slice.ensures.value) (subst (λ (b : BoardId). All (StandsAt b) r.1.watchers.items) (sym x.kept.refreshes.board) stand);
     }
@@ -88,7 +91,7 @@ finish-requires-clause-done g c κs within =
     let hold = subst (λ (t : StoreState). AllHold t.fixed r.1.keeping.log r.0.all) (kept.idles.goes_on.store ∙ c.requires.keeping.of_store) kept.may.hold in
     let met = subst (λ (l : List (WatcherState _)). All (HasMet r.0.all) l) c.as_slice.ensures.value c.meet_all.ensures.met in
     subst (λ (b : BoardId). All (IsDoneWatching faults store seen b) r.1.watchers.items) (sym (ap (λ (k : KeeperState). k.board) c.meet_all.ensures.same ∙ kept.board))
-    (all_done faults store law.tell board before r.1.keeping.log seen (some_created before c.requires.opened.created) from c.end_idle.ensures.begins r.0.all hold ws.items r.1.watchers.items count c.requires.ready x.watched met)
+    (all_done faults store law.tell board before r.1.keeping.log seen (some_created before c.requires.opened.created) from c.end_idle.ensures.begins r.0.all hold c.args.plan.now ws.items r.1.watchers.items count c.requires.ready x.watched met)
 
 pub end_watchers-later-requires-clause-endable : goal.end_watchers-later-requires-clause-endable
 end_watchers-later-requires-clause-endable g c =
@@ -107,7 +110,7 @@ end_watchers-later-requires-clause-endable g c =
     let hold = subst (λ (t : StoreState). AllHold t.fixed r.1.keeping.log r.0.all) (kept.idles.goes_on.store ∙ c.requires.keeping.of_store) kept.may.hold in
     let met = subst (λ (l : List (WatcherState _)). All (HasMet r.0.all) l) c.as_slice.ensures.value c.meet_all.ensures.met in
     all_done_end faults store seen board r.1.watchers.items
-    (all_done faults store law.tell board before r.1.keeping.log seen (some_created before c.requires.opened.created) from c.end_idle.ensures.begins r.0.all hold ws.items r.1.watchers.items count c.requires.ready x.watched met)
+    (all_done faults store law.tell board before r.1.keeping.log seen (some_created before c.requires.opened.created) from c.end_idle.ensures.begins r.0.all hold c.args.plan.now ws.items r.1.watchers.items count c.requires.ready x.watched met)
 
 pub returns-in-Ok-clause-ends : goal.returns-in-Ok-clause-ends
 returns-in-Ok-clause-ends g c =
@@ -155,6 +158,34 @@ returns-in-Err-clause-ends g c =
     let fixed = ap (λ (t : StoreState). t.fixed) c.requires.writer.of_store in
     ends_early are stay plan f s s' k r.2 r.3 x.written.ends first one last took c.requires.opened c.requires.writer.log fresh fixed (leaves_both one two last c.end_idle.ensures.leaves later) from to x.kept.hindered
     c.in-Err.fault (sym c.and.ensures ∙ c.in-Err.is)
+
+pub returns-in-Ok-clause-noted : goal.returns-in-Ok-clause-noted
+returns-in-Ok-clause-noted g c =
+    let faults = g.M.Door.Door.faults in
+    let plan = c.args.plan.now in
+    let store = c.args.shared.now in
+    let before = c.args.owner.now.seen in
+    let two = c.end_idle.new.owner in
+    let last = c.finish.new.owner in
+    let ws = c.args.crew.watchers in
+    let r = c.work_beside-keeper.result in
+    let x = c.work_beside-keeper.ensures in
+    let k = r.1.keeping in
+    let kept = x.kept.refreshes in
+    let law = c.board_reads_tell.ensures in
+    let count : length r.1.watchers.items ≡ length ws.items = omega (arith, x.count, ws.ok.0, r.1.watchers.ok.0) in
+    let readers : length r.1.watchers.items ≡ plan.readers = omega (arith, r.1.watchers.ok.0, x.count, c.requires.count) in
+    let from = subst (λ (l : Entries). Begins l k.log) c.requires.keeping.log kept.idles.goes_on.begins in
+    let hold = subst (λ (t : StoreState). AllHold t.fixed k.log r.0.all) (kept.idles.goes_on.store ∙ c.requires.keeping.of_store) kept.may.hold in
+    let met = subst (λ (l : List (WatcherState _)). All (HasMet r.0.all) l) c.as_slice.ensures.value c.meet_all.ensures.met in
+    let refreshed = kept_done r.2 r.3 c.in-Ok.field-0 _ (sym c.and.ensures ∙ c.in-Ok.is) x.kept.count in
+    let notes = subst (λ (l : KeeperState). IfOk c.finish.result (λ done. NotesOf l.all r.1.watchers.items last.seen done.0.versions done.1)) c.meet_all.ensures.same c.finish.ensures.noted in
+    notes_seen plan store.fixed (vec_len r.1.watchers) two last r.0.all r.1.watchers.items (omega (arith, refreshed, ap (λ (l : List Refresh). length l) c.requires.board.1)) kept.may.of_one
+    (λ more. c.refreshes_stay.ensures store.fixed k.log last.seen r.0.all (begins_both k.log two.seen last.seen c.end_idle.ensures.begins more) hold)
+    (λ more list ended.
+    subst (λ (n : ℕ). HaveNoted (IsPieceSeen store.fixed last.seen) plan.ops n list) readers
+    (all_read faults store law.tell c.args.keeper.board before k.log last.seen (some_created before c.requires.opened.created) from (begins_both k.log two.seen last.seen c.end_idle.ensures.begins more) r.0.all hold plan ws.items r.1.watchers.items count c.requires.ready x.watched met list ended))
+    c.finish.result c.finish.ensures.finishes notes
 
 pub returns-in-Ok-clause-plan_stays : goal.returns-in-Ok-clause-plan_stays
 returns-in-Ok-clause-plan_stays g c n door =

@@ -4,13 +4,13 @@ use Rattle.blob_model.specs.History.{IsLegal}
 use Rattle.blob_model.specs.declared.call.Event.{Event}
 use Rattle.turn_lock.specs.History.{LacksUngiven}
 use Rattle.version_manager.specs.Log.{events}
-use Rattle.watch_run.proofs.Closed.{closed, closed_is}
+use Rattle.watch_run.proofs.Closed.{closed, closed_is, closed_done}
 use Rattle.update_work.specs.declared.ending.EarlyEnd.{EarlyEnd}
 use Rattle.update_work.proofs.Early.{early_of}
 use Rattle.update_work.proofs.Returns.{closed_history, events_tagged}
 use Rattle.watch_law.specs.Watch.{IsWatch, IsWatchPage}
 use Rattle.update_work.specs.Ending.{EndsEarly}
-use Rattle.watch_run.proofs.watching.watch.Goals as goal
+use Rattle.watch_run.proofs.watching.watch_noted.Goals as goal
 
 pub returns-in-Ok-told-clause-history : goal.returns-in-Ok-told-clause-history
 returns-in-Ok-told-clause-history g c =
@@ -27,7 +27,7 @@ returns-in-Ok-told-clause-watched g c =
     let seen : events owner.seen ≡ c.in-Ok.desk.history = ap (λ (l : List (ℕ × Event)). events l) (sym c.in-Ok.ensures.history) ∙ events_tagged c.in-Ok.desk.history in
     subst (λ (h : List Event). IsWatch c.args.plan h) seen
     (closed_is c.entries_are_events.ensures c.args.plan c.requires.sized c.args.shared.fixed c.requires.limits owner o.log.tags legal c.in-Ok.ensures.all_kept lacks x.together c.watches_are_done.ensures x.there x.writer p.sizes p.told
-    c.in-Ok-told.summary c.in-Ok-told.ensures.ends)
+    (c.in-Ok-told.summary, c.in-Ok-told.notes) c.in-Ok-told.ensures.ends)
 
 pub returns-in-Ok-told-clause-summary : goal.returns-in-Ok-told-clause-summary
 returns-in-Ok-told-clause-summary g c =
@@ -38,7 +38,7 @@ returns-in-Ok-told-clause-summary g c =
     let x = c.watches_close.ensures in
     let p = c.pieces_are_told.ensures in
     let tells = closed c.entries_are_events.ensures c.args.plan c.requires.sized c.args.shared.fixed c.requires.limits owner o.log.tags legal c.in-Ok.ensures.all_kept lacks x.together c.watches_are_done.ensures x.there x.writer p.sizes p.told in
-    tells (Ok c.in-Ok-told.summary) c.in-Ok-told.ensures.ends
+    tells (Ok (c.in-Ok-told.summary, c.in-Ok-told.notes)) c.in-Ok-told.ensures.ends
 
 pub returns-in-Err-clause-early : goal.returns-in-Err-clause-early
 returns-in-Err-clause-early g c =
@@ -52,3 +52,14 @@ returns-in-Err-clause-early g c =
     let page = IsWatchPage c.args.plan c.args.shared.fixed.page_size in
     let why = early_of page c.in-Err.fault (tells (Err c.in-Err.fault) c.in-Err.ensures.ends) (g.M.DoorMaker.faults c.args.doors.now) (g.M.DoorMaker.faults c.run_watch-told.new.doors) c.in-Err.ensures.doors in
     subst (λ (f : EarlyEnd). EndsEarly page f (g.M.DoorMaker.faults c.args.doors.now) (g.M.DoorMaker.faults c.run_watch-told.new.doors)) (sym c.early_end.ensures) why
+
+pub returns-in-Ok-told-clause-did : goal.returns-in-Ok-told-clause-did
+returns-in-Ok-told-clause-did g c =
+    let owner = c.run_watch-told.new.owner in
+    let o = c.run_watch-told.ensures.owner in
+    let lacks = subst (λ (l : List (ℕ × Event)). LacksUngiven owner.made l) c.in-Ok.ensures.history c.in-Ok.ensures.no_other in
+    let legal = subst (λ (b : Bounds). IsLegal b (events owner.seen)) c.requires.limits o.log.legal in
+    let x = c.watches_close.ensures in
+    let p = c.pieces_are_told.ensures in
+    closed_done c.entries_are_events.ensures c.args.plan c.requires.sized c.args.shared.fixed c.requires.limits owner o.log.tags legal c.in-Ok.ensures.all_kept lacks x.together c.watches_are_done.ensures x.there x.writer p.sizes p.told
+    (c.in-Ok-told.summary, c.in-Ok-told.notes) c.in-Ok-told.ensures.ends c.in-Ok-told.ensures.noted

@@ -1,0 +1,278 @@
+-- What readers read, and how it is noted.
+use Rattle.std.proofs.Common.{◌≡◌, inl, ℕ, zero, suc, ◌+◌, ◌*◌, ◌<◌, ◌≤◌, Bool, true, false, if◌then◌else◌, List, [], ◌∷◌, ◌++◌, length, map, get_or}
+use Rattle.std.proofs.Common.{refl, sym, ap, subst, ◌∙◌, append-nil, append_assoc, arith}
+use Rattle.std.specs.Prelude.{Option, Some, None, Result, Ok, Err, All, IfOk, OnOk, nat_lt}
+use Rattle.std.proofs.lemmas.List.{nil_from_length, length-map}
+use Rattle.std.proofs.lemmas.List.Elements.{All-head, All-tail, All-map}
+use mathlib.Core.List.{IsPrefix}
+use Rattle.blob_model.specs.Content.{Update, size_of}
+use Rattle.blob_model.specs.Store.{Blob, blob_at}
+use Rattle.blob_model.specs.History.{store_of, AllOther}
+use Rattle.blob_model.specs.declared.call.Event.{Event}
+use Rattle.blob_model.specs.declared.call.Outcome.{Outcome}
+use Rattle.turn_lock.specs.History.{Begins}
+use Rattle.turn_lock.proofs.Histories.{begins_both}
+use Rattle.version_manager.specs.Desks.{published_in, published_or_none}
+use Rattle.version_manager.specs.Log.{events, desk_at}
+use Rattle.version_manager.specs.declared.journal.DeskFixed.{DeskFixed}
+use Rattle.request_form.specs.Answers.{Turn, AfterGap, ReadTurn, Unless, Answers, max_read}
+use Rattle.request_form.specs.PublishedReads.{IsPublishedIn, Range, Tells, read_outcome}
+use Rattle.request_form.specs.Replies.{reply_of, fault_of}
+use Rattle.request_form.specs.Session.{Session, sees}
+use Rattle.request_form.specs.Turns.{with_tickets, and_made}
+use Rattle.request_form.specs.declared.form.Request.TheVariants as Requests
+use Rattle.request_form.specs.declared.form.Reply.TheVariants as Replies
+use Rattle.request_form.specs.declared.form.Fault.{Fault}
+use Rattle.request_form.specs.declared.form.Fault.TheVariants as Faults
+use Rattle.client_session.specs.Opening.{ReadsRange, RangeCause}
+use Rattle.client_session.specs.Sessions.{StoreState, session_of, Continues}
+use Rattle.read_board.specs.declared.refresh.Refresh.{Refresh}
+use Rattle.read_board.specs.declared.standing.Way.{Way}
+use Rattle.read_board.specs.Fronts.{BoardId}
+use Rattle.read_board.specs.Keeping.{StandingState}
+use Rattle.read_board.specs.Reads.{Goes, goes_by}
+use Rattle.read_board.specs.Refreshes.{version_of, updates_of}
+use Rattle.read_board.specs.Refreshing.{Holds, AllHold}
+use Rattle.read_board.specs.Telling.{BoardReadsTell}
+use Rattle.update_work.specs.Callers.{Told}
+use Rattle.watch_law.specs.declared.plan.WatchPlan.{WatchPlan}
+use Rattle.watch_law.specs.declared.plan.WatchSummary.{WatchSummary}
+use Rattle.watch_law.specs.Watch.{range_of}
+use Rattle.watch_law.specs.Notes.{NotesState, noted, HasNotedOne, HasNoted, HaveNoted}
+use Rattle.watch_run.specs.Crews.{IsReadyToWatch, CameToEnd, AllCameToEnd}
+use Rattle.watch_run.specs.Ending.{Finishes, NotesOf, NotesSeen}
+use Rattle.watch_run.specs.Idling.{Idles}
+use Rattle.watch_run.specs.Noting.{PieceRead, IsUnpublished, ReadIsNoted, IsPieceSeen}
+use Rattle.watch_run.specs.Readers.{WatcherState, HasMet, HasWatched, HaveWatched}
+use Rattle.watch_run.specs.Stages.{Entries, Owner}
+use Rattle.watch_run.proofs.Compared.{prefix_both}
+use Rattle.watch_run.proofs.Refusals.{TurnRefused, turn_refused}
+use Rattle.watch_run.proofs.Stops.{itself, some_more}
+
+-- ---- lists of reads
+-- what is known of the bytes may be told otherwise
+one_as : (P Q : List ℕ → Type 0) → ((bytes : List ℕ) → P bytes → Q bytes) → (version : ℕ) (before after : List ℕ) → HasNotedOne P version before after → HasNotedOne Q version before after
+one_as P Q turn version before after (HasNotedOne.read bytes is more) = HasNotedOne.read bytes (turn bytes is) more
+one_as P Q turn version before after (HasNotedOne.unpublished more) = HasNotedOne.unpublished more
+
+pub noted_as : (P Q : ℕ → List ℕ → Type 0) → ((op : ℕ) (bytes : List ℕ) → P op bytes → Q op bytes) → (n : ℕ) (list : List ℕ) → HasNoted P n list → HasNoted Q n list
+noted_as P Q turn zero list none = none
+noted_as P Q turn (suc op) list (before, (was, one)) = (before, (noted_as P Q turn op before was, one_as (P op) (Q op) (turn op) (op + 1) before list one))
+
+pub all_noted_as : (P Q : ℕ → List ℕ → Type 0) → ((op : ℕ) (bytes : List ℕ) → P op bytes → Q op bytes) → (ops n : ℕ) (list : List ℕ) → HaveNoted P ops n list → HaveNoted Q ops n list
+all_noted_as P Q turn ops zero list none = none
+all_noted_as P Q turn ops (suc n) list (own, (rest, (one, (more, is)))) = (own, (rest, (noted_as P Q turn ops own one, (all_noted_as P Q turn ops n rest more, is))))
+
+-- ---- one read, by a turn
+-- a session's read gives what the store tells of what the session has seen
+turn_gave : (s s' : Session) (range : Range) (bytes : List ℕ) → Answers AllOther s (Requests.Read range.blob range.version range.offset range.count) (Replies.Content bytes) s'
+    → Replies.Content bytes ≡ reply_of (read_outcome (store_of s.fixed.limits s'.seen) range)
+turn_gave s s' range bytes answers = by_test (nat_lt max_read range.count) refl answers
+  where
+    by_turn : (others : List Event) (turn : Turn) → ReadTurn s range.blob range.version range.offset range.count others turn → Replies.Content bytes ≡ turn.said
+        → s' ≡ with_tickets turn.tickets (sees s (and_made others turn.made)) → Replies.Content bytes ≡ reply_of (read_outcome (store_of s.fixed.limits s'.seen) range)
+    by_turn others _ (ReadTurn.content given e) said seen =
+        said ∙ ap (λ (o : Outcome). reply_of o) (sym (ap (λ (x : Session). read_outcome (store_of s.fixed.limits x.seen) range) seen ∙ e))
+    by_turn others _ (ReadTurn.refused refusal e) said seen = absurd (let no : Replies.Content bytes ≡ Replies.Refused (fault_of refusal) = said in cc)
+    by_turn others _ ReadTurn.out_of_memory said seen = absurd (let no : Replies.Content bytes ≡ Replies.Refused Faults.NoMemory = said in cc)
+    by_turn others _ (ReadTurn.not_read given e some page meets) said seen = absurd (let no : Replies.Content bytes ≡ Replies.Refused (Faults.PageFault page) = said in cc)
+
+    by_test : (t : Bool) → nat_lt max_read range.count ≡ t
+        → Unless (if t then Some (Faults.ReadTooLong range.count) else None) s (Replies.Content bytes) s'
+        (AfterGap AllOther s (ReadTurn s range.blob range.version range.offset range.count) (Replies.Content bytes) s')
+        → Replies.Content bytes ≡ reply_of (read_outcome (store_of s.fixed.limits s'.seen) range)
+    by_test true long x = absurd (let no : Replies.Content bytes ≡ Replies.Refused (Faults.ReadTooLong range.count) = x.0 in cc)
+    by_test false long a = by_turn a.others a.turn a.may a.said a.seen
+
+-- where it is refused as the version isn't published, that is what the store tells
+turn_refused_so : (s s' : Session) (range : Range) (version last : ℕ)
+    → Answers AllOther s (Requests.Read range.blob range.version range.offset range.count) (Replies.Refused (Faults.NotPublished version last)) s'
+    → Replies.Refused (Faults.NotPublished version last) ≡ reply_of (read_outcome (store_of s.fixed.limits s'.seen) range)
+turn_refused_so s s' range version last answers = by_cause (turn_refused s s' range (Faults.NotPublished version last) answers)
+  where
+    by_cause : TurnRefused s.fixed.limits s.fixed.page s'.seen range (Faults.NotPublished version last)
+        → Replies.Refused (Faults.NotPublished version last) ≡ reply_of (read_outcome (store_of s.fixed.limits s'.seen) range)
+    by_cause (TurnRefused.too_long is long) = absurd (let no : Faults.NotPublished version last ≡ Faults.ReadTooLong range.count = is in cc)
+    by_cause (TurnRefused.refused refusal e is) = ap (λ (x : Fault). Replies.Refused x) is ∙ ap (λ (o : Outcome). reply_of o) (sym e)
+    by_cause (TurnRefused.starved is) = absurd (let no : Faults.NotPublished version last ≡ Faults.NoMemory = is in cc)
+    by_cause (TurnRefused.lost page bytes is e lt) = absurd (let no : Faults.NotPublished version last ≡ Faults.PageFault page = is in cc)
+
+-- no read by the board is refused so
+not_by_board : (p : ℕ) (us : List Update) (v offset count : ℕ) (fault : Fault) (version last : ℕ) → fault ≡ Faults.NotPublished version last → RangeCause p us v offset count fault → ⊥
+not_by_board p us v offset count fault version last not (RangeCause.too_long is long) = (let no : Faults.NotPublished version last ≡ Faults.ReadTooLong count = sym not ∙ is in cc)
+not_by_board p us v offset count fault version last not (RangeCause.past is few past) =
+    (let no : Faults.NotPublished version last ≡ Faults.RangePastSize (offset + count) (size_of us v) = sym not ∙ is in cc)
+not_by_board p us v offset count fault version last not (RangeCause.lost page is few within meets) = (let no : Faults.NotPublished version last ≡ Faults.PageFault page = sym not ∙ is in cc)
+not_by_board p us v offset count fault version last not (RangeCause.no_memory is) = (let no : Faults.NotPublished version last ≡ Faults.NoMemory = sym not ∙ is in cc)
+
+-- ---- one read of a reader
+module _ {D : Type 0} (old new : StandingState D) (on : Continues old.session new.session) (op : ℕ) where
+  pub gave : (by : Option Refresh) → goes_by new.has_place new.list 1 (op + 1) ≡ by → (bytes : List ℕ) (way : Way) (before after : ℕ)
+      → Goes by old.session 1 (op + 1) (16 * op) 16 (Ok (bytes, way)) new.session before after → PieceRead old new op bytes
+  gave (Some refresh) is bytes way before after board =
+      PieceRead.by_board new.list ([], append-nil new.list) refresh is
+      (subst (λ (t : StoreState). ReadsRange t.fixed.page_size (updates_of refresh) (op + 1) (16 * op) 16 (Ok bytes)) (sym on.store) board.reads)
+  gave None is bytes way before after turn =
+      PieceRead.by_turn new.session.log on.begins (itself new.session.log)
+      (subst (λ (t : StoreState). Replies.Content bytes ≡ reply_of (read_outcome (store_of t.fixed.limits (events new.session.log)) (range_of op))) (sym on.store)
+      (turn_gave (session_of old.session) (session_of new.session) (range_of op) bytes turn.answers))
+
+  pub not_given : (fault : Fault) (version last : ℕ) → fault ≡ Faults.NotPublished version last → (by : Option Refresh) → goes_by new.has_place new.list 1 (op + 1) ≡ by → (before after : ℕ)
+      → Goes by old.session 1 (op + 1) (16 * op) 16 (Err fault) new.session before after → IsUnpublished old new op
+  not_given fault version last not (Some refresh) is before after board =
+      absurd (not_by_board old.session.store.fixed.page_size (updates_of refresh) (op + 1) (16 * op) 16 fault version last not board.reads.cause)
+  not_given fault version last not None is before after turn = record {
+    version = version;
+    last = last;
+    told = subst (λ (t : StoreState). Replies.Refused (Faults.NotPublished version last) ≡ reply_of (read_outcome (store_of t.fixed.limits (events new.session.log)) (range_of op))) (sym on.store)
+        (turn_refused_so (session_of old.session) (session_of new.session) (range_of op) version last
+        (subst (λ (x : Fault). Answers AllOther (session_of old.session) (Requests.Read 1 (op + 1) (16 * op) 16) (Replies.Refused x) (session_of new.session)) not turn.answers));
+    one_turn = turn.one_turn (omega arith);
+  }
+
+-- so it is noted
+pub bytes_noted : {D : Type 0} (old new : StandingState D) (op : ℕ) (bytes slice before after : List ℕ) → slice ≡ bytes → PieceRead old new op bytes → after ≡ before ++ noted (op + 1) (Some slice)
+    → ReadIsNoted old new op before after
+bytes_noted old new op bytes slice before after same read more =
+    ReadIsNoted.read bytes read (more ∙ ap (λ (l : List ℕ). before ++ noted (op + 1) (Some l)) same)
+
+pub passed_over : {D : Type 0} (old new : StandingState D) (op : ℕ) (told : Told) (fault : Fault) (before after : List ℕ)
+    → OnOk told ((version : ℕ) × ((last : ℕ) × (fault ≡ Faults.NotPublished version last))) → OnOk told (after ≡ before ++ noted (op + 1) None)
+    → ((version last : ℕ) → fault ≡ Faults.NotPublished version last → IsUnpublished old new op) → OnOk told (ReadIsNoted old new op before after)
+passed_over old new op (Ok done) fault before after (version, (last, is)) more not = ReadIsNoted.unpublished (not version last is) more
+passed_over old new op (Err stop) fault before after passes more not = tt
+
+-- ---- one read after another
+module _ {D : Type 0} (first mid last : StandingState D) (board : IsPrefix mid.list last.list) (place : last.has_place ≡ mid.has_place)
+    (one : Idles first.session mid.session) (two : Idles mid.session last.session) where
+  piece_on : (op : ℕ) (bytes : List ℕ) → PieceRead first mid op bytes → PieceRead first last op bytes
+  piece_on op bytes (PieceRead.by_board list prefix on goes reads) =
+      PieceRead.by_board list (prefix_both list mid.list last.list prefix board) on (subst (λ (b : Bool). goes_by b list 1 (op + 1) ≡ Some on) (sym place) goes)
+      (subst (λ (t : StoreState). ReadsRange t.fixed.page_size (updates_of on) (op + 1) (16 * op) 16 (Ok bytes)) (sym two.goes_on.store) reads)
+  piece_on op bytes (PieceRead.by_turn log from to told) =
+      PieceRead.by_turn log from (begins_both log mid.session.log last.session.log to two.goes_on.begins)
+      (subst (λ (t : StoreState). Replies.Content bytes ≡ reply_of (read_outcome (store_of t.fixed.limits (events log)) (range_of op))) (sym two.goes_on.store) told)
+
+  piece_later : (op : ℕ) (bytes : List ℕ) → PieceRead mid last op bytes → PieceRead first last op bytes
+  piece_later op bytes (PieceRead.by_board list prefix on goes reads) = PieceRead.by_board list prefix on goes reads
+  piece_later op bytes (PieceRead.by_turn log from to told) = PieceRead.by_turn log (begins_both first.session.log mid.session.log log one.goes_on.begins from) to told
+
+  one_later : (op : ℕ) (before after : List ℕ) → ReadIsNoted mid last op before after → HasNotedOne (PieceRead first last op) (op + 1) before after
+  one_later op before after (ReadIsNoted.read bytes read more) = HasNotedOne.read bytes (piece_later op bytes read) more
+  one_later op before after (ReadIsNoted.unpublished not more) = HasNotedOne.unpublished more
+
+  pub noted_more : (op : ℕ) (before after : List ℕ) → HasNoted (PieceRead first mid) op before → ReadIsNoted mid last op before after → HasNoted (PieceRead first last) (op + 1) after
+  noted_more op before after so one_read =
+      let next : suc op ≡ op + 1 = omega arith in
+      subst (λ (n : ℕ). HasNoted (PieceRead first last) n after) next
+      (before, (noted_as (PieceRead first mid) (PieceRead first last) piece_on op before so, one_later op before after one_read))
+
+-- ---- readers that come to their ends, from the last to the first
+module _ {D : Type 0} where
+  pub ended_on : (seen seen' : Entries) (w : WatcherState D) (own : List ℕ) → Begins seen seen' → CameToEnd seen w own → CameToEnd seen' w own
+  ended_on seen seen' w own more end = record { told = end.told; begins = begins_both w.reader.session.log seen seen' end.begins more }
+
+  pub all_ended_on : (seen seen' : Entries) → Begins seen seen' → (ws : List (WatcherState D)) (list : List ℕ) → AllCameToEnd seen ws list → AllCameToEnd seen' ws list
+  all_ended_on seen seen' more [] list none = none
+  all_ended_on seen seen' more (w ∷ ws) list (own, (rest, (end, (others, is)))) = (own, (rest, (ended_on seen seen' w own more end, (all_ended_on seen seen' more ws rest others, is))))
+
+  -- as long as no reader stopped, these are the reads of those that ended, which were the last of all
+  abbrev pub ReadSoFar : Option Fault → Entries → List (WatcherState D) → List (WatcherState D) → List ℕ → Type 0
+  ReadSoFar None seen all left list = (ended : List (WatcherState D)) × ((all ≡ left ++ ended) × AllCameToEnd seen ended list)
+  ReadSoFar (Some fault) seen all left list = Unit {0}
+
+  pub none_so_far : (seen : Entries) (all : List (WatcherState D)) (list : List ℕ) → list ≡ [] → ReadSoFar None seen all all list
+  none_so_far seen all list none = ([], (sym (append-nil all), none))
+
+  pub more_so_far : (stop : Option Fault) (seen seen' : Entries) (all left less : List (WatcherState D)) (w : WatcherState D) (own list list' : List ℕ) → Begins seen seen' → left ≡ less ++ w ∷ []
+      → CameToEnd seen' w own → list' ≡ own ++ list → ReadSoFar stop seen all left list → ReadSoFar stop seen' all less list'
+  more_so_far None seen seen' all left less w own list list' more split end is (ended, (whole, so)) =
+      (w ∷ ended, (whole ∙ (ap (λ (l : List (WatcherState D)). l ++ ended) split ∙ append_assoc less (w ∷ []) ended), (own, (list, (end, (all_ended_on seen seen' more ended list so, is))))))
+  more_so_far (Some fault) seen seen' all left less w own list list' more split end is so = tt
+
+  pub all_so_far : (seen : Entries) (all left : List (WatcherState D)) (list : List ℕ) → length left ≡ 0 → ReadSoFar None seen all left list → AllCameToEnd seen all list
+  all_so_far seen all left list none (ended, (whole, so)) =
+      subst (λ (l : List (WatcherState D)). AllCameToEnd seen l list) (sym (whole ∙ ap (λ (l : List (WatcherState D)). l ++ ended) (nil_from_length left none))) so
+
+-- ---- what they read, once all came to their ends
+-- `before` is what the owner had seen when they were made, and in `kept` the keeper's refreshes hold
+module _ {D : Type 0} (faults : D → ℕ) (store : StoreState) (tell : BoardReadsTell) (board : BoardId) (before kept seen : Entries) (some : 1 ≤ length before)
+    (from : Begins before kept) (to : Begins kept seen) (all : List Refresh) (hold : AllHold store.fixed kept all) where
+  -- what a read by the board gives is what the store tells
+  by_tells : (op : ℕ) (bytes : List ℕ) → Tells (read_outcome (store_of store.fixed.limits (events kept)) (range_of op)) 16 (Replies.Content bytes)
+      → Replies.Content bytes ≡ reply_of (read_outcome (store_of store.fixed.limits (events kept)) (range_of op))
+  by_tells op bytes (Tells.outcome_told told) = told
+  by_tells op bytes (Tells.too_long told) = absurd (let no : Replies.Content bytes ≡ Replies.Refused (Faults.ReadTooLong 16) = told in cc)
+  by_tells op bytes (Tells.out_of_memory told) = absurd (let no : Replies.Content bytes ≡ Replies.Refused Faults.NoMemory = told in cc)
+  by_tells op bytes (Tells.not_read page told) = absurd (let no : Replies.Content bytes ≡ Replies.Refused (Faults.PageFault page) = told in cc)
+
+  module _ (w w' : WatcherState D) (ready : IsReadyToWatch faults store before board w) (idles : Idles w.reader.session w'.reader.session) (met : HasMet all w')
+      (ended : Begins w'.reader.session.log seen) where
+    of_store : w'.reader.session.store ≡ store
+    of_store = idles.goes_on.store ∙ ready.idle.of_store
+
+    piece_seen : (op : ℕ) (bytes : List ℕ) → PieceRead w.reader w'.reader op bytes → IsPieceSeen store.fixed seen op bytes
+    piece_seen op bytes (PieceRead.by_board list prefix on goes reads) =
+        let here = subst (λ (t : StoreState). ReadsRange t.fixed.page_size (updates_of on) (op + 1) (16 * op) 16 (Ok bytes)) of_store reads in
+        let told = tell store.fixed kept all list (range_of op) (Ok bytes) (events kept)
+        (record { hold = hold; begins = prefix_both list w'.reader.list all prefix met; has_place = w'.reader.has_place; on = on; goes = goes; reads = here })
+        ([], inl (sym (append-nil (events kept))))
+        in
+        record { log = kept; some = some_more before kept from some; begins = to; told = by_tells op bytes told }
+    piece_seen op bytes (PieceRead.by_turn log first last told) = record {
+      log = log;
+      some = some_more before log (subst (λ (l : Entries). Begins l log) ready.log first) some;
+      begins = begins_both log w'.reader.session.log seen last ended;
+      told = subst (λ (t : StoreState). Replies.Content bytes ≡ reply_of (read_outcome (store_of t.fixed.limits (events log)) (range_of op))) of_store told;
+    }
+
+  -- a reader that came to its end has read all versions
+  Reads : ℕ → WatcherState D → Type 0
+  Reads ops w = (own : List ℕ) → CameToEnd seen w own → HasNoted (IsPieceSeen store.fixed seen) ops own
+
+  reads_of : (plan : WatchPlan) (w w' : WatcherState D) → IsReadyToWatch faults store before board w → HasWatched faults plan w w' → HasMet all w' → Reads plan.ops w'
+  unfolding Reads
+  reads_of plan w w' ready has met own end =
+      noted_as (PieceRead w.reader w'.reader) (IsPieceSeen store.fixed seen) (piece_seen w w' ready has.read.idles met end.begins) plan.ops own
+      (subst (λ (t : Result (List ℕ) Fault). IfOk t (HasNoted (PieceRead w.reader w'.reader) plan.ops)) end.told has.noted)
+
+  each_reads : (plan : WatchPlan) (ws ws' : List (WatcherState D)) → length ws' ≡ length ws → All (IsReadyToWatch faults store before board) ws → HaveWatched faults plan ws ws' → All (HasMet all) ws'
+      → All (Reads plan.ops) ws'
+  each_reads plan ws ws' count ready have met k d lt =
+      let there : k < length ws = omega (arith, lt, count) in
+      reads_of plan (get_or ws k d) (get_or ws' k d) (ready k d there) (have k d there) (met k d lt)
+
+  gathered : (ops : ℕ) (ws : List (WatcherState D)) (list : List ℕ) → All (Reads ops) ws → AllCameToEnd seen ws list → HaveNoted (IsPieceSeen store.fixed seen) ops (length ws) list
+  unfolding Reads
+  gathered ops [] list each none = none
+  gathered ops (w ∷ ws) list each (own, (rest, (end, (others, is)))) =
+      (own, (rest, (All-head (Reads ops) w ws each own end, (gathered ops ws rest (All-tail (Reads ops) w ws each) others, is))))
+
+  pub all_read : (plan : WatchPlan) (ws ws' : List (WatcherState D)) → length ws' ≡ length ws → All (IsReadyToWatch faults store before board) ws → HaveWatched faults plan ws ws'
+      → All (HasMet all) ws' → (list : List ℕ) → AllCameToEnd seen ws' list → HaveNoted (IsPieceSeen store.fixed seen) plan.ops (length ws') list
+  all_read plan ws ws' count ready have met list ended = gathered plan.ops ws' list (each_reads plan ws ws' count ready have met) ended
+
+-- ---- what is noted in the end
+holds_published : (f : DeskFixed) (log : Entries) (r : Refresh) → r.blob ≡ 1 → Holds f log r → IsPublishedIn (store_of f.limits (events log)) 1 (version_of r)
+holds_published f log r one h =
+    let at : (b : Blob) × (blob_at (store_of f.limits (events log)) 1 ≡ Some b) = subst (λ (n : ℕ). (b : Blob) × (blob_at (store_of f.limits (events log)) n ≡ Some b)) one h.there in
+    let le : version_of r ≤ published_in (desk_at f log) 1 = subst (λ (n : ℕ). version_of r ≤ published_in (desk_at f log) n) one h.published in
+    (at.0, at.1, subst (λ (n : ℕ). version_of r ≤ n) (ap published_or_none at.1) le)
+
+module _ {D : Type 0} (plan : WatchPlan) (f : DeskFixed) (readers : ℕ) (old new : Owner) (all : List Refresh) (ws : List (WatcherState D)) (count : length all ≡ plan.ops)
+    (of_one : All (λ (r : Refresh). r.blob ≡ 1) all) (hold : Begins old.seen new.seen → AllHold f new.seen all)
+    (read : Begins old.seen new.seen → (list : List ℕ) → AllCameToEnd new.seen ws list → HaveNoted (IsPieceSeen f new.seen) plan.ops plan.readers list) where
+  pub notes_seen : (told : Result (WatchSummary × NotesState) Fault) → Finishes f readers told old new → IfOk told (λ done. NotesOf all ws new.seen done.0.versions done.1)
+      → IfOk told (λ done. NotesSeen plan f new.seen done.0.versions done.1)
+  notes_seen (Err fault) by notes = tt
+  notes_seen (Ok done) finished notes =
+      let more : Begins old.seen new.seen = finished.leaves.comes.begins in
+      let holds = hold more in
+      let out : ℕ → Type 0 = λ v. IsPublishedIn (store_of f.limits (events new.seen)) 1 v in
+      record {
+        before = map version_of all;
+        count = length-map all version_of ∙ count;
+        refreshes = notes.refreshes;
+        published = All-map out version_of all (λ k d lt. holds_published f new.seen (get_or all k d) (of_one k d lt) (holds k d lt));
+        readings = read more done.1.readings notes.readings;
+      }
