@@ -14,9 +14,15 @@ use std::sync::Wait;
 use std::thread::Threads;
 
 /// A session of the store.
-#[derive(Drop)]
 pub(crate) struct Member<'a> {
     pub(crate) session: Session<'a, PlainDoor, FreeGate>,
+}
+
+// By hand, here and below, so that it is one call wherever one is let go.
+impl<'a> Drop for Member<'a> {
+    fn drop(self) {
+        let Member { session: _ } = self;
+    }
 }
 
 impl<'a> Member<'a> {
@@ -189,8 +195,8 @@ impl<'a> Member<'a> {
         }
     }
 
-    /// The first `size` bytes of a version, once it is published.
-    pub(crate) fn content<R: Threads + Wait + Sync>(
+    // The first `size` bytes of a version, once it is published.
+    fn content<R: Threads + Wait + Sync>(
         &mut self,
         rt: &R,
         blob: u64,
@@ -203,25 +209,38 @@ impl<'a> Member<'a> {
         self.read(rt, blob, version, size)
     }
 
-    /// Whether the version of a note is read as the note says.
-    pub(crate) fn reads_again<R: Threads + Wait + Sync>(&mut self, rt: &R, note: &Note) -> bool {
-        match self.read(rt, note.blob, note.done.version, note.done.size) {
-            Some(bytes) => bytes.as_slice() == note.content.as_slice(),
+    // Whether a version has these bytes, once it is published.
+    fn reads_as<R: Threads + Wait + Sync>(
+        &mut self,
+        rt: &R,
+        blob: u64,
+        version: u64,
+        bytes: &[u8],
+    ) -> bool {
+        match self.content(rt, blob, version, bytes.len() as u64) {
+            Some(content) => content.as_slice() == bytes,
             None => false,
         }
     }
 
-    /// Reads the version of a note, for the first time, and answers whether the note's own bytes stand there.
+    /// Whether the version of a note is read as the note says.
+    pub(crate) fn reads_again<R: Threads + Wait + Sync>(&mut self, rt: &R, note: &Note) -> bool {
+        self.reads_as(rt, note.blob, note.done.version, note.content.as_slice())
+    }
+
+    /// Reads the version of a note for the first time, once it is published, and answers whether the note's own bytes stand there.
     pub(crate) fn reads_first<R: Threads + Wait + Sync>(
         &mut self,
         rt: &R,
         note: &mut Note,
     ) -> bool {
-        let Some(content) = self.read(rt, note.blob, note.done.version, note.done.size) else {
-            return false;
-        };
-        note.content = content;
-        note.reads_back([note.byte; MOST].get(..note.count).unwrap_or_default())
+        match self.content(rt, note.blob, note.done.version, note.done.size) {
+            Some(content) => {
+                note.content = content;
+                note.reads_back([note.byte; MOST].get(..note.count).unwrap_or_default())
+            }
+            None => false,
+        }
     }
 }
 
@@ -234,7 +253,6 @@ fn is_well(finished: &Result<u64, Fault>) -> bool {
 }
 
 /// An update of which a client was told: so many bytes, all the same, and what it then read.
-#[derive(Drop)]
 pub(crate) struct Note {
     pub(crate) blob: u64,
     pub(crate) place: Place,
@@ -244,6 +262,19 @@ pub(crate) struct Note {
     pub(crate) done: Done,
     /// All bytes of its version.
     pub(crate) content: Bytes,
+}
+
+impl Drop for Note {
+    fn drop(self) {
+        let Note {
+            blob: _,
+            place: _,
+            byte: _,
+            count: _,
+            done: _,
+            content: _,
+        } = self;
+    }
 }
 
 impl Note {
@@ -265,7 +296,6 @@ impl Note {
 }
 
 /// A session, its number, and what it was told.
-#[derive(Drop)]
 pub(crate) struct Client<'a> {
     pub(crate) member: Member<'a>,
     /// Where its notes lie.
@@ -278,27 +308,65 @@ pub(crate) struct Client<'a> {
     pub(crate) is_content: bool,
 }
 
+impl<'a> Drop for Client<'a> {
+    fn drop(self) {
+        let Client {
+            member: _,
+            alloc: _,
+            number: _,
+            notes: _,
+            is_content: _,
+        } = self;
+    }
+}
+
 impl<'a> Client<'a> {
     /// Goes through its steps.
     pub(crate) fn work<R: Threads + Wait + Sync>(&mut self, rt: &R, manner: Manner) {
-        let done = match manner {
-            Manner::Careful => self.go_through(rt),
-            Manner::Careless => self.go_carelessly(rt),
-        };
-        self.is_content = done.is_some();
+        self.is_content = self.go_through(rt, manner);
     }
 
-    fn go_carelessly<R: Threads + Wait + Sync>(&mut self, rt: &R) -> Option<()> {
+    fn go_through<R: Threads + Wait + Sync>(&mut self, rt: &R, manner: Manner) -> bool {
         let mut dice = Dice::of(self.number);
         for _ in 0..STEPS {
-            let step = dice.step();
-            let (ticket, note) = self.start(rt, &step)?;
-            if !self.leave(rt, &step, ticket, note.done.version) {
-                return None;
+            if !self.go(rt, manner, &dice.step()) {
+                return false;
             }
-            self.notes.push(note).ok()?;
         }
-        Some(())
+        true
+    }
+
+    fn go<R: Threads + Wait + Sync>(&mut self, rt: &R, manner: Manner, step: &Step) -> bool {
+        match manner {
+            Manner::Careful => self.go_carefully(rt, step),
+            Manner::Careless => self.go_carelessly(rt, step),
+        }
+    }
+
+    // A note of an update, whose version isn't read yet.
+    fn note(&self, blob: u64, place: Place, count: usize, done: Done) -> Note {
+        Note {
+            blob,
+            place,
+            byte: self.number,
+            count,
+            done,
+            content: Bytes::of(Vec::new(self.alloc)),
+        }
+    }
+
+    fn keep(&mut self, note: Note) -> bool {
+        self.notes.push(note).is_ok()
+    }
+
+    fn go_carelessly<R: Threads + Wait + Sync>(&mut self, rt: &R, step: &Step) -> bool {
+        match self.start(rt, step) {
+            Some((ticket, note)) => {
+                let is_well = self.leave(rt, step, ticket, note.done.version);
+                self.keep(note) && is_well
+            }
+            None => false,
+        }
     }
 
     // Repairs a version, or finishes the update, or leaves it. Whether that went as it may.
@@ -317,44 +385,25 @@ impl<'a> Client<'a> {
         }
     }
 
-    // Starts an update, whose version isn't read yet.
+    // Starts an update.
     fn start<R: Threads + Wait + Sync>(&mut self, rt: &R, step: &Step) -> Option<(u64, Note)> {
-        let Step {
-            blob,
-            place,
-            count,
-            ..
-        } = *step;
         let bytes = [self.number; MOST];
-        let bytes = bytes.get(..count)?;
-        let (ticket, done) = self.member.start(rt, blob, place, bytes)?;
-        let note = Note {
-            blob,
-            place,
-            byte: self.number,
-            count,
-            done,
-            content: Bytes::of(Vec::new(self.alloc)),
-        };
-        Some((ticket, note))
+        let bytes = bytes.get(..step.count).unwrap_or_default();
+        let (ticket, done) = self.member.start(rt, step.blob, step.place, bytes)?;
+        Some((ticket, self.note(step.blob, step.place, step.count, done)))
     }
 
-    fn go_through<R: Threads + Wait + Sync>(&mut self, rt: &R) -> Option<()> {
-        let mut dice = Dice::of(self.number);
-        for _ in 0..STEPS {
-            let step = dice.step();
-            self.go(rt, &step)?;
+    fn go_carefully<R: Threads + Wait + Sync>(&mut self, rt: &R, step: &Step) -> bool {
+        match self.update(rt, step.blob, step.place, step.count) {
+            Some(note) => {
+                let is_well = match step.next {
+                    Next::Branches => self.branch(rt, &note),
+                    Next::ReadsBase => self.member.reads_as(rt, step.blob, 1, BASE),
+                };
+                self.keep(note) && is_well
+            }
+            None => false,
         }
-        Some(())
-    }
-
-    fn go<R: Threads + Wait + Sync>(&mut self, rt: &R, step: &Step) -> Option<()> {
-        let note = self.update(rt, step.blob, step.place, step.count)?;
-        match step.next {
-            Next::Branches => self.branch(rt, &note)?,
-            Next::ReadsBase => self.read_base(rt, step.blob)?,
-        }
-        self.notes.push(note).ok()
     }
 
     // Makes an update, and reads the whole of its version, in which it stands.
@@ -366,36 +415,28 @@ impl<'a> Client<'a> {
         count: usize,
     ) -> Option<Note> {
         let bytes = [self.number; MOST];
-        let bytes = bytes.get(..count)?;
+        let bytes = bytes.get(..count).unwrap_or_default();
         let done = self.member.update(rt, blob, place, bytes)?;
-        let content = self.member.content(rt, blob, done.version, done.size)?;
-        let note = Note {
-            blob,
-            place,
-            byte: self.number,
-            count,
-            done,
-            content,
-        };
-        note.reads_back(bytes).then_some(note)
+        let mut note = self.note(blob, place, count, done);
+        self.member.reads_first(rt, &mut note).then_some(note)
     }
 
-    // Branches the blob at the update, and writes the branch's first byte, which the blob doesn't see.
-    fn branch<R: Threads + Wait + Sync>(&mut self, rt: &R, note: &Note) -> Option<()> {
-        let branch = self.member.branch(rt, note.blob, note.done.version)?;
-        let made = self.update(rt, branch, Place::WriteAt(0), 1)?;
-        if !made.branches(note) {
-            return None;
+    // Branches the blob at the update.
+    fn branch<R: Threads + Wait + Sync>(&mut self, rt: &R, note: &Note) -> bool {
+        match self.member.branch(rt, note.blob, note.done.version) {
+            Some(branch) => self.write_branch(rt, note, branch),
+            None => false,
         }
-        self.notes.push(made).ok()?;
-        let Done { version, size, .. } = note.done;
-        let again = self.member.content(rt, note.blob, version, size)?;
-        (again.as_slice() == note.content.as_slice()).then_some(())
     }
 
-    // Reads version 1 of a blob, which stays.
-    fn read_base<R: Threads + Wait + Sync>(&mut self, rt: &R, blob: u64) -> Option<()> {
-        let read = self.member.content(rt, blob, 1, BASE.len() as u64)?;
-        (read.as_slice() == BASE).then_some(())
+    // Writes the branch's first byte, which the blob doesn't see.
+    fn write_branch<R: Threads + Wait + Sync>(&mut self, rt: &R, note: &Note, branch: u64) -> bool {
+        match self.update(rt, branch, Place::WriteAt(0), 1) {
+            Some(made) => {
+                let is_well = made.branches(note) && self.member.reads_again(rt, note);
+                self.keep(made) && is_well
+            }
+            None => false,
+        }
     }
 }

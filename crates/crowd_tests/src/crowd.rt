@@ -5,7 +5,7 @@ ghost use Rattle.std.specs.Prelude.{◌≡◌};
 ghost use Rattle.client_session.specs.Sessions.{IsOwnerOf};
 
 use crate::client::{Client, Member, Note};
-use crate::replay::{check_history, sizes_agree};
+use crate::replay::{check, check_history, sizes_agree};
 use crate::script::{BASE, CLIENTS, Manner, sum_of};
 use blob_model::{Limits, Place};
 use client_session::{Owner, Shared};
@@ -21,7 +21,7 @@ fn make_blobs<R: Threads + Wait + Sync + Abort>(rt: &R, founder: &mut Member<'_>
     for _ in 0..3 {
         let blob = founder.create(rt).expect(rt, "a blob");
         let done = founder.update(rt, blob, Place::Append, BASE);
-        assert!(rt; done.is_some());
+        check(rt, done.is_some(), true, "the first version");
     }
 }
 
@@ -56,15 +56,23 @@ fn work_all<R: Threads + Wait + Sync>(rt: &R, clients: &mut [Client<'_>], manner
         usize::from(CLIENTS),
         &|_, client| { client.work(rt, manner) },
     );
-    clients.iter().all(|client| client.is_content)
+    all_content(clients)
+}
+
+fn all_content(clients: &[Client<'_>]) -> bool {
+    for client in clients {
+        if !client.is_content {
+            return false;
+        }
+    }
+    true
 }
 
 // What the clients were told. All end here, and what they hold is left.
 fn notes_of<R: Abort>(rt: &R, alloc: Global, clients: Vec<Client<'_>>) -> Vec<Note> {
     let mut all = Vec::new(alloc);
-    for client in clients {
-        let Client { mut notes, .. } = client;
-        all.append(&mut notes).expect(rt, "memory");
+    for mut client in clients {
+        all.append(&mut client.notes).expect(rt, "memory");
     }
     all
 }
@@ -118,10 +126,10 @@ fn check_blob<R: Wait + Abort>(
 ) -> u64 {
     let sum = sum_of(blob);
     check_history(rt, alloc, notes, blob, sum.last);
-    let ended = reader.status(rt, blob);
-    assert_eq!(rt; ended, Some((sum.last, sum.last, 0)));
-    let newest = reader.recent(rt, blob);
-    assert_eq!(rt; newest, Some((sum.last, sum.size as u64)));
+    let ended = Some((sum.last, sum.last, 0));
+    check(rt, reader.status(rt, blob), ended, "all is finished");
+    let newest = Some((sum.last, sum.size as u64));
+    check(rt, reader.recent(rt, blob), newest, "the size");
     sum.branches
 }
 
@@ -137,7 +145,8 @@ fn check_store<R: Wait + Abort>(
         let more = check_blob(rt, alloc, reader, notes, before + 1);
         branches = branches.saturating_add(more);
     }
-    assert!(rt; sizes_agree(rt, &mut reader.session, notes));
+    let agree = sizes_agree(rt, &mut reader.session, notes);
+    check(rt, agree, true, "every size");
     branches
 }
 
@@ -152,62 +161,78 @@ fn check_branches<R: Wait + Abort>(rt: &R, reader: &mut Member<'_>, notes: &[Not
     let mut count: u64 = 0;
     for note in notes {
         if note.blob > 3 {
-            assert!(rt; ends_there(rt, reader, note));
+            check(rt, ends_there(rt, reader, note), true, "a branch");
             count = count.saturating_add(1);
         }
     }
     count
 }
 
-// The founder of a store with three blobs finishes what the clients left, and reads every version. How many branches the scripts
-// make and the notes tell of, and what is known of the blob behind the last of them.
-fn check_shared<R: Threads + Wait + Sync + Abort>(
+// The founder of a store with three blobs finishes what the clients left, and reads every version. What all were told is left.
+fn told_to<R: Threads + Wait + Sync + Abort>(
     rt: &R,
     alloc: Global,
     founder: &mut Member<'_>,
     clients: Vec<Client<'_>>,
     manner: Manner,
-) -> (u64, u64) {
+) -> Vec<Note> {
     let mut clients = clients;
-    assert!(rt;
-        work_all(rt, clients.as_mut_slice(), manner),
-        "a client was told something else"
-    );
+    let all_well = work_all(rt, clients.as_mut_slice(), manner);
+    check(rt, all_well, true, "what each client was told");
     let mut notes = notes_of(rt, alloc, clients);
-    assert!(rt; mend_blobs(rt, founder), "a version isn't finished");
-    assert!(rt;
-        read_again(rt, founder, notes.as_mut_slice(), manner),
-        "a version is read as something else"
+    check(
+        rt,
+        mend_blobs(rt, founder),
+        true,
+        "every version is finished",
     );
-    let branches = check_store(rt, alloc, founder, notes.as_slice());
-    (branches, check_branches(rt, founder, notes.as_slice()))
+    let all_read = read_again(rt, founder, notes.as_mut_slice(), manner);
+    check(rt, all_read, true, "every version is read as it was told");
+    notes
 }
 
-// The same over a new store, with pages of 4 bytes, three providers and two replicas of each page; and whether it has a blob behind the branches that the notes tell of.
-fn shared_by_all<R: Threads + Wait + Sync + Abort>(
+// The notes agree with the store. Careful clients make the branches of their scripts, careless ones none; and the store has no other blob.
+fn check_notes<R: Wait + Abort>(
     rt: &R,
     alloc: Global,
+    reader: &mut Member<'_>,
+    notes: &[Note],
     manner: Manner,
-) -> (u64, u64, bool) {
+) {
+    let branches = check_store(rt, alloc, reader, notes);
+    let expected = match manner {
+        Manner::Careful => branches,
+        Manner::Careless => 0,
+    };
+    check(rt, check_branches(rt, reader, notes), expected, "branches");
+    let next = reader.recent(rt, expected.saturating_add(4));
+    check(rt, next, None, "no blob behind them");
+}
+
+// A new store, with pages of 4 bytes, three providers and two replicas of each page.
+fn new_store<R: Abort>(rt: &R, alloc: Global) -> (Shared, Owner)
+    ensures { IsOwnerOf result.0 result.1 }
+{
     let page_size = PageSize::new(4).expect(rt, "a page size");
     let made = Shared::new(alloc, Limits::greatest(), page_size, 3, 2);
-    let (shared, mut owner) = made.expect(rt, "memory");
+    made.expect(rt, "memory")
+}
+
+fn share_by_all<R: Threads + Wait + Sync + Abort>(rt: &R, alloc: Global, manner: Manner) {
+    let (shared, mut owner) = new_store(rt, alloc);
     let mut founder = Member::new(rt, alloc, &shared, &mut owner);
     make_blobs(rt, &mut founder);
     let clients = clients_of(rt, alloc, &shared, &mut owner);
-    let (branches, told) = check_shared(rt, alloc, &mut founder, clients, manner);
-    let next = founder.recent(rt, told.saturating_add(4));
-    (branches, told, next.is_some())
+    let notes = told_to(rt, alloc, &mut founder, clients, manner);
+    check_notes(rt, alloc, &mut founder, notes.as_slice(), manner);
 }
 
 #[test]
 fn sixteen_sessions_write_parts_of_a_page_of_three_blobs(rt: HostRuntime) {
-    let (branches, told, has_more) = shared_by_all(&rt, rt.alloc(), Manner::Careful);
-    assert_eq!(rt; (told, has_more), (branches, false));
+    share_by_all(&rt, rt.alloc(), Manner::Careful);
 }
 
 #[test]
 fn what_sixteen_sessions_leave_open_is_finished_by_others(rt: HostRuntime) {
-    let (_, told, has_more) = shared_by_all(&rt, rt.alloc(), Manner::Careless);
-    assert_eq!(rt; (told, has_more), (0, false));
+    share_by_all(&rt, rt.alloc(), Manner::Careless);
 }

@@ -10,6 +10,11 @@ use std::alloc::Global;
 use std::process::Abort;
 use std::sync::Wait;
 
+/// What was found is as it must be. In a call of its own an assertion costs its caller no branch.
+pub(crate) fn check<T: PartialEq + Drop, R: Abort>(rt: &R, found: T, expected: T, what: &str) {
+    assert!(rt; found == expected, "{what}");
+}
+
 // The update that made the version, where one client was told of it, and no other.
 fn only_note(notes: &[Note], blob: u64, version: u64) -> Option<&Note> {
     let mut found = None;
@@ -65,10 +70,7 @@ fn is_told(note: &Note, content: &[u8]) -> bool {
 fn check_version<R: Abort>(rt: &R, content: &mut Vec<u8>, notes: &[Note], blob: u64, version: u64) {
     let note = only_note(notes, blob, version).expect(rt, "one note of each version");
     replay(content, note).expect(rt, "an update that may be made where it was told");
-    assert!(rt;
-        is_told(note, content.as_slice()),
-        "version {version} of blob {blob}"
-    );
+    check(rt, is_told(note, content.as_slice()), true, "a version");
 }
 
 /// Each version of a blob up to the last was told to one client alone, and every answer and every read is what the updates up to

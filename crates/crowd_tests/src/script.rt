@@ -15,7 +15,7 @@ pub(crate) const BASE: &[u8] = b"abcdefghijklmnop";
 pub(crate) const MOST: usize = 3;
 
 /// How the clients work.
-#[derive(Clone, Copy, PartialEq)]
+#[derive(Clone, Copy)]
 pub(crate) enum Manner {
     /// Each update is finished, and its version read.
     Careful,
@@ -24,7 +24,7 @@ pub(crate) enum Manner {
 }
 
 /// What a client does with an update.
-#[derive(Clone, Copy, PartialEq)]
+#[derive(Clone, Copy)]
 pub(crate) enum Next {
     /// It reads it, branches the blob there, and writes the branch's first byte. A careless client repairs some version up to it.
     Branches,
@@ -102,10 +102,10 @@ impl Sum {
     // Adds a step.
     fn add(&mut self, step: &Step) {
         self.last = self.last.saturating_add(1);
-        if step.place == Place::Append {
+        if matches!(step.place, Place::Append) {
             self.size = self.size.saturating_add(step.count);
         }
-        if step.next == Next::Branches {
+        if matches!(step.next, Next::Branches) {
             self.branches = self.branches.saturating_add(1);
         }
     }

@@ -88,7 +88,7 @@ fn number<R: Abort>(rt: &R, desk: &mut Desk, pages: &Arc<Pages>)
     ensures nodes { desk.new.nodes ≡ desk.old.nodes }
 {
     let numbered = desk.assign(CALLER, 1, Place::Append, pages);
-    assert!(rt; numbered.is_ok(), "a version");
+    check(rt, numbered.is_ok(), true, "a version");
 }
 
 /// A desk with one blob, of which three updates of six bytes wait, and the house of its nodes.
@@ -106,4 +106,9 @@ pub(crate) fn three_waiting<R: Threads + Wait + Sync + Abort>(
     number(rt, &mut desk, &pages);
     number(rt, &mut desk, &pages);
     (desk, nodes)
+}
+
+/// What was told is as it must be. In a call of its own an assertion costs its caller no branch.
+pub(crate) fn check<T: PartialEq + Drop, R: Abort>(rt: &R, told: T, expected: T, what: &str) {
+    assert!(rt; told == expected, "{what}");
 }

@@ -8,13 +8,14 @@ ghost use Rattle.snapshot.specs.Versions.{NodesLieIn, updates_of};
 ghost use Rattle.version_manager.specs.Desks.{IsTicketOf, IsRowFor, store_now, updates_in};
 ghost use Rattle.version_manager.specs.Folds.{IsInOrder};
 
-use crate::desk::{CALLER, three_waiting};
+use crate::desk::{CALLER, check, three_waiting};
 use blob_model::{Place, Refusal};
 use border_hints::Ticket;
 use node_store::{NodeHouse, Row};
 use std::alloc::Global;
 use std::process::Abort;
 use std::sync::{Arc, Wait};
+use std::thread::Threads;
 use tree_weaver::weave;
 use version_manager::{Desk, DeskFault};
 
@@ -72,18 +73,23 @@ fn check_finish<R: Wait + Abort>(
     ensures nodes { desk.new.nodes ≡ desk.old.nodes }
 {
     let ticket = ticket_anew(rt, desk, version);
-    assert!(rt; ticket.caller() == CALLER);
+    check(rt, ticket.caller(), CALLER, "who numbered it");
     let row = row_of(rt, alloc, desk, &ticket, nodes);
     let finished = desk.finish(OTHER, &ticket, row).ok();
-    assert!(rt; finished == Some(published));
+    check(rt, finished, Some(published), "what is published then");
 }
 
 // Checks what a ticket of blob 1 tells: how far is published, and how many updates wait below it.
 fn check_hints<R: Abort>(rt: &R, desk: &Desk, version: u64, published: u64, waiting: u32) {
     let ticket = ticket_anew(rt, desk, version);
     let hints = ticket.hints();
-    assert!(rt; hints.snapshot.version() == published);
-    assert!(rt; hints.waiting.count() == waiting);
+    check(
+        rt,
+        hints.snapshot.version(),
+        published,
+        "how far is published",
+    );
+    check(rt, hints.waiting.count(), waiting, "how many wait");
 }
 
 // The blob and the version of which there is no ticket, and why.
@@ -109,23 +115,37 @@ const FINISHED: NoTicket = (1, 3, Refusal::Already { version: 3 });
 fn check_refused<R: Abort>(rt: &R, desk: &Desk, row: &NoTicket) {
     let (blob, version, refusal) = *row;
     let fault = desk.ticket_of(blob, version).err();
-    assert!(rt; fault == Some(DeskFault::Refused(refusal)), "{refusal:?}");
+    check(rt, fault, Some(DeskFault::Refused(refusal)), "no ticket");
+}
+
+// There is no ticket of a version that is finished, nor of one that isn't there.
+fn check_no_tickets<R: Abort>(rt: &R, desk: &Desk) {
+    for row in &NO_TICKETS {
+        check_refused(rt, desk, row);
+    }
+}
+
+fn finish_all<R: Wait + Abort>(rt: &R, alloc: Global, desk: &mut Desk, nodes: &NodeHouse)
+    requires nodes { desk.old.nodes ≡ nodes.now }
+{
+    check_hints(rt, desk, 3, 0, 2);
+    check_finish(rt, alloc, desk, nodes, 2, 0);
+    check_hints(rt, desk, 3, 0, 2);
+    check_no_tickets(rt, desk);
+    check_finish(rt, alloc, desk, nodes, 1, 2);
+    check_hints(rt, desk, 3, 2, 0);
+    check_finish(rt, alloc, desk, nodes, 3, 3);
+    check_refused(rt, desk, &FINISHED);
+}
+
+fn repair_three<R: Threads + Wait + Sync + Abort>(rt: &R, alloc: Global) {
+    let (mut desk, nodes) = three_waiting(rt, alloc);
+    finish_all(rt, alloc, &mut desk, &nodes);
 }
 
 #[test]
 fn another_caller_finishes_what_one_numbered(rt: HostRuntime) {
-    let alloc: Global = rt.alloc();
-    let (mut desk, nodes) = three_waiting(&rt, alloc);
-    check_hints(&rt, &desk, 3, 0, 2);
-    check_finish(&rt, alloc, &mut desk, &nodes, 2, 0);
-    check_hints(&rt, &desk, 3, 0, 2);
-    for row in &NO_TICKETS {
-        check_refused(&rt, &desk, row);
-    }
-    check_finish(&rt, alloc, &mut desk, &nodes, 1, 2);
-    check_hints(&rt, &desk, 3, 2, 0);
-    check_finish(&rt, alloc, &mut desk, &nodes, 3, 3);
-    check_refused(&rt, &desk, &FINISHED);
+    repair_three(&rt, rt.alloc());
 }
 
 // The blob, the place and the length of an update, and why it would be refused.
@@ -143,10 +163,15 @@ const UPDATES: [(u64, Place, u64, Option<Refusal>); 3] = [
     (2, Place::Append, 1, Some(Refusal::NoBlob { blob: 2 })),
 ];
 
+fn check_refusals<R: Threads + Wait + Sync + Abort>(rt: &R, alloc: Global) {
+    let (desk, _nodes) = three_waiting(rt, alloc);
+    for (blob, place, count, refusal) in &UPDATES {
+        let told = desk.refusal_of(*blob, *place, *count);
+        check(rt, told, *refusal, "a refusal");
+    }
+}
+
 #[test]
 fn a_desk_tells_what_it_would_refuse(rt: HostRuntime) {
-    let (desk, _nodes) = three_waiting(&rt, rt.alloc());
-    for (blob, place, count, refusal) in &UPDATES {
-        assert!(rt; desk.refusal_of(*blob, *place, *count) == *refusal);
-    }
+    check_refusals(&rt, rt.alloc());
 }

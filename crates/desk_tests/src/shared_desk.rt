@@ -1,7 +1,7 @@
 //! A desk that two threads share.
 ghost use Rattle.std.specs.Prelude.{◌≡◌};
 
-use crate::desk::{desk_of, one_house};
+use crate::desk::{check, desk_of, one_house};
 use blob_model::Outcome;
 use std::alloc::Global;
 use std::process::Abort;
@@ -54,29 +54,42 @@ fn close_early<R: Abort>(rt: &R, shared: SharedDesk, owner: Owner) -> (SharedDes
     ensures owner { result.1 ≡ owner }
 {
     let refused = shared.close(owner).err().expect(rt, "a pass is out");
-    assert_eq!(rt; refused.out, 1);
+    check(rt, refused.out, 1, "a pass is out");
     (refused.desk, refused.owner)
 }
 
 // The last of the blobs is blob 4.
 fn check_last<R: Abort>(rt: &R, desk: &Desk) {
     let last = desk.status(4);
-    assert!(rt; matches!(&last, Outcome::Status { .. }));
+    check(rt, matches!(&last, Outcome::Status { .. }), true, "blob 4");
     let past = desk.status(5);
-    assert!(rt; matches!(&past, Outcome::Refused(_)));
+    check(rt, matches!(&past, Outcome::Refused(_)), true, "blob 5");
+}
+
+// A desk isn't closed while a pass is out.
+fn close_twice<R: Abort>(rt: &R, shared: SharedDesk, mut owner: Owner, one: Pass, two: Pass)
+    requires owner { owner.lock ≡ shared }
+    requires one { one.lock ≡ shared }
+    requires two { two.lock ≡ shared }
+{
+    shared.take_back(&mut owner, one);
+    let (shared, mut owner) = close_early(rt, shared, owner);
+    shared.take_back(&mut owner, two);
+    let desk = shared.close(owner).ok().expect(rt, "every pass came back");
+    check_last(rt, &desk);
+}
+
+// Two threads make two blobs each.
+fn make_four<R: Threads + Wait + Sync + Abort>(rt: &R, alloc: Global) {
+    let (shared, mut owner) = empty_desk(rt, alloc);
+    let one = shared.pass(&mut owner).expect(rt, "a pass");
+    let two = shared.pass(&mut owner).expect(rt, "a pass");
+    let ((one, first), (two, second)) = make_beside(rt, &shared, one, two);
+    check(rt, first && second, true, "two blobs each");
+    close_twice(rt, shared, owner, one, two);
 }
 
 #[test]
-fn two_threads_make_two_blobs_each(rt: HostRuntime) {
-    let (shared, mut owner) = empty_desk(&rt, rt.alloc());
-    let one = shared.pass(&mut owner).expect(&rt, "a pass");
-    let two = shared.pass(&mut owner).expect(&rt, "a pass");
-    let ((one, first), (two, second)) = make_beside(&rt, &shared, one, two);
-    assert!(rt; first);
-    assert!(rt; second);
-    shared.take_back(&mut owner, one);
-    let (shared, mut owner) = close_early(&rt, shared, owner);
-    shared.take_back(&mut owner, two);
-    let desk = shared.close(owner).ok().expect(&rt, "every pass came back");
-    check_last(&rt, &desk);
+fn closing_with_one_pass_out_is_refused_with_1(rt: HostRuntime) {
+    make_four(&rt, rt.alloc());
 }

@@ -5,6 +5,7 @@ mod writers;
 
 ghost use Rattle.std.specs.Prelude.{◌≡◌, [], Some};
 
+use crate::desk::check;
 use crate::turn::hall::{Work, written};
 use crate::turn::notebook::{Count, Notebook, ReadAt, Text, Write};
 use crate::turn::writers::{count_and_write, make_and_take_back, write_times};
@@ -12,7 +13,7 @@ use std::alloc::Global;
 use std::process::Abort;
 use std::sync::{Arc, Wait};
 use std::thread::Threads;
-use turn_lock::{CloseRefused, NoMemory, Owner, Pass, PassFault, Turn};
+use turn_lock::{NoMemory, Owner, Pass, PassFault, Turn};
 
 fn seven<R: Abort>(rt: &R, alloc: Global) -> Arc<Text, Global> {
     let mut bytes = Vec::new(alloc);
@@ -29,10 +30,9 @@ fn empty_book<R: Abort>(rt: &R, alloc: Global) -> (Turn<Notebook>, Owner<Noteboo
 
 // Each of the callers from 1 on wrote so many texts, and nobody else wrote.
 fn check_counts<R: Abort>(rt: &R, book: &Notebook, callers: u32, texts: usize, all: usize) {
-    assert_eq!(rt; book.len(), all);
+    check(rt, book.len(), all, "all texts");
     for before in 0..callers {
-        let caller = before + 1;
-        assert_eq!(rt; book.count_by(caller), texts, "of caller {caller}");
+        check(rt, book.count_by(before + 1), texts, "of one caller");
     }
 }
 
@@ -71,6 +71,7 @@ fn check_eighth<R: Wait + Abort>(rt: &R, turn: &Turn<Notebook>, pass: &mut Pass<
     requires { pass.old.lock ≡ turn.now }
 {
     let count = turn.with_turn(rt, pass, Count);
+    // The next turn reads one of them, so the prover must know it.
     assert!(rt; count == 8);
     let mut len = 0;
     let read = ReadAt {
@@ -78,17 +79,26 @@ fn check_eighth<R: Wait + Abort>(rt: &R, turn: &Turn<Notebook>, pass: &mut Pass<
         len: &mut len,
     };
     let by = turn.with_turn(rt, pass, read);
-    assert!(rt; by == pass.caller() && len == 1);
+    check(rt, (by, len), (pass.caller(), 1), "the last text");
+}
+
+fn check_eight<R: Wait + Abort>(rt: &R, alloc: Global) {
+    let text = seven(rt, alloc);
+    let (turn, mut owner) = empty_book(rt, alloc);
+    let mut pass = owner.pass(&turn).expect(rt, "a pass");
+    check(rt, pass.caller(), 1, "the first pass");
+    check(
+        rt,
+        count_and_write(rt, &turn, &mut pass, &text, 8),
+        true,
+        "counts",
+    );
+    check_eighth(rt, &turn, &mut pass);
 }
 
 #[test]
 fn turns_go_on_where_their_numbers_wrap(rt: HostRuntime) {
-    let text = seven(&rt, rt.alloc());
-    let (turn, mut owner) = empty_book(&rt, rt.alloc());
-    let mut pass = owner.pass(&turn).expect(&rt, "a pass");
-    assert!(rt; pass.caller() == 1);
-    assert!(rt; count_and_write(&rt, &turn, &mut pass, &text, 8));
-    check_eighth(&rt, &turn, &mut pass);
+    check_eight(&rt, rt.alloc());
 }
 
 // The first pass writes the text twice, and is taken back.
@@ -102,7 +112,12 @@ fn write_twice<R: Wait + Abort>(
     ensures { owner.new.lock ≡ turn.now }
 {
     let mut first = owner.pass(turn).expect(rt, "a pass");
-    assert!(rt; write_times(rt, turn, &mut first, text, 2));
+    check(
+        rt,
+        write_times(rt, turn, &mut first, text, 2),
+        true,
+        "two texts",
+    );
     owner.take_back(turn, first);
 }
 
@@ -117,61 +132,62 @@ fn write_once_more<R: Wait + Abort>(
     ensures { owner.new.lock ≡ turn.now }
 {
     let mut second = owner.pass(turn).expect(rt, "a pass");
-    assert!(rt; second.caller() == 2);
-    assert!(rt; turn.with_turn(rt, &mut second, Count) == 2);
-    assert!(rt; turn.with_turn(rt, &mut second, Write { text }));
+    check(rt, second.caller(), 2, "the second pass");
+    check(rt, turn.with_turn(rt, &mut second, Count), 2, "two texts");
+    check(
+        rt,
+        turn.with_turn(rt, &mut second, Write { text }),
+        true,
+        "one more",
+    );
     owner.take_back(turn, second);
+}
+
+fn check_both<R: Wait + Abort>(rt: &R, alloc: Global) {
+    let text = seven(rt, alloc);
+    let (turn, mut owner) = empty_book(rt, alloc);
+    write_twice(rt, &turn, &mut owner, &text);
+    write_once_more(rt, &turn, &mut owner, &text);
+    let book = owner.close(turn).ok().expect(rt, "both passes came back");
+    check(rt, book.len(), 3, "three texts");
 }
 
 #[test]
 fn a_pass_sees_what_a_pass_that_was_taken_back_had_written(rt: HostRuntime) {
-    let text = seven(&rt, rt.alloc());
-    let (turn, mut owner) = empty_book(&rt, rt.alloc());
-    write_twice(&rt, &turn, &mut owner, &text);
-    write_once_more(&rt, &turn, &mut owner, &text);
-    let book = owner.close(turn).ok().expect(&rt, "both passes came back");
-    assert_eq!(rt; book.len(), 3);
+    check_both(&rt, rt.alloc());
+}
+
+fn check_last_pass<R: Abort>(rt: &R, alloc: Global) {
+    let (turn, mut owner) = empty_book(rt, alloc);
+    check(
+        rt,
+        make_and_take_back(&turn, &mut owner, 1024),
+        true,
+        "1024 passes",
+    );
+    let refused = owner.pass(&turn);
+    check(
+        rt,
+        matches!(&refused, Err(PassFault::TooManyPasses)),
+        true,
+        "no more",
+    );
+    check(rt, owner.close(turn).is_ok(), true, "all came back");
 }
 
 #[test]
 fn the_1025th_pass_is_refused(rt: HostRuntime) {
-    let (turn, mut owner) = empty_book(&rt, rt.alloc());
-    assert!(rt; make_and_take_back(&turn, &mut owner, 1024));
-    assert!(rt; matches!(&owner.pass(&turn), Err(PassFault::TooManyPasses)));
-    assert!(rt; owner.close(turn).is_ok());
+    check_last_pass(&rt, rt.alloc());
 }
 
-// Tries to close while one pass is out.
-fn close_early<R: Abort>(
-    rt: &R,
-    turn: Turn<Notebook>,
-    owner: Owner<Notebook>,
-) -> (Turn<Notebook>, Owner<Notebook>)
-    requires { owner.lock ≡ turn }
-    ensures turn { result.0 ≡ turn }
-    ensures owner { result.1 ≡ owner }
-{
-    let refused = owner.close(turn).err().expect(rt, "a pass is out");
-    let CloseRefused { turn, owner, out } = refused;
-    assert_eq!(rt; out, 1);
-    (turn, owner)
-}
-
-#[test]
-fn closing_with_one_pass_out_is_refused_with_1(rt: HostRuntime) {
-    let (turn, mut owner) = empty_book(&rt, rt.alloc());
-    let one = owner.pass(&turn).expect(&rt, "a pass");
-    let two = owner.pass(&turn).expect(&rt, "a pass");
-    owner.take_back(&turn, two);
-    let (turn, mut owner) = close_early(&rt, turn, owner);
-    owner.take_back(&turn, one);
-    assert!(rt; owner.close(turn).is_ok());
+fn check_printed<R: Abort>(rt: &R, alloc: Global) {
+    let none = format!(in alloc; "{NoMemory}").expect(rt, "memory");
+    check(rt, none.as_str(), "no memory", "NoMemory");
+    let many = format!(in alloc; "{}", PassFault::TooManyPasses).expect(rt, "memory");
+    check(rt, many.as_str(), "1024 passes were made", "TooManyPasses");
 }
 
 #[test]
 fn faults_are_printed(rt: HostRuntime) {
-    let none = format!(in rt.alloc(); "{NoMemory}").expect(&rt, "memory");
-    assert_eq!(rt; none.as_str(), "no memory");
-    let many = format!(in rt.alloc(); "{}", PassFault::TooManyPasses).expect(&rt, "memory");
-    assert_eq!(rt; many.as_str(), "1024 passes were made");
+    check_printed(&rt, rt.alloc());
 }

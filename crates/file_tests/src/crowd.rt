@@ -2,12 +2,12 @@
 ghost use Rattle.std.specs.Prelude.{◌≡◌, ◌<◌, ◌≤◌};
 ghost use Rattle.client_session.specs.Sessions.{IsOwnerOf};
 
+use crate::heard::{Heard, Says, append_of, hear, is_given, path_of};
 use crate::store::{new_session, new_store};
-use blob_model::Bytes;
-use client_session::{Fault, Owner, Shared};
+use client_session::{Owner, Shared};
 use file_layer::FileSession;
-use file_names::{Entered, Named, Names, Path};
-use file_text::{FileFault, FileLine, FileReply};
+use file_names::{Entered, Named, Names};
+use file_text::FileLine;
 use page_store::PlainDoor;
 use ports::gate::FreeGate;
 use std::alloc::Global;
@@ -17,26 +17,26 @@ use std::thread;
 use std::thread::Threads;
 use turn_lock::{Act, Turn};
 
-// How many sessions there are, how many lines each says, and how many files they know.
+// How many sessions there are, how many lines each says, and the paths of the files that they know.
 const CLIENTS: u8 = 16;
 
 const LINES: u32 = 48;
 
-const FILES: u64 = 5;
+const FILES: [&str; 5] = ["/f0", "/f1", "/f2", "/f3", "/f4"];
 
 type Files<'a> = FileSession<'a, PlainDoor, FreeGate>;
 
-// A file that a session made, or found made.
-#[derive(Clone, Copy, PartialEq)]
+// A file that a session made.
+#[derive(Clone, Copy)]
 struct Made {
-    file: u64,
+    file: usize,
     blob: u64,
 }
 
 // An append that a session was told of: so many bytes, all the same.
 #[derive(Clone, Copy)]
 struct Note {
-    file: u64,
+    file: usize,
     version: u64,
     at: u64,
     size: u64,
@@ -46,39 +46,26 @@ struct Note {
 
 // A session, with what it was told.
 #[derive(Drop)]
-struct Client<'a> {
-    files: Files<'a>,
+struct Client<S> {
+    session: S,
     alloc: Global,
     number: u8,
     state: u64,
     made: Vec<Made>,
     notes: Vec<Note>,
-    is_right: bool,
 }
 
 // The path of a file.
-fn path_of(alloc: Global, file: u64) -> Option<Path> {
-    let text = format!(in alloc; "/f{file}").ok()?;
-    Path::of(text.as_bytes().to_vec(alloc).ok()?)
+fn text_of(file: usize) -> &'static str {
+    match FILES.get(file) {
+        Some(text) => text,
+        None => "/",
+    }
 }
 
-// What a line is answered, in a function that promises nothing.
-fn answer<R: Threads + Wait + Sync>(
-    rt: &R,
-    files: &mut Files<'_>,
-    line: FileLine,
-) -> Option<FileReply> {
-    files.answer(rt, line).ok()
-}
-
-// So many bytes.
-fn bytes_of(alloc: Global, byte: u8, count: usize) -> Option<Bytes> {
-    Some(Bytes::of(vec![in alloc; byte; count].ok()?))
-}
-
-impl<'a> Client<'a> {
+impl<S: Says> Client<S> {
     // A number below the bound, which is at least 1: the next of a row that depends on where it began.
-    fn draw(&mut self, bound: u64) -> u64
+    fn draw(&mut self, bound: usize) -> usize
         requires { 1 ≤ bound }
         ensures { result < bound }
     {
@@ -86,55 +73,50 @@ impl<'a> Client<'a> {
             .state
             .wrapping_mul(6_364_136_223_846_793_005)
             .wrapping_add(1_442_695_040_888_963_407);
-        (self.state >> 33) % bound
+        (self.state >> 33) as usize % bound
     }
 
-    // Makes a file, which another session may have made. None where it was told something else.
-    fn make<R: Threads + Wait + Sync>(&mut self, rt: &R, file: u64) -> Option<()> {
-        let path = path_of(self.alloc, file)?;
-        match answer(rt, &mut self.files, FileLine::Make { path })? {
-            FileReply::File { path: _, blob } => self.made.push(Made { file, blob }).ok(),
-            FileReply::Refused(FileFault::Exists { path: _ }) => Some(()),
-            _ => None,
+    // Makes a file, which another session may have made.
+    fn make<R: Threads + Wait + Sync + Abort>(&mut self, rt: &R, file: usize) {
+        let path = path_of(rt, self.alloc, text_of(file));
+        match hear(rt, &mut self.session, FileLine::Make { path }) {
+            Heard::Made { blob } => self.made.push(Made { file, blob }).expect(rt, "memory"),
+            Heard::Exists => {}
+            _ => panic!(rt; "a make was told something else"),
         }
     }
 
     // Appends to a file, which may not be there yet, or have as many waiting updates as it may: while one session stands still between
-    // its number and its finish, the others go on. None where it was told something else.
-    fn append<R: Threads + Wait + Sync>(&mut self, rt: &R, file: u64, count: usize) -> Option<()> {
-        let path = path_of(self.alloc, file)?;
+    // its number and its finish, the others go on.
+    fn append<R: Threads + Wait + Sync + Abort>(&mut self, rt: &R, file: usize, count: usize) {
         let byte = self.number;
-        let bytes = bytes_of(self.alloc, byte, count)?;
-        match answer(rt, &mut self.files, FileLine::Append { path, bytes })? {
-            FileReply::Appended { version, at, size } => self
-                .notes
-                .push(Note {
-                    file,
-                    version,
-                    at,
-                    size,
-                    byte,
-                    count,
-                })
-                .ok(),
-            FileReply::Refused(FileFault::NoName { path: _ }) => Some(()),
-            FileReply::Refused(FileFault::Store(Fault::TooManyOpen { limit: _ })) => Some(()),
-            _ => None,
-        }
+        let line = append_of(rt, self.alloc, text_of(file), byte, count);
+        let note = match hear(rt, &mut self.session, line) {
+            Heard::Appended { version, at, size } => Note {
+                file,
+                version,
+                at,
+                size,
+                byte,
+                count,
+            },
+            Heard::NoName | Heard::TooManyOpen => return,
+            _ => panic!(rt; "an append was told something else"),
+        };
+        self.notes.push(note).expect(rt, "memory");
     }
 
     // Says one line.
-    fn go<R: Threads + Wait + Sync>(&mut self, rt: &R) {
-        let file = self.draw(FILES);
-        let count = self.draw(3) as usize + 1;
-        let told = match self.draw(4) {
+    fn go<R: Threads + Wait + Sync + Abort>(&mut self, rt: &R) {
+        let file = self.draw(FILES.len());
+        let count = self.draw(3) + 1;
+        match self.draw(4) {
             0 => self.make(rt, file),
             _ => self.append(rt, file, count),
-        };
-        self.is_right = self.is_right && told.is_some();
+        }
     }
 
-    fn go_on<R: Threads + Wait + Sync>(&mut self, rt: &R) {
+    fn go_on<R: Threads + Wait + Sync + Abort>(&mut self, rt: &R) {
         for _ in 0..LINES {
             self.go(rt);
         }
@@ -161,7 +143,19 @@ fn new_files<'a, R: Abort>(
     FileSession::new(alloc, session, turn, pass)
 }
 
-// The sessions, each with a number from 1 up.
+// A session of that number, which was told nothing yet.
+fn client_of<S>(alloc: Global, session: S, number: u8) -> Client<S> {
+    Client {
+        session,
+        alloc,
+        number,
+        state: u64::from(number),
+        made: Vec::new(alloc),
+        notes: Vec::new(alloc),
+    }
+}
+
+// The sessions, each with a number from 0 up.
 fn clients_of<'a, R: Abort>(
     rt: &R,
     alloc: Global,
@@ -170,7 +164,7 @@ fn clients_of<'a, R: Abort>(
     gate: &'a FreeGate,
     turn: &'a Turn<Names>,
     names: &mut turn_lock::Owner<Names>,
-) -> Vec<Client<'a>>
+) -> Vec<Client<Files<'a>>>
     requires store { IsOwnerOf shared.now owner.old }
     requires names { names.old.lock ≡ turn.now }
     ensures store { IsOwnerOf shared.now owner.new }
@@ -178,22 +172,15 @@ fn clients_of<'a, R: Abort>(
 {
     let mut all = Vec::new(alloc);
     for number in 0..CLIENTS {
-        let client = Client {
-            files: new_files(rt, alloc, shared, owner, gate, turn, names),
-            alloc,
-            number,
-            state: u64::from(number),
-            made: Vec::new(alloc),
-            notes: Vec::new(alloc),
-            is_right: true,
-        };
-        all.push(client).expect(rt, "memory");
+        let session = new_files(rt, alloc, shared, owner, gate, turn, names);
+        all.push(client_of(alloc, session, number))
+            .expect(rt, "memory");
     }
     all
 }
 
 // All say their lines, beside each other.
-fn go_all<R: Threads + Wait + Sync>(rt: &R, clients: &mut [Client<'_>]) {
+fn go_all<R: Threads + Wait + Sync + Abort, S: Says + Send>(rt: &R, clients: &mut [Client<S>]) {
     thread::for_each_mut(
         rt,
         clients,
@@ -202,16 +189,35 @@ fn go_all<R: Threads + Wait + Sync>(rt: &R, clients: &mut [Client<'_>]) {
     );
 }
 
-// The blob of a file, where one session alone was told that it made it.
-fn only_made(clients: &[Client<'_>], file: u64) -> Option<u64> {
-    let mut found = None;
+// What each session made, one behind another.
+fn made_by<'a, R: Abort, S>(rt: &R, alloc: Global, clients: &'a [Client<S>]) -> Vec<&'a [Made]> {
+    let mut all = Vec::new(alloc);
     for client in clients {
-        for made in client.made.iter() {
-            if made.file == file {
+        all.push(client.made.as_slice()).expect(rt, "memory");
+    }
+    all
+}
+
+// What all sessions were told of appends.
+fn notes_of<R: Abort, S>(rt: &R, alloc: Global, clients: &[Client<S>]) -> Vec<Note> {
+    let mut all = Vec::new(alloc);
+    for client in clients {
+        let notes = client.notes.as_slice();
+        all.extend_from_slice(notes).expect(rt, "memory");
+    }
+    all
+}
+
+// The blob of a file, where one session alone was told that it made it.
+fn only_made(made: &[&[Made]], file: usize) -> Option<u64> {
+    let mut found = None;
+    for own in made {
+        for one in *own {
+            if one.file == file {
                 if found.is_some() {
                     return None;
                 }
-                found = Some(made.blob);
+                found = Some(one.blob);
             }
         }
     }
@@ -219,114 +225,133 @@ fn only_made(clients: &[Client<'_>], file: u64) -> Option<u64> {
 }
 
 // The append that made the version, where one session was told of it, and no other.
-fn only_note(clients: &[Client<'_>], file: u64, version: u64) -> Option<Note> {
+fn only_note(notes: &[Note], file: usize, version: u64) -> Option<Note> {
     let mut found = None;
-    for client in clients {
-        for note in client.notes.iter() {
-            if note.file == file && note.version == version {
-                if found.is_some() {
-                    return None;
-                }
-                found = Some(*note);
+    for note in notes {
+        if note.file == file && note.version == version {
+            if found.is_some() {
+                return None;
             }
+            found = Some(*note);
         }
     }
     found
 }
 
 // The bytes behind one append more, which was told where it falls and what the size is then.
-fn replay(content: &mut Vec<u8>, note: &Note) -> Option<()> {
-    if note.at != content.len() as u64 {
-        return None;
-    }
+fn replay<R: Abort>(rt: &R, content: &mut Vec<u8>, note: Note) {
+    assert!(rt;
+        note.at == content.len() as u64,
+        "an append not at the file's end"
+    );
     for _ in 0..note.count {
-        content.push(note.byte).ok()?;
+        content.push(note.byte).expect(rt, "memory");
     }
-    (note.size == content.len() as u64).then_some(())
-}
-
-// A file's blob, its last published version, and its size.
-fn stat<R: Threads + Wait + Sync>(
-    rt: &R,
-    alloc: Global,
-    files: &mut Files<'_>,
-    file: u64,
-) -> Option<(u64, u64, u64)> {
-    let path = path_of(alloc, file)?;
-    match answer(rt, files, FileLine::Stat { path })? {
-        FileReply::FileIs {
-            blob,
-            version,
-            size,
-        } => Some((blob, version, size)),
-        _ => None,
-    }
+    assert!(rt; note.size == content.len() as u64);
 }
 
 // Whether a version of a file reads as these bytes.
-fn reads_as<R: Threads + Wait + Sync>(
+fn reads_as<R: Threads + Wait + Sync + Abort, S: Says>(
     rt: &R,
     alloc: Global,
-    files: &mut Files<'_>,
-    file: u64,
+    session: &mut S,
+    file: usize,
     version: u64,
     content: &[u8],
-) -> Option<bool> {
+) -> bool {
     let line = FileLine::Read {
-        path: path_of(alloc, file)?,
+        path: path_of(rt, alloc, text_of(file)),
         version,
         offset: 0,
         length: content.len() as u64,
     };
-    match answer(rt, files, line)? {
-        FileReply::Content { bytes } => Some(bytes.as_slice() == content),
-        _ => None,
+    is_given(rt, session, line, content)
+}
+
+// Each of the versions of a file up to the last was told to one session alone, and reads as the appends up to it make. The size of the last.
+fn check_versions<R: Threads + Wait + Sync + Abort, S: Says>(
+    rt: &R,
+    alloc: Global,
+    session: &mut S,
+    notes: &[Note],
+    file: usize,
+    last: u64,
+) -> u64 {
+    let mut content = Vec::new(alloc);
+    for before in 0..last {
+        let note = only_note(notes, file, before + 1).expect(rt, "one note of each version");
+        replay(rt, &mut content, note);
+        let bytes = content.as_slice();
+        assert!(rt;
+            reads_as(rt, alloc, session, file, before + 1, bytes),
+            "other bytes"
+        );
+    }
+    content.len() as u64
+}
+
+// The versions of a file are right, and one session alone made it.
+fn check_file<R: Threads + Wait + Sync + Abort, S: Says>(
+    rt: &R,
+    alloc: Global,
+    session: &mut S,
+    made: &[&[Made]],
+    notes: &[Note],
+    file: usize,
+) {
+    let path = path_of(rt, alloc, text_of(file));
+    match hear(rt, session, FileLine::Stat { path }) {
+        Heard::Is {
+            blob,
+            version,
+            size,
+        } => {
+            assert!(rt; only_made(made, file) == Some(blob));
+            assert!(rt;
+                check_versions(rt, alloc, session, notes, file, version) == size,
+                "another size"
+            );
+        }
+        _ => panic!(rt; "no file"),
     }
 }
 
-// Each version of a file was told to one session alone, and reads as the appends up to it make; and one session alone made the file.
-fn check_file<R: Threads + Wait + Sync + Abort>(
+// All files are right.
+fn check_files<R: Threads + Wait + Sync + Abort, S: Says>(
     rt: &R,
     alloc: Global,
-    files: &mut Files<'_>,
-    clients: &[Client<'_>],
-    file: u64,
+    session: &mut S,
+    made: &[&[Made]],
+    notes: &[Note],
 ) {
-    let (blob, last, size) = stat(rt, alloc, files, file).expect(rt, "a file");
-    assert!(rt; only_made(clients, file) == Some(blob));
-    let mut content = Vec::new(alloc);
-    for before in 0..last {
-        let note = only_note(clients, file, before + 1).expect(rt, "one note of each version");
-        replay(&mut content, &note).expect(rt, "an append at the file's end");
-        let is_read = reads_as(rt, alloc, files, file, before + 1, content.as_slice());
-        assert!(rt; is_read == Some(true));
+    for file in 0..FILES.len() {
+        check_file(rt, alloc, session, made, notes, file);
     }
-    assert!(rt; size == content.len() as u64);
 }
 
 // Whether an entry of the names is that of the file that was made.
-fn tells(entered: &Entered, made: Option<&Made>) -> bool {
-    let Some(made) = made else {
-        return false;
-    };
-    let digit = entered.path.as_slice().get(2);
-    entered.named == Named::File(made.blob) && digit == Some(&(b'0' + (made.file % FILES) as u8))
+fn tells(entered: &Entered, made: &Made) -> bool {
+    entered.named == Named::File(made.blob)
+        && entered.path.as_slice() == text_of(made.file).as_bytes()
 }
 
 // Whether what a session was told that it made stands in the names' history, each once, in that order, and nothing else of its own.
-fn stands_once(history: &[(u32, Entered)], client: &Client<'_>) -> bool {
-    let mut made = client.made.iter();
-    for (caller, entered) in history {
-        if *caller == u32::from(client.number) + 1 && !tells(entered, made.next()) {
-            return false;
+fn stands_once(history: &[(u32, Entered)], made: &[Made], caller: u32) -> bool {
+    let mut rest = made;
+    for (by, entered) in history {
+        if *by == caller {
+            match rest {
+                [first, behind @ ..] if tells(entered, first) => rest = behind,
+                _ => return false,
+            }
         }
     }
-    made.next().is_none()
+    rest.is_empty()
 }
 
-// Plays what the sessions were told against the names' history.
+// Plays what the sessions were told against the names' history. The first is caller 1.
 struct Told<'a> {
-    clients: &'a [Client<'a>],
+    made: &'a [&'a [Made]],
 }
 
 impl Act<Names> for Told<'_> {
@@ -337,12 +362,45 @@ impl Act<Names> for Told<'_> {
     ghost gives = { λ _ _ _ _ _ _. Unit {0} };
 
     fn act(self, state: &mut Names, _caller: u32) -> bool {
-        let Told { clients } = self;
+        let Told { made } = self;
         let history = state.history();
-        clients.iter().all(|client| stands_once(history, client))
+        let mut caller = 0u32;
+        for made in made {
+            caller = caller.saturating_add(1);
+            if !stands_once(history, made, caller) {
+                return false;
+            }
+        }
+        true
     }
 
     ghost stays_ready = { λ _ _ _ _ _. tt };
+}
+
+// The files are as the sessions were told. What each of them made, one behind another.
+fn check_told<'a, R: Threads + Wait + Sync + Abort, S: Says>(
+    rt: &R,
+    alloc: Global,
+    clients: &'a [Client<S>],
+    reader: &mut S,
+) -> Vec<&'a [Made]> {
+    let made = made_by(rt, alloc, clients);
+    let notes = notes_of(rt, alloc, clients);
+    check_files(rt, alloc, reader, made.as_slice(), notes.as_slice());
+    made
+}
+
+// The names are as the sessions were told.
+fn check_names<R: Wait + Abort>(
+    rt: &R,
+    turn: &Turn<Names>,
+    names: &mut turn_lock::Owner<Names>,
+    made: &[&[Made]],
+)
+    requires { names.old.lock ≡ turn.now }
+{
+    let mut pass = names.pass(turn).expect(rt, "a pass");
+    assert!(rt; turn.with_turn(rt, &mut pass, Told { made }));
 }
 
 #[test]
@@ -355,11 +413,6 @@ fn sixteen_file_sessions_make_files_and_append(rt: HostRuntime) {
     let mut clients = clients_of(&rt, alloc, &shared, &mut owner, &gate, &turn, &mut names);
     let mut reader = new_files(&rt, alloc, &shared, &mut owner, &gate, &turn, &mut names);
     go_all(&rt, clients.as_mut_slice());
-    assert!(rt; clients.iter().all(|client| client.is_right));
-    for file in 0..FILES {
-        check_file(&rt, alloc, &mut reader, clients.as_slice(), file);
-    }
-    let mut pass = names.pass(&turn).expect(&rt, "a pass");
-    let clients = clients.as_slice();
-    assert!(rt; turn.with_turn(&rt, &mut pass, Told { clients }));
+    let made = check_told(&rt, alloc, clients.as_slice(), &mut reader);
+    check_names(&rt, &turn, &mut names, made.as_slice());
 }

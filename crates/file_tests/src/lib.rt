@@ -4,6 +4,8 @@
 #[cfg(test)]
 mod crowd;
 #[cfg(test)]
+mod heard;
+#[cfg(test)]
 mod names;
 #[cfg(test)]
 mod store;

@@ -65,9 +65,24 @@ pub(crate) fn written<R: Threads + Wait + Sync + Abort>(
     blob: u64,
     times: u32,
 ) {
-    assert!(rt; create(rt, session));
-    assert!(rt; write(rt, session, blob, b"ab".as_slice()));
+    check(rt, create(rt, session), true, "a blob");
+    check(
+        rt,
+        write(rt, session, blob, b"ab".as_slice()),
+        true,
+        "a write",
+    );
     for _ in 0..times {
-        assert!(rt; write(rt, session, blob, b"x".as_slice()));
+        check(
+            rt,
+            write(rt, session, blob, b"x".as_slice()),
+            true,
+            "a write",
+        );
     }
+}
+
+/// What was told is as it must be. In a call of its own an assertion costs its caller no branch.
+pub(crate) fn check<T: PartialEq + Drop, R: Abort>(rt: &R, told: T, expected: T, what: &str) {
+    assert!(rt; told == expected, "{what}");
 }

@@ -1,6 +1,6 @@
 //! What a session counts that gives up its tickets while some finishes are hindered.
 
-use crate::calls::{create, start, written};
+use crate::calls::{check, create, start, written};
 use crate::sessions::{Flaky, Plain, flaky_session, plain_session, store_of};
 use client_session::HangUp;
 use std::alloc::Global;
@@ -25,28 +25,28 @@ fn start_all<R: Threads + Wait + Sync + Abort>(
 ) {
     written(rt, plain, 1, 15);
     written(rt, plain, 2, 14);
-    assert!(rt; create(rt, plain));
-    assert!(rt; start(rt, plain, 2));
+    check(rt, create(rt, plain), true, "a blob");
+    check(rt, start(rt, plain, 2), true, "a ticket");
     for blob in 1..4 {
-        assert!(rt; start(rt, flaky, blob));
+        check(rt, start(rt, flaky, blob), true, "a ticket");
     }
 }
 
-fn hindered<R: Threads + Wait + Sync + Abort>(rt: &R, alloc: Global) -> HangUp {
+fn check_hindered<R: Threads + Wait + Sync + Abort>(rt: &R, alloc: Global) {
     let (shared, mut owner) = store_of(rt, alloc, 3, 2);
     let mut plain = plain_session(rt, alloc, &shared, &mut owner);
     let mut flaky = flaky_session(rt, alloc, &shared, &mut owner, &LATER);
     start_all(rt, &mut plain, &mut flaky);
-    hang_up(rt, &mut flaky)
-}
-
-#[test]
-fn a_session_that_hangs_up_counts_what_hindered_each_finish(rt: HostRuntime) {
     let expected = HangUp {
         finished: 1,
         no_memory: 0,
         pending: 1,
         page_fault: 1,
     };
-    assert!(rt; hindered(&rt, rt.alloc()) == expected);
+    check(rt, hang_up(rt, &mut flaky), expected, "what hindered");
+}
+
+#[test]
+fn a_session_that_hangs_up_counts_what_hindered_each_finish(rt: HostRuntime) {
+    check_hindered(&rt, rt.alloc());
 }

@@ -2,7 +2,7 @@
 ghost use Rattle.client_session.specs.Sessions.{session_of};
 ghost use Rattle.update_work.specs.Updates.{IsReady};
 
-use crate::calls::{finish, start, status, written};
+use crate::calls::{check, finish, start, status, written};
 use crate::sessions::{Flaky, Plain, flaky_session, plain_session, store_of};
 use blob_model::Place;
 use request_form::Fault;
@@ -23,11 +23,31 @@ fn updated<R: Threads + Wait + Sync>(rt: &R, worker: &mut Flaky<'_>) -> Result<(
     update(rt, worker, 1, Place::WriteAt(0), b"y".as_slice())
 }
 
-// Finishes the update of ticket 1, after the worker may have begun to wait for it. Where no memory is found it tries again, since the worker
+// How often the other session looks whether the worker's update has its number.
+const LOOKS: u32 = 100_000_000;
+
+// Looks until the worker's update has its number, and lets it begin to wait then.
+fn sees_worker<R: Wait>(rt: &R, session: &mut Plain<'_>) -> bool {
+    for _ in 0..LOOKS {
+        if status(rt, session) == Some((17, 15, 16)) {
+            return true;
+        }
+        thread::yield_now();
+    }
+    false
+}
+
+fn let_wait() {
+    for _ in 0..10_000 {
+        thread::yield_now();
+    }
+}
+
+// Finishes the update of ticket 1, after the worker has begun to wait for it. Where no memory is found it tries again, since the worker
 // would wait forever.
 fn finish_late<R: Threads + Wait + Sync>(rt: &R, session: &mut Plain<'_>) -> Result<u64, Fault> {
-    for _ in 0..1000 {
-        thread::yield_now();
+    if sees_worker(rt, session) {
+        let_wait();
     }
     match finish(rt, session, 1) {
         Err(Fault::NoMemory) => finish(rt, session, 1),
@@ -55,30 +75,39 @@ fn work_beside<'a, R: Threads + Wait + Sync>(
     )
 }
 
-// What the worker is told, and how far the updates of the blob are then. The other session holds version 16 under its ticket 1. The worker's
-// update stores the page anew, for which it needs that version.
-fn told_of_worker<R: Threads + Wait + Sync + Abort>(
-    rt: &R,
-    alloc: Global,
-) -> (Result<(), Stopped>, Option<(u64, u64, u64)>) {
+// The worker lost the page that it reads. Its last finish lost it again, or found the update finished, where the other session was so early
+// that the worker never waited.
+fn is_lost(told: &Result<(), Stopped>) -> bool {
+    match told {
+        Ok(()) => false,
+        Err(Stopped { fault, left }) => {
+            *fault == Fault::PageFault { page: 0 }
+                && matches!(left, None | Some(Fault::PageFault { page: 0 }))
+        }
+    }
+}
+
+// The worker is told that it lost the page; and the other session's update is published by its finish.
+fn work_both<'a, R: Threads + Wait + Sync + Abort>(rt: &R, worker: Flaky<'a>, other: &mut Plain<'_>)
+    requires { IsReady (session_of worker) }
+{
+    let (told, finished) = work_beside(rt, worker, other);
+    check(rt, finished, Ok(16), "the version before");
+    check(rt, is_lost(&told), true, "a lost page");
+    check(rt, status(rt, other), Some((17, 17, 0)), "all finished");
+}
+
+// The other session holds version 16 under its ticket 1. The worker's update stores the page anew, for which it needs that version.
+fn stop<R: Threads + Wait + Sync + Abort>(rt: &R, alloc: Global) {
     let (shared, mut owner) = store_of(rt, alloc, 1, 1);
     let mut other = plain_session(rt, alloc, &shared, &mut owner);
     let worker = flaky_session(rt, alloc, &shared, &mut owner, &TWICE);
     written(rt, &mut other, 1, 14);
-    assert!(rt; start(rt, &mut other, 1));
-    let (told, finished) = work_beside(rt, worker, &mut other);
-    assert!(rt; finished == Ok(16));
-    (told, status(rt, &mut other))
+    check(rt, start(rt, &mut other, 1), true, "a ticket");
+    work_both(rt, worker, &mut other);
 }
 
 #[test]
 fn a_worker_that_loses_pages_of_an_update_that_it_holds_finishes_it_and_stops(rt: HostRuntime) {
-    let (told, status) = told_of_worker(&rt, rt.alloc());
-    let lost = Fault::PageFault { page: 0 };
-    let stopped = Stopped {
-        fault: lost,
-        left: Some(lost),
-    };
-    assert!(rt; told == Err(stopped));
-    assert!(rt; status == Some((17, 17, 0)));
+    stop(&rt, rt.alloc());
 }

@@ -1,10 +1,9 @@
 //! Doors that are asked beside each other.
 ghost use Rattle.std.specs.Prelude.{◌≡◌, ◌≤◌, length};
 
-use page_fan::{BesideDoor, Doors, Put, Stand, put_all_groups, store};
+use crate::pages::{store_at, three_doors, three_houses};
+use page_fan::{BesideDoor, Put, Stand, put_all_groups};
 use page_store::{Door, DoorMaker, GetAnswer, Houses, NoMemory, PageHouse, PageRef, PutAnswer};
-use provider_manager::LoadBook;
-use std::alloc::Global;
 use std::process::Abort;
 use std::sync::Wait;
 use std::sync::atomic::{AtomicBool, Ordering};
@@ -70,7 +69,7 @@ impl<'a> BesideDoor for MeetingDoor<'a> {
     }
 }
 
-// Makes the two doors.
+// Makes a door for provider 1, and the other one.
 #[derive(Drop)]
 struct MeetingMaker<'a> {
     first: &'a AtomicBool,
@@ -112,32 +111,16 @@ impl<'a> DoorMaker for MeetingMaker<'a> {
     }
 }
 
-// How many pages are stored, of two that go to a door each.
-fn stored_pages<'a, R: Abort + AllocGlobal + Threads + Wait + Sync>(
-    rt: &R,
-    doors: &mut Doors<MeetingDoor<'a>>,
-    houses: &Houses,
-) -> Option<u32>
-    requires doors { length doors.old ≡ 2 }
-    requires houses { length houses.now ≡ 2 }
-{
-    let alloc: Global = rt.alloc();
-    let mut book = LoadBook::new(alloc, 2, 1).expect(rt, "memory");
-    let placements = book.place(alloc, 2).expect(rt, "memory");
-    let p = PageSize::new(65_536).expect(rt, "page size");
-    let bytes = vec![in alloc; 7u8; 131_072].expect(rt, "memory");
-    let stored = store(rt, alloc, doors, houses, p, bytes.as_slice(), &placements);
-    stored.map(|pages| pages.count()).ok()
-}
-
-// Stores them by doors that meet, of which none failed.
+// Stores two pages of which the first goes to both doors, and of which none is lost.
 fn check_stored<R: Abort + AllocGlobal + Threads + Wait + Sync>(
     rt: &R,
     maker: &mut MeetingMaker<'_>,
 ) {
-    let houses = Houses::new(rt.alloc(), 2).expect(rt, "memory");
-    let mut doors = Doors::new(rt.alloc(), maker, 2).expect(rt, "memory");
-    assert!(rt; stored_pages(rt, &mut doors, &houses) == Some(2));
+    let houses = three_houses(rt);
+    let mut doors = three_doors(rt, maker);
+    let bytes = vec![in rt.alloc(); 7u8; 131_072].expect(rt, "memory");
+    let stored = store_at(rt, &mut doors, &houses, 65_536, bytes.as_slice(), 2);
+    assert!(rt; stored.is_ok(), "a page is lost");
     doors.back(maker);
 }
 

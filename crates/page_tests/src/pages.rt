@@ -9,6 +9,7 @@ use page_store::{
     PutAnswer, StoredPage,
 };
 use provider_manager::{LoadBook, Placements};
+use std::alloc::Global;
 use std::process::Abort;
 use std::sync::Wait;
 use std::thread::Threads;
@@ -26,15 +27,18 @@ fn maker_of<R: Abort + AllocGlobal>(rt: &R, failing: &Failing) -> FlakyMaker {
     FlakyMaker::new(rt.alloc(), lists)
 }
 
-// The houses of three providers.
-fn three_houses<R: Abort + AllocGlobal>(rt: &R) -> Houses
+/// The houses of three providers.
+pub(crate) fn three_houses<R: Abort + AllocGlobal>(rt: &R) -> Houses
     ensures { length result ≡ 3 }
 {
     Houses::new(rt.alloc(), 3).expect(rt, "memory")
 }
 
-// The doors of any maker, to three providers.
-fn three_doors<R: Abort + AllocGlobal, M: DoorMaker>(rt: &R, maker: &mut M) -> Doors<M::Door>
+/// The doors of any maker, to three providers.
+pub(crate) fn three_doors<R: Abort + AllocGlobal, M: DoorMaker>(
+    rt: &R,
+    maker: &mut M,
+) -> Doors<M::Door>
     ensures { length result ≡ 3 }
 {
     Doors::new(rt.alloc(), maker, 3).expect(rt, "memory")
@@ -48,7 +52,8 @@ fn placed<R: Abort + AllocGlobal>(rt: &R, pages: u32) -> Placements
     book.place(rt.alloc(), pages).expect(rt, "places")
 }
 
-fn store_at<D: BesideDoor, R: Abort + AllocGlobal + Threads + Wait + Sync>(
+/// Stores bytes in so many pages of that size.
+pub(crate) fn store_at<D: BesideDoor, R: Abort + AllocGlobal + Threads + Wait + Sync>(
     rt: &R,
     doors: &mut Doors<D>,
     houses: &Houses,
@@ -83,7 +88,7 @@ fn store_six<D: BesideDoor, R: Abort + AllocGlobal + Threads + Wait + Sync>(
 }
 
 // The page that is lost where such calls fail.
-const LOST: [(Failing, u64); 3] = [
+static LOST: [(Failing, u64); 3] = [
     ([&[1, 2], &[1, 2], &[1, 2]], 0),
     ([&[1], &[1], &[]], 0),
     ([&[2], &[], &[1]], 1),
@@ -99,13 +104,24 @@ fn is_lost(stored: &Result<Pages, StoreFault>, want: u64) -> bool {
     }
 }
 
+fn check_lost<R: Abort + AllocGlobal + Threads + Wait + Sync>(
+    rt: &R,
+    houses: &Houses,
+    failing: &Failing,
+    page: u64,
+)
+    requires { length houses.now ≡ 3 }
+{
+    let mut doors = three_doors(rt, &mut maker_of(rt, failing));
+    let stored = store_six(rt, &mut doors, houses);
+    assert!(rt; is_lost(&stored, page), "page {page}");
+}
+
 #[test]
 fn a_fault_names_the_first_page_that_no_door_took(rt: HostRuntime) {
     let houses = three_houses(&rt);
-    for (failing, page) in &LOST {
-        let mut doors = three_doors(&rt, &mut maker_of(&rt, failing));
-        let stored = store_six(&rt, &mut doors, &houses);
-        assert!(rt; is_lost(&stored, *page), "page {page}");
+    for (failing, page) in LOST.as_slice() {
+        check_lost(&rt, &houses, failing, *page);
     }
 }
 
@@ -122,9 +138,10 @@ fn is_at(page: &StoredPage, providers: &[u32]) -> bool {
     true
 }
 
-// The whole page, or none where no door gave it.
-fn fetched<R: Abort + AllocGlobal, D: Door>(
+/// The whole page, or none where no door gave it.
+pub(crate) fn fetched<R: Abort, D: Door>(
     rt: &R,
+    alloc: Global,
     doors: &mut Doors<D>,
     houses: &Houses,
     pages: &Pages,
@@ -136,7 +153,7 @@ fn fetched<R: Abort + AllocGlobal, D: Door>(
     ensures { length doors.new ≡ length doors.old }
 {
     let page = pages.page(i);
-    let mut out = vec![in rt.alloc(); 0u8; page.len() as usize].expect(rt, "memory");
+    let mut out = vec![in alloc; 0u8; page.len() as usize].expect(rt, "memory");
     if fetch(doors, houses, page, 0, out.as_mut_slice()) {
         Some(out)
     } else {
@@ -155,7 +172,7 @@ struct Stored {
 }
 
 // Door 1 puts both pages before its first get, the others one each.
-const STORED: [Stored; 9] = [
+static STORED: [Stored; 9] = [
     Stored {
         failing: [&[], &[], &[]],
         providers: [&[1, 2], &[3, 1]],
@@ -227,7 +244,7 @@ fn is_stored<R: Abort + AllocGlobal, D: Door>(
     requires page { i < length pages.now.pages }
     ensures { length doors.new ≡ length doors.old }
 {
-    let is_read = match (fetched(rt, doors, houses, pages, i), want) {
+    let is_read = match (fetched(rt, rt.alloc(), doors, houses, pages, i), want) {
         (Some(bytes), Some(want)) => bytes.as_slice() == want,
         (None, None) => true,
         _ => false,
@@ -254,27 +271,35 @@ fn are_stored<R: Abort + AllocGlobal, D: Door>(
         && is_stored(rt, doors, houses, pages, 1, row.providers[1], second)
 }
 
-fn check_stored<R: Abort + AllocGlobal + Threads + Wait + Sync>(
+// Stores six bytes by these doors, and checks where they are.
+fn check_doors<R: Abort + AllocGlobal + Threads + Wait + Sync, D: BesideDoor>(
     rt: &R,
-    number: usize,
+    doors: &mut Doors<D>,
     row: &Stored,
-) {
+)
+    requires { length doors.old ≡ 3 }
+{
     let houses = three_houses(rt);
+    let pages = store_six(rt, doors, &houses).expect(rt, "stored");
+    assert!(rt;
+        are_stored(rt, doors, &houses, &pages, row),
+        "{} faults",
+        row.faults
+    );
+}
+
+fn check_stored<R: Abort + AllocGlobal + Threads + Wait + Sync>(rt: &R, row: &Stored) {
     let mut maker = maker_of(rt, &row.failing);
     let mut doors = three_doors(rt, &mut maker);
-    let pages = store_six(rt, &mut doors, &houses).expect(rt, "stored");
-    assert!(rt;
-        are_stored(rt, &mut doors, &houses, &pages, row),
-        "row {number}"
-    );
+    check_doors(rt, &mut doors, row);
     doors.back(&mut maker);
-    assert!(rt; maker.faults() == row.faults, "row {number}");
+    assert!(rt; maker.faults() == row.faults, "{} faults", row.faults);
 }
 
 #[test]
 fn a_fetch_passes_to_the_second_replica(rt: HostRuntime) {
-    for number in 0..STORED.len() {
-        check_stored(&rt, number, &STORED[number]);
+    for row in STORED.as_slice() {
+        check_stored(&rt, row);
     }
 }
 
@@ -292,7 +317,7 @@ fn check_pages<R: Abort + AllocGlobal, D: Door>(
     requires some { 1 ≤ count }
 {
     assert!(rt; pages.count() == count && pages.len() == 1_048_576);
-    let last = fetched(rt, doors, houses, pages, count - 1).expect(rt, "fetched");
+    let last = fetched(rt, rt.alloc(), doors, houses, pages, count - 1).expect(rt, "fetched");
     assert!(rt; last.len() as u64 == page_size && last.last().copied() == Some(99));
 }
 

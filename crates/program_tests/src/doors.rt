@@ -22,7 +22,7 @@ static LOST: [Row<'static>; 10] = [
         text: "",
         failing: &[&[3], &[], &[]],
         script: "create\nappend 1 616263646566\nread 1 1 0 6\n",
-        out: "blob 1\nversion 1 at 0 size 6\ndata 616263646566\n",
+        out: b"blob 1\nversion 1 at 0 size 6\ndata 616263646566\n",
         status: 0,
     },
     // Each get of both replicas of the first page fails, and the second page has another replica.
@@ -31,7 +31,7 @@ static LOST: [Row<'static>; 10] = [
         text: "",
         failing: &[&[3, 4, 5, 6, 7, 8], &[2, 3, 4, 5, 6, 7, 8], &[]],
         script: "create\nappend 1 616263646566\nread 1 1 0 6\nread 1 1 4 2\nread 1 1 3 1\nread 1 1 0 0\nread 1 1 0 7\n",
-        out: "blob 1\nversion 1 at 0 size 6\nerror page-fault 0\ndata 6566\nerror page-fault 0\ndata -\nerror range-past-size 7 6\n",
+        out: b"blob 1\nversion 1 at 0 size 6\nerror page-fault 0\ndata 6566\nerror page-fault 0\ndata -\nerror range-past-size 7 6\n",
         status: 0,
     },
     // Both fail once.
@@ -40,7 +40,7 @@ static LOST: [Row<'static>; 10] = [
         text: "",
         failing: &[&[3], &[2], &[]],
         script: "create\nappend 1 616263646566\nread 1 1 0 6\nread 1 1 0 6\n",
-        out: "blob 1\nversion 1 at 0 size 6\nerror page-fault 0\ndata 616263646566\n",
+        out: b"blob 1\nversion 1 at 0 size 6\nerror page-fault 0\ndata 616263646566\n",
         status: 0,
     },
     // The doors of the second page fail once, and it is the blob's page 1.
@@ -49,7 +49,7 @@ static LOST: [Row<'static>; 10] = [
         text: "",
         failing: &[&[3], &[], &[2]],
         script: "create\nappend 1 616263646566\nread 1 1 5 1\nread 1 1 5 1\n",
-        out: "blob 1\nversion 1 at 0 size 6\nerror page-fault 1\ndata 66\n",
+        out: b"blob 1\nversion 1 at 0 size 6\nerror page-fault 1\ndata 66\n",
         status: 0,
     },
     // A put fails, and the other replica is stored.
@@ -58,7 +58,7 @@ static LOST: [Row<'static>; 10] = [
         text: "",
         failing: &[&[1], &[], &[]],
         script: "create\nappend 1 616263646566\nread 1 1 0 6\n",
-        out: "blob 1\nversion 1 at 0 size 6\ndata 616263646566\n",
+        out: b"blob 1\nversion 1 at 0 size 6\ndata 616263646566\n",
         status: 0,
     },
     // Each put fails.
@@ -67,7 +67,7 @@ static LOST: [Row<'static>; 10] = [
         text: "",
         failing: &[EVERY, EVERY, EVERY],
         script: "create\nappend 1 61\nstatus 1\n",
-        out: "blob 1\nerror page-fault 0\nstatus assigned 0 published 0 held 0\n",
+        out: b"blob 1\nerror page-fault 0\nstatus assigned 0 published 0 held 0\n",
         status: 0,
     },
     // Each put of the second page fails. The next update finds other providers.
@@ -76,7 +76,7 @@ static LOST: [Row<'static>; 10] = [
         text: "",
         failing: &[&[2], &[], &[1]],
         script: "create\nstart-write 1 0 616263646566\nappend 1 6162\nread 1 1 0 2\nfinish 1\n",
-        out: "blob 1\nerror page-fault 1\nversion 1 at 0 size 2\ndata 6162\nerror no-ticket 1\n",
+        out: b"blob 1\nerror page-fault 1\nversion 1 at 0 size 2\ndata 6162\nerror no-ticket 1\n",
         status: 0,
     },
     // An update of several pages that the store refuses calls no door. One of a single page is stored before it is refused, unless the
@@ -86,7 +86,7 @@ static LOST: [Row<'static>; 10] = [
         text: "",
         failing: &[EVERY, EVERY, EVERY],
         script: "create\nstart-write 1 7 61\nstart-write 1 7 616263646566\nappend 2 616263646566\nstart-write 1 7 61\n",
-        out: "blob 1\nerror page-fault 0\nerror offset-past-size 7 0\nerror no-blob 2\nerror offset-past-size 7 0\n",
+        out: b"blob 1\nerror page-fault 0\nerror offset-past-size 7 0\nerror no-blob 2\nerror offset-past-size 7 0\n",
         status: 0,
     },
     // Nor is it placed: the next page goes to the first two providers.
@@ -95,7 +95,7 @@ static LOST: [Row<'static>; 10] = [
         text: "",
         failing: &[&[1], &[1], &[]],
         script: "create\nstart-write 1 7 616263646566\nappend 1 61\n",
-        out: "blob 1\nerror offset-past-size 7 0\nerror page-fault 0\n",
+        out: b"blob 1\nerror offset-past-size 7 0\nerror page-fault 0\n",
         status: 0,
     },
     // A branch reads its parent's pages by the same doors.
@@ -104,7 +104,7 @@ static LOST: [Row<'static>; 10] = [
         text: "",
         failing: &[&[3], &[2], &[]],
         script: "create\nappend 1 616263646566\nbranch 1 1\nread 2 1 0 4\nread 2 1 0 4\n",
-        out: "blob 1\nversion 1 at 0 size 6\nblob 2\nerror page-fault 0\ndata 61626364\n",
+        out: b"blob 1\nversion 1 at 0 size 6\nblob 2\nerror page-fault 0\ndata 61626364\n",
         status: 0,
     },
 ];
@@ -123,7 +123,7 @@ static PAGES: [Row<'static>; 9] = [
         text: "page = 4",
         failing: &[&[1]],
         script: SIXTEEN_BYTES,
-        out: "blob 1\nerror page-fault 0\n",
+        out: b"blob 1\nerror page-fault 0\n",
         status: 0,
     },
     Row {
@@ -131,7 +131,7 @@ static PAGES: [Row<'static>; 9] = [
         text: "page = 4",
         failing: &[&[], &[1]],
         script: SIXTEEN_BYTES,
-        out: "blob 1\nerror page-fault 1\n",
+        out: b"blob 1\nerror page-fault 1\n",
         status: 0,
     },
     Row {
@@ -139,7 +139,7 @@ static PAGES: [Row<'static>; 9] = [
         text: "page = 4",
         failing: &[&[], &[], &[], &[1]],
         script: SIXTEEN_BYTES,
-        out: "blob 1\nerror page-fault 3\n",
+        out: b"blob 1\nerror page-fault 3\n",
         status: 0,
     },
     Row {
@@ -147,7 +147,7 @@ static PAGES: [Row<'static>; 9] = [
         text: "page = 8",
         failing: &[&[], &[1]],
         script: SIXTEEN_BYTES,
-        out: "blob 1\nerror page-fault 1\n",
+        out: b"blob 1\nerror page-fault 1\n",
         status: 0,
     },
     Row {
@@ -155,7 +155,7 @@ static PAGES: [Row<'static>; 9] = [
         text: "page = 8",
         failing: &[&[], &[], &[1]],
         script: SIXTEEN_BYTES,
-        out: "blob 1\nversion 1 at 0 size 16\n",
+        out: b"blob 1\nversion 1 at 0 size 16\n",
         status: 0,
     },
     Row {
@@ -163,7 +163,7 @@ static PAGES: [Row<'static>; 9] = [
         text: "page = 4",
         failing: &[&[], &[], &[], &[1]],
         script: SIXTEEN_BYTES,
-        out: "blob 1\nversion 1 at 0 size 16\n",
+        out: b"blob 1\nversion 1 at 0 size 16\n",
         status: 0,
     },
     Row {
@@ -171,7 +171,7 @@ static PAGES: [Row<'static>; 9] = [
         text: "",
         failing: &[&[], &[], &[1]],
         script: SIXTEEN_BYTES,
-        out: "blob 1\nerror page-fault 2\n",
+        out: b"blob 1\nerror page-fault 2\n",
         status: 0,
     },
     Row {
@@ -179,7 +179,7 @@ static PAGES: [Row<'static>; 9] = [
         text: "",
         failing: &[&[], &[], &[], &[1]],
         script: SIXTEEN_BYTES,
-        out: "blob 1\nversion 1 at 0 size 16\n",
+        out: b"blob 1\nversion 1 at 0 size 16\n",
         status: 0,
     },
     Row {
@@ -187,7 +187,7 @@ static PAGES: [Row<'static>; 9] = [
         text: "",
         failing: &[&[], &[1]],
         script: SIXTEEN_BYTES,
-        out: "blob 1\nversion 1 at 0 size 16\n",
+        out: b"blob 1\nversion 1 at 0 size 16\n",
         status: 0,
     },
 ];
@@ -203,7 +203,7 @@ static NO_DOOR: [Row<'static>; 1] = [Row {
     text: "",
     failing: &[&[1, 2, 3], &[1, 2, 3], &[1, 2, 3], &[1, 2, 3]],
     script: "create\nappend 1 61\nstatus 1\n",
-    out: "blob 1\nerror page-fault 0\nstatus assigned 0 published 0 held 0\n",
+    out: b"blob 1\nerror page-fault 0\nstatus assigned 0 published 0 held 0\n",
     status: 0,
 }];
 
@@ -228,7 +228,7 @@ static LOADS: [Row<'static>; 3] = [
         text: "",
         failing: &[&[]],
         script: "",
-        out: "load workers 3 ops 2 seed 1\nlog size 96 versions 6 in-order 3\ngrid size 96 versions 7 sum 1056\n",
+        out: b"load workers 3 ops 2 seed 1\nlog size 96 versions 6 in-order 3\ngrid size 96 versions 7 sum 1056\n",
         status: 0,
     },
     Row {
@@ -236,7 +236,7 @@ static LOADS: [Row<'static>; 3] = [
         text: "",
         failing: &[&[1]],
         script: "",
-        out: "",
+        out: b"",
         status: 8,
     },
     Row {
@@ -244,7 +244,7 @@ static LOADS: [Row<'static>; 3] = [
         text: "",
         failing: &[ALL],
         script: "",
-        out: "",
+        out: b"",
         status: 8,
     },
 ];
@@ -262,7 +262,7 @@ static WATCHES: [Row<'static>; 3] = [
         text: "",
         failing: &[&[]],
         script: "",
-        out: "watch readers 3 ops 2 seed 1\nblob size 32 versions 2 agree 3\n",
+        out: b"watch readers 3 ops 2 seed 1\nblob size 32 versions 2 agree 3\n",
         status: 0,
     },
     Row {
@@ -270,7 +270,7 @@ static WATCHES: [Row<'static>; 3] = [
         text: "",
         failing: &[&[1]],
         script: "",
-        out: "",
+        out: b"",
         status: 8,
     },
     Row {
@@ -278,7 +278,7 @@ static WATCHES: [Row<'static>; 3] = [
         text: "",
         failing: &[ALL],
         script: "",
-        out: "",
+        out: b"",
         status: 8,
     },
 ];
@@ -294,7 +294,7 @@ static LATE: [Row<'static>; 1] = [Row {
     text: "",
     failing: &[&[5]],
     script: "",
-    out: "",
+    out: b"",
     status: 8,
 }];
 
@@ -310,7 +310,7 @@ static NODES: [Row<'static>; 3] = [
         text: "",
         failing: &[],
         script: "create\nappend 1 616263646566\nread 1 1 0 6\n",
-        out: "blob 1\nversion 1 at 0 size 6\ndata 616263646566\n",
+        out: b"blob 1\nversion 1 at 0 size 6\ndata 616263646566\n",
         status: 0,
     },
     Row {
@@ -318,7 +318,7 @@ static NODES: [Row<'static>; 3] = [
         text: "",
         failing: &[],
         script: "create\nappend 1 616263646566\nappend 1 5859\nread 1 2 4 4\nread 1 1 0 6\n",
-        out: "blob 1\nversion 1 at 0 size 6\nversion 2 at 6 size 8\ndata 65665859\ndata 616263646566\n",
+        out: b"blob 1\nversion 1 at 0 size 6\nversion 2 at 6 size 8\ndata 65665859\ndata 616263646566\n",
         status: 0,
     },
     Row {
@@ -326,7 +326,7 @@ static NODES: [Row<'static>; 3] = [
         text: "",
         failing: &[],
         script: "create\nstart-append 1 aa\nstart-append 1 bb\nfinish 2\nread 1 2 0 2\nfinish 1\nread 1 2 0 2\n",
-        out: "blob 1\nticket 1 version 1 at 0 size 1\nticket 2 version 2 at 1 size 2\npublished 0\nerror not-published 2 0\npublished 2\ndata aabb\n",
+        out: b"blob 1\nticket 1 version 1 at 0 size 1\nticket 2 version 2 at 1 size 2\npublished 0\nerror not-published 2 0\npublished 2\ndata aabb\n",
         status: 0,
     },
 ];

@@ -31,7 +31,7 @@ pub struct Row<'a> {
     pub text: &'a str,
     pub failing: &'a [&'a [u64]],
     pub script: &'a str,
-    pub out: &'a str,
+    pub out: &'a [u8],
     pub status: u8,
 }
 
@@ -107,11 +107,11 @@ fn error_line(status: u8) -> &'static str {
 
 // The program wrote what a row says, and ended so.
 fn check_ended<R: Abort>(rt: &R, row: &Row, out: &MemSink, err: &MemSink, status: u8) {
-    let is_so = out.bytes() == row.out.as_bytes()
+    let is_so = out.bytes() == row.out
         && err.bytes() == error_line(status).as_bytes()
         && status == row.status;
-    let line = row.line;
-    assert!(rt; is_so, "{line}");
+    let Row { line, script, .. } = *row;
+    assert!(rt; is_so, "{line}: {script}");
 }
 
 /// The program comes to what a row says, with doors of this maker.
@@ -153,8 +153,8 @@ fn maker_of<R: Abort>(rt: &R, alloc: Global, failing: &[&[u64]]) -> FlakyMaker {
     FlakyMaker::new(alloc, lists)
 }
 
-// The program comes to what a row says. How many calls of its doors failed.
-fn check_row<R: Wait + Threads + Sync + Abort>(rt: &R, alloc: Global, row: &Row) -> u64 {
+/// The program comes to what a row says. How many calls of its doors failed.
+pub fn check_row<R: Wait + Threads + Sync + Abort>(rt: &R, alloc: Global, row: &Row) -> u64 {
     let mut doors = maker_of(rt, alloc, row.failing);
     check_over(rt, alloc, row, &mut doors);
     let faults = doors.faults();

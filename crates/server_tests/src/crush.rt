@@ -139,8 +139,16 @@ fn all_that_can_wait_are_taken_and_the_first_worker_comes_back_from_one_that_is_
         hall: &hall,
         handed: 0,
     };
-    let words = "serve --listen x:1 --workers 16 --connections 81";
-    let ran = run_over(&rt, alloc, words, &mut net, 64, &FreeGate);
-    ran.check(&rt, words, "served 81\n", "", 0);
+    let words = [
+        "serve",
+        "--listen",
+        "x:1",
+        "--workers",
+        "16",
+        "--connections",
+        "81",
+    ];
+    let ran = run_over(&rt, alloc, words.as_slice(), &mut net, 64, &FreeGate);
+    assert!(rt; ran.is_so("served 81\n", "", 0));
     assert!(rt; !hall.ran_out.load(Ordering::SeqCst), "one waited in vain");
 }

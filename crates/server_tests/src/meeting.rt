@@ -4,6 +4,7 @@ ghost use Rattle.std.specs.Prelude.{◌≡◌};
 use crate::peers::{Line, run_peers};
 use ports::gate::{Gate, HoldGate, Point};
 use std::alloc::Global;
+use std::process::Abort;
 use std::sync::Wait;
 use std::sync::atomic::{AtomicU32, Ordering};
 use turn_lock::{Journaled, Pass};
@@ -54,20 +55,49 @@ impl Gate for MeetingGate {
     }
 }
 
+// A create, and an append of a byte to blob 1.
+const ASKS: &[u8] = b"\0\0\0\x01\x01\0\0\0\x0a\x02\0\0\0\0\0\0\0\x01\xaa";
+
+// Two peers that give the same.
+fn two_lines<R: Abort>(rt: &R, alloc: Global) -> Vec<Line> {
+    let one = Line::giving(rt, alloc, ASKS, 3);
+    let other = Line::giving(rt, alloc, ASKS, 3);
+    vec![in alloc; one, other].expect(rt, "memory")
+}
+
+// A reply to a create and one to an append are as long for every blob and version.
+fn got_both(lines: &[Line]) -> bool {
+    for line in lines {
+        if line.got().len() != 13 + 29 {
+            return false;
+        }
+    }
+    true
+}
+
 #[test]
 fn two_connections_wait_for_each_other(rt: HostRuntime) {
     let alloc: Global = rt.alloc();
-    let asks = "00000001010000000a020000000000000001aa";
-    let one = Line::giving(&rt, alloc, asks, 3);
-    let other = Line::giving(&rt, alloc, asks, 3);
-    let mut lines = vec![in alloc; one, other].expect(&rt, "memory");
+    let mut lines = two_lines(&rt, alloc);
     let gate = MeetingGate::new();
-    let words = "serve --listen x:1 --workers 2 --connections 2";
-    let ran = run_peers(&rt, alloc, words, lines.as_mut_slice(), 0, 64, &gate);
-    ran.check(&rt, words, "served 2\n", "", 0);
-    assert!(rt; gate.met());
-    // A reply to a create and one to an append are as long for every blob and version.
-    for line in &lines {
-        assert!(rt; line.got(&rt, alloc).len() == 2 * (13 + 29));
-    }
+    let words = [
+        "serve",
+        "--listen",
+        "x:1",
+        "--workers",
+        "2",
+        "--connections",
+        "2",
+    ];
+    let ran = run_peers(
+        &rt,
+        alloc,
+        words.as_slice(),
+        lines.as_mut_slice(),
+        0,
+        64,
+        &gate,
+    );
+    assert!(rt; ran.is_so("served 2\n", "", 0));
+    assert!(rt; gate.met() && got_both(lines.as_slice()));
 }

@@ -1,5 +1,5 @@
 //! Peers in memory, and the program that serves them.
-ghost use Rattle.std.specs.Prelude.{◌≡◌, true};
+ghost use Rattle.std.specs.Prelude.{◌≡◌, ◌≤◌, true};
 
 use blobseer_run::run;
 use page_fan::BesideDoor;
@@ -29,53 +29,57 @@ pub(crate) struct Line {
 }
 
 impl Line {
-    /// A peer that gives the bytes that these digits spell, in pieces of that length.
-    pub(crate) fn giving<R: Abort>(rt: &R, alloc: Global, digits: &str, piece: usize) -> Line {
-        assert!(rt; piece > 0);
-        let bytes = hex::decode(alloc, digits).expect(rt, "digits");
+    /// A peer that gives these bytes, in pieces of that length.
+    pub(crate) fn giving<R: Abort>(rt: &R, alloc: Global, bytes: &[u8], piece: usize) -> Line
+        requires { 1 ≤ piece }
+    {
+        let bytes = bytes.to_vec(alloc).expect(rt, "memory");
         Line {
             source: MemSource::new(bytes, piece, Vec::new(alloc)),
             sink: MemSink::new(alloc, ROOM).expect(rt, "memory"),
         }
     }
 
-    /// What the peer got, in digits.
-    pub(crate) fn got<R: Abort>(&self, rt: &R, alloc: Global) -> String {
-        hex::encode(alloc, self.sink.bytes()).expect(rt, "memory")
+    /// What the peer got.
+    pub(crate) fn got(&self) -> &[u8] {
+        self.sink.bytes()
     }
 }
 
-// A listener that fails as it is told, to which peers come that borrow these ends, through which nothing went yet.
-fn failing_listener<'a, R: Abort>(
+// Adds a peer that borrows these ends, through which nothing went yet.
+fn add_line<'a, R: Abort>(
     rt: &R,
-    alloc: Global,
-    address: &str,
-    lines: &'a mut [Line],
-    failing: Vec<bool>,
-) -> MemListener<Pair<'a, MemSource, MemSink>> {
-    let address = String::from_str(alloc, address).expect(rt, "memory");
-    let mut listener = MemListener::new(alloc, address, failing);
-    for Line { source, sink } in lines.iter_mut() {
-        assert!(rt; source.given().is_empty());
-        assert!(rt; sink.bytes().is_empty());
-        listener.add(Pair { source, sink }).expect(rt, "memory");
-    }
-    listener
+    listener: &mut MemListener<Pair<'a, MemSource, MemSink>>,
+    line: &'a mut Line,
+) {
+    let Line { source, sink } = line;
+    assert!(rt; source.given().is_empty());
+    assert!(rt; sink.bytes().is_empty());
+    listener.add(Pair { source, sink }).expect(rt, "memory");
 }
 
-// A listener at this address, to which peers come that borrow these ends. The accept of that number fails, from 1; 0 is none.
-fn listener_of<'a, R: Abort>(
-    rt: &R,
-    alloc: Global,
-    address: &str,
-    lines: &'a mut [Line],
-    failing: usize,
-) -> MemListener<Pair<'a, MemSource, MemSink>> {
+// The accept of that number fails, from 1; 0 is none.
+fn plan_of<R: Abort>(rt: &R, alloc: Global, failing: usize) -> Vec<bool> {
     let mut plan = Vec::new(alloc);
     for before in 0..failing {
         plan.push(before + 1 == failing).expect(rt, "memory");
     }
-    failing_listener(rt, alloc, address, lines, plan)
+    plan
+}
+
+// A listener at the address `x:1`, to which peers come that borrow these ends.
+fn listener_of<'a, R: Abort>(
+    rt: &R,
+    alloc: Global,
+    lines: &'a mut [Line],
+    failing: usize,
+) -> MemListener<Pair<'a, MemSource, MemSink>> {
+    let address = String::from_str(alloc, "x:1").expect(rt, "memory");
+    let mut listener = MemListener::new(alloc, address, plan_of(rt, alloc, failing));
+    for line in lines.iter_mut() {
+        add_line(rt, &mut listener, line);
+    }
+    listener
 }
 
 /// What the program wrote, and how it ended.
@@ -87,20 +91,19 @@ pub(crate) struct Ran {
 }
 
 impl Ran {
-    /// Checks that the program wrote these texts, and ended so.
-    pub(crate) fn check<R: Abort>(&self, rt: &R, words: &str, out: &str, err: &str, status: u8) {
-        let is_so = self.out.bytes() == out.as_bytes()
+    /// Whether the program wrote these texts, and ended so.
+    pub(crate) fn is_so(&self, out: &str, err: &str, status: u8) -> bool {
+        self.out.bytes() == out.as_bytes()
             && self.err.bytes() == err.as_bytes()
-            && self.status == status;
-        assert!(rt; is_so, "{words}");
+            && self.status == status
     }
 }
 
-// The words of a line, which stand between single spaces.
-fn words_of<R: Abort>(rt: &R, alloc: Global, line: &str) -> Vec<String> {
+// Words of a command line.
+fn words_of<R: Abort>(rt: &R, alloc: Global, texts: &[&str]) -> Vec<String> {
     let mut words = Vec::new(alloc);
-    for word in line.split(' ') {
-        let word = String::from_str(alloc, word).expect(rt, "memory");
+    for text in texts {
+        let word = String::from_str(alloc, text).expect(rt, "memory");
         words.push(word).expect(rt, "memory");
     }
     words
@@ -137,11 +140,11 @@ where
     run(rt, alloc, words, script, out, err, net, files, doors, gate)
 }
 
-/// The program with the words of a line, over an empty script, no files, a listener, and an output that takes so many bytes.
+/// The program with these words, over an empty script, no files, a listener, and an output that takes so many bytes.
 pub(crate) fn run_over<R: Threads + Wait + Sync + Abort, L: Listener, G: Gate + Sync>(
     rt: &R,
     alloc: Global,
-    words: &str,
+    words: &[&str],
     net: &mut L,
     room: usize,
     gate: &G,
@@ -171,12 +174,12 @@ where
 pub(crate) fn run_peers<R: Threads + Wait + Sync + Abort, G: Gate + Sync>(
     rt: &R,
     alloc: Global,
-    words: &str,
+    words: &[&str],
     lines: &mut [Line],
     failing: usize,
     room: usize,
     gate: &G,
 ) -> Ran {
-    let mut net = listener_of(rt, alloc, "x:1", lines, failing);
+    let mut net = listener_of(rt, alloc, lines, failing);
     run_over(rt, alloc, words, &mut net, room, gate)
 }

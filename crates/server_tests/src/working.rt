@@ -63,10 +63,18 @@ fn two_workers_of_a_load_work_beside_each_other(rt: HostRuntime) {
     let alloc: Global = rt.alloc();
     let mut nobody = Vec::new(alloc);
     let gate = WorkersGate::new();
-    let words = "load --workers 2 --ops 3 --seed 0";
-    let ran = run_peers(&rt, alloc, words, nobody.as_mut_slice(), 0, 128, &gate);
+    let words = ["load", "--workers", "2", "--ops", "3", "--seed", "0"];
+    let ran = run_peers(
+        &rt,
+        alloc,
+        words.as_slice(),
+        nobody.as_mut_slice(),
+        0,
+        128,
+        &gate,
+    );
     let lines =
         "load workers 2 ops 3 seed 0\nlog size 96 versions 6 in-order 2\ngrid size 96 versions 7 sum 960\n";
-    ran.check(&rt, words, lines, "", 0);
+    assert!(rt; ran.is_so(lines, "", 0));
     assert!(rt; gate.met());
 }

@@ -159,7 +159,7 @@ pub(crate) fn status<G: Gate, R: Wait>(
     status_of(&outcome)
 }
 
-/// The fault of a call that is to be refused.
-pub(crate) fn refusal_of<T: Drop, R: Abort>(rt: &R, answer: Result<T, Fault>) -> Fault {
-    answer.err().expect(rt, "a refusal")
+/// What was told is as it must be. In a call of its own an assertion costs its caller no branch.
+pub(crate) fn check<T: PartialEq + Drop, R: Abort>(rt: &R, told: T, expected: T, what: &str) {
+    assert!(rt; told == expected, "{what}");
 }

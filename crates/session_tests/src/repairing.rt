@@ -1,6 +1,6 @@
 //! A session finishes what another one numbered, while that finishes it too.
 
-use crate::calls::{append, create, finish, refusal_of, repair, start};
+use crate::calls::{append, check, create, finish, repair, start};
 use crate::store::{Two, store_of, two_sessions};
 use client_session::Session;
 use page_store::PlainDoor;
@@ -55,6 +55,28 @@ impl Gate for WovenGate {
 // How often a session looks whether the other one came to the gate.
 const LOOKS: u32 = 100_000_000;
 
+// Who is held where its update is woven, while the other session finishes that.
+#[derive(Clone, Copy)]
+enum Held {
+    // The session that appends it.
+    Writer,
+    // A session that repairs what the other one started.
+    Mender,
+}
+
+// The session that is held comes too late.
+fn come_late<R: Threads + Wait + Sync + Abort>(
+    rt: &R,
+    session: &mut Session<'_, PlainDoor, WovenGate>,
+    held: Held,
+) {
+    let told = match held {
+        Held::Writer => append(rt, session, b"abc").err(),
+        Held::Mender => repair(rt, session, 1).err(),
+    };
+    check(rt, told, Some(Fault::Already { version: 1 }), "too late");
+}
+
 // Finishes version 1 by a ticket of its own.
 fn finish_by_ticket<R: Threads + Wait + Sync>(
     rt: &R,
@@ -66,92 +88,63 @@ fn finish_by_ticket<R: Threads + Wait + Sync>(
     }
 }
 
-// Finishes version 1, once the other session has woven it and is held, and lets that go on. What is published then.
-fn overtake<R: Threads + Wait + Sync>(
+// The other session finishes the update once the first has woven it and is held, and lets that go on.
+fn come_first<R: Threads + Wait + Sync + Abort>(
     rt: &R,
     gate: &WovenGate,
     session: &mut Session<'_, PlainDoor, WovenGate>,
-) -> Option<u64> {
-    let published = if gate.has_come() {
-        finish_by_ticket(rt, session)
-    } else {
-        None
+    held: Held,
+) {
+    check(rt, gate.has_come(), true, "held");
+    let published = match held {
+        Held::Writer => finish_by_ticket(rt, session),
+        Held::Mender => finish(rt, session, 1).ok(),
     };
+    check(rt, published, Some(1), "first");
     gate.hold.release();
-    published
 }
 
-// The first session appends, and is held where its update is woven; the second finishes the update. What the first is told.
-fn overtake_writer<R: Threads + Wait + Sync + Abort>(
+fn overtake<R: Threads + Wait + Sync + Abort>(
     rt: &R,
     gate: &WovenGate,
-    one: &mut Session<'_, PlainDoor, WovenGate>,
-    two: &mut Session<'_, PlainDoor, WovenGate>,
-) -> (Fault, Option<u64>) {
-    create(rt, one).expect(rt, "a blob");
-    let (appended, published) = thread::join(
+    late: &mut Session<'_, PlainDoor, WovenGate>,
+    first: &mut Session<'_, PlainDoor, WovenGate>,
+    held: Held,
+) {
+    let ((), ()) = thread::join(
         rt,
-        || append(rt, one, b"abc"),
-        || overtake(rt, gate, two),
+        || come_late(rt, late, held),
+        || come_first(rt, gate, first, held),
     );
-    (refusal_of(rt, appended), published)
 }
 
-fn writer_overtaken<R: Threads + Wait + Sync + Abort>(
-    rt: &R,
-    alloc: Global,
-) -> (Fault, Option<u64>) {
-    let gate = WovenGate::new(1);
-    let (shared, mut owner) = store_of(rt, alloc, 4);
-    let Two { mut one, mut two } = two_sessions(rt, alloc, &shared, &mut owner, &gate);
-    overtake_writer(rt, &gate, &mut one, &mut two)
-}
-
-// Finishes the first ticket, once the other session has woven its update and is held, and lets that go on. What is published then.
-fn finish_before<R: Threads + Wait + Sync>(
+fn overtake_one<R: Threads + Wait + Sync + Abort>(
     rt: &R,
     gate: &WovenGate,
-    session: &mut Session<'_, PlainDoor, WovenGate>,
-) -> Option<u64> {
-    let published = if gate.has_come() {
-        finish(rt, session, 1).ok()
-    } else {
-        None
-    };
-    gate.hold.release();
-    published
+    both: Two<'_, WovenGate>,
+    held: Held,
+) {
+    let Two { mut one, mut two } = both;
+    create(rt, &mut one).expect(rt, "a blob");
+    match held {
+        Held::Writer => overtake(rt, gate, &mut one, &mut two, held),
+        Held::Mender => {
+            start(rt, &mut one, b"abc").expect(rt, "a ticket");
+            overtake(rt, gate, &mut two, &mut one, held);
+        }
+    }
 }
 
-// The second session repairs what the first started, and is held where it is woven; the first finishes it. What the second is told.
-fn overtake_mender<R: Threads + Wait + Sync + Abort>(
-    rt: &R,
-    gate: &WovenGate,
-    one: &mut Session<'_, PlainDoor, WovenGate>,
-    two: &mut Session<'_, PlainDoor, WovenGate>,
-) -> (Fault, Option<u64>) {
-    create(rt, one).expect(rt, "a blob");
-    start(rt, one, b"abc").expect(rt, "a ticket");
-    let (mended, published) = thread::join(
-        rt,
-        || repair(rt, two, 1),
-        || finish_before(rt, gate, one),
-    );
-    (refusal_of(rt, mended), published)
-}
-
-fn mender_overtaken<R: Threads + Wait + Sync + Abort>(
-    rt: &R,
-    alloc: Global,
-) -> (Fault, Option<u64>) {
-    let gate = WovenGate::new(2);
+// The caller of that number is held.
+fn hold<R: Threads + Wait + Sync + Abort>(rt: &R, alloc: Global, caller: u32, held: Held) {
+    let gate = WovenGate::new(caller);
     let (shared, mut owner) = store_of(rt, alloc, 4);
-    let Two { mut one, mut two } = two_sessions(rt, alloc, &shared, &mut owner, &gate);
-    overtake_mender(rt, &gate, &mut one, &mut two)
+    let both = two_sessions(rt, alloc, &shared, &mut owner, &gate);
+    overtake_one(rt, &gate, both, held);
 }
 
 #[test]
 fn of_two_that_finish_an_update_at_once_the_first_does(rt: HostRuntime) {
-    let expected = (Fault::Already { version: 1 }, Some(1));
-    assert_eq!(rt; writer_overtaken(&rt, rt.alloc()), expected);
-    assert_eq!(rt; mender_overtaken(&rt, rt.alloc()), expected);
+    hold(&rt, rt.alloc(), 1, Held::Writer);
+    hold(&rt, rt.alloc(), 2, Held::Mender);
 }

@@ -2,6 +2,7 @@
 ghost use Rattle.std.specs.Prelude.{◌≡◌};
 ghost use Rattle.client_session.specs.Sessions.{IsOwnerOf};
 
+use crate::calls::status_of;
 use blob_model::Limits;
 use client_session::{Owner, Session, Shared};
 use page_fan::Doors;
@@ -10,7 +11,6 @@ use ports::gate::Gate;
 use std::alloc::Global;
 use std::process::Abort;
 use tree_geom::PageSize;
-use version_manager::Desk;
 
 /// A store with no blobs, and its owner: pages of so many bytes, three providers, two replicas of each page.
 pub(crate) fn store_of<R: Abort>(rt: &R, alloc: Global, page_size: u64) -> (Shared, Owner)
@@ -79,9 +79,15 @@ pub(crate) fn end_session<G: Gate>(
     doors.back(&mut PlainMaker::new());
 }
 
-/// The desk of a store whose sessions have all ended.
-pub(crate) fn closed<R: Abort>(rt: &R, shared: Shared, owner: Owner) -> Desk
+/// How far the updates of blob 1 are on the desk of a store whose sessions have all ended.
+pub(crate) fn closed_status<R: Abort>(
+    rt: &R,
+    shared: Shared,
+    owner: Owner,
+) -> Option<(u64, u64, u64)>
     requires { IsOwnerOf shared owner }
 {
-    shared.close(owner).ok().expect(rt, "every pass came back")
+    let desk = shared.close(owner).ok().expect(rt, "every pass came back");
+    let status = desk.status(1);
+    status_of(&status)
 }

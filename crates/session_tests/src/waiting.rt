@@ -1,11 +1,11 @@
-//! Two sessions on two threads, of which one waits for the other.
+//! Two sessions on two threads, of which one is held at its number and the other one waits for it.
 
-use crate::calls::{append, create, finish, pending, recent, start, status, sync_wait};
+use crate::calls::{append, check, create, pending, recent, status, sync_wait};
 use crate::store::{Two, store_of, two_sessions};
 use client_session::{Done, Session, Updated};
 use page_store::PlainDoor;
-use ports::gate::{FreeGate, HoldGate, Point};
-use request_form::{Fault, Reply, Request, Service};
+use ports::gate::{HoldGate, Point};
+use request_form::{Reply, Request, Service};
 use std::alloc::Global;
 use std::process::Abort;
 use std::sync::Wait;
@@ -14,25 +14,6 @@ use std::thread::Threads;
 
 // How often the second session looks whether the first was numbered.
 const LOOKS: u32 = 100_000_000;
-
-// What the second session is told while the first is held: of its append, how many bytes version 0 has, and what version 2 waits
-// for.
-#[derive(Clone, Copy, Debug, PartialEq)]
-struct Told {
-    done: Updated,
-    bytes: Option<usize>,
-    pending: Option<(u64, u64)>,
-}
-
-// What both are told, and what is published once both have gone on.
-#[derive(Clone, Copy, Debug, PartialEq)]
-struct Both {
-    first: Updated,
-    told: Told,
-    ran_out: bool,
-    synced: Option<u64>,
-    recent: Option<(u64, u64)>,
-}
 
 // Looks until version 1 of the blob has its number.
 fn sees_first<R: Wait>(rt: &R, session: &mut Session<'_, PlainDoor, HoldGate>) -> bool {
@@ -62,158 +43,77 @@ fn read_nothing<R: Threads + Wait + Sync>(
     }
 }
 
-// What the second session is told once the first has its number.
-fn told_beside<R: Threads + Wait + Sync>(
-    rt: &R,
-    session: &mut Session<'_, PlainDoor, HoldGate>,
-) -> Option<Told> {
-    if !sees_first(rt, session) {
-        return None;
-    }
-    let done = append(rt, session, b"de").ok()?;
-    let bytes = read_nothing(rt, session);
-    let pending = pending(rt, session, 2);
-    Some(Told {
-        done,
-        bytes,
-        pending,
-    })
-}
-
-// The second session works while the first is held at the gate, and then lets the first go on.
-fn work_beside<R: Threads + Wait + Sync>(
-    rt: &R,
-    gate: &HoldGate,
-    session: &mut Session<'_, PlainDoor, HoldGate>,
-) -> Option<Told> {
-    let told = told_beside(rt, session);
-    gate.release();
-    told
-}
-
-// The first session appends, and the second works beside it.
-fn append_both<R: Threads + Wait + Sync>(
-    rt: &R,
-    gate: &HoldGate,
-    one: &mut Session<'_, PlainDoor, HoldGate>,
-    two: &mut Session<'_, PlainDoor, HoldGate>,
-) -> (Result<Updated, Fault>, Option<Told>) {
-    thread::join(
+// The second session goes on while the first has its number and is held: it appends, reads and is told for whom its version waits.
+fn go_on<R: Threads + Wait + Sync + Abort>(rt: &R, session: &mut Session<'_, PlainDoor, HoldGate>) {
+    check(
         rt,
-        || append(rt, one, b"abc"),
-        || work_beside(rt, gate, two),
-    )
-}
-
-fn told_both<R: Threads + Wait + Sync + Abort>(
-    rt: &R,
-    gate: &HoldGate,
-    one: &mut Session<'_, PlainDoor, HoldGate>,
-    two: &mut Session<'_, PlainDoor, HoldGate>,
-) -> Both {
-    create(rt, one).expect(rt, "a blob");
-    let (first, told) = append_both(rt, gate, one, two);
-    let first = first.expect(rt, "the first update");
-    let told = told.expect(rt, "what the second session was told");
-    let ran_out = gate.ran_out();
-    // Both threads have ended: a first update that found no memory would be waited for without end.
-    let synced = sync_wait(rt, two, 2);
-    let recent = recent(rt, two, 1);
-    Both {
-        first,
-        told,
-        ran_out,
-        synced,
-        recent,
-    }
-}
-
-// What two sessions of a new store are told, where the first is held once its update has its number.
-fn told_at_gate<R: Threads + Wait + Sync + Abort>(rt: &R, alloc: Global) -> Both {
-    let gate = HoldGate::new(Point::Numbered, 1);
-    let (shared, mut owner) = store_of(rt, alloc, 4);
-    let Two { mut one, mut two } = two_sessions(rt, alloc, &shared, &mut owner, &gate);
-    told_both(rt, &gate, &mut one, &mut two)
-}
-
-#[test]
-fn a_session_goes_on_while_another_is_held_at_its_number(rt: HostRuntime) {
-    let both = told_at_gate(&rt, rt.alloc());
-    let first = Updated::Done(Done {
-        version: 1,
-        at: 0,
-        size: 3,
-    });
-    let second = Updated::Done(Done {
+        sees_first(rt, session),
+        true,
+        "the first has its number",
+    );
+    let done = Updated::Done(Done {
         version: 2,
         at: 3,
         size: 5,
     });
-    let told = Told {
-        done: second,
-        bytes: Some(0),
-        pending: Some((2, 1)),
-    };
-    let expected = Both {
-        first,
-        told,
-        ran_out: false,
-        synced: Some(2),
-        recent: Some((2, 5)),
-    };
-    assert_eq!(rt; both, expected);
-}
-
-// Finishes the update of the ticket, after others may have begun to wait for it. Where no memory is found it tries again, since
-// they would wait forever.
-fn finish_late<R: Threads + Wait + Sync>(
-    rt: &R,
-    session: &mut Session<'_, PlainDoor, FreeGate>,
-    ticket: u64,
-) -> Result<u64, Fault> {
-    for _ in 0..1000 {
-        thread::yield_now();
-    }
-    match finish(rt, session, ticket) {
-        Err(Fault::NoMemory) => finish(rt, session, ticket),
-        finished => finished,
-    }
-}
-
-// The first session finishes the update of the ticket, and the second waits for version 1.
-fn finish_and_wait<R: Threads + Wait + Sync>(
-    rt: &R,
-    one: &mut Session<'_, PlainDoor, FreeGate>,
-    ticket: u64,
-    two: &mut Session<'_, PlainDoor, FreeGate>,
-) -> (Result<u64, Fault>, Option<u64>) {
-    thread::join(
+    check(rt, append(rt, session, b"de"), Ok(done), "the second");
+    check(rt, read_nothing(rt, session), Some(0), "version 0");
+    check(
         rt,
-        || finish_late(rt, one, ticket),
-        || sync_wait(rt, two, 1),
-    )
+        pending(rt, session, 2),
+        Some((2, 1)),
+        "waits for the first",
+    );
 }
 
-fn waited<R: Threads + Wait + Sync + Abort>(
+// Then it lets the first go on, and waits until its own version is published.
+fn go_on_and_wait<R: Threads + Wait + Sync + Abort>(
     rt: &R,
-    one: &mut Session<'_, PlainDoor, FreeGate>,
-    two: &mut Session<'_, PlainDoor, FreeGate>,
-) -> (u64, Option<u64>) {
-    create(rt, one).expect(rt, "a blob");
-    let started = start(rt, one, b"abc").expect(rt, "a ticket");
-    let (published, synced) = finish_and_wait(rt, one, started.ticket, two);
-    (published.expect(rt, "a finished update"), synced)
+    gate: &HoldGate,
+    session: &mut Session<'_, PlainDoor, HoldGate>,
+) {
+    go_on(rt, session);
+    gate.release();
+    check(rt, sync_wait(rt, session, 2), Some(2), "published");
 }
 
-// What the first session of a new store is told of the finish for which the second waits, and what the second is told then.
-fn told_of_wait<R: Threads + Wait + Sync + Abort>(rt: &R, alloc: Global) -> (u64, Option<u64>) {
+// The first session appends, and is held at its number.
+fn append_first<R: Threads + Wait + Sync + Abort>(
+    rt: &R,
+    session: &mut Session<'_, PlainDoor, HoldGate>,
+) {
+    let done = Updated::Done(Done {
+        version: 1,
+        at: 0,
+        size: 3,
+    });
+    check(rt, append(rt, session, b"abc"), Ok(done), "the first");
+}
+
+fn work_beside<R: Threads + Wait + Sync + Abort>(
+    rt: &R,
+    gate: &HoldGate,
+    one: &mut Session<'_, PlainDoor, HoldGate>,
+    two: &mut Session<'_, PlainDoor, HoldGate>,
+) {
+    create(rt, one).expect(rt, "a blob");
+    let ((), ()) = thread::join(
+        rt,
+        || append_first(rt, one),
+        || go_on_and_wait(rt, gate, two),
+    );
+    check(rt, gate.ran_out(), false, "held until it was released");
+    check(rt, recent(rt, two, 1), Some((2, 5)), "both published");
+}
+
+fn hold_first<R: Threads + Wait + Sync + Abort>(rt: &R, alloc: Global) {
+    let gate = HoldGate::new(Point::Numbered, 1);
     let (shared, mut owner) = store_of(rt, alloc, 4);
-    let Two { mut one, mut two } = two_sessions(rt, alloc, &shared, &mut owner, &FreeGate);
-    waited(rt, &mut one, &mut two)
+    let Two { mut one, mut two } = two_sessions(rt, alloc, &shared, &mut owner, &gate);
+    work_beside(rt, &gate, &mut one, &mut two);
 }
 
 #[test]
 fn a_session_that_waits_goes_on_once_another_has_finished(rt: HostRuntime) {
-    let told = told_of_wait(&rt, rt.alloc());
-    assert_eq!(rt; told, (1, Some(1)));
+    hold_first(&rt, rt.alloc());
 }

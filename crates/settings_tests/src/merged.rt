@@ -194,9 +194,12 @@ fn check_row<R: Abort>(
     texts: &[&str; 2],
 ) {
     let settings = merged(rt, alloc, line, text);
-    assert_eq!(rt; numbers_of(&settings), *numbers, "{line}");
-    let shown = [settings.listen.as_str(), settings.settings.as_str()];
-    assert_eq!(rt; shown, *texts, "{line}");
+    assert!(rt; numbers_of(&settings) == *numbers, "numbers of {line}");
+    let [listen, file] = *texts;
+    assert!(rt;
+        settings.listen.as_str() == listen && settings.settings.as_str() == file,
+        "texts of {line}"
+    );
 }
 
 #[test]

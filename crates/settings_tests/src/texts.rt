@@ -42,7 +42,7 @@ static ACCEPTED: [(&str, &str); 27] = [
 fn check_row<R: Abort>(rt: &R, alloc: Global, text: &str, expected: &str) {
     let given = read_text(alloc, text.as_bytes()).expect(rt, text);
     let shown = line_of(rt, alloc, "", &given);
-    assert_eq!(rt; shown.as_str(), expected);
+    assert!(rt; shown.as_str() == expected, "{text}");
 }
 
 #[test]

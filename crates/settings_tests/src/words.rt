@@ -184,7 +184,7 @@ fn check_row<R: Abort>(rt: &R, alloc: Global, line: &str, expected: &str) {
     let words = words_of(rt, alloc, line);
     let (command, given) = read_words(alloc, words.as_slice()).expect(rt, line);
     let shown = line_of(rt, alloc, word_of(command), &given);
-    assert_eq!(rt; shown.as_str(), expected);
+    assert!(rt; shown.as_str() == expected, "{line}");
 }
 
 #[test]

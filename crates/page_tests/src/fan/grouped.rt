@@ -4,7 +4,8 @@ ghost use Rattle.page_store.specs.House.{IsProvider};
 ghost use Rattle.page_store.specs.Stored.{LieAmong};
 
 use crate::fan::cases::{Case, Outcome};
-use page_fan::{Doors, StoreFault, fetch, store};
+use crate::pages::fetched;
+use page_fan::{Doors, StoreFault, store};
 use page_store::{DoorMaker, FlakyDoor, FlakyMaker, Houses, NoMemory, Pages, PlainMaker};
 use std::alloc::Global;
 use std::process::Abort;
@@ -42,11 +43,11 @@ fn add_page<R: Abort>(
     requires here { LieAmong houses.now pages.now.pages }
     requires page { i < length pages.now.pages }
 {
-    let page = pages.page(i);
     let mut doors = four_doors(alloc, &mut PlainMaker::new()).expect(rt, "memory");
-    let mut out = vec![in alloc; 0u8; page.len() as usize].expect(rt, "memory");
-    assert!(rt; fetch(&mut doors, houses, page, 0, out.as_mut_slice()));
-    bytes.extend_from_slice(out.as_slice()).expect(rt, "memory");
+    let page = fetched(rt, alloc, &mut doors, houses, pages, i).expect(rt, "a page");
+    bytes
+        .extend_from_slice(page.as_slice())
+        .expect(rt, "memory");
 }
 
 // The bytes of all pages, by doors that don't fail.

@@ -1,7 +1,6 @@
 //! Doors that fail at each call of a finish that stores a page of the blob anew.
 
-use crate::program::{maker_of, said_over};
-use crate::rows::split_lines;
+use crate::program::{Row, check_row};
 use std::alloc::Global;
 use std::process::Abort;
 use std::sync::Wait;
@@ -15,8 +14,11 @@ const BEFORE: &str =
     "create\nappend 1 0000\nwrite 1 0 ff\nwrite 1 0 ff\nwrite 1 0 ff\nwrite 1 0 ff\nwrite 1 0 ff\nwrite 1 0 ff\n\
     write 1 0 ff\nwrite 1 0 ff\nwrite 1 0 ff\nwrite 1 0 ff\nwrite 1 0 ff\nwrite 1 0 ff\nwrite 1 0 ff\nwrite 1 0 ff\nwrite 1 0 aa\n";
 
-// How many lines answer these.
-const LINES: usize = 17;
+// What they are answered.
+const SAID: &str =
+    "blob 1\nversion 1 at 0 size 2\nversion 2 at 0 size 2\nversion 3 at 0 size 2\nversion 4 at 0 size 2\nversion 5 at 0 size 2\n\
+    version 6 at 0 size 2\nversion 7 at 0 size 2\nversion 8 at 0 size 2\nversion 9 at 0 size 2\nversion 10 at 0 size 2\nversion 11 at 0 size 2\n\
+    version 12 at 0 size 2\nversion 13 at 0 size 2\nversion 14 at 0 size 2\nversion 15 at 0 size 2\nversion 16 at 0 size 2\n";
 
 // An update that is started and then finished, and one that is to be finished at once. Where that can't be the ticket stays, and a later
 // finish makes the same version.
@@ -61,21 +63,26 @@ static CALLS: [(u64, &str, &str); 6] = [
     ),
 ];
 
-// Over doors that fail at these calls, and so many times in all, the versions and then these lines are answered so.
-fn answered_so<R: Wait + Threads + Sync + Abort>(
+// Over doors that fail at these calls, the versions and then these lines are answered so. How many calls failed.
+fn check_folding<R: Wait + Threads + Sync + Abort>(
     rt: &R,
     alloc: Global,
-    words: &str,
+    line: &str,
     failing: &[&[u64]],
     lines: &str,
     replies: &str,
-    faults: u64,
-) -> bool {
+) -> u64 {
     let script = format!(in alloc; "{BEFORE}{lines}").expect(rt, "memory");
-    let mut doors = maker_of(rt, alloc, failing);
-    let out = said_over(rt, alloc, words, script.as_str(), &mut doors);
-    let (_, said) = split_lines(out.bytes(), LINES);
-    said == replies.as_bytes() && doors.faults() == faults
+    let out = format!(in alloc; "{SAID}{replies}").expect(rt, "memory");
+    let row = Row {
+        line,
+        text: "",
+        failing,
+        script: script.as_str(),
+        out: out.as_str().as_bytes(),
+        status: 0,
+    };
+    check_row(rt, alloc, &row)
 }
 
 // So it is over one door of which this call fails.
@@ -88,8 +95,8 @@ fn check_lines<R: Wait + Threads + Sync + Abort>(
 ) {
     let calls = [call];
     let failing = [calls.as_slice()];
-    let is_so = answered_so(rt, alloc, WORDS, failing.as_slice(), lines, replies, 1);
-    assert!(rt; is_so, "call {call}");
+    let faults = check_folding(rt, alloc, WORDS, failing.as_slice(), lines, replies);
+    assert!(rt; faults == 1, "call {call}");
 }
 
 #[test]
@@ -133,7 +140,7 @@ fn a_page_that_is_stored_anew_has_a_replica_wherever_a_door_of_its_placement_too
     rt: HostRuntime,
 ) {
     for (failing, replies, faults) in REPLICAS.as_slice() {
-        let is_so = answered_so(&rt, rt.alloc(), THREE, *failing, STARTED, replies, *faults);
-        assert!(rt; is_so, "{faults} faults");
+        let failed = check_folding(&rt, rt.alloc(), THREE, failing, STARTED, replies);
+        assert!(rt; failed == *faults, "{faults} faults");
     }
 }
