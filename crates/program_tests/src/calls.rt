@@ -4,7 +4,7 @@
 //! of its doors fail.
 
 use crate::program::{Row, check_row};
-use crate::rows::{SCRIPTS, Script};
+use crate::scripts::{SCRIPTS, Script};
 use std::alloc::Global;
 use std::process::Abort;
 use std::sync::Wait;

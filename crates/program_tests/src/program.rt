@@ -1,4 +1,4 @@
-//! The program over an input and outputs in memory.
+//! The program over an input, outputs and a file in memory, and rows of what it comes to with doors that fail.
 
 ghost use Rattle.std.specs.Prelude.{◌≡◌};
 
@@ -20,19 +20,31 @@ use std::process::Abort;
 use std::sync::Wait;
 use std::thread::Threads;
 
-/// More than any output here has.
-pub const ROOM: usize = 4096;
+/// More than any output here has, and than any peer gets.
+pub(crate) const ROOM: usize = 4096;
 
-/// A command line, the text of the file `s`, the calls of each provider's doors that fail, the input, the output and the status. A
-/// door's calls are counted from 1.
+/// A command line, the text of the file `s`, the input, and how many bytes the output takes.
 #[derive(Clone, Copy)]
-pub struct Row<'a> {
-    pub line: &'a str,
-    pub text: &'a str,
-    pub failing: &'a [&'a [u64]],
-    pub script: &'a str,
-    pub out: &'a [u8],
-    pub status: u8,
+pub(crate) struct Given<'a> {
+    pub(crate) line: &'a str,
+    pub(crate) text: &'a str,
+    pub(crate) script: &'a str,
+    pub(crate) room: usize,
+}
+
+/// What the program wrote, and how it ended.
+#[derive(Drop)]
+pub(crate) struct Ran {
+    out: MemSink,
+    err: MemSink,
+    status: u8,
+}
+
+impl Ran {
+    /// Whether the program wrote these texts, and ended so.
+    pub(crate) fn is_so(&self, out: &[u8], err: &str, status: u8) -> bool {
+        self.out.bytes() == out && self.err.bytes() == err.as_bytes() && self.status == status
+    }
 }
 
 // The words of a line, which stand between single spaces.
@@ -43,11 +55,6 @@ fn words_of<R: Abort>(rt: &R, alloc: Global, line: &str) -> Vec<String> {
         words.push(word).expect(rt, "memory");
     }
     words
-}
-
-// A listener to which nobody comes.
-fn nobody<'a>(alloc: Global) -> MemListener<Pair<'a, MemSource, MemSink>> {
-    MemListener::new(alloc, String::new(alloc), Vec::new(alloc))
 }
 
 // Files of which one is called `s` and has this text.
@@ -97,6 +104,55 @@ where
     run(rt, alloc, words, script, out, err, net, files, doors, gate)
 }
 
+/// The program with what it is given, over a listener, doors of this maker, and a gate.
+pub(crate) fn run_over<R: Wait + Threads + Sync + Abort, L: Listener, M: DoorMaker, G: Gate + Sync>(
+    rt: &R,
+    alloc: Global,
+    given: &Given,
+    net: &mut L,
+    doors: &mut M,
+    gate: &G,
+) -> Ran
+where
+    L::Peer: Drop + Send,
+    M::Door: BesideDoor + Drop + Send,
+    requires { M.is_true doors.old }
+{
+    let words = words_of(rt, alloc, given.line);
+    let mut out = MemSink::new(alloc, given.room).expect(rt, "memory");
+    let mut err = MemSink::new(alloc, ROOM).expect(rt, "memory");
+    let status = status_of(
+        rt,
+        alloc,
+        words.as_slice(),
+        &mut input_of(rt, alloc, given.script),
+        &mut out,
+        &mut err,
+        net,
+        &mut file_of(rt, alloc, given.text),
+        doors,
+        gate,
+    );
+    Ran { out, err, status }
+}
+
+/// A command line, the text of the file `s`, the calls of each provider's doors that fail, the input, the output and the status. A
+/// door's calls are counted from 1.
+#[derive(Clone, Copy)]
+pub(crate) struct Row<'a> {
+    pub(crate) line: &'a str,
+    pub(crate) text: &'a str,
+    pub(crate) failing: &'a [&'a [u64]],
+    pub(crate) script: &'a str,
+    pub(crate) out: &'a [u8],
+    pub(crate) status: u8,
+}
+
+// A listener to which nobody comes.
+fn nobody<'a>(alloc: Global) -> MemListener<Pair<'a, MemSource, MemSink>> {
+    MemListener::new(alloc, String::new(alloc), Vec::new(alloc))
+}
+
 // The line that the error output gets.
 fn error_line(status: u8) -> &'static str {
     match status {
@@ -105,17 +161,8 @@ fn error_line(status: u8) -> &'static str {
     }
 }
 
-// The program wrote what a row says, and ended so.
-fn check_ended<R: Abort>(rt: &R, row: &Row, out: &MemSink, err: &MemSink, status: u8) {
-    let is_so = out.bytes() == row.out
-        && err.bytes() == error_line(status).as_bytes()
-        && status == row.status;
-    let Row { line, script, .. } = *row;
-    assert!(rt; is_so, "{line}: {script}");
-}
-
 /// The program comes to what a row says, with doors of this maker.
-pub fn check_over<R: Wait + Threads + Sync + Abort, M: DoorMaker>(
+pub(crate) fn check_over<R: Wait + Threads + Sync + Abort, M: DoorMaker>(
     rt: &R,
     alloc: Global,
     row: &Row,
@@ -125,22 +172,21 @@ where
     M::Door: BesideDoor + Drop + Send,
     requires { M.is_true doors.old }
 {
-    let mut out = MemSink::new(alloc, ROOM).expect(rt, "memory");
-    let mut err = MemSink::new(alloc, ROOM).expect(rt, "memory");
-    let words = words_of(rt, alloc, row.line);
-    let status = status_of(
-        rt,
-        alloc,
-        words.as_slice(),
-        &mut input_of(rt, alloc, row.script),
-        &mut out,
-        &mut err,
-        &mut nobody(alloc),
-        &mut file_of(rt, alloc, row.text),
-        doors,
-        &FreeGate,
-    );
-    check_ended(rt, row, &out, &err, status);
+    let Row {
+        line,
+        text,
+        script,
+        ..
+    } = *row;
+    let given = Given {
+        line,
+        text,
+        script,
+        room: ROOM,
+    };
+    let ran = run_over(rt, alloc, &given, &mut nobody(alloc), doors, &FreeGate);
+    let is_so = ran.is_so(row.out, error_line(row.status), row.status);
+    assert!(rt; is_so, "{line}: {script}");
 }
 
 // A maker of doors that fail at a row's calls.
@@ -154,7 +200,7 @@ fn maker_of<R: Abort>(rt: &R, alloc: Global, failing: &[&[u64]]) -> FlakyMaker {
 }
 
 /// The program comes to what a row says. How many calls of its doors failed.
-pub fn check_row<R: Wait + Threads + Sync + Abort>(rt: &R, alloc: Global, row: &Row) -> u64 {
+pub(crate) fn check_row<R: Wait + Threads + Sync + Abort>(rt: &R, alloc: Global, row: &Row) -> u64 {
     let mut doors = maker_of(rt, alloc, row.failing);
     check_over(rt, alloc, row, &mut doors);
     let faults = doors.faults();
@@ -163,7 +209,11 @@ pub fn check_row<R: Wait + Threads + Sync + Abort>(rt: &R, alloc: Global, row: &
 }
 
 /// The program comes to what each row says. How many calls of the last one's doors failed.
-pub fn check_rows<R: Wait + Threads + Sync + Abort>(rt: &R, alloc: Global, rows: &[Row]) -> u64 {
+pub(crate) fn check_rows<R: Wait + Threads + Sync + Abort>(
+    rt: &R,
+    alloc: Global,
+    rows: &[Row],
+) -> u64 {
     let mut faults = 0;
     for row in rows {
         faults = check_row(rt, alloc, row);

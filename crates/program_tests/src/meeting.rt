@@ -1,7 +1,7 @@
 //! The program serves two connections beside each other.
 ghost use Rattle.std.specs.Prelude.{◌≡◌};
 
-use crate::peers::{Line, run_peers};
+use crate::peers::{Peer, run_peers};
 use ports::gate::{Gate, HoldGate, Point};
 use std::alloc::Global;
 use std::process::Abort;
@@ -59,16 +59,16 @@ impl Gate for MeetingGate {
 const ASKS: &[u8] = b"\0\0\0\x01\x01\0\0\0\x0a\x02\0\0\0\0\0\0\0\x01\xaa";
 
 // Two peers that give the same.
-fn two_lines<R: Abort>(rt: &R, alloc: Global) -> Vec<Line> {
-    let one = Line::giving(rt, alloc, ASKS, 3);
-    let other = Line::giving(rt, alloc, ASKS, 3);
+fn two_peers<R: Abort>(rt: &R, alloc: Global) -> Vec<Peer> {
+    let one = Peer::giving(rt, alloc, ASKS, 3);
+    let other = Peer::giving(rt, alloc, ASKS, 3);
     vec![in alloc; one, other].expect(rt, "memory")
 }
 
 // A reply to a create and one to an append are as long for every blob and version.
-fn got_both(lines: &[Line]) -> bool {
-    for line in lines {
-        if line.got().len() != 13 + 29 {
+fn got_both(peers: &[Peer]) -> bool {
+    for peer in peers {
+        if peer.got().len() != 13 + 29 {
             return false;
         }
     }
@@ -78,26 +78,10 @@ fn got_both(lines: &[Line]) -> bool {
 #[test]
 fn two_connections_wait_for_each_other(rt: HostRuntime) {
     let alloc: Global = rt.alloc();
-    let mut lines = two_lines(&rt, alloc);
+    let mut peers = two_peers(&rt, alloc);
     let gate = MeetingGate::new();
-    let words = [
-        "serve",
-        "--listen",
-        "x:1",
-        "--workers",
-        "2",
-        "--connections",
-        "2",
-    ];
-    let ran = run_peers(
-        &rt,
-        alloc,
-        words.as_slice(),
-        lines.as_mut_slice(),
-        0,
-        64,
-        &gate,
-    );
-    assert!(rt; ran.is_so("served 2\n", "", 0));
-    assert!(rt; gate.met() && got_both(lines.as_slice()));
+    let line = "serve --listen x:1 --workers 2 --connections 2";
+    let ran = run_peers(&rt, alloc, line, peers.as_mut_slice(), 0, 64, &gate);
+    assert!(rt; ran.is_so(b"served 2\n", "", 0));
+    assert!(rt; gate.met() && got_both(peers.as_slice()));
 }

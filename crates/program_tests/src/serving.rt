@@ -1,6 +1,6 @@
 //! What peers get, what the program writes, and how serving ends.
 
-use crate::peers::{Line, run_peers};
+use crate::peers::{Peer, run_peers};
 use ports::gate::FreeGate;
 use std::alloc::Global;
 use std::process::Abort;
@@ -10,11 +10,11 @@ use std::thread::Threads;
 // What a peer gives, and what it gets.
 type Exchange = (&'static [u8], &'static [u8]);
 
-// The words of a call, the peers that come, the number of the accept that fails (0 is none), how many bytes the output takes, what both
+// A command line, the peers that come, the number of the accept that fails (0 is none), how many bytes the output takes, what both
 // outputs get, and how the program ends.
 #[derive(Clone, Copy)]
-struct Row {
-    words: &'static [&'static str],
+struct Serving {
+    line: &'static str,
     peers: &'static [Exchange],
     failing: usize,
     room: usize,
@@ -24,34 +24,40 @@ struct Row {
 }
 
 // A peer for each exchange, which gives its bytes three at a time.
-fn lines_of<R: Abort>(rt: &R, alloc: Global, peers: &[Exchange]) -> Vec<Line> {
-    let mut lines = Vec::new(alloc);
-    for (gives, _) in peers {
-        let line = Line::giving(rt, alloc, gives, 3);
-        lines.push(line).expect(rt, "memory");
+fn peers_of<R: Abort>(rt: &R, alloc: Global, exchanges: &[Exchange]) -> Vec<Peer> {
+    let mut peers = Vec::new(alloc);
+    for (gives, _) in exchanges {
+        let peer = Peer::giving(rt, alloc, gives, 3);
+        peers.push(peer).expect(rt, "memory");
     }
-    lines
+    peers
 }
 
 // Whether the peers got what is theirs.
-fn got_theirs(lines: &[Line], peers: &[Exchange]) -> bool {
-    for at in 0..lines.len().min(peers.len()) {
-        if lines[at].got() != peers[at].1 {
+fn got_theirs(peers: &[Peer], exchanges: &[Exchange]) -> bool {
+    for at in 0..peers.len().min(exchanges.len()) {
+        if peers[at].got() != exchanges[at].1 {
             return false;
         }
     }
-    lines.len() == peers.len()
+    peers.len() == exchanges.len()
 }
 
-fn check_row<R: Threads + Wait + Sync + Abort>(rt: &R, alloc: Global, number: usize, row: &Row) {
-    let mut lines = lines_of(rt, alloc, row.peers);
-    let ends = lines.as_mut_slice();
-    let ran = run_peers(rt, alloc, row.words, ends, row.failing, row.room, &FreeGate);
-    let is_so = ran.is_so(row.out, row.err, row.status) && got_theirs(lines.as_slice(), row.peers);
+fn check_row<R: Threads + Wait + Sync + Abort>(
+    rt: &R,
+    alloc: Global,
+    number: usize,
+    row: &Serving,
+) {
+    let mut peers = peers_of(rt, alloc, row.peers);
+    let ends = peers.as_mut_slice();
+    let ran = run_peers(rt, alloc, row.line, ends, row.failing, row.room, &FreeGate);
+    let is_so = ran.is_so(row.out.as_bytes(), row.err, row.status)
+        && got_theirs(peers.as_slice(), row.peers);
     assert!(rt; is_so, "row {number}");
 }
 
-fn check_rows<R: Threads + Wait + Sync + Abort>(rt: &R, alloc: Global, rows: &[Row]) {
+fn check_rows<R: Threads + Wait + Sync + Abort>(rt: &R, alloc: Global, rows: &[Serving]) {
     for number in 0..rows.len() {
         check_row(rt, alloc, number, &rows[number]);
     }
@@ -73,9 +79,9 @@ const REFUSED: Exchange = (
 );
 
 // Three peers, of which no accept fails.
-static LISTENINGS: [Row; 4] = [
-    Row {
-        words: &["serve", "--listen", "x:1", "--connections", "3"],
+static LISTENINGS: [Serving; 4] = [
+    Serving {
+        line: "serve --listen x:1 --connections 3",
         peers: &[SERVED, SERVED, SERVED],
         failing: 4,
         room: 64,
@@ -83,8 +89,8 @@ static LISTENINGS: [Row; 4] = [
         err: "",
         status: 0,
     },
-    Row {
-        words: &["serve", "--listen", "x:1", "--connections", "2"],
+    Serving {
+        line: "serve --listen x:1 --connections 2",
         peers: &[SERVED, SERVED, UNSERVED],
         failing: 0,
         room: 64,
@@ -92,16 +98,8 @@ static LISTENINGS: [Row; 4] = [
         err: "",
         status: 0,
     },
-    Row {
-        words: &[
-            "serve",
-            "--listen",
-            "x:1",
-            "--workers",
-            "1",
-            "--connections",
-            "9",
-        ],
+    Serving {
+        line: "serve --listen x:1 --workers 1 --connections 9",
         peers: &[SERVED, SERVED, SERVED],
         failing: 0,
         room: 64,
@@ -109,16 +107,8 @@ static LISTENINGS: [Row; 4] = [
         err: "",
         status: 0,
     },
-    Row {
-        words: &[
-            "serve",
-            "--listen",
-            "x:1",
-            "--workers",
-            "16",
-            "--connections",
-            "9",
-        ],
+    Serving {
+        line: "serve --listen x:1 --workers 16 --connections 9",
         peers: &[SERVED, SERVED, SERVED],
         failing: 0,
         room: 64,
@@ -134,9 +124,9 @@ fn serving_ends_as_the_listener_does(rt: HostRuntime) {
 }
 
 // The peers that came before the accept that fails are served.
-static ACCEPTS: [Row; 6] = [
-    Row {
-        words: &["serve", "--listen", "x:1", "--workers", "1"],
+static ACCEPTS: [Serving; 6] = [
+    Serving {
+        line: "serve --listen x:1 --workers 1",
         peers: &[UNSERVED, UNSERVED, UNSERVED],
         failing: 1,
         room: 64,
@@ -144,8 +134,8 @@ static ACCEPTS: [Row; 6] = [
         err: "blobseer: listener fault\n",
         status: 6,
     },
-    Row {
-        words: &["serve", "--listen", "x:1", "--workers", "1"],
+    Serving {
+        line: "serve --listen x:1 --workers 1",
         peers: &[SERVED, UNSERVED, UNSERVED],
         failing: 2,
         room: 64,
@@ -153,8 +143,8 @@ static ACCEPTS: [Row; 6] = [
         err: "blobseer: listener fault\n",
         status: 6,
     },
-    Row {
-        words: &["serve", "--listen", "x:1", "--workers", "1"],
+    Serving {
+        line: "serve --listen x:1 --workers 1",
         peers: &[SERVED, SERVED, UNSERVED],
         failing: 3,
         room: 64,
@@ -162,16 +152,8 @@ static ACCEPTS: [Row; 6] = [
         err: "blobseer: listener fault\n",
         status: 6,
     },
-    Row {
-        words: &[
-            "serve",
-            "--listen",
-            "x:1",
-            "--workers",
-            "3",
-            "--connections",
-            "3",
-        ],
+    Serving {
+        line: "serve --listen x:1 --workers 3 --connections 3",
         peers: &[UNSERVED, UNSERVED, UNSERVED],
         failing: 1,
         room: 64,
@@ -179,16 +161,8 @@ static ACCEPTS: [Row; 6] = [
         err: "blobseer: listener fault\n",
         status: 6,
     },
-    Row {
-        words: &[
-            "serve",
-            "--listen",
-            "x:1",
-            "--workers",
-            "3",
-            "--connections",
-            "3",
-        ],
+    Serving {
+        line: "serve --listen x:1 --workers 3 --connections 3",
         peers: &[SERVED, UNSERVED, UNSERVED],
         failing: 2,
         room: 64,
@@ -196,16 +170,8 @@ static ACCEPTS: [Row; 6] = [
         err: "blobseer: listener fault\n",
         status: 6,
     },
-    Row {
-        words: &[
-            "serve",
-            "--listen",
-            "x:1",
-            "--workers",
-            "3",
-            "--connections",
-            "3",
-        ],
+    Serving {
+        line: "serve --listen x:1 --workers 3 --connections 3",
         peers: &[SERVED, SERVED, UNSERVED],
         failing: 3,
         room: 64,
@@ -221,9 +187,9 @@ fn each_accept_fails_once(rt: HostRuntime) {
 }
 
 // Two peers, and what the program tells of them.
-static PROGRAMS: [Row; 5] = [
-    Row {
-        words: &["serve", "--connections=1", "--listen=x:1"],
+static PROGRAMS: [Serving; 5] = [
+    Serving {
+        line: "serve --connections=1 --listen=x:1",
         peers: &[SERVED, UNSERVED],
         failing: 0,
         room: 64,
@@ -232,8 +198,8 @@ static PROGRAMS: [Row; 5] = [
         status: 0,
     },
     // The listener has no more than two peers, of which the first is refused a frame too.
-    Row {
-        words: &["serve", "--listen", "x:1"],
+    Serving {
+        line: "serve --listen x:1",
         peers: &[REFUSED, SERVED],
         failing: 0,
         room: 64,
@@ -241,8 +207,8 @@ static PROGRAMS: [Row; 5] = [
         err: "",
         status: 0,
     },
-    Row {
-        words: &["serve", "--listen", "x:1", "--workers", "1"],
+    Serving {
+        line: "serve --listen x:1 --workers 1",
         peers: &[REFUSED, SERVED],
         failing: 0,
         room: 7,
@@ -251,8 +217,8 @@ static PROGRAMS: [Row; 5] = [
         status: 4,
     },
     // It can't listen at another address.
-    Row {
-        words: &["serve", "--listen", "y:1"],
+    Serving {
+        line: "serve --listen y:1",
         peers: &[UNSERVED, UNSERVED],
         failing: 0,
         room: 64,
@@ -260,8 +226,8 @@ static PROGRAMS: [Row; 5] = [
         err: "blobseer: listener fault\n",
         status: 6,
     },
-    Row {
-        words: &["serve", "--workers", "1"],
+    Serving {
+        line: "serve --workers 1",
         peers: &[UNSERVED, UNSERVED],
         failing: 0,
         room: 64,

@@ -1,7 +1,7 @@
 //! One peer more than the other workers and the queue can take.
 ghost use Rattle.std.specs.Prelude.{◌≡◌};
 
-use crate::peers::run_over;
+use crate::peers::run_net;
 use ports::gate::FreeGate;
 use ports::listener::{Accepted, Listener};
 use ports::stream::{Ends, Sink, Source, Taken, Written};
@@ -139,16 +139,8 @@ fn all_that_can_wait_are_taken_and_the_first_worker_comes_back_from_one_that_is_
         hall: &hall,
         handed: 0,
     };
-    let words = [
-        "serve",
-        "--listen",
-        "x:1",
-        "--workers",
-        "16",
-        "--connections",
-        "81",
-    ];
-    let ran = run_over(&rt, alloc, words.as_slice(), &mut net, 64, &FreeGate);
-    assert!(rt; ran.is_so("served 81\n", "", 0));
+    let line = "serve --listen x:1 --workers 16 --connections 81";
+    let ran = run_net(&rt, alloc, line, &mut net, 64, &FreeGate);
+    assert!(rt; ran.is_so(b"served 81\n", "", 0));
     assert!(rt; !hall.ran_out.load(Ordering::SeqCst), "one waited in vain");
 }

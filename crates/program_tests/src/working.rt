@@ -63,18 +63,10 @@ fn two_workers_of_a_load_work_beside_each_other(rt: HostRuntime) {
     let alloc: Global = rt.alloc();
     let mut nobody = Vec::new(alloc);
     let gate = WorkersGate::new();
-    let words = ["load", "--workers", "2", "--ops", "3", "--seed", "0"];
-    let ran = run_peers(
-        &rt,
-        alloc,
-        words.as_slice(),
-        nobody.as_mut_slice(),
-        0,
-        128,
-        &gate,
-    );
+    let line = "load --workers 2 --ops 3 --seed 0";
+    let ran = run_peers(&rt, alloc, line, nobody.as_mut_slice(), 0, 128, &gate);
     let lines =
-        "load workers 2 ops 3 seed 0\nlog size 96 versions 6 in-order 2\ngrid size 96 versions 7 sum 960\n";
+        b"load workers 2 ops 3 seed 0\nlog size 96 versions 6 in-order 2\ngrid size 96 versions 7 sum 960\n";
     assert!(rt; ran.is_so(lines, "", 0));
     assert!(rt; gate.met());
 }
