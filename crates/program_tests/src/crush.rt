@@ -2,6 +2,7 @@
 ghost use Rattle.std.specs.Prelude.{◌≡◌};
 
 use crate::peers::run_net;
+use crate::program::check;
 use ports::gate::FreeGate;
 use ports::listener::{Accepted, Listener};
 use ports::stream::{Ends, Sink, Source, Taken, Written};
@@ -141,6 +142,7 @@ fn all_that_can_wait_are_taken_and_the_first_worker_comes_back_from_one_that_is_
     };
     let line = "serve --listen x:1 --workers 16 --connections 81";
     let ran = run_net(&rt, alloc, line, &mut net, 64, &FreeGate);
-    assert!(rt; ran.is_so(b"served 81\n", "", 0));
-    assert!(rt; !hall.ran_out.load(Ordering::SeqCst), "one waited in vain");
+    check(&rt, ran.is_so(b"served 81\n", "", 0), "all are served");
+    let has_run_out = hall.ran_out.load(Ordering::SeqCst);
+    check(&rt, !has_run_out, "nobody waits in vain");
 }

@@ -63,6 +63,13 @@ static CALLS: [(u64, &str, &str); 6] = [
     ),
 ];
 
+// One text and then another.
+fn joined<R: Abort>(rt: &R, alloc: Global, front: &str, back: &str) -> String {
+    let mut text = String::from_str(alloc, front).expect(rt, "memory");
+    text.push_str(back).expect(rt, "memory");
+    text
+}
+
 // Over doors that fail at these calls, the versions and then these lines are answered so. How many calls failed.
 fn check_folding<R: Wait + Threads + Sync + Abort>(
     rt: &R,
@@ -72,8 +79,8 @@ fn check_folding<R: Wait + Threads + Sync + Abort>(
     lines: &str,
     replies: &str,
 ) -> u64 {
-    let script = format!(in alloc; "{BEFORE}{lines}").expect(rt, "memory");
-    let out = format!(in alloc; "{SAID}{replies}").expect(rt, "memory");
+    let script = joined(rt, alloc, BEFORE, lines);
+    let out = joined(rt, alloc, SAID, replies);
     let row = Row {
         line,
         text: "",

@@ -2,6 +2,7 @@
 ghost use Rattle.std.specs.Prelude.{◌≡◌};
 
 use crate::peers::{Peer, run_peers};
+use crate::program::check;
 use ports::gate::{Gate, HoldGate, Point};
 use std::alloc::Global;
 use std::process::Abort;
@@ -82,6 +83,7 @@ fn two_connections_wait_for_each_other(rt: HostRuntime) {
     let gate = MeetingGate::new();
     let line = "serve --listen x:1 --workers 2 --connections 2";
     let ran = run_peers(&rt, alloc, line, peers.as_mut_slice(), 0, 64, &gate);
-    assert!(rt; ran.is_so(b"served 2\n", "", 0));
-    assert!(rt; gate.met() && got_both(peers.as_slice()));
+    check(&rt, ran.is_so(b"served 2\n", "", 0), "both are served");
+    check(&rt, gate.met(), "both came to the gate");
+    check(&rt, got_both(peers.as_slice()), "both got their replies");
 }

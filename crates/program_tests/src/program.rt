@@ -32,6 +32,11 @@ pub(crate) struct Given<'a> {
     pub(crate) room: usize,
 }
 
+/// What is said holds. In a call of its own an assertion costs its caller no branch.
+pub(crate) fn check<R: Abort>(rt: &R, holds: bool, what: &str) {
+    assert!(rt; holds, "{what}");
+}
+
 /// What the program wrote, and how it ended.
 #[derive(Drop)]
 pub(crate) struct Ran {
@@ -161,6 +166,13 @@ fn error_line(status: u8) -> &'static str {
     }
 }
 
+// The program wrote what a row says, and ended so.
+fn check_ended<R: Abort>(rt: &R, row: &Row, ran: &Ran) {
+    let is_so = ran.is_so(row.out, error_line(row.status), row.status);
+    let Row { line, script, .. } = *row;
+    assert!(rt; is_so, "{line}: {script}");
+}
+
 /// The program comes to what a row says, with doors of this maker.
 pub(crate) fn check_over<R: Wait + Threads + Sync + Abort, M: DoorMaker>(
     rt: &R,
@@ -185,8 +197,7 @@ where
         room: ROOM,
     };
     let ran = run_over(rt, alloc, &given, &mut nobody(alloc), doors, &FreeGate);
-    let is_so = ran.is_so(row.out, error_line(row.status), row.status);
-    assert!(rt; is_so, "{line}: {script}");
+    check_ended(rt, row, &ran);
 }
 
 // A maker of doors that fail at a row's calls.
@@ -204,7 +215,7 @@ pub(crate) fn check_row<R: Wait + Threads + Sync + Abort>(rt: &R, alloc: Global,
     let mut doors = maker_of(rt, alloc, row.failing);
     check_over(rt, alloc, row, &mut doors);
     let faults = doors.faults();
-    assert!(rt; row.status == 0 || faults > 0);
+    check(rt, row.status == 0 || faults > 0, "a call that fails");
     faults
 }
 

@@ -2,6 +2,7 @@
 ghost use Rattle.std.specs.Prelude.{◌≡◌};
 
 use crate::peers::run_peers;
+use crate::program::check;
 use ports::gate::{Gate, HoldGate, Point};
 use std::alloc::Global;
 use std::sync::Wait;
@@ -67,6 +68,6 @@ fn two_workers_of_a_load_work_beside_each_other(rt: HostRuntime) {
     let ran = run_peers(&rt, alloc, line, nobody.as_mut_slice(), 0, 128, &gate);
     let lines =
         b"load workers 2 ops 3 seed 0\nlog size 96 versions 6 in-order 2\ngrid size 96 versions 7 sum 960\n";
-    assert!(rt; ran.is_so(lines, "", 0));
-    assert!(rt; gate.met());
+    check(&rt, ran.is_so(lines, "", 0), "the lines of the load");
+    check(&rt, gate.met(), "both workers came to the gate");
 }
