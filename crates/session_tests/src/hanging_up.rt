@@ -3,69 +3,65 @@ ghost use Rattle.std.specs.Prelude.{◌≡◌};
 ghost use Rattle.client_session.specs.Sessions.{IsOwnerOf};
 
 use crate::calls::{append, check, create, finish, hang_up, pending, repair, start, status};
-use crate::store::{Two, closed_status, end_session, store_of, two_sessions};
-use client_session::{HangUp, Owner, Session, Shared};
-use page_store::PlainDoor;
+use crate::store::{Plain, closed_status, end_session, plain_session, store_of};
+use blob_model::Place;
+use client_session::{HangUp, Owner, Shared};
 use ports::gate::FreeGate;
-use std::alloc::Global;
 use std::process::Abort;
 use std::sync::Wait;
 use std::thread;
 use std::thread::Threads;
 
-// Starts so many updates of one byte, and answers how many got the next ticket in a row.
-fn start_times<R: Threads + Wait + Sync + Abort>(
-    rt: &R,
-    session: &mut Session<'_, PlainDoor, FreeGate>,
-    times: u64,
-) -> u64 {
-    for before in 0..times {
-        let started = start(rt, session, b"a").expect(rt, "a ticket");
-        if started.ticket != before + 1 {
-            return before;
-        }
-    }
-    times
+type Member<'a> = Plain<'a, FreeGate>;
+
+// Starts an append of one byte, whose ticket has that number.
+fn start_one<R: Threads + Wait + Sync + Abort>(rt: &R, session: &mut Member<'_>, expected: u64)
+    ensures { session.new.store ≡ session.old.store }
+{
+    let ticket = start(rt, session, 1, Place::Append, b"a");
+    check(rt, ticket, expected, "the next ticket in a row");
+}
+
+fn append_one<R: Threads + Wait + Sync + Abort>(rt: &R, session: &mut Member<'_>)
+    ensures { session.new.store ≡ session.old.store }
+{
+    append(rt, session, b"b").expect(rt, "an append");
 }
 
 // Appends a byte so many times.
-fn append_times<R: Threads + Wait + Sync + Abort>(
-    rt: &R,
-    session: &mut Session<'_, PlainDoor, FreeGate>,
-    times: u32,
-) {
+fn append_times<R: Threads + Wait + Sync + Abort>(rt: &R, session: &mut Member<'_>, times: u32) {
     for _ in 0..times {
-        append(rt, session, b"b").expect(rt, "an append");
+        append_one(rt, session);
     }
 }
 
-// What a session that gave up so many tickets is told where memory is found.
-fn all_finished(finished: u32) -> HangUp {
-    HangUp {
+// Gives up so many tickets, where memory is found.
+fn hang_up_all<R: Threads + Wait + Sync + Abort>(rt: &R, session: &mut Member<'_>, finished: u32) {
+    let expected = HangUp {
         finished,
         no_memory: 0,
         pending: 0,
         page_fault: 0,
-    }
+    };
+    check(rt, hang_up(rt, session), expected, "all are finished");
 }
 
 // Starts three updates and gives them up; then starts one more.
-fn start_and_hang_up<R: Threads + Wait + Sync + Abort>(
-    rt: &R,
-    session: &mut Session<'_, PlainDoor, FreeGate>,
-) {
-    check(rt, start_times(rt, session, 3), 3, "three tickets");
-    check(rt, hang_up(rt, session), all_finished(3), "three given up");
-    check(rt, start_times(rt, session, 1), 1, "ticket 1 again");
+fn start_and_hang_up<R: Threads + Wait + Sync + Abort>(rt: &R, session: &mut Member<'_>) {
+    for number in 1..4 {
+        start_one(rt, session, number);
+    }
+    hang_up_all(rt, session, 3);
+    start_one(rt, session, 1);
 }
 
 // The first session makes the blob and gives up its tickets, while the second goes on.
 fn hang_up_beside<R: Threads + Wait + Sync + Abort>(
     rt: &R,
-    one: &mut Session<'_, PlainDoor, FreeGate>,
-    two: &mut Session<'_, PlainDoor, FreeGate>,
+    one: &mut Member<'_>,
+    two: &mut Member<'_>,
 ) {
-    create(rt, one).expect(rt, "a blob");
+    create(rt, one);
     let ((), ()) = thread::join(
         rt,
         || start_and_hang_up(rt, one),
@@ -76,30 +72,28 @@ fn hang_up_beside<R: Threads + Wait + Sync + Abort>(
 // The first finishes the update that it started in the end, and has nothing left to give up.
 fn finish_last<R: Threads + Wait + Sync + Abort>(
     rt: &R,
-    one: &mut Session<'_, PlainDoor, FreeGate>,
-    two: &mut Session<'_, PlainDoor, FreeGate>,
+    one: &mut Member<'_>,
+    two: &mut Member<'_>,
 ) {
     check(rt, finish(rt, one, 1), Ok(24), "the last one");
-    check(rt, status(rt, two, 1), Some((24, 24, 0)), "all finished");
-    check(rt, hang_up(rt, one), all_finished(0), "none given up");
-}
-
-fn give_up<R: Threads + Wait + Sync + Abort>(rt: &R, alloc: Global) {
-    let (shared, mut owner) = store_of(rt, alloc, 4);
-    let Two { mut one, mut two } = two_sessions(rt, alloc, &shared, &mut owner, &FreeGate);
-    hang_up_beside(rt, &mut one, &mut two);
-    finish_last(rt, &mut one, &mut two);
+    check(rt, status(rt, two), Some((24, 24, 0)), "all finished");
+    hang_up_all(rt, one, 0);
 }
 
 #[test]
 fn a_session_that_hangs_up_leaves_no_update_unfinished(rt: HostRuntime) {
-    give_up(&rt, rt.alloc());
+    let alloc = rt.alloc();
+    let (shared, mut owner) = store_of(&rt, alloc, 3, 2);
+    let mut one = plain_session(&rt, alloc, &shared, &mut owner, &FreeGate);
+    let mut two = plain_session(&rt, alloc, &shared, &mut owner, &FreeGate);
+    hang_up_beside(&rt, &mut one, &mut two);
+    finish_last(&rt, &mut one, &mut two);
 }
 
 // A session makes the blob and starts two updates, and ends without hanging up.
 fn start_and_end<R: Threads + Wait + Sync + Abort>(
     rt: &R,
-    mut session: Session<'_, PlainDoor, FreeGate>,
+    mut session: Member<'_>,
     shared: &Shared,
     owner: &mut Owner,
 )
@@ -107,51 +101,35 @@ fn start_and_end<R: Threads + Wait + Sync + Abort>(
     requires owner { IsOwnerOf shared.now owner.old }
     ensures { IsOwnerOf shared.now owner.new }
 {
-    create(rt, &mut session).expect(rt, "a blob");
-    start(rt, &mut session, b"a").expect(rt, "a ticket");
-    start(rt, &mut session, b"a").expect(rt, "a ticket");
+    create(rt, &mut session);
+    start_one(rt, &mut session, 1);
+    start_one(rt, &mut session, 2);
     end_session(session, shared, owner);
 }
 
 // Another session appends twice. It sees how far the updates are and what its last version waits for, and finishes what the first left.
-fn append_and_repair<R: Threads + Wait + Sync + Abort>(
-    rt: &R,
-    session: &mut Session<'_, PlainDoor, FreeGate>,
-)
+fn append_and_repair<R: Threads + Wait + Sync + Abort>(rt: &R, session: &mut Member<'_>)
     ensures { session.new.store ≡ session.old.store }
 {
-    append(rt, session, b"b").expect(rt, "an append");
-    append(rt, session, b"b").expect(rt, "an append");
-    check(
-        rt,
-        status(rt, session, 1),
-        Some((4, 0, 1)),
-        "held by the first",
-    );
-    check(
-        rt,
-        pending(rt, session, 4),
-        Some((4, 1)),
-        "waits for the first",
-    );
+    append_one(rt, session);
+    append_one(rt, session);
+    let held = Some((4, 0, 1));
+    check(rt, status(rt, session), held, "held by the first");
+    let waits = Some((4, 1));
+    check(rt, pending(rt, session, 4), waits, "waits for the first");
     check(rt, repair(rt, session, 2), Ok(0), "the second repaired");
     check(rt, repair(rt, session, 1), Ok(4), "the first repaired");
 }
 
-// How far the updates are on the desk in the end.
-fn leave_unfinished<R: Threads + Wait + Sync + Abort>(
-    rt: &R,
-    alloc: Global,
-) -> Option<(u64, u64, u64)> {
-    let (shared, mut owner) = store_of(rt, alloc, 4);
-    let Two { one, mut two } = two_sessions(rt, alloc, &shared, &mut owner, &FreeGate);
-    start_and_end(rt, one, &shared, &mut owner);
-    append_and_repair(rt, &mut two);
-    end_session(two, &shared, &mut owner);
-    closed_status(rt, shared, owner)
-}
-
 #[test]
 fn a_session_that_ends_without_hanging_up_holds_the_others_back_until_they_repair(rt: HostRuntime) {
-    assert!(rt; leave_unfinished(&rt, rt.alloc()) == Some((4, 4, 0)));
+    let alloc = rt.alloc();
+    let (shared, mut owner) = store_of(&rt, alloc, 3, 2);
+    let one = plain_session(&rt, alloc, &shared, &mut owner, &FreeGate);
+    let mut two = plain_session(&rt, alloc, &shared, &mut owner, &FreeGate);
+    start_and_end(&rt, one, &shared, &mut owner);
+    append_and_repair(&rt, &mut two);
+    end_session(two, &shared, &mut owner);
+    let told = closed_status(&rt, shared, owner);
+    check(&rt, told, Some((4, 4, 0)), "on the desk in the end");
 }

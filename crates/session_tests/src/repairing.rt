@@ -1,59 +1,18 @@
 //! A session finishes what another one numbered, while that finishes it too.
 
 use crate::calls::{append, check, create, finish, repair, start};
-use crate::store::{Two, store_of, two_sessions};
-use client_session::Session;
-use page_store::PlainDoor;
-use ports::gate::{Gate, HoldGate, Point};
+use crate::gate::Barrier;
+use crate::store::{Plain, plain_session, store_of};
+use blob_model::Place;
+use ports::gate::Point;
 use request_form::Fault;
 use std::alloc::Global;
 use std::process::Abort;
 use std::sync::Wait;
-use std::sync::atomic::{AtomicBool, Ordering};
 use std::thread;
 use std::thread::Threads;
-use turn_lock::{Journaled, Pass};
 
-// Holds one caller once its update is woven, and tells that it came there.
-#[derive(Drop)]
-struct WovenGate {
-    hold: HoldGate,
-    caller: u32,
-    came: AtomicBool,
-}
-
-impl WovenGate {
-    fn new(caller: u32) -> WovenGate {
-        WovenGate {
-            hold: HoldGate::new(Point::Woven, caller),
-            caller,
-            came: AtomicBool::new(false),
-        }
-    }
-
-    // Waits until the caller came.
-    fn has_come(&self) -> bool {
-        for _ in 0..LOOKS {
-            if self.came.load(Ordering::SeqCst) {
-                return true;
-            }
-            thread::yield_now();
-        }
-        false
-    }
-}
-
-impl Gate for WovenGate {
-    fn at<S: Journaled, R: Wait>(&self, rt: &R, point: Point, pass: &Pass<S>) {
-        if point == Point::Woven && pass.caller() == self.caller {
-            self.came.store(true, Ordering::SeqCst);
-            self.hold.at(rt, point, pass);
-        }
-    }
-}
-
-// How often a session looks whether the other one came to the gate.
-const LOOKS: u32 = 100_000_000;
+type Member<'a> = Plain<'a, Barrier>;
 
 // Who is held where its update is woven, while the other session finishes that.
 #[derive(Clone, Copy)]
@@ -65,11 +24,7 @@ enum Held {
 }
 
 // The session that is held comes too late.
-fn come_late<R: Threads + Wait + Sync + Abort>(
-    rt: &R,
-    session: &mut Session<'_, PlainDoor, WovenGate>,
-    held: Held,
-) {
+fn come_late<R: Threads + Wait + Sync + Abort>(rt: &R, session: &mut Member<'_>, held: Held) {
     let told = match held {
         Held::Writer => append(rt, session, b"abc").err(),
         Held::Mender => repair(rt, session, 1).err(),
@@ -78,10 +33,7 @@ fn come_late<R: Threads + Wait + Sync + Abort>(
 }
 
 // Finishes version 1 by a ticket of its own.
-fn finish_by_ticket<R: Threads + Wait + Sync>(
-    rt: &R,
-    session: &mut Session<'_, PlainDoor, WovenGate>,
-) -> Option<u64> {
+fn finish_by_ticket<R: Threads + Wait + Sync>(rt: &R, session: &mut Member<'_>) -> Option<u64> {
     match session.ticket_for(rt, 1, 1) {
         Ok(ticket) => session.finish_with(rt, &ticket).ok(),
         Err(_) => None,
@@ -91,8 +43,8 @@ fn finish_by_ticket<R: Threads + Wait + Sync>(
 // The other session finishes the update once the first has woven it and is held, and lets that go on.
 fn come_first<R: Threads + Wait + Sync + Abort>(
     rt: &R,
-    gate: &WovenGate,
-    session: &mut Session<'_, PlainDoor, WovenGate>,
+    gate: &Barrier,
+    session: &mut Member<'_>,
     held: Held,
 ) {
     check(rt, gate.has_come(), true, "held");
@@ -101,14 +53,14 @@ fn come_first<R: Threads + Wait + Sync + Abort>(
         Held::Mender => finish(rt, session, 1).ok(),
     };
     check(rt, published, Some(1), "first");
-    gate.hold.release();
+    gate.release();
 }
 
 fn overtake<R: Threads + Wait + Sync + Abort>(
     rt: &R,
-    gate: &WovenGate,
-    late: &mut Session<'_, PlainDoor, WovenGate>,
-    first: &mut Session<'_, PlainDoor, WovenGate>,
+    gate: &Barrier,
+    late: &mut Member<'_>,
+    first: &mut Member<'_>,
     held: Held,
 ) {
     let ((), ()) = thread::join(
@@ -120,27 +72,28 @@ fn overtake<R: Threads + Wait + Sync + Abort>(
 
 fn overtake_one<R: Threads + Wait + Sync + Abort>(
     rt: &R,
-    gate: &WovenGate,
-    both: Two<'_, WovenGate>,
+    gate: &Barrier,
+    one: &mut Member<'_>,
+    two: &mut Member<'_>,
     held: Held,
 ) {
-    let Two { mut one, mut two } = both;
-    create(rt, &mut one).expect(rt, "a blob");
+    create(rt, one);
     match held {
-        Held::Writer => overtake(rt, gate, &mut one, &mut two, held),
+        Held::Writer => overtake(rt, gate, one, two, held),
         Held::Mender => {
-            start(rt, &mut one, b"abc").expect(rt, "a ticket");
-            overtake(rt, gate, &mut two, &mut one, held);
+            start(rt, one, 1, Place::Append, b"abc");
+            overtake(rt, gate, two, one, held);
         }
     }
 }
 
 // The caller of that number is held.
 fn hold<R: Threads + Wait + Sync + Abort>(rt: &R, alloc: Global, caller: u32, held: Held) {
-    let gate = WovenGate::new(caller);
-    let (shared, mut owner) = store_of(rt, alloc, 4);
-    let both = two_sessions(rt, alloc, &shared, &mut owner, &gate);
-    overtake_one(rt, &gate, both, held);
+    let gate = Barrier::new(Point::Woven, caller);
+    let (shared, mut owner) = store_of(rt, alloc, 3, 2);
+    let mut one = plain_session(rt, alloc, &shared, &mut owner, &gate);
+    let mut two = plain_session(rt, alloc, &shared, &mut owner, &gate);
+    overtake_one(rt, &gate, &mut one, &mut two, held);
 }
 
 #[test]

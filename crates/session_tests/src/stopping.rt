@@ -3,15 +3,17 @@ ghost use Rattle.client_session.specs.Sessions.{session_of};
 ghost use Rattle.update_work.specs.Updates.{IsReady};
 
 use crate::calls::{check, finish, start, status, written};
-use crate::sessions::{Flaky, Plain, flaky_session, plain_session, store_of};
+use crate::store::{Flaky, Plain, flaky_session, plain_session, store_of};
 use blob_model::Place;
+use ports::gate::FreeGate;
 use request_form::Fault;
-use std::alloc::Global;
 use std::process::Abort;
 use std::sync::Wait;
 use std::thread;
 use std::thread::Threads;
 use update_work::{Stopped, update};
+
+type Other<'a> = Plain<'a, FreeGate>;
 
 // The worker's door takes the page of its update. It fails at the first read of the worker's first finish, and at that of the next one.
 const TWICE: [u64; 2] = [2, 3];
@@ -27,7 +29,7 @@ fn updated<R: Threads + Wait + Sync>(rt: &R, worker: &mut Flaky<'_>) -> Result<(
 const LOOKS: u32 = 100_000_000;
 
 // Looks until the worker's update has its number, and lets it begin to wait then.
-fn sees_worker<R: Wait>(rt: &R, session: &mut Plain<'_>) -> bool {
+fn sees_worker<R: Wait>(rt: &R, session: &mut Other<'_>) -> bool {
     for _ in 0..LOOKS {
         if status(rt, session) == Some((17, 15, 16)) {
             return true;
@@ -45,7 +47,7 @@ fn let_wait() {
 
 // Finishes the update of ticket 1, after the worker has begun to wait for it. Where no memory is found it tries again, since the worker
 // would wait forever.
-fn finish_late<R: Threads + Wait + Sync>(rt: &R, session: &mut Plain<'_>) -> Result<u64, Fault> {
+fn finish_late<R: Threads + Wait + Sync>(rt: &R, session: &mut Other<'_>) -> Result<u64, Fault> {
     if sees_worker(rt, session) {
         let_wait();
     }
@@ -59,7 +61,7 @@ fn finish_late<R: Threads + Wait + Sync>(rt: &R, session: &mut Plain<'_>) -> Res
 fn work_beside<'a, R: Threads + Wait + Sync>(
     rt: &R,
     worker: Flaky<'a>,
-    other: &mut Plain<'_>,
+    other: &mut Other<'_>,
 ) -> (Result<(), Stopped>, Result<u64, Fault>)
     requires { IsReady (session_of worker) }
 {
@@ -88,7 +90,7 @@ fn is_lost(told: &Result<(), Stopped>) -> bool {
 }
 
 // The worker is told that it lost the page; and the other session's update is published by its finish.
-fn work_both<'a, R: Threads + Wait + Sync + Abort>(rt: &R, worker: Flaky<'a>, other: &mut Plain<'_>)
+fn work_both<'a, R: Threads + Wait + Sync + Abort>(rt: &R, worker: Flaky<'a>, other: &mut Other<'_>)
     requires { IsReady (session_of worker) }
 {
     let (told, finished) = work_beside(rt, worker, other);
@@ -98,16 +100,13 @@ fn work_both<'a, R: Threads + Wait + Sync + Abort>(rt: &R, worker: Flaky<'a>, ot
 }
 
 // The other session holds version 16 under its ticket 1. The worker's update stores the page anew, for which it needs that version.
-fn stop<R: Threads + Wait + Sync + Abort>(rt: &R, alloc: Global) {
-    let (shared, mut owner) = store_of(rt, alloc, 1, 1);
-    let mut other = plain_session(rt, alloc, &shared, &mut owner);
-    let worker = flaky_session(rt, alloc, &shared, &mut owner, &TWICE);
-    written(rt, &mut other, 1, 14);
-    check(rt, start(rt, &mut other, 1), true, "a ticket");
-    work_both(rt, worker, &mut other);
-}
-
 #[test]
 fn a_worker_that_loses_pages_of_an_update_that_it_holds_finishes_it_and_stops(rt: HostRuntime) {
-    stop(&rt, rt.alloc());
+    let alloc = rt.alloc();
+    let (shared, mut owner) = store_of(&rt, alloc, 1, 1);
+    let mut other = plain_session(&rt, alloc, &shared, &mut owner, &FreeGate);
+    let worker = flaky_session(&rt, alloc, &shared, &mut owner, &TWICE);
+    written(&rt, &mut other, 1, 14);
+    start(&rt, &mut other, 1, Place::WriteAt(0), b"x");
+    work_both(&rt, worker, &mut other);
 }
