@@ -4,8 +4,9 @@
 ghost use Rattle.std.specs.Prelude.{◌≡◌};
 ghost use Rattle.client_session.specs.Sessions.{IsOwnerOf};
 
-use crate::client::{Client, Member, Note};
-use crate::replay::{check, check_history, sizes_agree};
+use crate::calls::{Member, check, create, new_member, recent, repair, size, status, update};
+use crate::client::{Client, Note, read_again, read_first};
+use crate::replay::check_history;
 use crate::script::{BASE, CLIENTS, Manner, sum_of};
 use blob_model::{Limits, Place};
 use client_session::{Owner, Shared};
@@ -19,9 +20,8 @@ use tree_geom::PageSize;
 // Makes the three blobs, each with its first version.
 fn make_blobs<R: Threads + Wait + Sync + Abort>(rt: &R, founder: &mut Member<'_>) {
     for _ in 0..3 {
-        let blob = founder.create(rt).expect(rt, "a blob");
-        let done = founder.update(rt, blob, Place::Append, BASE);
-        check(rt, done.is_some(), true, "the first version");
+        let blob = create(rt, founder);
+        update(rt, founder, blob, Place::Append, BASE);
     }
 }
 
@@ -37,35 +37,24 @@ fn clients_of<'a, R: Abort>(
     let mut clients = Vec::new(alloc);
     for number in 0..CLIENTS {
         let client = Client {
-            member: Member::new(rt, alloc, shared, owner),
+            member: new_member(rt, alloc, shared, owner),
             alloc,
             number,
             notes: Vec::new(alloc),
-            is_content: false,
         };
         clients.push(client).expect(rt, "memory");
     }
     clients
 }
 
-// Each client goes through its script, beside the others. Whether all went well.
-fn work_all<R: Threads + Wait + Sync>(rt: &R, clients: &mut [Client<'_>], manner: Manner) -> bool {
+// Each client goes through its script, beside the others.
+fn work_all<R: Threads + Wait + Sync + Abort>(rt: &R, clients: &mut [Client<'_>], manner: Manner) {
     thread::for_each_mut(
         rt,
         clients,
         usize::from(CLIENTS),
         &|_, client| { client.work(rt, manner) },
     );
-    all_content(clients)
-}
-
-fn all_content(clients: &[Client<'_>]) -> bool {
-    for client in clients {
-        if !client.is_content {
-            return false;
-        }
-    }
-    true
 }
 
 // What the clients were told. All end here, and what they hold is left.
@@ -77,43 +66,45 @@ fn notes_of<R: Abort>(rt: &R, alloc: Global, clients: Vec<Client<'_>>) -> Vec<No
     all
 }
 
-// Finishes the versions of a blob that aren't finished, in rising order. Whether all are finished then.
-fn mend_blob<R: Threads + Wait + Sync>(rt: &R, mender: &mut Member<'_>, blob: u64) -> bool {
+// Finishes the versions of a blob that aren't finished, in rising order.
+fn mend_blob<R: Threads + Wait + Sync + Abort>(rt: &R, mender: &mut Member<'_>, blob: u64) {
     for before in 1..sum_of(blob).last {
-        if !mender.repair(rt, blob, before + 1) {
-            return false;
-        }
+        repair(rt, mender, blob, before + 1);
     }
-    true
 }
 
-// Whether each version is read as its note says. The notes of careless clients say nothing before: they do so from here on.
-fn read_again<R: Threads + Wait + Sync>(
+// Finishes what the clients left in the three blobs.
+fn mend_blobs<R: Threads + Wait + Sync + Abort>(rt: &R, mender: &mut Member<'_>) {
+    for blob in 1..4 {
+        mend_blob(rt, mender, blob);
+    }
+}
+
+// A version is read as its note says, and has the size that its note tells. The notes of careless clients say nothing of the bytes before:
+// they do so from here on.
+fn read_note<R: Threads + Wait + Sync + Abort>(
+    rt: &R,
+    reader: &mut Member<'_>,
+    note: &mut Note,
+    manner: Manner,
+) {
+    match manner {
+        Manner::Careful => read_again(rt, reader, note),
+        Manner::Careless => read_first(rt, reader, note),
+    }
+    let told = size(rt, reader, note.blob, note.done.version);
+    check(rt, told, Some(note.done.size), "the size of a version");
+}
+
+fn read_notes<R: Threads + Wait + Sync + Abort>(
     rt: &R,
     reader: &mut Member<'_>,
     notes: &mut [Note],
     manner: Manner,
-) -> bool {
+) {
     for note in notes {
-        let is_read = match manner {
-            Manner::Careful => reader.reads_again(rt, note),
-            Manner::Careless => reader.reads_first(rt, note),
-        };
-        if !is_read {
-            return false;
-        }
+        read_note(rt, reader, note, manner);
     }
-    true
-}
-
-// Finishes what the clients left in the three blobs.
-fn mend_blobs<R: Threads + Wait + Sync>(rt: &R, mender: &mut Member<'_>) -> bool {
-    for before in 0..3 {
-        if !mend_blob(rt, mender, before + 1) {
-            return false;
-        }
-    }
-    true
 }
 
 // How many branches were made of a blob, whose history is what the notes say and the scripts add up to.
@@ -127,33 +118,32 @@ fn check_blob<R: Wait + Abort>(
     let sum = sum_of(blob);
     check_history(rt, alloc, notes, blob, sum.last);
     let ended = Some((sum.last, sum.last, 0));
-    check(rt, reader.status(rt, blob), ended, "all is finished");
+    check(rt, status(rt, reader, blob), ended, "all is finished");
     let newest = Some((sum.last, sum.size as u64));
-    check(rt, reader.recent(rt, blob), newest, "the size");
+    check(rt, recent(rt, reader, blob), newest, "the size");
     sum.branches
 }
 
-// How many branches the scripts make. The three blobs and every note agree with the store.
-fn check_store<R: Wait + Abort>(
+// How many branches the scripts make. The three blobs are as the notes say.
+fn check_blobs<R: Wait + Abort>(
     rt: &R,
     alloc: Global,
     reader: &mut Member<'_>,
     notes: &[Note],
 ) -> u64 {
     let mut branches: u64 = 0;
-    for before in 0..3 {
-        let more = check_blob(rt, alloc, reader, notes, before + 1);
+    for blob in 1..4 {
+        let more = check_blob(rt, alloc, reader, notes, blob);
         branches = branches.saturating_add(more);
     }
-    let agree = sizes_agree(rt, &mut reader.session, notes);
-    check(rt, agree, true, "every size");
     branches
 }
 
-// Whether a branch has no update but the one of its note.
-fn ends_there<R: Wait>(rt: &R, reader: &mut Member<'_>, note: &Note) -> bool {
+// A branch has no update but the one of its note.
+fn check_branch<R: Wait + Abort>(rt: &R, reader: &mut Member<'_>, note: &Note) {
     let version = note.done.version;
-    reader.status(rt, note.blob) == Some((version, version, 0))
+    let ended = Some((version, version, 0));
+    check(rt, status(rt, reader, note.blob), ended, "a branch");
 }
 
 // How many notes are of branches, each of which has no other update.
@@ -161,7 +151,7 @@ fn check_branches<R: Wait + Abort>(rt: &R, reader: &mut Member<'_>, notes: &[Not
     let mut count: u64 = 0;
     for note in notes {
         if note.blob > 3 {
-            check(rt, ends_there(rt, reader, note), true, "a branch");
+            check_branch(rt, reader, note);
             count = count.saturating_add(1);
         }
     }
@@ -177,17 +167,10 @@ fn told_to<R: Threads + Wait + Sync + Abort>(
     manner: Manner,
 ) -> Vec<Note> {
     let mut clients = clients;
-    let all_well = work_all(rt, clients.as_mut_slice(), manner);
-    check(rt, all_well, true, "what each client was told");
+    work_all(rt, clients.as_mut_slice(), manner);
     let mut notes = notes_of(rt, alloc, clients);
-    check(
-        rt,
-        mend_blobs(rt, founder),
-        true,
-        "every version is finished",
-    );
-    let all_read = read_again(rt, founder, notes.as_mut_slice(), manner);
-    check(rt, all_read, true, "every version is read as it was told");
+    mend_blobs(rt, founder);
+    read_notes(rt, founder, notes.as_mut_slice(), manner);
     notes
 }
 
@@ -199,13 +182,13 @@ fn check_notes<R: Wait + Abort>(
     notes: &[Note],
     manner: Manner,
 ) {
-    let branches = check_store(rt, alloc, reader, notes);
+    let branches = check_blobs(rt, alloc, reader, notes);
     let expected = match manner {
         Manner::Careful => branches,
         Manner::Careless => 0,
     };
     check(rt, check_branches(rt, reader, notes), expected, "branches");
-    let next = reader.recent(rt, expected.saturating_add(4));
+    let next = recent(rt, reader, expected.saturating_add(4));
     check(rt, next, None, "no blob behind them");
 }
 
@@ -220,7 +203,7 @@ fn new_store<R: Abort>(rt: &R, alloc: Global) -> (Shared, Owner)
 
 fn share_by_all<R: Threads + Wait + Sync + Abort>(rt: &R, alloc: Global, manner: Manner) {
     let (shared, mut owner) = new_store(rt, alloc);
-    let mut founder = Member::new(rt, alloc, &shared, &mut owner);
+    let mut founder = new_member(rt, alloc, &shared, &mut owner);
     make_blobs(rt, &mut founder);
     let clients = clients_of(rt, alloc, &shared, &mut owner);
     let notes = told_to(rt, alloc, &mut founder, clients, manner);

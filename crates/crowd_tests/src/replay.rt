@@ -1,19 +1,11 @@
 //! The history that the notes of all clients tell, played again over flat bytes.
 
+use crate::calls::check;
 use crate::client::Note;
 use crate::script::BASE;
-use blob_model::{Outcome, Place};
-use client_session::Session;
-use page_store::PlainDoor;
-use ports::gate::FreeGate;
+use blob_model::Place;
 use std::alloc::Global;
 use std::process::Abort;
-use std::sync::Wait;
-
-/// What was found is as it must be. In a call of its own an assertion costs its caller no branch.
-pub(crate) fn check<T: PartialEq + Drop, R: Abort>(rt: &R, found: T, expected: T, what: &str) {
-    assert!(rt; found == expected, "{what}");
-}
 
 // The update that made the version, where one client was told of it, and no other.
 fn only_note(notes: &[Note], blob: u64, version: u64) -> Option<&Note> {
@@ -41,24 +33,21 @@ fn start_of(place: Place, size: usize) -> Option<usize> {
 }
 
 // Writes one byte, over another or behind the last.
-fn put(content: &mut Vec<u8>, at: usize, byte: u8) -> Option<()> {
+fn put<R: Abort>(rt: &R, content: &mut Vec<u8>, at: usize, byte: u8) {
     match content.get_mut(at) {
         Some(old) => *old = byte,
-        None => content.push(byte).ok()?,
+        None => content.push(byte).expect(rt, "memory"),
     }
-    Some(())
 }
 
-// The bytes of the blob after the update.
-fn replay(content: &mut Vec<u8>, note: &Note) -> Option<()> {
-    let start = start_of(note.place, content.len())?;
-    if note.done.at != start as u64 {
-        return None;
-    }
+// Makes the update again, which falls where its client was told.
+fn replay<R: Abort>(rt: &R, content: &mut Vec<u8>, note: &Note) {
+    let start = start_of(note.place, content.len());
+    let start = start.expect(rt, "an update that may be made");
+    check(rt, note.done.at, start as u64, "where an update falls");
     for i in 0..note.count {
-        put(content, start.checked_add(i)?, note.byte)?;
+        put(rt, content, start.saturating_add(i), note.byte);
     }
-    Some(())
 }
 
 // Whether the update was answered the size, and its version read as the bytes.
@@ -69,7 +58,7 @@ fn is_told(note: &Note, content: &[u8]) -> bool {
 // Plays the update again that made the version, and checks what it was told.
 fn check_version<R: Abort>(rt: &R, content: &mut Vec<u8>, notes: &[Note], blob: u64, version: u64) {
     let note = only_note(notes, blob, version).expect(rt, "one note of each version");
-    replay(content, note).expect(rt, "an update that may be made where it was told");
+    replay(rt, content, note);
     check(rt, is_told(note, content.as_slice()), true, "a version");
 }
 
@@ -80,30 +69,4 @@ pub(crate) fn check_history<R: Abort>(rt: &R, alloc: Global, notes: &[Note], blo
     for before in 1..last {
         check_version(rt, &mut content, notes, blob, before + 1);
     }
-}
-
-// Whether a version has the size that its note tells.
-fn size_agrees<R: Wait>(
-    rt: &R,
-    session: &mut Session<'_, PlainDoor, FreeGate>,
-    note: &Note,
-) -> bool {
-    match session.size(rt, note.blob, note.done.version) {
-        Outcome::Size(size) => size == note.done.size,
-        _ => false,
-    }
-}
-
-/// Whether each version has the size that its note tells.
-pub(crate) fn sizes_agree<R: Wait>(
-    rt: &R,
-    session: &mut Session<'_, PlainDoor, FreeGate>,
-    notes: &[Note],
-) -> bool {
-    for note in notes {
-        if !size_agrees(rt, session, note) {
-            return false;
-        }
-    }
-    true
 }
