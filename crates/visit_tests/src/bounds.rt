@@ -2,10 +2,8 @@
 ghost use Rattle.std.specs.Prelude.{◌≡◌, ◌<◌, IfOk};
 ghost use Rattle.client_session.specs.Opening.{IsOfStore};
 
+use crate::store::{Member, check};
 use crate::visits::Part;
-use client_session::Session;
-use page_store::PlainDoor;
-use ports::gate::FreeGate;
 use range_reader::stated;
 use request_form::Fault;
 use snapshot::Snapshot;
@@ -15,10 +13,10 @@ use std::sync::Wait;
 use std::sync::ledger::{Blank, Ledger};
 use tree_geom::Steps;
 
-// A version of blob 1.
-fn opened<R: Wait>(
+/// A version of blob 1.
+pub(crate) fn opened<R: Wait>(
     rt: &R,
-    session: &mut Session<'_, PlainDoor, FreeGate>,
+    session: &mut Member<'_>,
     version: u64,
 ) -> Result<Snapshot, Fault>
     ensures of_store { IfOk result (IsOfStore session.new.store) }
@@ -27,12 +25,13 @@ fn opened<R: Wait>(
 }
 
 // The most node steps of a read of the range, and how many it took to tell that.
-fn stated_by<L: Ledger>(
-    session: &Session<'_, PlainDoor, FreeGate>,
+fn stated_by<R: Abort, L: Ledger>(
+    rt: &R,
+    session: &Member<'_>,
     snapshot: &Snapshot,
     part: Part,
     blank: Blank,
-) -> Option<(u64, u64)>
+) -> (u64, u64)
     requires name { blank.name ≡ L.name }
     requires parts { blank.parts ≡ L.parts }
     requires some { 0 < blank.parts }
@@ -40,20 +39,14 @@ fn stated_by<L: Ledger>(
 {
     let mut steps = Steps::<L>::open(blank);
     let nodes = session.nodes();
-    let most = stated(snapshot, nodes, part.offset, part.count, &mut steps).ok()?;
-    Some((most, steps.taken()))
+    let most = stated(snapshot, nodes, part.offset, part.count, &mut steps);
+    (most.ok().expect(rt, "a range"), steps.taken())
 }
 
 /// The most node steps of a read of the range, as it is stated before the read. It takes no more of them to state it.
-pub(crate) fn told<R: Wait + Abort>(
-    rt: &R,
-    session: &mut Session<'_, PlainDoor, FreeGate>,
-    part: Part,
-) -> u64 {
+pub(crate) fn told<R: Wait + Abort>(rt: &R, session: &mut Member<'_>, part: Part) -> u64 {
     let snapshot = opened(rt, session, part.version).expect(rt, "a version");
-    let (most, steps) = stated_by::<Brand>(session, &snapshot, part, Blank::new(1)).expect(
-        rt, "a range",
-    );
-    assert!(rt; steps <= most);
+    let (most, steps) = stated_by::<R, Brand>(rt, session, &snapshot, part, Blank::new(1));
+    check(rt, steps <= most, true, "steps of stating a bound");
     most
 }

@@ -3,12 +3,9 @@
 
 use crate::bounds::told;
 use crate::plain::{Written, plain_bound};
-use crate::store::{create, new_session, store_of, update};
+use crate::store::{Member, check, create, new_session, store_of, update};
 use crate::visits::{Part, counted};
 use blob_model::Place;
-use client_session::Session;
-use page_store::PlainDoor;
-use ports::gate::FreeGate;
 use std::alloc::Global;
 use std::process::Abort;
 use std::sync::Wait;
@@ -36,7 +33,7 @@ impl Dice {
 // Writes one to three bytes somewhere among the first ten of a blob of that size.
 fn write_part<R: Threads + Wait + Sync + Abort>(
     rt: &R,
-    session: &mut Session<'_, PlainDoor, FreeGate>,
+    session: &mut Member<'_>,
     dice: &mut Dice,
     before: u64,
     byte: u8,
@@ -44,10 +41,8 @@ fn write_part<R: Threads + Wait + Sync + Abort>(
     let at = dice.below(10);
     let count = dice.below(3).saturating_add(1);
     let bytes = [byte; 3];
-    let bytes = bytes
-        .get(..count as usize)
-        .expect(rt, "at most three bytes");
-    assert!(rt; update(rt, session, Place::WriteAt(at), bytes));
+    let bytes = bytes.get(..count as usize).unwrap_or_default();
+    update(rt, session, Place::WriteAt(at), bytes);
     let end = at.saturating_add(count);
     Written {
         at,
@@ -56,36 +51,47 @@ fn write_part<R: Threads + Wait + Sync + Abort>(
     }
 }
 
+// Reads a range of the last version that these updates leave.
+fn check_part<R: Wait + Abort>(rt: &R, session: &mut Member<'_>, written: &[Written], part: Part) {
+    let most = told(rt, session, part);
+    check(rt, most, plain_bound(written, part), "what is stated");
+    let (bytes, steps) = counted(rt, session, part);
+    check(rt, steps <= most, true, "no more steps than stated");
+    check(rt, bytes.len() as u64, part.count, "so many bytes");
+}
+
 // Reads each range of the last version that these updates leave, from a byte on.
-fn check_from<R: Threads + Wait + Sync + Abort>(
+fn check_from<R: Wait + Abort>(
     rt: &R,
-    session: &mut Session<'_, PlainDoor, FreeGate>,
+    session: &mut Member<'_>,
     written: &[Written],
     offset: u64,
     size: u64,
 ) {
+    let version = written.len() as u64;
     for count in 0..size.saturating_sub(offset).saturating_add(1) {
         let part = Part {
-            version: written.len() as u64,
+            version,
             offset,
             count,
         };
-        let most = told(rt, session, part);
-        let (bytes, steps) = counted(rt, session, part);
-        assert!(rt; most == plain_bound(written, part) && steps <= most);
-        assert!(rt; bytes.len() as u64 == count);
+        check_part(rt, session, written, part);
     }
 }
 
 // Reads each range of the last version that these updates leave.
-fn check_version<R: Threads + Wait + Sync + Abort>(
-    rt: &R,
-    session: &mut Session<'_, PlainDoor, FreeGate>,
-    written: &[Written],
-    size: u64,
-) {
-    for offset in 0..size {
-        check_from(rt, session, written, offset, size);
+fn check_version<R: Wait + Abort>(rt: &R, session: &mut Member<'_>, written: &[Written]) {
+    let last = written.last().expect(rt, "an update");
+    for offset in 0..last.size {
+        check_from(rt, session, written, offset, last.size);
+    }
+}
+
+// Reads each range of each version.
+fn check_versions<R: Wait + Abort>(rt: &R, session: &mut Member<'_>, written: &[Written]) {
+    for before in 0..written.len() {
+        let first = written.get(..before + 1).unwrap_or_default();
+        check_version(rt, session, first);
     }
 }
 
@@ -93,17 +99,18 @@ fn check_version<R: Threads + Wait + Sync + Abort>(
 fn write_all<R: Threads + Wait + Sync + Abort>(
     rt: &R,
     alloc: Global,
-    session: &mut Session<'_, PlainDoor, FreeGate>,
+    session: &mut Member<'_>,
 ) -> Vec<Written> {
     create(rt, session);
-    assert!(rt; update(rt, session, Place::Append, FIRST));
+    update(rt, session, Place::Append, FIRST);
     let mut dice = Dice { state: 1 };
     let mut last = Written {
         at: 0,
         end: FIRST.len() as u64,
         size: FIRST.len() as u64,
     };
-    let mut written = vec![in alloc; last].expect(rt, "memory");
+    let mut written = Vec::new(alloc);
+    written.push(last).expect(rt, "memory");
     for byte in 0..WRITES {
         last = write_part(rt, session, &mut dice, last.size, byte);
         written.push(last).expect(rt, "memory");
@@ -117,8 +124,5 @@ fn a_page_that_is_changed_in_small_parts_stays_as_cheap_to_read_as_it_is_stated(
     let (shared, mut owner) = store_of(&rt, alloc, 4);
     let mut session = new_session(&rt, alloc, &shared, &mut owner);
     let written = write_all(&rt, alloc, &mut session);
-    for (before, last) in written.iter().enumerate() {
-        let first = written.get(..before + 1).expect(&rt, "so many updates");
-        check_version(&rt, &mut session, first, last.size);
-    }
+    check_versions(&rt, &mut session, written.as_slice());
 }

@@ -1,12 +1,12 @@
 //! How many node steps a read takes: as many as the shape of the tree asks for, and no step more.
 ghost use Rattle.std.specs.Prelude.{◌≡◌, ◌<◌};
+ghost use Rattle.client_session.specs.Opening.{IsOfStore};
 
-use crate::store::{create, new_session, store_of, update};
+use crate::bounds::opened;
+use crate::store::{Member, check, create, new_session, overwrite, store_of, update};
 use blob_model::Place;
-use client_session::Session;
-use page_store::PlainDoor;
-use ports::gate::FreeGate;
 use request_form::Fault;
+use snapshot::Snapshot;
 use std::alloc::Global;
 use std::marker::Brand;
 use std::process::Abort;
@@ -34,76 +34,86 @@ enum Look {
     Finished,
 }
 
-// Reads a range, and says how many bytes came and how many node steps it took.
-fn counted_by<R: Threads + Wait + Sync, L: Ledger>(
+// Reads a range, and says what bytes came and how many node steps it took.
+fn counted_by<R: Wait + Abort, L: Ledger>(
     rt: &R,
-    session: &mut Session<'_, PlainDoor, FreeGate>,
+    session: &mut Member<'_>,
     part: Part,
     blank: Blank,
-) -> Result<(Vec<u8>, u64), Fault>
+) -> (Vec<u8>, u64)
     requires name { blank.name ≡ L.name }
     requires parts { blank.parts ≡ L.parts }
     requires some { 0 < blank.parts }
 {
     let mut steps = Steps::<L>::open(blank);
-    let bytes = session.read(rt, 1, part.version, part.offset, part.count, &mut steps)?;
-    Ok((bytes.into_vec(), steps.taken()))
+    let bytes = session.read(rt, 1, part.version, part.offset, part.count, &mut steps);
+    let bytes = bytes.expect(rt, "a read");
+    (bytes.into_vec(), steps.taken())
 }
 
-/// Reads a range, and says how many bytes came and how many node steps it took.
-pub(crate) fn counted<R: Threads + Wait + Sync + Abort>(
+/// Reads a range, and says what bytes came and how many node steps it took.
+pub(crate) fn counted<R: Wait + Abort>(
     rt: &R,
-    session: &mut Session<'_, PlainDoor, FreeGate>,
+    session: &mut Member<'_>,
     part: Part,
 ) -> (Vec<u8>, u64) {
-    counted_by::<R, Brand>(rt, session, part, Blank::new(1)).expect(rt, "a read")
+    counted_by::<R, Brand>(rt, session, part, Blank::new(1))
 }
 
-fn opened_by<R: Threads + Wait + Sync, L: Ledger>(
+// Reads the first two bytes of what is open, and says what they are and how many node steps it took.
+fn open_by<R: Abort, L: Ledger>(
     rt: &R,
-    session: &mut Session<'_, PlainDoor, FreeGate>,
+    session: &mut Member<'_>,
+    snapshot: &Snapshot,
     blank: Blank,
-) -> Result<(Vec<u8>, u64), Fault>
+) -> (Vec<u8>, u64)
     requires name { blank.name ≡ L.name }
     requires parts { blank.parts ≡ L.parts }
     requires some { 0 < blank.parts }
+    requires of_store { IsOfStore session.old.store snapshot.now }
 {
     let mut steps = Steps::<L>::open(blank);
-    let snapshot = session.open(rt, 1, 1)?;
-    session.write(rt, 1, 0, b"z".as_slice())?;
-    let bytes = session.read_at(&snapshot, 0, 2, &mut steps)?;
-    Ok((bytes.into_vec(), steps.taken()))
+    let bytes = session.read_at(snapshot, 0, 2, &mut steps);
+    let bytes = bytes.expect(rt, "a read");
+    (bytes.into_vec(), steps.taken())
 }
 
-fn opened<R: Threads + Wait + Sync + Abort>(
-    rt: &R,
-    session: &mut Session<'_, PlainDoor, FreeGate>,
-) -> (Vec<u8>, u64) {
-    opened_by::<R, Brand>(rt, session, Blank::new(1)).expect(rt, "a snapshot, an update and a read")
+// Reads the first two bytes of version 1, which is opened before byte 0 is written once more.
+fn open<R: Threads + Wait + Sync + Abort>(rt: &R, session: &mut Member<'_>) -> (Vec<u8>, u64) {
+    let snapshot = opened(rt, session, 1).expect(rt, "a snapshot");
+    overwrite(rt, session);
+    open_by::<R, Brand>(rt, session, &snapshot, Blank::new(1))
 }
 
-// Starts an update of byte 1 and finishes it, and answers its version. Where the finish finds no memory it is done again.
-fn finished<R: Threads + Wait + Sync>(
+// Finishes an update. Where the finish finds no memory it is done again.
+fn finish<R: Threads + Wait + Sync>(
     rt: &R,
-    session: &mut Session<'_, PlainDoor, FreeGate>,
+    session: &mut Member<'_>,
+    ticket: u64,
 ) -> Result<u64, Fault> {
-    let started = session.start(rt, 1, Place::WriteAt(1), b"a".as_slice())?;
-    match session.finish(rt, started.ticket) {
-        Err(Fault::NoMemory) => session.finish(rt, started.ticket),
+    match session.finish(rt, ticket) {
+        Err(Fault::NoMemory) => session.finish(rt, ticket),
         finished => finished,
     }
 }
 
+// Starts an update of byte 1 and finishes it, and answers its version.
+fn finished<R: Threads + Wait + Sync + Abort>(rt: &R, session: &mut Member<'_>) -> u64 {
+    let started = session.start(rt, 1, Place::WriteAt(1), b"a".as_slice());
+    let started = started.expect(rt, "a ticket");
+    finish(rt, session, started.ticket).expect(rt, "a finished update")
+}
+
 fn looked<R: Threads + Wait + Sync + Abort>(
     rt: &R,
-    session: &mut Session<'_, PlainDoor, FreeGate>,
+    session: &mut Member<'_>,
     what: Look,
 ) -> (Vec<u8>, u64) {
     let part = match what {
-        Look::Open => return opened(rt, session),
+        Look::Open => return open(rt, session),
         Look::At(part) => part,
         Look::Finished => Part {
-            version: finished(rt, session).expect(rt, "a finished update"),
+            version: finished(rt, session),
             offset: 0,
             count: 2,
         },
@@ -111,71 +121,25 @@ fn looked<R: Threads + Wait + Sync + Abort>(
     counted(rt, session, part)
 }
 
-// Makes blob 1 and updates it.
-fn update_all<R: Threads + Wait + Sync + Abort>(
-    rt: &R,
-    session: &mut Session<'_, PlainDoor, FreeGate>,
-    updates: &[(Place, &[u8])],
-) {
-    create(rt, session);
-    for (place, bytes) in updates {
-        assert!(rt; update(rt, session, *place, bytes));
-    }
-}
-
-// What is read in a new store of pages of that size, and the node steps of reading it.
-fn seen_after<R: Threads + Wait + Sync + Abort>(
-    rt: &R,
-    alloc: Global,
-    page_size: u64,
-    updates: &[(Place, &[u8])],
-    what: Look,
-) -> (Vec<u8>, u64) {
-    let (shared, mut owner) = store_of(rt, alloc, page_size);
-    let mut session = new_session(rt, alloc, &shared, &mut owner);
-    update_all(rt, &mut session, updates);
-    looked(rt, &mut session, what)
-}
-
-// The first updates of these of blob 1, so many, what is read then, its bytes, and the node steps of reading it.
+// The updates of blob 1, after which its first byte is written so many times; what is read then, its bytes, and the node steps of reading it.
 #[derive(Clone, Copy)]
 struct Row<'a> {
     updates: &'a [(Place, &'a [u8])],
-    count: usize,
+    parts: u32,
     look: Look,
     bytes: &'a [u8],
     steps: u64,
 }
 
-const FIRST: Place = Place::WriteAt(0);
-
-// Two bytes, of which the first is written sixteen times.
-const PARTS: &[(Place, &[u8])] = &[
-    (Place::Append, b"\x00\x00"),
-    (FIRST, b"\xff"),
-    (FIRST, b"\xff"),
-    (FIRST, b"\xff"),
-    (FIRST, b"\xff"),
-    (FIRST, b"\xff"),
-    (FIRST, b"\xff"),
-    (FIRST, b"\xff"),
-    (FIRST, b"\xff"),
-    (FIRST, b"\xff"),
-    (FIRST, b"\xff"),
-    (FIRST, b"\xff"),
-    (FIRST, b"\xff"),
-    (FIRST, b"\xff"),
-    (FIRST, b"\xff"),
-    (FIRST, b"\xff"),
-    (FIRST, b"\xff"),
-];
+// Two bytes.
+const TWO: &[(Place, &[u8])] = &[(Place::Append, b"\x00\x00")];
 
 // Pages of four bytes.
 const VISITS: [Row; 8] = [
     // The root, a leaf, and the older leaf of the same page.
     Row {
         updates: &[(Place::Append, b"abcdef"), (Place::Append, b"XY")],
-        count: 2,
+        parts: 0,
         look: Look::At(Part {
             version: 2,
             offset: 4,
@@ -189,7 +153,7 @@ const VISITS: [Row; 8] = [
             (Place::Append, b"a"),
             (Place::Append, b"bcdefghijklmnopqrstuvwxyz012345"),
         ],
-        count: 2,
+        parts: 0,
         look: Look::At(Part {
             version: 2,
             offset: 0,
@@ -204,7 +168,7 @@ const VISITS: [Row; 8] = [
             (Place::Append, b"efgh"),
             (Place::Append, b"i"),
         ],
-        count: 3,
+        parts: 0,
         look: Look::At(Part {
             version: 3,
             offset: 0,
@@ -215,8 +179,8 @@ const VISITS: [Row; 8] = [
     },
     // Sixteen versions that write the first byte: the leaves of one page, one behind another.
     Row {
-        updates: PARTS,
-        count: 17,
+        updates: TWO,
+        parts: 16,
         look: Look::At(Part {
             version: 16,
             offset: 0,
@@ -227,8 +191,8 @@ const VISITS: [Row; 8] = [
     },
     // The next one stores the page anew.
     Row {
-        updates: PARTS,
-        count: 17,
+        updates: TWO,
+        parts: 16,
         look: Look::At(Part {
             version: 17,
             offset: 0,
@@ -239,7 +203,7 @@ const VISITS: [Row; 8] = [
     },
     Row {
         updates: &[(Place::Append, b"abcdef"), (Place::WriteAt(3), b"XY")],
-        count: 2,
+        parts: 0,
         look: Look::At(Part {
             version: 2,
             offset: 0,
@@ -255,7 +219,7 @@ const VISITS: [Row; 8] = [
             (Place::WriteAt(0), b"\xff"),
             (Place::WriteAt(1), b"\xfe"),
         ],
-        count: 3,
+        parts: 0,
         look: Look::At(Part {
             version: 3,
             offset: 0,
@@ -267,7 +231,7 @@ const VISITS: [Row; 8] = [
     // No byte needs no node.
     Row {
         updates: &[(Place::Append, b"abcdef")],
-        count: 1,
+        parts: 0,
         look: Look::At(Part {
             version: 1,
             offset: 6,
@@ -278,12 +242,40 @@ const VISITS: [Row; 8] = [
     },
 ];
 
+// Writes the first byte so many times.
+fn write_first<R: Threads + Wait + Sync + Abort>(rt: &R, session: &mut Member<'_>, times: u32) {
+    for _ in 0..times {
+        update(rt, session, Place::WriteAt(0), b"\xff");
+    }
+}
+
+// Makes blob 1 and updates it.
+fn update_all<R: Threads + Wait + Sync + Abort>(rt: &R, session: &mut Member<'_>, row: &Row) {
+    create(rt, session);
+    for (place, bytes) in row.updates {
+        update(rt, session, *place, bytes);
+    }
+    write_first(rt, session, row.parts);
+}
+
+// What is read in a new store of pages of that size, and the node steps of reading it.
+fn seen_after<R: Threads + Wait + Sync + Abort>(
+    rt: &R,
+    alloc: Global,
+    page_size: u64,
+    row: &Row,
+) -> (Vec<u8>, u64) {
+    let (shared, mut owner) = store_of(rt, alloc, page_size);
+    let mut session = new_session(rt, alloc, &shared, &mut owner);
+    update_all(rt, &mut session, row);
+    looked(rt, &mut session, row.look)
+}
+
 // A reader sees what a row says, in as many node steps.
 fn check_row<R: Threads + Wait + Sync + Abort>(rt: &R, alloc: Global, page_size: u64, row: &Row) {
-    let updates = row.updates.get(..row.count).expect(rt, "so many updates");
-    let (bytes, steps) = seen_after(rt, alloc, page_size, updates, row.look);
-    assert!(rt; bytes.as_slice() == row.bytes, "{} bytes", bytes.len());
-    assert_eq!(rt; steps, row.steps);
+    let (bytes, steps) = seen_after(rt, alloc, page_size, row);
+    check(rt, bytes.as_slice() == row.bytes, true, "the bytes");
+    check(rt, steps, row.steps, "as many node steps");
 }
 
 #[test]
@@ -293,7 +285,7 @@ fn a_read_takes_as_many_node_steps_as_it_needs(rt: HostRuntime) {
     }
 }
 
-// Version 16 is the last one.
+// Version 16 is the last one: the first of two bytes was written fifteen times.
 fn check_sixteen<R: Threads + Wait + Sync + Abort>(
     rt: &R,
     alloc: Global,
@@ -301,8 +293,8 @@ fn check_sixteen<R: Threads + Wait + Sync + Abort>(
     bytes: &[u8],
 ) {
     let row = Row {
-        updates: PARTS,
-        count: 16,
+        updates: TWO,
+        parts: 15,
         look,
         bytes,
         steps: 1,
@@ -335,7 +327,7 @@ fn a_mebibyte_is_read_whole_in_511_node_steps(rt: HostRuntime) {
     let bytes = long_bytes(&rt, rt.alloc(), 1_048_576);
     let whole = Row {
         updates: &[(Place::Append, bytes.as_slice())],
-        count: 1,
+        parts: 0,
         look: Look::At(Part {
             version: 1,
             offset: 0,
