@@ -11,7 +11,21 @@ use std::thread;
 use std::thread::Threads;
 use tree_geom::PageSize;
 
-// A door that raises its own flag in a put, and waits for the other's, for at most 1,000,000 turns.
+// How often a door looks whether the other's flag is up.
+const LOOKS: u32 = 100_000_000;
+
+// Waits for the flag, and tells whether it came up.
+fn comes_up(flag: &AtomicBool) -> bool {
+    for _ in 0..LOOKS {
+        if flag.load(Ordering::SeqCst) {
+            return true;
+        }
+        thread::yield_now();
+    }
+    false
+}
+
+// A door that raises its own flag in a put, and fails where the other's doesn't come up.
 #[derive(Drop)]
 struct MeetingDoor<'a> {
     own: &'a AtomicBool,
@@ -30,17 +44,14 @@ impl<'a> Door for MeetingDoor<'a> {
 
     fn put<R: Wait>(&mut self, rt: &R, house: &PageHouse, bytes: &[u8]) -> PutAnswer {
         self.own.store(true, Ordering::SeqCst);
-        for _ in 0..100_000_000 {
-            if self.other.load(Ordering::SeqCst) {
-                return match house.put(rt, bytes) {
-                    Ok(page) => PutAnswer::Stored(page),
-                    Err(NoMemory) => PutAnswer::NoMemory,
-                };
-            }
-            thread::yield_now();
+        if !comes_up(self.other) {
+            self.faults = self.faults.saturating_add(1);
+            return PutAnswer::Failed;
         }
-        self.faults = self.faults.saturating_add(1);
-        PutAnswer::Failed
+        match house.put(rt, bytes) {
+            Ok(page) => PutAnswer::Stored(page),
+            Err(NoMemory) => PutAnswer::NoMemory,
+        }
     }
 
     fn get(&mut self, house: &PageHouse, page: &PageRef, from: u32, out: &mut [u8]) -> GetAnswer {

@@ -24,6 +24,15 @@ fn put_page(rt: &(impl Wait + Abort), house: &PageHouse, writer: u8, i: u64) -> 
     house.put(rt, &page_of(writer, i)).expect(rt, "memory")
 }
 
+// Adds a page to those of a writer.
+fn add_page<R: Abort>(rt: &R, house: &PageHouse, pages: &mut Vec<PageRef>, page: PageRef)
+    requires all { All (λ page. IsIn house.now page.spot) pages.old.items }
+    requires this { IsIn house.now page.spot }
+    ensures { All (λ page. IsIn house.now page.spot) pages.new.items }
+{
+    pages.push(page).expect(rt, "memory");
+}
+
 // Puts a thousand pages of a writer.
 fn put_thousand(
     rt: &(impl Wait + Abort),
@@ -36,7 +45,7 @@ fn put_thousand(
     let mut pages = Vec::new(alloc);
     for i in 0..1000u64 {
         let page = put_page(rt, house, writer, i);
-        pages.push(page).expect(rt, "memory");
+        add_page(rt, house, &mut pages, page);
     }
     pages
 }

@@ -32,11 +32,11 @@ fn place_thousand(rt: &(impl Wait + Abort), alloc: Global, loads: &SharedLoads) 
 }
 
 fn sum_of(one: Given, other: Given) -> Given {
-    let mut given = [0; 3];
-    for i in 0..3 {
-        given[i] = one[i].saturating_add(other[i]);
-    }
-    given
+    [
+        one[0].saturating_add(other[0]),
+        one[1].saturating_add(other[1]),
+        one[2].saturating_add(other[2]),
+    ]
 }
 
 // Two threads place 1,000 pages each.

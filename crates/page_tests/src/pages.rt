@@ -114,7 +114,7 @@ fn check_lost<R: Abort + AllocGlobal + Threads + Wait + Sync>(
 {
     let mut doors = three_doors(rt, &mut maker_of(rt, failing));
     let stored = store_six(rt, &mut doors, houses);
-    assert!(rt; is_lost(&stored, page), "page {page}");
+    assert!(rt; is_lost(&stored, page), "another page");
 }
 
 #[test]
@@ -161,13 +161,13 @@ pub(crate) fn fetched<R: Abort, D: Door>(
     }
 }
 
-// The calls that fail, the providers of both pages of six bytes, which of the pages are read back, and the faults that the
-// doors count.
-#[derive(Clone, Copy)]
+// The calls that fail, the providers of both pages of six bytes, what is read back of each page, and the faults that the doors
+// count.
 struct Stored {
     failing: Failing,
     providers: [&'static [u32]; 2],
-    read: [bool; 2],
+    first: Option<&'static [u8]>,
+    second: Option<&'static [u8]>,
     faults: u64,
 }
 
@@ -176,61 +176,79 @@ static STORED: [Stored; 9] = [
     Stored {
         failing: [&[], &[], &[]],
         providers: [&[1, 2], &[3, 1]],
-        read: [true, true],
+        first: Some(b"abcd"),
+        second: Some(b"ef"),
         faults: 0,
     },
     Stored {
         failing: [&[1], &[], &[]],
         providers: [&[2], &[3, 1]],
-        read: [true, true],
+        first: Some(b"abcd"),
+        second: Some(b"ef"),
         faults: 1,
     },
     Stored {
         failing: [&[2], &[], &[]],
         providers: [&[1, 2], &[3]],
-        read: [true, true],
+        first: Some(b"abcd"),
+        second: Some(b"ef"),
         faults: 1,
     },
     Stored {
         failing: [&[], &[1], &[1]],
         providers: [&[1], &[1]],
-        read: [true, true],
+        first: Some(b"abcd"),
+        second: Some(b"ef"),
         faults: 2,
     },
     Stored {
         failing: [&[1], &[], &[1]],
         providers: [&[2], &[1]],
-        read: [true, true],
+        first: Some(b"abcd"),
+        second: Some(b"ef"),
         faults: 2,
     },
     Stored {
         failing: [&[3], &[], &[]],
         providers: [&[1, 2], &[3, 1]],
-        read: [true, true],
+        first: Some(b"abcd"),
+        second: Some(b"ef"),
         faults: 1,
     },
     Stored {
         failing: [&[3], &[2], &[]],
         providers: [&[1, 2], &[3, 1]],
-        read: [false, true],
+        first: None,
+        second: Some(b"ef"),
         faults: 2,
     },
     Stored {
         failing: [&[3, 4], &[2], &[2]],
         providers: [&[1, 2], &[3, 1]],
-        read: [false, false],
+        first: None,
+        second: None,
         faults: 4,
     },
     Stored {
         failing: [&[], &[], &[2]],
         providers: [&[1, 2], &[3, 1]],
-        read: [true, true],
+        first: Some(b"abcd"),
+        second: Some(b"ef"),
         faults: 1,
     },
 ];
 
-// Whether the page is at its providers, and is read back where it is to be.
-fn is_stored<R: Abort + AllocGlobal, D: Door>(
+// Whether these bytes were read, or none.
+fn is_read(read: &Option<Vec<u8>>, want: Option<&[u8]>) -> bool {
+    match (read, want) {
+        (Some(bytes), Some(want)) => bytes.as_slice() == want,
+        (None, None) => true,
+        _ => false,
+    }
+}
+
+// Checks that the page is at its providers, and is read back where it is to be.
+fn check_page<R: Abort + AllocGlobal, D: Door>(
     rt: &R,
     doors: &mut Doors<D>,
     houses: &Houses,
@@ -238,37 +256,15 @@ fn is_stored<R: Abort + AllocGlobal, D: Door>(
     i: u32,
     providers: &[u32],
     want: Option<&[u8]>,
-) -> bool
+)
     requires doors { length doors.old ≡ length houses.now }
     requires here { LieAmong houses.now pages.now.pages }
     requires page { i < length pages.now.pages }
     ensures { length doors.new ≡ length doors.old }
 {
-    let is_read = match (fetched(rt, rt.alloc(), doors, houses, pages, i), want) {
-        (Some(bytes), Some(want)) => bytes.as_slice() == want,
-        (None, None) => true,
-        _ => false,
-    };
-    is_read && is_at(pages.page(i), providers)
-}
-
-// Whether both pages are.
-fn are_stored<R: Abort + AllocGlobal, D: Door>(
-    rt: &R,
-    doors: &mut Doors<D>,
-    houses: &Houses,
-    pages: &Pages,
-    row: &Stored,
-) -> bool
-    requires doors { length doors.old ≡ length houses.now }
-    requires here { LieAmong houses.now pages.now.pages }
-{
-    let first: Option<&[u8]> = if row.read[0] { Some(b"abcd") } else { None };
-    let second: Option<&[u8]> = if row.read[1] { Some(b"ef") } else { None };
-    pages.count() == 2
-        && pages.len() == 6
-        && is_stored(rt, doors, houses, pages, 0, row.providers[0], first)
-        && is_stored(rt, doors, houses, pages, 1, row.providers[1], second)
+    let read = fetched(rt, rt.alloc(), doors, houses, pages, i);
+    assert!(rt; is_read(&read, want), "other bytes");
+    assert!(rt; is_at(pages.page(i), providers), "other providers");
 }
 
 // Stores six bytes by these doors, and checks where they are.
@@ -281,11 +277,10 @@ fn check_doors<R: Abort + AllocGlobal + Threads + Wait + Sync, D: BesideDoor>(
 {
     let houses = three_houses(rt);
     let pages = store_six(rt, doors, &houses).expect(rt, "stored");
-    assert!(rt;
-        are_stored(rt, doors, &houses, &pages, row),
-        "{} faults",
-        row.faults
-    );
+    assert!(rt; pages.count() == 2, "other pages");
+    assert!(rt; pages.len() == 6, "another length");
+    check_page(rt, doors, &houses, &pages, 0, row.providers[0], row.first);
+    check_page(rt, doors, &houses, &pages, 1, row.providers[1], row.second);
 }
 
 fn check_stored<R: Abort + AllocGlobal + Threads + Wait + Sync>(rt: &R, row: &Stored) {
@@ -293,7 +288,7 @@ fn check_stored<R: Abort + AllocGlobal + Threads + Wait + Sync>(rt: &R, row: &St
     let mut doors = three_doors(rt, &mut maker);
     check_doors(rt, &mut doors, row);
     doors.back(&mut maker);
-    assert!(rt; maker.faults() == row.faults, "{} faults", row.faults);
+    assert!(rt; maker.faults() == row.faults, "other faults");
 }
 
 #[test]
@@ -363,10 +358,10 @@ fn check_puts<D: Door, R: Abort + Wait>(
     rt: &R,
     door: &mut D,
     house: &PageHouse,
-    want: [Option<u64>; 3],
+    want: &[Option<u64>],
 ) {
     for added in want {
-        assert!(rt; place_put(rt, door, house) == added);
+        assert!(rt; place_put(rt, door, house) == *added);
     }
 }
 
@@ -377,10 +372,10 @@ fn a_put_adds_one_page_and_a_failed_put_none(rt: HostRuntime) {
         &rt,
         &mut PlainDoor::new(),
         &house,
-        [Some(0), Some(1), Some(2)],
+        &[Some(0), Some(1), Some(2)],
     );
     let mut flaky = FlakyDoor::new(vec![in rt.alloc(); 2].expect(&rt, "memory"));
-    check_puts(&rt, &mut flaky, &house, [Some(3), None, Some(4)]);
+    check_puts(&rt, &mut flaky, &house, &[Some(3), None, Some(4)]);
 }
 
 #[test]

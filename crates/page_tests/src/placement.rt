@@ -1,5 +1,4 @@
 //! Tests of the choice of providers and of the book of loads.
-ghost use Rattle.std.specs.Prelude.{◌≤◌, length};
 ghost use Rattle.provider_manager.specs.Loads.{IsEven};
 
 use provider_manager::{LoadBook, PlaceFault, Placements, SharedLoads};
@@ -7,35 +6,36 @@ use replica_place::choose;
 use std::process::Abort;
 use std::sync::Wait;
 
-fn check_chosen<R: Abort>(rt: &R, loads: &[u64], replicas: u32, want: &[u32])
-    requires some { 1 ≤ replicas }
-    requires room { replicas ≤ 8 }
-    requires enough { replicas ≤ length loads.now }
-    requires limit { length loads.now ≤ 64 }
-{
+// The providers' loads, how many replicas a page gets, and the providers that are chosen.
+type Chosen = (&'static [u64], u32, &'static [u32]);
+
+static CHOSEN: [Chosen; 5] = [
+    (&[2, 1, 1], 2, &[2, 3]),
+    (&[0, 0, 0], 2, &[1, 2]),
+    (&[1, 1, 0], 2, &[3, 1]),
+    (&[7], 1, &[1]),
+    (&[9, 8, 7, 6, 5, 4, 3, 2, 1], 8, &[9, 8, 7, 6, 5, 4, 3, 2]),
+];
+
+fn check_chosen<R: Abort>(rt: &R, loads: &[u64], replicas: u32, want: &[u32]) {
+    assert!(rt; replicas >= 1 && replicas <= 8);
+    assert!(rt; replicas as usize <= loads.len() && loads.len() <= 64);
     assert!(rt; choose(loads, replicas).chosen() == want);
 }
 
 #[test]
 fn chooses_by_load_and_then_by_number(rt: HostRuntime) {
-    check_chosen(&rt, &[2, 1, 1], 2, &[2, 3]);
-    check_chosen(&rt, &[0, 0, 0], 2, &[1, 2]);
-    check_chosen(&rt, &[1, 1, 0], 2, &[3, 1]);
-    check_chosen(&rt, &[7], 1, &[1]);
-    check_chosen(
-        &rt,
-        &[9, 8, 7, 6, 5, 4, 3, 2, 1],
-        8,
-        &[9, 8, 7, 6, 5, 4, 3, 2],
-    );
+    for (loads, replicas, want) in CHOSEN.as_slice() {
+        check_chosen(&rt, loads, *replicas, want);
+    }
 }
 
 // Checks that the book is too full for so many pages.
 fn check_spent<R: Abort + AllocGlobal>(rt: &R, book: &mut LoadBook, pages: u32)
     ensures { IsEven book.old.loads → IsEven book.new.loads }
 {
-    let refused = book.place(rt.alloc(), pages).err();
-    assert!(rt; refused == Some(PlaceFault::PlacesSpent));
+    let refused = book.place(rt.alloc(), pages);
+    assert!(rt; matches!(&refused, Err(PlaceFault::PlacesSpent)));
 }
 
 #[test]
@@ -56,10 +56,7 @@ fn placed<R: Abort + AllocGlobal>(rt: &R, book: &mut LoadBook, pages: u32) -> Pl
 fn check_placed<R: Abort>(rt: &R, placed: &Placements, want: &[&[u32]]) {
     assert!(rt; placed.count() as usize == want.len());
     for page in 0..placed.count() {
-        assert!(rt;
-            placed.of(page).chosen() == want[page as usize],
-            "page {page}"
-        );
+        assert!(rt; placed.of(page).chosen() == want[page as usize]);
     }
 }
 

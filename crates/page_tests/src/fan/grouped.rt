@@ -6,7 +6,7 @@ ghost use Rattle.page_store.specs.Stored.{LieAmong};
 use crate::fan::cases::{Case, Outcome};
 use crate::pages::fetched;
 use page_fan::{Doors, StoreFault, store};
-use page_store::{DoorMaker, FlakyDoor, FlakyMaker, Houses, NoMemory, Pages, PlainMaker};
+use page_store::{DoorMaker, FlakyDoor, FlakyMaker, Houses, Pages, PlainMaker};
 use std::alloc::Global;
 use std::process::Abort;
 use std::sync::Wait;
@@ -14,20 +14,10 @@ use std::thread::Threads;
 use tree_geom::PageSize;
 
 // The doors of any maker, to four providers.
-fn four_doors<M: DoorMaker>(alloc: Global, maker: &mut M) -> Result<Doors<M::Door>, NoMemory>
-    ensures { IfOk result (λ doors. length doors ≡ 4) }
+fn four_doors<R: Abort, M: DoorMaker>(rt: &R, alloc: Global, maker: &mut M) -> Doors<M::Door>
+    ensures { length result ≡ 4 }
 {
-    Doors::new(alloc, maker, 4)
-}
-
-// Makes the doors of the case.
-fn maker_of<R: Abort>(rt: &R, alloc: Global, case: &Case) -> FlakyMaker {
-    let mut lists = Vec::new(alloc);
-    for (first, second) in case.calls {
-        let calls = vec![in alloc; first, second].expect(rt, "memory");
-        lists.push(calls).expect(rt, "memory");
-    }
-    FlakyMaker::new(alloc, lists)
+    Doors::new(alloc, maker, 4).expect(rt, "memory")
 }
 
 // Adds the bytes of page `i`, by doors of its own.
@@ -43,7 +33,7 @@ fn add_page<R: Abort>(
     requires here { LieAmong houses.now pages.now.pages }
     requires page { i < length pages.now.pages }
 {
-    let mut doors = four_doors(alloc, &mut PlainMaker::new()).expect(rt, "memory");
+    let mut doors = four_doors(rt, alloc, &mut PlainMaker::new());
     let page = fetched(rt, alloc, &mut doors, houses, pages, i).expect(rt, "a page");
     bytes
         .extend_from_slice(page.as_slice())
@@ -82,6 +72,15 @@ fn taken_of<R: Abort>(rt: &R, alloc: Global, pages: &Pages) -> Vec<u32> {
     taken
 }
 
+// The pages hold these bytes.
+fn check_bytes<R: Abort>(rt: &R, alloc: Global, houses: &Houses, pages: &Pages, bytes: &[u8])
+    requires houses { length houses.now ≡ 4 }
+    requires here { LieAmong houses.now pages.now.pages }
+{
+    let found = read_back(rt, alloc, houses, pages);
+    assert!(rt; found.as_slice() == bytes, "other bytes");
+}
+
 // Who took the pages, where they hold these bytes, or which page was lost.
 fn judged<R: Abort>(
     rt: &R,
@@ -95,8 +94,7 @@ fn judged<R: Abort>(
 {
     match stored {
         Ok(pages) => {
-            let found = read_back(rt, alloc, houses, &pages);
-            assert!(rt; found.as_slice() == bytes, "other bytes");
+            check_bytes(rt, alloc, houses, &pages, bytes);
             Ok(taken_of(rt, alloc, &pages))
         }
         Err(StoreFault::PageFault { page, before }) => {
@@ -116,14 +114,14 @@ fn faults_at(doors: &mut Doors<FlakyDoor>, provider: u32) -> u64
 }
 
 // How many calls of each of four doors failed.
-fn faults_of<R: Abort>(rt: &R, alloc: Global, doors: &mut Doors<FlakyDoor>) -> Vec<u64>
+fn faults_of(doors: &mut Doors<FlakyDoor>) -> [u64; 4]
     requires { length doors.old ≡ 4 }
 {
     let first = faults_at(doors, 1);
     let second = faults_at(doors, 2);
     let third = faults_at(doors, 3);
     let fourth = faults_at(doors, 4);
-    vec![in alloc; first, second, third, fourth].expect(rt, "memory")
+    [first, second, third, fourth]
 }
 
 // Stores the case's update: who took its pages, or which page was lost.
@@ -155,10 +153,10 @@ pub(crate) fn put_grouped<R: Abort + Threads + Wait + Sync>(
     bytes: &[u8],
 ) -> Outcome {
     let houses = Houses::new(alloc, 4).expect(rt, "memory");
-    let mut maker = maker_of(rt, alloc, case);
-    let mut doors = four_doors(alloc, &mut maker).expect(rt, "memory");
+    let mut maker = FlakyMaker::new(alloc, case.lists(rt, alloc));
+    let mut doors = four_doors(rt, alloc, &mut maker);
     let taken = put_by(rt, alloc, &mut doors, &houses, case, bytes);
-    let faults = faults_of(rt, alloc, &mut doors);
+    let faults = faults_of(&mut doors);
     doors.back(&mut maker);
     Outcome { taken, faults }
 }

@@ -2,7 +2,7 @@
 ghost use Rattle.std.specs.Prelude.{◌≡◌, length};
 
 use crate::fan::cases::{Case, Outcome};
-use page_store::{Door, FlakyDoor, Houses, MAX_PAGE, PutAnswer};
+use page_store::{Door, DoorMaker, FlakyDoor, FlakyMaker, Houses, MAX_PAGE, PutAnswer};
 use provider_manager::Placements;
 use replica_place::Placement;
 use std::alloc::Global;
@@ -11,10 +11,11 @@ use std::sync::Wait;
 
 // The doors of the case, that of provider 1 first.
 fn doors_of<R: Abort>(rt: &R, alloc: Global, case: &Case) -> Vec<FlakyDoor> {
-    let mut doors = Vec::new(alloc);
-    for (first, second) in case.calls {
-        let calls = vec![in alloc; first, second].expect(rt, "memory");
-        doors.push(FlakyDoor::new(calls)).expect(rt, "memory");
+    let mut maker = FlakyMaker::new(alloc, case.lists(rt, alloc));
+    let mut doors = Vec::with_capacity(alloc, 4).expect(rt, "memory");
+    for provider in 1..5u32 {
+        let door = maker.make(provider).expect(rt, "memory");
+        doors.push(door).expect(rt, "memory");
     }
     doors
 }
@@ -65,17 +66,19 @@ fn put_pages<R: Abort + Wait>(
     rt: &R,
     alloc: Global,
     doors: &mut Vec<FlakyDoor>,
+    houses: &Houses,
     page_size: usize,
     bytes: &[u8],
     placements: &Placements,
-) -> Result<Vec<u32>, u64> {
-    let houses = Houses::new(alloc, 4).expect(rt, "memory");
+) -> Result<Vec<u32>, u64>
+    requires { length houses.now ≡ 4 }
+{
     let mut taken = Vec::new(alloc);
     let mut lost = None;
     let mut rest = bytes;
     for i in 0..placements.count() {
         let (page, behind) = rest.split_at(page_size.min(rest.len()));
-        let is_taken = put_page(rt, doors, &houses, placements.of(i), page, &mut taken);
+        let is_taken = put_page(rt, doors, houses, placements.of(i), page, &mut taken);
         if !is_taken && lost.is_none() {
             lost = Some(u64::from(i));
         }
@@ -88,10 +91,12 @@ fn put_pages<R: Abort + Wait>(
 }
 
 // How many calls of each door failed.
-fn faults_of<R: Abort>(rt: &R, alloc: Global, doors: &[FlakyDoor]) -> Vec<u64> {
-    let mut faults = Vec::new(alloc);
-    for door in doors {
-        faults.push(door.faults()).expect(rt, "memory");
+fn faults_of(doors: &[FlakyDoor]) -> [u64; 4] {
+    let mut faults = [0; 4];
+    for i in 0..4usize {
+        if let Some(door) = doors.get(i) {
+            faults[i] = door.faults();
+        }
     }
     faults
 }
@@ -103,10 +108,19 @@ pub(crate) fn put_plainly<R: Abort + Wait>(
     case: &Case,
     bytes: &[u8],
 ) -> Outcome {
+    let houses = Houses::new(alloc, 4).expect(rt, "memory");
     let placements = case.placed(rt, alloc);
     let mut doors = doors_of(rt, alloc, case);
     let page_size = case.page_size as usize;
-    let taken = put_pages(rt, alloc, &mut doors, page_size, bytes, &placements);
-    let faults = faults_of(rt, alloc, doors.as_slice());
+    let taken = put_pages(
+        rt,
+        alloc,
+        &mut doors,
+        &houses,
+        page_size,
+        bytes,
+        &placements,
+    );
+    let faults = faults_of(doors.as_slice());
     Outcome { taken, faults }
 }
