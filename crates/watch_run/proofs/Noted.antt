@@ -46,7 +46,7 @@ use Rattle.watch_run.specs.Noting.{PieceRead, IsUnpublished, ReadIsNoted, IsPiec
 use Rattle.watch_run.specs.Readers.{WatcherState, HasMet, HasWatched, HaveWatched}
 use Rattle.watch_run.specs.Stages.{Entries, Owner}
 use Rattle.watch_run.proofs.Compared.{prefix_both}
-use Rattle.watch_run.proofs.Refusals.{TurnRefused, turn_refused}
+use Rattle.watch_run.proofs.Refusals.{TurnRefused, turn_refused, asked_for}
 use Rattle.watch_run.proofs.Stops.{itself, some_more}
 
 -- ---- lists of reads
@@ -121,14 +121,18 @@ module _ {D : Type 0} (old new : StandingState D) (on : Continues old.session ne
       → Goes by old.session 1 (op + 1) (16 * op) 16 (Err fault) new.session before after → IsUnpublished old new op
   not_given fault version last not (Some refresh) is before after board =
       absurd (not_by_board old.session.store.fixed.page_size (updates_of refresh) (op + 1) (16 * op) 16 fault version last not board.reads.cause)
-  not_given fault version last not None is before after turn = record {
-    version = version;
-    last = last;
-    told = subst (λ (t : StoreState). Replies.Refused (Faults.NotPublished version last) ≡ reply_of (read_outcome (store_of t.fixed.limits (events new.session.log)) (range_of op))) (sym on.store)
-        (turn_refused_so (session_of old.session) (session_of new.session) (range_of op) version last
-        (subst (λ (x : Fault). Answers AllOther (session_of old.session) (Requests.Read 1 (op + 1) (16 * op) 16) (Replies.Refused x) (session_of new.session)) not turn.answers));
-    one_turn = turn.one_turn (omega arith);
-  }
+  not_given fault version last not None is before after turn =
+      let answers = subst (λ (x : Fault). Answers AllOther (session_of old.session) (Requests.Read 1 (op + 1) (16 * op) 16) (Replies.Refused x) (session_of new.session)) not turn.answers in
+      let told =
+      subst (λ (t : StoreState). Replies.Refused (Faults.NotPublished version last) ≡ reply_of (read_outcome (store_of t.fixed.limits (events new.session.log)) (range_of op))) (sym on.store)
+      (turn_refused_so (session_of old.session) (session_of new.session) (range_of op) version last answers)
+      in
+      let store = store_of new.session.store.fixed.limits (events new.session.log) in
+      record {
+        last = last;
+        told = subst (λ (v : ℕ). Replies.Refused (Faults.NotPublished v last) ≡ reply_of (read_outcome store (range_of op))) (asked_for store (range_of op) version last told) told;
+        one_turn = turn.one_turn (omega arith);
+      }
 
 -- so it is noted
 pub bytes_noted : {D : Type 0} (old new : StandingState D) (op : ℕ) (bytes slice before after : List ℕ) → slice ≡ bytes → PieceRead old new op bytes → after ≡ before ++ noted (op + 1) (Some slice)

@@ -67,6 +67,31 @@ turn_refused s s' range fault answers = by_test (nat_lt max_read range.count) re
     by_test true long x = TurnRefused.too_long (same_fault fault (Faults.ReadTooLong range.count) x.0) (grind (arith, nat_tests, long))
     by_test false long a = by_turn a.others a.turn a.may a.said a.seen
 
+-- ---- where a store tells that a version isn't published
+own_version : (s : Store) (t u : Bool) (asked published end size version last : ℕ) (done : List ℕ)
+    → Replies.Refused (Faults.NotPublished version last)
+    ≡ reply_of (unless_refused s (record { refuses = t; refusal = Refusals.NotPublished asked published } ∷ record { refuses = u; refusal = Refusals.RangePastSize end size } ∷ []) (s, Outcomes.Content done)).1
+    → version ≡ asked
+own_version s true u asked published end size version last done e =
+    (let same : Replies.Refused (Faults.NotPublished version last) ≡ Replies.Refused (Faults.NotPublished asked published) = e in cc)
+own_version s false true asked published end size version last done e = absurd (cc (e))
+own_version s false false asked published end size version last done e = absurd (cc (e))
+
+asked_in : (s : Store) (range : Range) (o : Option Blob) (version last : ℕ)
+    → Replies.Refused (Faults.NotPublished version last) ≡ reply_of (let a : Answered = elim o [
+      | None ↦ refuse s (Refusals.NoBlob range.blob)
+      | Some b ↦ unless_refused s (not_published b range.version ∷ range_past_size b range.version range.offset range.count ∷ []) (s, Outcomes.Content (bytes_of b range.version range.offset range.count))
+    ] in a).1
+    → version ≡ range.version
+asked_in s range None version last e = absurd (cc (e))
+asked_in s range (Some b) version last e =
+    own_version s (nat_lt (published b) range.version) (nat_lt (size_of b.updates range.version) (range.offset + range.count)) range.version (published b) (range.offset + range.count) (size_of b.updates range.version)
+    version last (bytes_of b range.version range.offset range.count) e
+
+-- it is the version that was asked for
+pub asked_for : (s : Store) (range : Range) (version last : ℕ) → Replies.Refused (Faults.NotPublished version last) ≡ reply_of (read_outcome s range) → version ≡ range.version
+asked_for s range version last e = asked_in s range (blob_at s range.blob) version last e
+
 -- ---- where a store gives bytes
 both_passed : (s : Store) (t u : Bool) (q r : Refusal) (done bytes : List ℕ)
     → Replies.Content bytes ≡ reply_of (unless_refused s (record { refuses = t; refusal = q } ∷ record { refuses = u; refusal = r } ∷ []) (s, Outcomes.Content done)).1 → (t ≡ false) × (u ≡ false)

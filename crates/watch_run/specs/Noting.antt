@@ -27,11 +27,10 @@ pub data PieceRead {D : Type 0} (old new : StandingState D) (op : ℕ) (bytes : 
   by_turn : (log : Entries) → Begins old.session.log log → Begins log new.session.log
       → Replies.Content bytes ≡ reply_of (read_outcome (store_of new.session.store.fixed.limits (events log)) (range_of op)) → PieceRead old new op bytes
 
--- The version of an update isn't published in what the session has seen. The read took one turn, unless the session keeps a snapshot for it.
+-- The version that an update makes isn't published in what the session has seen. The read took one turn, unless the session keeps a snapshot for it.
 pub record IsUnpublished {D : Type 0} (old new : StandingState D) (op : ℕ) : Type 0 where
-  pub version : ℕ
   pub last : ℕ
-  pub told : Replies.Refused (Faults.NotPublished version last) ≡ reply_of (read_outcome (store_of new.session.store.fixed.limits (events new.session.log)) (range_of op))
+  pub told : Replies.Refused (Faults.NotPublished (op + 1) last) ≡ reply_of (read_outcome (store_of new.session.store.fixed.limits (events new.session.log)) (range_of op))
   pub one_turn : has_opened old.session.opened 1 (op + 1) ≡ false → new.session.turns ≡ old.session.turns + 1
 
 -- so one read was done, and noted
