@@ -7,7 +7,7 @@ use Rattle.store_sessions.specs.Lent.{LentDoors}
 use Rattle.store_sessions.proofs.Traffics.{traffic_both, came_back_around}
 use Rattle.watch_run.specs.Doors.{DoorsEnd, EndDoors}
 
-once : (p : ℕ) → 1 * p ≡ p
+pub once : (p : ℕ) → 1 * p ≡ p
 once p =
     let e : 1 ≡ suc 0 = refl in
     let a = suc-mul 0 p in

@@ -9,6 +9,7 @@ pub mod Lasts
 pub mod Compared
 pub mod Ends
 pub mod Doors
+pub mod Sessions
 pub mod Noted
 pub mod Crews
 pub mod Finishing

@@ -1,5 +1,5 @@
 -- How a watch ends.
-use Rattle.std.specs.Prelude.{◌≡◌, ℕ, ◌+◌, ◌<◌, List, [], ◌∷◌, ◌++◌, length, map, None, Result, Ok, Err, All}
+use Rattle.std.specs.Prelude.{◌≡◌, ℕ, ◌<◌, List, [], ◌∷◌, ◌++◌, length, map, None, Result, Ok, Err, All}
 use Rattle.blob_model.specs.Content.{size_of}
 use Rattle.blob_model.specs.Limits.{greatest}
 use Rattle.blob_model.specs.Store.{blob_at}
@@ -7,8 +7,8 @@ use Rattle.blob_model.specs.History.{store_of, events_by}
 use Rattle.blob_model.specs.declared.call.Event.{Event}
 use Rattle.blob_model.specs.declared.call.Place.TheVariants.{Append}
 use Rattle.turn_lock.specs.History.{Begins}
-use Rattle.version_manager.specs.Desks.{updates_in, published_in}
-use Rattle.version_manager.specs.Log.{events, desk_at}
+use Rattle.version_manager.specs.Desks.{DeskState, updates_in, published_in}
+use Rattle.version_manager.specs.Log.{IsHistory, events, desk_at, fixed_of}
 use Rattle.version_manager.specs.declared.journal.DeskFixed.{DeskFixed}
 use Rattle.request_form.specs.Answers.{max_read}
 use Rattle.request_form.specs.PublishedReads.{IsPublishedIn}
@@ -18,7 +18,7 @@ use Rattle.read_board.specs.declared.refresh.Refresh.{Refresh}
 use Rattle.read_board.specs.Refreshes.{version_of}
 use Rattle.watch_law.specs.declared.plan.WatchPlan.{WatchPlan}
 use Rattle.watch_law.specs.declared.plan.WatchSummary.{WatchSummary}
-use Rattle.watch_law.specs.Watch.{piece_of, IsWatchPage, HasWritten, summary_of}
+use Rattle.watch_law.specs.Watch.{piece_of, IsWatch, IsWatchPage, HasWritten, summary_of}
 use Rattle.watch_law.specs.Notes.{NotesState, HaveNoted}
 use Rattle.watch_run.specs.declared.last.Last.{Last}
 use Rattle.watch_run.specs.Agreeing.{IsToldBy, IsSeenIn}
@@ -110,3 +110,10 @@ pub record NotesSeen (plan : WatchPlan) (f : DeskFixed) (seen : Entries) (versio
 abbrev pub TellsWatch : WatchPlan → ℕ → Result (WatchSummary × NotesState) Fault → Type 0
 TellsWatch plan p (Ok done) = done.0 ≡ summary_of plan
 TellsWatch plan p (Err fault) = IsOutside (IsWatchPage plan p) fault
+
+-- what a watch came to: the plan's summary, and a closed store of these fixed data, whose history is a watch's
+pub record CameTo (plan : WatchPlan) (f : DeskFixed) (told : WatchSummary) (desk : DeskState) : Type 0 where
+  pub summary : told ≡ summary_of plan
+  pub history : IsHistory f.page_size greatest desk.history
+  pub watched : IsWatch plan desk.history
+  pub fixed : fixed_of desk ≡ f

@@ -1,11 +1,11 @@
 pub mod Idling
-pub mod Doors
 pub mod Writing
 pub mod Keeping
 pub mod Stops
 pub mod Noting
 pub mod Readers
 pub mod Stages
+pub mod Doors
 pub mod Crews
 pub mod Lasts
 pub mod Agreeing

@@ -1,9 +1,10 @@
 // The callers of a watch that work beside each other.
-ghost use Rattle.std.specs.Prelude.{◌≡◌, ◌≤◌, ◌<◌, ◌+◌, ◌-◌, ◌*◌, ◌^◌, ◌↔◌, ◌∷◌, [], ℕ, vec_len, IfOk, OnOk, OnErr, All};
+ghost use Rattle.std.specs.Prelude.{◌≡◌, ◌≤◌, ◌<◌, ◌+◌, ◌-◌, ◌*◌, ◌^◌, ◌∷◌, [], ℕ, vec_len, IfOk, OnOk, OnErr, All};
 ghost use Rattle.client_session.specs.Sessions.{IsOwnerOf};
 ghost use Rattle.page_store.specs.Calls.{Traffic, AllCameBack};
 ghost use Rattle.store_sessions.specs.Made.{IsNewSession};
 ghost use Rattle.watch_run.specs.Crews.{IsReadyToWatch};
+ghost use Rattle.watch_run.specs.Doors.{MakesAsBefore};
 
 use crate::ending::end_watchers;
 use crate::notes::Readings;
@@ -11,9 +12,10 @@ use crate::reading::Watcher;
 use client_session::{Owner, Session, Shared};
 use page_store::{Door, DoorMaker};
 use ports::gate::Gate;
-use read_board::Stand;
+use read_board::{Keeper, Stand};
 use request_form::NoMemory;
 use std::alloc::Global;
+use std::sync::Wait;
 use store_sessions::{end_session, open_session};
 
 /// The sessions that work beside each other: the writer's, the keeper's, and those of the readers.
@@ -22,6 +24,13 @@ pub(crate) struct Crew<'a, D: Door, G: Gate> {
     pub(crate) writer: Session<'a, D, G>,
     pub(crate) keeping: Session<'a, D, G>,
     pub(crate) watchers: Vec<Watcher<'a, D, G>>,
+}
+
+/// All who work beside each other: the keeper of the board, and the sessions.
+#[derive(Drop)]
+pub(crate) struct Callers<'a, W: Wait + Drop, D: Door, G: Gate> {
+    pub(crate) keeper: Keeper<W>,
+    pub(crate) crew: Crew<'a, D, G>,
 }
 
 // The readers of a watch, each with a new session, none of which has read anything. Where no memory is found, those that were made
@@ -48,8 +57,7 @@ fn watchers_of<'a, M: DoorMaker, G: Gate>(
     ensures doors { M.faults maker.new < 2 ^ 64 - 1 → M.faults maker.old ≤ M.faults maker.new }
     ensures handed_out { OnOk result (Traffic M.hands_out M.takes_back (count * shared.now.providers) 0 maker.old maker.new) }
     ensures all_back { OnErr result (AllCameBack M.hands_out M.takes_back maker.old maker.new) }
-    ensures truth_stays { M.is_true maker.old ↔ M.is_true maker.new }
-    ensures plan_stays { (n : ℕ) (door : _) → M.makes maker.old n door ↔ M.makes maker.new n door }
+    ensures maker { MakesAsBefore M.is_true M.makes maker.old maker.new }
 {
     version_manager::laws::entries_are_events();
     let Ok(mut watchers) = Vec::with_capacity(alloc, count as usize) else {
@@ -96,8 +104,7 @@ pub(crate) fn crew_of<'a, M: DoorMaker, G: Gate>(
     ensures doors { M.faults maker.new < 2 ^ 64 - 1 → M.faults maker.old ≤ M.faults maker.new }
     ensures handed_out { OnOk result (Traffic M.hands_out M.takes_back ((2 + readers) * shared.now.providers) 0 maker.old maker.new) }
     ensures all_back { OnErr result (AllCameBack M.hands_out M.takes_back maker.old maker.new) }
-    ensures truth_stays { M.is_true maker.old ↔ M.is_true maker.new }
-    ensures plan_stays { (n : ℕ) (door : _) → M.makes maker.old n door ↔ M.makes maker.new n door }
+    ensures maker { MakesAsBefore M.is_true M.makes maker.old maker.new }
 {
     let Ok(writer) = open_session(alloc, shared, owner, maker, gate) else {
         return Err(NoMemory);

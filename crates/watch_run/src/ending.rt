@@ -1,9 +1,9 @@
 // The end of a watch: the readers are compared with the last session, one by one, and their sessions end.
-ghost use Rattle.std.specs.Prelude.{◌≡◌, ◌≤◌, ◌<◌, ◌+◌, ◌-◌, ◌*◌, ◌^◌, ◌↔◌, ℕ, true, IfOk, IfErr, IfSome, vec_len, All};
+ghost use Rattle.std.specs.Prelude.{◌≡◌, ◌≤◌, ◌<◌, ◌+◌, ◌-◌, ◌^◌, true, IfOk, IfErr, IfSome, vec_len, All};
 ghost use Rattle.client_session.specs.Sessions.{IsOwnerOf};
-ghost use Rattle.page_store.specs.Calls.{Traffic};
 ghost use Rattle.update_work.specs.Updates.{told_faults};
-ghost use Rattle.watch_run.specs.Stages.{IsIdle, LeavesWatch};
+ghost use Rattle.watch_run.specs.Stages.{IsIdle};
+ghost use Rattle.watch_run.specs.Doors.{SessionsEnd};
 ghost use Rattle.update_work.specs.Left.{left_faults};
 ghost use Rattle.watch_run.specs.Crews.{IsEndable, IsDoneWatching, CameToEnd, AllCameToEnd};
 ghost use Rattle.turn_lock.specs.History.{Begins};
@@ -27,6 +27,19 @@ use std::sync::ledger::Blank;
 use store_sessions::renew_session;
 use workload_law::laws::loads_close;
 
+/// What readers are compared with: the last version, and the keeper that published it.
+pub(crate) struct Standard<W: Wait + Drop> {
+    pub(crate) keeper: Keeper<W>,
+    pub(crate) last: Last,
+}
+
+// By hand, as of `Last`.
+impl<W: Wait + Drop> Drop for Standard<W> {
+    fn drop(self) {
+        let Standard { keeper: _, last: _ } = self;
+    }
+}
+
 /// Ends all readers, whose passes and doors go back, and answers the fault of the lowest that didn't come to its end.
 pub(crate) fn end_watchers<M: DoorMaker, G: Gate>(
     shared: &Shared,
@@ -37,13 +50,9 @@ pub(crate) fn end_watchers<M: DoorMaker, G: Gate>(
     requires owner { IsOwnerOf shared.now owner.old }
     requires endable { All (IsEndable M.Door.faults shared.now owner.old.seen) watchers.items }
     ensures stop { IfSome result (Stops shared.now.fixed owner.new.seen) }
-    ensures leaves { LeavesWatch owner.old owner.new }
-    ensures out { owner.old.out ≡ owner.new.out + vec_len watchers.entry }
+    ensures sessions { SessionsEnd M.is_true M.makes M.hands_out M.takes_back shared.now (vec_len watchers.entry) owner.old owner.new maker.old maker.new }
     ensures owner { IsOwnerOf shared.now owner.new }
     ensures doors { M.faults maker.new < 2 ^ 64 - 1 → M.faults maker.old + left_faults result ≤ M.faults maker.new }
-    ensures taken_back { Traffic M.hands_out M.takes_back 0 (vec_len watchers.entry * shared.now.providers) maker.old maker.new }
-    ensures truth_stays { M.is_true maker.old ↔ M.is_true maker.new }
-    ensures plan_stays { (n : ℕ) (door : _) → M.makes maker.old n door ↔ M.makes maker.new n door }
 {
     let mut stop = None;
     while let Some(watcher) = watchers.pop() {
@@ -64,35 +73,30 @@ fn agree_by_place<R: Wait, W: Wait + Drop, M: DoorMaker, G: Gate>(
     shared: &Shared,
     owner: &mut Owner,
     maker: &mut M,
-    keeper: &Keeper<W>,
-    last: &Last,
+    standard: &Standard<W>,
     reader: StandingReader<'_, M::Door, G>,
 ) -> Result<bool, Fault>
     requires owner { IsOwnerOf shared.now owner.old }
     requires idle { IsIdle shared.now reader.session }
-    requires board { reader.board ≡ keeper.now.board }
+    requires board { reader.board ≡ standard.now.keeper.board }
     requires place { reader.has_place ≡ true }
-    requires told { IsToldBy keeper.now.shown last.now }
-    requires seen { IsSeenIn shared.now.fixed owner.old.seen last.now }
+    requires told { IsToldBy standard.now.keeper.shown standard.now.last }
+    requires seen { IsSeenIn shared.now.fixed owner.old.seen standard.now.last }
     ensures agrees { IfOk result (λ same. same ≡ true) }
     ensures stop { IfErr result (Stops shared.now.fixed owner.new.seen) }
-    ensures leaves { LeavesWatch owner.old owner.new }
+    ensures sessions { SessionsEnd M.is_true M.makes M.hands_out M.takes_back shared.now 1 owner.old owner.new maker.old maker.new }
     ensures begins { Begins reader.entry.session.log owner.new.seen }
-    ensures out { owner.old.out ≡ owner.new.out + 1 }
     ensures made { owner.new.made ≡ owner.old.made }
     ensures owner { IsOwnerOf shared.now owner.new }
     ensures doors { M.faults maker.new < 2 ^ 64 - 1 → M.faults maker.old + told_faults result ≤ M.faults maker.new }
-    ensures taken_back { Traffic M.hands_out M.takes_back 0 shared.now.providers maker.old maker.new }
-    ensures truth_stays { M.is_true maker.old ↔ M.is_true maker.new }
-    ensures plan_stays { (n : ℕ) (door : _) → M.makes maker.old n door ↔ M.makes maker.new n door }
 {
     let mut reader = reader;
-    let told = match keeper.note() {
+    let told = match standard.keeper.note() {
         Ok(note) => compare_by_place::<R, M::Door, G, Brand>(
             rt,
             &mut reader,
             note,
-            last,
+            &standard.last,
             Blank::new(1),
         ),
         Err(NoMemory) => Err(Fault::NoMemory),
@@ -119,16 +123,12 @@ fn agree_by_turn<R: Wait, M: DoorMaker, G: Gate>(
     requires seen { IsSeenIn shared.now.fixed owner.old.seen last.now }
     ensures agrees { IfOk result (λ same. same ≡ true) }
     ensures stop { IfErr result (Stops shared.now.fixed owner.new.seen) }
-    ensures leaves { LeavesWatch owner.old owner.new }
+    ensures sessions { SessionsEnd M.is_true M.makes M.hands_out M.takes_back shared.now 1 owner.old owner.new maker.old maker.new }
     ensures begins { Begins session.entry.log owner.new.seen }
-    ensures out { owner.old.out ≡ owner.new.out + 1 }
     ensures made { (owner.old.made ≤ owner.new.made) × (owner.new.made ≤ owner.old.made + 1) }
     ensures seen { IsSeenIn shared.now.fixed owner.new.seen last.now }
     ensures owner { IsOwnerOf shared.now owner.new }
     ensures doors { M.faults maker.new < 2 ^ 64 - 1 → M.faults maker.old + told_faults result ≤ M.faults maker.new }
-    ensures taken_back { Traffic M.hands_out M.takes_back 0 shared.now.providers maker.old maker.new }
-    ensures truth_stays { M.is_true maker.old ↔ M.is_true maker.new }
-    ensures plan_stays { (n : ℕ) (door : _) → M.makes maker.old n door ↔ M.makes maker.new n door }
 {
     version_manager::laws::entries_are_events();
     loads_close();
@@ -148,34 +148,38 @@ fn agree_one<R: Wait, W: Wait + Drop, M: DoorMaker, G: Gate>(
     owner: &mut Owner,
     maker: &mut M,
     gate: &G,
-    keeper: &Keeper<W>,
-    last: &Last,
+    standard: &Standard<W>,
     reader: StandingReader<'_, M::Door, G>,
 ) -> Result<bool, Fault>
     requires owner { IsOwnerOf shared.now owner.old }
     requires passes_left { (3 ≤ owner.old.made) × (owner.old.made < 1024) }
     requires idle { IsIdle shared.now reader.session }
-    requires board { reader.board ≡ keeper.now.board }
-    requires told { IsToldBy keeper.now.shown last.now }
-    requires seen { IsSeenIn shared.now.fixed owner.old.seen last.now }
+    requires board { reader.board ≡ standard.now.keeper.board }
+    requires told { IsToldBy standard.now.keeper.shown standard.now.last }
+    requires seen { IsSeenIn shared.now.fixed owner.old.seen standard.now.last }
     ensures agrees { IfOk result (λ same. same ≡ true) }
     ensures stop { IfErr result (Stops shared.now.fixed owner.new.seen) }
-    ensures leaves { LeavesWatch owner.old owner.new }
+    ensures sessions { SessionsEnd M.is_true M.makes M.hands_out M.takes_back shared.now 1 owner.old owner.new maker.old maker.new }
     ensures begins { Begins reader.entry.session.log owner.new.seen }
-    ensures seen { IsSeenIn shared.now.fixed owner.new.seen last.now }
-    ensures out { owner.old.out ≡ owner.new.out + 1 }
+    ensures seen { IsSeenIn shared.now.fixed owner.new.seen standard.now.last }
     ensures made { (owner.old.made ≤ owner.new.made) × (owner.new.made ≤ owner.old.made + 1) }
     ensures owner { IsOwnerOf shared.now owner.new }
     ensures doors { M.faults maker.new < 2 ^ 64 - 1 → M.faults maker.old + told_faults result ≤ M.faults maker.new }
-    ensures taken_back { Traffic M.hands_out M.takes_back 0 shared.now.providers maker.old maker.new }
-    ensures truth_stays { M.is_true maker.old ↔ M.is_true maker.new }
-    ensures plan_stays { (n : ℕ) (door : _) → M.makes maker.old n door ↔ M.makes maker.new n door }
 {
     if reader.has_place() {
-        return agree_by_place(rt, shared, owner, maker, keeper, last, reader);
+        return agree_by_place(rt, shared, owner, maker, standard, reader);
     }
     let session = reader.into_session();
-    agree_by_turn(rt, alloc, shared, owner, maker, gate, last, session)
+    agree_by_turn(
+        rt,
+        alloc,
+        shared,
+        owner,
+        maker,
+        gate,
+        &standard.last,
+        session,
+    )
 }
 
 // Whether a reader reads the last version's bytes, and what it read before; or why it didn't come to its end. Its session ends.
@@ -186,32 +190,27 @@ fn agree_with<R: Wait, W: Wait + Drop, M: DoorMaker, G: Gate>(
     owner: &mut Owner,
     maker: &mut M,
     gate: &G,
-    keeper: &Keeper<W>,
-    last: &Last,
+    standard: &Standard<W>,
     watcher: Watcher<'_, M::Door, G>,
 ) -> Result<(bool, Readings), Fault>
     requires owner { IsOwnerOf shared.now owner.old }
     requires passes_left { (3 ≤ owner.old.made) × (owner.old.made < 1024) }
-    requires done { IsDoneWatching M.Door.faults shared.now owner.old.seen keeper.now.board watcher }
-    requires told { IsToldBy keeper.now.shown last.now }
-    requires seen { IsSeenIn shared.now.fixed owner.old.seen last.now }
+    requires done { IsDoneWatching M.Door.faults shared.now owner.old.seen standard.now.keeper.board watcher }
+    requires told { IsToldBy standard.now.keeper.shown standard.now.last }
+    requires seen { IsSeenIn shared.now.fixed owner.old.seen standard.now.last }
     ensures agrees { IfOk result (λ r. r.0 ≡ true) }
     ensures ended { IfOk result (λ r. CameToEnd owner.new.seen watcher.entry r.1) }
     ensures stop { IfErr result (Stops shared.now.fixed owner.new.seen) }
-    ensures leaves { LeavesWatch owner.old owner.new }
-    ensures seen { IsSeenIn shared.now.fixed owner.new.seen last.now }
-    ensures out { owner.old.out ≡ owner.new.out + 1 }
+    ensures sessions { SessionsEnd M.is_true M.makes M.hands_out M.takes_back shared.now 1 owner.old owner.new maker.old maker.new }
+    ensures seen { IsSeenIn shared.now.fixed owner.new.seen standard.now.last }
     ensures made { (owner.old.made ≤ owner.new.made) × (owner.new.made ≤ owner.old.made + 1) }
     ensures owner { IsOwnerOf shared.now owner.new }
     ensures doors { M.faults maker.new < 2 ^ 64 - 1 → M.faults maker.old + told_faults result ≤ M.faults maker.new }
-    ensures taken_back { Traffic M.hands_out M.takes_back 0 shared.now.providers maker.old maker.new }
-    ensures truth_stays { M.is_true maker.old ↔ M.is_true maker.new }
-    ensures plan_stays { (n : ℕ) (door : _) → M.makes maker.old n door ↔ M.makes maker.new n door }
 {
     let Watcher { reader, told } = watcher;
     match told {
         Ok(readings) => {
-            match agree_one(rt, alloc, shared, owner, maker, gate, keeper, last, reader) {
+            match agree_one(rt, alloc, shared, owner, maker, gate, standard, reader) {
                 Ok(same) => Ok((same, readings)),
                 Err(stopped) => Err(stopped),
             }
@@ -232,31 +231,26 @@ pub(crate) fn agree_all<R: Wait, W: Wait + Drop, M: DoorMaker, G: Gate>(
     owner: &mut Owner,
     maker: &mut M,
     gate: &G,
-    keeper: &Keeper<W>,
-    last: &Last,
+    standard: &Standard<W>,
     mut watchers: Vec<Watcher<'_, M::Door, G>>,
 ) -> Result<(u32, Readings), Fault>
     requires owner { IsOwnerOf shared.now owner.old }
     requires passes_left { (3 ≤ owner.old.made) × (owner.old.made + vec_len watchers < 1024) }
-    requires done { All (IsDoneWatching M.Door.faults shared.now owner.old.seen keeper.now.board) watchers.items }
-    requires told { IsToldBy keeper.now.shown last.now }
-    requires seen { IsSeenIn shared.now.fixed owner.old.seen last.now }
+    requires done { All (IsDoneWatching M.Door.faults shared.now owner.old.seen standard.now.keeper.board) watchers.items }
+    requires told { IsToldBy standard.now.keeper.shown standard.now.last }
+    requires seen { IsSeenIn shared.now.fixed owner.old.seen standard.now.last }
     ensures all { IfOk result (λ r. r.0 ≡ vec_len watchers.entry) }
     ensures ended { IfOk result (λ r. AllCameToEnd owner.new.seen watchers.entry.items r.1) }
     ensures stop { IfErr result (Stops shared.now.fixed owner.new.seen) }
-    ensures leaves { LeavesWatch owner.old owner.new }
-    ensures out { owner.old.out ≡ owner.new.out + vec_len watchers.entry }
+    ensures sessions { SessionsEnd M.is_true M.makes M.hands_out M.takes_back shared.now (vec_len watchers.entry) owner.old owner.new maker.old maker.new }
     ensures owner { IsOwnerOf shared.now owner.new }
     ensures doors { M.faults maker.new < 2 ^ 64 - 1 → M.faults maker.old + told_faults result ≤ M.faults maker.new }
-    ensures taken_back { Traffic M.hands_out M.takes_back 0 (vec_len watchers.entry * shared.now.providers) maker.old maker.new }
-    ensures truth_stays { M.is_true maker.old ↔ M.is_true maker.new }
-    ensures plan_stays { (n : ℕ) (door : _) → M.makes maker.old n door ↔ M.makes maker.new n door }
 {
     let mut agree: u32 = 0;
     let mut readings = Readings::none();
     let mut stop = None;
     while let Some(watcher) = watchers.pop() {
-        match agree_with(rt, alloc, shared, owner, maker, gate, keeper, last, watcher) {
+        match agree_with(rt, alloc, shared, owner, maker, gate, standard, watcher) {
             Ok((same, own)) => {
                 agree += u32::from(same);
                 readings.put_before(&own);

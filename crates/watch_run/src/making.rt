@@ -1,12 +1,12 @@
 // The first session of a watch, by which its blob is made, and the sessions that end without having entered anything.
-ghost use Rattle.std.specs.Prelude.{◌≡◌, ◌≤◌, ◌<◌, ◌+◌, ◌-◌, ◌^◌, ◌↔◌, [], sum_by, ℕ, min};
+ghost use Rattle.std.specs.Prelude.{◌≡◌, ◌≤◌, ◌<◌, ◌+◌, ◌-◌, ◌^◌, [], sum_by, ℕ, min};
 ghost use Rattle.blob_model.specs.Limits.{greatest};
 ghost use Rattle.client_session.specs.Sessions.{IsOwnerOf};
 ghost use Rattle.turn_lock.specs.History.{Begins};
-ghost use Rattle.page_store.specs.Calls.{Traffic};
 ghost use Rattle.store_sessions.specs.Lent.{LentDoors};
 ghost use Rattle.update_work.specs.Updates.{told_faults};
-ghost use Rattle.watch_run.specs.Stages.{OpensAs, IsIdle, LeavesWatch};
+ghost use Rattle.watch_run.specs.Stages.{OpensAs, IsIdle};
+ghost use Rattle.watch_run.specs.Doors.{MakesAsBefore, SessionsEnd};
 
 use client_session::{Owner, Session, Shared};
 use page_store::DoorMaker;
@@ -39,8 +39,7 @@ pub(crate) fn open_store<R: Wait, M: DoorMaker, G: Gate>(
     ensures owner { IsOwnerOf shared.now owner.new }
     ensures doors { M.faults maker.new < 2 ^ 64 - 1 → M.faults maker.old + told_faults result ≤ M.faults maker.new }
     ensures lent { LentDoors M.hands_out M.takes_back shared.now.providers maker.old maker.new result }
-    ensures truth_stays { M.is_true maker.old ↔ M.is_true maker.new }
-    ensures plan_stays { (n : ℕ) (door : _) → M.makes maker.old n door ↔ M.makes maker.new n door }
+    ensures maker { MakesAsBefore M.is_true M.makes maker.old maker.new }
 {
     loads_close();
     version_manager::laws::entries_are_events();
@@ -61,15 +60,11 @@ pub(crate) fn end_idle<M: DoorMaker, G: Gate>(
 )
     requires owner { IsOwnerOf shared.now owner.old }
     requires idle { IsIdle shared.now session }
-    ensures leaves { LeavesWatch owner.old owner.new }
+    ensures sessions { SessionsEnd M.is_true M.makes M.hands_out M.takes_back shared.now 1 owner.old owner.new maker.old maker.new }
     ensures made { owner.new.made ≡ owner.old.made }
-    ensures out { owner.old.out ≡ owner.new.out + 1 }
     ensures begins { Begins session.entry.log owner.new.seen }
     ensures owner { IsOwnerOf shared.now owner.new }
     ensures doors { min (M.faults maker.old + sum_by M.Door.faults session.entry.doors) (2 ^ 64 - 1) ≤ M.faults maker.new }
-    ensures taken_back { Traffic M.hands_out M.takes_back 0 shared.now.providers maker.old maker.new }
-    ensures truth_stays { M.is_true maker.old ↔ M.is_true maker.new }
-    ensures plan_stays { (n : ℕ) (door : _) → M.makes maker.old n door ↔ M.makes maker.new n door }
 {
     loads_close();
     version_manager::laws::entries_are_events();

@@ -1,23 +1,22 @@
 // A watch, from a new store to its summary.
-ghost use Rattle.std.specs.Prelude.{◌≡◌, ◌≤◌, ◌<◌, ◌+◌, ◌-◌, ◌*◌, ◌^◌, ◌↔◌, ◌∷◌, [], ℕ, IfOk, IfErr, All, vec_len};
+ghost use Rattle.std.specs.Prelude.{◌≡◌, ◌≤◌, ◌<◌, ◌+◌, ◌-◌, ◌*◌, ◌^◌, ◌∷◌, [], ℕ, IfOk, IfErr, All, vec_len};
 ghost use Rattle.blob_model.specs.Limits.{greatest};
 ghost use Rattle.client_session.specs.Sessions.{IsOwnerOf};
-ghost use Rattle.version_manager.specs.Log.{IsHistory, fixed_of};
-ghost use Rattle.watch_law.specs.Watch.{IsSized, IsWatch, IsWatchPage, summary_of};
+ghost use Rattle.watch_law.specs.Watch.{IsSized, IsWatchPage};
 ghost use Rattle.watch_law.specs.Notes.{HasDone};
 ghost use Rattle.update_work.specs.Updates.{told_faults};
 ghost use Rattle.read_board.specs.Refreshing.{AllHold, Refreshed};
 ghost use Rattle.store_sessions.specs.Made.{IsNewSession};
 ghost use Rattle.store_sessions.specs.Lent.{LentDoors};
-ghost use Rattle.watch_run.specs.Doors.{EndDoors};
+ghost use Rattle.watch_run.specs.Doors.{EndDoors, MakesAsBefore, DoorsCameBack};
 ghost use Rattle.watch_run.specs.Stages.{IsCalled, LeavesWatch};
 ghost use Rattle.watch_run.specs.Crews.{IsReadyToWatch, IsDoneWatching};
-ghost use Rattle.watch_run.specs.Ending.{HasReadBack, FinishHindered, Finishes, NotesOf, WatchEnds, NotesSeen};
+ghost use Rattle.watch_run.specs.Ending.{HasReadBack, FinishHindered, Finishes, NotesOf, WatchEnds, NotesSeen, CameTo};
 ghost use Rattle.update_work.specs.Ending.{EndsEarly};
 
 use crate::beside::work_beside;
-use crate::crew::{Crew, crew_of};
-use crate::ending::{agree_all, end_watchers};
+use crate::crew::{Callers, Crew, crew_of};
+use crate::ending::{Standard, agree_all, end_watchers};
 use crate::last::{Last, read_last};
 use crate::making::{end_idle, open_store};
 use crate::meeting::meet_all;
@@ -70,8 +69,7 @@ where
     ensures owner { IsOwnerOf shared.now owner.new }
     ensures doors { M.faults doors.new < 2 ^ 64 - 1 → M.faults doors.old + told_faults result ≤ M.faults doors.new }
     ensures lent { LentDoors M.hands_out M.takes_back shared.now.providers doors.old doors.new result }
-    ensures truth_stays { M.is_true doors.old ↔ M.is_true doors.new }
-    ensures plan_stays { (n : ℕ) (door : _) → M.makes doors.old n door ↔ M.makes doors.new n door }
+    ensures maker { MakesAsBefore M.is_true M.makes doors.old doors.new }
 {
     version_manager::laws::entries_are_events();
     let Ok(mut session) = open_session(alloc, shared, owner, doors, gate) else {
@@ -109,22 +107,20 @@ where
     ensures owner { IsOwnerOf shared.now owner.new }
     ensures doors { M.faults doors.new < 2 ^ 64 - 1 → M.faults doors.old + told_faults result ≤ M.faults doors.new }
     ensures lent { EndDoors M.hands_out M.takes_back shared.now.providers (vec_len watchers.entry) doors.old doors.new result }
-    ensures truth_stays { M.is_true doors.old ↔ M.is_true doors.new }
-    ensures plan_stays { (n : ℕ) (door : _) → M.makes doors.old n door ↔ M.makes doors.new n door }
+    ensures maker { MakesAsBefore M.is_true M.makes doors.old doors.new }
 {
     let mut keeper = keeper;
     match read_back(rt, alloc, shared, owner, doors, gate, &mut keeper) {
         Ok(last) => {
-            match agree_all(
-                rt, alloc, shared, owner, doors, gate, &keeper, &last, watchers,
-            ) {
+            let standard = Standard { keeper, last };
+            match agree_all(rt, alloc, shared, owner, doors, gate, &standard, watchers) {
                 Ok((agree, readings)) => {
                     let summary = WatchSummary {
-                        size: last.bytes.len() as u64,
-                        versions: last.version,
+                        size: standard.last.bytes.len() as u64,
+                        versions: standard.last.version,
                         agree,
                     };
-                    Ok((summary, WatchNotes::new(&keeper, readings)))
+                    Ok((summary, WatchNotes::new(&standard.keeper, readings)))
                 }
                 Err(stopped) => Err(stopped),
             }
@@ -145,8 +141,7 @@ fn work<R: Threads + Wait + Sync, W: Wait + Drop + Send, M: DoorMaker, G: Gate +
     doors: &mut M,
     gate: &G,
     plan: &WatchPlan,
-    keeper: Keeper<W>,
-    crew: Crew<'_, M::Door, G>,
+    callers: Callers<'_, W, M::Door, G>,
 ) -> Result<(WatchSummary, WatchNotes), Fault>
 where
     M::Door: BesideDoor + Drop + Send,
@@ -154,11 +149,11 @@ where
     requires owner { IsOwnerOf shared.now owner.old }
     requires limits { shared.now.fixed.limits ≡ greatest }
     requires opened { IsCalled owner.old plan.now.readers }
-    requires board { (keeper.board.store ≡ shared.now ∷ []) × (keeper.all ≡ []) }
-    requires writer { IsNewSession M.Door.faults shared.now (record owner.old { made = 1 }) crew.writer }
-    requires keeping { IsNewSession M.Door.faults shared.now (record owner.old { made = 2 }) crew.keeping }
-    requires ready { All (IsReadyToWatch M.Door.faults shared.now owner.old.seen keeper.board) crew.watchers.items }
-    requires count { vec_len crew.watchers ≡ plan.now.readers }
+    requires board { (callers.keeper.board.store ≡ shared.now ∷ []) × (callers.keeper.all ≡ []) }
+    requires writer { IsNewSession M.Door.faults shared.now (record owner.old { made = 1 }) callers.crew.writer }
+    requires keeping { IsNewSession M.Door.faults shared.now (record owner.old { made = 2 }) callers.crew.keeping }
+    requires ready { All (IsReadyToWatch M.Door.faults shared.now owner.old.seen callers.keeper.board) callers.crew.watchers.items }
+    requires count { vec_len callers.crew.watchers ≡ plan.now.readers }
     requires true_doors { M.is_true doors.old }
     ensures ends { WatchEnds plan.now shared.now.fixed result owner.new }
     ensures noted { IfOk result (λ done. NotesSeen plan.now shared.now.fixed owner.new.seen done.0.versions done.1) }
@@ -166,13 +161,13 @@ where
     ensures owner { IsOwnerOf shared.now owner.new }
     ensures doors { M.faults doors.new < 2 ^ 64 - 1 → M.faults doors.old + told_faults result ≤ M.faults doors.new }
     ensures lent { EndDoors M.hands_out M.takes_back shared.now.providers (2 + plan.now.readers) doors.old doors.new result }
-    ensures truth_stays { M.is_true doors.old ↔ M.is_true doors.new }
-    ensures plan_stays { (n : ℕ) (door : _) → M.makes doors.old n door ↔ M.makes doors.new n door }
+    ensures maker { MakesAsBefore M.is_true M.makes doors.old doors.new }
 {
     version_manager::laws::entries_are_events();
     loads_close();
     refreshes_stay();
     board_reads_tell();
+    let Callers { keeper, crew } = callers;
     let (mut keeper, crew, written, kept) = work_beside(rt, plan, keeper, crew);
     let Crew {
         writer,
@@ -217,8 +212,7 @@ where
     ensures owner { IsOwnerOf shared.now owner.new }
     ensures doors { M.faults doors.new < 2 ^ 64 - 1 → M.faults doors.old + told_faults result ≤ M.faults doors.new }
     ensures lent { LentDoors M.hands_out M.takes_back ((4 + plan.now.readers) * shared.now.providers) doors.old doors.new result }
-    ensures truth_stays { M.is_true doors.old ↔ M.is_true doors.new }
-    ensures plan_stays { (n : ℕ) (door : _) → M.makes doors.old n door ↔ M.makes doors.new n door }
+    ensures maker { MakesAsBefore M.is_true M.makes doors.old doors.new }
 {
     match open_store(rt, alloc, shared, owner, doors, gate) {
         Ok(()) => {}
@@ -228,7 +222,10 @@ where
         return Err(Fault::NoMemory);
     };
     match crew_of(alloc, shared, owner, doors, gate, &mut stand, plan.readers) {
-        Ok(crew) => work(rt, alloc, shared, owner, doors, gate, plan, keeper, crew),
+        Ok(crew) => {
+            let callers = Callers { keeper, crew };
+            work(rt, alloc, shared, owner, doors, gate, plan, callers)
+        }
         Err(NoMemory) => Err(Fault::NoMemory),
     }
 }
@@ -272,20 +269,14 @@ where
     ensures did { IfOk result (λ r. HasDone plan r.2) }
 
     // What the watch came to, and what its store holds then.
-    ensures summary { IfOk result (λ r. r.0 ≡ summary_of plan) }
-    ensures history { IfOk result (λ r. IsHistory shared.fixed.page_size greatest r.1.history) }
-    ensures watched { IfOk result (λ r. IsWatch plan r.1.history) }
-    ensures fixed { IfOk result (λ r. fixed_of r.1 ≡ shared.fixed) }
+    ensures came { IfOk result (λ r. CameTo plan shared.fixed r.0 r.1) }
 
     // Why it ended early.
     ensures early { IfErr result (λ fault. EndsEarly (IsWatchPage plan shared.fixed.page_size) fault (M.faults doors.old) (M.faults doors.new)) }
 
     // The first session, the writer's, the keeper's, those of the readers and the last one had a door to each provider, and no door was made beside
-    // these. All came back. What they counted went to the maker, which makes the doors that it made before.
-    ensures lent { LentDoors M.hands_out M.takes_back ((4 + plan.readers) * shared.providers) doors.old doors.new result }
-    ensures doors { M.faults doors.new < 2 ^ 64 - 1 → M.faults doors.old ≤ M.faults doors.new }
-    ensures truth_stays { M.is_true doors.old ↔ M.is_true doors.new }
-    ensures plan_stays { (n : ℕ) (door : _) → M.makes doors.old n door ↔ M.makes doors.new n door }
+    // these.
+    ensures doors { DoorsCameBack M.is_true M.makes M.hands_out M.takes_back M.faults ((4 + plan.readers) * shared.providers) doors.old doors.new result }
 {
     watches_close();
     watches_are_done();
@@ -327,20 +318,14 @@ where
     requires true_doors { M.is_true doors.old }
 
     // What the watch came to, and what its store holds then.
-    ensures summary { IfOk result (λ r. r.0 ≡ summary_of plan) }
-    ensures history { IfOk result (λ r. IsHistory shared.fixed.page_size greatest r.1.history) }
-    ensures watched { IfOk result (λ r. IsWatch plan r.1.history) }
-    ensures fixed { IfOk result (λ r. fixed_of r.1 ≡ shared.fixed) }
+    ensures came { IfOk result (λ r. CameTo plan shared.fixed r.0 r.1) }
 
     // Why it ended early.
     ensures early { IfErr result (λ fault. EndsEarly (IsWatchPage plan shared.fixed.page_size) fault (M.faults doors.old) (M.faults doors.new)) }
 
     // The first session, the writer's, the keeper's, those of the readers and the last one had a door to each provider, and no door was made beside
-    // these. All came back. What they counted went to the maker, which makes the doors that it made before.
-    ensures lent { LentDoors M.hands_out M.takes_back ((4 + plan.readers) * shared.providers) doors.old doors.new result }
-    ensures doors { M.faults doors.new < 2 ^ 64 - 1 → M.faults doors.old ≤ M.faults doors.new }
-    ensures truth_stays { M.is_true doors.old ↔ M.is_true doors.new }
-    ensures plan_stays { (n : ℕ) (door : _) → M.makes doors.old n door ↔ M.makes doors.new n door }
+    // these.
+    ensures doors { DoorsCameBack M.is_true M.makes M.hands_out M.takes_back M.faults ((4 + plan.readers) * shared.providers) doors.old doors.new result }
 {
     match watch_noted(rt, alloc, shared, owner, doors, gate, plan) {
         Ok((summary, desk, _notes)) => Ok((summary, desk)),

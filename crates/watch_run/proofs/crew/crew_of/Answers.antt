@@ -5,16 +5,8 @@ use Rattle.store_sessions.proofs.Traffics.{came_back_around}
 use Rattle.watch_run.specs.Stages.{Owner}
 use Rattle.watch_run.proofs.Ends.{kept_both, kept_back}
 use Rattle.watch_run.proofs.Doors.{crew_handed, crew_back}
+use Rattle.watch_run.proofs.Sessions.{makes_so, makes_both}
 use Rattle.watch_run.proofs.crew.crew_of.Goals as goal
-
-pub returns-in-Err-clause-plan_stays : goal.returns-in-Err-clause-plan_stays
-returns-in-Err-clause-plan_stays g c n door =
-    let p = c.open_session.ensures.plan_stays n door in
-    let q = c.open_session-2.ensures.plan_stays n door in
-    let r = c.watchers_of.ensures.plan_stays n door in
-    let s = c.end_session-in-Err.ensures.plan_stays n door in
-    let t = c.end_session-in-Err-2.ensures.plan_stays n door in
-    (λ h. t.0 (s.0 (r.0 (q.0 (p.0 h)))), λ h. p.1 (q.1 (r.1 (s.1 (t.1 h)))))
 
 pub returns-in-Ok-watchers_of-clause-handed_out : goal.returns-in-Ok-watchers_of-clause-handed_out
 returns-in-Ok-watchers_of-clause-handed_out g c =
@@ -91,39 +83,46 @@ returns-in-Err-clause-doors g c =
     (kept_back next (sum_by faults c.in-Ok-open_session.keeping.doors) ended c.end_session-in-Err.ensures.doors))
     (kept_back ended (sum_by faults c.in-Ok.writer.doors) last c.end_session-in-Err-2.ensures.doors)
 
-pub returns-in-Ok-watchers_of-clause-truth_stays : goal.returns-in-Ok-watchers_of-clause-truth_stays
-returns-in-Ok-watchers_of-clause-truth_stays g c =
-    let p = c.open_session.ensures.truth_stays in
-    let q = c.open_session-2.ensures.truth_stays in
-    let r = c.watchers_of.ensures.truth_stays in
-    (λ t. r.0 (q.0 (p.0 t)), λ t. p.1 (q.1 (r.1 t)))
+pub returns-in_default-clause-maker : goal.returns-in_default-clause-maker
+returns-in_default-clause-maker g c = let i = c.open_session.ensures in record { truth_stays = i.truth_stays; plan_stays = i.plan_stays }
 
-pub returns-in_default-open_session-clause-truth_stays : goal.returns-in_default-open_session-clause-truth_stays
-returns-in_default-open_session-clause-truth_stays g c =
-    let p = c.open_session.ensures.truth_stays in
-    let q = c.open_session-2.ensures.truth_stays in
-    let r = c.end_session.ensures.truth_stays in
-    (λ t. r.0 (q.0 (p.0 t)), λ t. p.1 (q.1 (r.1 t)))
+pub returns-in_default-open_session-clause-maker : goal.returns-in_default-open_session-clause-maker
+returns-in_default-open_session-clause-maker g c =
+    let m = g.M.DoorMaker in
+    let p = c.open_session.ensures in
+    let q = c.open_session-2.ensures in
+    let first = c.args.maker.now in
+    let one = c.open_session.new.maker in
+    let two = c.open_session-2.new.maker in
+    let made = makes_both m.is_true m.makes first one two (makes_so m.is_true m.makes first one p.truth_stays p.plan_stays) (makes_so m.is_true m.makes one two q.truth_stays q.plan_stays) in
+    let r = c.end_session.ensures in
+    let last = c.end_session.new.maker in
+    makes_both m.is_true m.makes first two last made (makes_so m.is_true m.makes two last r.truth_stays r.plan_stays)
 
-pub returns-in-Err-clause-truth_stays : goal.returns-in-Err-clause-truth_stays
-returns-in-Err-clause-truth_stays g c =
-    let p = c.open_session.ensures.truth_stays in
-    let q = c.open_session-2.ensures.truth_stays in
-    let r = c.watchers_of.ensures.truth_stays in
-    let s = c.end_session-in-Err.ensures.truth_stays in
-    let t = c.end_session-in-Err-2.ensures.truth_stays in
-    (λ h. t.0 (s.0 (r.0 (q.0 (p.0 h)))), λ h. p.1 (q.1 (r.1 (s.1 (t.1 h)))))
+pub returns-in-Ok-watchers_of-clause-maker : goal.returns-in-Ok-watchers_of-clause-maker
+returns-in-Ok-watchers_of-clause-maker g c =
+    let m = g.M.DoorMaker in
+    let p = c.open_session.ensures in
+    let q = c.open_session-2.ensures in
+    let first = c.args.maker.now in
+    let one = c.open_session.new.maker in
+    let two = c.open_session-2.new.maker in
+    let made = makes_both m.is_true m.makes first one two (makes_so m.is_true m.makes first one p.truth_stays p.plan_stays) (makes_so m.is_true m.makes one two q.truth_stays q.plan_stays) in
+    makes_both m.is_true m.makes first two c.watchers_of.new.maker made c.watchers_of.ensures.maker
 
-pub returns-in-Ok-watchers_of-clause-plan_stays : goal.returns-in-Ok-watchers_of-clause-plan_stays
-returns-in-Ok-watchers_of-clause-plan_stays g c n door =
-    let p = c.open_session.ensures.plan_stays n door in
-    let q = c.open_session-2.ensures.plan_stays n door in
-    let r = c.watchers_of.ensures.plan_stays n door in
-    (λ h. r.0 (q.0 (p.0 h)), λ h. p.1 (q.1 (r.1 h)))
-
-pub returns-in_default-open_session-clause-plan_stays : goal.returns-in_default-open_session-clause-plan_stays
-returns-in_default-open_session-clause-plan_stays g c n door =
-    let p = c.open_session.ensures.plan_stays n door in
-    let q = c.open_session-2.ensures.plan_stays n door in
-    let r = c.end_session.ensures.plan_stays n door in
-    (λ h. r.0 (q.0 (p.0 h)), λ h. p.1 (q.1 (r.1 h)))
+pub returns-in-Err-clause-maker : goal.returns-in-Err-clause-maker
+returns-in-Err-clause-maker g c =
+    let m = g.M.DoorMaker in
+    let p = c.open_session.ensures in
+    let q = c.open_session-2.ensures in
+    let first = c.args.maker.now in
+    let one = c.open_session.new.maker in
+    let two = c.open_session-2.new.maker in
+    let made = makes_both m.is_true m.makes first one two (makes_so m.is_true m.makes first one p.truth_stays p.plan_stays) (makes_so m.is_true m.makes one two q.truth_stays q.plan_stays) in
+    let r = c.end_session-in-Err.ensures in
+    let s = c.end_session-in-Err-2.ensures in
+    let three = c.watchers_of.new.maker in
+    let four = c.end_session-in-Err.new.maker in
+    let last = c.end_session-in-Err-2.new.maker in
+    let ended = makes_both m.is_true m.makes three four last (makes_so m.is_true m.makes three four r.truth_stays r.plan_stays) (makes_so m.is_true m.makes four last s.truth_stays s.plan_stays) in
+    makes_both m.is_true m.makes first three last (makes_both m.is_true m.makes first two three made c.watchers_of.ensures.maker) ended

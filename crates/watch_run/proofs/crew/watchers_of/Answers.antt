@@ -9,6 +9,7 @@ use Rattle.watch_run.specs.Stages.{Entries, Owner, IsIdle}
 use Rattle.watch_run.specs.Crews.{IsEndable, IsReadyToWatch}
 use Rattle.watch_run.proofs.Crews.{all_ready_end}
 use Rattle.watch_run.proofs.Ends.{all_more, kept_both}
+use Rattle.watch_run.proofs.Sessions.{makes_still, makes_so, makes_both}
 use Rattle.watch_run.proofs.Stages.{new_idle}
 use Rattle.watch_run.proofs.crew.watchers_of.Goals as goal
 
@@ -43,8 +44,7 @@ makes-preserved g c =
       handed = subst (λ (n : ℕ). Traffic m.hands_out m.takes_back (n * p) 0 c.args.maker.now c.open_session.new.maker) (sym c.push_reserved.ensures.len)
           (handed_more m.hands_out m.takes_back p (vec_len c.makes.watchers) c.args.maker.now c.makes.maker c.open_session.new.maker i.handed x.handed_out);
       doors = kept_both (m.faults c.args.maker.now) (m.faults c.makes.maker) (m.faults c.open_session.new.maker) i.doors x.doors;
-      plan_stays = λ n door. (λ h. (x.plan_stays n door).0 ((i.plan_stays n door).0 h), λ h. (i.plan_stays n door).1 ((x.plan_stays n door).1 h));
-      truth_stays = (λ t. x.truth_stays.0 (i.truth_stays.0 t), λ t. i.truth_stays.1 (x.truth_stays.1 t));
+      same = makes_both m.is_true m.makes c.args.maker.now c.makes.maker c.open_session.new.maker i.same (record { truth_stays = x.truth_stays; plan_stays = x.plan_stays });
     }
 
 pub makes-init : goal.makes-init
@@ -59,8 +59,7 @@ makes-init g c = record {
   handed = subst (λ (n : ℕ). Traffic g.M.DoorMaker.hands_out g.M.DoorMaker.takes_back (n * c.args.shared.now.providers) 0 c.args.maker.now c.args.maker.now) (sym c.in-Ok.ensures.len)
       (none_handed g.M.DoorMaker.hands_out g.M.DoorMaker.takes_back c.args.shared.now.providers c.args.maker.now);
   doors = λ less. omega arith;
-  plan_stays = λ n door. (λ h. h, λ h. h);
-  truth_stays = (λ t. t, λ t. t);
+  same = makes_still g.M.DoorMaker.is_true g.M.DoorMaker.makes c.args.maker.now;
 }
 
 pub returns-clause-ready : goal.returns-clause-ready
@@ -83,4 +82,25 @@ returns-in-Err-clause-all_back g c =
     let m = g.M.DoorMaker in
     let p = c.args.shared.now.providers in
     came_back_around m.hands_out m.takes_back (vec_len c.makes.watchers * p) c.args.maker.now c.makes.maker c.open_session.new.maker c.end_watchers-none.new.maker
-    c.makes.invariant.handed c.in-Err.ensures.all_back c.end_watchers-none.ensures.taken_back
+    c.makes.invariant.handed c.in-Err.ensures.all_back c.end_watchers-none.ensures.sessions.traffic
+
+pub returns-in_default-clause-maker : goal.returns-in_default-clause-maker
+returns-in_default-clause-maker g c = makes_still g.M.DoorMaker.is_true g.M.DoorMaker.makes c.args.maker.now
+
+pub returns-clause-maker : goal.returns-clause-maker
+returns-clause-maker g c = c.makes.invariant.same
+
+pub returns-in-Err-clause-none_out : goal.returns-in-Err-clause-none_out
+returns-in-Err-clause-none_out g c =
+    let given = ap (λ (o : Owner). o.out) c.makes.invariant.given in
+    omega (arith, given, c.in-Err.ensures.none_out, c.end_watchers-none.ensures.sessions.out)
+
+pub returns-in-Err-clause-maker : goal.returns-in-Err-clause-maker
+returns-in-Err-clause-maker g c =
+    let m = g.M.DoorMaker in
+    let first = c.args.maker.now in
+    let last = c.makes.maker in
+    let tried = c.open_session.new.maker in
+    let x = c.open_session.ensures in
+    let made = makes_both m.is_true m.makes first last tried c.makes.invariant.same (makes_so m.is_true m.makes last tried x.truth_stays x.plan_stays) in
+    makes_both m.is_true m.makes first tried c.end_watchers-none.new.maker made c.end_watchers-none.ensures.sessions.maker

@@ -1,8 +1,9 @@
-use Rattle.std.proofs.Common.{◌≡◌, ℕ, ◌+◌, ◌-◌, ◌*◌, ◌^◌, ◌<◌, ◌≤◌, vec_len}
-use Rattle.std.specs.Prelude.{vec_capacity, ◌↔◌, All}
+use Rattle.std.proofs.Common.{◌≡◌, ◌+◌, ◌-◌, ◌*◌, ◌^◌, ◌<◌, ◌≤◌, vec_len}
+use Rattle.std.specs.Prelude.{vec_capacity, All}
 use Rattle.page_store.specs.Calls.{Traffic}
 use Rattle.client_session.specs.Sessions.{IsOwnerOf}
 use Rattle.watch_run.specs.Crews.{IsReadyToWatch}
+use Rattle.watch_run.specs.Doors.{MakesAsBefore}
 use Rattle.watch_run.proofs.crew.watchers_of.Given as goal
 
 abbrev pub invariant-makes : goal.invariant-makes
@@ -19,8 +20,7 @@ invariant-makes g l =
       maker_true : is_true l.maker;
       handed : Traffic g.M.DoorMaker.hands_out g.M.DoorMaker.takes_back (vec_len l.watchers * l.shared.providers) 0 l.fn.maker l.maker;
       doors : faults l.maker < 2 ^ 64 - 1 → faults l.fn.maker ≤ faults l.maker;
-      plan_stays : (n : ℕ) (door : _) → g.M.DoorMaker.makes l.fn.maker n door ↔ g.M.DoorMaker.makes l.maker n door;
-      truth_stays : is_true l.fn.maker ↔ is_true l.maker;
+      same : MakesAsBefore is_true g.M.DoorMaker.makes l.fn.maker l.maker;
     }
 
 abbrev pub decreases-makes : goal.decreases-makes

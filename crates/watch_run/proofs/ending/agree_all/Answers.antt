@@ -1,4 +1,4 @@
-use Rattle.std.proofs.Common.{◌≡◌, ◌∙◌, List, Bool, ◌+◌, ◌-◌, ◌≤◌, vec_len, refl, ap, subst, arith}
+use Rattle.std.proofs.Common.{◌≡◌, ◌∙◌, List, Bool, ◌+◌, ◌≤◌, vec_len, ap, subst, arith}
 use Rattle.std.specs.Prelude.{All, IfSome, Option}
 use mir.Val.{bool_byte}
 use Rattle.request_form.specs.declared.form.Fault.{Fault}
@@ -6,104 +6,79 @@ use Rattle.watch_run.specs.Readers.{WatcherState}
 use Rattle.watch_run.specs.Stops.{Stops}
 use Rattle.update_work.specs.Left.{left_faults}
 use Rattle.watch_run.specs.Crews.{IsDoneWatching}
-use Rattle.store_sessions.proofs.Traffics.{none_gone, gone_more, all_gone}
 use Rattle.watch_run.proofs.Crews.{done_on}
 use Rattle.watch_run.proofs.Noted.{ReadSoFar, none_so_far, more_so_far, all_so_far}
 use Rattle.watch_run.proofs.Ends.{AgreeSoFar, all_front, all_last, agree_more, stop_on}
-use Rattle.watch_run.proofs.Stages.{leaves_both, leaves_given}
+use Rattle.watch_run.proofs.Sessions.{all_left, one_less, none_left}
 use Rattle.watch_run.proofs.ending.agree_all.Goals as goal
 
 pub loop-watcher-preserved-in-Ok : goal.loop-watcher-preserved-in-Ok
 loop-watcher-preserved-in-Ok g c =
     let e = c.in-Ok.ensures in
-    let counts = g.M.DoorMaker.faults in
+    let m = g.M.DoorMaker in
     let i = c.loop-watcher.invariant in
-    let done = IsDoneWatching g.M.Door.Door.faults c.args.shared.now c.args.owner.now.seen c.args.keeper.now.board in
+    let done = IsDoneWatching g.M.Door.Door.faults c.args.shared.now c.args.owner.now.seen c.args.standard.now.keeper.board in
     let all = subst (λ (l : List (WatcherState _)). All done l) c.in-Some.ensures.items i.done in
     let len : vec_len c.loop-watcher.watchers ≡ vec_len c.pop.new.self + 1 = omega (arith, c.in-Some.ensures.cases) in
     let one : c.from-agree.result ≡ 1 = c.from-agree.ensures ∙ ap (λ (b : Bool). bool_byte b) e.agrees in
     record {
       owner = e.owner;
       agree = agree_more c.loop-watcher.stop c.loop-watcher.agree c.from-agree.result (vec_len c.loop-watcher.watchers) (vec_len c.pop.new.self) (vec_len c.args.watchers) i.agree one len;
-      leaves = leaves_both c.args.owner.now c.loop-watcher.owner c.agree_with.new.owner i.leaves e.leaves;
+      sessions = one_less m.is_true m.makes m.hands_out m.takes_back c.args.shared.now (vec_len c.args.watchers) (vec_len c.loop-watcher.watchers) (vec_len c.pop.new.self) c.args.owner.now c.loop-watcher.owner
+          c.agree_with.new.owner c.args.maker.now c.loop-watcher.maker c.agree_with.new.maker len i.sessions c.agree_with.ensures.sessions;
       made = (omega (arith, i.made.0, e.made.0), omega (arith, i.made.1, e.made.1, len));
       few = omega (arith, i.few, one, len);
-      stop = stop_on c.args.shared.now.fixed c.loop-watcher.owner.seen c.agree_with.new.owner.seen c.loop-watcher.stop e.leaves.comes.begins i.stop;
+      stop = stop_on c.args.shared.now.fixed c.loop-watcher.owner.seen c.agree_with.new.owner.seen c.loop-watcher.stop e.sessions.leaves.comes.begins i.stop;
       doors = λ less. (let low = e.doors less in omega (arith, i.doors (omega (arith, low, less)), low));
-      out = omega (arith, i.out, e.out, len);
       done = all_front done c.pop.new.self.items c.in-Some.watcher all;
       seen = e.seen;
       read = more_so_far c.loop-watcher.stop c.loop-watcher.owner.seen c.agree_with.new.owner.seen c.args.watchers.items c.loop-watcher.watchers.items c.pop.new.self.items c.in-Some.watcher _
-          c.loop-watcher.readings _ e.leaves.comes.begins c.in-Some.ensures.items e.ended c.put_before.ensures i.read;
-      gone = gone_more g.M.DoorMaker.hands_out g.M.DoorMaker.takes_back c.args.shared.now.providers (vec_len c.args.watchers) (vec_len c.loop-watcher.watchers) (vec_len c.pop.new.self) c.args.maker.now
-          c.loop-watcher.maker c.agree_with.new.maker len i.gone c.agree_with.ensures.taken_back;
-      plan_stays = λ n door. (λ h. (e.plan_stays n door).0 ((i.plan_stays n door).0 h), λ h. (i.plan_stays n door).1 ((e.plan_stays n door).1 h));
-      truth_stays = (λ t. e.truth_stays.0 (i.truth_stays.0 t), λ t. i.truth_stays.1 (e.truth_stays.1 t));
+          c.loop-watcher.readings _ e.sessions.leaves.comes.begins c.in-Some.ensures.items e.ended c.put_before.ensures i.read;
     }
 
 pub loop-watcher-preserved : goal.loop-watcher-preserved
 loop-watcher-preserved g c =
     let e = c.in-Err.ensures in
-    let counts = g.M.DoorMaker.faults in
+    let m = g.M.DoorMaker in
     let i = c.loop-watcher.invariant in
-    let done = IsDoneWatching g.M.Door.Door.faults c.args.shared.now c.args.owner.now.seen c.args.keeper.now.board in
+    let done = IsDoneWatching g.M.Door.Door.faults c.args.shared.now c.args.owner.now.seen c.args.standard.now.keeper.board in
     let all = subst (λ (l : List (WatcherState _)). All done l) c.in-Some.ensures.items i.done in
     let len : vec_len c.loop-watcher.watchers ≡ vec_len c.pop.new.self + 1 = omega (arith, c.in-Some.ensures.cases) in
     record {
       owner = e.owner;
       agree = tt;
-      leaves = leaves_both c.args.owner.now c.loop-watcher.owner c.agree_with.new.owner i.leaves e.leaves;
+      sessions = one_less m.is_true m.makes m.hands_out m.takes_back c.args.shared.now (vec_len c.args.watchers) (vec_len c.loop-watcher.watchers) (vec_len c.pop.new.self) c.args.owner.now c.loop-watcher.owner
+          c.agree_with.new.owner c.args.maker.now c.loop-watcher.maker c.agree_with.new.maker len i.sessions c.agree_with.ensures.sessions;
       made = (omega (arith, i.made.0, e.made.0), omega (arith, i.made.1, e.made.1, len));
       few = omega (arith, i.few, len);
       stop = e.stop;
       doors = λ less. (let low = e.doors less in omega (arith, i.doors (omega (arith, low, less)), low));
-      out = omega (arith, i.out, e.out, len);
       done = all_front done c.pop.new.self.items c.in-Some.watcher all;
       seen = e.seen;
       read = tt;
-      gone = gone_more g.M.DoorMaker.hands_out g.M.DoorMaker.takes_back c.args.shared.now.providers (vec_len c.args.watchers) (vec_len c.loop-watcher.watchers) (vec_len c.pop.new.self) c.args.maker.now
-          c.loop-watcher.maker c.agree_with.new.maker len i.gone c.agree_with.ensures.taken_back;
-      plan_stays = λ n door. (λ h. (e.plan_stays n door).0 ((i.plan_stays n door).0 h), λ h. (i.plan_stays n door).1 ((e.plan_stays n door).1 h));
-      truth_stays = (λ t. e.truth_stays.0 (i.truth_stays.0 t), λ t. i.truth_stays.1 (e.truth_stays.1 t));
     }
 
 pub agree_with-requires-clause-done : goal.agree_with-requires-clause-done
 agree_with-requires-clause-done g c =
-    let done = IsDoneWatching g.M.Door.Door.faults c.args.shared.now c.args.owner.now.seen c.args.keeper.now.board in
-    done_on g.M.Door.Door.faults c.args.shared.now c.args.owner.now.seen c.loop-watcher.owner.seen c.args.keeper.now.board c.loop-watcher.invariant.leaves.comes.begins c.in-Some.watcher
+    let done = IsDoneWatching g.M.Door.Door.faults c.args.shared.now c.args.owner.now.seen c.args.standard.now.keeper.board in
+    done_on g.M.Door.Door.faults c.args.shared.now c.args.owner.now.seen c.loop-watcher.owner.seen c.args.standard.now.keeper.board c.loop-watcher.invariant.sessions.end.leaves.comes.begins c.in-Some.watcher
     (all_last done c.pop.new.self.items c.in-Some.watcher (subst (λ (l : List (WatcherState _)). All done l) c.in-Some.ensures.items c.loop-watcher.invariant.done))
 
 pub returns-in-Some-stop-clause-stop : goal.returns-in-Some-stop-clause-stop
 returns-in-Some-stop-clause-stop g c = subst (λ (o : Option Fault). IfSome o (Stops c.args.shared.now.fixed c.loop-watcher.owner.seen)) c.in-Some-stop.is c.loop-watcher.invariant.stop
 
-pub returns-in-Some-stop-clause-taken_back : goal.returns-in-Some-stop-clause-taken_back
-returns-in-Some-stop-clause-taken_back g c =
-    let m = g.M.DoorMaker in
-    all_gone m.hands_out m.takes_back c.args.shared.now.providers (vec_len c.args.watchers) (vec_len c.loop-watcher.watchers) c.args.maker.now c.loop-watcher.maker c.in_default.ensures.cases.0
-    c.loop-watcher.invariant.gone
-
-pub returns-in-None-clause-taken_back : goal.returns-in-None-clause-taken_back
-returns-in-None-clause-taken_back g c =
-    let m = g.M.DoorMaker in
-    all_gone m.hands_out m.takes_back c.args.shared.now.providers (vec_len c.args.watchers) (vec_len c.loop-watcher.watchers) c.args.maker.now c.loop-watcher.maker c.in_default.ensures.cases.0
-    c.loop-watcher.invariant.gone
-
 pub loop-watcher-init : goal.loop-watcher-init
 loop-watcher-init g c = record {
   owner = c.requires.owner;
   agree = omega arith;
-  leaves = leaves_given c.args.owner.now c.args.owner.now refl refl;
+  sessions = (let m = g.M.DoorMaker in all_left m.is_true m.makes m.hands_out m.takes_back c.args.shared.now (vec_len c.args.watchers) c.args.owner.now c.args.maker.now);
   made = c.requires.passes_left;
   few = omega arith;
-  out = refl;
   done = c.requires.done;
   seen = c.requires.seen;
   read = none_so_far c.args.owner.now.seen c.args.watchers.items _ c.none-readings.ensures;
   stop = tt;
   doors = λ less. omega arith;
-  gone = none_gone g.M.DoorMaker.hands_out g.M.DoorMaker.takes_back c.args.shared.now.providers (vec_len c.args.watchers) c.args.maker.now;
-  plan_stays = λ n door. (λ h. h, λ h. h);
-  truth_stays = (λ t. t, λ t. t);
 }
 
 pub agree_with-requires-clause-passes_left : goal.agree_with-requires-clause-passes_left
@@ -123,12 +98,6 @@ returns-in-None-clause-all g c =
     let so = subst (λ (o : Option Fault). AgreeSoFar o l.agree (vec_len l.watchers) (vec_len c.args.watchers)) c.in-None.is l.invariant.agree in
     omega (arith, so, c.in_default.ensures.cases.0)
 
-pub returns-in-None-clause-out : goal.returns-in-None-clause-out
-returns-in-None-clause-out g c = omega (arith, c.loop-watcher.invariant.out, c.in_default.ensures.cases.0)
-
-pub returns-in-Some-stop-clause-out : goal.returns-in-Some-stop-clause-out
-returns-in-Some-stop-clause-out g c = omega (arith, c.loop-watcher.invariant.out, c.in_default.ensures.cases.0)
-
 pub returns-in-None-clause-doors : goal.returns-in-None-clause-doors
 returns-in-None-clause-doors g c = λ less. let low = c.loop-watcher.invariant.doors less in omega (arith, low)
 
@@ -142,3 +111,15 @@ returns-in-None-clause-ended g c =
     let l = c.loop-watcher in
     let so = subst (λ (o : Option Fault). ReadSoFar o l.owner.seen c.args.watchers.items l.watchers.items l.readings) c.in-None.is l.invariant.read in
     all_so_far l.owner.seen c.args.watchers.items l.watchers.items l.readings (omega (arith, l.watchers.ok.0, c.in_default.ensures.cases.0)) so
+
+pub returns-in-Some-stop-clause-sessions : goal.returns-in-Some-stop-clause-sessions
+returns-in-Some-stop-clause-sessions g c =
+    let m = g.M.DoorMaker in
+    let l = c.loop-watcher in
+    none_left m.is_true m.makes m.hands_out m.takes_back c.args.shared.now (vec_len c.args.watchers) (vec_len l.watchers) c.args.owner.now l.owner c.args.maker.now l.maker c.in_default.ensures.cases.0 l.invariant.sessions
+
+pub returns-in-None-clause-sessions : goal.returns-in-None-clause-sessions
+returns-in-None-clause-sessions g c =
+    let m = g.M.DoorMaker in
+    let l = c.loop-watcher in
+    none_left m.is_true m.makes m.hands_out m.takes_back c.args.shared.now (vec_len c.args.watchers) (vec_len l.watchers) c.args.owner.now l.owner c.args.maker.now l.maker c.in_default.ensures.cases.0 l.invariant.sessions

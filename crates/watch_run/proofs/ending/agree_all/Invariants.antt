@@ -1,35 +1,29 @@
-use Rattle.std.proofs.Common.{◌≡◌, ℕ, ◌+◌, ◌-◌, ◌^◌, ◌<◌, ◌≤◌, vec_len}
-use Rattle.std.specs.Prelude.{◌↔◌, All, IfSome}
+use Rattle.std.proofs.Common.{◌+◌, ◌-◌, ◌^◌, ◌<◌, ◌≤◌, vec_len}
+use Rattle.std.specs.Prelude.{All, IfSome}
 use Rattle.client_session.specs.Sessions.{IsOwnerOf}
-use Rattle.store_sessions.proofs.Traffics.{HaveGone}
 use Rattle.watch_run.specs.Agreeing.{IsSeenIn}
-use Rattle.watch_run.specs.Stages.{LeavesWatch}
 use Rattle.watch_run.specs.Stops.{Stops}
 use Rattle.update_work.specs.Left.{left_faults}
 use Rattle.watch_run.specs.Crews.{IsDoneWatching}
 use Rattle.watch_run.proofs.Ends.{AgreeSoFar}
 use Rattle.watch_run.proofs.Noted.{ReadSoFar}
+use Rattle.watch_run.proofs.Sessions.{HaveEnded}
 use Rattle.watch_run.proofs.ending.agree_all.Given as goal
 
 abbrev pub invariant-loop-watcher : goal.invariant-loop-watcher
 invariant-loop-watcher g l =
-    let is_true = g.M.DoorMaker.is_true in
-    let faults = g.M.DoorMaker.faults in
+    let m = g.M.DoorMaker in
     record {
       owner : IsOwnerOf l.shared l.owner;
       agree : AgreeSoFar l.stop l.agree (vec_len l.watchers) (vec_len l.fn.watchers);
-      leaves : LeavesWatch l.fn.owner l.owner;
+      sessions : HaveEnded m.is_true m.makes m.hands_out m.takes_back l.shared (vec_len l.fn.watchers) (vec_len l.watchers) l.fn.owner l.owner l.fn.maker l.maker;
       made : (3 ≤ l.owner.made) × (l.owner.made + vec_len l.watchers < 1024);
       few : l.agree + vec_len l.watchers ≤ vec_len l.fn.watchers;
-      out : l.fn.owner.out + vec_len l.watchers ≡ l.owner.out + vec_len l.fn.watchers;
-      done : All (IsDoneWatching g.M.Door.Door.faults l.shared l.fn.owner.seen l.keeper.board) l.watchers.items;
-      seen : IsSeenIn l.shared.fixed l.owner.seen l.last;
+      done : All (IsDoneWatching g.M.Door.Door.faults l.shared l.fn.owner.seen l.standard.keeper.board) l.watchers.items;
+      seen : IsSeenIn l.shared.fixed l.owner.seen l.standard.last;
       read : ReadSoFar l.stop l.owner.seen l.fn.watchers.items l.watchers.items l.readings;
       stop : IfSome l.stop (Stops l.shared.fixed l.owner.seen);
-      doors : faults l.maker < 2 ^ 64 - 1 → faults l.fn.maker + left_faults l.stop ≤ faults l.maker;
-      gone : HaveGone g.M.DoorMaker.hands_out g.M.DoorMaker.takes_back l.shared.providers (vec_len l.fn.watchers) (vec_len l.watchers) l.fn.maker l.maker;
-      plan_stays : (n : ℕ) (door : _) → g.M.DoorMaker.makes l.fn.maker n door ↔ g.M.DoorMaker.makes l.maker n door;
-      truth_stays : is_true l.fn.maker ↔ is_true l.maker;
+      doors : m.faults l.maker < 2 ^ 64 - 1 → m.faults l.fn.maker + left_faults l.stop ≤ m.faults l.maker;
     }
 
 abbrev pub decreases-loop-watcher : goal.decreases-loop-watcher

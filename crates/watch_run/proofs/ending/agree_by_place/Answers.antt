@@ -29,7 +29,7 @@ end_idle-requires-clause-idle g c =
 pub returns-clause-stop : goal.returns-clause-stop
 returns-clause-stop g c =
     let f = c.args.shared.now.fixed in
-    let last = c.args.last.now in
+    let last = c.args.standard.now.last in
     let of_store = c.requires.idle.of_store in
     let out : IfErr c.match-note.told (IsOutside (IsPageOfLast f.page_size last)) =
     elim c.match-note.branch [
@@ -37,7 +37,7 @@ returns-clause-stop g c =
       | in-Err w ↦ rw w.told-is (IsOutside.starved refl)
     ]
     in
-    told_lost c.match-note.told (λ fault by. stops_of_last f c.args.owner.now.seen c.end_idle.new.owner.seen last c.requires.seen c.end_idle.ensures.leaves.comes.begins fault by) out
+    told_lost c.match-note.told (λ fault by. stops_of_last f c.args.owner.now.seen c.end_idle.new.owner.seen last c.requires.seen c.end_idle.ensures.sessions.leaves.comes.begins fault by) out
 
 pub returns-clause-doors : goal.returns-clause-doors
 returns-clause-doors g c =
@@ -65,3 +65,6 @@ returns-clause-begins g c =
     in
     begins_both c.args.reader.session.log c.match-note.reader.session.log c.end_idle.new.owner.seen read.idles.goes_on.begins
     (subst (λ (s : SessionState _). Begins s.log c.end_idle.new.owner.seen) c.into_session.ensures c.end_idle.ensures.begins)
+
+pub returns-clause-sessions : goal.returns-clause-sessions
+returns-clause-sessions g c = c.end_idle.ensures.sessions

@@ -1,4 +1,4 @@
-use Rattle.std.proofs.Common.{◌-◌, refl, ap, subst, arith}
+use Rattle.std.proofs.Common.{◌*◌, refl, ap, subst, arith}
 use Rattle.std.specs.Prelude.{sum_by}
 use Rattle.page_store.specs.Calls.{Traffic}
 use Rattle.turn_lock.proofs.Histories.{begins_both}
@@ -10,6 +10,7 @@ use Rattle.watch_run.specs.Stages.{Owner}
 use Rattle.watch_run.specs.Stops.{Stops}
 use Rattle.watch_run.proofs.Crews.{idle_on, told_lost}
 use Rattle.watch_run.proofs.Ends.{kept_back, rose_told, seen_on, seen_by}
+use Rattle.watch_run.proofs.Sessions.{one_ended, makes_both}
 use Rattle.watch_run.proofs.Stages.{renewed_idle, leaves_renewed, leaves_unrenewed, leaves_both}
 use Rattle.watch_run.proofs.Stops.{stops_of_last}
 use Rattle.watch_run.proofs.ending.agree_by_turn.Goals as goal
@@ -28,23 +29,6 @@ compare_by_turn-told-requires-clause-seen g c =
     seen_by c.args.shared.now c.in-Ok.next new.seen c.args.last.now x.of_store x.log
     (seen_on c.args.shared.now.fixed c.args.owner.now.seen new.seen c.args.last.now c.requires.seen c.renew_session.ensures.begins.0)
 
-pub returns-clause-leaves : goal.returns-clause-leaves
-returns-clause-leaves g c =
-    let x = c.in-Ok.ensures in
-    let s = c.args.session in
-    let e = c.renew_session.ensures in
-    let old = c.args.owner.now in
-    let mid = c.renew_session.new.owner in
-    let first =
-    leaves_renewed c.entries_are_events.ensures c.loads_close.ensures.own c.args.shared.now s old mid c.requires.idle e.owner.log.tags (ap (λ (o : Owner). o.kept) x.given) e.begins e.own e.before in
-    leaves_both old mid c.end_idle.new.owner first c.end_idle.ensures.leaves
-
-pub returns-in_default-clause-leaves : goal.returns-in_default-clause-leaves
-returns-in_default-clause-leaves g c =
-    let e = c.renew_session.ensures in
-    leaves_unrenewed c.entries_are_events.ensures c.loads_close.ensures.own c.args.shared.now c.args.session c.args.owner.now c.renew_session.new.owner c.requires.idle e.owner e.begins e.own e.before e.keeps
-    c.in_default.ensures.none_entered
-
 pub returns-in_default-clause-stop : goal.returns-in_default-clause-stop
 returns-in_default-clause-stop g c = Stops.outside (IsOutside.starved refl)
 
@@ -55,7 +39,7 @@ returns-clause-stop g c =
     let old = c.args.owner.now.seen in
     let mid = c.renew_session.new.owner.seen in
     let new = c.end_idle.new.owner.seen in
-    let more = begins_both old mid new c.renew_session.ensures.begins.0 c.end_idle.ensures.leaves.comes.begins in
+    let more = begins_both old mid new c.renew_session.ensures.begins.0 c.end_idle.ensures.sessions.leaves.comes.begins in
     told_lost c.compare_by_turn-told.result
     (λ fault out. stops_of_last f old new c.args.last.now c.requires.seen more fault
     (subst (λ (t : StoreState). IsOutside (IsPageOfLast t.fixed.page_size c.args.last.now) fault) x.of_store out))
@@ -69,10 +53,7 @@ returns-clause-seen g c =
     let old = c.args.owner.now.seen in
     let mid = c.renew_session.new.owner.seen in
     let new = c.end_idle.new.owner.seen in
-    seen_on c.args.shared.now.fixed old new c.args.last.now c.requires.seen (begins_both old mid new c.renew_session.ensures.begins.0 c.end_idle.ensures.leaves.comes.begins)
-
-pub returns-clause-out : goal.returns-clause-out
-returns-clause-out g c = let given = ap (λ (o : Owner). o.out) c.in-Ok.ensures.given in omega (arith, given, c.end_idle.ensures.out)
+    seen_on c.args.shared.now.fixed old new c.args.last.now c.requires.seen (begins_both old mid new c.renew_session.ensures.begins.0 c.end_idle.ensures.sessions.leaves.comes.begins)
 
 pub returns-clause-made : goal.returns-clause-made
 returns-clause-made g c = rw c.end_idle.ensures.made c.renew_session.ensures.made_most
@@ -92,26 +73,41 @@ returns-clause-doors g c =
     rose_told (told_faults told.result) (counts c.args.maker.now) (counts c.renew_session.new.maker) (sum_by faults c.in-Ok.next.doors) (sum_by faults told.new.session.doors)
     (counts c.end_idle.new.maker) (λ _. omega (arith, same)) told.ensures.rose c.end_idle.ensures.doors
 
-pub returns-clause-taken_back : goal.returns-clause-taken_back
-returns-clause-taken_back g c =
-    let m = g.M.DoorMaker in
-    subst (λ (x : _). Traffic m.hands_out m.takes_back 0 c.args.shared.now.providers x c.end_idle.new.maker) c.in-Ok.ensures.same_maker c.end_idle.ensures.taken_back
-
-pub returns-clause-plan_stays : goal.returns-clause-plan_stays
-returns-clause-plan_stays g c n door =
-    let i = c.renew_session.ensures in
-    let e = c.end_idle.ensures in
-    (λ h. (e.plan_stays n door).0 ((i.plan_stays n door).0 h), λ h. (i.plan_stays n door).1 ((e.plan_stays n door).1 h))
-
-pub returns-clause-truth_stays : goal.returns-clause-truth_stays
-returns-clause-truth_stays g c =
-    let i = c.renew_session.ensures in
-    let e = c.end_idle.ensures in
-    (λ t. e.truth_stays.0 (i.truth_stays.0 t), λ t. i.truth_stays.1 (e.truth_stays.1 t))
-
 pub returns-in_default-clause-begins : goal.returns-in_default-clause-begins
 returns-in_default-clause-begins g c = c.renew_session.ensures.begins.1
 
 pub returns-clause-begins : goal.returns-clause-begins
 returns-clause-begins g c =
-    begins_both c.args.session.log c.renew_session.new.owner.seen c.end_idle.new.owner.seen c.renew_session.ensures.begins.1 c.end_idle.ensures.leaves.comes.begins
+    begins_both c.args.session.log c.renew_session.new.owner.seen c.end_idle.new.owner.seen c.renew_session.ensures.begins.1 c.end_idle.ensures.sessions.leaves.comes.begins
+
+pub returns-in_default-clause-sessions : goal.returns-in_default-clause-sessions
+returns-in_default-clause-sessions g c =
+    let m = g.M.DoorMaker in
+    let e = c.renew_session.ensures in
+    let old = c.args.owner.now in
+    let new = c.renew_session.new.owner in
+    let leaves =
+    leaves_unrenewed c.entries_are_events.ensures c.loads_close.ensures.own c.args.shared.now c.args.session old new c.requires.idle e.owner e.begins e.own e.before e.keeps c.in_default.ensures.none_entered
+    in
+    one_ended m.is_true m.makes m.hands_out m.takes_back c.args.shared.now old new c.args.maker.now c.renew_session.new.maker leaves c.in_default.ensures.none_out c.in_default.ensures.taken_back
+    (record { truth_stays = e.truth_stays; plan_stays = e.plan_stays })
+
+pub returns-clause-sessions : goal.returns-clause-sessions
+returns-clause-sessions g c =
+    let m = g.M.DoorMaker in
+    let x = c.in-Ok.ensures in
+    let e = c.renew_session.ensures in
+    let ended = c.end_idle.ensures.sessions in
+    let old = c.args.owner.now in
+    let mid = c.renew_session.new.owner in
+    let new = c.end_idle.new.owner in
+    let given = ap (λ (o : Owner). o.out) x.given in
+    let first =
+    leaves_renewed c.entries_are_events.ensures c.loads_close.ensures.own c.args.shared.now c.args.session old mid c.requires.idle e.owner.log.tags (ap (λ (o : Owner). o.kept) x.given) e.begins e.own e.before
+    in
+    record {
+      leaves = leaves_both old mid new first ended.leaves;
+      out = omega (arith, given, ended.out);
+      traffic = subst (λ (maker : _). Traffic m.hands_out m.takes_back 0 (1 * c.args.shared.now.providers) maker c.end_idle.new.maker) x.same_maker ended.traffic;
+      maker = makes_both m.is_true m.makes c.args.maker.now c.renew_session.new.maker c.end_idle.new.maker (record { truth_stays = e.truth_stays; plan_stays = e.plan_stays }) ended.maker;
+    }

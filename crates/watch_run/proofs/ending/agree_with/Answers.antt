@@ -21,11 +21,11 @@ returns-in-Err-clause-stop g c =
     let e = c.end_idle.ensures in
     let told = ap (λ (w : WatcherState _). w.told) (sym c.watcher.view_is) ∙ c.in-Err.is in
     let session = c.into_session.ensures ∙ ap (λ (w : WatcherState _). w.reader.session) c.watcher.view_is in
-    stops_either f old w.reader.session.log new c.in-Err.fault e.leaves.comes.begins (subst (λ (s : SessionState _). Begins s.log new) session e.begins)
+    stops_either f old w.reader.session.log new c.in-Err.fault e.sessions.leaves.comes.begins (subst (λ (s : SessionState _). Begins s.log new) session e.begins)
     (subst (λ (t : Result (List ℕ) Fault). IfErr t (λ fault. Stops f old fault ⊎ Stops f w.reader.session.log fault)) told c.requires.done.endable.stop)
 
 pub returns-in-Err-clause-seen : goal.returns-in-Err-clause-seen
-returns-in-Err-clause-seen g c = seen_on c.args.shared.now.fixed c.args.owner.now.seen c.end_idle.new.owner.seen c.args.last.now c.requires.seen c.end_idle.ensures.leaves.comes.begins
+returns-in-Err-clause-seen g c = seen_on c.args.shared.now.fixed c.args.owner.now.seen c.end_idle.new.owner.seen c.args.standard.now.last c.requires.seen c.end_idle.ensures.sessions.leaves.comes.begins
 
 pub returns-in-Err-clause-made : goal.returns-in-Err-clause-made
 returns-in-Err-clause-made g c = let e = c.end_idle.ensures.made in (omega (arith, e), omega (arith, e))
@@ -48,3 +48,12 @@ returns-in-Ok-agree_one-clause-ended g c = record {
   told = ap (λ (w : WatcherState _). w.told) (sym c.watcher.view_is) ∙ c.in-Ok.is;
   begins = subst (λ (w : WatcherState _). Begins w.reader.session.log c.agree_one.new.owner.seen) c.watcher.view_is c.agree_one.ensures.begins;
 }
+
+pub returns-in-Ok-agree_one-clause-sessions : goal.returns-in-Ok-agree_one-clause-sessions
+returns-in-Ok-agree_one-clause-sessions g c = c.agree_one.ensures.sessions
+
+pub returns-in-Err-agree_one-clause-sessions : goal.returns-in-Err-agree_one-clause-sessions
+returns-in-Err-agree_one-clause-sessions g c = c.agree_one.ensures.sessions
+
+pub returns-in-Err-clause-sessions : goal.returns-in-Err-clause-sessions
+returns-in-Err-clause-sessions g c = c.end_idle.ensures.sessions

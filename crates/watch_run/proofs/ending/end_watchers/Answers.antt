@@ -1,4 +1,4 @@
-use Rattle.std.proofs.Common.{refl, ◌≡◌, ◌⊎◌, ◌∙◌, ℕ, List, [], ◌∷◌, ◌++◌, ◌+◌, ◌-◌, ◌^◌, ◌<◌, ◌≤◌, min, ap, subst, sym, arith}
+use Rattle.std.proofs.Common.{◌≡◌, ◌⊎◌, ◌∙◌, ℕ, List, [], ◌∷◌, ◌++◌, ◌+◌, ◌-◌, ◌^◌, ◌<◌, ◌≤◌, min, ap, subst, sym, arith}
 use Rattle.std.specs.Prelude.{Result, sum_by, All, IfErr}
 use Rattle.turn_lock.specs.History.{Begins}
 use Rattle.turn_lock.proofs.Histories.{begins_both}
@@ -14,13 +14,13 @@ use Rattle.watch_run.specs.Stages.{IsIdle}
 use Rattle.watch_run.specs.Stops.{Stops}
 use Rattle.watch_run.proofs.Ends.{all_front, all_last, rose_on, lower, stop_on}
 use Rattle.watch_run.proofs.Stops.{stops_either}
-use Rattle.watch_run.proofs.Stages.{leaves_both, leaves_given}
-use Rattle.store_sessions.proofs.Traffics.{none_gone, gone_more, all_gone}
+use Rattle.watch_run.proofs.Sessions.{all_left, one_less, none_left}
 use Rattle.watch_run.proofs.ending.end_watchers.Goals as goal
 
 pub loop-watcher-preserved : goal.loop-watcher-preserved
 loop-watcher-preserved g c =
-    let counts = g.M.DoorMaker.faults in
+    let m = g.M.DoorMaker in
+    let counts = m.faults in
     let faults = g.M.Door.Door.faults in
     let i = c.loop-watcher.invariant in
     let e = c.end_idle.ensures in
@@ -35,23 +35,20 @@ loop-watcher-preserved g c =
     let back = subst (λ (s : SessionState _). min (counts c.loop-watcher.maker + sum_by faults s.doors) (2 ^ 64 - 1) ≤ counts c.end_idle.new.maker) session e.doors in
     record {
       owner = e.owner;
-      leaves = leaves_both _ _ _ i.leaves e.leaves;
-      out = omega (arith, i.out, e.out, c.in-Some.ensures.cases);
+      sessions = one_less m.is_true m.makes m.hands_out m.takes_back store c.args.watchers.len c.loop-watcher.watchers.len c.pop.new.self.len c.args.owner.now c.loop-watcher.owner c.end_idle.new.owner c.args.maker.now
+          c.loop-watcher.maker c.end_idle.new.maker (sym c.in-Some.ensures.cases) i.sessions e.sessions;
       endable = all_front (IsEndable faults store c.args.owner.now.seen) c.pop.new.self.items one all;
-      stop = stops_either store.fixed c.args.owner.now.seen one.reader.session.log c.end_idle.new.owner.seen c.in-Err.fault (begins_both c.args.owner.now.seen c.loop-watcher.owner.seen c.end_idle.new.owner.seen i.leaves.comes.begins e.leaves.comes.begins)
+      stop = stops_either store.fixed c.args.owner.now.seen one.reader.session.log c.end_idle.new.owner.seen c.in-Err.fault (begins_both c.args.owner.now.seen c.loop-watcher.owner.seen c.end_idle.new.owner.seen i.sessions.end.leaves.comes.begins e.sessions.leaves.comes.begins)
           (subst (λ (s : SessionState _). Begins s.log c.end_idle.new.owner.seen) session e.begins)
           (subst (λ (t : Result (List ℕ) Fault). IfErr t (λ fault. Stops store.fixed c.args.owner.now.seen fault ⊎ Stops store.fixed one.reader.session.log fault)) told last.stop);
       doors = rose_stop (page_faults c.in-Err.fault) (counts c.args.maker.now) (counts c.loop-watcher.maker) (sum_by faults one.reader.session.doors) (counts c.end_idle.new.maker)
           (lower (left_faults c.loop-watcher.stop) (counts c.args.maker.now) (counts c.loop-watcher.maker) i.doors) counted back;
-      gone = gone_more g.M.DoorMaker.hands_out g.M.DoorMaker.takes_back store.providers c.args.watchers.len c.loop-watcher.watchers.len c.pop.new.self.len c.args.maker.now c.loop-watcher.maker
-          c.end_idle.new.maker (sym c.in-Some.ensures.cases) i.gone e.taken_back;
-      plan_stays = λ n door. (λ h. (e.plan_stays n door).0 ((i.plan_stays n door).0 h), λ h. (i.plan_stays n door).1 ((e.plan_stays n door).1 h));
-      truth_stays = (λ t. e.truth_stays.0 (i.truth_stays.0 t), λ t. i.truth_stays.1 (e.truth_stays.1 t));
     }
 
 pub loop-watcher-preserved-in-Ok : goal.loop-watcher-preserved-in-Ok
 loop-watcher-preserved-in-Ok g c =
-    let counts = g.M.DoorMaker.faults in
+    let m = g.M.DoorMaker in
+    let counts = m.faults in
     let faults = g.M.Door.Door.faults in
     let i = c.loop-watcher.invariant in
     let e = c.end_idle.ensures in
@@ -61,33 +58,20 @@ loop-watcher-preserved-in-Ok g c =
     let all = subst (λ (l : List (WatcherState _)). All (IsEndable faults store c.args.owner.now.seen) l) joined i.endable in
     record {
       owner = e.owner;
-      leaves = leaves_both _ _ _ i.leaves e.leaves;
-      out = omega (arith, i.out, e.out, c.in-Some.ensures.cases);
+      sessions = one_less m.is_true m.makes m.hands_out m.takes_back store c.args.watchers.len c.loop-watcher.watchers.len c.pop.new.self.len c.args.owner.now c.loop-watcher.owner c.end_idle.new.owner c.args.maker.now
+          c.loop-watcher.maker c.end_idle.new.maker (sym c.in-Some.ensures.cases) i.sessions e.sessions;
       endable = all_front (IsEndable faults store c.args.owner.now.seen) c.pop.new.self.items one all;
-      stop = stop_on store.fixed c.loop-watcher.owner.seen c.end_idle.new.owner.seen c.loop-watcher.stop e.leaves.comes.begins i.stop;
+      stop = stop_on store.fixed c.loop-watcher.owner.seen c.end_idle.new.owner.seen c.loop-watcher.stop e.sessions.leaves.comes.begins i.stop;
       doors = rose_on (left_faults c.loop-watcher.stop) (counts c.args.maker.now) (counts c.loop-watcher.maker) (sum_by faults c.into_session.result.doors) (counts c.end_idle.new.maker) i.doors e.doors;
-      gone = gone_more g.M.DoorMaker.hands_out g.M.DoorMaker.takes_back store.providers c.args.watchers.len c.loop-watcher.watchers.len c.pop.new.self.len c.args.maker.now c.loop-watcher.maker
-          c.end_idle.new.maker (sym c.in-Some.ensures.cases) i.gone e.taken_back;
-      plan_stays = λ n door. (λ h. (e.plan_stays n door).0 ((i.plan_stays n door).0 h), λ h. (i.plan_stays n door).1 ((e.plan_stays n door).1 h));
-      truth_stays = (λ t. e.truth_stays.0 (i.truth_stays.0 t), λ t. i.truth_stays.1 (e.truth_stays.1 t));
     }
-
-pub returns-clause-taken_back : goal.returns-clause-taken_back
-returns-clause-taken_back g c =
-    all_gone g.M.DoorMaker.hands_out g.M.DoorMaker.takes_back c.args.shared.now.providers c.args.watchers.len c.loop-watcher.watchers.len c.args.maker.now c.loop-watcher.maker c.in_default.ensures.cases.0
-    c.loop-watcher.invariant.gone
 
 pub loop-watcher-init : goal.loop-watcher-init
 loop-watcher-init g c = record {
   owner = c.requires.owner;
-  leaves = leaves_given c.args.owner.now c.args.owner.now refl refl;
-  out = refl;
+  sessions = (let m = g.M.DoorMaker in all_left m.is_true m.makes m.hands_out m.takes_back c.args.shared.now c.args.watchers.len c.args.owner.now c.args.maker.now);
   endable = c.requires.endable;
   stop = tt;
   doors = λ less. omega arith;
-  gone = none_gone g.M.DoorMaker.hands_out g.M.DoorMaker.takes_back c.args.shared.now.providers c.args.watchers.len c.args.maker.now;
-  plan_stays = λ n door. (λ h. h, λ h. h);
-  truth_stays = (λ t. t, λ t. t);
 }
 
 pub end_idle-requires-clause-idle : goal.end_idle-requires-clause-idle
@@ -98,5 +82,11 @@ end_idle-requires-clause-idle g c =
     let last = all_last endable c.pop.new.self.items c.in-Some.watcher all in
     subst (λ (s : SessionState _). IsIdle store s) (sym (c.into_session.ensures ∙ ap (λ (w : WatcherState _). w.reader.session) c.watcher.view_is)) last.idle
 
-pub returns-clause-out : goal.returns-clause-out
-returns-clause-out g c = omega (arith, c.loop-watcher.invariant.out, c.in_default.ensures.cases.0)
+pub returns-clause-sessions : goal.returns-clause-sessions
+returns-clause-sessions g c =
+    let m = g.M.DoorMaker in
+    let l = c.loop-watcher in
+    none_left m.is_true m.makes m.hands_out m.takes_back c.args.shared.now c.args.watchers.len l.watchers.len c.args.owner.now l.owner c.args.maker.now l.maker c.in_default.ensures.cases.0 l.invariant.sessions
+
+pub returns-clause-doors : goal.returns-clause-doors
+returns-clause-doors g c = c.loop-watcher.invariant.doors

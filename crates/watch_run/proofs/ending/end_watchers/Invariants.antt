@@ -1,27 +1,21 @@
-use Rattle.std.proofs.Common.{◌≡◌, ℕ, ◌+◌, ◌-◌, ◌^◌, ◌<◌, ◌≤◌, vec_len}
-use Rattle.std.specs.Prelude.{◌↔◌, All, IfSome}
+use Rattle.std.proofs.Common.{◌+◌, ◌-◌, ◌^◌, ◌<◌, ◌≤◌, vec_len}
+use Rattle.std.specs.Prelude.{All, IfSome}
 use Rattle.client_session.specs.Sessions.{IsOwnerOf}
-use Rattle.store_sessions.proofs.Traffics.{HaveGone}
-use Rattle.watch_run.specs.Stages.{LeavesWatch}
 use Rattle.watch_run.specs.Stops.{Stops}
 use Rattle.update_work.specs.Left.{left_faults}
 use Rattle.watch_run.specs.Crews.{IsEndable}
+use Rattle.watch_run.proofs.Sessions.{HaveEnded}
 use Rattle.watch_run.proofs.ending.end_watchers.Given as goal
 
 abbrev pub invariant-loop-watcher : goal.invariant-loop-watcher
 invariant-loop-watcher g l =
-    let is_true = g.M.DoorMaker.is_true in
-    let faults = g.M.DoorMaker.faults in
+    let m = g.M.DoorMaker in
     record {
       owner : IsOwnerOf l.shared l.owner;
-      leaves : LeavesWatch l.fn.owner l.owner;
-      out : l.fn.owner.out + vec_len l.watchers ≡ l.owner.out + vec_len l.fn.watchers;
+      sessions : HaveEnded m.is_true m.makes m.hands_out m.takes_back l.shared (vec_len l.fn.watchers) (vec_len l.watchers) l.fn.owner l.owner l.fn.maker l.maker;
       endable : All (IsEndable g.M.Door.Door.faults l.shared l.fn.owner.seen) l.watchers.items;
       stop : IfSome l.stop (Stops l.shared.fixed l.owner.seen);
-      doors : faults l.maker < 2 ^ 64 - 1 → faults l.fn.maker + left_faults l.stop ≤ faults l.maker;
-      gone : HaveGone g.M.DoorMaker.hands_out g.M.DoorMaker.takes_back l.shared.providers (vec_len l.fn.watchers) (vec_len l.watchers) l.fn.maker l.maker;
-      plan_stays : (n : ℕ) (door : _) → g.M.DoorMaker.makes l.fn.maker n door ↔ g.M.DoorMaker.makes l.maker n door;
-      truth_stays : is_true l.fn.maker ↔ is_true l.maker;
+      doors : m.faults l.maker < 2 ^ 64 - 1 → m.faults l.fn.maker + left_faults l.stop ≤ m.faults l.maker;
     }
 
 abbrev pub decreases-loop-watcher : goal.decreases-loop-watcher

@@ -1,6 +1,7 @@
 use Rattle.std.proofs.Common.{◌≡◌, ap, arith}
 use Rattle.std.specs.Prelude.{sum_by}
 use Rattle.client_session.specs.Sessions.{SessionState}
+use Rattle.watch_run.proofs.Idling.{idles_both}
 use Rattle.watch_run.proofs.Lasts.{last_missing, no_page, published_mid, last_read, last_unread}
 use Rattle.watch_run.proofs.last.read_last.Goals as goal
 
@@ -33,3 +34,9 @@ returns-in-Err-read_version-clause-hindered g c =
     let x = c.in-Ok.ensures in
     last_unread c.args.keeper.now c.refresh_blob.new.keeper c.args.session.now c.refresh_blob.new.session s' c.in-Ok.version x.done x.refreshes.may c.refreshes_stay.ensures c.read_version.ensures.idles.goes_on c.in-Err-read_version.fault x.recent
     c.in-Err-read_version.ensures.reads
+
+pub returns-in-Ok-read_version-clause-idles : goal.returns-in-Ok-read_version-clause-idles
+returns-in-Ok-read_version-clause-idles g c = idles_both c.args.session.now c.refresh_blob.new.session c.read_version.new.session c.in-Ok.ensures.refreshes.idles c.read_version.ensures.idles
+
+pub returns-in-Err-read_version-clause-idles : goal.returns-in-Err-read_version-clause-idles
+returns-in-Err-read_version-clause-idles g c = idles_both c.args.session.now c.refresh_blob.new.session c.read_version.new.session c.in-Ok.ensures.refreshes.idles c.read_version.ensures.idles

@@ -5,6 +5,7 @@ use Rattle.store_sessions.proofs.Traffics
 use Rattle.update_work.specs.Updates.{told_faults}
 use Rattle.watch_run.specs.Stages.{Owner}
 use Rattle.watch_run.proofs.Ends.{rose_told}
+use Rattle.watch_run.proofs.Sessions.{makes_so, makes_both}
 use Rattle.watch_run.proofs.Stages.{took, opens_as}
 use Rattle.watch_run.proofs.making.open_store.Goals as goal
 
@@ -39,14 +40,15 @@ returns-clause-doors g c =
     (counts c.end_session.new.maker)
     c.open_session.ensures.doors made.ensures.faults c.end_session.ensures.doors
 
-pub returns-clause-truth_stays : goal.returns-clause-truth_stays
-returns-clause-truth_stays g c =
-    let i = c.open_session.ensures in
-    let e = c.end_session.ensures in
-    (λ t. e.truth_stays.0 (i.truth_stays.0 t), λ t. i.truth_stays.1 (e.truth_stays.1 t))
+pub returns-in_default-clause-maker : goal.returns-in_default-clause-maker
+returns-in_default-clause-maker g c = let i = c.open_session.ensures in record { truth_stays = i.truth_stays; plan_stays = i.plan_stays }
 
-pub returns-clause-plan_stays : goal.returns-clause-plan_stays
-returns-clause-plan_stays g c n door =
+pub returns-clause-maker : goal.returns-clause-maker
+returns-clause-maker g c =
+    let m = g.M.DoorMaker in
     let i = c.open_session.ensures in
     let e = c.end_session.ensures in
-    (λ h. (e.plan_stays n door).0 ((i.plan_stays n door).0 h), λ h. (i.plan_stays n door).1 ((e.plan_stays n door).1 h))
+    let first = c.args.maker.now in
+    let mid = c.open_session.new.maker in
+    let last = c.end_session.new.maker in
+    makes_both m.is_true m.makes first mid last (makes_so m.is_true m.makes first mid i.truth_stays i.plan_stays) (makes_so m.is_true m.makes mid last e.truth_stays e.plan_stays)

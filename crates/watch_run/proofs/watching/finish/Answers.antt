@@ -10,6 +10,7 @@ use Rattle.watch_run.proofs.Kept.{versions_more}
 use Rattle.watch_run.proofs.Ends.{rose_later, rose_before}
 use Rattle.watch_run.proofs.Doors.{read_and_ended, came_and_ended}
 use Rattle.watch_run.proofs.Finishing.{finished, finish_later}
+use Rattle.watch_run.proofs.Sessions.{makes_both}
 use Rattle.watch_run.proofs.Stages.{leaves_both}
 use Rattle.watch_run.proofs.watching.finish.Goals as goal
 
@@ -21,7 +22,7 @@ agree_all-requires-clause-seen g c = c.in-Ok.ensures.read.known
 
 pub returns-in-Ok-agree_all-clause-finishes : goal.returns-in-Ok-agree_all-clause-finishes
 returns-in-Ok-agree_all-clause-finishes g c =
-    finished c.args.shared.now.fixed c.read_back.new.keeper.shown _ c.args.owner.now c.read_back.new.owner c.agree_all.new.owner c.in-Ok.last c.in-Ok.ensures.read c.agree_all.ensures.leaves _ _ c.len.ensures c.in-Ok-agree_all.ensures.all
+    finished c.args.shared.now.fixed c.read_back.new.keeper.shown _ c.args.owner.now c.read_back.new.owner c.agree_all.new.owner c.in-Ok.last c.in-Ok.ensures.read c.agree_all.ensures.sessions.leaves _ _ c.len.ensures c.in-Ok-agree_all.ensures.all
 
 pub returns-in-Ok-agree_all-clause-noted : goal.returns-in-Ok-agree_all-clause-noted
 returns-in-Ok-agree_all-clause-noted g c =
@@ -31,47 +32,41 @@ returns-in-Ok-agree_all-clause-noted g c =
       readings = subst (λ (l : List ℕ). AllCameToEnd seen c.args.watchers.items l) (sym (ap (λ (n : NotesState). n.readings) c.new.ensures)) c.in-Ok-agree_all.ensures.ended;
     }
 
-pub returns-in-Ok-agree_all-clause-plan_stays : goal.returns-in-Ok-agree_all-clause-plan_stays
-returns-in-Ok-agree_all-clause-plan_stays g c n door =
-    let i = c.read_back.ensures in
-    let e = c.agree_all.ensures in
-    (λ h. (e.plan_stays n door).0 ((i.plan_stays n door).0 h), λ h. (i.plan_stays n door).1 ((e.plan_stays n door).1 h))
-
 pub returns-in-Ok-clause-finishes : goal.returns-in-Ok-clause-finishes
 returns-in-Ok-clause-finishes g c =
-    FinishHindered.stops (leaves_both c.args.owner.now c.read_back.new.owner c.agree_all.new.owner c.read_back.ensures.leaves c.agree_all.ensures.leaves) c.in-Err-agree_all.ensures.stop
+    FinishHindered.stops (leaves_both c.args.owner.now c.read_back.new.owner c.agree_all.new.owner c.read_back.ensures.leaves c.agree_all.ensures.sessions.leaves) c.in-Err-agree_all.ensures.stop
 
 pub returns-in-Some-clause-finishes : goal.returns-in-Some-clause-finishes
 returns-in-Some-clause-finishes g c =
-    FinishHindered.stops (leaves_both c.args.owner.now c.read_back.new.owner c.end_watchers.new.owner c.read_back.ensures.leaves c.end_watchers.ensures.leaves) c.in-Some.ensures.stop
+    FinishHindered.stops (leaves_both c.args.owner.now c.read_back.new.owner c.end_watchers.new.owner c.read_back.ensures.leaves c.end_watchers.ensures.sessions.leaves) c.in-Some.ensures.stop
 
 pub returns-clause-finishes : goal.returns-clause-finishes
-returns-clause-finishes g c = finish_later c.args.shared.now.fixed c.args.owner.now c.read_back.new.owner c.end_watchers.new.owner c.in-Err.fault c.in-Err.ensures.hindered c.end_watchers.ensures.leaves
+returns-clause-finishes g c = finish_later c.args.shared.now.fixed c.args.owner.now c.read_back.new.owner c.end_watchers.new.owner c.in-Err.fault c.in-Err.ensures.hindered c.end_watchers.ensures.sessions.leaves
 
 pub returns-in-Ok-agree_all-clause-lent : goal.returns-in-Ok-agree_all-clause-lent
 returns-in-Ok-agree_all-clause-lent g c =
     let m = g.M.DoorMaker in
-    read_and_ended m.hands_out m.takes_back c.args.shared.now.providers (vec_len c.args.watchers) c.args.doors.now c.read_back.new.doors c.agree_all.new.maker c.in-Ok.ensures.lent c.agree_all.ensures.taken_back
+    read_and_ended m.hands_out m.takes_back c.args.shared.now.providers (vec_len c.args.watchers) c.args.doors.now c.read_back.new.doors c.agree_all.new.maker c.in-Ok.ensures.lent c.agree_all.ensures.sessions.traffic
 
 pub returns-in-Ok-clause-lent : goal.returns-in-Ok-clause-lent
 returns-in-Ok-clause-lent g c =
     let m = g.M.DoorMaker in
     let p = c.args.shared.now.providers in
-    came_and_ended m.hands_out m.takes_back p (vec_len c.args.watchers) c.args.doors.now c.read_back.new.doors c.agree_all.new.maker (p, c.in-Ok.ensures.lent) c.agree_all.ensures.taken_back
+    came_and_ended m.hands_out m.takes_back p (vec_len c.args.watchers) c.args.doors.now c.read_back.new.doors c.agree_all.new.maker (p, c.in-Ok.ensures.lent) c.agree_all.ensures.sessions.traffic
 
 pub returns-in-Some-clause-lent : goal.returns-in-Some-clause-lent
 returns-in-Some-clause-lent g c =
     let m = g.M.DoorMaker in
     let p = c.args.shared.now.providers in
     let n = vec_len c.args.watchers in
-    came_and_ended m.hands_out m.takes_back p n c.args.doors.now c.read_back.new.doors c.end_watchers.new.maker c.in-Err.ensures.lent c.end_watchers.ensures.taken_back
+    came_and_ended m.hands_out m.takes_back p n c.args.doors.now c.read_back.new.doors c.end_watchers.new.maker c.in-Err.ensures.lent c.end_watchers.ensures.sessions.traffic
 
 pub returns-clause-lent : goal.returns-clause-lent
 returns-clause-lent g c =
     let m = g.M.DoorMaker in
     let p = c.args.shared.now.providers in
     let n = vec_len c.args.watchers in
-    came_and_ended m.hands_out m.takes_back p n c.args.doors.now c.read_back.new.doors c.end_watchers.new.maker c.in-Err.ensures.lent c.end_watchers.ensures.taken_back
+    came_and_ended m.hands_out m.takes_back p n c.args.doors.now c.read_back.new.doors c.end_watchers.new.maker c.in-Err.ensures.lent c.end_watchers.ensures.sessions.traffic
 
 pub agree_all-requires-clause-passes_left : goal.agree_all-requires-clause-passes_left
 agree_all-requires-clause-passes_left g c =
@@ -96,16 +91,16 @@ end_watchers-requires-clause-endable g c =
     (all_done_on faults store c.args.owner.now.seen seen c.args.keeper.board c.read_back.ensures.leaves.comes.begins c.args.watchers.items c.requires.done)
 
 pub returns-in-Ok-agree_all-clause-out : goal.returns-in-Ok-agree_all-clause-out
-returns-in-Ok-agree_all-clause-out g c = omega (arith, c.read_back.ensures.out, c.agree_all.ensures.out)
+returns-in-Ok-agree_all-clause-out g c = omega (arith, c.read_back.ensures.out, c.agree_all.ensures.sessions.out)
 
 pub returns-in-Ok-clause-out : goal.returns-in-Ok-clause-out
-returns-in-Ok-clause-out g c = omega (arith, c.read_back.ensures.out, c.agree_all.ensures.out)
+returns-in-Ok-clause-out g c = omega (arith, c.read_back.ensures.out, c.agree_all.ensures.sessions.out)
 
 pub returns-in-Some-clause-out : goal.returns-in-Some-clause-out
-returns-in-Some-clause-out g c = omega (arith, c.read_back.ensures.out, c.end_watchers.ensures.out)
+returns-in-Some-clause-out g c = omega (arith, c.read_back.ensures.out, c.end_watchers.ensures.sessions.out)
 
 pub returns-clause-out : goal.returns-clause-out
-returns-clause-out g c = omega (arith, c.read_back.ensures.out, c.end_watchers.ensures.out)
+returns-clause-out g c = omega (arith, c.read_back.ensures.out, c.end_watchers.ensures.sessions.out)
 
 pub returns-in-Ok-agree_all-clause-doors : goal.returns-in-Ok-agree_all-clause-doors
 returns-in-Ok-agree_all-clause-doors g c =
@@ -128,8 +123,22 @@ returns-clause-doors g c =
     let counts = g.M.DoorMaker.faults in
     rose_before (page_faults c.in-Err.fault) 0 (counts c.args.doors.now) (counts c.read_back.new.doors) (counts c.end_watchers.new.maker) c.in-Err.ensures.doors c.in-None.ensures.doors
 
-pub returns-in-Ok-agree_all-clause-truth_stays : goal.returns-in-Ok-agree_all-clause-truth_stays
-returns-in-Ok-agree_all-clause-truth_stays g c =
-    let i = c.read_back.ensures in
-    let e = c.agree_all.ensures in
-    (λ t. e.truth_stays.0 (i.truth_stays.0 t), λ t. i.truth_stays.1 (e.truth_stays.1 t))
+pub returns-in-Ok-agree_all-clause-maker : goal.returns-in-Ok-agree_all-clause-maker
+returns-in-Ok-agree_all-clause-maker g c =
+    let m = g.M.DoorMaker in
+    makes_both m.is_true m.makes c.args.doors.now c.read_back.new.doors c.agree_all.new.maker c.read_back.ensures.maker c.agree_all.ensures.sessions.maker
+
+pub returns-in-Ok-clause-maker : goal.returns-in-Ok-clause-maker
+returns-in-Ok-clause-maker g c =
+    let m = g.M.DoorMaker in
+    makes_both m.is_true m.makes c.args.doors.now c.read_back.new.doors c.agree_all.new.maker c.read_back.ensures.maker c.agree_all.ensures.sessions.maker
+
+pub returns-in-Some-clause-maker : goal.returns-in-Some-clause-maker
+returns-in-Some-clause-maker g c =
+    let m = g.M.DoorMaker in
+    makes_both m.is_true m.makes c.args.doors.now c.read_back.new.doors c.end_watchers.new.maker c.read_back.ensures.maker c.end_watchers.ensures.sessions.maker
+
+pub returns-clause-maker : goal.returns-clause-maker
+returns-clause-maker g c =
+    let m = g.M.DoorMaker in
+    makes_both m.is_true m.makes c.args.doors.now c.read_back.new.doors c.end_watchers.new.maker c.read_back.ensures.maker c.end_watchers.ensures.sessions.maker

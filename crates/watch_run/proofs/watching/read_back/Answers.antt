@@ -11,6 +11,7 @@ use Rattle.watch_run.specs.Stops.{Stops}
 use Rattle.watch_run.proofs.Crews.{idle_on, told_read, told_lost}
 use Rattle.watch_run.proofs.Ends.{rose_told}
 use Rattle.watch_run.proofs.Finishing.{finish_hindered, read_back}
+use Rattle.watch_run.proofs.Sessions.{taken, makes_both}
 use Rattle.watch_run.proofs.Stages.{new_idle, leaves_both, leaves_given, leaves_unmade}
 use Rattle.watch_run.proofs.watching.read_back.Goals as goal
 
@@ -40,7 +41,7 @@ returns-clause-read g c =
     let e = c.end_idle.ensures in
     let old = c.args.owner.now in
     let new = c.end_idle.new.owner in
-    let leaves = leaves_both old c.open_session.new.owner new (leaves_given old c.open_session.new.owner (ap (λ (o : Owner). o.seen) x.given) (ap (λ (o : Owner). o.kept) x.given)) e.leaves in
+    let leaves = leaves_both old c.open_session.new.owner new (leaves_given old c.open_session.new.owner (ap (λ (o : Owner). o.seen) x.given) (ap (λ (o : Owner). o.kept) x.given)) e.sessions.leaves in
     told_read c.read_last-told.result
     (λ last is. read_back c.read_last-told.new.keeper c.in-Ok.session c.read_last-told.new.session c.args.shared.now old new x.session.of_store (r.idles.goes_on.store ∙ x.session.of_store) x.session.log leaves e.begins last is) r.last
 
@@ -51,7 +52,7 @@ returns-clause-hindered g c =
     let e = c.end_idle.ensures in
     let old = c.args.owner.now in
     let new = c.end_idle.new.owner in
-    let leaves = leaves_both old c.open_session.new.owner new (leaves_given old c.open_session.new.owner (ap (λ (o : Owner). o.seen) x.given) (ap (λ (o : Owner). o.kept) x.given)) e.leaves in
+    let leaves = leaves_both old c.open_session.new.owner new (leaves_given old c.open_session.new.owner (ap (λ (o : Owner). o.seen) x.given) (ap (λ (o : Owner). o.kept) x.given)) e.sessions.leaves in
     told_lost c.read_last-told.result
     (λ fault by. finish_hindered c.in-Ok.session c.read_last-told.new.session fault c.args.shared.now old new by x.session.of_store (r.idles.goes_on.store ∙ x.session.of_store) x.session.log r.idles.goes_on.begins leaves e.begins)
     r.hindered
@@ -60,7 +61,7 @@ pub returns-clause-leaves : goal.returns-clause-leaves
 returns-clause-leaves g c =
     let x = c.in-Ok.ensures in
     leaves_both c.args.owner.now c.open_session.new.owner c.end_idle.new.owner
-    (leaves_given c.args.owner.now c.open_session.new.owner (ap (λ (o : Owner). o.seen) x.given) (ap (λ (o : Owner). o.kept) x.given)) c.end_idle.ensures.leaves
+    (leaves_given c.args.owner.now c.open_session.new.owner (ap (λ (o : Owner). o.seen) x.given) (ap (λ (o : Owner). o.kept) x.given)) c.end_idle.ensures.sessions.leaves
 
 pub returns-in_default-clause-leaves : goal.returns-in_default-clause-leaves
 returns-in_default-clause-leaves g c =
@@ -73,22 +74,17 @@ returns-in_default-clause-hindered g c =
     FinishHindered.stops (leaves_unmade c.entries_are_events.ensures c.args.shared.now c.args.owner.now c.open_session.new.owner x.owner x.seen x.keeps c.in_default.ensures.none_entered)
     (Stops.outside (IsOutside.starved refl))
 
-pub returns-clause-plan_stays : goal.returns-clause-plan_stays
-returns-clause-plan_stays g c n door =
-    let i = c.open_session.ensures in
-    let e = c.end_idle.ensures in
-    (λ h. (e.plan_stays n door).0 ((i.plan_stays n door).0 h), λ h. (i.plan_stays n door).1 ((e.plan_stays n door).1 h))
-
 pub returns-clause-lent : goal.returns-clause-lent
 returns-clause-lent g c =
     let hands_out = g.M.DoorMaker.hands_out in
     let takes_back = g.M.DoorMaker.takes_back in
     let p = c.args.shared.now.providers in
     Traffics.lent hands_out takes_back p c.args.doors.now c.end_idle.new.maker c.read_last-told.result
-    (Traffics.went_back hands_out takes_back p c.args.doors.now c.open_session.new.maker c.end_idle.new.maker c.in-Ok.ensures.handed_out c.end_idle.ensures.taken_back)
+    (Traffics.went_back hands_out takes_back p c.args.doors.now c.open_session.new.maker c.end_idle.new.maker c.in-Ok.ensures.handed_out
+    (taken g.M.DoorMaker.is_true g.M.DoorMaker.makes hands_out takes_back c.args.shared.now c.open_session.new.owner c.end_idle.new.owner c.open_session.new.maker c.end_idle.new.maker c.end_idle.ensures.sessions))
 
 pub returns-clause-out : goal.returns-clause-out
-returns-clause-out g c = let given = ap (λ (o : Owner). o.out) c.in-Ok.ensures.given in omega (arith, given, c.end_idle.ensures.out)
+returns-clause-out g c = let given = ap (λ (o : Owner). o.out) c.in-Ok.ensures.given in omega (arith, given, c.end_idle.ensures.sessions.out)
 
 pub returns-clause-made : goal.returns-clause-made
 returns-clause-made g c = rw c.end_idle.ensures.made c.open_session.ensures.made_most
@@ -102,8 +98,11 @@ returns-clause-doors g c =
     (counts c.end_idle.new.maker)
     c.open_session.ensures.doors told.ensures.rose c.end_idle.ensures.doors
 
-pub returns-clause-truth_stays : goal.returns-clause-truth_stays
-returns-clause-truth_stays g c =
+pub returns-in_default-clause-maker : goal.returns-in_default-clause-maker
+returns-in_default-clause-maker g c = let i = c.open_session.ensures in record { truth_stays = i.truth_stays; plan_stays = i.plan_stays }
+
+pub returns-clause-maker : goal.returns-clause-maker
+returns-clause-maker g c =
+    let m = g.M.DoorMaker in
     let i = c.open_session.ensures in
-    let e = c.end_idle.ensures in
-    (λ t. e.truth_stays.0 (i.truth_stays.0 t), λ t. i.truth_stays.1 (e.truth_stays.1 t))
+    makes_both m.is_true m.makes c.args.doors.now c.open_session.new.maker c.end_idle.new.maker (record { truth_stays = i.truth_stays; plan_stays = i.plan_stays }) c.end_idle.ensures.sessions.maker

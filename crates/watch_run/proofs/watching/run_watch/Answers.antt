@@ -4,17 +4,11 @@ use Rattle.page_store.proofs.CallsLemmas.{all_came_back_join}
 use Rattle.watch_run.specs.Ending.{EndsBy}
 use Rattle.watch_run.proofs.Doors.{all_lent}
 use Rattle.watch_run.proofs.Ends.{rose_thrice}
+use Rattle.watch_run.proofs.Sessions.{makes_both}
 use Rattle.watch_run.proofs.watching.run_watch.Goals as goal
 
 pub returns-in-Err-clause-ends : goal.returns-in-Err-clause-ends
 returns-in-Err-clause-ends g c = ⊎_elim (λ out. EndsBy.outside out) (λ not_made. EndsBy.unopened not_made) c.in-Err.ensures.opens.1
-
-pub returns-in-Ok-crew_of-clause-plan_stays : goal.returns-in-Ok-crew_of-clause-plan_stays
-returns-in-Ok-crew_of-clause-plan_stays g c n door =
-    let p = c.open_store.ensures.plan_stays n door in
-    let q = c.crew_of.ensures.plan_stays n door in
-    let r = c.work.ensures.plan_stays n door in
-    (λ h. r.0 (q.0 (p.0 h)), λ h. p.1 (q.1 (r.1 h)))
 
 pub returns-in-Ok-crew_of-clause-lent : goal.returns-in-Ok-crew_of-clause-lent
 returns-in-Ok-crew_of-clause-lent g c =
@@ -37,9 +31,26 @@ returns-in-Ok-crew_of-clause-doors g c =
     c.crew_of.ensures.doors
     c.work.ensures.doors
 
-pub returns-in-Ok-crew_of-clause-truth_stays : goal.returns-in-Ok-crew_of-clause-truth_stays
-returns-in-Ok-crew_of-clause-truth_stays g c =
-    let p = c.open_store.ensures.truth_stays in
-    let q = c.crew_of.ensures.truth_stays in
-    let r = c.work.ensures.truth_stays in
-    (λ t. r.0 (q.0 (p.0 t)), λ t. p.1 (q.1 (r.1 t)))
+pub returns-in-Err-clause-maker : goal.returns-in-Err-clause-maker
+returns-in-Err-clause-maker g c = c.open_store.ensures.maker
+
+pub returns-in_default-clause-maker : goal.returns-in_default-clause-maker
+returns-in_default-clause-maker g c = c.open_store.ensures.maker
+
+pub returns-in-Err-crew_of-clause-maker : goal.returns-in-Err-crew_of-clause-maker
+returns-in-Err-crew_of-clause-maker g c =
+    let m = g.M.DoorMaker in
+    makes_both m.is_true m.makes c.args.doors.now c.open_store.new.maker c.crew_of.new.maker c.open_store.ensures.maker c.crew_of.ensures.maker
+
+pub returns-in-Ok-crew_of-clause-maker : goal.returns-in-Ok-crew_of-clause-maker
+returns-in-Ok-crew_of-clause-maker g c =
+    let m = g.M.DoorMaker in
+    let called = c.crew_of.new.maker in
+    makes_both m.is_true m.makes c.args.doors.now called c.work.new.doors
+    (makes_both m.is_true m.makes c.args.doors.now c.open_store.new.maker called c.open_store.ensures.maker c.crew_of.ensures.maker) c.work.ensures.maker
+
+pub crew_of-requires-clause-true_doors : goal.crew_of-requires-clause-true_doors
+crew_of-requires-clause-true_doors g c = c.open_store.ensures.maker.truth_stays.0 c.requires.true_doors
+
+pub work-requires-clause-true_doors : goal.work-requires-clause-true_doors
+work-requires-clause-true_doors g c κs within = c.crew_of.ensures.maker.truth_stays.0 (c.open_store.ensures.maker.truth_stays.0 c.requires.true_doors)

@@ -23,6 +23,7 @@ use Rattle.update_work.specs.Left.{left_faults}
 use Rattle.watch_run.specs.Crews.{IsDoneWatching}
 use Rattle.watch_run.specs.Stages.{Entries, Owner}
 use Rattle.watch_run.proofs.Crews.{idle_on, all_stand, all_done, all_done_end}
+use Rattle.watch_run.proofs.Sessions.{taken, makes_so, makes_both}
 use Rattle.watch_run.proofs.Stages.{TookBack, took, new_idle, leaves_both, some_created}
 use Rattle.watch_run.proofs.Ends.{rose_told, rose_after, rose_early}
 use Rattle.watch_run.proofs.Noted.{all_read, notes_seen}
@@ -31,7 +32,7 @@ use Rattle.watch_run.proofs.watching.work.Goals as goal
 
 pub work_beside-keeper-requires-clause-fresh : goal.work_beside-keeper-requires-clause-fresh
 work_beside-keeper-requires-clause-fresh g c κs within =
-    let s = c.args.crew.writer in
+    let s = c.args.callers.crew.writer in
     let new = c.requires.writer in
     fresh_at s c.entries_are_events.ensures 1 new.caller (ap (λ (t : StoreState). t.fixed.limits) new.of_store ∙ c.requires.limits)
     (subst (λ (l : Entries). l ≡ tagged (events l)) (sym new.log) c.requires.owner.log.tags) (subst (λ (n : ℕ). entries_by n s.log ≡ []) new.caller new.none) new.none_held new.limit
@@ -39,19 +40,19 @@ work_beside-keeper-requires-clause-fresh g c κs within =
 pub end_idle-requires-clause-idle : goal.end_idle-requires-clause-idle
 end_idle-requires-clause-idle g c =
     let owner : Owner = record c.args.owner.now { made = 2 } in
-    idle_on c.args.shared.now c.args.crew.keeping c.work_beside-keeper.result.1.keeping
-    (new_idle g.M.Door.Door.faults c.entries_are_events.ensures c.args.shared.now owner c.args.crew.keeping c.requires.owner.log.tags (omega arith) c.requires.keeping)
+    idle_on c.args.shared.now c.args.callers.crew.keeping c.work_beside-keeper.result.1.keeping
+    (new_idle g.M.Door.Door.faults c.entries_are_events.ensures c.args.shared.now owner c.args.callers.crew.keeping c.requires.owner.log.tags (omega arith) c.requires.keeping)
     c.work_beside-keeper.ensures.kept.refreshes.idles
 
 pub meet_all-requires : goal.meet_all-requires
 meet_all-requires g c =
     let faults = g.M.Door.Door.faults in
     let store = c.args.shared.now in
-    let ws = c.args.crew.watchers in
+    let ws = c.args.callers.crew.watchers in
     let r = c.work_beside-keeper.result in
     let x = c.work_beside-keeper.ensures in
     let count : length r.1.watchers.items ≡ length ws.items = omega (arith, x.count, ws.ok.0, r.1.watchers.ok.0) in
-    let stand = all_stand faults store c.args.plan.now c.args.owner.now.seen c.args.keeper.board ws.items r.1.watchers.items count c.requires.ready x.watched in
+    let stand = all_stand faults store c.args.plan.now c.args.owner.now.seen c.args.callers.keeper.board ws.items r.1.watchers.items count c.requires.ready x.watched in
     record {
       board = subst (λ (l : List (WatcherState _)). All (StandsAt r.0.board) l) (sym c.as_slice.ensures.value) (subst (λ (b : BoardId). All (StandsAt b) r.1.watchers.items) (sym x.kept.refreshes.board) stand);
     }
@@ -80,8 +81,8 @@ finish-requires-clause-done g c κs within =
     let store = c.args.shared.now in
     let before = c.args.owner.now.seen in
     let seen = c.end_idle.new.owner.seen in
-    let board = c.args.keeper.board in
-    let ws = c.args.crew.watchers in
+    let board = c.args.callers.keeper.board in
+    let ws = c.args.callers.crew.watchers in
     let r = c.work_beside-keeper.result in
     let x = c.work_beside-keeper.ensures in
     let kept = x.kept.refreshes in
@@ -99,8 +100,8 @@ end_watchers-later-requires-clause-endable g c =
     let store = c.args.shared.now in
     let before = c.args.owner.now.seen in
     let seen = c.end_idle.new.owner.seen in
-    let board = c.args.keeper.board in
-    let ws = c.args.crew.watchers in
+    let board = c.args.callers.keeper.board in
+    let ws = c.args.callers.crew.watchers in
     let r = c.work_beside-keeper.result in
     let x = c.work_beside-keeper.ensures in
     let kept = x.kept.refreshes in
@@ -123,14 +124,14 @@ returns-in-Ok-clause-ends g c =
     let two = c.end_idle.new.owner in
     let x = c.work_beside-keeper.ensures in
     let r = c.work_beside-keeper.result in
-    let s = c.args.crew.writer in
+    let s = c.args.callers.crew.writer in
     let s' = r.1.writer in
     let e = c.end_session.ensures in
     let caller : s'.caller ≡ 2 = x.written.goes_on.caller ∙ c.requires.writer.caller in
     let took = subst (λ (n : ℕ). TookBack n s'.log first one) caller (took c.args.shared.now s'.caller s'.log first one e.counts e.begins e.own e.before e.owner) in
     let fresh = none_by are first.seen 2 c.requires.owner.log.tags (subst (λ (l : Entries). entries_by 2 l ≡ []) c.requires.writer.log (subst (λ (n : ℕ). entries_by n s.log ≡ []) c.requires.writer.caller c.requires.writer.none)) in
     let fixed = ap (λ (t : StoreState). t.fixed) c.requires.writer.of_store in
-    ends_by_finish are stay plan f s s' r.2 x.written.ends first one took c.requires.opened c.requires.writer.log fresh fixed (both_done r.2 r.3 c.in-Ok.field-0 (sym c.and.ensures ∙ c.in-Ok.is)) two c.finish.new.owner c.end_idle.ensures.leaves
+    ends_by_finish are stay plan f s s' r.2 x.written.ends first one took c.requires.opened c.requires.writer.log fresh fixed (both_done r.2 r.3 c.in-Ok.field-0 (sym c.and.ensures ∙ c.in-Ok.is)) two c.finish.new.owner c.end_idle.ensures.sessions.leaves
     c.finish.result (subst (λ (n : ℕ). Finishes f n c.finish.result two c.finish.new.owner) (x.count ∙ c.requires.count) c.finish.ensures.finishes)
 
 pub returns-in-Err-clause-ends : goal.returns-in-Err-clause-ends
@@ -144,7 +145,7 @@ returns-in-Err-clause-ends g c =
     let two = c.end_idle.new.owner in
     let x = c.work_beside-keeper.ensures in
     let r = c.work_beside-keeper.result in
-    let s = c.args.crew.writer in
+    let s = c.args.callers.crew.writer in
     let s' = r.1.writer in
     let e = c.end_session.ensures in
     let caller : s'.caller ≡ 2 = x.written.goes_on.caller ∙ c.requires.writer.caller in
@@ -152,11 +153,11 @@ returns-in-Err-clause-ends g c =
     let fresh = none_by are first.seen 2 c.requires.owner.log.tags (subst (λ (l : Entries). entries_by 2 l ≡ []) c.requires.writer.log (subst (λ (n : ℕ). entries_by n s.log ≡ []) c.requires.writer.caller c.requires.writer.none)) in
     let k = r.1.keeping in
     let last = c.end_watchers-later.new.owner in
-    let later = c.end_watchers-later.ensures.leaves in
+    let later = c.end_watchers-later.ensures.sessions.leaves in
     let from = subst (λ (l : Entries). Begins l k.log) c.requires.keeping.log x.kept.refreshes.idles.goes_on.begins in
     let to = begins_both k.log two.seen last.seen c.end_idle.ensures.begins later.comes.begins in
     let fixed = ap (λ (t : StoreState). t.fixed) c.requires.writer.of_store in
-    ends_early are stay plan f s s' k r.2 r.3 x.written.ends first one last took c.requires.opened c.requires.writer.log fresh fixed (leaves_both one two last c.end_idle.ensures.leaves later) from to x.kept.hindered
+    ends_early are stay plan f s s' k r.2 r.3 x.written.ends first one last took c.requires.opened c.requires.writer.log fresh fixed (leaves_both one two last c.end_idle.ensures.sessions.leaves later) from to x.kept.hindered
     c.in-Err.fault (sym c.and.ensures ∙ c.in-Err.is)
 
 pub returns-in-Ok-clause-noted : goal.returns-in-Ok-clause-noted
@@ -167,7 +168,7 @@ returns-in-Ok-clause-noted g c =
     let before = c.args.owner.now.seen in
     let two = c.end_idle.new.owner in
     let last = c.finish.new.owner in
-    let ws = c.args.crew.watchers in
+    let ws = c.args.callers.crew.watchers in
     let r = c.work_beside-keeper.result in
     let x = c.work_beside-keeper.ensures in
     let k = r.1.keeping in
@@ -184,22 +185,8 @@ returns-in-Ok-clause-noted g c =
     (λ more. c.refreshes_stay.ensures store.fixed k.log last.seen r.0.all (begins_both k.log two.seen last.seen c.end_idle.ensures.begins more) hold)
     (λ more list ended.
     subst (λ (n : ℕ). HaveNoted (IsPieceSeen store.fixed last.seen) plan.ops n list) readers
-    (all_read faults store law.tell c.args.keeper.board before k.log last.seen (some_created before c.requires.opened.created) from (begins_both k.log two.seen last.seen c.end_idle.ensures.begins more) r.0.all hold plan ws.items r.1.watchers.items count c.requires.ready x.watched met list ended))
+    (all_read faults store law.tell c.args.callers.keeper.board before k.log last.seen (some_created before c.requires.opened.created) from (begins_both k.log two.seen last.seen c.end_idle.ensures.begins more) r.0.all hold plan ws.items r.1.watchers.items count c.requires.ready x.watched met list ended))
     c.finish.result c.finish.ensures.finishes notes
-
-pub returns-in-Ok-clause-plan_stays : goal.returns-in-Ok-clause-plan_stays
-returns-in-Ok-clause-plan_stays g c n door =
-    let a = c.end_session.ensures in
-    let b = c.end_idle.ensures in
-    let e = c.finish.ensures in
-    (λ h. (e.plan_stays n door).0 ((b.plan_stays n door).0 ((a.plan_stays n door).0 h)), λ h. (a.plan_stays n door).1 ((b.plan_stays n door).1 ((e.plan_stays n door).1 h)))
-
-pub returns-in-Err-clause-plan_stays : goal.returns-in-Err-clause-plan_stays
-returns-in-Err-clause-plan_stays g c n door =
-    let a = c.end_session.ensures in
-    let b = c.end_idle.ensures in
-    let e = c.end_watchers-later.ensures in
-    (λ h. (e.plan_stays n door).0 ((b.plan_stays n door).0 ((a.plan_stays n door).0 h)), λ h. (a.plan_stays n door).1 ((b.plan_stays n door).1 ((e.plan_stays n door).1 h)))
 
 pub returns-in-Ok-clause-lent : goal.returns-in-Ok-clause-lent
 returns-in-Ok-clause-lent g c =
@@ -209,7 +196,9 @@ returns-in-Ok-clause-lent g c =
     let mid = c.end_idle.new.maker in
     let last = c.finish.new.doors in
     let count : vec_len c.work_beside-keeper.result.1.watchers ≡ n = c.work_beside-keeper.ensures.count ∙ c.requires.count in
-    crew_told m.hands_out m.takes_back p n c.args.doors.now c.end_session.new.maker mid last c.end_session.ensures.taken_back c.end_idle.ensures.taken_back c.finish.result
+    crew_told m.hands_out m.takes_back p n c.args.doors.now c.end_session.new.maker mid last c.end_session.ensures.taken_back
+    (taken m.is_true m.makes m.hands_out m.takes_back c.args.shared.now c.end_session.new.owner c.end_idle.new.owner c.end_session.new.maker mid c.end_idle.ensures.sessions)
+    c.finish.result
     (subst (λ (k : ℕ). EndDoors m.hands_out m.takes_back p k mid last c.finish.result) count c.finish.ensures.lent)
 
 pub returns-in-Err-clause-lent : goal.returns-in-Err-clause-lent
@@ -221,8 +210,9 @@ returns-in-Err-clause-lent g c =
     let mid = c.end_idle.new.maker in
     let last = c.end_watchers-later.new.maker in
     let count : vec_len c.work_beside-keeper.result.1.watchers ≡ n = c.work_beside-keeper.ensures.count ∙ c.requires.count in
-    crew_ended m.hands_out m.takes_back p n first c.end_session.new.maker mid last c.end_session.ensures.taken_back c.end_idle.ensures.taken_back
-    (subst (λ (k : ℕ). Traffic m.hands_out m.takes_back 0 (k * p) mid last) count c.end_watchers-later.ensures.taken_back)
+    crew_ended m.hands_out m.takes_back p n first c.end_session.new.maker mid last c.end_session.ensures.taken_back
+    (taken m.is_true m.makes m.hands_out m.takes_back c.args.shared.now c.end_session.new.owner c.end_idle.new.owner c.end_session.new.maker mid c.end_idle.ensures.sessions)
+    (subst (λ (k : ℕ). Traffic m.hands_out m.takes_back 0 (k * p) mid last) count c.end_watchers-later.ensures.sessions.traffic)
 
 pub finish-requires-clause-passes_left : goal.finish-requires-clause-passes_left
 finish-requires-clause-passes_left g c κs within =
@@ -233,11 +223,11 @@ finish-requires-clause-passes_left g c κs within =
 
 pub returns-in-Ok-clause-none_out : goal.returns-in-Ok-clause-none_out
 returns-in-Ok-clause-none_out g c =
-    omega (arith, c.end_session.ensures.counts.0, c.end_idle.ensures.out, c.finish.ensures.out, c.requires.opened.out, c.work_beside-keeper.ensures.count, c.requires.count)
+    omega (arith, c.end_session.ensures.counts.0, c.end_idle.ensures.sessions.out, c.finish.ensures.out, c.requires.opened.out, c.work_beside-keeper.ensures.count, c.requires.count)
 
 pub returns-in-Err-clause-none_out : goal.returns-in-Err-clause-none_out
 returns-in-Err-clause-none_out g c =
-    omega (arith, c.end_session.ensures.counts.0, c.end_idle.ensures.out, c.end_watchers-later.ensures.out, c.requires.opened.out, c.work_beside-keeper.ensures.count, c.requires.count)
+    omega (arith, c.end_session.ensures.counts.0, c.end_idle.ensures.sessions.out, c.end_watchers-later.ensures.sessions.out, c.requires.opened.out, c.work_beside-keeper.ensures.count, c.requires.count)
 
 pub returns-in-Ok-clause-doors : goal.returns-in-Ok-clause-doors
 returns-in-Ok-clause-doors g c =
@@ -263,19 +253,28 @@ returns-in-Err-clause-doors g c =
     rose_early n (page_faults c.in-Err.fault) (left_faults c.end_watchers-later.result) first one (sum_by faults r.1.keeping.doors) (counts c.end_idle.new.maker)
     (counts c.end_watchers-later.new.maker)
     (early_counts r.1.keeping r.2 r.3 c.in-Err.fault x.kept.hindered (sym c.and.ensures ∙ c.in-Err.is))
-    (rose_told n first first (sum_by faults c.args.crew.writer.doors) (sum_by faults r.1.writer.doors) one (λ _. omega arith) x.written.rose c.end_session.ensures.doors) c.end_idle.ensures.doors
+    (rose_told n first first (sum_by faults c.args.callers.crew.writer.doors) (sum_by faults r.1.writer.doors) one (λ _. omega arith) x.written.rose c.end_session.ensures.doors) c.end_idle.ensures.doors
     c.end_watchers-later.ensures.doors
 
-pub returns-in-Ok-clause-truth_stays : goal.returns-in-Ok-clause-truth_stays
-returns-in-Ok-clause-truth_stays g c =
-    let a = c.end_session.ensures.truth_stays in
-    let b = c.end_idle.ensures.truth_stays in
-    let e = c.finish.ensures.truth_stays in
-    (λ t. e.0 (b.0 (a.0 t)), λ t. a.1 (b.1 (e.1 t)))
+pub finish-requires-clause-true_doors : goal.finish-requires-clause-true_doors
+finish-requires-clause-true_doors g c κs within = c.end_idle.ensures.sessions.maker.truth_stays.0 (c.end_session.ensures.truth_stays.0 c.requires.true_doors)
 
-pub returns-in-Err-clause-truth_stays : goal.returns-in-Err-clause-truth_stays
-returns-in-Err-clause-truth_stays g c =
-    let a = c.end_session.ensures.truth_stays in
-    let b = c.end_idle.ensures.truth_stays in
-    let e = c.end_watchers-later.ensures.truth_stays in
-    (λ t. e.0 (b.0 (a.0 t)), λ t. a.1 (b.1 (e.1 t)))
+pub returns-in-Ok-clause-maker : goal.returns-in-Ok-clause-maker
+returns-in-Ok-clause-maker g c =
+    let m = g.M.DoorMaker in
+    let e = c.end_session.ensures in
+    let first = c.args.doors.now in
+    let one = c.end_session.new.maker in
+    let two = c.end_idle.new.maker in
+    let ended = makes_both m.is_true m.makes first one two (makes_so m.is_true m.makes first one e.truth_stays e.plan_stays) c.end_idle.ensures.sessions.maker in
+    makes_both m.is_true m.makes first two c.finish.new.doors ended c.finish.ensures.maker
+
+pub returns-in-Err-clause-maker : goal.returns-in-Err-clause-maker
+returns-in-Err-clause-maker g c =
+    let m = g.M.DoorMaker in
+    let e = c.end_session.ensures in
+    let first = c.args.doors.now in
+    let one = c.end_session.new.maker in
+    let two = c.end_idle.new.maker in
+    let ended = makes_both m.is_true m.makes first one two (makes_so m.is_true m.makes first one e.truth_stays e.plan_stays) c.end_idle.ensures.sessions.maker in
+    makes_both m.is_true m.makes first two c.end_watchers-later.new.maker ended c.end_watchers-later.ensures.sessions.maker

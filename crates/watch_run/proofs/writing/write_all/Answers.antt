@@ -44,3 +44,6 @@ ops-preserved g c =
       rose = rose_both 0 0 (sum_by faults start.doors) (sum_by faults mid.doors) (sum_by faults last.doors) c.ops.invariant.rose c.in-Ok.ensures.faults;
       goes_on = goes_both start mid last c.ops.invariant.goes_on c.in-Ok.ensures.goes_on;
     }
+
+pub returns-in-Err-clause-goes_on : goal.returns-in-Err-clause-goes_on
+returns-in-Err-clause-goes_on g c = goes_both c.args.session.now c.ops.session c.update.new.session c.ops.invariant.goes_on c.in-Err.ensures.goes_on
