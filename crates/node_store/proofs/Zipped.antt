@@ -1,5 +1,5 @@
 -- Nodes beside the ranges of a row.
-use Rattle.std.proofs.Common.{◌≡◌, ℕ, zero, suc, List, [], ◌∷◌, ap, refl}
+use Rattle.std.proofs.Common.{◌≡◌, ℕ, zero, suc, List, [], ◌∷◌, length, map, arith, ap, refl}
 use Rattle.std.specs.Prelude.{Some, slice_get}
 use Rattle.std.specs.List.{Contains, zip}
 use Rattle.std.proofs.lemmas.Option.{same_Some, slice_get_within, get_or_from_slice_get}
@@ -27,3 +27,9 @@ pub contains_left : {A B : Type 0} (xs : List A) (ys : List B) (i : ℕ) (pair :
 contains_left xs ys i pair is =
     let at = zip_left xs ys i pair is in
     (i, slice_get_within xs i pair.0 at, get_or_from_slice_get xs i pair.0 pair.0 at)
+
+-- the elements of the first list, of which the other has as many
+pub zip_firsts : {A B : Type 0} (xs : List A) (ys : List B) → length ys ≡ length xs → map (λ (pair : A × B). pair.0) (zip xs ys) ≡ xs
+zip_firsts [] ys same = refl
+zip_firsts (x ∷ xs) [] same = absurd (omega arith)
+zip_firsts (x ∷ xs) (y ∷ ys) same = ap (λ l. x ∷ l) (zip_firsts xs ys (omega arith))

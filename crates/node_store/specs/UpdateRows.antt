@@ -1,10 +1,11 @@
 -- What a clause sees of the row of one update.
-use Rattle.std.specs.Prelude.{◌≡◌, ◌≢◌, ℕ, ◌+◌, ◌*◌, ◌++◌, min, List, length, Some, slice_get, slice_range}
+use Rattle.std.specs.Prelude.{◌≡◌, ◌≢◌, ℕ, ◌+◌, ◌*◌, ◌++◌, map, min, List, length, Some, slice_get, slice_range}
 use Rattle.std.specs.List.{Contains}
 use Rattle.boxcar.specs.Table.{Shelves}
 use Rattle.tree_geom.specs.declared.range.Range.{Range}
 use Rattle.tree_geom.specs.declared.touch.Touch.{Touch}
 use Rattle.tree_geom.specs.declared.node.Node.{Node}
+use Rattle.range_log.specs.Rows.{levels_of}
 use Rattle.page_store.specs.House.{House}
 use Rattle.page_store.specs.Stored.{Stored, Cut, LieAmong}
 use Rattle.node_store.specs.House.{IsIn}
@@ -30,6 +31,10 @@ stored_of row = row.pages.pages ++ row.folds
 -- the bytes of stored page q of an update with these bytes
 abbrev pub bytes_of_page : ℕ → List ℕ → ℕ → List ℕ
 bytes_of_page p bytes q = slice_range bytes (q * p) (min ((q + 1) * p) (length bytes))
+
+-- the row's nodes are those of the ranges of a tree over pages of p bytes that its update touches
+abbrev pub HasRangesOf : ℕ → UpdateRow → Type 0
+HasRangesOf p row = (h : ℕ) × (map (λ (pair : Range × Node). pair.0) row.nodes ≡ levels_of p row.touch h)
 
 -- the row has no node of that range
 abbrev pub HasNoNodeFor : UpdateRow → Range → Type 0

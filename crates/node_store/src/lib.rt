@@ -7,6 +7,7 @@
 
 mod folds;
 mod house;
+mod index;
 mod row;
 mod shape;
 

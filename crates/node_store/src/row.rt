@@ -1,15 +1,17 @@
 // The nodes of one update, by range.
-ghost use Rattle.std.specs.Prelude.{◌≡◌, ◌+◌, ◌*◌, ◌^◌, ◌<◌, ◌≤◌, [], length, IfOk, MatchOption, Some, unwrap_or, slice_get};
+ghost use Rattle.std.specs.Prelude.{◌≡◌, ℕ, ◌+◌, ◌*◌, ◌^◌, ◌<◌, ◌≤◌, [], length, IfOk, MatchOption, Some, unwrap_or, slice_get};
 ghost use Rattle.std.specs.List.{zip};
 ghost use Rattle.std.specs.Option.{option_map};
 ghost use Rattle.std.specs.Arc.{arc_value};
+ghost use Rattle.tree_geom.specs.Geometry.{tree_range};
 ghost use Rattle.range_log.specs.Rows.{levels_of};
-ghost use Rattle.node_store.specs.UpdateRows.{bytes_of_page, stored_of, IsNodeFor, HasNoNodeFor};
+ghost use Rattle.node_store.specs.UpdateRows.{bytes_of_page, stored_of, IsNodeFor, HasNoNodeFor, HasRangesOf};
 ghost use Rattle.page_store.specs.Stored.{bytes_of_pages};
 
 use crate::NoMemory;
 use crate::folds::Folds;
 use crate::house::{NodeRef, RowNodes};
+use crate::index::index_at_height;
 use crate::shape::Shape;
 use page_store::{Pages, StoredPage};
 use range_log::index_in_row;
@@ -147,18 +149,42 @@ impl Row {
     }
 
     #[inline(always)]
-    /// The node of that range, or None where the row has none. In both cases it takes one node step, and there is no other way from
-    /// a row to a node. The node's index is computed, and no other node is looked at.
+    /// The node of that range, or None where the row has none. In both cases it takes one node step, and beside `at_height`, which
+    /// takes as many, there is no other way from a row to a node. The node's index is computed, and no other node is looked at.
     pub fn at<L: Ledger>(&self, range: Range, steps: &mut Steps<L>) -> Option<NodeRef<'_>>
         ensures node { MatchOption result (HasNoNodeFor self.now range) (λ node. IsNodeFor self.now range node) }
         ensures step { steps.new ≡ steps.old + 1 }
     {
-        steps.tick();
+        steps.tick(); // found or not
         let count = self.nodes.count();
         let (touch, height) = (self.shape.touch(), self.shape.height());
         let p = self.shape.page_size();
         match index_in_row(p, height, &touch, count, range) {
             Some(index) => Some(self.nodes.node(index)),
+            None => None,
+        }
+    }
+
+    #[inline(always)]
+    /// The node of range number `number`, counted from 0, among those of 2 to the power `height` pages, or None where the row has
+    /// none. In both cases it takes one node step, and beside `at` there is no other way from a row to a node. The node's index is
+    /// computed, from what the update touches alone, and no other node is looked at.
+    pub fn at_height<L: Ledger>(
+        &self,
+        height: u32,
+        number: u64,
+        steps: &mut Steps<L>,
+    ) -> Option<NodeRef<'_>>
+        ensures node { (p : ℕ) → HasRangesOf p self.now
+            → MatchOption result (HasNoNodeFor self.now (tree_range p height number)) (λ node. IsNodeFor self.now (tree_range p height number) node) }
+        ensures step { steps.new ≡ steps.old + 1 }
+    {
+        steps.tick();
+        self.shape.stands();
+        let count = self.nodes.count();
+        let (touch, top) = (self.shape.touch(), self.shape.height());
+        match index_at_height(top, &touch, count, height, number) {
+            Some(place) => Some(self.nodes.node(place)),
             None => None,
         }
     }

@@ -92,4 +92,12 @@ impl Shape {
     {
         1u64 << u32::from(self.page_log)
     }
+
+    /// Its pages are of a page's size. For proofs: it does nothing.
+    #[inline(always)]
+    pub(crate) fn stands(&self)
+        ensures { IsPageSize self.now.page_size }
+    {
+        let _size = self.page_size();
+    }
 }

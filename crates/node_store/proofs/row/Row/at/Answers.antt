@@ -1,16 +1,11 @@
-use Rattle.std.proofs.Common.{◌≡◌, ℕ, ◌+◌, List, ap, subst, sym, ◌∙◌}
+use Rattle.std.proofs.Common.{◌≡◌, ◌+◌, List, subst, sym}
 use Rattle.std.specs.Prelude.{Some, slice_get}
 use Rattle.std.specs.List.{Contains}
 use Rattle.tree_geom.specs.declared.range.Range.{Range}
-use Rattle.tree_geom.specs.declared.touch.Touch.{Touch}
 use Rattle.range_log.specs.Rows.{levels_of}
 use Rattle.node_store.proofs.Zipped.{contains_pair, contains_left}
+use Rattle.node_store.proofs.Ranges.{same_levels}
 use Rattle.node_store.proofs.row.Row.at.Goals as goal
-
--- the ranges that are asked for are those that the row has
-same_levels : (p q : ℕ) (t u : Touch) (h k : ℕ) → p ≡ q → t ≡ u → h ≡ k → levels_of p t (h + 1) ≡ levels_of q u (k + 1)
-same_levels p q t u h k size touch height =
-    ap (λ n. levels_of n t (h + 1)) size ∙ ap (λ x. levels_of q x (h + 1)) touch ∙ ap (λ n. levels_of q u (n + 1)) height
 
 pub index_in_row-requires-clause-fits : goal.index_in_row-requires-clause-fits
 index_in_row-requires-clause-fits g c = rw (c.page_size-p.ensures.is, c.touch-touch.ensures) c.self.invariant.fits
