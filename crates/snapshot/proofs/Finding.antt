@@ -1,5 +1,5 @@
 -- The nodes of a row that is that of its update.
-use Rattle.std.proofs.Common.{◌≡◌, ℕ, zero, suc, ◌<◌, ◌≤◌, List, length, map, arith, ap, sym, ◌∙◌, subst, get_or}
+use Rattle.std.proofs.Common.{◌≡◌, ℕ, zero, suc, ◌+◌, ◌<◌, ◌≤◌, List, [], ◌∷◌, length, map, arith, refl, ap, sym, ◌∙◌, subst, get_or}
 use Rattle.std.specs.Prelude.{Option, Some, None, MatchOption, IfSome, IfNone, slice_get}
 use Rattle.std.specs.List.{Contains}
 use Rattle.std.proofs.lemmas.List.{length-map, get_or-map}
@@ -8,17 +8,19 @@ use Rattle.blob_model.specs.Content.{Update, size_of}
 use Rattle.tree_geom.specs.declared.range.Range.{Range}
 use Rattle.tree_geom.specs.declared.touch.Touch.{Touch}
 use Rattle.tree_geom.specs.declared.node.Node.{Node}
-use Rattle.range_log.specs.Log.{HasNode}
+use Rattle.tree_geom.specs.Geometry.{height_of}
+use Rattle.range_log.specs.Log.{HasNode, size_at}
 use Rattle.range_log.specs.Extents.{Extent, InBounds, touches}
 use Rattle.range_log.specs.Updates.{extents, Replayable}
-use Rattle.range_log.specs.Rows.{node_of, row_of, row_keys_of}
+use Rattle.range_log.specs.Rows.{node_of, row_of, row_keys_of, levels_of}
 use Rattle.range_log.specs.Laws.{RowKeysExact, ExtentsStand}
 use Rattle.boxcar.specs.Table.{Shelves}
 use Rattle.node_store.specs.House.{IsIn}
 use Rattle.node_store.specs.Placed.{PlacedNode}
-use Rattle.node_store.specs.UpdateRows.{UpdateRow, IsNodeFor, HasNoNodeFor}
+use Rattle.node_store.specs.UpdateRows.{UpdateRow, IsNodeFor, HasNoNodeFor, HasRangesOf}
 use Rattle.range_log.proofs.Grown.{touch-touches}
 use Rattle.range_log.proofs.Bytes.{length-extents}
+use Rattle.range_log.proofs.Levels.{row_keys_are}
 use Rattle.snapshot.specs.Versions.{Version, row_at, updates_of, IsRowOf, IsVersion, IsFound, HasNodeFor, NodesLieIn, no_row}
 use Rattle.snapshot.proofs.Lists.{length-updates}
 use Rattle.tree_geom.proofs.Spans.{page_pos}
@@ -71,6 +73,28 @@ pub found_none : RowKeysExact → (p j : ℕ) (xs : List Extent) (row : UpdateRo
 found_none exact p j xs row range pos bounds some le is none has =
     let at = of_row p j xs row range is ((exact p j xs range pos bounds some le).1 has) in
     none at.0 at.1 at.2 at.3
+
+-- ---- the ranges of a row
+-- what stands first in what a function pairs with each element
+firsts_made : {X Y : Type 0} (f : X → Y) (xs : List X) → map (λ (e : X × Y). e.0) (map (λ x. (x, f x)) xs) ≡ xs
+firsts_made f [] = refl
+firsts_made f (x ∷ xs) = ap (λ l. x ∷ l) (firsts_made f xs)
+
+-- the nodes of a row of a version are those of the ranges of a tree over its pages
+pub has_ranges : (s : Version) (j : ℕ) (row : UpdateRow) → IsVersion s → row ≡ row_at s.rows j → 1 ≤ j → j ≤ length s.rows → HasRangesOf s.page_size row
+has_ranges s j row is same some le =
+    let p : ℕ = s.page_size in
+    let xs : List Extent = extents (updates_of s) in
+    let h : ℕ = height_of p (size_at (touches p xs) j) in
+    let own : IsRowOf p (updates_of s) j (row_at s.rows j) = is.rows j some le in
+    let R : UpdateRow → Type 0 = λ r. HasRangesOf p r in
+    subst R (sym same) (
+      h + 1,
+      ap (map (λ (e : Range × Node). e.0)) own.nodes
+          ∙ firsts_made (node_of p xs j) (row_keys_of p (touches p xs) j)
+          ∙ row_keys_are p (touches p xs) j h refl
+          ∙ ap (λ (t : Touch). levels_of p t (h + 1)) (sym own.touch),
+    )
 
 -- ---- sizes
 pub touch_size : ExtentsStand → (p k : ℕ) (us : List Update) (row : UpdateRow) → Replayable us → 1 ≤ k → k ≤ length us → IsRowOf p us k row → row.touch.size ≡ size_of us k

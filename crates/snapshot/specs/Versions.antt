@@ -22,6 +22,11 @@ pub record Version : Type 0 where
   pub page_size : ℕ
   pub rows : List UpdateRow
 
+-- an update of a version, whose row is asked for nodes; 0 is none of them
+pub record RowIn : Type 0 where
+  pub version : Version
+  pub update : ℕ
+
 -- where no nodes lie
 abbrev pub no_spot : Spot
 no_spot = record { shard = 0; shelf = 0; mark = 0 }

@@ -10,4 +10,4 @@ mod views;
 
 pub use node_store::NoMemory;
 pub use version::Snapshot;
-pub use views::View;
+pub use views::{RowView, View};

@@ -171,7 +171,7 @@ impl Snapshot {
     }
 
     /// The node that the row of update `j` has for the range, or None where it has none. In both cases it takes one node step, the
-    /// row's own, and looks in no other row; and there is no other way from a lent snapshot to a node.
+    /// row's own, and looks in no other row; and beside the rows of its views there is no other way from a lent snapshot to a node.
     #[inline(always)]
     pub fn find<'s, L: Ledger>(
         &'s self,

@@ -1,6 +1,7 @@
 // A version as it is read.
 ghost use Rattle.std.specs.Prelude.{◌≡◌, ◌+◌, ◌^◌, ◌<◌, ◌≤◌, ◌↔◌, length, IfNone, IfSome, IsNone, Some, slice_get};
 ghost use Rattle.blob_model.specs.Content.{size_of};
+ghost use Rattle.tree_geom.specs.Geometry.{tree_range};
 ghost use Rattle.node_store.specs.UpdateRows.{bytes_of_page, stored_of};
 ghost use Rattle.snapshot.specs.Versions.{row_at, bytes_of, updates_of, older_version};
 ghost use Rattle.snapshot.specs.Versions.{size_now, HasNodeFor, IsFound, root_key, IsVersion};
@@ -123,7 +124,7 @@ impl<'a> View<'a> {
     }
 
     /// The node that the row of update `j` has for the range, or None where it has none. In both cases it takes one node step, the
-    /// row's own, and looks in no other row; and there is no other way from a view to a node.
+    /// row's own, and looks in no other row; and beside `row_of` there is no other way from a view to a node.
     #[inline(always)]
     pub fn find<L: Ledger>(&self, j: u64, range: Range, steps: &mut Steps<L>) -> Option<NodeRef<'a>>
         requires { (1 ≤ j) × (j ≤ length self.now.rows) }
@@ -134,6 +135,22 @@ impl<'a> View<'a> {
         laws::row_keys_exact();
         laws::page_bytes_stay();
         self.row(j).at(range, steps)
+    }
+
+    /// The row of update `j`, from which its nodes are asked for by height and number; update 0 has none. It takes no step: each look
+    /// at a node does.
+    #[inline(always)]
+    pub fn row_of(&self, j: u64) -> RowView<'a>
+        requires { j ≤ length self.now.rows }
+        ensures { result ≡ record { version = self.now; update = j } }
+    {
+        self.stands();
+        let row = if j == 0 { None } else { Some(self.row(j)) };
+        RowView {
+            version: View::of(self.snapshot, self.version),
+            update: j,
+            row,
+        }
     }
 
     /// The stored page of update `j` that the number `q` of a piece means. First come the update's pages, whose bytes are those
@@ -157,5 +174,59 @@ impl<'a> View<'a> {
     {
         self.stands();
         self.snapshot.row(j)
+    }
+}
+
+/// The row of one update of a version, from which its nodes are asked for by height and number. Whoever asks for several nodes of one
+/// row comes to the row once. It takes no memory.
+#[derive(Drop)]
+pub struct RowView<'a> {
+    version: View<'a>,
+    update: u64,
+    // None for update 0
+    row: Option<&'a Row>,
+}
+
+impl<'a> Model for RowView<'a> {
+    ghost use Rattle.std.specs.Prelude.{◌≡◌, ◌≤◌, length, MatchOption};
+    ghost use Rattle.snapshot.specs.Versions.{RowIn, IsVersion, row_at};
+
+    ghost Value = { RowIn };
+
+    ghost view = { λ r. record { version = r.version; update = r.update } };
+
+    ghost invariant = { λ r. IsVersion r.version × (r.update ≤ length r.version.rows)
+        × MatchOption r.row (r.update ≡ 0) (λ row. row.now ≡ row_at r.version.rows r.update) };
+}
+
+impl<'a> RowView<'a> {
+    /// The node that the row has for range number `number`, counted from 0, among those of 2 to the power `height` pages, or None
+    /// where it has none. In both cases it takes one node step, the row's own, and looks in no other row; and there is no other way
+    /// from a row's view to a node.
+    #[inline(always)]
+    pub fn find<L: Ledger>(
+        &self,
+        height: u32,
+        number: u64,
+        steps: &mut Steps<L>,
+    ) -> Option<NodeRef<'a>>
+        requires { 1 ≤ self.now.update }
+        ensures none { IfNone result (¬ HasNodeFor self.now.version self.now.update (tree_range self.now.version.page_size height number)) }
+        ensures found { IfSome result (λ node. IsFound self.now.version self.now.update (tree_range self.now.version.page_size height number) node) }
+        ensures step { steps.new ≡ steps.old + 1 }
+    {
+        laws::row_keys_exact();
+        laws::page_bytes_stay();
+        let Some(row) = self.row else { unreachable!() };
+        row.at_height(height, number, steps)
+    }
+
+    /// The version's rows are those of some updates within bounds, as a version keeps them, and the update is one of them, or 0. For
+    /// proofs: it does nothing.
+    pub fn stands(&self)
+        ensures version { IsVersion self.now.version }
+        ensures update { self.now.update ≤ length self.now.version.rows }
+    {
+        let _update = self.update;
     }
 }
