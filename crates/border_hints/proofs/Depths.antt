@@ -1,5 +1,5 @@
 -- How deep the newest lower leaf of a page lies, from the snapshot's on.
-use Rattle.std.proofs.Common.{◌≡◌, ◌≢◌, ◌⊎◌, ℕ, suc, ◌+◌, ◌*◌, ◌%◌, ◌<◌, ◌≤◌, List, [], ◌∷◌, ◌++◌, length, map, arith, inl, inr, refl, ap, sym, ◌∙◌, true, false}
+use Rattle.std.proofs.Common.{◌≡◌, ◌≢◌, ◌⊎◌, ℕ, suc, ◌+◌, ◌*◌, ◌%◌, ◌<◌, ◌≤◌, List, [], ◌∷◌, ◌++◌, length, map, arith, inl, inr, refl, ap, sym, ◌∙◌, true, false, Bool}
 use Rattle.std.specs.Prelude.{if◌then◌else◌}
 use Rattle.std.proofs.lemmas.Nat.{mul-le}
 use Rattle.tree_geom.specs.declared.range.Range.{Range}
@@ -30,13 +30,20 @@ pub depth_next : (p : ℕ) (log : List Touch) (k i : ℕ) → depth_of p log (su
 unfolding depth_by
 depth_next p log k i = refl
 
--- an update that touches the page
+-- an update that doesn't touch the page, and one that does
+pub after_miss : (p : ℕ) (u : Touch) (i d : ℕ) → meets_of p u (page_range p i) ≡ false → d ≡ depth_after fold_number p u i d
+after_miss p u i d miss = sym (ap (λ b. if b then (if leaves_open u i then suc d % fold_number else 0) else d) miss)
+
+pub after_hit : (p : ℕ) (u : Touch) (i d : ℕ) (open_page : Bool) → meets_of p u (page_range p i) ≡ true → leaves_open u i ≡ open_page
+    → depth_after fold_number p u i d ≡ (if open_page then suc d % fold_number else 0)
+after_hit p u i d open_page hit is =
+    ap (λ b. if b then (if leaves_open u i then suc d % fold_number else 0) else d) hit ∙ ap (λ b. if b then suc d % fold_number else 0) is
+
 after_met : MeetsIsTrue → (p : ℕ) (u : Touch) (i d : ℕ) → 1 ≤ p → u.first ≤ i → i ≤ u.last → depth_after fold_number p u i d ≡ (if leaves_open u i then suc d % fold_number else 0)
 after_met met p u i d pos from to =
     let low : u.first * p ≤ i * p = mul-le u.first p i p from (omega arith) in
     let high : (i + 1) * p ≤ (u.last + 1) * p = mul-le (i + 1) p (u.last + 1) p (omega arith) (omega arith) in
-    let hit : meets_of p u (page_range p i) ≡ true = met p u (page_range p i) (omega arith, omega arith, omega arith) in
-    ap (λ b. if b then (if leaves_open u i then suc d % fold_number else 0) else d) hit
+    after_hit p u i d (leaves_open u i) (met p u (page_range p i) (omega arith, omega arith, omega arith)) refl
 
 depth_met : MeetsIsTrue → (p : ℕ) (log : List Touch) (u : Touch) (k i : ℕ) → 1 ≤ p → touch_at log (k + 1) ≡ u → u.first ≤ i → i ≤ u.last
     → depth_of p log (k + 1) i ≡ (if leaves_open u i then suc (depth_of p log k i) % fold_number else 0)

@@ -1,15 +1,15 @@
 -- The steps down to a page, and the ranges beside its path.
 use Rattle.std.proofs.Common.{◌≡◌, ◌≢◌, ℕ, zero, suc, ◌+◌, ◌-◌, ◌*◌, ◌/◌, ◌%◌, ◌^◌, ◌<◌, ◌≤◌, List, [], ◌∷◌, ◌++◌, length, map, set, arith, inl, inr, refl, ap, sym, subst, ◌∙◌, true, false, get_or, length-append}
-use Rattle.std.specs.Prelude.{◌==◌, if◌then◌else◌}
+use Rattle.std.specs.Prelude.{◌==◌, ◌&&◌, if◌then◌else◌, nat_lt, nat_le}
 use Rattle.std.proofs.lemmas.Bool.{cases_lt}
 use Rattle.std.proofs.lemmas.Bool.Decides.{nat_tests}
-use Rattle.std.proofs.lemmas.Nat.{mul-le, pow_pos, div_below}
+use Rattle.std.proofs.lemmas.Nat.{mul-le, pow_pos, le-div, div_below}
 use Rattle.std.proofs.lemmas.List.{get_or-map, get_or_append_left, get_or-append_right, get_or-set_same, get_or-set_other, length-set}
 use Rattle.std.proofs.Math.Nat.{pow-succ', div-div-eq-div-mul, div-mul-le_self, lt-div-mul-add}
 use Rattle.tree_geom.specs.declared.range.Range.{Range}
 use Rattle.tree_geom.specs.declared.touch.Touch.{Touch}
-use Rattle.tree_geom.specs.Geometry.{tree_range, page_range, height_of, span_of, no_touch, meets_of}
-use Rattle.tree_geom.specs.Laws.{HeightsHold, SpanOfSome, RangesNest}
+use Rattle.tree_geom.specs.Geometry.{tree_range, page_range, height_of, no_touch, meets_of}
+use Rattle.tree_geom.specs.Laws.{HeightsHold}
 use Rattle.range_log.specs.Laws.{Grown, NewestHits, NewestOfNone, LogsAreGrown}
 use Rattle.range_log.specs.declared.open.OpenTouch.{OpenTouch}
 use Rattle.range_log.specs.Log.{newest_of, touch_at, size_at}
@@ -19,7 +19,58 @@ use Rattle.range_log.specs.Open.{no_open, open_at}
 use Rattle.border_hints.specs.Numbered.{NumberedUpdate, log_of, log_with, own_touch, log_upto, IsTicketAmong, IsValidTicket}
 use Rattle.border_hints.specs.Borders.{beside, newest_known, KnowsEdge, edge_links}
 use Rattle.border_hints.proofs.Tickets.{length-log_of, length-log_with}
-use Rattle.border_hints.proofs.Published.{double, holds_root}
+use Rattle.tree_geom.proofs.Spans.{size_pos}
+use Rattle.border_hints.proofs.Published.{holds_root}
+
+-- ---- the ranges that an update touches, by height and number
+ends_after : (p w a q : ℕ) → 1 ≤ p → 1 ≤ w → nat_lt (a * p) (q * (p * w) + p * w) ≡ nat_le (a / w) q
+ends_after p w a q pos some =
+    elim (cases_lt a (q * w + w)) [
+      | inl before ↦
+          let e : a / w < q + 1 = div_below a w (q + 1) some (omega arith) in
+          let f : (a + 1) * p ≤ (q * w + w) * p = mul-le (a + 1) p (q * w + w) p (omega arith) (omega arith) in
+          let g : a * p < q * (p * w) + p * w = omega arith in
+          grind (arith, nat_tests)
+      | inr after ↦
+          let e : q + 1 ≤ a / w = le-div (q + 1) a w some (omega arith) in
+          let f : (q * w + w) * p ≤ a * p = mul-le (q * w + w) p a p after (omega arith) in
+          let g : q * (p * w) + p * w ≤ a * p = omega arith in
+          grind (arith, nat_tests)
+    ]
+
+starts_before : (p w a q : ℕ) → 1 ≤ p → 1 ≤ w → nat_lt (q * (p * w)) ((a + 1) * p) ≡ nat_le q (a / w)
+starts_before p w a q pos some =
+    elim (cases_lt a (q * w)) [
+      | inl before ↦
+          let e : a / w < q = div_below a w q some before in
+          let f : (a + 1) * p ≤ q * w * p = mul-le (a + 1) p (q * w) p (omega arith) (omega arith) in
+          let g : (a + 1) * p ≤ q * (p * w) = omega arith in
+          grind (arith, nat_tests)
+      | inr after ↦
+          let e : q ≤ a / w = le-div q a w some after in
+          let f : q * w * p ≤ a * p = mul-le (q * w) p a p after (omega arith) in
+          let g : q * (p * w) < (a + 1) * p = omega arith in
+          grind (arith, nat_tests)
+    ]
+
+-- range number q of a height is touched from the first touched page's number there to the last one's
+meets_by_number : (p h q : ℕ) (t : Touch) → 1 ≤ p → meets_of p t (tree_range p h q) ≡ (nat_le (t.first / 2 ^ h) q && nat_le q (t.last / 2 ^ h))
+meets_by_number p h q t pos =
+    let a : nat_lt (t.first * p) (q * (p * 2 ^ h) + p * 2 ^ h) ≡ nat_le (t.first / 2 ^ h) q = ends_after p (2 ^ h) t.first q pos (pow_pos h) in
+    let b : nat_lt (q * (p * 2 ^ h)) ((t.last + 1) * p) ≡ nat_le q (t.last / 2 ^ h) = starts_before p (2 ^ h) t.last q pos (pow_pos h) in
+    let s : 1 ≤ p * 2 ^ h = size_pos p h pos in
+    let c : nat_lt 0 (p * 2 ^ h) ≡ true = grind (arith, nat_tests) in
+    rw (a, b, c) (grind (arith, nat_tests))
+
+pub meets_from : (p h q : ℕ) (t : Touch) → 1 ≤ p → t.first / 2 ^ h ≤ q → nat_le q (t.last / 2 ^ h) ≡ meets_of p t (tree_range p h q)
+meets_from p h q t pos from =
+    let e : nat_le (t.first / 2 ^ h) q ≡ true = grind (arith, nat_tests) in
+    rw (meets_by_number p h q t pos, e) (grind (arith, nat_tests))
+
+pub meets_none : (p h q : ℕ) (t : Touch) → 1 ≤ p → q < t.first / 2 ^ h → nat_le (t.first / 2 ^ h) q ≡ meets_of p t (tree_range p h q)
+meets_none p h q t pos below =
+    let e : nat_le (t.first / 2 ^ h) q ≡ false = grind (arith, nat_tests) in
+    rw (meets_by_number p h q t pos, e) (grind (arith, nat_tests))
 
 -- ---- a ticket's touches
 abbrev pub touch_in : OpenTouch → Touch
@@ -92,23 +143,6 @@ beside_even n e = let test : (n % 2 == 0) ≡ true = grind (arith, nat_tests) in
 
 pub beside_odd : (n : ℕ) → n % 2 ≡ 1 → beside n ≡ n - 1
 beside_odd n e = let test : (n % 2 == 0) ≡ false = grind (arith, nat_tests) in ap (λ b. if b then n + 1 else n - 1) test
-
--- the range over a page ends within the root, and so do its halves
-pub half_ends : RangesNest → HeightsHold → (p page n h c : ℕ) → 1 ≤ p → page * p < n → h < height_of p n → c ≤ page / 2 ^ h / 2 * 2 + 1
-    → c * (p * 2 ^ h) + p * 2 ^ h ≤ p * 2 ^ height_of p n
-half_ends nest heights p page n h c pos inside low le =
-    let top : ℕ = height_of p n in
-    let s : ℕ = p * 2 ^ h in
-    let q : ℕ = page / 2 ^ (h + 1) in
-    let same : page / 2 ^ h / 2 ≡ q = halved page h in
-    let begun : q * (p * 2 ^ (h + 1)) < n = page_under page (h + 1) n p inside in
-    let reach : n ≤ p * 2 ^ top = (heights p n pos).reaches in
-    let ends : q * (p * 2 ^ (h + 1)) + p * 2 ^ (h + 1) ≤ 1 * (p * 2 ^ top) = nest p (h + 1) top q 1 (omega arith) (omega arith) in
-    let d : p * 2 ^ (h + 1) ≡ 2 * s = double p h in
-    let whole : q * (p * 2 ^ (h + 1)) ≡ 2 * q * s = rw d (omega arith) in
-    let few : c * s ≤ (2 * q + 1) * s = mul-le c s (2 * q + 1) s (omega (arith, same)) (omega arith) in
-    let spread : (2 * q + 1) * s ≡ 2 * q * s + s = omega arith in
-    omega arith
 
 -- ---- down to the page
 -- from the root down to a height: the snapshot's newest version for the range over the page, and the newest lower versions
@@ -215,47 +249,16 @@ page_is p page h e =
     let number : page / 2 ^ h ≡ page = rw e (omega arith) in
     ap (made (page / 2 ^ h)) size ∙ ap (λ i. made i p) number
 
-pub page_ends : RangesNest → HeightsHold → (p page n : ℕ) → 1 ≤ p → page * p < n → page * p + p ≤ p * 2 ^ height_of p n
-page_ends nest heights p page n pos inside =
-    let top : ℕ = height_of p n in
-    let reach : n ≤ p * 2 ^ top = (heights p n pos).reaches in
-    let one : p * 2 ^ 0 ≡ p = omega arith in
-    let begun : page * (p * 2 ^ 0) < 1 * (p * 2 ^ top) = rw one (omega arith) in
-    let ends : page * (p * 2 ^ 0) + p * 2 ^ 0 ≤ 1 * (p * 2 ^ top) = nest p 0 top page 1 (omega arith) begun in
-    let same : page * (p * 2 ^ 0) ≡ page * p = ap (λ n. page * n) one in
-    omega arith
-
 pub edge_known : (p : ℕ) (log below : List Touch) (v k top page h at leaf depth : ℕ) (besides : List ℕ) (range : Range) → h ≡ 0 → Down p log below v k top page h at besides
     → range ≡ page_range p page → leaf ≡ newest_of p log k range → depth ≡ depth_of p log k page → KnowsEdge p log k top page (edge_links besides leaf depth)
 edge_known p log below v k top page h at leaf depth besides range low d here is deep =
     record { leaf = is ∙ ap (newest_of p log k) here; besides = λ j lt. d.sides j (omega arith) lt; depth = deep }
 
--- ---- the code's ranges on the path
+-- the code's ranges on the path
 pub path_fits : (page h p n : ℕ) → page * p < n → n ≤ 2 ^ 40 → page / 2 ^ h / 2 * (p * 2 ^ (h + 1)) ≤ 2 ^ 40
 path_fits page h p n inside fits =
     let P : ℕ → Type 0 = λ q. q * (p * 2 ^ (h + 1)) ≤ 2 ^ 40 in
     subst P (sym (halved page h)) (omega (arith, page_under page (h + 1) n p inside))
-
-pub side_fits : RangesNest → HeightsHold → (p page n h c z : ℕ) → 1 ≤ p → page * p < n → h < height_of p n → p * 2 ^ height_of p n ≤ 2 ^ 40
-    → z ≡ p * 2 ^ h → c ≤ page / 2 ^ h / 2 * 2 + 1 → c * z + z ≤ 2 ^ 40
-side_fits nest heights p page n h c z pos inside low root size le =
-    let ends : c * (p * 2 ^ h) + p * 2 ^ h ≤ p * 2 ^ height_of p n = half_ends nest heights p page n h c pos inside low le in
-    let Q : ℕ → Type 0 = λ m. c * m + m ≤ 2 ^ 40 in
-    subst Q (sym size) (omega arith)
-
--- ---- an edge's page
-pub root_fits : SpanOfSome → (p q n m root : ℕ) → q ≡ p → m ≡ n → root ≡ span_of q m → root ≤ 2 ^ 40 → 1 ≤ n → p * 2 ^ height_of p n ≤ 2 ^ 40
-root_fits span p q n m root e f is fits some =
-    let g : root ≡ p * 2 ^ height_of p n = is ∙ ap (λ x. span_of x m) e ∙ ap (span_of p) f ∙ span p n some in
-    omega arith
-
-pub page_fits : RangesNest → HeightsHold → (page p n : ℕ) → 1 ≤ p → page * p < n → p * 2 ^ height_of p n ≤ 2 ^ 40 → page * p + p ≤ 2 ^ 40
-page_fits nest heights page p n pos inside root = let ends : page * p + p ≤ p * 2 ^ height_of p n = page_ends nest heights p page n pos inside in omega arith
-
-pub leaf_fits : (page p : ℕ) (range : Range) → range ≡ page_range p page → page * p + p ≤ 2 ^ 40 → range.offset + range.size ≤ 2 ^ 40
-leaf_fits page p range is fits =
-    let P : Range → Type 0 = λ r. r.offset + r.size ≤ 2 ^ 40 in
-    subst P (sym is) fits
 
 -- ---- the touched pages
 pub first_inside : (at len p size : ℕ) → 1 ≤ len → at + len ≤ size → at / p * p < size

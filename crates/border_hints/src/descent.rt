@@ -14,39 +14,33 @@ use node_store::NodeHouse;
 use range_log::deeper;
 use snapshot::Snapshot;
 use std::sync::ledger::Ledger;
-use tree_geom::{PageSize, Range, Steps, Touch, height, meets, range_of_page, span_stands};
+use tree_geom::{Steps, Touch, height, span_stands};
 
-// Whether the touched pages meet the range, which lies from page `first` to page `last` where it has a byte. A range is held
-// against many updates, so its pages are divided out once.
-fn meets_pages(touch: &Touch, range: Range, first: u64, last: u64) -> bool
-    ensures { (p : ℕ) → 1 ≤ p → first ≡ range.offset / p → last ≡ (range.offset + range.size - 1) / p → result ≡ meets_of p touch.now range }
+// Whether an update with that touch touches range number `number` of a height.
+fn reaches(touch: &Touch, level: u32, number: u64) -> bool
+    requires { level < 64 }
+    ensures { (p : ℕ) → 1 ≤ p → result ≡ meets_of p touch.now (tree_range p level number) }
 {
-    if range.size == 0 {
-        return false;
-    }
-    touch.first <= last && first <= touch.last
+    let first = touch.first >> level;
+    let last = touch.last >> level;
+    first <= number && number <= last
 }
 
-// The newest lower version for the range: the newest waiting update that touches it, or else `known`, that of the snapshot.
-// Mostly nothing waits, and then nothing is divided.
-fn newest_below(ticket: &Ticket, range: Range, known: u64) -> u64
-    requires fits { range.offset + range.size ≤ 2 ^ 40 }
-    requires known { known ≡ newest_known ticket.now.snapshot range }
-    ensures { result ≡ newest_of ticket.now.snapshot.page_size (log_upto ticket.now) (ticket.now.version - 1) range }
+// The newest lower version for range number `number` of a height: the newest waiting update that touches it, or else `known`,
+// that of the snapshot. The range is told by its number, so that nothing is multiplied where nothing waits, and nothing is divided.
+fn newest_below(ticket: &Ticket, level: u32, number: u64, known: u64) -> u64
+    requires level { level < 64 }
+    requires known { let s = ticket.now.snapshot in known ≡ newest_known s (tree_range s.page_size level number) }
+    ensures { let t = ticket.now in
+        result ≡ newest_of t.snapshot.page_size (log_upto t) (t.version - 1) (tree_range t.snapshot.page_size level number) }
 {
     range_log::laws::logs_are_grown();
     range_log::laws::older_versions_stay();
     ticket.stands();
     let hints = ticket.hints();
-    if hints.waiting.count() == 0 {
-        return known;
-    }
-    let p = hints.snapshot.page_size().bytes();
-    let first = range.offset / p;
-    let last = (range.offset + range.size).saturating_sub(1) / p;
     for i in (0..hints.waiting.count()).rev() {
         let waiting = hints.waiting.at(i);
-        if meets_pages(&waiting.touch, range, first, last) {
+        if reaches(&waiting.touch, level, number) {
             return waiting.version;
         }
     }
@@ -56,12 +50,12 @@ fn newest_below(ticket: &Ticket, range: Range, known: u64) -> u64
 // How deep the newest leaf of the page lies after an update, where it lay `depth` deep before: 0 where the update covers
 // the page, one more where it leaves valid bytes of it to older leaves, or 0 again where it stores the page anew, and the same
 // where it doesn't touch the page.
-fn depth_with(p: PageSize, touch: &Touch, page: u64, depth: u32) -> u32
-    requires fits { page * p + p ≤ 2 ^ 40 }
-    requires few { depth ≤ 2 ^ 21 }
-    ensures { result ≡ depth_after fold_number p touch.now page depth }
+fn depth_with(touch: &Touch, page: u64, depth: u32) -> u32
+    requires { depth ≤ 2 ^ 21 }
+    ensures { (p : ℕ) → 1 ≤ p → result ≡ depth_after fold_number p touch.now page depth }
 {
-    if !meets(p, touch, range_of_page(p, page)) {
+    tree_geom::laws::ranges_align();
+    if !reaches(touch, 0, page) {
         return depth;
     }
     if touch.leaves_open(page) {
@@ -73,8 +67,7 @@ fn depth_with(p: PageSize, touch: &Touch, page: u64, depth: u32) -> u32
 
 // How deep the newest lower leaf of the page lies, where that of the snapshot lies `known` deep.
 fn depth_below(ticket: &Ticket, page: u64, known: u32) -> u32
-    requires fits { page * ticket.now.snapshot.page_size + ticket.now.snapshot.page_size ≤ 2 ^ 40 }
-    requires known { let s = ticket.now.snapshot in known ≡ depth_of s.page_size (log_of s) (length s.rows) page }
+    requires { let s = ticket.now.snapshot in known ≡ depth_of s.page_size (log_of s) (length s.rows) page }
     ensures depth { result ≡ depth_of ticket.now.snapshot.page_size (log_upto ticket.now) (ticket.now.version - 1) page }
     ensures few { result ≤ 2 ^ 21 }
 {
@@ -82,11 +75,10 @@ fn depth_below(ticket: &Ticket, page: u64, known: u32) -> u32
     range_log::laws::depth_counts_backs();
     ticket.stands();
     let hints = ticket.hints();
-    let p = hints.snapshot.page_size();
     let mut depth = known;
     for i in 0..hints.waiting.count() {
         let waiting = hints.waiting.at(i);
-        depth = depth_with(p, &waiting.touch, page, depth);
+        depth = depth_with(&waiting.touch, page, depth);
     }
     depth
 }
@@ -95,10 +87,11 @@ fn depth_below(ticket: &Ticket, page: u64, known: u32) -> u32
 fn tree_height(snapshot: &Snapshot) -> u32
     ensures { result ≡ height_of snapshot.now.page_size (size_now snapshot.now) }
 {
-    if snapshot.size() == 0 {
+    let size = snapshot.size();
+    if size == 0 {
         return 0;
     }
-    height(snapshot.page_size(), snapshot.size())
+    height(snapshot.page_size(), size)
 }
 
 // One step on the path to the page, down to the range of height `level`, from the one above, whose newest version of the
@@ -117,32 +110,20 @@ fn turn<L: Ledger>(
     requires level { level < height_of ticket.now.snapshot.page_size ticket.now.size }
     requires low { height_of ticket.now.snapshot.page_size ticket.now.size ≤ 38 }
     requires page { page * ticket.now.snapshot.page_size < ticket.now.size }
-    requires root { ticket.now.snapshot.page_size * 2 ^ height_of ticket.now.snapshot.page_size ticket.now.size ≤ 2 ^ 40 }
     requires at { at ≡ newest_known ticket.now.snapshot (tree_range ticket.now.snapshot.page_size (level + 1) (page / 2 ^ (level + 1))) }
     ensures on { result.0 ≡ newest_known ticket.now.snapshot (tree_range ticket.now.snapshot.page_size level (page / 2 ^ level)) }
     ensures off { let t = ticket.now in
         result.1 ≡ newest_of t.snapshot.page_size (log_upto t) (t.version - 1) (tree_range t.snapshot.page_size level (beside (page / 2 ^ level))) }
     ensures steps { steps.new ≤ steps.old + 1 }
 {
-    tree_geom::laws::spans_hold();
-    tree_geom::laws::ranges_align();
     ticket.stands();
     let snapshot = &ticket.hints().snapshot;
-    let size = snapshot.page_size().bytes() << level;
     let number = page >> level;
     let (low, high) = halves_known(snapshot, nodes, at, tall, level, number / 2, steps);
     if number % 2 == 0 {
-        let range = Range {
-            offset: (number + 1) * size,
-            size,
-        };
-        (low, newest_below(ticket, range, high))
+        (low, newest_below(ticket, level, number + 1, high))
     } else {
-        let range = Range {
-            offset: (number - 1) * size,
-            size,
-        };
-        (high, newest_below(ticket, range, low))
+        (high, newest_below(ticket, level, number - 1, low))
     }
 }
 
@@ -166,7 +147,6 @@ fn descend<L: Ledger>(ticket: &Ticket, nodes: &NodeHouse, page: u64, steps: &mut
     let snapshot = &ticket.hints().snapshot;
     let p = snapshot.page_size();
     ticket.stands();
-    span_stands(p, ticket.size());
     let tall = tree_height(snapshot);
     let mut at = snapshot.version();
     let mut besides = [0; HEIGHTS];
@@ -178,7 +158,7 @@ fn descend<L: Ledger>(ticket: &Ticket, nodes: &NodeHouse, page: u64, steps: &mut
     let known = depth_known(snapshot, nodes, at, page, steps);
     Edge {
         besides,
-        leaf: newest_below(ticket, range_of_page(p, page), at),
+        leaf: newest_below(ticket, 0, page, at),
         depth: depth_below(ticket, page, known),
     }
 }

@@ -1,21 +1,16 @@
-use Rattle.std.proofs.Common.{◌≡◌, ℕ, ◌+◌, ◌-◌, ◌*◌, ◌/◌, ◌^◌, ◌<◌, ◌≤◌, length, arith, refl, ap, sym, ◌∙◌}
-use Rattle.tree_geom.specs.declared.range.Range.{Range}
-use Rattle.tree_geom.specs.Geometry.{tree_range, page_range, height_of, span_of}
-use Rattle.tree_geom.specs.Laws.{HeightsHold, SpanOfSome, RangesNest}
+use Rattle.std.proofs.Common.{◌≡◌, ℕ, ◌-◌, ◌/◌, ◌^◌, length, arith, refl, ap, sym, ◌∙◌}
+use Rattle.tree_geom.specs.Geometry.{tree_range, page_range, height_of}
 use Rattle.snapshot.specs.Versions.{Version}
 use Rattle.tree_geom.proofs.Spans.{page_pos}
-use Rattle.border_hints.specs.Numbered.{NumberedUpdate, log_of, log_upto, IsValidTicket}
+use Rattle.border_hints.specs.Numbered.{log_of, log_upto}
 use Rattle.border_hints.specs.Borders.{newest_known}
 use Rattle.border_hints.proofs.Published.{log_grown}
-use Rattle.border_hints.proofs.Turning.{down_started, down_turn, edge_known, page_is, root_fits, page_fits, leaf_fits}
+use Rattle.border_hints.proofs.Turning.{down_started, down_turn, edge_known, page_is}
 use Rattle.border_hints.proofs.descent.descend.Goals as goal
 
 -- the height, as the code computes it
 tall : (p q n m h : ℕ) → q ≡ p → m ≡ n → h ≡ height_of q m → h ≡ height_of p n
 tall p q n m h e f is = is ∙ ap (λ x. height_of x m) e ∙ ap (height_of p) f
-
-some_bytes : (t : NumberedUpdate) → IsValidTicket t → 1 ≤ t.size
-some_bytes t is = omega (arith, is.some, is.size)
 
 pub loop-level-init : goal.loop-level-init
 loop-level-init g c =
@@ -28,7 +23,7 @@ loop-level-init g c =
           down_started c.newest_is_greatest.ensures.hit c.newest_is_greatest.ensures.none c.spans_hold.ensures.heights c.logs_are_grown.ensures.count c.logs_are_grown.ensures.grown
           (log_upto t) t (t.version - 1) c.args.page c.height-level.result c.version-at.result _ refl is pos
           (log_grown c.logs_are_grown.ensures.grown c.page_bytes_stay.ensures.extents t.snapshot is.published pos) c.requires.page
-          (tall t.snapshot.page_size c.page_size-p.result t.size c.size-2.result c.height-level.result size c.size-2.ensures c.height-level.ensures.is)
+          (tall t.snapshot.page_size c.page_size-p.result t.size c.size.result c.height-level.result size c.size.ensures c.height-level.ensures.is)
           (c.version-at.ensures.count ∙ ap (λ (s : Version). length s.rows) c.hints.ensures.snapshot);
       counted = omega arith;
     }
@@ -38,7 +33,7 @@ loop-level-preserved g c =
     let t = c.args.ticket.now in
     let inv = c.loop-level.invariant in
     let size = c.page_size-p.ensures ∙ ap (λ (s : Version). s.page_size) c.hints.ensures.snapshot in
-    let high = tall t.snapshot.page_size c.page_size-p.result t.size c.size-2.result c.height-level.result size c.size-2.ensures c.height-level.ensures.is in
+    let high = tall t.snapshot.page_size c.page_size-p.result t.size c.size.result c.height-level.result size c.size.ensures c.height-level.ensures.is in
     record {
       down =
           down_turn t.snapshot.page_size (log_upto t) (log_of t.snapshot) (length t.snapshot.rows) (t.version - 1) (height_of t.snapshot.page_size t.size) c.args.page c.loop-level.level c.loop-level.at
@@ -46,17 +41,6 @@ loop-level-preserved g c =
           inv.down c.turn-on.ensures.on c.turn-on.ensures.off;
       counted = omega (arith, c.turn-on.ensures.steps, inv.counted, c.loop-level-test.true);
     }
-
--- the range that the code makes is the page's
-range_here : (q p page : ℕ) (range : Range) → q ≡ p → range ≡ page_range q page → range ≡ page_range p page
-range_here q p page range e is = is ∙ ap (λ n. page_range n page) e
-
--- the page ends within the root
-ends : (nest : RangesNest) (heights : HeightsHold) (span : SpanOfSome) (t : NumberedUpdate) (page q m root : ℕ) → IsValidTicket t → page * t.snapshot.page_size < t.size → q ≡ t.snapshot.page_size → m ≡ t.size
-    → root ≡ span_of q m → root ≤ 2 ^ 40 → page * t.snapshot.page_size + t.snapshot.page_size ≤ 2 ^ 40
-ends nest heights span t page q m root is inside e f rooted fits =
-    let p : ℕ = t.snapshot.page_size in
-    page_fits nest heights page p t.size (page_pos p is.published.page_size) inside (root_fits span p q t.size m root e f rooted fits (some_bytes t is))
 
 -- the snapshot's newest version for the page, at the end of the path
 newest_here : (s told : Version) (page h at : ℕ) → told ≡ s → h ≡ 0 → at ≡ newest_known s (tree_range s.page_size h (page / 2 ^ h)) → at ≡ newest_known told (page_range told.page_size page)
@@ -67,33 +51,16 @@ pub depth_known-known-requires-clause-at : goal.depth_known-known-requires-claus
 depth_known-known-requires-clause-at g c =
     newest_here c.args.ticket.now.snapshot c.hints.result.now.snapshot c.args.page c.loop-level.level c.loop-level.at c.hints.ensures.snapshot (omega (arith, c.loop-level-test.false)) c.loop-level.invariant.down.newest
 
-pub newest_below-requires-clause-fits : goal.newest_below-requires-clause-fits
-newest_below-requires-clause-fits g c =
-    let t = c.args.ticket.now in
-    let size = c.page_size-p.ensures ∙ ap (λ (s : Version). s.page_size) c.hints.ensures.snapshot in
-    leaf_fits c.args.page t.snapshot.page_size c.range_of_page.result (range_here c.page_size-p.result t.snapshot.page_size c.args.page c.range_of_page.result size c.range_of_page.ensures)
-    (ends c.ranges_align.ensures.nest c.spans_hold.ensures.heights c.spans_hold.ensures.some t c.args.page c.page_size-p.result c.size.result (span_of c.page_size-p.result c.size.result) c.stands.ensures c.requires.page
-    size c.size.ensures refl c.span_stands.ensures.fits)
-
 pub newest_below-requires-clause-known : goal.newest_below-requires-clause-known
 newest_below-requires-clause-known g c =
-    let t = c.args.ticket.now in
-    let size = c.page_size-p.ensures ∙ ap (λ (s : Version). s.page_size) c.hints.ensures.snapshot in
-    newest_here t.snapshot t.snapshot c.args.page c.loop-level.level c.loop-level.at refl (omega (arith, c.loop-level-test.false)) c.loop-level.invariant.down.newest
-    ∙ ap (newest_known t.snapshot) (sym (range_here c.page_size-p.result t.snapshot.page_size c.args.page c.range_of_page.result size c.range_of_page.ensures))
-
-pub depth_below-requires-clause-fits : goal.depth_below-requires-clause-fits
-depth_below-requires-clause-fits g c =
-    let t = c.args.ticket.now in
-    let size = c.page_size-p.ensures ∙ ap (λ (s : Version). s.page_size) c.hints.ensures.snapshot in
-    ends c.ranges_align.ensures.nest c.spans_hold.ensures.heights c.spans_hold.ensures.some t c.args.page c.page_size-p.result c.size.result (span_of c.page_size-p.result c.size.result) c.stands.ensures c.requires.page
-    size c.size.ensures refl c.span_stands.ensures.fits
+    let s = c.args.ticket.now.snapshot in
+    newest_here s s c.args.page c.loop-level.level c.loop-level.at refl (omega (arith, c.loop-level-test.false)) c.loop-level.invariant.down.newest
+    ∙ ap (newest_known s) (c.ranges_align.ensures.pages s.page_size c.args.page)
 
 pub returns-clause-knows : goal.returns-clause-knows
 returns-clause-knows g c =
     let t = c.args.ticket.now in
     let p = t.snapshot.page_size in
-    let size = c.page_size-p.ensures ∙ ap (λ (s : Version). s.page_size) c.hints.ensures.snapshot in
     edge_known p (log_upto t) (log_of t.snapshot) (length t.snapshot.rows) (t.version - 1) (height_of p t.size) c.args.page c.loop-level.level c.loop-level.at c.newest_below.result c.depth_below.result c.loop-level.besides
-    c.range_of_page.result (omega (arith, c.loop-level-test.false)) c.loop-level.invariant.down
-    (range_here c.page_size-p.result p c.args.page c.range_of_page.result size c.range_of_page.ensures) c.newest_below.ensures c.depth_below.ensures.depth
+    (tree_range p 0 c.args.page) (omega (arith, c.loop-level-test.false)) c.loop-level.invariant.down
+    (sym (c.ranges_align.ensures.pages p c.args.page)) c.newest_below.ensures c.depth_below.ensures.depth

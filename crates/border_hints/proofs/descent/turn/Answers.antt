@@ -2,11 +2,9 @@ use Rattle.std.proofs.Common.{◌≡◌, ℕ, ◌+◌, ◌-◌, ◌*◌, ◌/◌
 use Rattle.tree_geom.specs.Geometry.{tree_range}
 use Rattle.range_log.specs.Log.{newest_of}
 use Rattle.snapshot.specs.Versions.{Version}
-use Rattle.tree_geom.proofs.Spans.{page_pos}
-use Rattle.tree_geom.proofs.Shifts.{size_is, range_is}
 use Rattle.border_hints.specs.Numbered.{log_upto}
 use Rattle.border_hints.specs.Borders.{newest_known}
-use Rattle.border_hints.proofs.Turning.{halved, path_fits, side_fits, beside_even, beside_odd}
+use Rattle.border_hints.proofs.Turning.{halved, path_fits, beside_even, beside_odd}
 use Rattle.border_hints.proofs.descent.turn.Goals as goal
 
 pub halves_known-low-requires-clause-at : goal.halves_known-low-requires-clause-at
@@ -23,32 +21,6 @@ halves_known-low-requires-clause-fits g c =
     let F : Version → Type 0 = λ s. c.args.page / 2 ^ c.args.level / 2 * (s.page_size * 2 ^ (c.args.level + 1)) ≤ 2 ^ 40 in
     subst F (sym c.hints.ensures.snapshot) (path_fits c.args.page c.args.level t.snapshot.page_size t.size c.requires.page c.stands.ensures.fits)
 
-pub newest_below-requires-clause-fits : goal.newest_below-requires-clause-fits
-newest_below-requires-clause-fits g c =
-    let t = c.args.ticket.now in
-    let is = c.stands.ensures in
-    side_fits c.ranges_align.ensures.nest c.spans_hold.ensures.heights t.snapshot.page_size c.args.page t.size c.args.level (c.args.page / 2 ^ c.args.level + 1) (c.bytes.result * 2 ^ c.args.level % 2 ^ 64)
-    (page_pos t.snapshot.page_size is.published.page_size) c.requires.page c.requires.level c.requires.root
-    (size_is c.bytes.result c.page_size.result t.snapshot.page_size c.args.level c.bytes.ensures.is (c.page_size.ensures ∙ ap (λ (s : Version). s.page_size) c.hints.ensures.snapshot)
-    c.bytes.ensures.bounds.1 (omega (arith, c.requires.level, c.requires.low)))
-    (omega (arith, c.if-number-eq0.true))
-
-pub overflow_mul-range : goal.overflow_mul-range
-overflow_mul-range g c = let e = newest_below-requires-clause-fits g c in omega (arith, e)
-
-pub newest_below-requires-else-number-eq0-clause-fits : goal.newest_below-requires-else-number-eq0-clause-fits
-newest_below-requires-else-number-eq0-clause-fits g c =
-    let t = c.args.ticket.now in
-    let is = c.stands.ensures in
-    side_fits c.ranges_align.ensures.nest c.spans_hold.ensures.heights t.snapshot.page_size c.args.page t.size c.args.level (c.args.page / 2 ^ c.args.level - 1) (c.bytes.result * 2 ^ c.args.level % 2 ^ 64)
-    (page_pos t.snapshot.page_size is.published.page_size) c.requires.page c.requires.level c.requires.root
-    (size_is c.bytes.result c.page_size.result t.snapshot.page_size c.args.level c.bytes.ensures.is (c.page_size.ensures ∙ ap (λ (s : Version). s.page_size) c.hints.ensures.snapshot)
-    c.bytes.ensures.bounds.1 (omega (arith, c.requires.level, c.requires.low)))
-    (omega (arith, c.if-number-eq0.false))
-
-pub overflow_mul-range-else-number-eq0 : goal.overflow_mul-range-else-number-eq0
-overflow_mul-range-else-number-eq0 g c = let e = newest_below-requires-else-number-eq0-clause-fits g c in omega (arith, e)
-
 -- the other half is that of the number beside
 pub newest_below-requires-clause-known : goal.newest_below-requires-clause-known
 newest_below-requires-clause-known g c =
@@ -56,10 +28,7 @@ newest_below-requires-clause-known g c =
     let n : ℕ = c.args.page / 2 ^ c.args.level in
     let N : Version → ℕ → ℕ = λ s m. newest_known s (tree_range s.page_size c.args.level m) in
     let e : 2 * (n / 2) + 1 ≡ n + 1 = omega (arith, c.if-number-eq0.true) in
-    let size = size_is c.bytes.result c.page_size.result t.snapshot.page_size c.args.level c.bytes.ensures.is (c.page_size.ensures ∙ ap (λ (s : Version). s.page_size) c.hints.ensures.snapshot)
-    c.bytes.ensures.bounds.1 (omega (arith, c.requires.level, c.requires.low)) in
     c.halves_known-low.ensures.high ∙ ap (λ s. N s (2 * (n / 2) + 1)) c.hints.ensures.snapshot ∙ ap (N t.snapshot) e
-    ∙ ap (newest_known t.snapshot) (sym (range_is t.snapshot.page_size c.args.level (n + 1) _ size))
 
 pub newest_below-requires-else-number-eq0-clause-known : goal.newest_below-requires-else-number-eq0-clause-known
 newest_below-requires-else-number-eq0-clause-known g c =
@@ -67,10 +36,7 @@ newest_below-requires-else-number-eq0-clause-known g c =
     let n : ℕ = c.args.page / 2 ^ c.args.level in
     let N : Version → ℕ → ℕ = λ s m. newest_known s (tree_range s.page_size c.args.level m) in
     let e : 2 * (n / 2) ≡ n - 1 = omega (arith, c.if-number-eq0.false) in
-    let size = size_is c.bytes.result c.page_size.result t.snapshot.page_size c.args.level c.bytes.ensures.is (c.page_size.ensures ∙ ap (λ (s : Version). s.page_size) c.hints.ensures.snapshot)
-    c.bytes.ensures.bounds.1 (omega (arith, c.requires.level, c.requires.low)) in
     c.halves_known-low.ensures.low ∙ ap (λ s. N s (2 * (n / 2))) c.hints.ensures.snapshot ∙ ap (N t.snapshot) e
-    ∙ ap (newest_known t.snapshot) (sym (range_is t.snapshot.page_size c.args.level (n - 1) _ size))
 
 pub returns-then-number-eq0-clause-on : goal.returns-then-number-eq0-clause-on
 returns-then-number-eq0-clause-on g c =
@@ -84,11 +50,8 @@ pub returns-then-number-eq0-clause-off : goal.returns-then-number-eq0-clause-off
 returns-then-number-eq0-clause-off g c =
     let t = c.args.ticket.now in
     let p = t.snapshot.page_size in
-    let n : ℕ = c.args.page / 2 ^ c.args.level in
-    let size = size_is c.bytes.result c.page_size.result p c.args.level c.bytes.ensures.is (c.page_size.ensures ∙ ap (λ (s : Version). s.page_size) c.hints.ensures.snapshot)
-    c.bytes.ensures.bounds.1 (omega (arith, c.requires.level, c.requires.low)) in
     c.newest_below.ensures
-    ∙ ap (newest_of p (log_upto t) (t.version - 1)) (range_is p c.args.level (n + 1) _ size ∙ ap (tree_range p c.args.level) (sym (beside_even n c.if-number-eq0.true)))
+    ∙ ap (λ m. newest_of p (log_upto t) (t.version - 1) (tree_range p c.args.level m)) (sym (beside_even (c.args.page / 2 ^ c.args.level) c.if-number-eq0.true))
 
 pub returns-else-number-eq0-clause-on : goal.returns-else-number-eq0-clause-on
 returns-else-number-eq0-clause-on g c =
@@ -104,7 +67,5 @@ returns-else-number-eq0-clause-off g c =
     let p = t.snapshot.page_size in
     let n : ℕ = c.args.page / 2 ^ c.args.level in
     let odd : n % 2 ≡ 1 = omega (arith, c.if-number-eq0.false) in
-    let size = size_is c.bytes.result c.page_size.result p c.args.level c.bytes.ensures.is (c.page_size.ensures ∙ ap (λ (s : Version). s.page_size) c.hints.ensures.snapshot)
-    c.bytes.ensures.bounds.1 (omega (arith, c.requires.level, c.requires.low)) in
     c.newest_below-else-number-eq0.ensures
-    ∙ ap (newest_of p (log_upto t) (t.version - 1)) (range_is p c.args.level (n - 1) _ size ∙ ap (tree_range p c.args.level) (sym (beside_odd n odd)))
+    ∙ ap (λ m. newest_of p (log_upto t) (t.version - 1) (tree_range p c.args.level m)) (sym (beside_odd n odd))
