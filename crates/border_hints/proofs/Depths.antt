@@ -1,5 +1,5 @@
 -- How deep the newest lower leaf of a page lies, from the snapshot's on.
-use Rattle.std.proofs.Common.{◌≡◌, ◌≢◌, ◌⊎◌, ℕ, suc, ◌+◌, ◌*◌, ◌%◌, ◌<◌, ◌≤◌, List, [], ◌∷◌, ◌++◌, length, map, arith, inl, inr, refl, ap, sym, ◌∙◌, true, false, Bool}
+use Rattle.std.proofs.Common.{◌≡◌, ◌⊎◌, ℕ, suc, ◌+◌, ◌*◌, ◌%◌, ◌<◌, ◌≤◌, List, [], ◌∷◌, ◌++◌, length, map, arith, inl, inr, refl, ap, sym, ◌∙◌, true, false, Bool}
 use Rattle.std.specs.Prelude.{if◌then◌else◌}
 use Rattle.std.proofs.lemmas.Nat.{mul-le}
 use Rattle.tree_geom.specs.declared.range.Range.{Range}
@@ -17,7 +17,7 @@ use Rattle.range_log.specs.Updates.{extents}
 use Rattle.range_log.proofs.Nodes.{node_leaf, leaf_depth}
 use Rattle.snapshot.specs.Versions.{Version, updates_of}
 use Rattle.border_hints.specs.Numbered.{NumberedUpdate, log_of, own_touch, log_upto}
-use Rattle.border_hints.specs.Borders.{BorderLinks, AreBorders}
+use Rattle.border_hints.specs.Borders.{BorderLinks}
 use Rattle.border_hints.proofs.Tickets.{length-log_of, length-log_with}
 use Rattle.border_hints.proofs.Turning.{touch_in, touch_waiting}
 
@@ -83,21 +83,11 @@ module _ (met : MeetsIsTrue) (b : BorderLinks) (page : ℕ) (pos : 1 ≤ b.page_
       let within = edge_within b.touch page ordered edge in
       depth_whole met b.page_size log b.touch k page pos own within.0 within.1 whole
 
-  pub first_edge : leaves_open b.touch page ≡ true → page ≡ b.touch.first → (log : List Touch) (k : ℕ) → AreBorders log k b → touch_at log (k + 1) ≡ b.touch
-      → (b.first.depth + 1) % fold_number ≡ depth_of b.page_size log (k + 1) page
-  first_edge part is log k are own =
+  pub part_edge : leaves_open b.touch page ≡ true → (d : ℕ) (log : List Touch) (k : ℕ) → d ≡ depth_of b.page_size log k page → touch_at log (k + 1) ≡ b.touch
+      → (d + 1) % fold_number ≡ depth_of b.page_size log (k + 1) page
+  part_edge part d log k is own =
       let within = edge_within b.touch page ordered edge in
-      depth_part met b.page_size log b.touch k page b.first.depth pos own within.0 within.1 part (are.first.depth ∙ ap (depth_of b.page_size log k) (sym is))
-
-  pub last_edge : leaves_open b.touch page ≡ true → page ≢ b.touch.first → (log : List Touch) (k : ℕ) → AreBorders log k b → touch_at log (k + 1) ≡ b.touch
-      → (b.last.depth + 1) % fold_number ≡ depth_of b.page_size log (k + 1) page
-  last_edge part other log k are own =
-      let within = edge_within b.touch page ordered edge in
-      let is : page ≡ b.touch.last = elim edge [
-        | inl e ↦ absurd (other e)
-        | inr e ↦ e
-      ] in
-      depth_part met b.page_size log b.touch k page b.last.depth pos own within.0 within.1 part (are.last.depth ∙ ap (depth_of b.page_size log k) (sym is))
+      depth_part met b.page_size log b.touch k page d pos own within.0 within.1 part is
 
 -- ---- from the snapshot on
 -- what the leaf of a page in a row says

@@ -1,6 +1,5 @@
 -- Which border a range is: beside which edge, and at which height.
-use Rattle.std.proofs.Common.{◌≡◌, ◌⊎◌, ℕ, zero, suc, ◌+◌, ◌-◌, ◌*◌, ◌/◌, ◌%◌, ◌^◌, ◌<◌, ◌≤◌, List, arith, inl, inr, refl, ap, sym, subst, ◌∙◌}
-use Rattle.std.specs.Prelude.{slice_index}
+use Rattle.std.proofs.Common.{◌≡◌, ◌⊎◌, ℕ, zero, suc, ◌+◌, ◌-◌, ◌*◌, ◌/◌, ◌%◌, ◌^◌, ◌<◌, ◌≤◌, arith, inl, inr, refl, ap, sym, subst, ◌∙◌}
 use Rattle.std.proofs.lemmas.Bool.{cases_lt}
 use Rattle.std.proofs.lemmas.Nat.{mul-le, pow_pos, div-mul-add}
 use Rattle.std.proofs.Math.Nat.{mul-div_cancel, pow-le-pow_right}
@@ -8,9 +7,8 @@ use Rattle.tree_geom.specs.declared.range.Range.{Range}
 use Rattle.tree_geom.specs.declared.touch.Touch.{Touch}
 use Rattle.tree_geom.specs.Geometry.{tree_range, page_range, left_half, right_half, height_of, span_of, Meets}
 use Rattle.tree_geom.specs.Laws.{HeightsHold, SpanOfNone, SpanOfSome, LowHalvesAlign, HighHalvesAlign}
-use Rattle.range_log.specs.Log.{newest_of}
 use Rattle.tree_geom.proofs.Spans.{size_pos}
-use Rattle.border_hints.specs.Borders.{beside, IsRowRange, IsUntouchedHalf, IsBorder, BorderLinks, AreBorders, edge_links}
+use Rattle.border_hints.specs.Borders.{beside, IsRowRange, IsUntouchedHalf, IsBorder}
 use Rattle.border_hints.proofs.Published.{double, taller}
 use Rattle.border_hints.proofs.Turning.{beside_even, beside_odd}
 
@@ -201,19 +199,49 @@ placed heights no_span span low high p touch range pos ordered not_first not_las
       ]
     ]
 
--- ---- what a border's edge knows
--- the borders, by the fields of the code
-unfoldable pub made : ℕ → Touch → List ℕ → ℕ → ℕ → List ℕ → ℕ → ℕ → BorderLinks
-made p touch a x d b y e = record { page_size = p; touch = touch; first = edge_links a x d; last = edge_links b y e }
+-- ---- which border it is
+-- a border of a page's bytes is the page of its number
+aligned_page : (p h c page : ℕ) (range : Range) → 1 ≤ p → range ≡ tree_range p h c → range.size ≡ p → range.offset / p ≡ page → range ≡ page_range p page
+aligned_page p h c page range pos is size number =
+    let e : p * 2 ^ h ≡ p = sym (ap (λ (r : Range). r.size) is) ∙ size in
+    let offset : range.offset ≡ c * p = ap (λ (r : Range). r.offset) is ∙ ap (λ n. c * n) e in
+    let same : c ≡ page = sym (mul-div_cancel c pos) ∙ ap (λ n. n / p) (sym offset) ∙ number in
+    let made : ℕ → ℕ → Range = λ i n. record { offset = i * n; size = n } in
+    is ∙ ap (made c) e ∙ ap (λ i. made i p) same
 
-pub first_side : (p : ℕ) (b : BorderLinks) (log : List Touch) (k level : ℕ) (range : Range) → HeightsHold → 1 ≤ b.page_size → IsPlaced b.page_size b.touch range → level ≡ height_of b.page_size range.size
-    → range.offset / b.page_size < b.touch.first → AreBorders log k b → slice_index b.first.besides level ≡ newest_of b.page_size log k range
-first_side p b log k level range heights pos at is before are =
-    let same : level ≡ at.h = is ∙ ap (height_of b.page_size) at.size ∙ height_is heights b.page_size at.h pos in
-    ap (slice_index b.first.besides) same ∙ are.first.besides at.h at.low ∙ ap (newest_of b.page_size log k) (sym (at.of_first before))
+pub page_numbered : HeightsHold → SpanOfNone → SpanOfSome → LowHalvesAlign → HighHalvesAlign → (p page : ℕ) (touch : Touch) (range : Range) → 1 ≤ p → touch.first ≤ touch.last
+    → IsBorder p touch range → range.size ≡ p → range.offset / p ≡ page → range ≡ page_range p page
+page_numbered heights no_span span low high p page touch range pos ordered is size number =
+    elim is [
+      | inl half ↦
+          let at = untouched_half heights no_span span low high p touch range pos ordered half in
+          elim (cases_lt (range.offset / p) touch.first) [
+            | inl before ↦ aligned_page p at.h (beside (touch.first / 2 ^ at.h)) page range pos (at.of_first before) size number
+            | inr after ↦ aligned_page p at.h (beside (touch.last / 2 ^ at.h)) page range pos (at.of_last after) size number
+          ]
+      | inr edge ↦ elim edge [
+        | inl first ↦ first ∙ ap (page_range p) (sym (page_number p touch.first range pos first).1 ∙ number)
+        | inr last ↦ last ∙ ap (page_range p) (sym (page_number p touch.last range pos last).1 ∙ number)
+      ]
+    ]
 
-pub last_side : (p : ℕ) (b : BorderLinks) (log : List Touch) (k level : ℕ) (range : Range) → HeightsHold → 1 ≤ b.page_size → IsPlaced b.page_size b.touch range → level ≡ height_of b.page_size range.size
-    → b.touch.first ≤ range.offset / b.page_size → AreBorders log k b → slice_index b.last.besides level ≡ newest_of b.page_size log k range
-last_side p b log k level range heights pos at is after are =
-    let same : level ≡ at.h = is ∙ ap (height_of b.page_size) at.size ∙ height_is heights b.page_size at.h pos in
-    ap (slice_index b.last.besides) same ∙ are.last.besides at.h at.low ∙ ap (newest_of b.page_size log k) (sym (at.of_last after))
+-- the others stand beside the first page's way down or beside the last page's, at the height that the code computes
+abbrev pub StandsBeside : ℕ → Touch → ℕ → ℕ → Range → Type 0
+StandsBeside p touch page level range = (level < height_of p touch.size) × (range ≡ tree_range p level (beside (page / 2 ^ level)))
+
+level_is : HeightsHold → (p h level size : ℕ) → 1 ≤ p → size ≡ p * 2 ^ h → level ≡ height_of p size → level ≡ h
+level_is heights p h level size pos is code = code ∙ ap (height_of p) is ∙ height_is heights p h pos
+
+pub first_side : HeightsHold → (p level : ℕ) (touch : Touch) (range : Range) → 1 ≤ p → IsPlaced p touch range → level ≡ height_of p range.size
+    → range.offset / p < touch.first → StandsBeside p touch touch.first level range
+first_side heights p level touch range pos at code before =
+    let same : level ≡ at.h = level_is heights p at.h level range.size pos at.size code in
+    let P : ℕ → Type 0 = λ h. StandsBeside p touch touch.first h range in
+    subst P (sym same) (at.low, at.of_first before)
+
+pub last_side : HeightsHold → (p level : ℕ) (touch : Touch) (range : Range) → 1 ≤ p → IsPlaced p touch range → level ≡ height_of p range.size
+    → touch.first ≤ range.offset / p → StandsBeside p touch touch.last level range
+last_side heights p level touch range pos at code after =
+    let same : level ≡ at.h = level_is heights p at.h level range.size pos at.size code in
+    let P : ℕ → Type 0 = λ h. StandsBeside p touch touch.last h range in
+    subst P (sym same) (at.low, at.of_last after)

@@ -3,3 +3,4 @@ pub mod Published
 pub mod Turning
 pub mod Depths
 pub mod Halves
+pub mod Edges

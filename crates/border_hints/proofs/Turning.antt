@@ -10,7 +10,7 @@ use Rattle.tree_geom.specs.declared.range.Range.{Range}
 use Rattle.tree_geom.specs.declared.touch.Touch.{Touch}
 use Rattle.tree_geom.specs.Geometry.{tree_range, page_range, height_of, no_touch, meets_of}
 use Rattle.tree_geom.specs.Laws.{HeightsHold}
-use Rattle.range_log.specs.Laws.{Grown, NewestHits, NewestOfNone, LogsAreGrown}
+use Rattle.range_log.specs.Laws.{Grown, NewestIsGreatest, NewestHits, NewestOfNone, LogsAreGrown}
 use Rattle.range_log.specs.declared.open.OpenTouch.{OpenTouch}
 use Rattle.range_log.specs.Log.{newest_of, touch_at, size_at}
 use Rattle.range_log.specs.Depths.{depth_of}
@@ -125,6 +125,13 @@ waiting_miss are t range i k lt next apart =
     let here : touch_at (log_upto t) (suc (v + i)) ≡ (open_at t.waiting i).touch = touch_waiting are t i lt in
     let miss : meets_of p (touch_at (log_upto t) (suc (v + i))) range ≡ false = ap (λ (u : Touch). meets_of p u range) here ∙ apart in
     ap (λ n. newest_of p (log_upto t) n range) e ∙ ap (λ b. if b then suc (v + i) else newest_of p (log_upto t) (v + i) range) miss
+
+-- no version is so great that it doesn't fit in 32 bits
+pub newest_few : NewestIsGreatest → (t : NumberedUpdate) (range : Range) (newest : ℕ) → IsValidTicket t → length t.waiting ≤ 64
+    → newest ≡ newest_of t.snapshot.page_size (log_upto t) (t.version - 1) range → newest < 2 ^ 32
+newest_few greatest t range newest is few e =
+    let upto = (greatest t.snapshot.page_size (t.version - 1) (log_upto t) range).0.upto in
+    omega (arith, e, upto, is.version, is.published.counted, few)
 
 -- ---- the path to a page
 pub halved : (page h : ℕ) → page / 2 ^ h / 2 ≡ page / 2 ^ (h + 1)

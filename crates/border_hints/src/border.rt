@@ -1,27 +1,38 @@
 // The borders of an update's row, and their newest lower versions.
-ghost use Rattle.std.specs.Prelude.{◌≡◌, ◌⊎◌, ℕ, ◌+◌, ◌/◌, ◌^◌, ◌<◌, ◌↔◌, List, IsTrue};
+ghost use Rattle.std.specs.Prelude.{◌≡◌, ◌⊎◌, ℕ, ◌+◌, ◌/◌, ◌^◌, ◌<◌, ◌≤◌, ◌↔◌, List, IsTrue};
 ghost use Rattle.tree_geom.specs.declared.touch.Touch.{Touch};
 ghost use Rattle.tree_geom.specs.Geometry.{tree_range, page_range, height_of};
 ghost use Rattle.range_log.specs.Log.{newest_of, touch_at};
 ghost use Rattle.range_log.specs.Depths.{depth_of};
-ghost use Rattle.border_hints.specs.Borders.{AreBorders, IsBorder, beside};
+ghost use Rattle.border_hints.specs.Borders.{AreBorders, IsBorder, KnowsEdge, beside, edge_links};
 
 use range_log::deeper;
 use std::marker::Model;
 use tree_geom::{PageSize, Range, Touch, height};
 
-/// The heights of the ranges of a tree, from a page's, 0, to the greatest root's, 38.
-pub(crate) const HEIGHTS: usize = 39;
+// The heights of the ranges of a tree, from a page's, 0, to the greatest root's, 38.
+const HEIGHTS: usize = 39;
 
-/// The newest lower versions along the path from the root to an edge of the row.
-#[derive(Clone, Copy)]
+/// The newest lower versions along the path from the root to an edge of the row. No blob has more versions than fit in 32 bits.
+#[derive(Drop)]
 pub(crate) struct Edge {
     // at each height, that for the range beside the one on the path
-    pub besides: [u64; HEIGHTS],
+    pub besides: [u32; HEIGHTS],
     // that for the page at the end of the path
-    pub leaf: u64,
+    pub leaf: u32,
     // how deep the leaf of that version lies, 0 where there is none
     pub depth: u32,
+}
+
+impl Edge {
+    /// An edge of which nothing is known yet.
+    pub(crate) fn blank() -> Edge {
+        Edge {
+            besides: [0; HEIGHTS],
+            leaf: 0,
+            depth: 0,
+        }
+    }
 }
 
 /// The newest lower versions for the ranges over the borders of an update's row: the halves of its nodes that it doesn't
@@ -32,11 +43,12 @@ pub struct Borders {
     pub(crate) page_size: PageSize,
     pub(crate) touch: Touch,
     pub(crate) first: Edge,
-    pub(crate) last: Edge,
+    // none where the first page is the last one
+    pub(crate) last: Option<Edge>,
 }
 
 impl Model for Borders {
-    ghost use Rattle.std.specs.Prelude.{◌^◌, ◌≤◌};
+    ghost use Rattle.std.specs.Prelude.{◌^◌, ◌≤◌, unwrap_or};
     ghost use Rattle.tree_geom.specs.Geometry.{span_of};
     ghost use Rattle.border_hints.specs.Borders.{BorderLinks, edge_links};
 
@@ -46,11 +58,11 @@ impl Model for Borders {
       page_size = b.page_size;
       touch = b.touch;
       first = edge_links b.first.besides b.first.leaf b.first.depth;
-      last = edge_links b.last.besides b.last.leaf b.last.depth;
+      last = let last = unwrap_or b.last b.first in edge_links last.besides last.leaf last.depth;
     } };
 
     ghost invariant = { λ b. (b.touch.first ≤ b.touch.last) × (span_of b.page_size b.touch.size ≤ 2 ^ 40)
-        × (b.first.depth ≤ 2 ^ 21) × (b.last.depth ≤ 2 ^ 21) };
+        × (b.first.depth ≤ 2 ^ 21) × ((unwrap_or b.last b.first).depth ≤ 2 ^ 21) };
 }
 
 // Whether the range is that page's, of `size` bytes.
@@ -72,16 +84,16 @@ impl Borders {
         tree_geom::laws::ranges_align();
         let size = self.page_size.bytes();
         if is_page(range, size, self.touch.first) {
-            return self.first.leaf;
+            return self.leaf(self.touch.first);
         }
         if is_page(range, size, self.touch.last) {
-            return self.last.leaf;
+            return self.leaf(self.touch.last);
         }
-        let level = height(self.page_size, range.size) as usize;
+        let level = height(self.page_size, range.size);
         if range.offset / size < self.touch.first {
-            self.first.besides[level]
+            self.below(level)
         } else {
-            self.last.besides[level]
+            self.above(level)
         }
     }
 
@@ -94,7 +106,7 @@ impl Borders {
     {
         tree_geom::laws::spans_hold();
         self.page_size.stands();
-        self.first.besides[level as usize]
+        u64::from(self.edge(self.touch.first).besides[level as usize])
     }
 
     /// The same beside the last page's way down. Where that range comes behind the one on the way, it lies behind all pages that
@@ -106,7 +118,7 @@ impl Borders {
     {
         tree_geom::laws::spans_hold();
         self.page_size.stands();
-        self.last.besides[level as usize]
+        u64::from(self.edge(self.touch.last).besides[level as usize])
     }
 
     /// The newest lower version with a leaf of the update's first or its last page, or 0.
@@ -115,11 +127,7 @@ impl Borders {
         ensures { (log : List Touch) (k : ℕ) → AreBorders log k self.now
             → result ≡ newest_of self.now.page_size log k (page_range self.now.page_size page) }
     {
-        if page == self.touch.first {
-            self.first.leaf
-        } else {
-            self.last.leaf
-        }
+        u64::from(self.edge(page).leaf)
     }
 
     /// How deep the update's own leaf of its first or its last page lies, which is how many backs lead on from it: 0 where
@@ -135,10 +143,23 @@ impl Borders {
         if !self.touch.leaves_open(page) {
             return 0;
         }
+        deeper(self.edge(page).depth)
+    }
+
+    // The edge of the row at the update's first or its last page.
+    fn edge(&self, page: u64) -> &Edge
+        requires { (page ≡ self.now.touch.first) ⊎ (page ≡ self.now.touch.last) }
+        ensures knows { (log : List Touch) (k : ℕ) → AreBorders log k self.now
+            → KnowsEdge self.now.page_size log k (height_of self.now.page_size self.now.touch.size) page
+            (edge_links result.now.besides result.now.leaf result.now.depth) }
+        ensures few { result.now.depth ≤ 2 ^ 21 }
+    {
         if page == self.touch.first {
-            deeper(self.first.depth)
-        } else {
-            deeper(self.last.depth)
+            return &self.first;
+        }
+        match &self.last {
+            Some(last) => last,
+            None => &self.first,
         }
     }
 }

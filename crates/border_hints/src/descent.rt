@@ -7,7 +7,7 @@ ghost use Rattle.snapshot.specs.Versions.{size_now, NodesLieIn};
 ghost use Rattle.border_hints.specs.Numbered.{log_of, log_upto, own_touch};
 ghost use Rattle.border_hints.specs.Borders.{beside, newest_known, KnowsEdge, AreBorders, edge_links};
 
-use crate::border::{Borders, Edge, HEIGHTS};
+use crate::border::{Borders, Edge};
 use crate::known::{depth_known, halves_known};
 use crate::ticket::Ticket;
 use node_store::NodeHouse;
@@ -127,15 +127,21 @@ fn turn<L: Ledger>(
     }
 }
 
-// The newest lower versions along the path to the page, which is one of the update's version, and how deep the page's newest
-// lower leaf lies.
-fn descend<L: Ledger>(ticket: &Ticket, nodes: &NodeHouse, page: u64, steps: &mut Steps<L>) -> Edge
+// Fills an edge with the newest lower versions along the path to the page, which is one of the update's version, and with how
+// deep the page's newest lower leaf lies.
+fn descend<L: Ledger>(
+    ticket: &Ticket,
+    nodes: &NodeHouse,
+    page: u64,
+    edge: &mut Edge,
+    steps: &mut Steps<L>,
+)
     requires here { NodesLieIn nodes.now ticket.now.snapshot }
     requires page { page * ticket.now.snapshot.page_size < ticket.now.size }
     ensures knows { let t = ticket.now in
         KnowsEdge t.snapshot.page_size (log_upto t) (t.version - 1) (height_of t.snapshot.page_size t.size) page
-        (edge_links result.besides result.leaf result.depth) }
-    ensures few { result.depth ≤ 2 ^ 21 }
+        (edge_links edge.new.besides edge.new.leaf edge.new.depth) }
+    ensures few { edge.new.depth ≤ 2 ^ 21 }
     ensures steps { steps.new ≤ steps.old + height_of ticket.now.snapshot.page_size ticket.now.size + 1 }
 {
     tree_geom::laws::spans_hold();
@@ -147,20 +153,17 @@ fn descend<L: Ledger>(ticket: &Ticket, nodes: &NodeHouse, page: u64, steps: &mut
     let snapshot = &ticket.hints().snapshot;
     let p = snapshot.page_size();
     ticket.stands();
+    ticket.hints().waiting.stands();
     let tall = tree_height(snapshot);
     let mut at = snapshot.version();
-    let mut besides = [0; HEIGHTS];
     for level in (0..height(p, ticket.size())).rev() {
         let (on, off) = turn(ticket, nodes, at, tall, level, page, steps);
-        besides[level as usize] = off;
+        edge.besides[level as usize] = off as u32;
         at = on;
     }
     let known = depth_known(snapshot, nodes, at, page, steps);
-    Edge {
-        besides,
-        leaf: newest_below(ticket, 0, page, at),
-        depth: depth_below(ticket, page, known),
-    }
+    edge.leaf = newest_below(ticket, 0, page, at) as u32;
+    edge.depth = depth_below(ticket, page, known);
 }
 
 /// The newest lower versions over the borders of the row of the ticket's update, and how deep the newest lower leaves of its
@@ -183,11 +186,14 @@ pub fn borders<L: Ledger>(ticket: &Ticket, nodes: &NodeHouse, steps: &mut Steps<
     let page_size = ticket.hints().snapshot.page_size();
     span_stands(page_size, ticket.size());
     let touch = ticket.touch();
-    let first = descend(ticket, nodes, touch.first, steps);
+    let mut first = Edge::blank();
+    descend(ticket, nodes, touch.first, &mut first, steps);
     let last = if touch.last == touch.first {
-        first
+        None
     } else {
-        descend(ticket, nodes, touch.last, steps)
+        let mut last = Edge::blank();
+        descend(ticket, nodes, touch.last, &mut last, steps);
+        Some(last)
     };
     Borders {
         page_size,

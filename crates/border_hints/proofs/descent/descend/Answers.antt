@@ -5,7 +5,7 @@ use Rattle.tree_geom.proofs.Spans.{page_pos}
 use Rattle.border_hints.specs.Numbered.{log_of, log_upto}
 use Rattle.border_hints.specs.Borders.{newest_known}
 use Rattle.border_hints.proofs.Published.{log_grown}
-use Rattle.border_hints.proofs.Turning.{down_started, down_turn, edge_known, page_is}
+use Rattle.border_hints.proofs.Turning.{down_started, down_turn, edge_known, page_is, newest_few}
 use Rattle.border_hints.proofs.descent.descend.Goals as goal
 
 -- the height, as the code computes it
@@ -21,7 +21,7 @@ loop-level-init g c =
     record {
       down =
           down_started c.newest_is_greatest.ensures.hit c.newest_is_greatest.ensures.none c.spans_hold.ensures.heights c.logs_are_grown.ensures.count c.logs_are_grown.ensures.grown
-          (log_upto t) t (t.version - 1) c.args.page c.height-level.result c.version-at.result _ refl is pos
+          (log_upto t) t (t.version - 1) c.args.page c.height-level.result c.version-at.result _ (omega arith) is pos
           (log_grown c.logs_are_grown.ensures.grown c.page_bytes_stay.ensures.extents t.snapshot is.published pos) c.requires.page
           (tall t.snapshot.page_size c.page_size-p.result t.size c.size.result c.height-level.result size c.size.ensures c.height-level.ensures.is)
           (c.version-at.ensures.count ∙ ap (λ (s : Version). length s.rows) c.hints.ensures.snapshot);
@@ -37,7 +37,7 @@ loop-level-preserved g c =
     record {
       down =
           down_turn t.snapshot.page_size (log_upto t) (log_of t.snapshot) (length t.snapshot.rows) (t.version - 1) (height_of t.snapshot.page_size t.size) c.args.page c.loop-level.level c.loop-level.at
-          c.turn-on.result.0 c.turn-on.result.1 c.loop-level.besides (omega (arith, c.loop-level-test.true)) (omega (arith, inv.down.below_root, high, c.height-level.ensures.bound))
+          c.turn-on.result.0 c.turn-on.result.1 c.loop-level.edge.besides (omega (arith, c.loop-level-test.true)) (omega (arith, inv.down.below_root, high, c.height-level.ensures.bound))
           inv.down c.turn-on.ensures.on c.turn-on.ensures.off;
       counted = omega (arith, c.turn-on.ensures.steps, inv.counted, c.loop-level-test.true);
     }
@@ -57,10 +57,20 @@ newest_below-requires-clause-known g c =
     newest_here s s c.args.page c.loop-level.level c.loop-level.at refl (omega (arith, c.loop-level-test.false)) c.loop-level.invariant.down.newest
     ∙ ap (newest_known s) (c.ranges_align.ensures.pages s.page_size c.args.page)
 
+pub overflow_cast-edge : goal.overflow_cast-edge
+overflow_cast-edge g c =
+    let t = c.args.ticket.now in
+    omega (arith, newest_few c.newest_is_greatest.ensures.greatest t _ c.turn-on.result.1 c.stands.ensures (omega (arith, c.stands-2.ensures.few, ap length c.hints-2.ensures.waiting)) c.turn-on.ensures.off)
+
+pub overflow_cast-edge-2 : goal.overflow_cast-edge-2
+overflow_cast-edge-2 g c =
+    let t = c.args.ticket.now in
+    omega (arith, newest_few c.newest_is_greatest.ensures.greatest t _ c.newest_below.result c.stands.ensures (omega (arith, c.stands-2.ensures.few, ap length c.hints-2.ensures.waiting)) c.newest_below.ensures)
+
 pub returns-clause-knows : goal.returns-clause-knows
 returns-clause-knows g c =
     let t = c.args.ticket.now in
     let p = t.snapshot.page_size in
-    edge_known p (log_upto t) (log_of t.snapshot) (length t.snapshot.rows) (t.version - 1) (height_of p t.size) c.args.page c.loop-level.level c.loop-level.at c.newest_below.result c.depth_below.result c.loop-level.besides
+    edge_known p (log_upto t) (log_of t.snapshot) (length t.snapshot.rows) (t.version - 1) (height_of p t.size) c.args.page c.loop-level.level c.loop-level.at c.newest_below.result c.depth_below-edge.result c.loop-level.edge.besides
     (tree_range p 0 c.args.page) (omega (arith, c.loop-level-test.false)) c.loop-level.invariant.down
-    (sym (c.ranges_align.ensures.pages p c.args.page)) c.newest_below.ensures c.depth_below.ensures.depth
+    (sym (c.ranges_align.ensures.pages p c.args.page)) c.newest_below.ensures c.depth_below-edge.ensures.depth

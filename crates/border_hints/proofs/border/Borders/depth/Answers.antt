@@ -1,47 +1,34 @@
-use Rattle.std.proofs.Common.{◌≡◌, ◌⊎◌, ℕ, ◌+◌, ◌≤◌, List, arith, sym, subst, ◌∙◌}
+use Rattle.std.proofs.Common.{◌≡◌, ℕ, ◌≤◌, arith, ap, sym, subst, ◌∙◌, Bool}
 use Rattle.tree_geom.specs.declared.touch.Touch.{Touch}
-use Rattle.range_log.specs.Log.{touch_at}
-use Rattle.range_log.specs.Depths.{depth_of}
-use Rattle.border_hints.specs.Borders.{BorderLinks, AreBorders}
-use Rattle.border_hints.proofs.Halves.{made}
-use Rattle.border_hints.proofs.Depths.{whole_edge, first_edge, last_edge}
+use Rattle.tree_geom.specs.Geometry.{leaves_open}
+use Rattle.border_hints.specs.Borders.{BorderLinks}
+use Rattle.border_hints.proofs.Depths.{whole_edge, part_edge}
 use Rattle.border_hints.proofs.border.Borders.depth.Goals as goal
 
+-- the same of the borders as of the fields of the code
+some_bytes : (p q : ℕ) → p ≡ q → 4 ≤ p → 1 ≤ q
+some_bytes p q same wide = omega arith
+
+in_order : (t u : Touch) → t ≡ u → t.first ≤ t.last → u.first ≤ u.last
+in_order t u same le = let P : Touch → Type 0 = λ x. x.first ≤ x.last in subst P same le
+
+opens : (t u : Touch) (page : ℕ) (test value : Bool) → t ≡ u → test ≡ leaves_open t page → test ≡ value → leaves_open u page ≡ value
+opens t u page test value same is was = ap (λ x. leaves_open x page) (sym same) ∙ sym is ∙ was
+
 pub returns-then-not-leaves_open : goal.returns-then-not-leaves_open
-unfolding made
-returns-then-not-leaves_open c =
-    let in' = c.self.inside in
-    let b : BorderLinks = made in'.page_size in'.touch in'.first.besides in'.first.leaf in'.first.depth in'.last.besides in'.last.leaf in'.last.depth in
-    let P : BorderLinks → Type 0 = λ x. (log : List Touch) (k : ℕ) → AreBorders log k x → touch_at log (k + 1) ≡ x.touch → 0 ≡ depth_of x.page_size log (k + 1) c.args.page in
-    let E : BorderLinks → Type 0 = λ x. (c.args.page ≡ x.touch.first) ⊎ (c.args.page ≡ x.touch.last) in
-    let edge : E b = subst E (sym c.self.view_is) c.requires.edge in
-    let pos : 1 ≤ in'.page_size = omega (arith, c.stands.ensures.bounds) in
-    subst P c.self.view_is
-    (λ log k are own. whole_edge c.meets_is_decided.ensures.met b c.args.page pos c.self.invariant.0 edge (sym c.leaves_open.ensures ∙ c.if-not-leaves_open.true) log k own)
+returns-then-not-leaves_open c = λ log k are own.
+    let i = c.self.inside in
+    let b = c.args.self.now in
+    let touch = ap (λ (x : BorderLinks). x.touch) c.self.view_is in
+    whole_edge c.meets_is_decided.ensures.met b c.args.page (some_bytes i.page_size b.page_size (ap (λ (x : BorderLinks). x.page_size) c.self.view_is) c.stands.ensures.bounds.0)
+    (in_order i.touch b.touch touch c.self.invariant.0) c.requires.edge (opens i.touch b.touch c.args.page c.leaves_open.result _ touch c.leaves_open.ensures c.if-not-leaves_open.true) log k own
 
-pub returns-then-page-self : goal.returns-then-page-self
-unfolding made
-returns-then-page-self c =
-    let in' = c.self.inside in
-    let b : BorderLinks = made in'.page_size in'.touch in'.first.besides in'.first.leaf in'.first.depth in'.last.besides in'.last.leaf in'.last.depth in
-    let P : BorderLinks → Type 0 = λ x. (log : List Touch) (k : ℕ) → AreBorders log k x → touch_at log (k + 1) ≡ x.touch → c.deeper.result ≡ depth_of x.page_size log (k + 1) c.args.page in
-    let E : BorderLinks → Type 0 = λ x. (c.args.page ≡ x.touch.first) ⊎ (c.args.page ≡ x.touch.last) in
-    let edge : E b = subst E (sym c.self.view_is) c.requires.edge in
-    let pos : 1 ≤ in'.page_size = omega (arith, c.stands.ensures.bounds) in
-    subst P c.self.view_is
-    (λ log k are own. c.deeper.ensures.is
-    ∙ first_edge c.meets_is_decided.ensures.met b c.args.page pos c.self.invariant.0 edge (sym c.leaves_open.ensures ∙ c.if-not-leaves_open.false) c.if-page-self.true log k are own)
-
-pub returns-else-page-self : goal.returns-else-page-self
-unfolding made
-returns-else-page-self c =
-    let in' = c.self.inside in
-    let b : BorderLinks = made in'.page_size in'.touch in'.first.besides in'.first.leaf in'.first.depth in'.last.besides in'.last.leaf in'.last.depth in
-    let P : BorderLinks → Type 0 = λ x. (log : List Touch) (k : ℕ) → AreBorders log k x → touch_at log (k + 1) ≡ x.touch
-    → c.deeper-else-page-self.result ≡ depth_of x.page_size log (k + 1) c.args.page in
-    let E : BorderLinks → Type 0 = λ x. (c.args.page ≡ x.touch.first) ⊎ (c.args.page ≡ x.touch.last) in
-    let edge : E b = subst E (sym c.self.view_is) c.requires.edge in
-    let pos : 1 ≤ in'.page_size = omega (arith, c.stands.ensures.bounds) in
-    subst P c.self.view_is
-    (λ log k are own. c.deeper-else-page-self.ensures.is
-    ∙ last_edge c.meets_is_decided.ensures.met b c.args.page pos c.self.invariant.0 edge (sym c.leaves_open.ensures ∙ c.if-not-leaves_open.false) c.if-page-self.false log k are own)
+pub returns : goal.returns
+returns c = λ log k are own.
+    let i = c.self.inside in
+    let b = c.args.self.now in
+    let touch = ap (λ (x : BorderLinks). x.touch) c.self.view_is in
+    c.deeper.ensures.is
+    ∙ part_edge c.meets_is_decided.ensures.met b c.args.page (some_bytes i.page_size b.page_size (ap (λ (x : BorderLinks). x.page_size) c.self.view_is) c.stands.ensures.bounds.0)
+    (in_order i.touch b.touch touch c.self.invariant.0) c.requires.edge (opens i.touch b.touch c.args.page c.leaves_open.result _ touch c.leaves_open.ensures c.if-not-leaves_open.false)
+    c.edge.result.now.depth log k (c.edge.ensures.knows log k are).depth own
