@@ -2,17 +2,17 @@
 use Rattle.std.proofs.Common.{◌≡◌, ◌⊎◌, ℕ, suc, ◌+◌, ◌*◌, ◌%◌, ◌<◌, ◌≤◌, List, [], ◌∷◌, ◌++◌, length, map, arith, inl, inr, refl, ap, sym, ◌∙◌, true, false, Bool}
 use Rattle.std.specs.Prelude.{if◌then◌else◌}
 use Rattle.std.proofs.lemmas.Nat.{mul-le}
-use Rattle.tree_geom.specs.declared.range.Range.{Range}
 use Rattle.tree_geom.specs.declared.touch.Touch.{Touch}
 use Rattle.tree_geom.specs.declared.node.Node.{Node}
-use Rattle.tree_geom.specs.Geometry.{page_range, meets_of, leaves_open}
+use Rattle.tree_geom.specs.Geometry.{page_range, tree_range, meets_of, leaves_open}
 use Rattle.tree_geom.specs.Nodes.{depth_in}
-use Rattle.tree_geom.specs.Laws.{MeetsIsTrue}
+use Rattle.tree_geom.specs.Laws.{MeetsIsTrue, PagesAlign}
 use Rattle.range_log.specs.Log.{touch_at}
 use Rattle.range_log.specs.Depths.{fold_number, depth_by, depth_of, depth_after}
 use Rattle.range_log.specs.Laws.{TouchesAre, DepthsStay}
 use Rattle.range_log.specs.Open.{open_at}
 use Rattle.range_log.specs.Rows.{node_of}
+use Rattle.range_log.specs.Extents.{Extent}
 use Rattle.range_log.specs.Updates.{extents}
 use Rattle.range_log.proofs.Nodes.{node_leaf, leaf_depth}
 use Rattle.snapshot.specs.Versions.{Version, updates_of}
@@ -91,10 +91,11 @@ module _ (met : MeetsIsTrue) (b : BorderLinks) (page : ℕ) (pos : 1 ≤ b.page_
 
 -- ---- from the snapshot on
 -- what the leaf of a page in a row says
-pub leaf_says : (s : Version) (j page : ℕ) (range : Range) (node : Node) → 1 ≤ s.page_size → range ≡ page_range s.page_size page → node ≡ node_of s.page_size (extents (updates_of s)) j range
+pub leaf_says : PagesAlign → (s : Version) (j page : ℕ) (node : Node) → 1 ≤ s.page_size → node ≡ node_of s.page_size (extents (updates_of s)) j (tree_range s.page_size 0 page)
     → depth_in node ≡ depth_of s.page_size (log_of s) j page
-leaf_says s j page range node pos is found =
-    ap depth_in (found ∙ ap (node_of s.page_size (extents (updates_of s)) j) is ∙ node_leaf s.page_size j page (extents (updates_of s)) pos) ∙ leaf_depth s.page_size j page (extents (updates_of s))
+leaf_says align s j page node pos found =
+    let us : List Extent = extents (updates_of s) in
+    ap depth_in (found ∙ ap (node_of s.page_size us j) (sym (align s.page_size page)) ∙ node_leaf s.page_size j page us pos) ∙ leaf_depth s.page_size j page us
 
 -- the leaves of the snapshot's versions are as deep in the ticket's touches
 pub depth_stays : TouchesAre → DepthsStay → (t : NumberedUpdate) (page : ℕ)

@@ -4,10 +4,9 @@ use Rattle.std.proofs.lemmas.Bool.{cases_lt}
 use Rattle.std.proofs.lemmas.Nat.{mul-le, pow_pos}
 use Rattle.std.proofs.lemmas.List.{length-map}
 use Rattle.std.proofs.Math.Nat.{pow-succ', pow-le-pow_right}
-use Rattle.tree_geom.specs.declared.range.Range.{Range}
 use Rattle.tree_geom.specs.declared.touch.Touch.{Touch}
-use Rattle.tree_geom.specs.Geometry.{doublings, tree_range, page_range, height_of, span_of, left_half, right_half}
-use Rattle.tree_geom.specs.Laws.{HeightsHold, SpanOfSome, PagesAlign, RangesNest, LowHalvesAlign, HighHalvesAlign}
+use Rattle.tree_geom.specs.Geometry.{doublings, tree_range, height_of, span_of, left_half, right_half}
+use Rattle.tree_geom.specs.Laws.{HeightsHold, SpanOfSome, RangesNest, LowHalvesAlign, HighHalvesAlign}
 use Rattle.range_log.specs.Log.{newest_of, touch_at, size_at, HasNode}
 use Rattle.range_log.specs.Laws.{Grown, LinksAgree, NewestOfNone, NewestHits, NewestHasNode, NewestIsNone, SizesAre, LogsAreGrown, ExtentsStand}
 use Rattle.range_log.specs.Updates.{extents}
@@ -79,14 +78,11 @@ module _ (p : ℕ) (log : List Touch) (v : ℕ) where
         subst P (sym is) (node p log v h q pos g in_log (inr within) (omega arith))
 
 -- the newest version that touches a page has a leaf for it
-pub newest_leaf : NewestHasNode → PagesAlign → (p : ℕ) (log : List Touch) (v page at : ℕ) → Grown p log → 1 ≤ p → v ≤ length log → at ≡ newest_of p log v (page_range p page) → 1 ≤ at
-    → HasNode p log at (page_range p page)
-newest_leaf node align p log v page at g pos in_log is some =
-    let e : page_range p page ≡ tree_range p 0 page = align p page in
-    let same : at ≡ newest_of p log v (tree_range p 0 page) = is ∙ ap (newest_of p log v) e in
-    let P : Range → Type 0 = λ r. HasNode p log at r in
-    let Q : ℕ → Type 0 = λ j. HasNode p log j (tree_range p 0 page) in
-    subst P (sym e) (subst Q (sym same) (node p log v 0 page pos g in_log (inl refl) (omega arith)))
+pub newest_leaf : NewestHasNode → (p : ℕ) (log : List Touch) (v page at : ℕ) → Grown p log → 1 ≤ p → v ≤ length log → at ≡ newest_of p log v (tree_range p 0 page) → 1 ≤ at
+    → HasNode p log at (tree_range p 0 page)
+newest_leaf node p log v page at g pos in_log is some =
+    let P : ℕ → Type 0 = λ j. HasNode p log j (tree_range p 0 page) in
+    subst P (sym is) (node p log v 0 page pos g in_log (inl refl) (omega arith))
 
 -- a range from byte 0 on that holds the root of version v was touched by it
 pub holds_root : NewestHits → NewestOfNone → (p : ℕ) (log : List Touch) (v h : ℕ) → Grown p log → 1 ≤ p → v ≤ length log → size_at log v ≤ p * 2 ^ h → newest_of p log v (tree_range p h 0) ≡ v
@@ -123,28 +119,28 @@ above_root hits none past heights p log v g pos in_log h q at is some low =
     )
 
 -- ---- a node's links
-pub link_low : LinksAgree → LowHalvesAlign → (p : ℕ) (log : List Touch) (v h q at link : ℕ) (range : Range) → range ≡ tree_range p (h + 1) q → at ≡ newest_of p log v (tree_range p (h + 1) q)
-    → link ≡ newest_of p log at (left_half range) → link ≡ newest_of p log v (tree_range p h (2 * q))
-link_low agree align p log v h q at link range is newest got =
+pub link_low : LinksAgree → LowHalvesAlign → (p : ℕ) (log : List Touch) (v h q at link : ℕ) → at ≡ newest_of p log v (tree_range p (h + 1) q)
+    → link ≡ newest_of p log at (left_half (tree_range p (h + 1) q)) → link ≡ newest_of p log v (tree_range p h (2 * q))
+link_low agree align p log v h q at link newest got =
     let e : h + 1 ≡ suc h = omega arith in
     got
-    ∙ ap (λ (r : Range). newest_of p log at (left_half r)) (is ∙ ap (λ k. tree_range p k q) e)
+    ∙ ap (λ k. newest_of p log at (left_half (tree_range p k q))) e
     ∙ ap (newest_of p log at) (align p h q)
     ∙ ap (λ j. newest_of p log j (tree_range p h (2 * q))) newest
     ∙ half_of p log v agree h q (2 * q) (inl refl)
 
-pub link_high : LinksAgree → HighHalvesAlign → (p : ℕ) (log : List Touch) (v h q at link : ℕ) (range : Range) → range ≡ tree_range p (h + 1) q → at ≡ newest_of p log v (tree_range p (h + 1) q)
-    → link ≡ newest_of p log at (right_half range) → link ≡ newest_of p log v (tree_range p h (2 * q + 1))
-link_high agree align p log v h q at link range is newest got =
+pub link_high : LinksAgree → HighHalvesAlign → (p : ℕ) (log : List Touch) (v h q at link : ℕ) → at ≡ newest_of p log v (tree_range p (h + 1) q)
+    → link ≡ newest_of p log at (right_half (tree_range p (h + 1) q)) → link ≡ newest_of p log v (tree_range p h (2 * q + 1))
+link_high agree align p log v h q at link newest got =
     let e : h + 1 ≡ suc h = omega arith in
     got
-    ∙ ap (λ (r : Range). newest_of p log at (right_half r)) (is ∙ ap (λ k. tree_range p k q) e)
+    ∙ ap (λ k. newest_of p log at (right_half (tree_range p k q))) e
     ∙ ap (newest_of p log at) (align p h q)
     ∙ ap (λ j. newest_of p log j (tree_range p h (2 * q + 1))) newest
     ∙ half_of p log v agree h q (2 * q + 1) (inr refl)
 
-pub inner_size : (p h size : ℕ) → 1 ≤ p → size ≡ p * 2 ^ (h + 1) → p < size
-inner_size p h size pos is = let f : p * 1 ≤ p * 2 ^ h = mul-le p 1 p (2 ^ h) (omega arith) (pow_pos h) in omega (arith, double p h)
+pub inner_size : (p h : ℕ) → 1 ≤ p → p < p * 2 ^ (h + 1)
+inner_size p h pos = let f : p * 1 ≤ p * 2 ^ h = mul-le p 1 p (2 ^ h) (omega arith) (pow_pos h) in omega (arith, double p h)
 
 -- a tree over no bytes has the height 0
 pub height_none : (p n : ℕ) → n ≡ 0 → 0 ≡ height_of p n

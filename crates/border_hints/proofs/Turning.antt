@@ -139,12 +139,6 @@ halved page h =
     let e : 2 ^ h * 2 ≡ 2 ^ (h + 1) = let f : h + 1 ≡ suc h = omega arith in rw (f, pow-succ' 2 h) (omega arith) in
     div-div-eq-div-mul page (2 ^ h) 2 ∙ ap (λ n. page / n) e
 
-pub page_under : (i h n p : ℕ) → i * p < n → i / 2 ^ h * (p * 2 ^ h) < n
-page_under i h n p lt =
-    let pos : 0 < 2 ^ h = pow_pos h in
-    let e : i / 2 ^ h * 2 ^ h * p ≤ i * p = mul-le (i / 2 ^ h * 2 ^ h) p i p (omega arith) (omega arith) in
-    omega arith
-
 pub beside_even : (n : ℕ) → n % 2 ≡ 0 → beside n ≡ n + 1
 beside_even n e = let test : (n % 2 == 0) ≡ true = grind (arith, nat_tests) in ap (λ b. if b then n + 1 else n - 1) test
 
@@ -249,23 +243,13 @@ down_turn p log below v k top page h at on off besides some few d newest side = 
   ];
 }
 
-pub page_is : (p page h : ℕ) → h ≡ 0 → tree_range p h (page / 2 ^ h) ≡ page_range p page
-page_is p page h e =
-    let made : ℕ → ℕ → Range = λ i s. record { offset = i * s; size = s } in
-    let size : p * 2 ^ h ≡ p = rw e (omega arith) in
-    let number : page / 2 ^ h ≡ page = rw e (omega arith) in
-    ap (made (page / 2 ^ h)) size ∙ ap (λ i. made i p) number
+pub page_is : (p page h : ℕ) → h ≡ 0 → tree_range p h (page / 2 ^ h) ≡ tree_range p 0 page
+page_is p page h e = let number : page / 2 ^ h ≡ page = rw e (omega arith) in ap (tree_range p h) number ∙ ap (λ k. tree_range p k page) e
 
 pub edge_known : (p : ℕ) (log below : List Touch) (v k top page h at leaf depth : ℕ) (besides : List ℕ) (range : Range) → h ≡ 0 → Down p log below v k top page h at besides
     → range ≡ page_range p page → leaf ≡ newest_of p log k range → depth ≡ depth_of p log k page → KnowsEdge p log k top page (edge_links besides leaf depth)
 edge_known p log below v k top page h at leaf depth besides range low d here is deep =
     record { leaf = is ∙ ap (newest_of p log k) here; besides = λ j lt. d.sides j (omega arith) lt; depth = deep }
-
--- the code's ranges on the path
-pub path_fits : (page h p n : ℕ) → page * p < n → n ≤ 2 ^ 40 → page / 2 ^ h / 2 * (p * 2 ^ (h + 1)) ≤ 2 ^ 40
-path_fits page h p n inside fits =
-    let P : ℕ → Type 0 = λ q. q * (p * 2 ^ (h + 1)) ≤ 2 ^ 40 in
-    subst P (sym (halved page h)) (omega (arith, page_under page (h + 1) n p inside))
 
 -- ---- the touched pages
 pub first_inside : (at len p size : ℕ) → 1 ≤ len → at + len ≤ size → at / p * p < size

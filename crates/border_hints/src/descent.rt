@@ -12,7 +12,7 @@ use crate::known::{depth_known, halves_known};
 use crate::ticket::Ticket;
 use node_store::NodeHouse;
 use range_log::deeper;
-use snapshot::Snapshot;
+use snapshot::{RowView, Snapshot};
 use std::sync::ledger::Ledger;
 use tree_geom::{Steps, Touch, height, span_stands};
 
@@ -95,10 +95,11 @@ fn tree_height(snapshot: &Snapshot) -> u32
 }
 
 // One step on the path to the page, down to the range of height `level`, from the one above, whose newest version of the
-// snapshot is `at`: that for the next range on the path, and the newest lower version for the one beside it.
+// snapshot is `at`, that of the row: that for the next range on the path, and the newest lower version for the one beside it.
 fn turn<L: Ledger>(
     ticket: &Ticket,
     nodes: &NodeHouse,
+    row: &RowView,
     at: u64,
     tall: u32,
     level: u32,
@@ -106,20 +107,18 @@ fn turn<L: Ledger>(
     steps: &mut Steps<L>,
 ) -> (u64, u64)
     requires here { NodesLieIn nodes.now ticket.now.snapshot }
+    requires version { row.now.version ≡ ticket.now.snapshot }
+    requires row { row.now.update ≡ at }
     requires tall { tall ≡ height_of ticket.now.snapshot.page_size (size_now ticket.now.snapshot) }
-    requires level { level < height_of ticket.now.snapshot.page_size ticket.now.size }
-    requires low { height_of ticket.now.snapshot.page_size ticket.now.size ≤ 38 }
-    requires page { page * ticket.now.snapshot.page_size < ticket.now.size }
+    requires level { level < 64 }
     requires at { at ≡ newest_known ticket.now.snapshot (tree_range ticket.now.snapshot.page_size (level + 1) (page / 2 ^ (level + 1))) }
     ensures on { result.0 ≡ newest_known ticket.now.snapshot (tree_range ticket.now.snapshot.page_size level (page / 2 ^ level)) }
     ensures off { let t = ticket.now in
         result.1 ≡ newest_of t.snapshot.page_size (log_upto t) (t.version - 1) (tree_range t.snapshot.page_size level (beside (page / 2 ^ level))) }
     ensures steps { steps.new ≤ steps.old + 1 }
 {
-    ticket.stands();
-    let snapshot = &ticket.hints().snapshot;
     let number = page >> level;
-    let (low, high) = halves_known(snapshot, nodes, at, tall, level, number / 2, steps);
+    let (low, high) = halves_known(row, nodes, at, tall, level, number / 2, steps);
     if number % 2 == 0 {
         (low, newest_below(ticket, level, number + 1, high))
     } else {
@@ -149,19 +148,24 @@ fn descend<L: Ledger>(
     range_log::laws::newest_is_greatest();
     range_log::laws::logs_are_grown();
     range_log::laws::page_bytes_stay();
-    range_log::laws::older_versions_stay();
     let snapshot = &ticket.hints().snapshot;
     let p = snapshot.page_size();
     ticket.stands();
     ticket.hints().waiting.stands();
     let tall = tree_height(snapshot);
+    let view = snapshot.view();
     let mut at = snapshot.version();
+    let mut row = view.row_of(at);
     for level in (0..height(p, ticket.size())).rev() {
-        let (on, off) = turn(ticket, nodes, at, tall, level, page, steps);
+        let (on, off) = turn(ticket, nodes, &row, at, tall, level, page, steps);
         edge.besides[level as usize] = off as u32;
+        // mostly the next node is of the same row
+        if on != at {
+            row = view.row_of(on);
+        }
         at = on;
     }
-    let known = depth_known(snapshot, nodes, at, page, steps);
+    let known = depth_known(&row, nodes, at, page, steps);
     edge.leaf = newest_below(ticket, 0, page, at) as u32;
     edge.depth = depth_below(ticket, page, known);
 }

@@ -1,35 +1,27 @@
 // What the published snapshot's tree tells of the newest versions of ranges, and of how deep leaves lie.
 ghost use Rattle.std.specs.Prelude.{◌≡◌, ◌+◌, ◌*◌, ◌^◌, ◌<◌, ◌≤◌, length};
-ghost use Rattle.tree_geom.specs.Geometry.{tree_range, page_range, height_of, left_half, right_half};
+ghost use Rattle.tree_geom.specs.Geometry.{tree_range, height_of, left_half, right_half};
 ghost use Rattle.range_log.specs.Log.{newest_of};
 ghost use Rattle.range_log.specs.Depths.{depth_of};
 ghost use Rattle.snapshot.specs.Versions.{size_now, HasNodeFor, NodesLieIn};
 ghost use Rattle.border_hints.specs.Numbered.{log_of};
 ghost use Rattle.border_hints.specs.Borders.{newest_known};
 
-use node_store::{Node, NodeHouse, Range};
-use snapshot::Snapshot;
+use node_store::{Node, NodeHouse};
+use snapshot::RowView;
 use std::sync::ledger::Ledger;
-use tree_geom::{Steps, range_of_page};
+use tree_geom::Steps;
 
-// How many backs lead on from the leaf of the page in the row of update `j`, one after another.
-fn leaf_depth<L: Ledger>(
-    snapshot: &Snapshot,
-    nodes: &NodeHouse,
-    j: u64,
-    page: u64,
-    steps: &mut Steps<L>,
-) -> u32
-    requires here { NodesLieIn nodes.now snapshot.now }
-    requires has { HasNodeFor snapshot.now j (page_range snapshot.now.page_size page) }
-    requires fits { page * snapshot.now.page_size ≤ 2 ^ 40 }
-    ensures depth { result ≡ depth_of snapshot.now.page_size (log_of snapshot.now) j page }
+// How many backs lead on from the leaf of the page in that row, one after another.
+fn leaf_depth<L: Ledger>(row: &RowView, nodes: &NodeHouse, page: u64, steps: &mut Steps<L>) -> u32
+    requires here { NodesLieIn nodes.now row.now.version }
+    requires has { HasNodeFor row.now.version row.now.update (tree_range row.now.version.page_size 0 page) }
+    ensures depth { result ≡ depth_of row.now.version.page_size (log_of row.now.version) row.now.update page }
     ensures step { steps.new ≡ steps.old + 1 }
 {
-    range_log::laws::logs_are_grown();
-    snapshot.stands();
-    let range = range_of_page(snapshot.page_size(), page);
-    let Some(node) = snapshot.find(j, range, steps) else {
+    tree_geom::laws::ranges_align();
+    row.stands();
+    let Some(node) = row.find(0, page, steps) else {
         unreachable!()
     };
     match nodes.get(&node) {
@@ -38,19 +30,20 @@ fn leaf_depth<L: Ledger>(
     }
 }
 
-/// How deep the snapshot's newest leaf of the page lies, which is that of version `at`, or 0 where there is none. In a branch
-/// it may be a leaf of the blob that the branch was made from, and the count goes on from there.
+/// How deep the newest leaf of the page lies in the version of which that row is one. It is the row of update `at`, the newest that
+/// touches the page, or 0 where none does. In a branch it may be a leaf of the blob that the branch was made from, and the count
+/// goes on from there.
 pub(crate) fn depth_known<L: Ledger>(
-    snapshot: &Snapshot,
+    row: &RowView,
     nodes: &NodeHouse,
     at: u64,
     page: u64,
     steps: &mut Steps<L>,
 ) -> u32
-    requires here { NodesLieIn nodes.now snapshot.now }
-    requires at { at ≡ newest_known snapshot.now (page_range snapshot.now.page_size page) }
-    requires fits { page * snapshot.now.page_size ≤ 2 ^ 40 }
-    ensures depth { result ≡ depth_of snapshot.now.page_size (log_of snapshot.now) (length snapshot.now.rows) page }
+    requires here { NodesLieIn nodes.now row.now.version }
+    requires row { row.now.update ≡ at }
+    requires at { at ≡ newest_known row.now.version (tree_range row.now.version.page_size 0 page) }
+    ensures depth { let s = row.now.version in result ≡ depth_of s.page_size (log_of s) (length s.rows) page }
     ensures steps { steps.new ≤ steps.old + 1 }
 {
     range_log::laws::newest_has_node();
@@ -58,30 +51,30 @@ pub(crate) fn depth_known<L: Ledger>(
     range_log::laws::logs_are_grown();
     range_log::laws::page_bytes_stay();
     tree_geom::laws::ranges_align();
-    snapshot.stands();
+    row.stands();
     if at == 0 {
         return 0;
     }
-    leaf_depth(snapshot, nodes, at, page, steps)
+    leaf_depth(row, nodes, page, steps)
 }
 
-// The versions whose rows have the nodes of the halves of the range, by its node in the row of update `j`.
+// The versions whose rows have the nodes of the halves of range number `q` of a height, by its node in that row.
 fn links<L: Ledger>(
-    snapshot: &Snapshot,
+    row: &RowView,
     nodes: &NodeHouse,
-    j: u64,
-    range: Range,
+    level: u32,
+    q: u64,
     steps: &mut Steps<L>,
 ) -> (u64, u64)
-    requires here { NodesLieIn nodes.now snapshot.now }
-    requires has { HasNodeFor snapshot.now j range }
-    requires inner { snapshot.now.page_size < range.size }
-    ensures left { result.0 ≡ newest_of snapshot.now.page_size (log_of snapshot.now) j (left_half range) }
-    ensures right { result.1 ≡ newest_of snapshot.now.page_size (log_of snapshot.now) j (right_half range) }
+    requires here { NodesLieIn nodes.now row.now.version }
+    requires has { HasNodeFor row.now.version row.now.update (tree_range row.now.version.page_size level q) }
+    requires inner { row.now.version.page_size < row.now.version.page_size * 2 ^ level }
+    ensures left { let s = row.now.version in result.0 ≡ newest_of s.page_size (log_of s) row.now.update (left_half (tree_range s.page_size level q)) }
+    ensures right { let s = row.now.version in result.1 ≡ newest_of s.page_size (log_of s) row.now.update (right_half (tree_range s.page_size level q)) }
     ensures step { steps.new ≡ steps.old + 1 }
 {
-    range_log::laws::logs_are_grown();
-    let Some(node) = snapshot.find(j, range, steps) else {
+    row.stands();
+    let Some(node) = row.find(level, q, steps) else {
         unreachable!()
     };
     match nodes.get(&node) {
@@ -90,12 +83,12 @@ fn links<L: Ledger>(
     }
 }
 
-/// The newest versions of the snapshot for the halves of range number `q` of the height above `level`, whose own newest
-/// version is `at`. `tall` is the height of the snapshot's tree.
+/// The newest versions for the halves of range number `q` of the height above `level`, in the version of which that row is one. It
+/// is the row of update `at`, the newest that touches the range, or 0 where none does. `tall` is the height of the version's tree.
 ///
 /// A range that the tree's root doesn't reach has the root in its lower half alone, if at all.
 pub(crate) fn halves_known<L: Ledger>(
-    snapshot: &Snapshot,
+    row: &RowView,
     nodes: &NodeHouse,
     at: u64,
     tall: u32,
@@ -103,13 +96,12 @@ pub(crate) fn halves_known<L: Ledger>(
     q: u64,
     steps: &mut Steps<L>,
 ) -> (u64, u64)
-    requires here { NodesLieIn nodes.now snapshot.now }
-    requires tall { tall ≡ height_of snapshot.now.page_size (size_now snapshot.now) }
-    requires level { level < 38 }
-    requires at { at ≡ newest_known snapshot.now (tree_range snapshot.now.page_size (level + 1) q) }
-    requires fits { q * (snapshot.now.page_size * 2 ^ (level + 1)) ≤ 2 ^ 40 }
-    ensures low { result.0 ≡ newest_known snapshot.now (tree_range snapshot.now.page_size level (2 * q)) }
-    ensures high { result.1 ≡ newest_known snapshot.now (tree_range snapshot.now.page_size level (2 * q + 1)) }
+    requires here { NodesLieIn nodes.now row.now.version }
+    requires row { row.now.update ≡ at }
+    requires tall { tall ≡ height_of row.now.version.page_size (size_now row.now.version) }
+    requires at { at ≡ newest_known row.now.version (tree_range row.now.version.page_size (level + 1) q) }
+    ensures low { result.0 ≡ newest_known row.now.version (tree_range row.now.version.page_size level (2 * q)) }
+    ensures high { result.1 ≡ newest_known row.now.version (tree_range row.now.version.page_size level (2 * q + 1)) }
     ensures steps { steps.new ≤ steps.old + 1 }
 {
     range_log::laws::newest_is_greatest();
@@ -118,17 +110,12 @@ pub(crate) fn halves_known<L: Ledger>(
     range_log::laws::page_bytes_stay();
     tree_geom::laws::spans_hold();
     tree_geom::laws::ranges_align();
-    snapshot.stands();
+    row.stands();
     if at == 0 {
         return (0, 0);
     }
     if tall <= level {
         return (at, 0);
     }
-    let size = snapshot.page_size().bytes() << (level + 1);
-    let range = Range {
-        offset: q * size,
-        size,
-    };
-    links(snapshot, nodes, at, range, steps)
+    links(row, nodes, level + 1, q, steps)
 }

@@ -1,11 +1,9 @@
-use Rattle.std.proofs.Common.{◌≡◌, ℕ, ◌+◌, ◌*◌, ◌%◌, ◌^◌, ◌≤◌, length, arith, inl, inr, refl, ap, sym, subst, ◌∙◌}
-use Rattle.tree_geom.specs.declared.range.Range.{Range}
+use Rattle.std.proofs.Common.{◌≡◌, ℕ, ◌+◌, ◌*◌, ◌≤◌, length, arith, inl, inr, refl, ap, sym, ◌∙◌}
 use Rattle.tree_geom.specs.Geometry.{height_of}
-use Rattle.range_log.specs.Log.{size_at, HasNode}
+use Rattle.range_log.specs.Log.{size_at}
 use Rattle.range_log.specs.Laws.{TouchesAre, SizesAre, LogsAreGrown, ExtentsStand, Grown}
 use Rattle.snapshot.specs.Versions.{Version, size_now, IsVersion}
 use Rattle.tree_geom.proofs.Spans.{page_pos}
-use Rattle.tree_geom.proofs.Shifts.{range_is, size_is}
 use Rattle.border_hints.specs.Numbered.{log_of}
 use Rattle.border_hints.proofs.Tickets.{length-log_of}
 use Rattle.border_hints.proofs.Published.{log_grown, log_size, none_in_half, above_root, node_below, inner_size, link_low, link_high}
@@ -13,13 +11,13 @@ use Rattle.border_hints.proofs.known.halves_known.Goals as goal
 
 pub returns-then-at-eq0-clause-low : goal.returns-then-at-eq0-clause-low
 returns-then-at-eq0-clause-low g c =
-    let s = c.args.snapshot.now in
+    let s = c.args.row.now.version in
     none_in_half s.page_size (log_of s) (length s.rows) c.newest_is_greatest.ensures.agree c.newest_is_greatest.ensures.none c.args.level c.args.q (2 * c.args.q) (inl refl)
     (sym c.if-at-eq0.true ∙ c.requires.at)
 
 pub returns-then-at-eq0-clause-high : goal.returns-then-at-eq0-clause-high
 returns-then-at-eq0-clause-high g c =
-    let s = c.args.snapshot.now in
+    let s = c.args.row.now.version in
     none_in_half s.page_size (log_of s) (length s.rows) c.newest_is_greatest.ensures.agree c.newest_is_greatest.ensures.none c.args.level c.args.q (2 * c.args.q + 1) (inr refl)
     (sym c.if-at-eq0.true ∙ c.requires.at)
 
@@ -35,8 +33,8 @@ tall_is sizes stand s tall is e = ap (height_of s.page_size) (log_size sizes sta
 
 pub returns-then-tall-level-clause-low : goal.returns-then-tall-level-clause-low
 returns-then-tall-level-clause-low g c =
-    let s = c.args.snapshot.now in
-    let is = c.stands.ensures in
+    let s = c.args.row.now.version in
+    let is = c.stands.ensures.version in
     (above_root c.newest_is_greatest.ensures.hit c.newest_is_greatest.ensures.none c.newest_has_node.ensures.none c.spans_hold.ensures.heights s.page_size (log_of s) (length s.rows)
     (grown c.logs_are_grown.ensures.grown c.page_bytes_stay.ensures.extents s is) (page_pos s.page_size is.page_size) (in_log c.logs_are_grown.ensures.count s)
     c.args.level c.args.q c.args.at c.requires.at (omega (arith, c.if-at-eq0.false))
@@ -44,49 +42,36 @@ returns-then-tall-level-clause-low g c =
 
 pub returns-then-tall-level-clause-high : goal.returns-then-tall-level-clause-high
 returns-then-tall-level-clause-high g c =
-    let s = c.args.snapshot.now in
-    let is = c.stands.ensures in
+    let s = c.args.row.now.version in
+    let is = c.stands.ensures.version in
     (above_root c.newest_is_greatest.ensures.hit c.newest_is_greatest.ensures.none c.newest_has_node.ensures.none c.spans_hold.ensures.heights s.page_size (log_of s) (length s.rows)
     (grown c.logs_are_grown.ensures.grown c.page_bytes_stay.ensures.extents s is) (page_pos s.page_size is.page_size) (in_log c.logs_are_grown.ensures.count s)
     c.args.level c.args.q c.args.at c.requires.at (omega (arith, c.if-at-eq0.false))
     (omega (arith, tall_is c.logs_are_grown.ensures.sizes c.page_bytes_stay.ensures.extents s c.args.tall is c.requires.tall, c.if-tall-level.true))).1
 
-pub overflow_mul-range : goal.overflow_mul-range
-overflow_mul-range g c =
-    let s = c.args.snapshot.now in
-    let P : ℕ → Type 0 = λ z. c.args.q * z ≤ 2 ^ 40 in
-    let fits : c.args.q * (c.bytes.result * 2 ^ (c.args.level + 1) % 2 ^ 64) ≤ 2 ^ 40 =
-    subst P (sym (size_is c.bytes.result _ s.page_size (c.args.level + 1) c.bytes.ensures.is c.page_size.ensures c.bytes.ensures.bounds.1 (omega (arith, c.requires.level)))) c.requires.fits in
-    omega (arith, fits)
-
 pub links-requires-clause-has : goal.links-requires-clause-has
 links-requires-clause-has g c =
-    let s = c.args.snapshot.now in
-    let is = c.stands.ensures in
-    let P : Range → Type 0 = λ r. HasNode s.page_size (log_of s) c.args.at r in
-    subst P (sym (range_is s.page_size (c.args.level + 1) c.args.q _ (size_is c.bytes.result _ s.page_size (c.args.level + 1) c.bytes.ensures.is c.page_size.ensures c.bytes.ensures.bounds.1 (omega (arith, c.requires.level)))))
-    (node_below s.page_size (log_of s) (length s.rows)
+    let s = c.args.row.now.version in
+    let is = c.stands.ensures.version in
+    node_below s.page_size (log_of s) (length s.rows)
     (grown c.logs_are_grown.ensures.grown c.page_bytes_stay.ensures.extents s is) (page_pos s.page_size is.page_size) (in_log c.logs_are_grown.ensures.count s)
     c.newest_has_node.ensures.none c.newest_has_node.ensures.node c.spans_hold.ensures.heights c.spans_hold.ensures.some c.ranges_align.ensures.nest
-    (c.args.level + 1) c.args.q c.args.at c.requires.at (omega (arith, c.if-at-eq0.false))
-    (omega (arith, tall_is c.logs_are_grown.ensures.sizes c.page_bytes_stay.ensures.extents s c.args.tall is c.requires.tall, c.if-tall-level.false)))
+    (c.args.level + 1) c.args.q c.args.row.now.update (c.requires.row ∙ c.requires.at) (omega (arith, c.requires.row, c.if-at-eq0.false))
+    (omega (arith, tall_is c.logs_are_grown.ensures.sizes c.page_bytes_stay.ensures.extents s c.args.tall is c.requires.tall, c.if-tall-level.false))
 
 pub links-requires-clause-inner : goal.links-requires-clause-inner
 links-requires-clause-inner g c =
-    let s = c.args.snapshot.now in
-    let is = c.stands.ensures in
-    inner_size s.page_size c.args.level _ (page_pos s.page_size is.page_size) (size_is c.bytes.result _ s.page_size (c.args.level + 1) c.bytes.ensures.is c.page_size.ensures c.bytes.ensures.bounds.1 (omega (arith, c.requires.level)))
+    let p = c.args.row.now.version.page_size in
+    inner_size p c.args.level (page_pos p c.stands.ensures.version.page_size)
 
 pub returns-clause-low : goal.returns-clause-low
 returns-clause-low g c =
-    let s = c.args.snapshot.now in
-    link_low c.newest_is_greatest.ensures.agree c.ranges_align.ensures.low s.page_size (log_of s) (length s.rows) c.args.level c.args.q c.args.at c.links.result.0 _
-    (range_is s.page_size (c.args.level + 1) c.args.q _ (size_is c.bytes.result _ s.page_size (c.args.level + 1) c.bytes.ensures.is c.page_size.ensures c.bytes.ensures.bounds.1 (omega (arith, c.requires.level))))
-    c.requires.at c.links.ensures.left
+    let s = c.args.row.now.version in
+    link_low c.newest_is_greatest.ensures.agree c.ranges_align.ensures.low s.page_size (log_of s) (length s.rows) c.args.level c.args.q c.args.row.now.update c.links.result.0
+    (c.requires.row ∙ c.requires.at) c.links.ensures.left
 
 pub returns-clause-high : goal.returns-clause-high
 returns-clause-high g c =
-    let s = c.args.snapshot.now in
-    link_high c.newest_is_greatest.ensures.agree c.ranges_align.ensures.high s.page_size (log_of s) (length s.rows) c.args.level c.args.q c.args.at c.links.result.1 _
-    (range_is s.page_size (c.args.level + 1) c.args.q _ (size_is c.bytes.result _ s.page_size (c.args.level + 1) c.bytes.ensures.is c.page_size.ensures c.bytes.ensures.bounds.1 (omega (arith, c.requires.level))))
-    c.requires.at c.links.ensures.right
+    let s = c.args.row.now.version in
+    link_high c.newest_is_greatest.ensures.agree c.ranges_align.ensures.high s.page_size (log_of s) (length s.rows) c.args.level c.args.q c.args.row.now.update c.links.result.1
+    (c.requires.row ∙ c.requires.at) c.links.ensures.right
