@@ -1,25 +1,20 @@
 -- The leaf that has a byte, and the stored page in which it has it.
-use Rattle.std.proofs.Common.{◌≡◌, ◌⊎◌, ℕ, ◌+◌, ◌-◌, ◌*◌, ◌/◌, ◌<◌, ◌≤◌, [], ◌∷◌, length, arith, ap, sym, ◌∙◌, inl, inr, true, false}
+use Rattle.std.proofs.Common.{◌≡◌, ◌⊎◌, ℕ, ◌+◌, ◌*◌, ◌/◌, ◌<◌, ◌≤◌, length, arith, ap, sym, ◌∙◌, inl, inr, true, false}
 use Rattle.std.specs.Prelude.{nat_lt}
 use Rattle.std.proofs.lemmas.Bool.{cases_lt}
-use Rattle.std.specs.List.{range_with_len, sum_by}
 use Rattle.std.proofs.lemmas.Bool.Decides.{nat_tests}
-use Rattle.std.proofs.lemmas.List.Sums.{sum_by-cons}
 use Rattle.tree_geom.specs.declared.range.Range.{Range}
-use Rattle.tree_geom.specs.Geometry.{Aligned, page_range, height_of}
+use Rattle.tree_geom.specs.Geometry.{Aligned, page_range}
 use Rattle.range_log.specs.Rows.{back_of}
-use Rattle.range_log.specs.Visits.{pages_met, backs_of}
 use Rattle.range_log.specs.Laws.{BacksHaveNoHoles, BacksLead, ExtentsStand, PageBytesStay}
-use Rattle.tree_walk.specs.Walk.{nodes_visited, WalksAreBounded}
 use Rattle.node_store.specs.UpdateRows.{stored_of}
 use Rattle.snapshot.specs.Versions.{Version, row_at, updates_of, size_now, HasNodeFor, IsVersion}
 use Rattle.tree_geom.proofs.Spans.{page_pos}
 use Rattle.range_reader.specs.declared.source.LeafParts.{LeafParts}
-use Rattle.range_reader.specs.Reading.{falls, newest_in, backs_in, bound, page_in, own_start, own_len, IsLeafOf}
+use Rattle.range_reader.specs.Reading.{falls, newest_in, page_in, own_start, own_len, IsLeafOf}
 use Rattle.range_reader.specs.Holders.{HasByte, piece_with}
 use Rattle.range_reader.proofs.Going.{newest_length}
 use Rattle.range_reader.proofs.Leaves.{LeafOf}
-use Rattle.range_reader.proofs.Rooted.{walk_bound}
 use Rattle.range_reader.proofs.Taking.{lens, first_is, second_is}
 use Rattle.range_reader.proofs.Walking.{div_is, page_of_range}
 
@@ -37,21 +32,6 @@ page_is p r at pos al whole le lt =
 pub valid_newest : PageBytesStay → (s : Version) → IsVersion s → (i newest b : ℕ) → newest ≡ newest_in s (page_range s.page_size i) → b < s.page_size
     → i * s.page_size + b < size_now s → b < length (page_in s newest i)
 valid_newest stay s is i newest b same within valid = omega (arith, newest_length stay s is i newest same, within, valid)
-
--- a walk to the page of a byte, and then along all its backs, is within the visit bound of a read of this one byte
-pub byte_bound : WalksAreBounded → ExtentsStand → (s : Version) → IsVersion s → (at : ℕ) → at < size_now s
-    → nodes_visited (height_of s.page_size (size_now s)) 0 (at / s.page_size) (at / s.page_size) + backs_of s.page_size (falls s) (length s.rows) (at / s.page_size) ≤ bound s at 1
-byte_bound walks stand s is at lt =
-    let p : ℕ = s.page_size in
-    let i : ℕ = at / p in
-    let f : ℕ → ℕ = λ k. backs_of p (falls s) (length s.rows) k in
-    let same : at + 1 - 1 ≡ at = omega arith in
-    let last : (at + 1 - 1) / p ≡ i = ap (λ x. x / p) same in
-    let one : i + 1 - i ≡ 1 = omega arith in
-    let met : pages_met p at 1 ≡ i ∷ [] = ap (λ y. range_with_len i (y + 1 - i)) last ∙ ap (range_with_len i) one in
-    let backs : backs_in s at 1 ≡ f i = ap (sum_by f) met ∙ sum_by-cons f i [] ∙ (let e : f i + sum_by f [] ≡ f i = omega arith in e) in
-    let w = walk_bound stand s is walks at 1 (omega arith) (omega arith) in
-    omega (arith, w, backs, ap (λ y. nodes_visited (height_of p (size_now s)) 0 i y) last)
 
 -- ---- on to the next leaf
 -- the leaf at the back of that of page i in the row of update j, for byte b of the page

@@ -17,3 +17,4 @@ pub mod Rooted
 pub mod Blocks
 pub mod Stating
 pub mod Holding
+pub mod Descending

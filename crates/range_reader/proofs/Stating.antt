@@ -1,5 +1,5 @@
 -- The visit bound by the pages, the height and the depths of leaves.
-use Rattle.std.proofs.Common.{◌≡◌, ℕ, zero, suc, ◌+◌, ◌-◌, ◌*◌, ◌/◌, ◌^◌, ◌<◌, ◌≤◌, length, arith, ap, sym, ◌∙◌, false}
+use Rattle.std.proofs.Common.{◌≡◌, ℕ, zero, suc, ◌+◌, ◌-◌, ◌*◌, ◌/◌, ◌%◌, ◌^◌, ◌<◌, ◌≤◌, length, arith, ap, sym, ◌∙◌, false}
 use Rattle.std.proofs.lemmas.Bool.Decides.{nat_tests}
 use Rattle.std.specs.Prelude.{◌==◌}
 use Rattle.std.proofs.lemmas.List.FromFn.{length-range_with_len}
@@ -14,7 +14,7 @@ use Rattle.tree_geom.proofs.Spans.{page_pos}
 use Rattle.range_log.proofs.Bytes.{length-extents}
 use Rattle.range_reader.specs.Reading.{falls, log_of, newest_in, backs_in, bound, bound_of_tree}
 use Rattle.range_reader.proofs.Among.{length-updates}
-use Rattle.range_reader.proofs.Walking.{double, page_of_range, page_step}
+use Rattle.range_reader.proofs.Walking.{double, page_of_range, page_step, within_page}
 use Rattle.range_reader.proofs.Rooted.{size_known, walk_bound}
 
 -- a page has as many backs as its newest leaf is deep
@@ -57,6 +57,13 @@ pub bound_is : ExtentsStand → (s : Version) → IsVersion s → (o n : ℕ) �
 bound_is stand s is o n some =
     let e : (n == 0) ≡ false = grind (arith, nat_tests) in
     rw e (ap (λ z. 2 * length (pages_met s.page_size o n) + 2 * height_of s.page_size z + backs_in s o n) (size_known stand s is))
+
+-- of bytes in one page: two nodes for the page, two for each level, and the page's backs
+pub page_bound : ExtentsStand → (s : Version) → IsVersion s → (o n : ℕ) → 1 ≤ n → o % s.page_size + n ≤ s.page_size
+    → bound s o n ≡ 2 + 2 * height_of s.page_size (size_now s) + backs_of s.page_size (falls s) (length s.rows) (o / s.page_size)
+page_bound stand s is o n some fits =
+    let page = within_page s o n (page_pos s.page_size is.page_size) some fits in
+    omega (arith, bound_is stand s is o n some, tree_part s o n some, page.0, page.1)
 
 pub bound_sum : ExtentsStand → (s : Version) → IsVersion s → (o n bytes page_size size : ℕ) → 1 ≤ n → bytes ≡ s.page_size → page_size ≡ s.page_size → size ≡ size_now s
     → 2 * ((o + n - 1) / bytes + 1 - o / bytes) + 2 * height_of page_size size + backs_in s o n ≡ bound s o n

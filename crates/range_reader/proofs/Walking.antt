@@ -48,7 +48,7 @@ div_rises p x y pos le = le-div (x / p) y p pos (let d : x / p * p ≤ x = down 
 pub double : (p h : ℕ) → p * 2 ^ suc h ≡ 2 * (p * 2 ^ h)
 double p h = rw (pow-succ' 2 h) (omega arith)
 
-at_least : (p h : ℕ) → p ≤ p * 2 ^ h
+pub at_least : (p h : ℕ) → p ≤ p * 2 ^ h
 at_least p h = let e : p * 1 ≤ p * 2 ^ h = mul-le p 1 p (2 ^ h) (omega arith) (pow_pos h) in omega arith
 
 zero_height : (p h : ℕ) → 1 ≤ p → p * 2 ^ h ≡ p → h ≡ 0

@@ -7,6 +7,7 @@
 #![tactic(auto)]
 
 mod bound;
+mod descent;
 mod gap;
 mod known;
 mod locate;

@@ -1,21 +1,20 @@
 // Which stored page holds a byte of a version.
-ghost use Rattle.std.specs.Prelude.{◌≡◌, ◌↔◌, ℕ, List, ◌+◌, ◌*◌, ◌/◌, ◌^◌, ◌<◌, ◌≤◌, length, All, IsNone, IfSome};
-ghost use Rattle.tree_geom.specs.Geometry.{page_range, tree_range};
+ghost use Rattle.std.specs.Prelude.{◌≡◌, ◌↔◌, List, ◌+◌, ◌*◌, ◌<◌, ◌≤◌, length, All, IsNone, IfSome};
+ghost use Rattle.tree_geom.specs.Geometry.{page_range};
 ghost use Rattle.range_log.specs.Visits.{backs_of};
-ghost use Rattle.tree_walk.specs.Walk.{nodes_visited};
 ghost use Rattle.page_store.specs.House.{House};
 ghost use Rattle.page_store.specs.Page.{IsAmong};
 ghost use Rattle.snapshot.specs.Versions.{size_now, HasNodeFor, NodesLieIn, PagesLieIn};
-ghost use Rattle.range_reader.specs.Reading.{falls, newest_in, bound, IsLeafOf, IsKnown};
+ghost use Rattle.range_reader.specs.Reading.{falls, newest_in, bound, IsLeafOf};
 ghost use Rattle.range_reader.specs.Holders.{HasByte, IsReached, IsHolder};
 
-use crate::known::{KnownNode, known_links};
+use crate::descent::newest_of_page;
 use crate::source::{LeafParts, leaf};
 use node_store::NodeHouse;
 use page_store::StoredPage;
 use snapshot::{Snapshot, View};
 use std::sync::ledger::Ledger;
-use tree_geom::{Range, Steps, halves};
+use tree_geom::{Steps, height};
 
 /// The stored page that holds byte `at` of the version. None exactly where `at` isn't below the version's size.
 ///
@@ -40,68 +39,21 @@ pub fn holder<'s, L: Ledger>(
     range_log::laws::leaves_fill();
     range_log::laws::folds_are();
     range_log::laws::page_bytes_stay();
-    range_log::laws::newest_is_greatest();
-    tree_walk::laws::links_find();
-    tree_walk::laws::visited_are_few();
-    if snapshot.size() <= at {
+    snapshot.stands();
+    let size = snapshot.size();
+    if size <= at {
         return None;
     }
-    let Some(root) = snapshot.root() else {
-        return None;
-    };
-    let version = snapshot.version();
-    let bytes = snapshot.page_size().bytes();
+    let page_size = snapshot.page_size();
+    let bytes = page_size.bytes();
+    let page = at / bytes;
     let byte = (at % bytes) as usize;
     let view = snapshot.view();
-    let newest = newest_leaf(&view, nodes, &mut [], 1, version, root.range, at, steps);
-    let (first, parts) = first_with(&view, nodes, newest, at / bytes, byte, steps);
+    let levels = height(page_size, size);
+    let newest = newest_of_page(&view, nodes, levels, page, steps);
+    let (first, parts) = first_with(&view, nodes, newest, page, byte, steps);
     let piece = parts.piece_with(byte);
     Some(snapshot.page(first, piece.page))
-}
-
-// The version of the newest leaf of the page of byte `at`, which lies in the range whose newest node is that of `version`. The
-// leaf itself isn't asked for, and of the inner nodes none that is known. The root's place among
-// those is 1, and the places of a node's halves are twice its own and the one after that.
-pub(crate) fn newest_leaf<L: Ledger>(
-    snapshot: &View,
-    nodes: &NodeHouse,
-    known: &mut [KnownNode],
-    place: u64,
-    version: u64,
-    range: Range,
-    at: u64,
-    steps: &mut Steps<L>,
-) -> u64
-    requires here { NodesLieIn nodes.now snapshot.now }
-    requires known { All (IsKnown snapshot.now) known.old }
-    requires newest { version ≡ newest_in snapshot.now range }
-    requires has { HasNodeFor snapshot.now version range }
-    requires begins { range.offset ≤ at }
-    requires ends { at < range.offset + range.size }
-    requires fits { range.offset + range.size ≤ 2 ^ 40 }
-    requires valid { at < size_now snapshot.now }
-    ensures newest { result ≡ newest_in snapshot.now (page_range snapshot.now.page_size (at / snapshot.now.page_size)) }
-    ensures has { HasNodeFor snapshot.now result (page_range snapshot.now.page_size (at / snapshot.now.page_size)) }
-    ensures steps { (h q : ℕ) → range ≡ tree_range snapshot.now.page_size h q
-        → steps.new < steps.old + nodes_visited h q (at / snapshot.now.page_size) (at / snapshot.now.page_size) }
-    ensures known { All (IsKnown snapshot.now) known.new }
-    ensures room { length known.new ≡ length known.old }
-{
-    tree_walk::laws::links_step();
-    tree_walk::laws::visited_are_few();
-    range_log::laws::page_bytes_stay();
-    snapshot.stands();
-    if range.size == snapshot.page_size().bytes() {
-        return version;
-    }
-    let (left, right) = known_links(snapshot, nodes, known, place, version, range, steps);
-    let (low, high) = halves(range);
-    let below = place.saturating_add(place);
-    if at < high.offset {
-        return newest_leaf(snapshot, nodes, known, below, left, low, at, steps);
-    }
-    let below = below.saturating_add(1);
-    newest_leaf(snapshot, nodes, known, below, right, high, at, steps)
 }
 
 // The first leaf that has this byte of the page, from its newest leaf along the backs, and that leaf's version. `newest` is the

@@ -17,7 +17,7 @@ use page_store::{Door, Houses};
 use snapshot::{Snapshot, View};
 use std::sync::ledger::Ledger;
 use thiserror::Error;
-use tree_geom::Steps;
+use tree_geom::{Steps, height};
 
 /// Why a read gave no bytes. The buffer then holds any bytes.
 #[derive(Clone, Copy, Debug, PartialEq, Eq, Error)]
@@ -171,25 +171,25 @@ pub fn read_version<D: Door, L: Ledger>(
     if out.is_empty() {
         return Ok(());
     }
-    let Some(root) = view.root() else {
-        return Ok(());
-    };
     let source = ReadSource {
         snapshot: view,
         nodes,
         houses,
     };
     let marks = room.wanted.as_mut_slice();
-    let version = view.version();
-    let bytes = view.page_size().bytes();
+    let page_size = view.page_size();
+    let bytes = page_size.bytes();
     if offset % bytes + out.len() as u64 <= bytes {
-        return match walk_to_page(
-            &source, doors, steps, marks, known, version, root.range, offset, out,
-        ) {
+        let levels = height(page_size, size);
+        return match walk_to_page(&source, doors, steps, marks, known, levels, offset, out) {
             Ok(()) => Ok(()),
             Err(page) => Err(ReadFault::PageFault(page)),
         };
     }
+    let version = view.version();
+    let Some(root) = view.root() else {
+        return Ok(());
+    };
     match walk(
         &source, doors, steps, marks, version, root.range, offset, out,
     ) {

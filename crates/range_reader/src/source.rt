@@ -1,6 +1,6 @@
 // What a read goes through, and the nodes that it asks for.
-ghost use Rattle.std.specs.Prelude.{◌≡◌, ◌↔◌, ◌+◌, ◌*◌, ◌^◌, ◌<◌, ◌≤◌, IsTrue};
-ghost use Rattle.tree_geom.specs.Geometry.{left_half, right_half, page_range};
+ghost use Rattle.std.specs.Prelude.{◌≡◌, ◌↔◌, ◌+◌, ◌*◌, ◌/◌, ◌^◌, ◌<◌, ◌≤◌, IsTrue};
+ghost use Rattle.tree_geom.specs.Geometry.{left_half, right_half, page_range, tree_range};
 ghost use Rattle.range_log.specs.Log.{newest_of};
 ghost use Rattle.range_log.specs.Rows.{node_of};
 ghost use Rattle.snapshot.specs.Versions.{HasNodeFor, NodesLieIn};
@@ -9,9 +9,9 @@ ghost use Rattle.range_reader.specs.Holders.{piece_with};
 
 use node_store::{Node, NodeHouse, Piece, Range};
 use page_store::Houses;
-use snapshot::View;
+use snapshot::{RowView, View};
 use std::sync::ledger::Ledger;
-use tree_geom::{Steps, range_of_page};
+use tree_geom::Steps;
 
 /// The version that is read, and the houses of its nodes and pages.
 #[derive(Drop)]
@@ -111,6 +111,54 @@ pub(crate) fn links<L: Ledger>(
     }
 }
 
+// The node that the row has for range number `number` of that height.
+#[inline(always)]
+fn node_in<L: Ledger>(
+    row: &RowView,
+    nodes: &NodeHouse,
+    height: u32,
+    number: u64,
+    steps: &mut Steps<L>,
+) -> Node
+    requires here { NodesLieIn nodes.now row.now.version }
+    requires has { HasNodeFor row.now.version row.now.update (tree_range row.now.version.page_size height number) }
+    ensures node { let s = row.now.version in result ≡ node_of s.page_size (falls s) row.now.update (tree_range s.page_size height number) }
+    ensures step { steps.new ≡ steps.old + 1 }
+{
+    match row.find(height, number, steps) {
+        Some(node) => nodes.get(&node),
+        None => unreachable!(),
+    }
+}
+
+// The version whose row has the node of that height over the page, by the row's node of the height above.
+#[inline(always)]
+pub(crate) fn link_toward<L: Ledger>(
+    row: &RowView,
+    nodes: &NodeHouse,
+    height: u32,
+    page: u64,
+    steps: &mut Steps<L>,
+) -> u64
+    requires here { NodesLieIn nodes.now row.now.version }
+    requires low { height < 38 }
+    requires has { HasNodeFor row.now.version row.now.update (tree_range row.now.version.page_size (height + 1) (page / 2 ^ (height + 1))) }
+    ensures link { let s = row.now.version in
+        result ≡ newest_of s.page_size (log_of s) row.now.update (tree_range s.page_size height (page / 2 ^ height)) }
+    ensures step { steps.new ≡ steps.old + 1 }
+{
+    tree_geom::laws::ranges_align();
+    let number = page >> height;
+    let Node::Inner { left, right } = node_in(row, nodes, height + 1, page >> (height + 1), steps)
+    else {
+        unreachable!()
+    };
+    if number % 2 == 0 {
+        return left;
+    }
+    right
+}
+
 // The leaf of the page in the row of update `j`.
 #[inline(always)]
 pub(crate) fn leaf<L: Ledger>(
@@ -126,9 +174,10 @@ pub(crate) fn leaf<L: Ledger>(
     ensures leaf { IsLeafOf snapshot.now j page result }
     ensures step { steps.new ≡ steps.old + 1 }
 {
+    tree_geom::laws::ranges_align();
     snapshot.stands();
-    let range = range_of_page(snapshot.page_size(), page);
-    match node(snapshot, nodes, j, range, steps) {
+    let row = snapshot.row_of(j);
+    match node_in(&row, nodes, 0, page, steps) {
         Node::Leaf {
             start,
             count: _,

@@ -1,14 +1,14 @@
 // The walk by links, from a node down to the leaves.
-ghost use Rattle.std.specs.Prelude.{◌≡◌, ℕ, ◌+◌, ◌*◌, ◌/◌, ◌%◌, ◌^◌, ◌≤◌, length, map, sum_by, All, OnOk, IfErr};
-ghost use Rattle.tree_geom.specs.Geometry.{tree_range};
+ghost use Rattle.std.specs.Prelude.{◌≡◌, ℕ, ◌+◌, ◌*◌, ◌%◌, ◌^◌, ◌≤◌, length, map, sum_by, All, OnOk, IfErr};
+ghost use Rattle.tree_geom.specs.Geometry.{tree_range, height_of};
 ghost use Rattle.page_store.specs.Count.{HasRisen};
 ghost use Rattle.tree_walk.specs.Walk.{nodes_visited};
 ghost use Rattle.snapshot.specs.Versions.{size_now, HasNodeFor, IsVersionIn};
-ghost use Rattle.range_reader.specs.Reading.{newest_in, bytes_at, backs_in, IsKnown};
+ghost use Rattle.range_reader.specs.Reading.{newest_in, bytes_at, backs_in, bound, IsKnown};
 ghost use Rattle.range_reader.specs.Faults.{CountsKept, PageFailedIn};
 
+use crate::descent::newest_knowing;
 use crate::known::KnownNode;
-use crate::locate::newest_leaf;
 use crate::page::fill_page;
 use crate::source::{ReadSource, links};
 use page_fan::Doors;
@@ -77,16 +77,15 @@ pub(crate) fn walk<D: Door, L: Ledger>(
     walk(source, doors, steps, marks, right, high, high.offset, back)
 }
 
-// Does what `walk` does from the root, where all of `out` lies in one page. Of the inner nodes above it those that are
-// known aren't asked for, and some of the others are known from then on.
+// Does what `walk` does from the root, where all of `out` lies in one page, in a tree of that many levels above its leaves. Of the inner
+// nodes above the page those that are known aren't asked for, and some of the others are known from then on.
 pub(crate) fn walk_to_page<D: Door, L: Ledger>(
     source: &ReadSource,
     doors: &mut Doors<D>,
     steps: &mut Steps<L>,
     marks: &mut [bool],
     known: &mut [KnownNode],
-    version: u64,
-    root: Range,
+    levels: u32,
     from: u64,
     out: &mut [u8],
 ) -> Result<(), u64>
@@ -94,18 +93,13 @@ pub(crate) fn walk_to_page<D: Door, L: Ledger>(
     requires doors { length doors.old ≡ length source.now.houses.now }
     requires marks { length marks.old ≡ source.now.snapshot.now.page_size }
     requires known { All (IsKnown source.now.snapshot.now) known.old }
-    requires newest { version ≡ newest_in source.now.snapshot.now root }
-    requires has { HasNodeFor source.now.snapshot.now version root }
-    requires begins { root.offset ≤ from }
-    requires ends { from + length out.old ≤ root.offset + root.size }
-    requires fits { root.offset + root.size ≤ 2 ^ 40 }
+    requires levels { levels ≡ height_of source.now.snapshot.now.page_size (size_now source.now.snapshot.now) }
+    requires low { levels ≤ 38 }
     requires valid { from + length out.old ≤ size_now source.now.snapshot.now }
     requires some { 1 ≤ length out.old }
     requires one_page { from % source.now.snapshot.now.page_size + length out.old ≤ source.now.snapshot.now.page_size }
     ensures bytes { All D.is_true doors.old → OnOk result (out.new ≡ bytes_at source.now.snapshot.now from (length out.old)) }
-    ensures steps { let s = source.now.snapshot.now in
-        (h q : ℕ) → root ≡ tree_range s.page_size h q
-        → steps.new ≤ steps.old + nodes_visited h q (from / s.page_size) (from / s.page_size) + backs_in s from (length out.old) }
+    ensures steps { steps.new ≤ steps.old + bound source.now.snapshot.now from (length out.old) }
     ensures failed { IfErr result (λ page. PageFailedIn source.now.snapshot.now from (length out.old) (map D.faults doors.old) (map D.faults doors.new) page) }
     ensures counted { IfErr result (λ _. HasRisen (sum_by D.faults doors.old) (sum_by D.faults doors.new)) }
     ensures kept { CountsKept (map D.faults doors.old) (map D.faults doors.new) (sum_by D.faults doors.old) (sum_by D.faults doors.new) }
@@ -114,9 +108,10 @@ pub(crate) fn walk_to_page<D: Door, L: Ledger>(
     ensures known { All (IsKnown source.now.snapshot.now) known.new }
     ensures room { length known.new ≡ length known.old }
 {
+    range_log::laws::page_bytes_stay();
     source.snapshot.stands();
     let snapshot = source.snapshot;
-    let newest = newest_leaf(snapshot, source.nodes, known, 1, version, root, from, steps);
+    let newest = newest_knowing(snapshot, source.nodes, known, levels, from, steps);
     let size = snapshot.page_size().bytes();
     let page = from / size;
     let begin = (from % size) as usize;

@@ -1,34 +1,31 @@
-use Rattle.std.proofs.Common.{◌≡◌, ℕ, ◌/◌, ◌%◌, ◌<◌, ◌≤◌, length, arith, ap, sym, ◌∙◌, subst}
-use Rattle.tree_geom.specs.declared.node.NodeKey.{NodeKey}
+use Rattle.std.proofs.Common.{◌+◌, ◌*◌, ◌/◌, ◌%◌, ◌<◌, ◌≤◌, length, arith, ap, sym, ◌∙◌, subst}
+use Rattle.std.proofs.lemmas.Nat.{mod_below}
 use Rattle.tree_geom.specs.declared.node.Piece.{Piece}
 use Rattle.tree_geom.specs.Geometry.{height_of, page_range}
 use Rattle.range_log.specs.Visits.{backs_of}
-use Rattle.snapshot.specs.Versions.{Version, size_now, HasNodeFor}
-use Rattle.range_reader.specs.Reading.{falls, newest_in}
+use Rattle.snapshot.specs.Versions.{Version, size_now}
+use Rattle.tree_geom.proofs.Spans.{page_pos}
+use Rattle.range_reader.specs.Reading.{falls}
 use Rattle.range_reader.proofs.Among.{in_rows, page_in}
 use Rattle.range_reader.proofs.Leaves.{leaf_of_version}
-use Rattle.range_reader.proofs.Rooted.{root_stands, root_newest, root_tree}
-use Rattle.range_reader.proofs.Holding.{byte_bound, piece_stands}
+use Rattle.range_reader.proofs.Walking.{down}
+use Rattle.range_reader.proofs.Holding.{piece_stands}
+use Rattle.range_reader.proofs.Stating.{page_bound}
 use Rattle.range_reader.proofs.locate.holder.Goals as goal
 
-pub newest_leaf-newest-requires-clause-newest : goal.newest_leaf-newest-requires-clause-newest
-newest_leaf-newest-requires-clause-newest g c =
+pub newest_of_page-newest-requires-clause-levels : goal.newest_of_page-newest-requires-clause-levels
+newest_of_page-newest-requires-clause-levels g c =
     let s = c.args.snapshot.now in
-    let is = c.version-version.ensures.stands in
-    let key = ap (λ (k : NodeKey). k.range) c.in-Some.ensures.key in
-    let some : 1 ≤ size_now s = omega (arith, c.if-size-at.false, c.size.ensures.size) in
-    let N : Version → Type 0 = λ v. c.version-version.result ≡ newest_in v c.in-Some.root.range in
-    subst N (sym c.view-view.ensures) (c.version-version.ensures.count ∙ root_newest c.page_bytes_stay.ensures.extents s is c.links_find.ensures.roots c.newest_is_greatest.ensures.greatest c.in-Some.root.range some key)
+    c.height-levels.ensures.is ∙ ap (λ p. height_of p c.size-size.result) c.page_size-page_size.ensures ∙ ap (height_of s.page_size) c.size-size.ensures.size
+    ∙ ap (λ (v : Version). height_of v.page_size (size_now v)) (sym c.view-view.ensures)
 
-pub newest_leaf-newest-requires-clause-has : goal.newest_leaf-newest-requires-clause-has
-newest_leaf-newest-requires-clause-has g c =
+pub newest_of_page-newest-requires-clause-valid : goal.newest_of_page-newest-requires-clause-valid
+newest_of_page-newest-requires-clause-valid g c =
     let s = c.args.snapshot.now in
-    let is = c.version-version.ensures.stands in
-    let key = ap (λ (k : NodeKey). k.range) c.in-Some.ensures.key in
-    let some : 1 ≤ size_now s = omega (arith, c.if-size-at.false, c.size.ensures.size) in
-    let H : ℕ → Type 0 = λ j. HasNodeFor s j c.in-Some.root.range in
-    let V : Version → Type 0 = λ v. HasNodeFor v c.version-version.result c.in-Some.root.range in
-    subst V (sym c.view-view.ensures) (subst H (sym c.version-version.ensures.count) (root_stands c.page_bytes_stay.ensures.extents s is c.links_find.ensures.roots c.in-Some.root.range some key))
+    let size = c.bytes-bytes.ensures.is ∙ c.page_size-page_size.ensures in
+    let lt : c.args.at / c.bytes-bytes.result * s.page_size < size_now s = omega (arith, ap (λ n. c.args.at / n * s.page_size) size, down c.args.at s.page_size, c.if-size-at.false, c.size-size.ensures.size) in
+    let P : Version → Type 0 = λ v. c.args.at / c.bytes-bytes.result * v.page_size < size_now v in
+    subst P (sym c.view-view.ensures) lt
 
 pub page-requires-clause-version : goal.page-requires-clause-version
 page-requires-clause-version g c =
@@ -40,7 +37,7 @@ page-requires-clause-number g c =
     let s = c.args.snapshot.now in
     let i = c.args.at / c.bytes-bytes.result in
     let j = c.first_with-first.result.0 in
-    let is = c.version-version.ensures.stands in
+    let is = c.stands.ensures in
     let first = rw (c.view-view.ensures) at c.first_with-first.ensures in
     let fill = c.leaves_fill.ensures in
     let leaf = leaf_of_version fill.fill fill.fit fill.pieces c.folds_are.ensures.folds c.page_bytes_stay.ensures.bytes c.page_bytes_stay.ensures.extents s is j i first.stands in
@@ -57,12 +54,10 @@ pub returns-clause-steps : goal.returns-clause-steps
 returns-clause-steps g c =
     let s = c.args.snapshot.now in
     let p = s.page_size in
-    let is = c.version-version.ensures.stands in
-    let key = ap (λ (k : NodeKey). k.range) c.in-Some.ensures.key in
-    let lt : c.args.at < size_now s = omega (arith, c.if-size-at.false, c.size.ensures.size) in
-    let walked = rw (c.view-view.ensures) at c.newest_leaf-newest.ensures.steps in
-    let down = walked (height_of p (size_now s)) 0 (root_tree c.page_bytes_stay.ensures.extents s is c.in-Some.root.range (omega (arith, lt)) key) in
+    let is = c.stands.ensures in
+    let size = c.bytes-bytes.ensures.is ∙ c.page_size-page_size.ensures in
+    let tall = c.height-levels.ensures.is ∙ ap (λ q. height_of q c.size-size.result) c.page_size-page_size.ensures ∙ ap (height_of p) c.size-size.ensures.size in
     let along = rw (c.view-view.ensures) at c.first_with-first.ensures.steps in
-    let page : c.args.at / c.bytes-bytes.result ≡ c.args.at / p = ap (λ n. c.args.at / n) (c.bytes-bytes.ensures.is ∙ c.page_size.ensures) in
-    let bound = byte_bound c.visited_are_few.ensures.bounded c.page_bytes_stay.ensures.extents s is c.args.at lt in
-    omega (arith, down, along, bound, ap (λ i. backs_of p (falls s) (length s.rows) i) page)
+    let backs = ap (λ n. backs_of p (falls s) (length s.rows) (c.args.at / n)) size in
+    let within : c.args.at % p + 1 ≤ p = let lt : c.args.at % p < p = mod_below c.args.at p (page_pos p is.page_size) in omega arith in
+    omega (arith, c.newest_of_page-newest.ensures.steps, tall, along, backs, page_bound c.page_bytes_stay.ensures.extents s is c.args.at 1 (omega arith) within)

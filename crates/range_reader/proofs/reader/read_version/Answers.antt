@@ -2,10 +2,9 @@ use Rattle.std.proofs.Common.{◌≡◌, ℕ, ◌+◌, ◌-◌, ◌*◌, ◌/◌
 use Rattle.std.proofs.lemmas.Bool.Decides.{nat_tests}
 use Rattle.tree_geom.specs.declared.node.NodeKey.{NodeKey}
 use Rattle.tree_geom.specs.Geometry.{height_of}
-use Rattle.tree_walk.specs.Walk.{nodes_visited}
 use Rattle.snapshot.specs.Versions.{size_now, HasNodeFor}
 use Rattle.tree_geom.proofs.Spans.{page_pos}
-use Rattle.range_reader.proofs.Walking.{down, up, within_page}
+use Rattle.range_reader.proofs.Walking.{down, up}
 use Rattle.range_reader.proofs.Rooted.{not_zero, root_stands, root_newest, root_tree, walk_bound}
 use Rattle.range_reader.proofs.reader.read_version.Goals as goal
 use Rattle.range_reader.proofs.reader.read_version.Goals.{in-Ok-walk, in-Err-walk, in-Ok, in-Err}
@@ -32,31 +31,14 @@ walk-requires-clause-ends g c =
     let start = ap (λ (k : NodeKey). k.range.offset) c.in-Some.ensures.key in
     omega (arith, start, c.in-Some.ensures.holds)
 
-pub walk_to_page-requires-clause-newest : goal.walk_to_page-requires-clause-newest
-walk_to_page-requires-clause-newest g c =
+pub walk_to_page-requires-clause-levels : goal.walk_to_page-requires-clause-levels
+walk_to_page-requires-clause-levels g c =
     let s = c.args.view.now in
-    let is = c.version-version.ensures.stands in
-    let key = ap (λ (k : NodeKey). k.range) c.in-Some.ensures.key in
-    let some : 1 ≤ size_now s = not_zero (size_now s) (λ e. let w : true ≡ false = c.in-Some.ensures.none.1 e in cc) in
-    c.version-version.ensures.count ∙ root_newest c.page_bytes_stay.ensures.extents s is c.links_find.ensures.roots c.newest_is_greatest.ensures.greatest c.in-Some.root.range some key
-
-pub walk_to_page-requires-clause-has : goal.walk_to_page-requires-clause-has
-walk_to_page-requires-clause-has g c =
-    let s = c.args.view.now in
-    let is = c.version-version.ensures.stands in
-    let key = ap (λ (k : NodeKey). k.range) c.in-Some.ensures.key in
-    let some : 1 ≤ size_now s = not_zero (size_now s) (λ e. let w : true ≡ false = c.in-Some.ensures.none.1 e in cc) in
-    let H : ℕ → Type 0 = λ j. HasNodeFor s j c.in-Some.root.range in
-    subst H (sym c.version-version.ensures.count) (root_stands c.page_bytes_stay.ensures.extents s is c.links_find.ensures.roots c.in-Some.root.range some key)
-
-pub walk_to_page-requires-clause-ends : goal.walk_to_page-requires-clause-ends
-walk_to_page-requires-clause-ends g c =
-    let start = ap (λ (k : NodeKey). k.range.offset) c.in-Some.ensures.key in
-    omega (arith, start, c.in-Some.ensures.holds)
+    c.height-levels.ensures.is ∙ ap (λ p. height_of p c.size-size.result) c.page_size-page_size.ensures ∙ ap (height_of s.page_size) c.size-size.ensures.size
 
 pub walk_to_page-requires-clause-one_page : goal.walk_to_page-requires-clause-one_page
 walk_to_page-requires-clause-one_page g c =
-    let size = c.bytes-bytes.ensures.is ∙ c.page_size.ensures in
+    let size = c.bytes-bytes.ensures.is ∙ c.page_size-page_size.ensures in
     omega (arith, ap (λ n. c.args.offset % n) size, size, c.if-offset-bytes.true)
 
 pub returns-clause-steps : goal.returns-clause-steps
@@ -80,23 +62,6 @@ pub returns-clause-some : goal.returns-clause-some
 returns-clause-some g c =
     let one : 1 ≤ length c.args.out.now = grind (arith, nat_tests) in
     elim c.match-walk.branch [ in-Ok-walk w ↦ rw w.result-is tt | in-Err-walk w ↦ rw w.result-is one ]
-
-pub returns-then-offset-bytes-clause-steps : goal.returns-then-offset-bytes-clause-steps
-returns-then-offset-bytes-clause-steps g c =
-    let s = c.args.view.now in
-    let p = s.page_size in
-    let n = length c.args.out.now in
-    let o = c.args.offset in
-    let is = c.version-version.ensures.stands in
-    let pos : 1 ≤ p = page_pos p is.page_size in
-    let key = ap (λ (k : NodeKey). k.range) c.in-Some.ensures.key in
-    let some : 1 ≤ size_now s = not_zero (size_now s) (λ e. let w : true ≡ false = c.in-Some.ensures.none.1 e in cc) in
-    let one : 1 ≤ n = grind (arith, nat_tests) in
-    let size = c.bytes-bytes.ensures.is ∙ c.page_size.ensures in
-    let page = within_page s o n pos one (omega (arith, ap (λ k. o % k) size, size, c.if-offset-bytes.true)) in
-    let f = c.walk_to_page.ensures.steps (height_of p (size_now s)) 0 (root_tree c.page_bytes_stay.ensures.extents s is c.in-Some.root.range some key) in
-    let fits : o + n ≤ size_now s = omega arith in
-    omega (arith, f, ap (λ k. nodes_visited (height_of p (size_now s)) 0 (o / p) k) page.0, walk_bound c.page_bytes_stay.ensures.extents s is c.visited_are_few.ensures.bounded o n one fits)
 
 pub returns-then-offset-bytes-clause-some : goal.returns-then-offset-bytes-clause-some
 returns-then-offset-bytes-clause-some g c =

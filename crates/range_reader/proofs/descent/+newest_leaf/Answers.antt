@@ -6,7 +6,7 @@ use Rattle.snapshot.specs.Versions.{HasNodeFor}
 use Rattle.range_reader.specs.Reading.{log_of, newest_in}
 use Rattle.range_reader.proofs.Walking.{page_step, larger, even, child, inner_step, down, up}
 use Rattle.range_reader.proofs.Holding.{page_is}
-use Rattle.range_reader.proofs.locate.+newest_leaf.Goals as goal
+use Rattle.range_reader.proofs.descent.+newest_leaf.Goals as goal
 
 pub returns-then-range-bytes-clause-newest : goal.returns-then-range-bytes-clause-newest
 returns-then-range-bytes-clause-newest g t c =

@@ -1,4 +1,4 @@
-use Rattle.range_reader.proofs.locate.+newest_leaf.Given as goal
+use Rattle.range_reader.proofs.descent.+newest_leaf.Given as goal
 
 abbrev pub decreases-newest_leaf : goal.decreases-newest_leaf
 decreases-newest_leaf g l = l.range.size
