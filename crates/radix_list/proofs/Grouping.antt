@@ -17,7 +17,7 @@ slice_get-drop zero xs j = let e : 0 + j ≡ j = omega arith in ap (slice_get xs
 slice_get-drop (suc n) [] j = refl
 slice_get-drop (suc n) (x ∷ xs) j = let e : suc n + j ≡ suc (n + j) = omega arith in slice_get-drop n xs j ∙ ap (slice_get (x ∷ xs)) (sym e)
 
-slice_get-take : {X : Type 0} (n : ℕ) (xs : List X) (j : ℕ) → j < n → slice_get (take n xs) j ≡ slice_get xs j
+pub slice_get-take : {X : Type 0} (n : ℕ) (xs : List X) (j : ℕ) → j < n → slice_get (take n xs) j ≡ slice_get xs j
 slice_get-take zero xs j h = absurd (omega arith)
 slice_get-take (suc n) [] j h = refl
 slice_get-take (suc n) (x ∷ xs) zero h = refl

@@ -1,10 +1,15 @@
--- A list as a body and the few items after it.
-use Rattle.std.specs.Prelude.{◌≡◌, ℕ, ◌+◌, ◌%◌, ◌≤◌, List, length}
+-- A list as a front of a body and the few items after it, which lie in slots.
+use Rattle.std.specs.Prelude.{◌≡◌, ℕ, ◌+◌, ◌%◌, ◌≤◌, List, length, take}
+use Rattle.boxcar.specs.Slot.{Named}
+use Rattle.radix_list.specs.Puts.{slots_told, names_of}
 
--- the first len items of both are the list; a tail, of up to 8 items, begins where a leaf of the body has room for 8, and
--- both have room in a tree
-pub record IsTailed {T : Type 0} (body tail : List T) (len : ℕ) : Type 0 where
-  pub within : len ≤ length body + length tail
-  pub short : length tail ≤ 8
-  pub aligned : 1 ≤ length tail → length body % 8 ≡ 0
-  pub room : length body + length tail ≤ 1048576
+-- The list's first items stand in the body, and those that were put follow in the slots, from the first one on. The slots, of which
+-- there are no more than a leaf has room for, stand after whole leaves of the body.
+pub record IsTailed {T : Type 0} (body : List T) (whole : ℕ) (slots : List Named) (front : ℕ) (puts : List (ℕ × T)) : Type 0 where
+  pub cut : whole ≤ length body
+  pub aligned : whole % 32 ≡ 0
+  pub few : length slots ≤ 32
+  pub within : front ≤ whole
+  pub follows : 1 ≤ length puts → front ≡ whole
+  pub told : slots_told puts ≡ take (length puts) (names_of slots)
+  pub room : front + length puts ≤ 1048576

@@ -32,6 +32,13 @@ impl<C> Model for Branch<C> {
 }
 
 impl<C> Branch<C> {
+    /// A node of these children.
+    pub(crate) fn of(children: Vec<Arc<C>>) -> Branch<C>
+        ensures { result ≡ map arc_value children.items }
+    {
+        Branch { children }
+    }
+
     /// Child `k` from 0, and the share that this node has in it.
     pub(crate) fn handle(&self, k: usize) -> Option<&Arc<C>>
         ensures { option_map (λ child. arc_value child.now) result ≡ slice_get self.now k }
@@ -84,26 +91,6 @@ impl<C: Drop> Branch<C> {
         Ok(Branch { children })
     }
 
-    /// A node of the first `keep` children of `base`, or of all that it has, and then these.
-    pub(crate) fn ending_in(
-        alloc: Global,
-        base: Option<&Branch<C>>,
-        keep: usize,
-        more: &[Arc<C>],
-    ) -> Result<Branch<C>, NoMemory>
-        requires { keep + length more.now ≤ WIDTH }
-        ensures { IfOk result (λ node. node ≡ take keep (unwrap_or (option_copied base.entry) []) ++ map arc_value more.now) }
-    {
-        let kept: &[Arc<C>] = match base {
-            Some(node) => node.front(keep),
-            None => &[],
-        };
-        let mut children = Vec::with_capacity(alloc, keep + more.len())?;
-        add_shares(&mut children, kept)?;
-        add_shares(&mut children, more)?;
-        Ok(Branch { children })
-    }
-
     // The first `count` children, or all.
     fn front(&self, count: usize) -> &[Arc<C>]
         ensures children { map arc_value result.now ≡ take count self.now }
@@ -143,15 +130,5 @@ pub(crate) fn node_of<N>(node: &Option<Arc<N>>) -> Option<&N>
     match node {
         Some(node) => Some(node),
         None => None,
-    }
-}
-
-/// The shares that the node has in its children, in order. There are none where there is no node.
-pub(crate) fn handles_of<C>(node: &Option<Arc<Branch<C>>>) -> &[Arc<C>]
-    ensures { map arc_value result.now ≡ unwrap_or (option_map arc_value node.now) [] }
-{
-    match node {
-        Some(node) => &node.children,
-        None => &[],
     }
 }

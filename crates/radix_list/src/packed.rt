@@ -1,7 +1,7 @@
 // A list in a tree of four levels, all of whose items are the list's.
 ghost use Rattle.std.specs.Prelude.{◌≡◌, ℕ, ◌+◌, ◌*◌, ◌/◌, ◌%◌, ◌<◌, ◌≤◌, [], ◌∷◌, ◌++◌, length, take, map, IfOk, IfSome, slice_get};
 ghost use Rattle.std.specs.Arc.{arc_value};
-ghost use Rattle.std.specs.Option.{option_copied};
+ghost use Rattle.std.specs.Option.{option_copied, option_map};
 ghost use Rattle.radix_list.specs.Packing.{groups};
 
 use crate::NoMemory;
@@ -103,22 +103,29 @@ impl<T> PackedList<T> {
         })
     }
 
-    /// The first `keep` items and then these, which stand in one leaf, in new nodes on the path to them. All other nodes are
-    /// shared.
-    pub(crate) fn ending(&self, keep: u64, more: &[Arc<T>]) -> Result<PackedList<T>, NoMemory>
+    /// Item `i`, counted from 0, and the share that its leaf has in it.
+    pub(crate) fn handle(&self, i: usize) -> Option<&Arc<T>>
+        ensures { option_map (λ item. arc_value item.now) result ≡ slice_get self.now i }
+    {
+        self.leaf(i)?.handle(i % WIDTH)
+    }
+
+    /// The first `keep` items, which fill leaves, and then these, in a leaf of their own and new nodes on the path to it. All other
+    /// nodes are shared.
+    pub(crate) fn ending(&self, keep: u64, more: Vec<Arc<T>>) -> Result<PackedList<T>, NoMemory>
     where
         T: Drop,
         requires within { keep ≤ length self.now }
-        requires some { 1 ≤ length more.now }
-        requires one_leaf { keep % 32 + length more.now ≤ 32 }
-        requires room { keep + length more.now ≤ 1048576 }
-        ensures { IfOk result (λ list. list ≡ take keep self.now ++ map arc_value more.now) }
+        requires aligned { keep % 32 ≡ 0 }
+        requires some { 1 ≤ length more.items }
+        requires one_leaf { length more.items ≤ 32 }
+        requires room { keep + length more.items ≤ 1048576 }
+        ensures { IfOk result (λ list. list ≡ take keep self.now ++ map arc_value more.items) }
     {
         let alloc = self.alloc;
-        let at = keep as usize;
-        let leaf = Branch::ending_in(alloc, self.leaf(at), at % WIDTH, more)?;
-        let leaf = Arc::new(alloc, leaf)?;
-        let at = at / WIDTH;
+        let len = keep + more.len() as u64;
+        let leaf = Arc::new(alloc, Branch::of(more))?;
+        let at = keep as usize / WIDTH;
         let twig = Branch::ending(alloc, self.twig(at), at % WIDTH, leaf)?;
         let twig = Arc::new(alloc, twig)?;
         let at = at / WIDTH;
@@ -129,7 +136,7 @@ impl<T> PackedList<T> {
         let root = Arc::new(alloc, root)?;
         Ok(PackedList {
             root: Some(root),
-            len: keep + more.len() as u64,
+            len,
             alloc,
         })
     }
