@@ -41,7 +41,8 @@ impl<S: Journaled> Model for Turn<S> {
     ghost invariant = { λ t. (t.table.shared.table_id.words ≡ 3) × (t.table.shared.table_id.slots ≡ 1) };
 }
 
-/// The right to take turns as one caller. It holds no turn between two calls. Contracts see its lock, its caller, the prefix of the history that it has seen, the fixed data, and how many turns it has had.
+/// The right to take turns as one caller. It holds no turn between two calls. Contracts see its lock, its caller, the prefix of the
+/// history that it has seen, the fixed data, and how many turns it has had.
 pub struct Pass<S: Journaled> {
     seat: TurnSeat<S>,
     caller: u32,
