@@ -20,18 +20,24 @@ use tree_geom::Steps;
 pub struct RadixList<T> {
     // none in a list that was made empty
     grown: Option<Grown<T>>,
+    // beside it, since it is asked more often than all else
+    len: u64,
     alloc: Global,
 }
 
 // By hand, so that it is one call wherever a list is let go: a derived drop stands, with all its branches, at each such place.
 impl<T: Drop> Drop for RadixList<T> {
     fn drop(self) {
-        let RadixList { grown: _, alloc: _ } = self;
+        let RadixList {
+            grown: _,
+            len: _,
+            alloc: _,
+        } = self;
     }
 }
 
 impl<T> Model for RadixList<T> {
-    ghost use Rattle.std.specs.Prelude.{List, [], unwrap_or};
+    ghost use Rattle.std.specs.Prelude.{◌≡◌, ◌≤◌, List, [], length, unwrap_or};
     ghost use Rattle.std.specs.Coded.{coded_list};
 
     ghost Value = { List T };
@@ -39,6 +45,8 @@ impl<T> Model for RadixList<T> {
     ghost coded = { coded_list T.code };
 
     ghost view = { λ l. unwrap_or l.grown [] };
+
+    ghost invariant = { λ l. (l.len ≡ length (unwrap_or l.grown [])) × (l.len ≤ 1048576) };
 }
 
 impl<T> RadixList<T> {
@@ -46,7 +54,11 @@ impl<T> RadixList<T> {
     pub fn empty(alloc: Global) -> RadixList<T>
         ensures { result ≡ [] }
     {
-        RadixList { grown: None, alloc }
+        RadixList {
+            grown: None,
+            len: 0,
+            alloc,
+        }
     }
 
     /// How many items the list has.
@@ -54,10 +66,7 @@ impl<T> RadixList<T> {
         ensures is { result ≡ length self.now }
         ensures few { result ≤ 1048576 }
     {
-        match &self.grown {
-            Some(list) => list.len(),
-            None => 0,
-        }
+        self.len
     }
 
     /// Item `i`, counted from 0, or None past the last. It takes a node step for each node on the way: four to an item of the
@@ -95,6 +104,7 @@ impl<T> RadixList<T> {
         };
         Ok(RadixList {
             grown: Some(list),
+            len: self.len + 1,
             alloc,
         })
     }
@@ -105,7 +115,7 @@ impl<T> RadixList<T> {
         T: Drop,
         ensures { IfOk result (λ list. list ≡ self.now) }
     {
-        self.prefix(self.len())
+        self.prefix(self.len)
     }
 
     /// The list of the first `n` items. This list stays as it is. No node and no item is copied, and the items after them are
@@ -122,6 +132,7 @@ impl<T> RadixList<T> {
         };
         Ok(RadixList {
             grown,
+            len: n,
             alloc: self.alloc,
         })
     }
