@@ -190,19 +190,17 @@ pub fn borders<L: Ledger>(ticket: &Ticket, nodes: &NodeHouse, steps: &mut Steps<
     let page_size = ticket.hints().snapshot.page_size();
     span_stands(page_size, ticket.size());
     let touch = ticket.touch();
-    let mut first = Edge::blank();
-    descend(ticket, nodes, touch.first, &mut first, steps);
-    let last = if touch.last == touch.first {
-        None
-    } else {
-        let mut last = Edge::blank();
-        descend(ticket, nodes, touch.last, &mut last, steps);
-        Some(last)
-    };
-    Borders {
+    let mut found = Borders {
         page_size,
         touch,
-        first,
-        last,
+        first: Edge::blank(),
+        last: None,
+    };
+    descend(ticket, nodes, touch.first, &mut found.first, steps);
+    if touch.last != touch.first {
+        let mut last = Edge::blank();
+        descend(ticket, nodes, touch.last, &mut last, steps);
+        found.last = Some(last);
     }
+    found
 }

@@ -5,7 +5,7 @@ use Rattle.range_log.specs.Laws.{NewestIsGreatest}
 use Rattle.snapshot.specs.Versions.{Version, RowIn, NodesLieIn}
 use Rattle.tree_geom.proofs.Spans.{page_pos}
 use Rattle.border_hints.specs.Numbered.{log_of, log_upto}
-use Rattle.border_hints.specs.Borders.{newest_known}
+use Rattle.border_hints.specs.Borders.{beside, newest_known}
 use Rattle.border_hints.proofs.Published.{log_grown}
 use Rattle.border_hints.proofs.Turning.{Down, down_started, down_turn, edge_known, page_is, newest_few}
 use Rattle.border_hints.proofs.descent.descend.Given.{Over}
@@ -96,12 +96,13 @@ newest_below-requires-clause-known g c =
 pub overflow_cast-edge : goal.overflow_cast-edge
 overflow_cast-edge g c =
     let t = c.args.ticket.now in
-    omega (arith, newest_few c.newest_is_greatest.ensures.greatest t _ c.turn-on.result.1 c.stands.ensures (omega (arith, c.stands-2.ensures.few, ap length c.hints-2.ensures.waiting)) c.turn-on.ensures.off)
+    let h : ℕ = c.loop-level.level - 1 in
+    omega (arith, newest_few c.newest_is_greatest.ensures.greatest t (tree_range t.snapshot.page_size h (beside (c.args.page / 2 ^ h))) c.turn-on.result.1 c.stands.ensures (omega (arith, c.stands-2.ensures.few, ap length c.hints-2.ensures.waiting)) c.turn-on.ensures.off)
 
 pub overflow_cast-edge-2 : goal.overflow_cast-edge-2
 overflow_cast-edge-2 g c =
     let t = c.args.ticket.now in
-    omega (arith, newest_few c.newest_is_greatest.ensures.greatest t _ c.newest_below.result c.stands.ensures (omega (arith, c.stands-2.ensures.few, ap length c.hints-2.ensures.waiting)) c.newest_below.ensures)
+    omega (arith, newest_few c.newest_is_greatest.ensures.greatest t (tree_range t.snapshot.page_size 0 c.args.page) c.newest_below.result c.stands.ensures (omega (arith, c.stands-2.ensures.few, ap length c.hints-2.ensures.waiting)) c.newest_below.ensures)
 
 pub returns-clause-knows : goal.returns-clause-knows
 returns-clause-knows g c =
