@@ -18,12 +18,12 @@ use Rattle.tree_geom.specs.Geometry.{Meets, Aligned, meets_of, left_half, right_
 use Rattle.range_log.specs.declared.«open».OpenTouch.{OpenTouch}
 use Rattle.range_log.specs.Log.{touch_at, size_at, newest_of, HasNode}
 use Rattle.range_log.specs.Extents.{Extent, extent_at, size_after, touch_of, touches, InBounds}
-use Rattle.range_log.specs.Depths.{fold_number, depth_by, depth_of, depth_after}
+use Rattle.range_log.specs.Depths.{fold_number, depth_of, depth_after}
 use Rattle.range_log.specs.Updates.{extents}
-use Rattle.range_log.specs.Rows.{inner_of, leaf_at, leaf_of, covered, back_by, folded_of, folds_by, folds_of, edge_pages, pages_in, valid_in, whole_leaf, fold_at, node_of}
-use Rattle.tree_walk.specs.Walk.{half_toward, descend, root_of, found, waiting_of}
+use Rattle.range_log.specs.Rows.{inner_of, leaf_at, leaf_of, covered, back_by, folded_of, folds_of, edge_pages, pages_in, valid_in, whole_leaf, fold_at, node_of}
+use Rattle.range_log.specs.Walk.{half_toward, descend, root_of, found, waiting_of}
 use Rattle.range_log.proofs.Bytes.{length-extents}
-use Rattle.range_log.proofs.Depths.{depth_of_newest}
+use Rattle.range_log.proofs.Depths.{depth_of_newest, depth_none, depth_next}
 use Rattle.range_log.proofs.Grown.{grown_updates, length-touches, touch-touches}
 use Rattle.range_log.proofs.Greatest.{newest_hit}
 use Rattle.range_log.proofs.Links.{newest_has_node}
@@ -31,6 +31,8 @@ use Rattle.range_log.proofs.Nodes.{node_leaf, leaf_depth}
 use Rattle.blob_core.specs.World.{World, UpdateEntry, node_in, log_of, waiting_after}
 use Rattle.blob_core.specs.Woven.{link_toward, followed, found_in, greatest_open, older_link, link_of, depth_found, depth_through, woven_depth, woven_folded, woven_folds, woven_leaf, woven}
 use Rattle.blob_core.proofs.Growing.{Cited}
+use Rattle.range_log.proofs.Walk.{double}
+use Rattle.range_log.proofs.Growth.{folds-are}
 
 -- ---- ranges
 abbrev ranged : ℕ → ℕ → Range
@@ -38,9 +40,6 @@ ranged o s = record { offset = o; size = s }
 
 pub size_pos : (p h : ℕ) → 1 ≤ p → p ≤ p * 2 ^ h
 size_pos p h pos = let e : p * 1 ≤ p * 2 ^ h = mul-le p 1 p (2 ^ h) (omega arith) (pow_pos h) in omega arith
-
-pub double : (p h : ℕ) → p * 2 ^ suc h ≡ 2 * (p * 2 ^ h)
-double p h = rw (pow-succ' 2 h) (omega arith)
 
 half_size : (p h : ℕ) → p * 2 ^ suc h / 2 ≡ p * 2 ^ h
 half_size p h = rw (pow-succ' 2 h) (omega arith)
@@ -236,15 +235,6 @@ older_is c p w blob b kept n pos ok known hints in_list r (h, q, e) =
     ∙ ap (λ (x : ℕ). pick (waiting_of p log v n t) x) f
     ∙ sym (c.weave p v n h q (extents b.updates) pos ok (omega (arith, length-extents b.updates))))
 
--- ---- depths
-depth_zero : (p : ℕ) (log : List Touch) (i : ℕ) → depth_of p log 0 i ≡ 0
-unfolding depth_by
-depth_zero p log i = refl
-
-depth_next : (p : ℕ) (log : List Touch) (k i : ℕ) → depth_of p log (suc k) i ≡ depth_after fold_number p (touch_at log (suc k)) i (depth_of p log k i)
-unfolding depth_by
-depth_next p log k i = refl
-
 found_none : (p : ℕ) (w : World) (blob : ℕ) (log : List Touch) (v i : ℕ) → (found_in p w blob log v (page_range p i) == 0) ≡ true → depth_found p w blob log v i ≡ 0
 found_none p w blob log v i t = rw (t, depth_found) refl
 
@@ -264,7 +254,7 @@ depth_found_is c p w blob us n pos ok known in_list v i le =
       | inr none ↦
           (let z : m ≡ 0 = omega arith in
           found_none p w blob log v i (test_none (found_in p w blob log v r) (omega (arith, f)))
-          ∙ sym (depth_zero p log i)
+          ∙ sym (depth_none p log i)
           ∙ ap (λ (k : ℕ). depth_of p log k i) (sym z)
           ∙ depth_of_newest p v i log)
       | inl some ↦
@@ -319,10 +309,6 @@ unfolding back_by
 back_asked p us k i =
     same_leaf (covered p us k i) (folded_of p us k i) (newest_of p (touches p us) (k - 1) (page_range p i)) (whole_leaf (fold_at fold_number p us k i) (valid_in p (size_after us k) i))
     (λ back. leaf_at p (extent_at us k) i back (depth_of p (touches p us) k i))
-
-folds-are : (p : ℕ) (us : List Extent) (k : ℕ) → folds_of p us k ≡ filter (λ i. folded_of p us k i) (edge_pages (touch_of p us k))
-unfolding folds_by
-folds-are p us k = refl
 
 module _ (p : ℕ) (w : World) (blob : ℕ) (b : Blob) (kept : UpdateEntry) (k : ℕ)
     (depths : (j : ℕ) → woven_depth fold_number p w blob b kept k j ≡ depth_of p (log_of p b.updates) k j) where

@@ -12,7 +12,7 @@ use Rattle.range_log.specs.Updates.{update_at, no_update, extent_of, extents, pa
 use Rattle.range_log.specs.Rows.{folded_of, node_of}
 use Rattle.range_log.proofs.Growth.{same_folded}
 use Rattle.range_log.specs.Laws.{LinksNameNodes, LinksLead, BacksLead, BacksHaveNoHoles, ExtentsStand, LeavesFill, LeavesFit, PiecesJoin, PageBytesStay, NewestIsGreatest, RowKeysExact, BacksStep, RowsStay, ExtentsGrow}
-use Rattle.tree_walk.specs.Walk.{RootsStand, LinksFind, ChildStands, WeaverFinds, VisitedNone, VisitedLeaf, VisitedInner, WalksAreBounded}
+use Rattle.range_log.specs.Walk.{RootsStand, LinksFind, ChildStands, WeaverFinds, VisitedNone, VisitedLeaf, VisitedInner, WalksAreBounded}
 use Rattle.range_log.specs.declared.«open».OpenTouch.{OpenTouch}
 use Rattle.blob_core.specs.World.{log_of, waiting_after}
 use Rattle.range_log.proofs.Bytes.{length-extents}
@@ -54,7 +54,7 @@ size_in_log p us k h = size-touches p (extents us) k (omega (arith, length-exten
 update_same : (us more : List Update) (k : ℕ) → k < length us → update_at (us ++ more) (suc k) ≡ update_at us (suc k)
 update_same us more k lt = get_or_append_left us more no_update k lt
 
-size_same : (us more : List Update) (v : ℕ) → v ≤ length us → size_of (us ++ more) v ≡ size_of us v
+pub size_same : (us more : List Update) (v : ℕ) → v ≤ length us → size_of (us ++ more) v ≡ size_of us v
 size_same us more v le = ap (λ (l : List Update). length (content_from [] l)) (take-append-le v us more le)
 
 abbrev extent_with : Update → ℕ → Extent

@@ -23,7 +23,9 @@ use Rattle.blob_core.specs.declared.world.UpdateKey.{UpdateKey}
 use Rattle.blob_core.specs.Woven.{woven}
 use Rattle.blob_core.specs.Steps.{IsFolded, IsNumberedIn, RowIsThere, next_kept, with_update, with_node, with_node_by}
 use Rattle.blob_core.specs.Promises.{IsFoldPage, FoldsArePages, IsRowNode, NodesAreRows}
-use Rattle.blob_core.proofs.Lists.{one_value, none_some, number_means, update_means, update_itself, fold_means, key_means, entry_kept, entry_new, entry_old, mark_next, mark_set, prefix_marked, prefix_within, prefix_set, prefix_next, prefix_all, KeepsPages, SmallPages, cut_kept, joined_kept}
+use Rattle.blob_core.proofs.Lists.{one_value, none_some, number_means, update_means, update_itself, fold_means, key_means, entry_kept, entry_new, entry_old, mark_next, mark_set, prefix_marked, prefix_all, KeepsPages, SmallPages, cut_kept, joined_kept}
+use Rattle.blob_model.proofs.Marks.{prefix_within}
+use Rattle.blob_model.proofs.Stays.{true_prefix-set, true_prefix-append}
 use Rattle.branching.proofs.Parents.{origin_older, origin_past, origin_own, origin_shared}
 use Rattle.blob_core.proofs.Growing.{Cited, Agrees, agree_same, agree_more, agree_front, replay_front, replay_next, update_next, waiting_same, length_log}
 use Rattle.blob_core.proofs.Finding.{RowsKnown, woven_is, woven_folded_is}
@@ -386,7 +388,7 @@ finished c p w t blob version b pos s numbered row store =
     let old : BlobStands p w blob b = s.blobs blob b numbered.there in
     let wide : Wider w v = wider_same w v refl refl refl refl in
     let ok : InBounds (extents b.updates) = in_bounds c b.updates old.replay in
-    let grown : published b ≤ published (finish b version) = prefix_set b.finished (version - 1) in
+    let grown : published b ≤ published (finish b version) = true_prefix-set b.finished (version - 1) in
     let here : (r : Range) → HasNode p (log_of p b.updates) version r → node_in v blob version r ≡ Some (node_of p (extents b.updates) version r) = λ r has.
     (let in_list : version ≤ length (extents b.updates) = omega (arith, numbered.upto, (c.stand b.updates old.replay).1) in
     let (n, is) = row r ((c.exact p version (extents b.updates) r pos ok numbered.some in_list).1 has) in
@@ -436,7 +438,7 @@ pub with_update_is : (p : ℕ) (w : World) (blob : ℕ) (pages : List ℕ) (b : 
 with_update_is p w blob pages b e = rw (e, with_update) refl
 
 -- what is kept for the next update of a blob has a key of its own
-next_free : (p : ℕ) (w : World) (blob : ℕ) (b : Blob) → Stands p w → blob_at w.store blob ≡ Some b → (o : Option UpdateEntry) → kept_at w.updates blob (assigned b + 1) ≡ o
+pub next_free : (p : ℕ) (w : World) (blob : ℕ) (b : Blob) → Stands p w → blob_at w.store blob ≡ Some b → (o : Option UpdateEntry) → kept_at w.updates blob (assigned b + 1) ≡ o
     → kept_at w.updates blob (assigned b + 1) ≡ None
 next_free p w blob b s is None e = e
 next_free p w blob b s is (Some kept) e =
@@ -476,7 +478,7 @@ numbered c p w t blob b u pages s is cut bytes some fits store =
     let agrees : Agrees p b.updates new.updates n = agree_more c p b.updates (u ∷ []) in
     let count : assigned new ≡ n + 1 = length-append b.updates (u ∷ []) in
     let here : blob_at v.store blob ≡ Some new = (let P : Store → Type 0 = λ x. blob_at x blob ≡ Some new in subst P (sym store) (with_new w.store blob b new is)) in
-    let grown : published b ≤ published new = prefix_next b.finished (false ∷ []) in
+    let grown : published b ≤ published new = true_prefix-append b.finished (false ∷ []) in
     let within : published b ≤ n = published_within p w blob b old in
     let last : (j : ℕ) → j ≡ suc n → UpdateStands p v blob new j = λ j e.
     (let own : origin v blob (suc n) ≡ blob = old.own (suc n) (omega arith) in
@@ -607,7 +609,7 @@ branched c p w t blob version b s is le store =
     })
 
 -- ---- the empty world
-none_only : (t : Bool) (b : Blob) → (if t then None else None) ≡ Some b → ⊥
+pub none_only : (t : Bool) (b : Blob) → (if t then None else None) ≡ Some b → ⊥
 none_only true b e = cc
 none_only false b e = cc
 

@@ -152,28 +152,6 @@ prefix_marked (true ∷ bs) zero lt = refl
 prefix_marked (true ∷ bs) (suc j) lt = prefix_marked bs j (omega arith)
 prefix_marked (false ∷ bs) j lt = absurd (omega arith)
 
-pub prefix_within : (bs : List Bool) → true_prefix bs ≤ length bs
-prefix_within [] = omega arith
-prefix_within (true ∷ bs) = omega (arith, prefix_within bs)
-prefix_within (false ∷ bs) = omega arith
-
-front_fewer : (b : Bool) (m n : ℕ) → m ≤ n → (if b then 1 + m else 0) ≤ (if b then 1 + n else 0)
-front_fewer true m n le = omega arith
-front_fewer false m n le = omega arith
-
-front_all : (b : Bool) (n : ℕ) → (if b then 1 + n else 0) ≤ 1 + n
-front_all true n = omega arith
-front_all false n = omega arith
-
-pub prefix_set : (bs : List Bool) (i : ℕ) → true_prefix bs ≤ true_prefix (slice_set bs i true)
-prefix_set [] i = omega arith
-prefix_set (b ∷ bs) zero = front_all b (true_prefix bs)
-prefix_set (b ∷ bs) (suc i) = front_fewer b _ _ (prefix_set bs i)
-
-pub prefix_next : (bs cs : List Bool) → true_prefix bs ≤ true_prefix (bs ++ cs)
-prefix_next [] cs = omega arith
-prefix_next (b ∷ bs) cs = front_fewer b _ _ (prefix_next bs cs)
-
 pub prefix_all : (n : ℕ) → true_prefix (replicate n true) ≡ n
 prefix_all zero = refl
 prefix_all (suc n) = omega (arith, prefix_all n)

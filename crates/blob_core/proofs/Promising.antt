@@ -9,7 +9,7 @@ use Rattle.range_log.specs.Log.{HasNode}
 use Rattle.range_log.specs.Extents.{InBounds}
 use Rattle.range_log.specs.Updates.{extents}
 use Rattle.range_log.specs.Visits.{visits}
-use Rattle.tree_walk.specs.Walk.{root_of}
+use Rattle.range_log.specs.Walk.{root_of}
 use Rattle.range_log.proofs.Bytes.{length-extents}
 use Rattle.range_log.specs.Rows.{node_of}
 use Rattle.blob_core.specs.World.{World, empty_world, key_in, log_of}

@@ -16,7 +16,7 @@ use Rattle.tree_geom.specs.declared.touch.Touch.{Touch}
 use Rattle.tree_geom.specs.declared.node.Node.{Node}
 use Rattle.tree_geom.specs.declared.node.Piece.{Piece}
 use Rattle.tree_geom.specs.Nodes.{left_link, right_link, back_link, is_leaf, start_of, first_of, second_of}
-use Rattle.tree_geom.specs.Geometry.{tree_range, page_range, left_half, right_half, height_of, span_of, doublings}
+use Rattle.tree_geom.specs.Geometry.{tree_range, page_range, left_half, right_half, height_of, span_of}
 use Rattle.range_log.specs.Log.{newest_of, size_at, IsNewest, HasNode}
 use Rattle.range_log.specs.Extents.{Extent, extent_at, size_after, touches, InBounds}
 use Rattle.range_log.specs.Updates.{update_at, extent_of, extents, page_bytes, own_bytes, piece_bytes}
@@ -26,14 +26,16 @@ use Rattle.range_log.proofs.Greatest.{bool_cases}
 use Rattle.range_log.proofs.Leaves.{pieces_fit}
 use Rattle.range_log.proofs.Links.{back_none, back_anew}
 use Rattle.range_log.specs.Visits.{backs_of, visits}
-use Rattle.tree_walk.specs.Walk.{nodes_visited, root_of}
+use Rattle.range_log.specs.Walk.{nodes_visited, root_of}
 use Rattle.range_log.proofs.Bytes.{extent_is, length-extents}
 use Rattle.blob_core.specs.World.{World, UpdateEntry, IsKnown, AreCut, page_at, fold_at, nth_page, bytes_of_page, bytes_of_pages, node_in, kept_at, origin, log_of}
 use Rattle.blob_core.specs.Walk.{Walked, nothing, both, over, stored_in, bytes_of_piece, page_walk, leaf_walk, tree_walk_from, cut_out, read_walk}
 use Rattle.blob_core.proofs.Lists.{nth_is, SmallPages, bytes_are}
 use Rattle.blob_core.proofs.Growing.{Cited, length_log, size_in_log}
-use Rattle.blob_core.proofs.Finding.{size_pos, left_is, right_is, page_is, inner_is, test_same, test_some, test_none, double}
+use Rattle.blob_core.proofs.Finding.{size_pos, left_is, right_is, page_is, inner_is, test_same, test_some, test_none}
+use Rattle.range_log.proofs.Walk.{double}
 use Rattle.blob_core.proofs.Keeping.{Stands, BlobStands, UpdateStands, rows_known, in_bounds, published_finished, published_within}
+use Rattle.tree_geom.proofs.Spans.{height_enough}
 
 -- ---- lists
 take_none : (n : ℕ) → take {A = ℕ} n [] ≡ []
@@ -508,31 +510,6 @@ tree_pages c p w blob b v first last pos s bs upto le inside (suc h) q j enters 
                 (ap (λ (x : ℕ). clamp first last x) e) (ap (λ (x : ℕ). clamp first last x) f) (sym (c.inner h q first last begins ends))))
           ]
     ]
-
--- ---- the height of a tree
-doublings_here : (most s n : ℕ) → n ≤ s → doublings (suc most) s n ≡ 0
-unfolding doublings
-doublings_here most s n h = let e : nat_le n s ≡ true = grind (arith, nat_tests) in rw (e, doublings)
-
-doublings_on : (most s n : ℕ) → s < n → doublings (suc most) s n ≡ suc (doublings most (2 * s) n)
-unfolding doublings
-doublings_on most s n h = let e : nat_le n s ≡ false = grind (arith, nat_tests) in rw (e, doublings)
-
-doubled : (s k : ℕ) → 2 * s * 2 ^ k ≡ s * 2 ^ suc k
-doubled s k = rw (pow-succ' 2 k) (omega arith)
-
-doublings_enough : (most s n : ℕ) → 1 ≤ s → n ≤ s + most → n ≤ s * 2 ^ doublings most s n
-unfolding doublings
-doublings_enough zero s n pos h = omega arith
-doublings_enough (suc most) s n pos h =
-    elim (cases_lt s n) [
-      | inl on ↦ rw (doublings_on most s n on) (rw (← doubled s (doublings most (2 * s) n)) (doublings_enough most (2 * s) n (omega arith) (omega arith)))
-      | inr here ↦ rw (doublings_here most s n here) (omega arith)
-    ]
-
-height_enough : (p n : ℕ) → 1 ≤ p → n ≤ p * 2 ^ height_of p n
-unfolding height_of
-height_enough p n pos = doublings_enough n p n pos (omega arith)
 
 span_some : (p n : ℕ) → 1 ≤ n → span_of p n ≡ p * 2 ^ height_of p n
 unfolding span_of

@@ -21,8 +21,7 @@ use Rattle.range_log.specs.Depths.{fold_number, depth_by, depth_of, depth_after}
 use Rattle.range_log.specs.Log.{HasNode, touch_at, size_at, newest_of}
 use Rattle.range_log.specs.Extents.{Extent, extent_at, size_after, touch_of, touches}
 use Rattle.range_log.specs.Updates.{Replayable, extents, update_at, no_update}
-use Rattle.range_log.specs.Rows.{leaf_len, leaf_start, leaf_from, leaf_at, leaf_of, covered, back_by, back_of, whole_leaf}
-use Rattle.range_log.specs.Rows.{folded_of, folds_by, folds_of, fold_at, first_piece, second_piece, piece_count, pages_in, valid_in}
+use Rattle.range_log.specs.Rows.{leaf_len, leaf_start, leaf_from, leaf_at, leaf_of, covered, back_by, back_of, whole_leaf, folded_of, folds_by, folds_of, fold_at, first_piece, second_piece, piece_count, pages_in, valid_in}
 use Rattle.range_log.specs.Laws.{ExtentsStand, FoldsAre}
 use Rattle.range_log.proofs.Bytes.{length-extents, extent_is}
 use Rattle.range_log.proofs.Grown.{touch-touches}
@@ -31,7 +30,8 @@ use Rattle.blob_core.specs.World.{IsKnown, node_at, log_of}
 use Rattle.blob_core.specs.Acts.{AreThere, IsLogOf}
 use Rattle.blob_core.proofs.Lists.{none_some}
 use Rattle.blob_core.proofs.Growing.{length_log, size_in_log}
-use Rattle.blob_core.proofs.Finding.{size_pos, double, test_same, touched_node, uncovered}
+use Rattle.blob_core.proofs.Finding.{size_pos, test_same, touched_node, uncovered}
+use Rattle.range_log.proofs.Walk.{double}
 use Rattle.blob_core.proofs.Logs.{get_or_any}
 use Rattle.blob_core.proofs.Sound.{log_size}
 
@@ -110,10 +110,6 @@ pub page_of : (p : ℕ) (r : Range) → 1 ≤ p → Aligned p r → r.size ≡ p
 page_of p r pos (h, q, e) size =
     let P : Range → Type 0 = λ x. x ≡ page_range p (x.offset / p) in
     subst P (sym e) (one_page p h q pos (ap (λ (x : Range). x.size) (sym e) ∙ size))
-
--- and pages of one range are one
-pub same_page : (p i j : ℕ) → 1 ≤ p → page_range p i ≡ page_range p j → i ≡ j
-same_page p i j pos e = sym (mul-div_cancel i pos) ∙ ap (λ (r : Range). r.offset / p) e ∙ mul-div_cancel j pos
 
 -- the log of a blob's updates has an item for each, with the size after it
 pub log_is : ExtentsStand → (p : ℕ) (us : List Update) (log : List Touch) → Replayable us → log ≡ log_of p us

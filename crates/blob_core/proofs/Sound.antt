@@ -1,11 +1,11 @@
 -- In a world that allowed steps lead to each blob is sound: no version is larger than the limit, and what is woven is the row's.
 use Rattle.std.proofs.Common.{◌≡◌, ℕ, ◌+◌, ◌≤◌, ◌<◌, zero, suc, Bool, true, false, List, [], ◌∷◌, ◌++◌, length, take, arith, inl, inr, refl, ap, sym, subst, ◌∙◌}
-use Rattle.std.specs.Prelude.{◌==◌, ◌||◌, nat_lt, if◌then◌else◌, Some, None, max}
+use Rattle.std.specs.Prelude.{◌==◌, ◌||◌, nat_lt, if◌then◌else◌, Some, max}
 use Rattle.std.proofs.lemmas.Bool.Decides.{nat_tests}
 use Rattle.std.proofs.lemmas.Bool.{cases_lt}
-use Rattle.std.proofs.lemmas.List.{length-append, length-take-le, take-append-le, take-append-drop}
+use Rattle.std.proofs.lemmas.List.{length-append, length-take-le, take-append-drop}
 use Rattle.blob_model.specs.Limits.{Bounds, IsWithin}
-use Rattle.blob_model.specs.Content.{Update, content_from, size_of, offset_of}
+use Rattle.blob_model.specs.Content.{Update, size_of, offset_of}
 use Rattle.blob_model.specs.Store.{Store, Blob, blob_at, with_blob, and_blob, and_update, finish, branch_of, assigned, size_now, size_with, waiting}
 use Rattle.blob_model.specs.Answer.{answer}
 use Rattle.blob_model.specs.History.{store_from, is_refused}
@@ -26,10 +26,10 @@ use Rattle.blob_core.specs.Standing.{IsSound, WeavesRow, Stays, ReachedStays}
 use Rattle.blob_core.specs.declared.step.Step.{Step}
 use Rattle.blob_core.specs.declared.step.Step.TheVariants as Moves
 use Rattle.blob_core.proofs.Lists.{joined_some}
-use Rattle.blob_core.proofs.Growing.{Cited, size_in_log, update_next, replay_next}
+use Rattle.blob_core.proofs.Growing.{Cited, size_in_log, update_next, replay_next, size_same}
 use Rattle.blob_core.proofs.Finding.{RowsKnown, woven_folded_is, woven_is}
 use Rattle.blob_core.proofs.Taken.{create_done, assign_done, finish_done, branch_done, more_was, with_was}
-use Rattle.blob_core.proofs.Keeping.{Stands, BlobStands, UpdateStands, rows_known, in_bounds, published_within, empty_stands}
+use Rattle.blob_core.proofs.Keeping.{Stands, BlobStands, UpdateStands, rows_known, in_bounds, published_within, empty_stands, none_only}
 use Rattle.blob_core.proofs.Running.{stands_after, step_stands}
 use Rattle.blob_core.proofs.Promising.{steps_hold}
 use Rattle.blob_core.proofs.Refusing.{assign_refused}
@@ -38,9 +38,6 @@ use Rattle.blob_core.proofs.Refusing.{assign_refused}
 none_small : (most v : ℕ) → v ≤ 0 → size_of [] v ≤ most
 none_small most zero le = omega arith
 none_small most (suc v) le = absurd (omega arith)
-
-size_same : (us more : List Update) (v : ℕ) → v ≤ length us → size_of (us ++ more) v ≡ size_of us v
-size_same us more v le = ap (λ (l : List Update). length (content_from [] l)) (take-append-le v us more le)
 
 -- the size after one of the updates
 pub size_step : (stand : ExtentsStand) (us : List Update) (k : ℕ) → Replayable us → k < length us
@@ -206,10 +203,6 @@ bounded_after : (c : Cited) (p : ℕ) (limits : Bounds) (w : World) (steps : Lis
 bounded_after c p limits w [] pos s bound ok = bound
 bounded_after c p limits w (step ∷ steps) pos s bound ok =
     bounded_after c p limits (after p w step) steps pos (step_stands c p w step pos s ok.0) (bounded_step c p limits w step pos s bound ok.0) ok.1
-
-none_only : (t : Bool) (b : Blob) → (if t then None else None) ≡ Some b → ⊥
-none_only true b e = cc
-none_only false b e = cc
 
 -- ---- a world that is reached
 weaves_row : (c : Cited) (p : ℕ) (w : World) (blob : ℕ) (b : Blob) → 1 ≤ p → BlobStands p w blob b → (k : ℕ) → IsNumberedIn w blob k b → WeavesRow p w blob b k

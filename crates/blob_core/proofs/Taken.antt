@@ -13,6 +13,7 @@ use Rattle.blob_model.specs.declared.call.Outcome.TheVariants as Outcomes
 use Rattle.blob_model.specs.declared.call.Refusal.{Refusal}
 use Rattle.blob_model.specs.declared.call.Refusal.TheVariants as Refusals
 use Rattle.blob_core.proofs.Lists.{get_set_same, get_set, get_set_on, get_more, get_below, get_next}
+use Rattle.blob_model.proofs.Stays.{item_of}
 
 -- ---- not refused
 unless_done : (s : Store) (o : Option Refusal) (done : Answered) → is_refused (let a : Answered = elim o [ Some r ↦ refuse s r | None ↦ done ] in a).1 ≡ false
@@ -74,11 +75,6 @@ read_done s caller blob version offset count e =
     let first = passes (nat_lt (published b) version) _ _ d.0 in
     let next = passes (nat_lt (size_of b.updates version) (offset + count)) _ _ first.1 in
     (b, is, test_passes (published b) version first.0, test_passes (size_of b.updates version) (offset + count) next.0, ap (λ (a : Answered). a.1) (done ∙ d.1))
-
--- ---- the blobs of a changed store
-pub item_of : (xs : List Blob) (none : Bool) (i : ℕ) (b : Blob) → (if none then None else slice_get xs i) ≡ Some b → (none ≡ false) × (slice_get xs i ≡ Some b)
-item_of xs true i b e = let no : ⊥ = cc in absurd no
-item_of xs false i b e = (refl, e)
 
 apart_zero : (id : ℕ) → (id == 0) ≡ false → 1 ≤ id
 apart_zero id e = grind (arith, nat_tests)

@@ -14,7 +14,7 @@ use Rattle.range_log.specs.Log.{HasNode, newest_of}
 use Rattle.range_log.specs.Updates.{extents, page_bytes}
 use Rattle.range_log.specs.Rows.{row_keys_of, node_of}
 use Rattle.range_log.specs.Visits.{visits}
-use Rattle.tree_walk.specs.Walk.{root_of}
+use Rattle.range_log.specs.Walk.{root_of}
 use Rattle.blob_core.specs.World.{World, IsKnown, empty_world, fold_at, node_at, node_in, log_of}
 use Rattle.blob_core.specs.Woven.{found_in}
 use Rattle.blob_core.specs.Steps.{world_after, AllAllowed, IsAllowed, events_from}

@@ -13,7 +13,7 @@ use Rattle.range_log.specs.Extents.{extent_at, size_after}
 use Rattle.range_log.specs.Updates.{extents}
 use Rattle.range_log.specs.Rows.{covered, edge_pages, leaf_at, pages_in, valid_in, whole_leaf}
 use Rattle.range_log.specs.Depths.{depth_after, fold_number}
-use Rattle.tree_walk.specs.Walk.{half_toward, root_of}
+use Rattle.range_log.specs.Walk.{half_toward, root_of}
 use Rattle.blob_core.specs.World.{World, UpdateEntry, node_in, log_of}
 
 -- the link of a node for the half of its range in which the target begins

@@ -2,8 +2,7 @@
 ghost use Rattle.blob_core.specs.Promises.{StepsHold};
 ghost use Rattle.blob_core.specs.Standing.{ReachedStays};
 
-use range_log::laws as rows;
-use tree_walk::laws as walks;
+use range_log::{laws as rows, walks};
 
 /// Of each world to which allowed steps lead from the empty one, in whatever order:
 ///

@@ -6,6 +6,7 @@ use Rattle.std.proofs.lemmas.List.{length-take-le, length-replicate, get_or_appe
 use Rattle.std.proofs.lemmas.Option.{none-some, same_Some, slice_get_within}
 use Rattle.std.proofs.lemmas.Bool.Decides.{nat_tests}
 use Rattle.blob_model.specs.Content.{Update}
+use Rattle.blob_model.specs.Limits.{Bounds}
 use Rattle.blob_model.specs.Store.{Store, Blob, blob_at, empty_store, with_blob, and_blob, and_update, is_finished, finish, branch_of, true_prefix, published}
 use Rattle.blob_model.specs.Answer.{Answered, answer, refuse, first_refusal, too_many_blobs, offset_past_size, blob_too_big, too_many_versions, too_many_open, already}
 use Rattle.blob_model.specs.History.{caller_of, call_of, store_from, store_of, finishes}
@@ -18,42 +19,42 @@ use Rattle.blob_model.specs.declared.call.Refusal.TheVariants as Refusals
 use Rattle.blob_model.proofs.Stays.{store_from-append}
 
 -- ---- lists
-get-set_same : {X : Type 0} (xs : List X) (i : ℕ) (x y : X) → slice_get xs i ≡ Some x → slice_get (set xs i y) i ≡ Some y
+pub get-set_same : {X : Type 0} (xs : List X) (i : ℕ) (x y : X) → slice_get xs i ≡ Some x → slice_get (set xs i y) i ≡ Some y
 get-set_same [] i x y h = absurd (none-some x h)
 get-set_same (a ∷ xs) zero x y h = refl
 get-set_same (a ∷ xs) (suc i) x y h = get-set_same xs i x y h
 
-get-set_other : {X : Type 0} (xs : List X) (i j : ℕ) (y : X) → (j ≡ i → ⊥) → slice_get (set xs i y) j ≡ slice_get xs j
+pub get-set_other : {X : Type 0} (xs : List X) (i j : ℕ) (y : X) → (j ≡ i → ⊥) → slice_get (set xs i y) j ≡ slice_get xs j
 get-set_other [] i j y ne = refl
 get-set_other (a ∷ xs) zero zero y ne = absurd (ne refl)
 get-set_other (a ∷ xs) zero (suc j) y ne = refl
 get-set_other (a ∷ xs) (suc i) zero y ne = refl
 get-set_other (a ∷ xs) (suc i) (suc j) y ne = get-set_other xs i j y (λ e. ne (ap suc e))
 
-get-push_other : {X : Type 0} (xs : List X) (i : ℕ) (y : X) → (i ≡ length xs → ⊥) → slice_get (xs ++ y ∷ []) i ≡ slice_get xs i
+pub get-push_other : {X : Type 0} (xs : List X) (i : ℕ) (y : X) → (i ≡ length xs → ⊥) → slice_get (xs ++ y ∷ []) i ≡ slice_get xs i
 get-push_other [] zero y ne = absurd (ne refl)
 get-push_other [] (suc i) y ne = refl
 get-push_other (x ∷ xs) zero y ne = refl
 get-push_other (x ∷ xs) (suc i) y ne = get-push_other xs i y (λ e. ne (ap suc e))
 
-item_under : {X : Type 0} (none : Bool) (o : Option X) (x : X) → (if none then None else o) ≡ Some x → (none ≡ false) × (o ≡ Some x)
+pub item_under : {X : Type 0} (none : Bool) (o : Option X) (x : X) → (if none then None else o) ≡ Some x → (none ≡ false) × (o ≡ Some x)
 item_under true o x h = absurd (none-some x h)
 item_under false o x h = (refl, h)
 
-by_test : (P : Type 0) (t : Bool) → (t ≡ true → P) → (t ≡ false → P) → P
+pub by_test : (P : Type 0) (t : Bool) → (t ≡ true → P) → (t ≡ false → P) → P
 by_test P true f g = f refl
 by_test P false f g = g refl
 
-blob_at-with : (s : Store) (blob : ℕ) (b b' : Blob) → blob_at s blob ≡ Some b → blob_at (with_blob s blob b') blob ≡ Some b'
+pub blob_at-with : (s : Store) (blob : ℕ) (b b' : Blob) → blob_at s blob ≡ Some b → blob_at (with_blob s blob b') blob ≡ Some b'
 blob_at-with s blob b b' h =
     let at = item_under (blob == 0) (slice_get s.blobs (blob - 1)) b h in
     rw at.0 (get-set_same s.blobs (blob - 1) b b' at.1)
 
 -- ---- each blob has as many marks as updates
-IsEven : Blob → Type 0
+pub IsEven : Blob → Type 0
 IsEven b = length b.finished ≡ length b.updates
 
-AllEven : List Blob → Type 0
+pub AllEven : List Blob → Type 0
 AllEven [] = Unit {0}
 AllEven (b ∷ bs) = IsEven b × AllEven bs
 
@@ -74,7 +75,7 @@ unfolding IsEven AllEven
 even_push [] b h e = (e, tt)
 even_push (x ∷ bs) b h e = (h.0, even_push bs b h.1 e)
 
-even_at : (s : Store) (blob : ℕ) (b : Blob) → AllEven s.blobs → blob_at s blob ≡ Some b → IsEven b
+pub even_at : (s : Store) (blob : ℕ) (b : Blob) → AllEven s.blobs → blob_at s blob ≡ Some b → IsEven b
 even_at s blob b h e = even_get s.blobs (blob - 1) b h (item_under (blob == 0) (slice_get s.blobs (blob - 1)) b e).1
 
 even_update : (b : Blob) (u : Update) → IsEven b → IsEven (and_update b u)
@@ -85,7 +86,7 @@ even_finish : (b : Blob) (version : ℕ) → IsEven b → IsEven (finish b versi
 unfolding IsEven
 even_finish b version e = length-set b.finished (version - 1) true ∙ e
 
-prefix_within : (bs : List Bool) → true_prefix bs ≤ length bs
+pub prefix_within : (bs : List Bool) → true_prefix bs ≤ length bs
 prefix_within [] = omega arith
 prefix_within (true ∷ bs) = let more = prefix_within bs in omega (arith, more)
 prefix_within (false ∷ bs) = omega arith
@@ -115,7 +116,7 @@ abbrev HasEven : Answered → Type 0
 HasEven a = AllEven a.0.blobs
 
 -- an event leaves as many marks as updates
-event_even : (s : Store) (e : Event) → AllEven s.blobs → AllEven (answer s (caller_of e) (call_of e)).0.blobs
+pub event_even : (s : Store) (e : Event) → AllEven s.blobs → AllEven (answer s (caller_of e) (call_of e)).0.blobs
 unfolding IsEven
 event_even s (Events.Create caller) h =
     unless_either s (first_refusal (too_many_blobs s ∷ [])) (and_blob s (record { updates = []; finished = [] }), Outcomes.Blob (length s.blobs + 1)) (λ (a : Answered). HasEven a)
@@ -138,6 +139,17 @@ event_even s (Events.Branch caller blob version) h =
 from_even : (s : Store) (es : List Event) → AllEven s.blobs → AllEven (store_from s es).blobs
 from_even s [] h = h
 from_even s (e ∷ es) h = from_even (answer s (caller_of e) (call_of e)).0 es (event_even s e h)
+
+pub no_blobs : AllEven []
+unfolding AllEven
+no_blobs = tt
+
+pub even_is : (b : Blob) → IsEven b → length b.finished ≡ length b.updates
+unfolding IsEven
+even_is b e = e
+
+pub marks_fit : (limits : Bounds) (history : List Event) (id : ℕ) (b : Blob) → blob_at (store_of limits history) id ≡ Some b → length b.finished ≡ length b.updates
+marks_fit limits history id b is = even_is b (even_at (store_of limits history) id b (from_even (empty_store limits) history no_blobs) is)
 
 -- ---- one version
 -- the version is one of the blob's, and finished or not as m tells
@@ -166,7 +178,7 @@ marked_more s id version m x k =
     let apart : id - 1 ≡ length s.blobs → ⊥ = λ e. omega arith in
     record { b = k.b; at = rw i.0 (get-push_other s.blobs (id - 1) x apart ∙ i.1); within = k.within; mark = k.mark }
 
-apart_from : (id other : ℕ) → id - 1 ≡ other - 1 → (id == 0) ≡ false → (other == 0) ≡ false → (id == other) ≡ false → ⊥
+pub apart_from : (id other : ℕ) → id - 1 ≡ other - 1 → (id == 0) ≡ false → (other == 0) ≡ false → (id == other) ≡ false → ⊥
 apart_from id other e some there apart = grind (arith, nat_tests)
 
 -- where one blob is replaced
@@ -193,7 +205,7 @@ finished_more b u version some within =
     let t : (version == 0) ≡ false = grind (arith, nat_tests) in
     rw t (get_or_append_left b.finished (false ∷ []) false (version - 1) (omega arith))
 
-finished_same : (b : Blob) (version : ℕ) → 1 ≤ version → version ≤ length b.finished → is_finished (finish b version) version ≡ true
+pub finished_same : (b : Blob) (version : ℕ) → 1 ≤ version → version ≤ length b.finished → is_finished (finish b version) version ≡ true
 finished_same b version some within =
     let t : (version == 0) ≡ false = grind (arith, nat_tests) in
     rw t (get_or-set_same b.finished (version - 1) true false (omega arith))
@@ -278,14 +290,6 @@ more_events id version m (Events.Assign caller on place bytes) es = ap (λ (x : 
 more_events id version m (Events.Finish caller on ended) es = sym (or_or m ((on == id) && (ended == version)) (finishes id version es))
 more_events id version m (Events.Branch caller on ended) es = ap (λ (x : Bool). x || finishes id version es) (sym (or_false m))
 
-no_blobs : AllEven []
-unfolding AllEven
-no_blobs = tt
-
-unfolded : (b : Blob) → IsEven b → length b.finished ≡ length b.updates
-unfolding IsEven
-unfolded b e = e
-
 from_marked : (s : Store) (es : List Event) (id version : ℕ) (m : Bool) → 1 ≤ version → IsMarked s id version m → IsMarked (store_from s es) id version (m || finishes id version es)
 from_marked s [] id version m some k = same_mark s id version m _ (or_false m) k
 from_marked s (e ∷ es) id version m some k =
@@ -299,7 +303,7 @@ finished_by limits history more id version old new is is_new within = by_test _ 
     (λ t.
     let some : 1 ≤ version = grind (arith, nat_tests) in
     let s : Store = store_of limits history in
-    let even : length old.finished ≡ length old.updates = unfolded old (even_at s id old (from_even (empty_store limits) history no_blobs) is) in
+    let even = marks_fit limits history id old is in
     let k = from_marked s more id version (is_finished old version) some (record { b = old; at = is; within = omega (arith, even, within); mark = refl }) in
     let there : blob_at (store_of limits (history ++ more)) id ≡ Some k.b = ap (λ (x : Store). blob_at x id) (store_from-append (empty_store limits) history more) ∙ k.at in
     let same : new ≡ k.b = same_Some new k.b (sym is_new ∙ there) in
@@ -307,5 +311,5 @@ finished_by limits history more id version old new is is_new within = by_test _ 
 
 pub published_within : PublishedAreNumbered
 published_within limits history id b is =
-    let even : length b.finished ≡ length b.updates = unfolded b (even_at (store_of limits history) id b (from_even (empty_store limits) history no_blobs) is) in
+    let even = marks_fit limits history id b is in
     omega (arith, prefix_within b.finished, even)

@@ -14,37 +14,37 @@ use Rattle.blob_model.specs.declared.call.Refusal.{Refusal}
 use Rattle.blob_model.specs.declared.call.Refusal.TheVariants as Refusals
 
 -- ---- lists
-get-set_same : (xs : List Blob) (i : ℕ) (x y : Blob) → slice_get xs i ≡ Some y → slice_get (slice_set xs i x) i ≡ Some x
+pub get-set_same : (xs : List Blob) (i : ℕ) (x y : Blob) → slice_get xs i ≡ Some y → slice_get (slice_set xs i x) i ≡ Some x
 get-set_same [] i x y e = (let no : ⊥ = cc in absurd no)
 get-set_same (z ∷ xs) zero x y e = refl
 get-set_same (z ∷ xs) (suc i) x y e = get-set_same xs i x y e
 
-get-set_other : (xs : List Blob) (i j : ℕ) (x y : Blob) → j ≢ i → slice_get xs j ≡ Some y → slice_get (slice_set xs i x) j ≡ Some y
+pub get-set_other : (xs : List Blob) (i j : ℕ) (x y : Blob) → j ≢ i → slice_get xs j ≡ Some y → slice_get (slice_set xs i x) j ≡ Some y
 get-set_other [] i j x y apart e = e
 get-set_other (z ∷ xs) zero zero x y apart e = absurd (apart refl)
 get-set_other (z ∷ xs) zero (suc j) x y apart e = e
 get-set_other (z ∷ xs) (suc i) zero x y apart e = e
 get-set_other (z ∷ xs) (suc i) (suc j) x y apart e = get-set_other xs i j x y (λ same. apart (ap (λ (n : ℕ). suc n) same)) e
 
-get-append : (xs ys : List Blob) (j : ℕ) (y : Blob) → slice_get xs j ≡ Some y → slice_get (xs ++ ys) j ≡ Some y
+pub get-append : (xs ys : List Blob) (j : ℕ) (y : Blob) → slice_get xs j ≡ Some y → slice_get (xs ++ ys) j ≡ Some y
 get-append [] ys j y e = (let no : ⊥ = cc in absurd no)
 get-append (x ∷ xs) ys zero y e = e
 get-append (x ∷ xs) ys (suc j) y e = get-append xs ys j y e
 
-front_fewer : (b : Bool) (m n : ℕ) → m ≤ n → (if b then 1 + m else 0) ≤ (if b then 1 + n else 0)
+pub front_fewer : (b : Bool) (m n : ℕ) → m ≤ n → (if b then 1 + m else 0) ≤ (if b then 1 + n else 0)
 front_fewer true m n le = omega arith
 front_fewer false m n le = omega arith
 
-front_all : (b : Bool) (n : ℕ) → (if b then 1 + n else 0) ≤ 1 + n
+pub front_all : (b : Bool) (n : ℕ) → (if b then 1 + n else 0) ≤ 1 + n
 front_all true n = omega arith
 front_all false n = omega arith
 
-true_prefix-set : (bs : List Bool) (i : ℕ) → true_prefix bs ≤ true_prefix (slice_set bs i true)
+pub true_prefix-set : (bs : List Bool) (i : ℕ) → true_prefix bs ≤ true_prefix (slice_set bs i true)
 true_prefix-set [] i = omega arith
 true_prefix-set (b ∷ bs) zero = front_all b (true_prefix bs)
 true_prefix-set (b ∷ bs) (suc i) = front_fewer b _ _ (true_prefix-set bs i)
 
-true_prefix-append : (bs cs : List Bool) → true_prefix bs ≤ true_prefix (bs ++ cs)
+pub true_prefix-append : (bs cs : List Bool) → true_prefix bs ≤ true_prefix (bs ++ cs)
 true_prefix-append [] cs = omega arith
 true_prefix-append (b ∷ bs) cs = front_fewer b _ _ (true_prefix-append bs cs)
 
@@ -84,7 +84,7 @@ unfolding StaysAt
 kept_same s id old e = (old, e, Stays-refl old)
 
 -- a blob of the store is an item of its list
-item_of : (xs : List Blob) (none : Bool) (i : ℕ) (b : Blob) → (if none then None else slice_get xs i) ≡ Some b → (none ≡ false) × (slice_get xs i ≡ Some b)
+pub item_of : (xs : List Blob) (none : Bool) (i : ℕ) (b : Blob) → (if none then None else slice_get xs i) ≡ Some b → (none ≡ false) × (slice_get xs i ≡ Some b)
 item_of xs true i b e = let no : ⊥ = cc in absurd no
 item_of xs false i b e = (refl, e)
 
@@ -95,7 +95,7 @@ kept_more s x id old e =
     let more : slice_get (s.blobs ++ x ∷ []) (id - 1) ≡ Some old = get-append s.blobs (x ∷ []) (id - 1) old at.1 in
     (old, rw at.0 more, Stays-refl old)
 
-some_is : (o : Option Blob) (a b : Blob) → o ≡ Some a → o ≡ Some b → a ≡ b
+pub some_is : (o : Option Blob) (a b : Blob) → o ≡ Some a → o ≡ Some b → a ≡ b
 some_is o a b p q = cc
 
 apart_from : (id other : ℕ) → id - 1 ≡ other - 1 → (id == 0) ≡ false → (other == 0) ≡ false → (id == other) ≡ false → ⊥

@@ -6,7 +6,7 @@ use Rattle.request_form.specs.Session.{AllOwn}
 use Rattle.turn_lock.specs.History.{Log, entries_by, LacksUngiven, IsUngiven}
 use Rattle.version_manager.specs.Log.{tag, tagged, events}
 
-one_or_ungiven : (n : ℕ) → (n ≡ 1) ⊎ IsUngiven 1 n
+pub one_or_ungiven : (n : ℕ) → (n ≡ 1) ⊎ IsUngiven 1 n
 one_or_ungiven zero = inr (inl refl)
 one_or_ungiven (suc zero) = inl refl
 one_or_ungiven (suc (suc n)) = inr (inr (omega arith))

@@ -2,7 +2,7 @@
 use Rattle.std.proofs.Common.{◌≡◌, ℕ, ◌+◌, ◌==◌, Bool, true, false, if◌then◌else◌, List, [], ◌∷◌, ◌++◌, length, Option, Some, None, Result, Ok, Err, refl, sym, ap, subst, append-nil, arith}
 use Rattle.std.specs.Prelude.{nat_lt}
 use Rattle.std.proofs.lemmas.Option.{none-some}
-use Rattle.item_stream.specs.Rounds.{Rounds, sum_rounds}
+use Rattle.items.specs.Rounds.{Rounds, sum_rounds}
 use Rattle.blob_model.specs.Content.{size_of}
 use Rattle.blob_model.specs.Store as Stores
 use Rattle.blob_model.specs.Store.{Blob, published}

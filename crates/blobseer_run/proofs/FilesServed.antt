@@ -4,7 +4,7 @@ use Rattle.std.specs.Prelude.{◌⊎◌}
 use Rattle.std.proofs.lemmas.Bool.{false≢true}
 use Rattle.std.proofs.lemmas.Grind.{flat_map-append}
 use Rattle.faults.specs.Counts.{RoseBy}
-use Rattle.item_stream.specs.Rounds.{until_last, has_last, Rounds, sum_rounds}
+use Rattle.items.specs.Rounds.{until_last, has_last, Rounds, sum_rounds}
 use Rattle.version_manager.specs.Log.{IsHistory}
 use Rattle.version_manager.proofs.Orders.{none_in_order}
 use Rattle.request_form.specs.Session.{Fixed, AllOwn}

@@ -1,5 +1,5 @@
 -- What a file session was served, from what the store and the names say that were closed behind it.
-use Rattle.std.proofs.Common.{◌≡◌, ◌⊎◌, ℕ, ◌==◌, Bool, true, false, cond, if◌then◌else◌, nat_lt, List, [], ◌∷◌, length, sum_by, zero, suc, refl, sym, ◌∙◌, ap, subst, inl, inr, arith}
+use Rattle.std.proofs.Common.{◌≡◌, ◌⊎◌, ℕ, ◌==◌, Bool, true, false, cond, if◌then◌else◌, nat_lt, List, [], ◌∷◌, length, sum_by, suc, refl, sym, ◌∙◌, ap, subst, inl, inr, arith}
 use Rattle.std.specs.Prelude.{Option}
 use Rattle.std.proofs.lemmas.Bool.{false≢true}
 use Rattle.std.proofs.lemmas.Bool.Decides.{nat_tests}
@@ -25,6 +25,7 @@ use Rattle.file_layer.proofs.StreamEnds.{unserved}
 use Rattle.blobseer_run.specs.Conversation.{input_limit}
 use Rattle.blobseer_run.specs.Filing.{ServedLines, ServedNamed}
 use Rattle.blobseer_run.proofs.Stores.{first_there}
+use Rattle.blobseer_run.proofs.Alone.{one_or_ungiven}
 
 -- ---- histories of one pass
 
@@ -37,11 +38,6 @@ longer_none [] = refl
 longer_none (x ∷ xs) =
     let is : nat_lt 0 (suc (length xs)) ≡ true = grind (arith, nat_tests) in
     picked (nat_lt 0 (suc (length xs))) (x ∷ xs) is
-
-one_or_ungiven : (n : ℕ) → (n ≡ 1) ⊎ IsUngiven 1 n
-one_or_ungiven zero = inr (inl refl)
-one_or_ungiven (suc zero) = inl refl
-one_or_ungiven (suc (suc n)) = inr (inr (omega arith))
 
 kept_none : (b : Bool) (x : ℕ × Entered) (xs : Names.NameLog) → b ≡ true → cond b (x ∷ xs) xs ≡ [] → ⊥
 kept_none true x xs e none = cc

@@ -1,15 +1,13 @@
 -- Where nobody else is there, each history that a session has seen is one of a desk.
 use Rattle.std.proofs.Common.{◌≡◌, ◌≢◌, ℕ, ◌+◌, ◌-◌, ◌*◌, ◌^◌, ◌<◌, ◌≤◌, ◌==◌, nat_lt, Bool, true, false, if◌then◌else◌, ◌&&◌, List, [], ◌∷◌, ◌++◌, length, set, zero, suc, refl, sym, ◌∙◌, ap, subst, length-append, append_assoc, append-nil, arith}
-use Rattle.std.specs.Prelude.{Option, Some, None, slice_get, slice_index_or}
-use Rattle.std.proofs.Math.ListN.{length-set}
-use Rattle.std.proofs.lemmas.List.{length-take-le, length-replicate}
-use Rattle.std.proofs.lemmas.Option.{none-some, same_Some}
+use Rattle.std.specs.Prelude.{Option, Some, None, slice_get}
+use Rattle.std.proofs.lemmas.Option.{none-some}
 use Rattle.std.proofs.lemmas.Bool.{false≢true}
 use Rattle.std.proofs.lemmas.Bool.Decides.{nat_tests}
 use Rattle.blob_model.specs.Limits.{Bounds}
 use Rattle.blob_model.specs.Content.{Update, offset_of}
-use Rattle.blob_model.specs.Store.{Store, Blob, true_prefix, assigned, published, held, size_now, size_with, is_finished, finish, branch_of, blob_at, and_blob, and_update, with_blob}
-use Rattle.blob_model.specs.Answer.{Test, Answered, answer, refuse, in_blob, first_refusal, unless_refused, too_many_blobs, offset_past_size, blob_too_big, too_many_versions, too_many_open, not_numbered, pending, already}
+use Rattle.blob_model.specs.Store.{Store, Blob, assigned, published, held, size_now, size_with, is_finished, finish, blob_at, and_update, with_blob}
+use Rattle.blob_model.specs.Answer.{Test, Answered, answer, refuse, in_blob, first_refusal, unless_refused, offset_past_size, blob_too_big, too_many_versions, too_many_open, not_numbered, pending, already}
 use Rattle.blob_model.specs.History.{caller_of, call_of, store_from, store_of, is_refused, IsAccepted, IsNumbered, IsLegalFrom, IsLegal, finishes}
 use Rattle.blob_model.specs.Laws.{OldVersionsStay}
 use Rattle.blob_model.specs.declared.call.Place.{Place}
@@ -38,80 +36,17 @@ use Rattle.request_form.specs.declared.form.Reply.{Reply}
 use Rattle.request_form.specs.declared.form.Fault.{Fault}
 use Rattle.request_form.specs.declared.form.Heard.{Heard}
 use Rattle.request_form.specs.declared.form.Heard.TheVariants.{Asked, Wrong}
+use Rattle.blob_model.proofs.Marks.{AllEven, no_blobs, even_is, even_at, event_even}
+use Rattle.blob_model.proofs.Stays.{store_from-append}
+use Rattle.workload_law.proofs.Marks.{last_mark}
 
 -- ---- histories that go on
-
-store_from-append : (s : Store) (xs ys : List Event) → store_from s (xs ++ ys) ≡ store_from (store_from s xs) ys
-store_from-append s [] ys = refl
-store_from-append s (x ∷ xs) ys = store_from-append (answer s (caller_of x) (call_of x)).0 xs ys
 
 legal-append : (s : Store) (xs ys : List Event) → IsLegalFrom s xs → IsLegalFrom (store_from s xs) ys → IsLegalFrom s (xs ++ ys)
 legal-append s [] ys h k = k
 legal-append s (x ∷ xs) ys h k = (h.0, legal-append (answer s (caller_of x) (call_of x)).0 xs ys h.1 k)
 
--- ---- each blob has as many marks as updates
-
-pub IsEven : Blob → Type 0
-IsEven b = length b.finished ≡ length b.updates
-
-pub AllEven : List Blob → Type 0
-AllEven [] = Unit {0}
-AllEven (b ∷ bs) = IsEven b × AllEven bs
-
-even_get : (bs : List Blob) (i : ℕ) (b : Blob) → AllEven bs → slice_get bs i ≡ Some b → IsEven b
-unfolding IsEven AllEven
-even_get [] i b h e = absurd (none-some b e)
-even_get (x ∷ bs) zero b h e = let same : x ≡ b = same_Some x b e in subst IsEven same h.0
-even_get (x ∷ bs) (suc i) b h e = even_get bs i b h.1 e
-
-even_set : (bs : List Blob) (i : ℕ) (b : Blob) → AllEven bs → IsEven b → AllEven (set bs i b)
-unfolding IsEven AllEven
-even_set [] i b h e = tt
-even_set (x ∷ bs) zero b h e = (e, h.1)
-even_set (x ∷ bs) (suc i) b h e = (h.0, even_set bs i b h.1 e)
-
-even_push : (bs : List Blob) (b : Blob) → AllEven bs → IsEven b → AllEven (bs ++ b ∷ [])
-unfolding IsEven AllEven
-even_push [] b h e = (e, tt)
-even_push (x ∷ bs) b h e = (h.0, even_push bs b h.1 e)
-
-get_under : (t : Bool) (o : Option Blob) (b : Blob) → (if t then None else o) ≡ Some b → o ≡ Some b
-get_under true o b h = absurd (none-some b h)
-get_under false o b h = h
-
-even_at : (s : Store) (blob : ℕ) (b : Blob) → AllEven s.blobs → blob_at s blob ≡ Some b → IsEven b
-even_at s blob b h e = even_get s.blobs (blob - 1) b h (get_under (blob == 0) (slice_get s.blobs (blob - 1)) b e)
-
-even_update : (b : Blob) (u : Update) → IsEven b → IsEven (and_update b u)
-unfolding IsEven
-even_update b u e = length-append b.finished (false ∷ []) ∙ ap (λ (n : ℕ). n + 1) e ∙ sym (length-append b.updates (u ∷ []))
-
-even_finish : (b : Blob) (version : ℕ) → IsEven b → IsEven (finish b version)
-unfolding IsEven
-even_finish b version e = length-set b.finished (version - 1) true ∙ e
-
-prefix_within : (bs : List Bool) → true_prefix bs ≤ length bs
-prefix_within [] = omega arith
-prefix_within (true ∷ bs) = let more = prefix_within bs in omega (arith, more)
-prefix_within (false ∷ bs) = omega arith
-
-even_branch : (b : Blob) (version : ℕ) → IsEven b → version ≤ published b → IsEven (branch_of b version)
-unfolding IsEven
-even_branch b version e within =
-    let few : version ≤ length b.updates = omega (arith, prefix_within b.finished, e, within) in
-    length-replicate version true ∙ sym (length-take-le version b.updates few)
-
 -- ---- refused or not
-
-unless_either : (s : Store) (f : Option Refusal) (done : Answered) (P : Answered → Type 0) → ((r : Refusal) → P (refuse s r)) → P done →
-    P (elim f [ Some r ↦ refuse s r | None ↦ done ])
-unless_either s None done P p q = q
-unless_either s (Some r) done P p q = p r
-
-there_or_not : (s : Store) (blob : ℕ) (o : Option Blob) (f : Blob → Answered) (P : Answered → Type 0) → ((r : Refusal) → P (refuse s r)) → ((b : Blob) → o ≡ Some b → P (f b)) →
-    P (elim o [ None ↦ refuse s (Refusals.NoBlob blob) | Some b ↦ f b ])
-there_or_not s blob None f P p q = p (Refusals.NoBlob blob)
-there_or_not s blob (Some b) f P p q = q b refl
 
 in_blob_here : (s : Store) (blob : ℕ) (b : Blob) (f : Blob → Answered) → blob_at s blob ≡ Some b → in_blob s blob f ≡ f b
 in_blob_here s blob b f h = ap (λ (o : Option Blob). let a : Answered = elim o [ None ↦ refuse s (Refusals.NoBlob blob) | Some x ↦ f x ] in a) h
@@ -121,42 +56,6 @@ in_blob_none s blob f h = ap (λ (o : Option Blob). let a : Answered = elim o [ 
 
 none_of_one : (s : Store) (a : Test) (done : Answered) → a.refuses ≡ false → unless_refused s (a ∷ []) done ≡ done
 none_of_one s a done p = rw p refl
-
-abbrev HasEven : Answered → Type 0
-HasEven a = AllEven a.0.blobs
-
-branch_tested : (s : Store) (b : Blob) (version : ℕ) (t : Bool) → nat_lt (published b) version ≡ t → AllEven s.blobs → IsEven b →
-    HasEven (elim (if t then Some (Refusals.NotPublished version (published b)) else first_refusal (too_many_blobs s ∷ [])) [ Some r ↦ refuse s r | None ↦ (and_blob s (branch_of b version), Outcomes.Blob (length s.blobs + 1)) ])
-branch_tested s b version true e h even = h
-branch_tested s b version false e h even =
-    let within : version ≤ published b = grind (arith, nat_tests) in
-    unless_either s (first_refusal (too_many_blobs s ∷ [])) (and_blob s (branch_of b version), Outcomes.Blob (length s.blobs + 1)) (λ (a : Answered). HasEven a) (λ r. h) (even_push s.blobs (branch_of b version) h (even_branch b version even within))
-
--- a call leaves as many marks as updates
-answer_even : (s : Store) (caller : ℕ) (call : Call) → AllEven s.blobs → HasEven (answer s caller call)
-unfolding IsEven
-answer_even s caller Calls.Create h =
-    unless_either s (first_refusal (too_many_blobs s ∷ [])) (and_blob s (record { updates = []; finished = [] }), Outcomes.Blob (length s.blobs + 1)) (λ (a : Answered). HasEven a)
-    (λ r. h) (even_push s.blobs (record { updates = []; finished = [] }) h refl)
-answer_even s caller (Calls.Assign blob place bytes) h =
-    there_or_not s blob (blob_at s blob) _ (λ (a : Answered). HasEven a) (λ r. h) (λ b here.
-    unless_either s (first_refusal (offset_past_size b place ∷ blob_too_big s b place bytes ∷ too_many_versions s b ∷ too_many_open s b ∷ [])) _ (λ (a : Answered). HasEven a) (λ r. h)
-    (even_set s.blobs (blob - 1) _ h (even_update b _ (even_at s blob b h here))))
-answer_even s caller (Calls.Finish blob version) h =
-    there_or_not s blob (blob_at s blob) _ (λ (a : Answered). HasEven a) (λ r. h) (λ b here.
-    unless_either s (first_refusal (already b version ∷ [])) _ (λ (a : Answered). HasEven a) (λ r. h)
-    (even_set s.blobs (blob - 1) _ h (even_finish b version (even_at s blob b h here))))
-answer_even s caller (Calls.Branch blob version) h =
-    there_or_not s blob (blob_at s blob) _ (λ (a : Answered). HasEven a) (λ r. h) (λ b here.
-    branch_tested s b version (nat_lt (published b) version) refl h (even_at s blob b h here))
-answer_even s caller (Calls.Read blob version offset count) h =
-    there_or_not s blob (blob_at s blob) _ (λ (a : Answered). HasEven a) (λ r. h) (λ b here. unless_either s _ _ (λ (a : Answered). HasEven a) (λ r. h) h)
-answer_even s caller (Calls.Recent blob) h = there_or_not s blob (blob_at s blob) _ (λ (a : Answered). HasEven a) (λ r. h) (λ b here. h)
-answer_even s caller (Calls.Size blob version) h =
-    there_or_not s blob (blob_at s blob) _ (λ (a : Answered). HasEven a) (λ r. h) (λ b here. unless_either s _ _ (λ (a : Answered). HasEven a) (λ r. h) h)
-answer_even s caller (Calls.Sync blob version) h =
-    there_or_not s blob (blob_at s blob) _ (λ (a : Answered). HasEven a) (λ r. h) (λ b here. unless_either s _ _ (λ (a : Answered). HasEven a) (λ r. h) h)
-answer_even s caller (Calls.Status blob) h = there_or_not s blob (blob_at s blob) _ (λ (a : Answered). HasEven a) (λ r. h) (λ b here. h)
 
 -- ---- an update that was numbered
 
@@ -211,10 +110,6 @@ same_under false p q x y h f = f h
 blob_there : (s : Store) (blob : ℕ) (x y : Blob) → blob_at s blob ≡ Some x → blob_at (with_blob s blob y) blob ≡ Some y
 blob_there s blob x y h = same_under (blob == 0) (slice_get s.blobs (blob - 1)) (slice_get (set s.blobs (blob - 1) y) (blob - 1)) x y h (λ e. get-set_same s.blobs (blob - 1) x y e)
 
-last_false : (bs : List Bool) → slice_index_or (bs ++ false ∷ []) (length bs) false ≡ false
-last_false [] = refl
-last_false (b ∷ bs) = last_false bs
-
 finishing : Store → ℕ → ℕ → Blob → Answered
 finishing s blob version b = unless_refused s (already b version ∷ []) (with_blob s blob (finish b version), Outcomes.Published (published (finish b version)))
 
@@ -224,16 +119,16 @@ record IsLatest (s : Store) (caller blob version : ℕ) : Type 0 where
   accepted : is_refused (answer s caller (Calls.Finish blob version)).1 ≡ false
 
 latest_next : (s : Store) (caller blob : ℕ) (b : Blob) (u : Update) → AllEven s.blobs → blob_at s blob ≡ Some b → IsLatest (with_blob s blob (and_update b u)) caller blob (length b.updates + 1)
-unfolding IsEven finishing
+unfolding finishing
 latest_next s caller blob b u h here =
     let v : ℕ = length b.updates + 1 in
     let b1 : Blob = and_update b u in
     let s1 : Store = with_blob s blob b1 in
-    let even : length b.finished ≡ length b.updates = even_at s blob b h here in
+    let even : length b.finished ≡ length b.updates = even_is b (even_at s blob b h here) in
     let there : blob_at s1 blob ≡ Some b1 = blob_there s blob b b1 here in
     let some : (length b.updates + 1 == 0) ≡ false = grind (arith, nat_tests) in
     let at : length b.updates + 1 - 1 ≡ length b.finished = omega (arith, even) in
-    let open_yet : is_finished b1 (length b.updates + 1) ≡ false = rw some (rw at (last_false b.finished)) in
+    let open_yet : is_finished b1 (length b.updates + 1) ≡ false = rw some (rw at (last_mark b.finished)) in
     let e : answer s1 caller (Calls.Finish blob v) ≡ (with_blob s1 blob (finish b1 v), Outcomes.Published (published (finish b1 v))) =
     in_blob_here s1 blob b1 (finishing s1 blob v) there ∙ none_of_one s1 (already b1 v) _ open_yet in
     let P : Option Blob → Type 0 = λ o. IsNumbered o v in
@@ -254,7 +149,7 @@ sound_more p limits history e sound accepted ordered =
     record {
       legal = legal-append _ history (e ∷ []) sound.legal (accepted, tt);
       in_order = order_more p limits history (history ++ e ∷ []) e refl sound.in_order ordered;
-      even = subst P (sym (store_from-append _ history (e ∷ []))) (answer_even (store_of limits history) (caller_of e) (call_of e) sound.even);
+      even = subst P (sym (store_from-append _ history (e ∷ []))) (event_even (store_of limits history) e sound.even);
     }
 
 sound_none : (p : ℕ) (limits : Bounds) (history others : List Event) → others ≡ [] → IsSound p limits history → IsSound p limits (history ++ others)
@@ -375,8 +270,7 @@ some_bytes s [] h = absurd (none-some _ (sym h))
 some_bytes s (b ∷ bytes) h = omega arith
 
 first_good : (fixed : Fixed) → IsGood (first_session fixed 1)
-unfolding AllEven
-first_good fixed = record { sound = record { legal = tt; in_order = none_in_order fixed.page fixed.limits; even = tt }; held = tt }
+first_good fixed = record { sound = record { legal = tt; in_order = none_in_order fixed.page fixed.limits; even = no_blobs }; held = tt }
 
 -- one item more at the front, and an end sooner
 item_few : (item : Heard) (xs ys : List Heard) → length xs ≤ length ys → length (item ∷ xs) ≤ length (item ∷ ys)

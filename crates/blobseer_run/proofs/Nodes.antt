@@ -3,7 +3,7 @@ use Rattle.std.proofs.Common.{◌≡◌, ◌∙◌, ℕ, ◌+◌, ◌<◌, true,
 use Rattle.std.specs.Prelude.{◌⊎◌}
 use Rattle.std.proofs.lemmas.Grind.{flat_map-append}
 use Rattle.faults.specs.Counts.{RoseBy}
-use Rattle.item_stream.specs.Rounds.{until_last, has_last, Rounds}
+use Rattle.items.specs.Rounds.{until_last, has_last, Rounds}
 use Rattle.server_core.specs.declared.flow.End.{End}
 use Rattle.server_core.specs.declared.flow.End.TheVariants as Ends
 use Rattle.server_core.specs.Conversing.{AnswersFront}

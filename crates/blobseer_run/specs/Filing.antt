@@ -1,6 +1,6 @@
 -- What the command `files` promises: lines about folders and files are answered by the one file session of a new store and of new names.
 use Rattle.std.specs.Prelude.{◌≡◌, ℕ, ◌+◌, ◌-◌, ◌^◌, ◌<◌, ◌≤◌, false, List, [], flat_map, Option}
-use Rattle.item_stream.specs.Rounds.{until_last, Rounds, sum_rounds}
+use Rattle.items.specs.Rounds.{until_last, Rounds, sum_rounds}
 use Rattle.version_manager.specs.Log.{IsHistory}
 use Rattle.blob_model.specs.declared.call.Event.{Event}
 use Rattle.request_form.specs.Session.{Fixed, AllOwn}

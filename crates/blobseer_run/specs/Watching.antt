@@ -4,10 +4,10 @@ use Rattle.blob_model.specs.Limits.{greatest}
 use Rattle.blob_model.specs.declared.call.Event.{Event}
 use Rattle.version_manager.specs.Log.{IsHistory}
 use Rattle.settings.specs.Values.{SettingsValues}
-use Rattle.watch_law.specs.declared.plan.WatchPlan.{WatchPlan}
-use Rattle.watch_law.specs.Said.{said}
-use Rattle.watch_law.specs.Notes.{NotesState, HasDone}
-use Rattle.watch_law.specs.Watch.{IsWatch, summary_of}
+use Rattle.workload_law.specs.declared.watch_plan.WatchPlan.{WatchPlan}
+use Rattle.workload_law.specs.WatchSaid.{said}
+use Rattle.workload_law.specs.WatchNotes.{NotesState, HasDone}
+use Rattle.workload_law.specs.Watch.{IsWatch, summary_of}
 use Rattle.blobseer_run.specs.Outside.{Outside}
 use Rattle.blobseer_run.specs.Measuring.{DidMeasure}
 

@@ -24,7 +24,7 @@ use std::alloc::Global;
 use std::mem;
 use std::sync::Wait;
 use std::thread::Threads;
-use workload_law::{LoadPlan, lines};
+use workload_law::{LoadPlan, load_lines};
 use workload_run::load;
 
 // Runs the load of these settings over that store, and writes what it came to. The store is closed before that, and the doors are
@@ -66,7 +66,7 @@ where
         Ok((summary, desk)) => {
             // The process ends, and gives the memory of all pages and nodes back at once.
             mem::forget(desk);
-            tell_lines(lines(alloc, &plan, &summary), objects.out)
+            tell_lines(load_lines(alloc, &plan, &summary), objects.out)
         }
         Err(fault) => status_of(fault),
     }

@@ -24,8 +24,8 @@ use std::alloc::Global;
 use std::mem;
 use std::sync::Wait;
 use std::thread::Threads;
-use watch_law::{WatchPlan, lines};
 use watch_run::watch_noted;
+use workload_law::{WatchPlan, watch_lines};
 
 // Runs the watch of these settings over that store, and writes what it came to. The store is closed before that, and the doors are
 // with their maker again.
@@ -66,7 +66,7 @@ where
         Ok((summary, desk, _notes)) => {
             // The process ends, and gives the memory of all pages and nodes back at once.
             mem::forget(desk);
-            tell_lines(lines(alloc, &plan, &summary), objects.out)
+            tell_lines(watch_lines(alloc, &plan, &summary), objects.out)
         }
         Err(fault) => status_of(fault),
     }

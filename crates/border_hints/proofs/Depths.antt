@@ -8,7 +8,7 @@ use Rattle.tree_geom.specs.Geometry.{page_range, tree_range, meets_of, leaves_op
 use Rattle.tree_geom.specs.Nodes.{depth_in}
 use Rattle.tree_geom.specs.Laws.{MeetsIsTrue, PagesAlign}
 use Rattle.range_log.specs.Log.{touch_at}
-use Rattle.range_log.specs.Depths.{fold_number, depth_by, depth_of, depth_after}
+use Rattle.range_log.specs.Depths.{fold_number, depth_of, depth_after}
 use Rattle.range_log.specs.Laws.{TouchesAre, DepthsStay}
 use Rattle.range_log.specs.Open.{open_at}
 use Rattle.range_log.specs.Rows.{node_of}
@@ -20,15 +20,7 @@ use Rattle.border_hints.specs.Numbered.{NumberedUpdate, log_of, own_touch, log_u
 use Rattle.border_hints.specs.Borders.{BorderLinks}
 use Rattle.border_hints.proofs.Tickets.{length-log_of, length-log_with}
 use Rattle.border_hints.proofs.Turning.{touch_in, touch_waiting}
-
-pub depth_none : (p : ℕ) (log : List Touch) (i : ℕ) → depth_of p log 0 i ≡ 0
-unfolding depth_by
-depth_none p log i = refl
-
--- one update more
-pub depth_next : (p : ℕ) (log : List Touch) (k i : ℕ) → depth_of p log (suc k) i ≡ depth_after fold_number p (touch_at log (suc k)) i (depth_of p log k i)
-unfolding depth_by
-depth_next p log k i = refl
+use Rattle.range_log.proofs.Depths.{depth_next}
 
 -- an update that doesn't touch the page, and one that does
 pub after_miss : (p : ℕ) (u : Touch) (i d : ℕ) → meets_of p u (page_range p i) ≡ false → d ≡ depth_after fold_number p u i d

@@ -30,6 +30,7 @@ use Rattle.session_parts.specs.Tickets.{OpenUpdate, ticket_of, tickets_of}
 use Rattle.client_session.specs.SessionInvariant.{IsOpen}
 use Rattle.client_session.specs.HangUp.{GivesUpOne, GivingUp, finished_seen, counted, tells_hindered}
 use Rattle.client_session.proofs.Waiting.{goes_both}
+use Rattle.faults.proofs.Counts.{RoseBy-trans}
 
 -- the first ticket is found under its number, and left out by it
 first_found : (t : HeldTicket) (ts : List HeldTicket) → ticket_at (t ∷ ts) t.number ≡ Some t
@@ -196,13 +197,6 @@ finished_then law s counts s' h numbered =
     let few = few_finished s s.tickets h.replies h.mid (store_of s'.fixed.limits s'.seen) h.gives_up (law s counts s' h numbered) in
     omega (arith, few, ap (λ (c : GivenUpCounts). c.finished) h.counts_are)
 
--- ---- the counts
-rose_both : (n m a b c : ℕ) → RoseBy n a b → RoseBy m b c → RoseBy (n + m) a c
-rose_both n m a b c x y = record {
-  later = omega (arith, x.later, y.later);
-  by = λ few. omega (arith, x.by (omega (arith, few, y.later)), y.by few);
-}
-
 abbrev these : ℕ → ℕ → ℕ → ℕ → GivenUpCounts
 these finished no_memory pending page_fault = record { finished = finished; no_memory = no_memory; pending = pending; page_fault = page_fault }
 
@@ -241,7 +235,7 @@ module _ {D : Type 0} (faults : D → ℕ) where
     gives_up = law (session_of a) g.gone g.replies (session_of b) t reply (session_of d) g.gives_up one.given_up;
     counts_are = ap (λ (c : GivenUpCounts). counted c reply) g.counts_are ∙ counted_more g.replies reply;
     each_once = omega (arith, g.each_once, fewer, one.once);
-    faults_rose = rose_both counts.page_fault (cond (tells_page_fault reply) 1 0) (sum_by faults a.doors) (sum_by faults b.doors) (sum_by faults d.doors) g.faults_rose
+    faults_rose = RoseBy-trans counts.page_fault (cond (tells_page_fault reply) 1 0) (sum_by faults a.doors) (sum_by faults b.doors) (sum_by faults d.doors) g.faults_rose
         (subst (λ (n : ℕ). RoseBy n (sum_by faults b.doors) (sum_by faults d.doors)) one.faults rose);
     goes_on = goes_both a b d g.goes_on goes;
     turns = record { least = omega (arith, g.turns.least, turns.least); most = omega (arith, g.turns.most, turns.most, fewer, g.each_once) };

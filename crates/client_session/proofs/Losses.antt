@@ -16,7 +16,7 @@ use Rattle.request_form.specs.declared.form.Fault.{Fault}
 use Rattle.request_form.specs.declared.form.Fault.TheVariants as Faults
 use Rattle.tree_weaver.specs.Anew.{IsStoredAnew, FoldFailed, OnLostFold}
 use Rattle.tree_weaver.proofs.Lost.{fold_since}
-use Rattle.page_writer.specs.Lost.{IsFirstLost}
+use Rattle.page_fan.specs.Lost.{IsFirstLost}
 use Rattle.session_parts.specs.Ranges.{OnPageLost, PageFailedInOne}
 use Rattle.session_parts.specs.Tickets.{OpenUpdate, IsHeldAt}
 use Rattle.tree_weaver.specs.declared.folding.WeaveFault.{WeaveFault}

@@ -31,7 +31,7 @@ use Rattle.session_parts.specs.Tickets.{OpenUpdate}
 use Rattle.session_parts.specs.declared.reading.RangeFault.{RangeFault}
 use Rattle.session_parts.specs.declared.reading.RangeFault.TheVariants as RangeFaults
 use Rattle.session_parts.specs.Ranges.{IsMetByOne, OnRangePast, OnPageLost, joined, first_end_past, visits_of}
-use Rattle.session_parts.proofs.JoinedRanges.{some_past}
+use Rattle.session_parts.proofs.JoinedRanges.{some_past, none_of_both}
 use Rattle.client_session.specs.Results.{starved_fault, unread_fault, range_of, contents_reply}
 use Rattle.client_session.specs.Memory.{IfNoMemory}
 use Rattle.client_session.specs.Kept.{Coming, Found}
@@ -40,11 +40,6 @@ use Rattle.client_session.specs.Sessions.{SessionState, session_at, session_of, 
 use Rattle.client_session.proofs.Turns.{outcome_of_gap, seen_gap}
 use Rattle.client_session.proofs.Ranges.{read_refused, read_past, read_within, not_below, told_size}
 use Rattle.client_session.proofs.RangeAnswers.{IsThat, same_range, seen_to}
-
--- ---- which of them end past the size
-pub none_of_both : (x : Bool) (end : ℕ) (o : Option ℕ) → (if x then Some end else o) ≡ None → (x ≡ false) × (o ≡ None)
-none_of_both true end o e = cc
-none_of_both false end o e = (refl, e)
 
 some_of_both : (x : Bool) (end end' : ℕ) (o : Option ℕ) → x ≡ true → (if x then Some end else o) ≡ Some end' → end' ≡ end
 some_of_both true end end' o is e = cc
@@ -223,7 +218,7 @@ module _ (f : DeskFixed) (caller : ℕ) (log log' gap : List (ℕ × Event)) (ot
       (starved_cause f.page_size (updates_in (desk_at f (log ++ gap)) blob) version size ranges (first_end_past size ranges) refl (told_size f (log ++ gap) caller blob version size e))
 
 -- ---- a read of many ranges comes to its version, and then reads ranges of it
-few_together : (o : Option Fault) (s : Session) (reply : Reply) (s' : Session) (Answer : Type 0) → o ≡ None → Answer → Unless o s reply s' Answer
+pub few_together : (o : Option Fault) (s : Session) (reply : Reply) (s' : Session) (Answer : Type 0) → o ≡ None → Answer → Unless o s reply s' Answer
 few_together None s reply s' Answer is answer = answer
 few_together (Some fault) s reply s' Answer is answer = cc
 

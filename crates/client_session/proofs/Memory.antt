@@ -39,7 +39,8 @@ use Rattle.client_session.specs.Results.{desk_fault, told_of, opened_of, starved
 use Rattle.client_session.specs.Sessions.{SessionState, session_at, session_of}
 use Rattle.client_session.proofs.Finished.{numbered_there, report_said}
 use Rattle.client_session.proofs.Ranges.{read_within, told_size}
-use Rattle.client_session.proofs.ManyRanges.{none_of_both, within_by, each_within}
+use Rattle.client_session.proofs.ManyRanges.{within_by, each_within}
+use Rattle.session_parts.proofs.JoinedRanges.{none_of_both}
 use Rattle.client_session.proofs.StoreAnswers.{refusal_of_numbered}
 use Rattle.client_session.proofs.Turns.{Took, took, outcome_of_gap}
 

@@ -10,15 +10,13 @@ use Rattle.blob_model.specs.declared.call.Outcome.TheVariants as Outcomes
 use Rattle.blob_model.specs.declared.call.Refusal.{Refusal}
 use Rattle.blob_model.specs.declared.call.Refusal.TheVariants as Refusals
 use Rattle.request_form.specs.Answers.{is_waiting_in}
+use Rattle.request_form.proofs.PublishedReads.{not_below}
 
 -- the blob is there, and what is known of the version in it
 pub record IsThere (store : Store) (blob : ℕ) (P : Blob → Type 0) : Type 0 where
   pub b : Blob
   pub is : blob_at store blob ≡ Some b
   pub holds : P b
-
-not_below : (a b : ℕ) → b ≤ a → nat_lt a b ≡ false
-not_below a b le = grind (arith, nat_tests)
 
 is_below : (a b : ℕ) → a < b → nat_lt a b ≡ true
 is_below a b lt = grind (arith, nat_tests)

@@ -47,6 +47,7 @@ use Rattle.client_session.proofs.Ended.{IsOpenIn, Then, NotFinished, then_answer
 use Rattle.client_session.proofs.Finished.{numbered_there}
 use Rattle.client_session.proofs.Folding.{folds_told}
 use Rattle.client_session.proofs.Untouched.{none_more, one_more}
+use Rattle.client_session.proofs.ManyRanges.{few_together}
 
 -- the session that holds one more
 pub held_more : {D : Type 0} (m m' : SessionState D) (t : NumberedUpdate) (row : Option UpdateRow) → m' ≡ record m { held = m.held ++ record { number = m.next; ticket = t; row = row } ∷ []; next = m.next + 1 }
@@ -55,12 +56,6 @@ held_more m m' t row is =
     ap session_of is
     ∙ ap (λ (hs : List HeldTicket). record { fixed = (session_of m).fixed; caller = m.caller; seen = (session_of m).seen; tickets = hs; next = m.next + 1; limit = m.limit })
     (map_push ticket_of m.held (record { number = m.next; ticket = t; row = row }))
-
--- ---- an update
--- what is done where the session itself doesn't refuse
-not_refused : (o : Option Fault) (s : Session) (reply : Reply) (s' : Session) (Answer : Type 0) → o ≡ None → Answer → Unless o s reply s' Answer
-not_refused None s reply s' Answer none answer = answer
-not_refused (Some fault) s reply s' Answer none answer = let never : ⊥ = cc in absurd never
 
 by_place : (s : Session) (blob : ℕ) (place : Place) (bytes : List ℕ) (reply : Reply) (s' : Session)
     → Unless (update_fault s bytes) s reply s' (WholeAnswer AllOther s blob place bytes reply s') → Answers AllOther s (update_request blob place bytes) reply s'
@@ -74,11 +69,11 @@ start_by_place s blob (WriteAt offset) bytes reply s' answer = answer
 
 pub update_done : (s : Session) (blob : ℕ) (place : Place) (bytes : List ℕ) (reply : Reply) (s' : Session) → update_fault s bytes ≡ None → WholeAnswer AllOther s blob place bytes reply s'
     → Answers AllOther s (update_request blob place bytes) reply s'
-update_done s blob place bytes reply s' none answer = by_place s blob place bytes reply s' (not_refused (update_fault s bytes) s reply s' _ none answer)
+update_done s blob place bytes reply s' none answer = by_place s blob place bytes reply s' (few_together (update_fault s bytes) s reply s' _ none answer)
 
 pub start_done : (s : Session) (blob : ℕ) (place : Place) (bytes : List ℕ) (reply : Reply) (s' : Session) → update_fault s bytes ≡ None → StartAnswer AllOther s blob place bytes reply s'
     → Answers AllOther s (start_request blob place bytes) reply s'
-start_done s blob place bytes reply s' none answer = start_by_place s blob place bytes reply s' (not_refused (update_fault s bytes) s reply s' _ none answer)
+start_done s blob place bytes reply s' none answer = start_by_place s blob place bytes reply s' (few_together (update_fault s bytes) s reply s' _ none answer)
 
 -- what isn't numbered isn't done, whatever would be done
 unless_as : (Answer Other : Type 0) (o : Option Fault) (s : Session) (reply : Reply) (s' : Session) → (Answer → Other) → Unless o s reply s' Answer → Unless o s reply s' Other

@@ -13,10 +13,7 @@ use Rattle.client_session.specs.Waiting.{Waits}
 use Rattle.client_session.proofs.Answering.{sees-nothing}
 use Rattle.turn_lock.specs.History.{Begins}
 use Rattle.turn_lock.proofs.Histories.{begins_both}
-
-all_other_both : (caller : ℕ) (a b : List Event) → AllOther caller a → AllOther caller b → AllOther caller (a ++ b)
-all_other_both caller [] b x y = y
-all_other_both caller (e ∷ a) b x y = (x.0, all_other_both caller a b x.1 y)
+use Rattle.client_session.proofs.Gapped.{others_both}
 
 sees_both : (x : Session) (a b : List Event) → sees (sees x a) b ≡ sees x (a ++ b)
 sees_both x a b = ap (λ (h : List Event). record { fixed = x.fixed; caller = x.caller; seen = h; tickets = x.tickets; next = x.next; limit = x.limit }) (append_assoc x.seen a b)
@@ -38,7 +35,7 @@ module _ {D : Type 0} where
       let caller : b.caller ≡ a.caller = ap (λ (s : SessionState D). s.caller) w.rest in
       record {
         others = w.others ++ look.others;
-        is_gap = all_other_both a.caller w.others look.others w.is_gap (subst (λ (k : ℕ). AllOther k look.others) caller look.is_gap);
+        is_gap = others_both a.caller w.others look.others w.is_gap (subst (λ (k : ℕ). AllOther k look.others) caller look.is_gap);
         said =
             look.said
             ∙ ap reply_of

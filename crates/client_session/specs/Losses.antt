@@ -9,7 +9,7 @@ use Rattle.version_manager.specs.Log.{IsSnapshotOf, IsWaitingTicket}
 use Rattle.request_form.specs.declared.form.Fault.{Fault}
 use Rattle.request_form.specs.declared.form.Fault.TheVariants as Faults
 use Rattle.tree_weaver.specs.Anew.{IsStoredAnew, FoldFailed}
-use Rattle.page_writer.specs.Lost.{IsFirstLost}
+use Rattle.page_fan.specs.Lost.{IsFirstLost}
 use Rattle.session_parts.specs.Ranges.{PageFailedInOne}
 use Rattle.session_parts.specs.Tickets.{OpenUpdate, IsHeldAt}
 use Rattle.session_parts.specs.declared.done.Updated.{Updated}

@@ -1,7 +1,7 @@
 -- Where the pages of an update were put that a session has numbered.
 use Rattle.std.specs.Prelude.{◌≡◌, ℕ, Some, slice_get}
 use Rattle.border_hints.specs.Numbered.{NumberedUpdate}
-use Rattle.page_writer.specs.Put.{ArePut}
+use Rattle.page_fan.specs.Put.{ArePut}
 use Rattle.session_parts.specs.Tickets.{OpenUpdate}
 use Rattle.client_session.specs.Sessions.{SessionState}
 

@@ -4,7 +4,7 @@ use Rattle.std.specs.Prelude.{◌==◌}
 use Rattle.std.proofs.lemmas.Bool.{eq-eqb}
 use Rattle.std.proofs.lemmas.List.{map-append}
 use Rattle.std.proofs.lemmas.List.Elements.{filter-append}
-use Rattle.item_stream.specs.Rounds.{Rounds}
+use Rattle.items.specs.Rounds.{Rounds}
 use Rattle.turn_lock.specs.History.{entries_by}
 use Rattle.file_names.specs.Tree.{NameLog, blob_at, stat_at, enter_fault}
 use Rattle.file_names.specs.Tree as Tree

@@ -4,7 +4,7 @@ use Rattle.std.specs.Prelude.{◌≢◌, ◌-◌, ◌==◌, nat_lt, if◌then◌
 use Rattle.std.proofs.lemmas.Bool.{false≢true, eq-eqb}
 use Rattle.std.proofs.lemmas.Bool.Decides.{nat_tests}
 use Rattle.std.proofs.lemmas.Option.{none-some, same_Some}
-use Rattle.item_stream.specs.Rounds.{Rounds}
+use Rattle.items.specs.Rounds.{Rounds}
 use Rattle.range_log.specs.Updates.{extents}
 use Rattle.range_log.specs.Rows.{folds_of}
 use Rattle.blob_model.specs.Content.{Update, size_of}
@@ -21,7 +21,8 @@ use Rattle.blob_model.specs.declared.call.Outcome.{Outcome}
 use Rattle.blob_model.specs.declared.call.Outcome.TheVariants as Outcomes
 use Rattle.blob_model.specs.declared.call.Refusal.{Refusal}
 use Rattle.blob_model.specs.declared.call.Refusal.TheVariants as Refusals
-use Rattle.version_manager.proofs.Stores.{store_from-append, in_blob_here, store_limits}
+use Rattle.version_manager.proofs.Stores.{in_blob_here, store_limits}
+use Rattle.blob_model.proofs.Stays.{store_from-append}
 use Rattle.request_form.specs.Session.{Session, HeldTicket, IsNobody, sees, holds, drops, ticket_at, without_ticket, store_at, outcome_at}
 use Rattle.request_form.specs.Turns.{Tickets, Turn, with_tickets, and_made, AfterGap}
 use Rattle.request_form.specs.Answers.{Unless, AddTurn, ReadTurn, UnnumberedTurn, WholeTurn, FinishTurn, UpdateAnswer, WholeAnswer, FinishAnswer, update_fault, read_fault, folds_in, max_update, max_tickets}

@@ -1,6 +1,6 @@
 -- A first session of files that is alone answers as a map of paths does.
 use Rattle.std.proofs.Common.{◌≡◌, ℕ, List, [], length, sym, ap, subst, ◌∙◌}
-use Rattle.item_stream.specs.Rounds.{Rounds}
+use Rattle.items.specs.Rounds.{Rounds}
 use Rattle.blob_model.specs.History.{store_of}
 use Rattle.blob_model.specs.declared.call.Event.{Event}
 use Rattle.request_form.specs.Session.{Session, HeldTicket}

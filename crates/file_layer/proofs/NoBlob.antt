@@ -3,7 +3,7 @@ use Rattle.std.proofs.Common.{◌≡◌, inl, inr, ℕ, ◌+◌, Bool, true, fal
 use Rattle.std.specs.Prelude.{◌==◌, nat_lt, if◌then◌else◌}
 use Rattle.std.proofs.lemmas.Option.{none-some, same_Some}
 use Rattle.std.proofs.lemmas.List.Elements.{All-cons, All-nil}
-use Rattle.item_stream.specs.Rounds.{Rounds}
+use Rattle.items.specs.Rounds.{Rounds}
 use Rattle.blob_model.specs.Store.{Blob, assigned, published, size_with, waiting}
 use Rattle.blob_model.specs.Content.{size_of}
 use Rattle.blob_model.specs.declared.call.Place.TheVariants.{Append}

@@ -13,7 +13,8 @@ use Rattle.blob_model.specs.declared.call.Event.{Event}
 use Rattle.blob_model.specs.declared.call.Call.TheVariants as Calls
 use Rattle.blob_model.specs.declared.call.Outcome.TheVariants as Outcomes
 use Rattle.blob_model.specs.declared.call.Refusal.TheVariants as Refusals
-use Rattle.version_manager.proofs.Stores.{in_blob_here, get-set_other, get-push_last, get-push_other, item_under, blob_at-with}
+use Rattle.version_manager.proofs.Stores.{in_blob_here, get-push_last}
+use Rattle.blob_model.proofs.Marks.{get-set_other, get-push_other, item_under, blob_at-with}
 use Rattle.request_form.specs.Session.{Session, HeldTicket, ticket_at, without_ticket}
 use Rattle.request_form.specs.Answers.{max_update}
 use Rattle.file_names.specs.Tree.{NameLog}

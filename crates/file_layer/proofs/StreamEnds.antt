@@ -2,7 +2,7 @@
 use Rattle.std.proofs.Common.{◌≡◌, ℕ, List, [], ◌++◌, length, refl, sym, subst, ◌∙◌}
 use Rattle.std.specs.Prelude.{◌≢◌, Option}
 use Rattle.std.proofs.lemmas.Bool.{false≢true}
-use Rattle.item_stream.specs.Rounds.{until_last}
+use Rattle.items.specs.Rounds.{until_last}
 use Rattle.request_form.specs.Laws.{OwnIsAlone}
 use Rattle.request_form.specs.Transcript.{until_quit}
 use Rattle.request_form.proofs.Runs.{Run-alone, alone_faults}

@@ -2,7 +2,7 @@
 use Rattle.std.specs.Prelude.{◌≢◌, ℕ, ◌≤◌, List, [], ◌∷◌, codes}
 use Rattle.std.proofs.Common.{inl, refl, lit≤, arith}
 use Rattle.std.proofs.lemmas.List.Elements.{All-cons, All-nil}
-use Rattle.item_stream.specs.Rounds.{Rounds}
+use Rattle.items.specs.Rounds.{Rounds}
 use Rattle.blob_model.specs.Limits.{greatest}
 use Rattle.blob_model.specs.Store.{Blob, finish}
 use Rattle.file_text.specs.declared.form.FileLine.TheVariants as Lines

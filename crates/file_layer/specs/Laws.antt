@@ -1,7 +1,7 @@
 -- A file session that nobody else was beside, and the names that one enters.
 use Rattle.std.specs.Prelude.{◌≡◌, ◌≢◌, ℕ, List, [], ◌∷◌, ◌++◌, map}
 use Rattle.std.specs.List.{All}
-use Rattle.item_stream.specs.Rounds.{Rounds}
+use Rattle.items.specs.Rounds.{Rounds}
 use Rattle.turn_lock.specs.History.{entries_by}
 use Rattle.request_form.specs.Session.{AllOwn}
 use Rattle.request_form.specs.Transcript.{first_session}

@@ -13,7 +13,7 @@ use crate::said::said_of_fault;
 use crate::session::FileSession;
 use faults::NoMemory;
 use file_text::{FileDialect, FileHeard, FileLine, FileReply};
-use item_stream::Ending;
+use items::Ending;
 use page_fan::BesideDoor;
 use ports::gate::Gate;
 use ports::pair::Pair;
@@ -78,7 +78,7 @@ impl<'a, D: BesideDoor, G: Gate> FileService for FileSession<'a, D, G> {
 // How lines are spelled.
 trait LineDialect {
     ghost use Rattle.std.specs.Prelude.{◌≡◌, ◌++◌, ℕ, List, [], OnOk, IfOk};
-    ghost use Rattle.item_stream.specs.Items.{ItemStream, IsFed, IsNextItem, IsEndOf};
+    ghost use Rattle.items.specs.Items.{ItemStream, IsFed, IsNextItem, IsEndOf};
     ghost use Rattle.file_text.specs.Lines.{IsWellHeard};
     ghost use Rattle.file_text.specs.Said.{said};
     ghost use Rattle.file_text.specs.declared.form.FileHeard.{FileHeard};

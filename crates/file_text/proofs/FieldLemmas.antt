@@ -5,8 +5,8 @@ use Rattle.std.specs.Option.{MatchOption}
 use Rattle.std.proofs.lemmas.List.{take_all}
 use Rattle.std.proofs.lemmas.List.Splits.{slice_split_at, slice_split_none}
 use Rattle.std.proofs.lemmas.Slice.Eq.{bytes_eq-Decides}
-use Rattle.text_lines.specs.Text.{IsWithout}
-use Rattle.text_lines.proofs.HeardLemmas.{HasFirst, slice_split_has}
+use Rattle.items.specs.Text.{IsWithout}
+use Rattle.items.proofs.LinesHeard.{HasFirst, slice_split_has}
 use Rattle.script_text.specs.Lines.{fields_of}
 use Rattle.file_text.specs.declared.command.FileCommand.{FileCommand}
 use Rattle.file_text.specs.declared.form.FileLine.{FileLine}

@@ -4,9 +4,9 @@ use Rattle.std.specs.Prelude.{nat_lt}
 use Rattle.std.specs.List.{slice_split}
 use Rattle.std.specs.Option.{option_to_list}
 use Rattle.std.specs.Str.Lines.{strip_carriage_return}
-use Rattle.item_stream.specs.Items.{ItemStream}
-use Rattle.item_stream.specs.Rounds.{until_last}
-use Rattle.text_lines.specs.Lines.{item_of_text, item_of, with_item, stream_of}
+use Rattle.items.specs.Items.{ItemStream}
+use Rattle.items.specs.Rounds.{until_last}
+use Rattle.items.specs.Lines.{item_of_text, item_of, with_item, stream_of}
 use Rattle.script_text.specs.Lines.{max_line, fields_of}
 use Rattle.request_form.specs.declared.form.Fault.TheVariants.{Malformed}
 use Rattle.file_text.specs.Lines.{file_lines, heard_as, line_of, heard, IsWellHeard, AllWellHeard}

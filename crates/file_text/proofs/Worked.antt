@@ -1,7 +1,7 @@
 -- Worked rows, computed from the definitions alone: lines, with what they ask for and the replies that docs/FORMATS.md gives for them.
 use Rattle.std.specs.Prelude.{◌≡◌, ℕ, true, false, List, [], ◌∷◌, ◌++◌, flat_map, refl, codes}
 use Rattle.std.specs.Fmt.{digits}
-use Rattle.item_stream.specs.Items.{ItemStream}
+use Rattle.items.specs.Items.{ItemStream}
 use Rattle.hex.specs.Hex.{decode_pairs, encode_with}
 use Rattle.request_form.specs.declared.form.Fault.TheVariants as StoreFaults
 use Rattle.file_text.specs.declared.form.FileLine.TheVariants as Asks

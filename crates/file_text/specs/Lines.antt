@@ -2,9 +2,9 @@
 use Rattle.std.specs.Prelude.{◌≡◌, ℕ, if◌then◌else◌, List, [], ◌∷◌, Option, Some, None, codes, refl}
 use Rattle.std.specs.Str.{bytes_eq}
 use Rattle.std.proofs.Common.{lit≤}
-use Rattle.item_stream.specs.Items.{ItemStream}
+use Rattle.items.specs.Items.{ItemStream}
 use Rattle.file_names.specs.Paths.{is_path}
-use Rattle.text_lines.specs.Lines.{Lining, IsLining, lined}
+use Rattle.items.specs.Lines.{Lining, IsLining, lined}
 use Rattle.script_text.specs.Fields.{number_of, bytes_of}
 use Rattle.script_text.specs.Requests.{both}
 use Rattle.script_text.specs.Lines.{max_line, fields_of}

@@ -1,5 +1,5 @@
 ghost use Rattle.std.specs.Prelude.{◌≡◌, ◌++◌, ℕ, List, [], IfOk, OnOk};
-ghost use Rattle.item_stream.specs.Items.{IsFed, IsNextItem, IsEndOf};
+ghost use Rattle.items.specs.Items.{IsFed, IsNextItem, IsEndOf};
 ghost use Rattle.file_text.specs.Lines.{heard, IsWellHeard};
 ghost use Rattle.file_text.specs.Said.{said};
 
@@ -8,11 +8,11 @@ use crate::line::Line;
 use crate::reply::reply_line;
 use blob_model::Bytes;
 use faults::NoMemory;
-use item_stream::Ending;
+use items::Ending;
+use items::lines::Lines;
 use request_form::Said;
 use std::alloc::Global;
 use std::marker::Model;
-use text_lines::Lines;
 
 /// The spelling of lines of files and of their replies. After want of memory it isn't used again.
 ///

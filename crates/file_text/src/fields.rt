@@ -1,6 +1,6 @@
 // The fields of a line, from its first byte on.
 ghost use Rattle.std.specs.Prelude.{◌≡◌, ◌≤◌, ◌<◌, ◌∷◌, [], length, take, slice_index, IfOk, MatchOption};
-ghost use Rattle.text_lines.specs.Text.{IsWithout};
+ghost use Rattle.items.specs.Text.{IsWithout};
 ghost use Rattle.script_text.specs.Fields.{number_of, bytes_of};
 ghost use Rattle.script_text.specs.Lines.{fields_of};
 ghost use Rattle.file_text.specs.Lines.{path_of, one_path, one_number, one_bytes, two_numbers, three_numbers, path_and_bytes, path_and_range};
@@ -41,7 +41,7 @@ fn number_in(field: &[u8]) -> Option<u64>
     ensures { result ≡ number_of field.now }
 {
     match std::str::from_utf8(field) {
-        Ok(digits) => numeral::number(digits),
+        Ok(digits) => items::number(digits),
         Err(_) => None,
     }
 }

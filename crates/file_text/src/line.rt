@@ -7,10 +7,10 @@ use crate::command::{FileCommand, command_in};
 use crate::fields::{cut, one_number, one_path, path_and_bytes, path_and_range};
 use crate::form::{FileHeard, FileLine};
 use faults::NoMemory;
+use items::lines::Body;
 use request_form::Fault;
 use std::alloc::Global;
 use std::marker::Model;
-use text_lines::Body;
 
 // The most bytes of a line, its end not counted.
 const MAX_LINE: usize = 4_194_304;

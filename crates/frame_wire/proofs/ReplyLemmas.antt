@@ -2,8 +2,8 @@
 use Rattle.std.proofs.Common.{◌≡◌, ◌∙◌, ℕ, ◌+◌, ◌*◌, ◌<◌, List, [], ◌∷◌, ◌++◌, length, take, get_or, sym, ap, arith, append_assoc, append-nil, length-append}
 use Rattle.std.proofs.lemmas.List.{take_more, take_all}
 use Rattle.frame_wire.specs.Said.{field, wide_field, fields, frame_of}
-use Rattle.framing.specs.Begun.{frame_part}
-use Rattle.framing.proofs.BegunLemmas.{frame_part-append}
+use Rattle.items.specs.BegunFrame.{frame_part}
+use Rattle.items.proofs.FrameBegun.{frame_part-append}
 use Rattle.frame_wire.proofs.RequestLemmas.{field-length, wide_field-length, fields-append, fields-length}
 
 pub framed_is : (n : ℕ) (bytes : List ℕ) → length bytes ≡ n → frame_part n bytes ≡ frame_of bytes

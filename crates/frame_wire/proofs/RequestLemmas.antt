@@ -85,7 +85,7 @@ misfit Operations.Quit (b ∷ bs) h = refl
 exactly : (m n : ℕ) → n ≡ m → (n == m) ≡ true
 exactly m n e = grind (arith, nat_tests, e)
 
-at_least : (m n : ℕ) → m ≤ n → nat_le m n ≡ true
+pub at_least : (m n : ℕ) → m ≤ n → nat_le m n ≡ true
 at_least m n h = grind (arith, nat_tests, h)
 
 both_length : (ns bytes : List ℕ) → length (fields ns ++ bytes) ≡ 8 * length ns + length bytes

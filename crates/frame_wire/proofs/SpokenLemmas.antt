@@ -4,11 +4,11 @@ use Rattle.std.specs.Str.{bytes_eq}
 use Rattle.std.proofs.lemmas.Bool.{false≢true}
 use Rattle.std.proofs.lemmas.Slice.Eq.{bytes_eq-Decides}
 use Rattle.std.proofs.lemmas.List.{take_all, take-take, take-append-le, drop-take, drop_at, length-take-le}
-use Rattle.item_stream.specs.Items.{after_item, IsFed}
+use Rattle.items.specs.Items.{after_item, IsFed}
 use Rattle.request_form.specs.Stream.{Stream, IsNext}
 use Rattle.request_form.specs.declared.form.Heard.TheVariants.{Asked}
 use Rattle.request_form.specs.declared.form.Request.TheVariants.{Hello}
-use Rattle.framing.specs.Framing.{framed}
+use Rattle.items.specs.Framing.{framed}
 use Rattle.frame_wire.specs.Frames.{hello, begins_with_hello, heard, request_frames, second_frames}
 use Rattle.frame_wire.specs.Fed.{heard_by, fed_by, IsSpoken, SpeaksAs}
 use Rattle.frame_wire.specs.declared.spoken.Spoken.{Spoken}

@@ -6,7 +6,7 @@ use Rattle.request_form.specs.declared.form.Reply.TheVariants as Replies
 use Rattle.request_form.specs.declared.form.Heard.{Heard}
 use Rattle.request_form.specs.declared.form.Heard.TheVariants.{Asked, Wrong}
 use Rattle.request_form.specs.declared.form.Fault.TheVariants as Faults
-use Rattle.framing.specs.Framing.{item_of}
+use Rattle.items.specs.Framing.{item_of}
 use Rattle.frame_wire.specs.Requests.{holds_ranges}
 use Rattle.frame_wire.specs.Frames.{hello, heard, request_frames, second_frames}
 use Rattle.frame_wire.specs.Said.{field, wide_field, frame_of, said}

@@ -8,7 +8,7 @@ use Rattle.request_form.specs.declared.form.Heard.{Heard}
 use Rattle.request_form.specs.declared.form.Heard.TheVariants.{Asked, Wrong}
 use Rattle.request_form.specs.declared.form.Fault.TheVariants.{BadFrame, FrameTooLong}
 use Rattle.std.proofs.Common.{refl, lit<}
-use Rattle.framing.specs.Framing.{Framing, IsFraming, framed}
+use Rattle.items.specs.Framing.{Framing, IsFraming, framed}
 use Rattle.frame_wire.specs.Requests.{request_of, second_request_of}
 
 -- the most bytes that a frame's length may count, in version 1 and in version 2

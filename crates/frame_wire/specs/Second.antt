@@ -1,5 +1,5 @@
 -- What has come of a frame of version 2.
-use Rattle.framing.specs.Come.{Come}
+use Rattle.items.specs.Come.{Come}
 use Rattle.frame_wire.specs.declared.second.SecondFields.{SecondFields}
 use Rattle.frame_wire.specs.declared.second.SecondFields.TheVariants.{First, Paired}
 

@@ -1,14 +1,14 @@
 ghost use Rattle.std.specs.Prelude.{◌≡◌, ◌≢◌, ◌<◌, ◌≤◌, ◌∷◌, ◌++◌, [], length, take, min, true, IfOk, OnErr, Some};
 ghost use Rattle.frame_wire.specs.Requests.{request_of};
 ghost use Rattle.frame_wire.specs.Operations.{number_of, fits};
-ghost use Rattle.framing.specs.Come.{Come, TakesBytes};
+ghost use Rattle.items.specs.Come.{Come, TakesBytes};
 ghost use Rattle.request_form.specs.declared.operation.Operation.TheVariants.{Repair};
 
 use crate::number::take_number;
 use crate::operation::{fits, operation_of};
 use arrayvec::ArrayVec;
 use blob_model::Bytes;
-use framing::Body;
+use items::frames::Body;
 use request_form::{Fault, Heard, NoMemory, Operation, Request};
 use std::alloc::Global;
 use std::marker::Model;
@@ -30,7 +30,7 @@ pub struct Fields {
 
 impl Model for Fields {
     ghost use Rattle.std.specs.Prelude.{◌∷◌, ◌++◌};
-    ghost use Rattle.framing.specs.Come.{Come, come_coded};
+    ghost use Rattle.items.specs.Come.{Come, come_coded};
 
     ghost Value = { Come };
 

@@ -3,7 +3,7 @@ ghost use Rattle.frame_wire.specs.Said.{field, fields};
 
 use arrayvec::ArrayVec;
 use byteorder::{BigEndian, ByteOrder};
-use framing::fill;
+use items::frames::fill;
 
 /// The number that 8 bytes make.
 pub fn number(bytes: &[u8]) -> u64

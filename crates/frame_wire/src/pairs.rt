@@ -1,7 +1,7 @@
 ghost use Rattle.std.specs.Prelude.{◌≡◌, ◌≢◌, ◌<◌, ◌≤◌, ◌+◌, ◌*◌, ◌∷◌, ◌++◌, [], length, take, true, false, IfOk, MatchOption, Some, None};
 ghost use Rattle.std.specs.List.{All};
 ghost use Rattle.std.specs.Vec.{vec_len, vec_capacity};
-ghost use Rattle.framing.specs.Come.{Come, TakesBytes};
+ghost use Rattle.items.specs.Come.{Come, TakesBytes};
 ghost use Rattle.frame_wire.specs.Requests.{second_request_of};
 ghost use Rattle.frame_wire.specs.Operations.{paired_number, pairs_fit};
 ghost use Rattle.frame_wire.specs.Said.{field, pair_fields};
@@ -9,7 +9,7 @@ ghost use Rattle.frame_wire.specs.Decoded.{all_pairs, IsSmallPair};
 
 use crate::number::number;
 use arrayvec::ArrayVec;
-use framing::fill;
+use items::frames::fill;
 use request_form::{NoMemory, RangeList, Request};
 use std::alloc::Global;
 use std::marker::Model;
@@ -39,7 +39,7 @@ pub struct Pairs {
 
 impl Model for Pairs {
     ghost use Rattle.std.specs.Prelude.{◌∷◌, ◌++◌};
-    ghost use Rattle.framing.specs.Come.{Come, come_coded};
+    ghost use Rattle.items.specs.Come.{Come, come_coded};
 
     ghost Value = { Come };
 

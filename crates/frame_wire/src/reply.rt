@@ -1,6 +1,6 @@
 ghost use Rattle.std.specs.Prelude.{◌≡◌, ◌≤◌, ◌∷◌, ◌++◌, [], length, IfOk, OnOk};
 ghost use Rattle.frame_wire.specs.Said.{field, wide_field, fields, frame_of, fault_fields, said};
-ghost use Rattle.framing.specs.Begun.{frame_part};
+ghost use Rattle.items.specs.BegunFrame.{frame_part};
 
 use blob_model::Bytes;
 use byteorder::{BigEndian, ByteOrder};
@@ -8,7 +8,7 @@ use request_form::{Fault, Reply, Said};
 use std::alloc::{AllocError, Global};
 
 // A frame's length and its operation, in a vector with room for so many bytes.
-#[tactic(auto, unfolding(framing::specs::Begun::frame_part))]
+#[tactic(auto, unfolding(items::specs::BegunFrame::frame_part))]
 fn frame_head(alloc: Global, count: u32, operation: u8, room: usize) -> Result<Vec<u8>, AllocError>
     ensures { IfOk result (λ head. head.items ≡ frame_part count (operation ∷ [])) }
 {

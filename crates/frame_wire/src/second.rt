@@ -3,7 +3,7 @@ ghost use Rattle.std.specs.Prelude.{◌≡◌};
 
 use crate::fields::Fields;
 use crate::pairs::{Pairs, paired_of};
-use framing::Body;
+use items::frames::Body;
 use request_form::{Fault, Heard, NoMemory};
 use std::alloc::Global;
 

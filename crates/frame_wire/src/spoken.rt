@@ -1,14 +1,14 @@
 // Of which version the frames of a stream are.
 ghost use Rattle.std.specs.Prelude.{◌≡◌, ◌<◌, ◌≤◌, ◌++◌, ℕ, List, take, IfOk};
 ghost use Rattle.request_form.specs.Stream.{IsNext};
-ghost use Rattle.framing.specs.Framing.{framed};
+ghost use Rattle.items.specs.Framing.{framed};
 ghost use Rattle.frame_wire.specs.Frames.{hello, request_frames, second_frames};
 ghost use Rattle.frame_wire.specs.Fed.{SpeaksAs, heard_by, fed_by};
 ghost use Rattle.frame_wire.specs.declared.spoken.Spoken.TheVariants.{Second};
 
 use crate::fields::Fields;
 use crate::second::SecondFields;
-use framing::Frames;
+use items::frames::Frames;
 use request_form::{Heard, NoMemory, Request};
 use std::alloc::Global;
 

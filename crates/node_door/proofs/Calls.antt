@@ -2,8 +2,8 @@
 use Rattle.std.proofs.Common.{◌≡◌, ◌∙◌, ◌⊎◌, ℕ, zero, suc, ◌^◌, ◌<◌, ◌≤◌, ◌==◌, Bool, cond, true, false, true≢false, List, [], ◌∷◌, ◌++◌, length, Option, Some, None, refl, sym, ap, subst, arith, append-nil, length-append, inl, inr}
 use Rattle.std.proofs.lemmas.Bool.{and_parts}
 use Rattle.faults.specs.Counts.{RoseBy, count_after}
-use Rattle.framing.specs.Framing.{is_whole}
-use Rattle.framing.proofs.HeardLemmas.{length_front, whole_is}
+use Rattle.items.specs.Framing.{is_whole}
+use Rattle.items.proofs.FramesHeard.{length_front, whole_is}
 use Rattle.frame_wire.specs.Said.{field, frame_of}
 use Rattle.frame_wire.proofs.RequestLemmas.{field-length}
 use Rattle.frame_wire.proofs.ReplyLemmas.{framed_is}

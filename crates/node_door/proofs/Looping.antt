@@ -5,13 +5,13 @@ use Rattle.std.proofs.Math.ListN.{drop_of_length-le}
 use Rattle.std.proofs.Math.Seq.{take-append_seam}
 use Rattle.std.proofs.lemmas.Bool.{cases_lt}
 use Rattle.std.proofs.lemmas.Bool.Decides.{nat_tests}
-use Rattle.item_stream.specs.Items.{ItemStream, after_item, after_items}
-use Rattle.item_stream.proofs.Rounds.{until_last-append, has_last-append, until_last-last, until_last-goes, until_last-all, until_last-one, Rounds-append}
+use Rattle.items.specs.Items.{ItemStream, after_item, after_items}
+use Rattle.items.proofs.Rounds.{until_last-append, has_last-append, until_last-last, until_last-goes, until_last-all, until_last-one, Rounds-append}
 use Rattle.std.proofs.lemmas.Grind.{flat_map-append}
-use Rattle.item_stream.specs.Rounds.{until_last, has_last}
-use Rattle.framing.specs.Framing.{length_of, item_of, is_whole}
-use Rattle.framing.specs.Taken.{IsOpen}
-use Rattle.framing.proofs.HeardLemmas.{whole_heard, is_whole_by, length_front, open_on}
+use Rattle.items.specs.Rounds.{until_last, has_last}
+use Rattle.items.specs.Framing.{length_of, item_of, is_whole}
+use Rattle.items.specs.Taken.{IsOpen}
+use Rattle.items.proofs.FramesHeard.{whole_heard, is_whole_by, length_front, open_on}
 use Rattle.frame_wire.specs.Frames.{max_frame}
 use Rattle.page_node.specs.declared.form.NodeRequest.TheVariants as Requests
 use Rattle.page_node.specs.declared.form.NodeFault.{NodeFault}
@@ -101,7 +101,7 @@ item_empty frame short four = item_short frame short ∙ ap (λ (l : List ℕ). 
 pub item_at : (frame : List ℕ) → length_of frame ≤ max_frame → 4 < length frame → item_of node_frames frame ≡ heard_as (operation_of (get_or frame 4 0) (drop 5 frame))
 item_at frame short more = item_short frame short ∙ ap (λ (l : List ℕ). heard_as (request_of l)) (drop_four frame more)
 
-other_test : (m n : ℕ) → ((m ≡ n) → ⊥) → (m == n) ≡ false
+pub other_test : (m n : ℕ) → ((m ≡ n) → ⊥) → (m == n) ≡ false
 other_test m n h = go (m == n) refl
   where
     go : (b : Bool) → (m == n) ≡ b → b ≡ false

@@ -8,7 +8,7 @@ use Rattle.faults.specs.Counts.{RoseBy}
 use Rattle.ports.specs.Stream.{LeavesOut, appended_bytes, write_fault_count}
 use Rattle.ports.specs.declared.stream.Written.{Written}
 use Rattle.ports.specs.declared.stream.Written.TheVariants as Writtens
-use Rattle.framing.specs.Begun.{frame_part}
+use Rattle.items.specs.BegunFrame.{frame_part}
 use Rattle.node_door.specs.declared.wire.Exchanged.{Exchanged}
 use Rattle.node_door.specs.declared.wire.Exchanged.TheVariants as Exchange
 use Rattle.node_door.specs.Link.{LinkAt, Passed, WriteBroke, ReadBroke, Sends, TakesAt, Fills, ComparesSoFar, Compares, Tells, IsHeard, Hears, IsExchanged, Exchanges}

@@ -2,10 +2,10 @@
 use Rattle.std.proofs.Common.{◌≡◌, ◌∙◌, ℕ, ◌+◌, ◌^◌, ◌<◌, ◌≤◌, ◌==◌, ◌&&◌, ◌||◌, nat_le, Bool, cond, true, false, true≢false, List, [], ◌∷◌, ◌++◌, length, take, drop, get_or, slice_index, refl, sym, ap, arith, append-nil, length-append}
 use Rattle.std.proofs.lemmas.Bool.Decides.{nat_tests}
 use Rattle.byteorder.specs.Endian.{big_bytes}
-use Rattle.framing.specs.Framing.{is_whole}
-use Rattle.framing.specs.Begun.{frame_part}
-use Rattle.framing.proofs.Numbers.{bytes_again}
-use Rattle.framing.proofs.BegunLemmas.{frame_part-length, frame_part-number, frame_part-append, frame_part-drop}
+use Rattle.items.specs.Framing.{is_whole}
+use Rattle.items.specs.BegunFrame.{frame_part}
+use Rattle.items.proofs.Numbers.{bytes_again}
+use Rattle.items.proofs.FrameBegun.{frame_part-length, frame_part-number, frame_part-append, frame_part-drop, opened_whole}
 use Rattle.frame_wire.specs.Requests.{number_at}
 use Rattle.frame_wire.specs.Frames.{max_frame}
 use Rattle.frame_wire.specs.Said.{field, frame_of}
@@ -13,36 +13,21 @@ use Rattle.page_node.specs.declared.form.NodeReply.TheVariants as Replies
 use Rattle.page_node.specs.Said.{said}
 use Rattle.page_node.specs.Grammar.{is_refusal, is_reply_of, may_have, is_reply, is_reply_frame, IsOutside}
 use Rattle.node_door.specs.Link.{IsOther}
+use Rattle.frame_wire.proofs.RequestLemmas.{at_least}
+use Rattle.node_door.proofs.Looping.{other_test}
 
 pub same_test : (m n : ℕ) → m ≡ n → (m == n) ≡ true
 same_test m n e = grind (arith, nat_tests, e)
 
-other_test : (m n : ℕ) → ((m ≡ n) → ⊥) → (m == n) ≡ false
-other_test m n h = go (m == n) refl
-  where
-    go : (b : Bool) → (m == n) ≡ b → b ≡ false
-    go true e = absurd (h (grind (arith, nat_tests, e)))
-    go false e = refl
-
 pub is_same : (m n : ℕ) → (m == n) ≡ true → m ≡ n
 is_same m n e = grind (arith, nat_tests, e)
 
-at_most : (m n : ℕ) → m ≤ n → nat_le m n ≡ true
-at_most m n h = grind (arith, nat_tests, h)
-
 -- ---- frames that are replies
-
--- a frame with as many bytes as its length counts
-whole_frame : (n : ℕ) (bytes : List ℕ) → n < 2 ^ 32 → length bytes ≡ n → is_whole (frame_part n bytes) ≡ true
-whole_frame n bytes fits lengths =
-    let l = frame_part-length n bytes in
-    let k = frame_part-number n bytes fits in
-    grind (arith, nat_tests, l, k, lengths)
 
 pub reply_frame : (n : ℕ) (bytes : List ℕ) → n ≤ max_frame → length bytes ≡ n → is_reply bytes ≡ true → is_reply_frame (frame_part n bytes) ≡ true
 reply_frame n bytes few lengths reply =
     let fits : n < 2 ^ 32 = omega arith in
-    rw (whole_frame n bytes fits lengths, frame_part-number n bytes fits, at_most n max_frame few, frame_part-drop n bytes, reply) refl
+    rw (opened_whole n bytes fits lengths, frame_part-number n bytes fits, at_least n max_frame few, frame_part-drop n bytes, reply) refl
 
 pub no_reply_frame : (n : ℕ) (bytes : List ℕ) → n < 2 ^ 32 → (length bytes ≡ n → n ≤ max_frame → is_reply bytes ≡ false) → is_reply_frame (frame_part n bytes) ≡ false
 no_reply_frame n bytes fits none = go (is_whole (frame_part n bytes)) refl

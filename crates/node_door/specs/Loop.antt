@@ -1,8 +1,8 @@
 -- A link in memory with a node at its other end.
 use Rattle.std.specs.Prelude.{◌≡◌, ◌⊎◌, ℕ, ◌+◌, ◌<◌, ◌≤◌, Bool, true, false, List, [], ◌∷◌, ◌++◌, length, take, drop, Option, Some, None}
-use Rattle.item_stream.specs.Items.{after_items}
-use Rattle.item_stream.specs.Rounds.{until_last, has_last}
-use Rattle.framing.specs.Taken.{IsOpen}
+use Rattle.items.specs.Items.{after_items}
+use Rattle.items.specs.Rounds.{until_last, has_last}
+use Rattle.items.specs.Taken.{IsOpen}
 use Rattle.ports.specs.declared.stream.Written.{Written}
 use Rattle.ports.specs.declared.stream.Written.TheVariants as Writtens
 use Rattle.page_node.specs.declared.form.NodeHeard.{NodeHeard}

@@ -1,6 +1,6 @@
 //! A link in memory, with a node at its other end.
 ghost use Rattle.std.specs.Prelude.{◌≡◌, ℕ, ◌+◌, ◌-◌, ◌<◌, ◌≤◌, List, [], ◌++◌, length, take, drop, true, false, IfOk, vec_len, vec_capacity};
-ghost use Rattle.framing.specs.Framing.{length_of, item_of, is_whole};
+ghost use Rattle.items.specs.Framing.{length_of, item_of, is_whole};
 ghost use Rattle.frame_wire.specs.Requests.{number_at};
 ghost use Rattle.page_node.specs.declared.form.NodeRequest.TheVariants as Requests;
 ghost use Rattle.page_node.specs.declared.form.NodeHeard.TheVariants.{Asked};

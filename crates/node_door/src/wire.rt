@@ -1,6 +1,6 @@
 //! A link to a node: frames that are written, and replies that are read.
 ghost use Rattle.std.specs.Prelude.{◌≡◌, ℕ, ◌+◌, ◌-◌, ◌<◌, ◌≤◌, [], ◌∷◌, ◌++◌, length, take, drop, true, false};
-ghost use Rattle.framing.specs.Begun.{frame_part};
+ghost use Rattle.items.specs.BegunFrame.{frame_part};
 ghost use Rattle.frame_wire.specs.Said.{field};
 ghost use Rattle.ports.specs.Stream.{IsPiece};
 ghost use Rattle.page_node.specs.Grammar.{IsOutside, is_refusal, may_have};

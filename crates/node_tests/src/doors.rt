@@ -5,9 +5,9 @@ ghost use Rattle.page_store.specs.Page.{IsIn};
 
 use crate::gated::{Failing, GatedLink};
 use crate::served::bytes_of;
+use memory_ports::{MemSink, MemSource};
 use node_door::StreamDoor;
 use page_store::{Door, GetAnswer, PageHouse, PageRef, PutAnswer};
-use ports::memory::{MemSink, MemSource};
 use ports::pair::Pair;
 use ports::stream::{Sink, Source};
 use std::alloc::Global;

@@ -1,7 +1,7 @@
 //! Streams that a node answers, as rows of bytes.
 
+use memory_ports::{MemSink, MemSource};
 use page_node::{Shelf, serve_node};
-use ports::memory::{MemSink, MemSource};
 use ports::pair::Pair;
 use server_core::End;
 use std::alloc::Global;

@@ -1,8 +1,8 @@
 //! Files: in a map, and those of the system.
 use blob_model::Bytes;
+use memory_ports::MemFiles;
 use ports::files::{FileText, Files};
 use ports::host::HostFiles;
-use ports::mem_files::MemFiles;
 use std::alloc::{AllocError, Global};
 use std::collections::BTreeMap;
 use std::fs;

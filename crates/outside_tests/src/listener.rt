@@ -2,9 +2,8 @@
 ghost use Rattle.std.specs.Prelude.{◌≡◌, true};
 
 use crate::drained::check_bytes;
+use memory_ports::{MemListener, MemSink, MemSource};
 use ports::listener::{Accepted, Listener};
-use ports::mem_listener::MemListener;
-use ports::memory::{MemSink, MemSource};
 use ports::pair::Pair;
 use ports::stream::{Sink, Source, Taken, Written};
 use std::alloc::Global;

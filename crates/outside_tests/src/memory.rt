@@ -4,7 +4,7 @@ ghost use Rattle.std.specs.Bool.{OnTrue};
 ghost use Rattle.std.specs.Io.KnownBytes.{Appends, Consumes};
 
 use crate::drained::{TEXT, check_bytes, check_drained, check_reads, check_writes};
-use ports::memory::{MemSink, MemSource};
+use memory_ports::{MemSink, MemSource};
 use ports::pair::Pair;
 use ports::stream::{Ends, Sink, Source, Taken, Written};
 use std::alloc::Global;

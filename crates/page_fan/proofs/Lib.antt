@@ -15,3 +15,6 @@ pub mod Owing
 pub mod Placed
 pub mod Kept
 pub mod InTurn
+pub mod OnePage
+pub mod Placements
+pub mod WherePut

@@ -8,3 +8,5 @@ pub mod Stands
 pub mod Fault
 pub mod Lending
 pub mod Made
+pub mod Lost
+pub mod Put

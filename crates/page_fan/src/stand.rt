@@ -55,9 +55,9 @@ impl<D: Door> Stand<D> {
         door
     }
 
-    // Puts the pages of the door's own provider, in order, and leaves one reply to each put in the tray. It stops before a
-    // put for whose reply the tray is refused memory. The stand's index, from 0, is one below the number of its provider.
-    pub(crate) fn put_group<R: Wait>(
+    /// Puts the pages of the door's own provider, in order, and leaves one reply to each put in the tray. It stops before a
+    /// put for whose reply the tray is refused memory. The stand's index, from 0, is one below the number of its provider.
+    pub fn put_group<R: Wait>(
         &mut self,
         rt: &R,
         index: usize,

@@ -1,7 +1,7 @@
 -- Frames put together from their parts.
 use Rattle.std.proofs.Common.{◌≡◌, ◌∙◌, ℕ, ◌+◌, List, [], ◌∷◌, ◌++◌, length, sym, ap, arith, append_assoc, length-append}
-use Rattle.framing.specs.Begun.{frame_part}
-use Rattle.framing.proofs.BegunLemmas.{frame_part-append}
+use Rattle.items.specs.BegunFrame.{frame_part}
+use Rattle.items.proofs.FrameBegun.{frame_part-append}
 use Rattle.frame_wire.specs.Said.{field, wide_field, frame_of}
 use Rattle.frame_wire.proofs.RequestLemmas.{field-length, wide_field-length}
 use Rattle.frame_wire.proofs.ReplyLemmas.{framed_is, framed_bytes}

@@ -1,6 +1,6 @@
 -- A stream of frames that was served.
 use Rattle.std.proofs.Common.{◌≡◌, ◌∙◌, ℕ, List, [], ◌++◌, length, Option, refl, ap, subst, append-nil}
-use Rattle.item_stream.specs.Items.{ItemStream}
+use Rattle.items.specs.Items.{ItemStream}
 use Rattle.server_core.specs.Talk.{PointOf}
 use Rattle.server_core.specs.Conversing.{Progress}
 use Rattle.server_core.specs.Conversed.{Input, Conversed, Ended, ConversedExactly}

@@ -1,6 +1,6 @@
 -- Worked rows, computed from the definitions alone: a node whose pages have at most 4 bytes.
 use Rattle.std.specs.Prelude.{◌≡◌, ℕ, List, [], ◌∷◌, ◌++◌, true, false, refl, codes}
-use Rattle.item_stream.specs.Items.{ItemStream}
+use Rattle.items.specs.Items.{ItemStream}
 use Rattle.frame_wire.specs.Said.{field, wide_field, frame_of}
 use Rattle.page_node.specs.declared.form.NodeRequest.TheVariants as Requests
 use Rattle.page_node.specs.declared.form.NodeReply.TheVariants as Replies

@@ -1,8 +1,8 @@
 -- The grammar of a stream of frames to a node.
 use Rattle.std.specs.Prelude.{ℕ, ◌==◌, if◌then◌else◌, List, [], ◌∷◌, length, Option, Some, None}
 use Rattle.std.proofs.Common.{refl, lit<}
-use Rattle.item_stream.specs.Items.{ItemStream}
-use Rattle.framing.specs.Framing.{Framing, IsFraming, framed}
+use Rattle.items.specs.Items.{ItemStream}
+use Rattle.items.specs.Framing.{Framing, IsFraming, framed}
 use Rattle.frame_wire.specs.Requests.{number_at}
 use Rattle.frame_wire.specs.Frames.{max_frame}
 use Rattle.page_node.specs.declared.form.NodeRequest.{NodeRequest}

@@ -1,6 +1,6 @@
 -- The grammar of a node's replies.
 use Rattle.std.specs.Prelude.{◌≡◌, ℕ, ◌==◌, ◌&&◌, ◌||◌, nat_le, Bool, true, false, if◌then◌else◌, List, [], ◌∷◌, ◌++◌, length, drop}
-use Rattle.framing.specs.Framing.{length_of, is_whole}
+use Rattle.items.specs.Framing.{length_of, is_whole}
 use Rattle.frame_wire.specs.Requests.{number_at}
 use Rattle.frame_wire.specs.Frames.{max_frame}
 

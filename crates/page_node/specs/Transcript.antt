@@ -1,7 +1,7 @@
 -- The node transcript: what a node answers to a stream of frames.
 use Rattle.std.specs.Prelude.{◌≡◌, ℕ, ◌<◌, true, List, ◌++◌, length, flat_map, Option}
-use Rattle.item_stream.specs.Items.{ItemStream}
-use Rattle.item_stream.specs.Rounds.{until_last, has_last, Rounds}
+use Rattle.items.specs.Items.{ItemStream}
+use Rattle.items.specs.Rounds.{until_last, has_last, Rounds}
 use Rattle.server_core.specs.Talk.{Talk}
 use Rattle.server_core.specs.Conversing.{AnswersFront}
 use Rattle.server_core.specs.Conversed.{Input, Conversed, EndsExactly}

@@ -8,7 +8,7 @@ use crate::form::{NodeFault, NodeHeard, NodeRequest};
 use blob_model::Bytes;
 use byteorder::{BigEndian, ByteOrder};
 use faults::NoMemory;
-use framing::Body;
+use items::frames::Body;
 use std::alloc::Global;
 use std::marker::Model;
 
@@ -58,7 +58,7 @@ pub(crate) struct Asking {
 
 impl Model for Asking {
     ghost use Rattle.std.specs.Prelude.{◌≡◌, ◌+◌, ◌∷◌, length, true};
-    ghost use Rattle.framing.specs.Come.{Come, come_coded};
+    ghost use Rattle.items.specs.Come.{Come, come_coded};
 
     ghost Value = { Come };
 

@@ -1,7 +1,7 @@
 //! How what a node is asked is framed, and what it answers. The frames of this module stand in place, and take no memory.
 ghost use Rattle.std.specs.Prelude.{◌≡◌, ℕ, ◌+◌, ◌<◌, ◌≤◌, ◌^◌, ◌∷◌, ◌++◌, [], List, length, IfOk};
 ghost use Rattle.frame_wire.specs.Said.{field, wide_field, frame_of};
-ghost use Rattle.framing.specs.Begun.{frame_part};
+ghost use Rattle.items.specs.BegunFrame.{frame_part};
 ghost use Rattle.page_node.specs.Said.{said, asked, fault_fields};
 ghost use Rattle.page_node.specs.declared.form.NodeRequest.TheVariants as Requests;
 ghost use Rattle.page_node.specs.declared.form.NodeReply.TheVariants as Replies;
@@ -33,7 +33,7 @@ fn extend(front: &mut Front, bytes: &[u8])
 }
 
 // A frame's length and its operation.
-#[tactic(auto, unfolding(framing::specs::Begun::frame_part))]
+#[tactic(auto, unfolding(items::specs::BegunFrame::frame_part))]
 fn begin(count: u32, operation: u8) -> Front
     ensures front { result.items ≡ frame_part count (operation ∷ []) }
     ensures length { length result.items ≡ 5 }

@@ -1,5 +1,4 @@
 pub mod Stream
-pub mod Memory
 pub mod Listener
 pub mod Files
 pub mod Accepting

@@ -2,11 +2,10 @@
 ghost use Rattle.std.specs.Prelude.{◌≡◌, ◌≤◌, true};
 
 use crate::program::{Given, ROOM, Ran, run_over};
+use memory_ports::{MemListener, MemSink, MemSource};
 use page_store::PlainMaker;
 use ports::gate::Gate;
 use ports::listener::Listener;
-use ports::mem_listener::MemListener;
-use ports::memory::{MemSink, MemSource};
 use ports::pair::Pair;
 use std::alloc::Global;
 use std::process::Abort;

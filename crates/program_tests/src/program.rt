@@ -4,14 +4,12 @@ ghost use Rattle.std.specs.Prelude.{◌≡◌};
 
 use blob_model::Bytes;
 use blobseer_run::run;
+use memory_ports::{MemFiles, MemListener, MemSink, MemSource};
 use page_fan::BesideDoor;
 use page_store::{DoorMaker, FlakyMaker};
 use ports::files::Files;
 use ports::gate::{FreeGate, Gate};
 use ports::listener::Listener;
-use ports::mem_files::MemFiles;
-use ports::mem_listener::MemListener;
-use ports::memory::{MemSink, MemSource};
 use ports::pair::Pair;
 use ports::stream::{Sink, Source};
 use std::alloc::Global;

@@ -91,7 +91,7 @@ group_below xs ws q k within below =
     ap (take 32) (front_from xs ws q n (omega arith) within)
     ∙ (take-append-le 32 (take (q - n) (drop n xs)) ws (omega arith) ∙ take-take 32 (q - n) (drop n xs) (omega arith))
 
-map_range : {X : Type 0} (f g : ℕ → X) (a n : ℕ) → ((i : ℕ) → a ≤ i → i < a + n → f i ≡ g i) → map f (range_with_len a n) ≡ map g (range_with_len a n)
+pub map_range : {X : Type 0} (f g : ℕ → X) (a n : ℕ) → ((i : ℕ) → a ≤ i → i < a + n → f i ≡ g i) → map f (range_with_len a n) ≡ map g (range_with_len a n)
 map_range f g a zero same = refl
 map_range f g a (suc n) same =
     ap (λ x. x ∷ map f (range_with_len (a + 1) n)) (same a (omega arith) (omega arith))

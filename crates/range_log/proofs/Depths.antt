@@ -37,11 +37,11 @@ depth_miss : (p : ℕ) (log : List Touch) (k i : ℕ) → ¬ Meets p (touch_at l
 unfolding depth_by
 depth_miss p log k i apart = rw (meets_false p (touch_at log (suc k)) (page_range p i) apart, depth_by) refl
 
-depth_next : (p : ℕ) (log : List Touch) (k i : ℕ) → depth_of p log (suc k) i ≡ depth_after fold_number p (touch_at log (suc k)) i (depth_of p log k i)
+pub depth_next : (p : ℕ) (log : List Touch) (k i : ℕ) → depth_of p log (suc k) i ≡ depth_after fold_number p (touch_at log (suc k)) i (depth_of p log k i)
 unfolding depth_by
 depth_next p log k i = refl
 
-depth_none : (p : ℕ) (log : List Touch) (i : ℕ) → depth_of p log 0 i ≡ 0
+pub depth_none : (p : ℕ) (log : List Touch) (i : ℕ) → depth_of p log 0 i ≡ 0
 unfolding depth_by
 depth_none p log i = refl
 

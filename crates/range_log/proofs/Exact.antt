@@ -105,7 +105,7 @@ powers p a b pos le =
       | inr ge ↦ ge
     ]
 
-row-levels : (p : ℕ) (log : List Touch) (k : ℕ) → row_keys_of p log k ≡ levels_of p (touch_at log k) (suc (height_of p (size_at log k)))
+pub row-levels : (p : ℕ) (log : List Touch) (k : ℕ) → row_keys_of p log k ≡ levels_of p (touch_at log k) (suc (height_of p (size_at log k)))
 unfolding row_keys_of
 row-levels p log k = refl
 

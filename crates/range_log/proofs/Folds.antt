@@ -77,7 +77,7 @@ kept true x i l (inr c) = Contains-append_right (x ∷ []) l i c
 kept false x i l (inl h) = absurd (grind (arith, h))
 kept false x i l (inr c) = c
 
-single : (x i : ℕ) → Contains (x ∷ []) i → x ≡ i
+pub single : (x i : ℕ) → Contains (x ∷ []) i → x ≡ i
 single x i (zero, lt, e) = e
 single x i (suc k, lt, e) = absurd (omega (arith, lt))
 
@@ -91,7 +91,7 @@ filter_has f (x ∷ l) i c e =
       | inr later ↦ kept (f x) x i (filter f l) (inr (filter_has f l i later e))
     ]
 
-filter_only : (f : ℕ → Bool) (l : List ℕ) (i : ℕ) → Contains (filter f l) i → Contains l i × (f i ≡ true)
+pub filter_only : (f : ℕ → Bool) (l : List ℕ) (i : ℕ) → Contains (filter f l) i → Contains l i × (f i ≡ true)
 filter_only f l i c = (
   All-contains (Contains l) (filter f l) i (All-filter f (Contains l) l (All-contains_itself l)) c,
   All-contains (λ x. f x ≡ true) (filter f l) i (filter_passes f l) c,

@@ -130,7 +130,7 @@ same_back p us more k i le =
     ∙ ap (back_at p (extent_at us k) (size_after us k) i (depth_of p (touches p us) k i)) (newest_same p us more (k - 1) (page_range p i) (omega arith))
     ∙ sym (back-is p us k i)
 
-folds-are : (p : ℕ) (us : List Extent) (k : ℕ) → folds_of p us k ≡ filter (λ i. folded_of p us k i) (edge_pages (touch_of p us k))
+pub folds-are : (p : ℕ) (us : List Extent) (k : ℕ) → folds_of p us k ≡ filter (λ i. folded_of p us k i) (edge_pages (touch_of p us k))
 unfolding folds_by
 folds-are p us k = refl
 

@@ -15,3 +15,9 @@ pub mod Growth
 pub mod Doublings
 pub mod Positions
 pub mod Opens
+pub mod Parts
+pub mod Walk
+pub mod Descent
+pub mod Steps
+pub mod Visits
+pub mod Weaving

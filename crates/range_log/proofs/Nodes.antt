@@ -70,7 +70,7 @@ leaf_back p k i us =
     (λ anew. sym (back_anew p us k i anew))
     (λ kept. refl)
 
-not_both : (b : Bool) → b ≡ true → b ≡ false → ⊥
+pub not_both : (b : Bool) → b ≡ true → b ≡ false → ⊥
 not_both b e f = grind (arith, e, f)
 
 -- what every leaf and every inner node of a row meets, each of its nodes meets
@@ -102,7 +102,7 @@ links_name_nodes p k us r pos ok node =
     (λ large. let both = links_lead p k es r pos bounds node large in (both.0, both.1, λ h. absurd (omega arith)))
 
 -- page i is of one number only
-same_page : (p i j : ℕ) → 1 ≤ p → page_range p i ≡ page_range p j → i ≡ j
+pub same_page : (p i j : ℕ) → 1 ≤ p → page_range p i ≡ page_range p j → i ≡ j
 same_page p i j pos e =
     let o : i * p ≡ j * p = ap (λ (x : Range). x.offset) e in
     let f : i * p / p ≡ i = mul-div_cancel i pos in

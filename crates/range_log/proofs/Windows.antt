@@ -5,19 +5,19 @@ use Rattle.std.proofs.lemmas.List.{get_or_append_left, get_or-append_right, get_
 use Rattle.blob_model.specs.Content.{put}
 use Rattle.range_log.proofs.Bytes.{length-put}
 
-put_before : (c : List ℕ) (at : ℕ) (b : List ℕ) (x : ℕ) → at ≤ length c → x < at → get_or (put c at b) x 0 ≡ get_or c x 0
+pub put_before : (c : List ℕ) (at : ℕ) (b : List ℕ) (x : ℕ) → at ≤ length c → x < at → get_or (put c at b) x 0 ≡ get_or c x 0
 put_before c at b x fits lt =
     ap (λ l. get_or l x 0) (append_assoc (take at c) b (drop (at + length b) c))
     ∙ get_or_append_left (take at c) (b ++ drop (at + length b) c) 0 x (omega (arith, length-take-le at c fits))
     ∙ get_or-take at c x 0 lt
 
-put_within : (c : List ℕ) (at : ℕ) (b : List ℕ) (x : ℕ) → at ≤ length c → at ≤ x → x < at + length b → get_or (put c at b) x 0 ≡ get_or b (x - at) 0
+pub put_within : (c : List ℕ) (at : ℕ) (b : List ℕ) (x : ℕ) → at ≤ length c → at ≤ x → x < at + length b → get_or (put c at b) x 0 ≡ get_or b (x - at) 0
 put_within c at b x fits from to =
     ap (λ l. get_or l x 0) (append_assoc (take at c) b (drop (at + length b) c))
     ∙ get_or-append_right (take at c) (b ++ drop (at + length b) c) at x 0 (length-take-le at c fits) from
     ∙ get_or_append_left b (drop (at + length b) c) 0 (x - at) (omega arith)
 
-put_after : (c : List ℕ) (at : ℕ) (b : List ℕ) (x : ℕ) → at ≤ length c → at + length b ≤ x → get_or (put c at b) x 0 ≡ get_or c x 0
+pub put_after : (c : List ℕ) (at : ℕ) (b : List ℕ) (x : ℕ) → at ≤ length c → at + length b ≤ x → get_or (put c at b) x 0 ≡ get_or c x 0
 put_after c at b x fits from =
     let n : ℕ = at + length b in
     let e : n + (x - n) ≡ x = omega arith in

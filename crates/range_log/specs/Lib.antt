@@ -7,3 +7,4 @@ pub mod Visits
 pub mod Laws
 pub mod Positions
 pub mod Open
+pub mod Walk

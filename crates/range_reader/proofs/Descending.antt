@@ -14,12 +14,13 @@ use Rattle.range_log.specs.Log.{newest_of}
 use Rattle.range_log.specs.Extents.{Extent, touches}
 use Rattle.range_log.specs.Rows.{node_of, inner_of}
 use Rattle.range_log.specs.Laws.{NewestIsGreatest, ExtentsStand}
-use Rattle.tree_walk.specs.Walk.{RootsStand, LinksStep}
+use Rattle.range_log.specs.Walk.{RootsStand, LinksStep}
 use Rattle.snapshot.specs.Versions.{Version, size_now, root_key, HasNodeFor, IsVersion}
 use Rattle.tree_geom.proofs.Spans.{page_pos}
 use Rattle.range_reader.specs.Reading.{log_of, newest_in}
 use Rattle.range_reader.proofs.Rooted.{root_stands, root_newest, root_tree}
-use Rattle.range_reader.proofs.Walking.{down, double, at_least, child}
+use Rattle.range_reader.proofs.Walking.{down, at_least, child}
+use Rattle.range_log.proofs.Walk.{double}
 
 -- ---- pages under the root
 -- a page with a valid byte is one of those under a range that holds all of them

@@ -1,7 +1,6 @@
 -- The bytes of a page by its leaves.
-use Rattle.std.proofs.Common.{◌≡◌, ◌⊎◌, ℕ, zero, suc, ◌+◌, ◌-◌, ◌*◌, ◌<◌, ◌≤◌, List, ◌++◌, length, take, drop, arith, refl, ap, sym, ◌∙◌, subst, inl, inr, Bool, true, false, get_or, max, min, length-append, length-drop, length-take}
+use Rattle.std.proofs.Common.{◌≡◌, ◌⊎◌, ℕ, zero, suc, ◌+◌, ◌-◌, ◌*◌, ◌<◌, ◌≤◌, List, ◌++◌, length, take, drop, arith, refl, ap, sym, ◌∙◌, subst, inl, inr, Bool, true, false, get_or, max, min, length-drop, length-take}
 use Rattle.std.proofs.lemmas.Bool.Decides.{nat_tests}
-use Rattle.std.proofs.lemmas.List.{get_or-take, get_or-drop, get_or_append_left, get_or-append_right, length-take-le}
 use Rattle.blob_model.specs.Content.{Update, put, size_of}
 use Rattle.tree_geom.specs.Geometry.{page_range, covers}
 use Rattle.range_log.specs.Log.{HasNode, newest_of}
@@ -10,31 +9,9 @@ use Rattle.range_log.specs.Updates.{update_at, extents, extent_of, Replayable, p
 use Rattle.range_log.specs.Rows.{leaf_lo, leaf_start, leaf_from, leaf_len, covered, folded_of, back_of}
 use Rattle.range_log.specs.Laws.{LeavesFill, LeavesFit, PageBytesStay, ExtentsStand}
 use Rattle.range_reader.proofs.Parts.{part_read, length_part}
-use Rattle.range_log.proofs.Bytes.{extent_is}
+use Rattle.range_log.proofs.Bytes.{extent_is, length-put}
 use Rattle.range_log.proofs.Links.{back_some}
-
--- ---- the parts of bytes that were put over others
-put_front : (c : List ℕ) (at : ℕ) (b : List ℕ) (x : ℕ) → at ≤ length c → x < at → get_or (put c at b) x 0 ≡ get_or c x 0
-put_front c at b x le lt =
-    let n : length (take at c) ≡ at = length-take-le at c le in
-    let m : length (take at c ++ b) ≡ at + length b = length-append (take at c) b ∙ ap (λ k. k + length b) n in
-    get_or_append_left (take at c ++ b) (drop (at + length b) c) 0 x (omega arith) ∙ get_or_append_left (take at c) b 0 x (omega arith) ∙ get_or-take at c x 0 lt
-
-put_own : (c : List ℕ) (at : ℕ) (b : List ℕ) (x : ℕ) → at ≤ length c → at ≤ x → x < at + length b → get_or (put c at b) x 0 ≡ get_or b (x - at) 0
-put_own c at b x le from lt =
-    let n : length (take at c) ≡ at = length-take-le at c le in
-    let m : length (take at c ++ b) ≡ at + length b = length-append (take at c) b ∙ ap (λ k. k + length b) n in
-    get_or_append_left (take at c ++ b) (drop (at + length b) c) 0 x (omega arith) ∙ get_or-append_right (take at c) b at x 0 n from
-
-put_rest : (c : List ℕ) (at : ℕ) (b : List ℕ) (x : ℕ) → at ≤ length c → at + length b ≤ x → get_or (put c at b) x 0 ≡ get_or c x 0
-put_rest c at b x le from =
-    let n : length (take at c) ≡ at = length-take-le at c le in
-    let m : length (take at c ++ b) ≡ at + length b = length-append (take at c) b ∙ ap (λ k. k + length b) n in
-    let e : at + length b + (x - (at + length b)) ≡ x = omega arith in
-    get_or-append_right (take at c ++ b) (drop (at + length b) c) (at + length b) x 0 m from ∙ get_or-drop (at + length b) c (x - (at + length b)) 0 ∙ ap (λ k. get_or c k 0) e
-
-length-put : (c : List ℕ) (at : ℕ) (b : List ℕ) → at ≤ length c → length (put c at b) ≡ max (length c) (at + length b)
-length-put c at b h = simp (length-append, length-drop, length-take) (omega arith)
+use Rattle.range_log.proofs.Windows.{put_before, put_within, put_after}
 
 -- ---- a leaf of page i, that of update k, which falls at y
 -- the update's bytes in the page
@@ -102,7 +79,7 @@ module _ (p k i : ℕ) (us : List Update) (y : Extent) (leaf : LeafIs p k i us y
             ap (λ l. get_or l x 0) w.1 ∙ ap (λ z. get_or (own_of p y i (update_at us k).bytes) z 0) e ∙ own
         | false ↦ λ un.
             let o = leaf.over un in
-            ap (λ l. get_or l x 0) o.1 ∙ put_own (page_bytes p us (back_of p (extents us) k i) i) st (own_of p y i (update_at us k).bytes) x o.0 from (omega (arith, length-own)) ∙ own
+            ap (λ l. get_or l x 0) o.1 ∙ put_within (page_bytes p us (back_of p (extents us) k i) i) st (own_of p y i (update_at us k).bytes) x o.0 from (omega (arith, length-own)) ∙ own
       ] in
       cases refl
 
@@ -147,8 +124,8 @@ module _ (p k i : ℕ) (us : List Update) (y : Extent) (leaf : LeafIs p k i us y
             ∙ length-put old st (own_of p y i (update_at us k).bytes) o.0 in
             let same = ap (λ l. get_or l x 0) o.1 in
             elim out [
-              | inl below ↦ (un, same ∙ put_front old st (own_of p y i (update_at us k).bytes) x o.0 below, omega (arith, o.0))
-              | inr above ↦ (un, same ∙ put_rest old st (own_of p y i (update_at us k).bytes) x o.0 (omega (arith, length-own)), omega (arith, len, length-own))
+              | inl below ↦ (un, same ∙ put_before old st (own_of p y i (update_at us k).bytes) x o.0 below, omega (arith, o.0))
+              | inr above ↦ (un, same ∙ put_after old st (own_of p y i (update_at us k).bytes) x o.0 (omega (arith, length-own)), omega (arith, len, length-own))
             ]
       ] in
       cases refl

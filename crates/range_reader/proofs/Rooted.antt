@@ -5,7 +5,7 @@ use Rattle.tree_geom.specs.declared.range.Range.{Range}
 use Rattle.tree_geom.specs.Geometry.{tree_range, height_of, span_of}
 use Rattle.range_log.specs.Extents.{size_after}
 use Rattle.range_log.specs.Laws.{NewestIsGreatest, ExtentsStand}
-use Rattle.tree_walk.specs.Walk.{nodes_visited, root_of, RootsStand, WalksAreBounded}
+use Rattle.range_log.specs.Walk.{nodes_visited, root_of, RootsStand, WalksAreBounded}
 use Rattle.snapshot.specs.Versions.{Version, updates_of, size_now, root_key, HasNodeFor, IsVersion}
 use Rattle.tree_geom.proofs.Spans.{page_pos}
 use Rattle.range_log.proofs.Bytes.{length-extents}

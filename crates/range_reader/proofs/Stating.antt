@@ -8,13 +8,14 @@ use Rattle.tree_geom.specs.Geometry.{Aligned, height_of, page_range, right_half}
 use Rattle.range_log.specs.Visits.{pages_met, backs_of}
 use Rattle.range_log.specs.Depths.{depth_of}
 use Rattle.range_log.specs.Laws.{ExtentsStand, DepthCountsBacks}
-use Rattle.tree_walk.specs.Walk.{nodes_visited, WalksAreBounded}
+use Rattle.range_log.specs.Walk.{nodes_visited, WalksAreBounded}
 use Rattle.snapshot.specs.Versions.{Version, updates_of, size_now, HasNodeFor, IsVersion}
 use Rattle.tree_geom.proofs.Spans.{page_pos}
 use Rattle.range_log.proofs.Bytes.{length-extents}
 use Rattle.range_reader.specs.Reading.{falls, log_of, newest_in, backs_in, bound, bound_of_tree}
 use Rattle.range_reader.proofs.Among.{length-updates}
-use Rattle.range_reader.proofs.Walking.{double, page_of_range, page_step, within_page}
+use Rattle.range_reader.proofs.Walking.{page_of_range, page_step, within_page}
+use Rattle.range_log.proofs.Walk.{double}
 use Rattle.range_reader.proofs.Rooted.{size_known, walk_bound}
 
 -- a page has as many backs as its newest leaf is deep

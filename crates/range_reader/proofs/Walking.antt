@@ -6,13 +6,13 @@ use Rattle.std.specs.List.{range_with_len, sum_by}
 use Rattle.std.proofs.lemmas.Bool.{cases_lt}
 use Rattle.std.proofs.lemmas.Nat.{mul-le, pow_pos, le-div, div-add-mod'}
 use Rattle.std.proofs.lemmas.List.Sums.{sum_by-append, sum_by-cons}
-use Rattle.std.proofs.Math.Nat.{pow-succ', div-mul-le_self, mul-div_cancel}
+use Rattle.std.proofs.Math.Nat.{div-mul-le_self, mul-div_cancel}
 use Rattle.tree_geom.specs.declared.range.Range.{Range}
 use Rattle.tree_geom.specs.Geometry.{Aligned, tree_range, page_range, left_half, right_half, height_of, span_of}
 use Rattle.range_log.specs.Log.{newest_of}
 use Rattle.range_log.specs.Visits.{pages_met, backs_of}
 use Rattle.range_log.specs.Laws.{ExtentsStand}
-use Rattle.tree_walk.specs.Walk.{nodes_visited, LinksStep, VisitedLeaf, VisitedInner}
+use Rattle.range_log.specs.Walk.{nodes_visited, LinksStep, VisitedLeaf, VisitedInner}
 use Rattle.snapshot.specs.Versions.{Version, updates_of, size_now, HasNodeFor, IsVersion}
 use Rattle.tree_geom.proofs.Spans.{page_pos}
 use Rattle.range_log.proofs.Bytes.{length-extents}
@@ -21,6 +21,7 @@ use Rattle.range_reader.specs.Faults.{PageFailedIn}
 use Rattle.page_fan.specs.Counts.{NoneFell}
 use Rattle.range_reader.proofs.Counting.{page_since}
 use Rattle.range_reader.proofs.Among.{length-updates}
+use Rattle.range_log.proofs.Walk.{double}
 
 -- ---- pages by their bytes
 pub page_le : (p a b x : ℕ) → 1 ≤ p → a * p ≤ x → x < (b + 1) * p → a ≤ b
@@ -43,10 +44,6 @@ div_is p q x pos le lt =
 
 div_rises : (p x y : ℕ) → 1 ≤ p → x ≤ y → x / p ≤ y / p
 div_rises p x y pos le = le-div (x / p) y p pos (let d : x / p * p ≤ x = down x p in omega arith)
-
--- ---- sizes of ranges
-pub double : (p h : ℕ) → p * 2 ^ suc h ≡ 2 * (p * 2 ^ h)
-double p h = rw (pow-succ' 2 h) (omega arith)
 
 pub at_least : (p h : ℕ) → p ≤ p * 2 ^ h
 at_least p h = let e : p * 1 ≤ p * 2 ^ h = mul-le p 1 p (2 ^ h) (omega arith) (pow_pos h) in omega arith

@@ -1,7 +1,7 @@
 // The visit bound of a read, told before the read.
 ghost use Rattle.std.specs.Prelude.{◌≡◌, ℕ, ◌+◌, ◌*◌, ◌^◌, ◌<◌, ◌≤◌, IfOk, IfErr, Err};
 ghost use Rattle.tree_geom.specs.Geometry.{tree_range};
-ghost use Rattle.tree_walk.specs.Walk.{nodes_visited};
+ghost use Rattle.range_log.specs.Walk.{nodes_visited};
 ghost use Rattle.snapshot.specs.Versions.{size_now, HasNodeFor, NodesLieIn};
 ghost use Rattle.range_reader.specs.Reading.{newest_in, backs_in, bound, bound_of_tree};
 ghost use Rattle.range_reader.specs.Answers.{OnPastSize, OnPageFault};
@@ -39,8 +39,8 @@ pub fn stated<L: Ledger>(
 {
     range_log::laws::page_bytes_stay();
     range_log::laws::newest_is_greatest();
-    tree_walk::laws::links_find();
-    tree_walk::laws::visited_are_few();
+    range_log::walks::links_find();
+    range_log::walks::visited_are_few();
     let size = snapshot.size();
     let end = u128::from(offset) + u128::from(length);
     if end > u128::from(size) {
@@ -86,8 +86,8 @@ fn depths<L: Ledger>(
     ensures steps { (h q first last : ℕ) → range ≡ tree_range snapshot.now.page_size h q → first * snapshot.now.page_size ≤ from
         → from + count ≤ (last + 1) * snapshot.now.page_size → steps.new ≤ steps.old + nodes_visited h q first last }
 {
-    tree_walk::laws::links_step();
-    tree_walk::laws::visited_are_few();
+    range_log::walks::links_step();
+    range_log::walks::visited_are_few();
     range_log::laws::page_bytes_stay();
     range_log::laws::depth_counts_backs();
     snapshot.stands();

@@ -1,7 +1,7 @@
 // The way down from a version's root to the newest leaf of a page.
 ghost use Rattle.std.specs.Prelude.{◌≡◌, ℕ, ◌+◌, ◌*◌, ◌/◌, ◌^◌, ◌<◌, ◌≤◌, length, All};
 ghost use Rattle.tree_geom.specs.Geometry.{page_range, tree_range, height_of};
-ghost use Rattle.tree_walk.specs.Walk.{nodes_visited};
+ghost use Rattle.range_log.specs.Walk.{nodes_visited};
 ghost use Rattle.snapshot.specs.Versions.{size_now, HasNodeFor, NodesLieIn};
 ghost use Rattle.range_reader.specs.Reading.{newest_in, IsKnown};
 
@@ -33,8 +33,8 @@ pub(crate) fn newest_of_page<L: Ledger>(
     tree_geom::laws::ranges_align();
     range_log::laws::page_bytes_stay();
     range_log::laws::newest_is_greatest();
-    tree_walk::laws::links_find();
-    tree_walk::laws::links_step();
+    range_log::walks::links_find();
+    range_log::walks::links_step();
     let mut at = snapshot.version();
     let mut row = snapshot.row_of(at);
     for level in (0..levels).rev() {
@@ -70,8 +70,8 @@ pub(crate) fn newest_knowing<L: Ledger>(
     tree_geom::laws::spans_hold();
     range_log::laws::page_bytes_stay();
     range_log::laws::newest_is_greatest();
-    tree_walk::laws::links_find();
-    tree_walk::laws::visited_are_few();
+    range_log::walks::links_find();
+    range_log::walks::visited_are_few();
     if known.is_empty() {
         let bytes = snapshot.page_size().bytes();
         return newest_of_page(snapshot, nodes, levels, at / bytes, steps);
@@ -110,8 +110,8 @@ fn newest_leaf<L: Ledger>(
     ensures known { All (IsKnown snapshot.now) known.new }
     ensures room { length known.new ≡ length known.old }
 {
-    tree_walk::laws::links_step();
-    tree_walk::laws::visited_are_few();
+    range_log::walks::links_step();
+    range_log::walks::visited_are_few();
     range_log::laws::page_bytes_stay();
     snapshot.stands();
     if range.size == snapshot.page_size().bytes() {

@@ -161,8 +161,8 @@ pub fn read_version<D: Door, L: Ledger>(
 {
     range_log::laws::page_bytes_stay();
     range_log::laws::newest_is_greatest();
-    tree_walk::laws::links_find();
-    tree_walk::laws::visited_are_few();
+    range_log::walks::links_find();
+    range_log::walks::visited_are_few();
     let size = view.size();
     let end = u128::from(offset) + out.len() as u128;
     if end > u128::from(size) {

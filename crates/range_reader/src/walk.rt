@@ -2,7 +2,7 @@
 ghost use Rattle.std.specs.Prelude.{◌≡◌, ℕ, ◌+◌, ◌*◌, ◌%◌, ◌^◌, ◌≤◌, length, map, sum_by, All, OnOk, IfErr};
 ghost use Rattle.tree_geom.specs.Geometry.{tree_range, height_of};
 ghost use Rattle.page_store.specs.Count.{HasRisen};
-ghost use Rattle.tree_walk.specs.Walk.{nodes_visited};
+ghost use Rattle.range_log.specs.Walk.{nodes_visited};
 ghost use Rattle.snapshot.specs.Versions.{size_now, HasNodeFor, IsVersionIn};
 ghost use Rattle.range_reader.specs.Reading.{newest_in, bytes_at, backs_in, bound, IsKnown};
 ghost use Rattle.range_reader.specs.Faults.{CountsKept, PageFailedIn};
@@ -49,8 +49,8 @@ pub(crate) fn walk<D: Door, L: Ledger>(
     ensures count { length doors.new ≡ length doors.old }
     ensures truth_stays { All D.is_true doors.old → All D.is_true doors.new }
 {
-    tree_walk::laws::links_step();
-    tree_walk::laws::visited_are_few();
+    range_log::walks::links_step();
+    range_log::walks::visited_are_few();
     range_log::laws::page_bytes_stay();
     source.snapshot.stands();
     let size = source.snapshot.page_size().bytes();

@@ -30,10 +30,7 @@ use Rattle.client_session.specs.Opening.{Opening, NotOpened}
 use Rattle.client_session.specs.Sessions.{SessionState, StoreState, session_of, Continues}
 use Rattle.client_session.proofs.Turns.{seen_gap}
 use Rattle.read_board.specs.Refreshing.{Holds, HasLooked, IsRecent, IsNotThere}
-
-all_other : (caller : ℕ) (xs ys : List Event) → AllOther caller xs → AllOther caller ys → AllOther caller (xs ++ ys)
-all_other caller [] ys p q = q
-all_other caller (e ∷ es) ys p q = (p.0, all_other caller es ys p.1 q)
+use Rattle.request_form.proofs.Looks.{other-append}
 
 sees_on : (s : Session) (a b : List Event) → sees (sees s a) b ≡ sees s (a ++ b)
 sees_on s a b = ap (λ (h : List Event). record { fixed = s.fixed; caller = s.caller; seen = h; tickets = s.tickets; next = s.next; limit = s.limit }) (append_assoc s.seen a b)
@@ -110,7 +107,7 @@ module _ {D : Type 0} (s s1 : SessionState D) (blob : ℕ) where
     pub then_opened : s1 ≡ record s { log = s1.log; turns = s1.turns } → HasLooked s s2
     then_opened rest = record {
       others = a.others ++ events o.gap;
-      is_gap = all_other s.caller a.others (events o.gap) a.is_gap (subst (λ (k : ℕ). AllOther k (events o.gap)) on.caller o.others);
+      is_gap = other-append s.caller a.others (events o.gap) a.is_gap (subst (λ (k : ℕ). AllOther k (events o.gap)) on.caller o.others);
       seen = ap (λ (x : SessionState D). session_of x) o.same
           ∙ (seen_gap s1.store.fixed s1.caller s1.log s2.log o.gap s1.held s1.next s1.limit o.log ∙ (ap (λ (x : Session). sees x (events o.gap)) a.seen ∙ sees_on (session_of s) a.others (events o.gap)));
       rest = o.same ∙ ap (λ (x : SessionState D). record x { log = s2.log; turns = s2.turns }) rest;

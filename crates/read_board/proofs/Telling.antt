@@ -30,6 +30,7 @@ use Rattle.read_board.specs.Refreshing.{Holds, AllHold}
 use Rattle.read_board.specs.Reads.{goes_by}
 use Rattle.read_board.specs.Telling.{ReadsByList, IsMoment, BoardReadsTell, BoardReadsAgree}
 use Rattle.read_board.proofs.Agreeing.{on_stands, get_front}
+use Rattle.request_form.proofs.PublishedReads.{not_below}
 
 -- ---- the refresh by which a read goes holds in the history
 covered : (o : Option Refresh) (version : ℕ) (on : Refresh) → covering o version ≡ Some on → (o ≡ Some on) × (version ≤ version_of on)
@@ -53,10 +54,6 @@ held_by f log all list blob on hold begins is =
     let (i, at, same) = on_stands blob list on is in
     let there : slice_get all i ≡ Some on = subst (λ (l : List Refresh). slice_get l i ≡ Some on) begins.1 (get_front list begins.0 i on at) in
     (subst (Holds f log) (get_or_from_slice_get all i on on there) (hold i on (slice_get_within all i on there)), same)
-
--- ---- what the store answers
-not_below : (a b : ℕ) → b ≤ a → nat_lt a b ≡ false
-not_below a b le = grind (arith, nat_tests)
 
 below : (a b : ℕ) → a < b → nat_lt a b ≡ true
 below a b lt = grind (arith, nat_tests)

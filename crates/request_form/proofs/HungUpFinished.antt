@@ -20,6 +20,7 @@ use Rattle.request_form.specs.Laws.{HungUpAreFinished}
 use Rattle.request_form.proofs.Numbered.{Numbered, numbered, numbered_later, all_numbered_later}
 use Rattle.request_form.proofs.Runs.{turn_grows}
 use Rattle.request_form.proofs.HangUps.{Given, given_up_makes, gives_up_makes}
+use Rattle.blob_model.proofs.Stays.{some_is}
 
 or_true : (t : Bool) → (t || true) ≡ true
 or_true true = refl
@@ -35,11 +36,8 @@ finishes_last caller blob version (Events.Finish c other v ∷ xs) =
     ap (λ (t : Bool). ((other == blob) && (v == version)) || t) (finishes_last caller blob version xs) ∙ or_true ((other == blob) && (v == version))
 finishes_last caller blob version (Events.Branch c other v ∷ xs) = finishes_last caller blob version xs
 
-same_blob : (o : Option Blob) (a b : Blob) → o ≡ Some a → o ≡ Some b → a ≡ b
-same_blob o a b p q = cc
-
 -- ---- a finish that is refused as it was done before
-refused_already : (low done : Bool) (version least : ℕ)
+pub refused_already : (low done : Bool) (version least : ℕ)
     → (if low then Some (Refusals.NotPublished version least) else (if done then Some (Refusals.Already version) else None)) ≡ Some (Refusals.Already version) → done ≡ true
 refused_already true done version least e = let never : ⊥ = cc in absurd never
 refused_already false true version least e = refl
@@ -64,7 +62,7 @@ module _ (stay : OldVersionsStay) (by_events : FinishedByEvents) (limits : Bound
 
   finished_later : (h more h' : List Event) (ticket : HeldTicket) → h' ≡ h ++ more → Numbered (store_of limits h) ticket → IsFinishedIn (store_of limits h) ticket → IsFinishedIn (store_of limits h') ticket
   finished_later h more h' ticket e n (b, at, mark) =
-      let same : b ≡ n.b = same_blob (blob_at (store_of limits h) ticket.blob) b n.b at n.at in
+      let same : b ≡ n.b = some_is (blob_at (store_of limits h) ticket.blob) b n.b at n.at in
       let was : is_finished n.b ticket.version ≡ true = ap (λ (x : Blob). is_finished x ticket.version) (sym same) ∙ mark in
       marked_later h more h' ticket e n (ap (λ (t : Bool). t || finishes ticket.blob ticket.version more) was)
 

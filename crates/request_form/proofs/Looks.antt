@@ -10,7 +10,7 @@ use Rattle.request_form.specs.Session.{Session, outcome_at, sees}
 use Rattle.request_form.specs.Answers.{LookAnswer}
 use Rattle.request_form.specs.Laws.{LooksJoin}
 
-other-append : (caller : ℕ) (xs ys : List Event) → AllOther caller xs → AllOther caller ys → AllOther caller (xs ++ ys)
+pub other-append : (caller : ℕ) (xs ys : List Event) → AllOther caller xs → AllOther caller ys → AllOther caller (xs ++ ys)
 other-append caller [] ys a b = b
 other-append caller (x ∷ xs) ys a b = (a.0, other-append caller xs ys a.1 b)
 

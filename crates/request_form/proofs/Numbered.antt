@@ -1,5 +1,5 @@
 -- Numbered versions, and tickets whose versions are numbered.
-use Rattle.std.proofs.Common.{◌≡◌, ℕ, ◌+◌, ◌-◌, ◌≤◌, ◌==◌, ◌&&◌, zero, suc, Bool, true, false, if◌then◌else◌, List, [], ◌∷◌, ◌++◌, length, refl, sym, ap, subst, arith, length-append}
+use Rattle.std.proofs.Common.{◌≡◌, ℕ, ◌+◌, ◌-◌, ◌≤◌, ◌==◌, ◌&&◌, Bool, true, false, if◌then◌else◌, List, [], ◌∷◌, ◌++◌, length, refl, sym, ap, subst, arith, length-append}
 use Rattle.std.specs.Prelude.{Option, Some, None, slice_get, slice_set}
 use Rattle.blob_model.specs.Content.{Update}
 use Rattle.blob_model.specs.Limits.{Bounds}
@@ -15,6 +15,7 @@ use Rattle.blob_model.specs.declared.call.Refusal.{Refusal}
 use Rattle.blob_model.specs.declared.call.Refusal.TheVariants as Refusals
 use Rattle.request_form.specs.Session.{HeldTicket, ticket_at, without_ticket, without_version}
 use Rattle.request_form.specs.HangUp.{AllNumbered}
+use Rattle.blob_model.proofs.Stays.{get-set_same}
 
 -- ---- a numbered version of a blob
 pub record Numbered (store : Store) (ticket : HeldTicket) : Type 0 where
@@ -76,15 +77,9 @@ module _ (store : Store) where
   numbered_at [] number ticket all e = let never : ⊥ = cc in absurd never
   numbered_at (t ∷ ts) number ticket all e = numbered_by t ticket (ticket_at ts number) (t.number == number) all.0 (numbered_at ts number ticket all.1) e
 
--- ---- an update that is numbered has the last version of its blob then
-get-set : (xs : List Blob) (i : ℕ) (x y : Blob) → slice_get xs i ≡ Some y → slice_get (slice_set xs i x) i ≡ Some x
-get-set [] i x y e = (let no : ⊥ = cc in absurd no)
-get-set (z ∷ xs) zero x y e = refl
-get-set (z ∷ xs) (suc i) x y e = get-set xs i x y e
-
 set_there : (none : Bool) (xs : List Blob) (i : ℕ) (x y : Blob) → (if none then None else slice_get xs i) ≡ Some y → (if none then None else slice_get (slice_set xs i x) i) ≡ Some x
 set_there true xs i x y e = let no : ⊥ = cc in absurd no
-set_there false xs i x y e = get-set xs i x y e
+set_there false xs i x y e = get-set_same xs i x y e
 
 -- the blob is there, and that is its last version
 abbrev pub IsLast : Store → ℕ → ℕ → Type 0

@@ -39,7 +39,7 @@ second_test store true u q r done e = absurd (false≢true (sym e))
 second_test store false true q r done e = refl
 second_test store false false q r done e = refl
 
-not_below : (a b : ℕ) → b ≤ a → nat_lt a b ≡ false
+pub not_below : (a b : ℕ) → b ≤ a → nat_lt a b ≡ false
 not_below a b le = grind (arith, nat_tests)
 
 read_in : (store : Store) (blob version offset count : ℕ) (o : Option Blob) (b : Blob) → o ≡ Some b → version ≤ published b

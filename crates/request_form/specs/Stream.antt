@@ -1,11 +1,11 @@
 -- What a stream of requests says.
 use Rattle.std.specs.Prelude.{◌≡◌, ℕ, List, [], ◌∷◌, Option}
-use Rattle.item_stream.specs.Items.{ItemStream, IsNextItem, IsEndOf}
-use Rattle.item_stream.specs.declared.ending.Ending as Endings
+use Rattle.items.specs.Items.{ItemStream, IsNextItem, IsEndOf}
+use Rattle.items.specs.declared.ending.Ending as Endings
 use Rattle.request_form.specs.declared.form.Heard.{Heard}
 use Rattle.request_form.specs.declared.form.Heard.TheVariants.{Asked, Wrong}
 use Rattle.request_form.specs.Replies.{page_faults}
-pub use Rattle.item_stream.specs.Items.{after_item, IsFed}
+pub use Rattle.items.specs.Items.{after_item, IsFed}
 
 -- a stream of requests, and of what is none
 abbrev pub Stream : Type 0

@@ -1,5 +1,5 @@
 use Rattle.std.specs.Prelude.{◌≡◌, ℕ, Bool, true, false, List, [], ◌∷◌, flat_map}
-use Rattle.item_stream.specs.Rounds.{until_last, has_last, Rounds, sum_rounds}
+use Rattle.items.specs.Rounds.{until_last, has_last, Rounds, sum_rounds}
 use Rattle.request_form.specs.declared.form.Request.{Request}
 use Rattle.request_form.specs.declared.form.Request.TheVariants as Requests
 use Rattle.request_form.specs.declared.form.Reply.{Reply}

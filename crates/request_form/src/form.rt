@@ -279,4 +279,4 @@ pub enum Heard {
 }
 
 /// What the end of a stream of requests leaves over.
-pub type Ending = item_stream::Ending<Heard>;
+pub type Ending = items::Ending<Heard>;

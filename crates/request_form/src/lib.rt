@@ -13,7 +13,7 @@ mod service;
 pub use dialect::{Dialect, Said};
 pub use faults::NoMemory;
 pub use form::{Ending, Fault, Heard, Reply, Request};
-pub use item_stream::Chunk;
+pub use items::Chunk;
 pub use operation::Operation;
 pub use ranges::RangeList;
 pub use service::Service;

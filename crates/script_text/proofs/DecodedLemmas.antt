@@ -20,7 +20,7 @@ use Rattle.script_text.specs.Commands.{command_of}
 use Rattle.script_text.specs.Decoded.{AsksAs, AsksNothing, SpellsNoNumber, numbers_text, digits_of, part_text, fields_text, IsPart, IsDecoded, IsFieldBehind, BeginsPair, EndsNumber, Adds}
 use Rattle.script_text.specs.declared.fields.Part.{Part}
 use Rattle.script_text.specs.declared.fields.Part.TheVariants.{Number, Dash, Digits}
-use Rattle.text_lines.proofs.HeardLemmas.{HasFirst, slice_split_has, split_behind}
+use Rattle.items.proofs.LinesHeard.{HasFirst, slice_split_has, split_behind}
 use Rattle.script_text.proofs.BytesLemmas.{dash_more, no_digit, no_second, pair_stands, whole_pairs, odd_pairs}
 use Rattle.script_text.proofs.FieldLemmas.{fields_of-cut, fields_of-one, IsSolid, solid_without, decimal_solid, command_letters, letters_solid, read_last, read, ask, with_number, with_number-none, with_numbers, with_numbers-none, with_numbers-some, AllSmall, text_splits, command_cut, command_reads, asks}
 

@@ -4,8 +4,8 @@ use Rattle.std.specs.Bool.{MatchBool}
 use Rattle.std.specs.List.{All}
 use Rattle.std.proofs.lemmas.List.{length-take-le, take_all, take_more}
 use Rattle.std.proofs.lemmas.List.Elements.{All-drop}
-use Rattle.text_lines.specs.Text.{IsWithout, SpellsBad, TakesText, Takes}
-use Rattle.text_lines.proofs.TextLemmas.{strip-plain}
+use Rattle.items.specs.Text.{IsWithout, SpellsBad, TakesText, Takes}
+use Rattle.items.proofs.Texts.{strip-plain}
 use Rattle.request_form.specs.declared.form.Request.{Request}
 use Rattle.script_text.specs.Requests.{request_of}
 use Rattle.script_text.specs.Lines.{fields_of, heard_as, script_lines}

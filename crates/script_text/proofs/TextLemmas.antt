@@ -10,7 +10,7 @@ use Rattle.script_text.specs.Lines.{fields_of}
 use Rattle.script_text.specs.Begun.{IsWithout, IsLetter}
 use Rattle.script_text.specs.Commands.{command_of}
 use Rattle.script_text.specs.Decoded.{AsksNothing}
-use Rattle.text_lines.proofs.HeardLemmas.{slice_split_has, split_behind}
+use Rattle.items.proofs.LinesHeard.{slice_split_has, split_behind}
 use Rattle.script_text.proofs.FieldLemmas.{fields_of-cut, fields_of-one, letters_solid, solid_without, command_letters, no_command}
 
 -- ---- words

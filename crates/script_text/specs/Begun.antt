@@ -3,7 +3,7 @@ use Rattle.std.specs.Prelude.{◌≡◌, ◌≢◌, ◌⊎◌, ◌≤◌, ℕ, L
 use Rattle.std.specs.List.{All}
 use Rattle.script_text.specs.declared.line.Begun.{Begun}
 use Rattle.script_text.specs.declared.line.Begun.TheVariants.{Word, Asked}
-pub use Rattle.text_lines.specs.Text.{IsWithout}
+pub use Rattle.items.specs.Text.{IsWithout}
 
 -- a text without a line's end, and no comment
 pub record IsPlain (text : List ℕ) : Type 0 where

@@ -3,7 +3,7 @@ use Rattle.std.specs.Prelude.{ℕ, ◌==◌, if◌then◌else◌, List, [], leng
 use Rattle.std.specs.Str.{bytes_eq}
 use Rattle.std.specs.Result.{result_ok}
 use Rattle.hex.specs.Hex.{decode_of}
-pub use Rattle.numeral.specs.Numerals.{max_number, is_numeral, number_of}
+pub use Rattle.items.specs.Numerals.{max_number, is_numeral, number_of}
 
 -- the bytes that a field spells: `-` is none of them, and pairs of hex digits of either case are one byte each, at least one
 abbrev pub bytes_of : List ℕ → Option (List ℕ)

@@ -6,10 +6,10 @@ use Rattle.request_form.specs.declared.form.Request.{Request}
 use Rattle.request_form.specs.declared.form.Heard.{Heard}
 use Rattle.request_form.specs.declared.form.Heard.TheVariants.{Asked, Wrong}
 use Rattle.request_form.specs.declared.form.Fault.TheVariants.{Malformed}
-use Rattle.text_lines.specs.Lines as Of
-use Rattle.text_lines.specs.Lines.{Lining, IsLining, lined}
+use Rattle.items.specs.Lines as Of
+use Rattle.items.specs.Lines.{Lining, IsLining, lined}
 use Rattle.script_text.specs.Requests.{request_of}
-pub use Rattle.text_lines.specs.Lines.{with_item}
+pub use Rattle.items.specs.Lines.{with_item}
 
 -- the most bytes of a line, its end not counted
 abbrev pub max_line : ℕ

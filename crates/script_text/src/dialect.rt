@@ -3,10 +3,10 @@ ghost use Rattle.std.specs.Prelude.{◌≡◌, [], IfOk};
 use crate::line::Line;
 use crate::reply::reply_line;
 use blob_model::Bytes;
+use items::lines::Lines;
 use request_form::{Dialect, Ending, Heard, NoMemory, Reply, Said};
 use std::alloc::Global;
 use std::marker::Model;
-use text_lines::Lines;
 
 /// The spelling of requests and replies as the lines of a script.
 ///

@@ -7,7 +7,7 @@ ghost use Rattle.std.specs.Result.{result_ok};
 ghost use Rattle.hex.specs.Hex.{pair_value, hex_digit_value, is_hex_digit, decode_of};
 ghost use Rattle.request_form.specs.Operations.{numbers_of};
 ghost use Rattle.script_text.specs.Requests.{request_of};
-ghost use Rattle.text_lines.specs.Text.{Takes};
+ghost use Rattle.items.specs.Text.{Takes};
 ghost use Rattle.script_text.specs.Lines.{fields_of, script_lines};
 ghost use Rattle.script_text.specs.Begun.{IsPlain};
 ghost use Rattle.script_text.specs.Commands.{command_of};

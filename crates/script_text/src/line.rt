@@ -2,7 +2,7 @@ ghost use Rattle.std.specs.Prelude.{◌≡◌, ◌⊎◌, ◌<◌, ◌≤◌, �
 ghost use Rattle.std.specs.Bool.{MatchBool};
 ghost use Rattle.arrayvec.specs.ArrayVec.{array_vec_len};
 ghost use Rattle.std.specs.List.{All};
-ghost use Rattle.text_lines.specs.Text.{Takes};
+ghost use Rattle.items.specs.Text.{Takes};
 ghost use Rattle.script_text.specs.Requests.{forms, request_in, request_of};
 ghost use Rattle.script_text.specs.Commands.{command_of};
 ghost use Rattle.script_text.specs.Lines.{fields_of, heard_as, script_lines};
@@ -12,10 +12,10 @@ ghost use Rattle.script_text.specs.Begun.{IsLetter, begun_text, IsBegun};
 use crate::command::operation_of;
 use crate::fields::Fields;
 use arrayvec::ArrayVec;
+use items::lines::Body;
 use request_form::{Fault, Heard, NoMemory, Operation, Request};
 use std::alloc::Global;
 use std::marker::Model;
-use text_lines::Body;
 
 // The most bytes of a line, its end not counted.
 const MAX_LINE: usize = 4_194_304;

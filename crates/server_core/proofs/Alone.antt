@@ -4,7 +4,7 @@ use Rattle.std.proofs.lemmas.List.Concat.{flat_map-append}
 use Rattle.std.specs.Prelude.{Option, flat_map}
 use Rattle.faults.specs.Counts.{RoseBy}
 use Rattle.blob_model.specs.History.{AllOther}
-use Rattle.item_stream.proofs.Rounds.{until_last-twice, until_last-parts}
+use Rattle.items.proofs.Rounds.{until_last-twice, until_last-parts}
 use Rattle.request_form.proofs.Runs.{well_until}
 use Rattle.request_form.specs.Session.{Fixed, Session, AllOwn, IsNobody}
 use Rattle.request_form.specs.Transcript.{ItemReply, Run, Transcript, is_last, until_quit, first_session, item_faults, faults_of, faults_in}

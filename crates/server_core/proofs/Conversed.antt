@@ -3,9 +3,9 @@ use Rattle.std.proofs.Common.{◌≡◌, ℕ, ◌+◌, ◌<◌, ◌≤◌, List,
 use Rattle.std.specs.Prelude.{Bool, Option, flat_map}
 use Rattle.std.specs.Io.KnownBytes.{IsAtEnd}
 use Rattle.faults.specs.Counts.{RoseBy}
-use Rattle.item_stream.specs.Items.{ItemStream}
-use Rattle.item_stream.specs.Rounds.{until_last, has_last}
-use Rattle.item_stream.proofs.Rounds.{Rounds-length}
+use Rattle.items.specs.Items.{ItemStream}
+use Rattle.items.specs.Rounds.{until_last, has_last}
+use Rattle.items.proofs.Rounds.{Rounds-length}
 use Rattle.server_core.specs.declared.flow.End.{End}
 use Rattle.server_core.specs.declared.flow.End.TheVariants as Ends
 use Rattle.server_core.specs.Talk.{Talk, PointOf}

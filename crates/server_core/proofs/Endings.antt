@@ -4,9 +4,9 @@ use Rattle.std.proofs.KnownBytes.{Appends-nil, Appends-trans, Consumes-nil, Cons
 use Rattle.std.specs.Prelude.{Option}
 use Rattle.std.specs.Io.KnownBytes.{Appends, Consumes, IsAtEnd}
 use Rattle.faults.specs.Counts.{RoseBy}
-use Rattle.item_stream.specs.Items.{ItemStream, IsFed, after_items}
-use Rattle.item_stream.specs.Rounds.{until_last, has_last}
-use Rattle.item_stream.proofs.Rounds.{until_last-append, has_last-append, until_last-all, until_last-one}
+use Rattle.items.specs.Items.{ItemStream, IsFed, after_items}
+use Rattle.items.specs.Rounds.{until_last, has_last}
+use Rattle.items.proofs.Rounds.{until_last-append, has_last-append, until_last-all, until_last-one}
 use Rattle.server_core.specs.declared.flow.End.{End}
 use Rattle.server_core.specs.declared.flow.End.TheVariants as Ends
 use Rattle.server_core.specs.declared.flow.Flow.{Flow}

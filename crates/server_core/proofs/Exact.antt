@@ -2,9 +2,9 @@
 use Rattle.std.proofs.Common.{◌≡◌, ℕ, ◌<◌, Bool, true, false, List, [], length, refl, sym, ◌∙◌, ap, arith}
 use Rattle.std.proofs.lemmas.Bool.{false≢true}
 use Rattle.std.specs.Prelude.{Option}
-use Rattle.item_stream.specs.Items.{ItemStream}
-use Rattle.item_stream.specs.Rounds.{until_last, has_last}
-use Rattle.item_stream.proofs.Rounds.{has_last-until_last}
+use Rattle.items.specs.Items.{ItemStream}
+use Rattle.items.specs.Rounds.{until_last, has_last}
+use Rattle.items.proofs.Rounds.{has_last-until_last}
 use Rattle.server_core.specs.declared.flow.End.{End}
 use Rattle.server_core.specs.declared.flow.End.TheVariants as Ends
 use Rattle.server_core.specs.Conversed.{Ended, Closing, EndsExactly}

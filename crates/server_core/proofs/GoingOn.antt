@@ -5,15 +5,13 @@ use Rattle.std.proofs.KnownBytes.{Appends-nil, Appends-trans}
 use Rattle.std.specs.Prelude.{Option, flat_map}
 use Rattle.std.specs.Io.KnownBytes.{Appends}
 use Rattle.faults.specs.Counts.{RoseBy}
-use Rattle.item_stream.specs.Items.{ItemStream, after_item, after_items}
-use Rattle.item_stream.specs.Rounds.{until_last, has_last, Rounds, sum_rounds}
-use Rattle.item_stream.proofs.Rounds.{until_last-append, has_last-append, until_last-last}
+use Rattle.items.specs.Items.{ItemStream, after_item, after_items}
+use Rattle.items.specs.Rounds.{until_last, has_last, Rounds, sum_rounds}
+use Rattle.items.proofs.Rounds.{until_last-append, has_last-append, until_last-last}
 use Rattle.server_core.specs.Talk.{Talk, PointOf}
 use Rattle.server_core.specs.Conversing.{Progress, Writes, AnswersFront, IsQuitBy, Goes, Quits, Stops, IsDrained}
 use Rattle.server_core.specs.declared.flow.Flow.{Flow}
-
-pub RoseBy-trans : (n m a b c : ℕ) → RoseBy n a b → RoseBy m b c → RoseBy (n + m) a c
-RoseBy-trans n m a b c p q = record { later = omega arith; by = λ h. omega (arith, p.by, q.by) }
+use Rattle.faults.proofs.Counts.{RoseBy-trans}
 
 -- rounds and then more, and their numbers added up
 module _ {A B S : Type 0} (Answers : S → A → B → S → Type 0) (count : S → A → B → ℕ) where

@@ -1,7 +1,7 @@
 -- What was answered, once what was held of the replies is written.
 use Rattle.std.proofs.Common.{ℕ, List, [], ◌∷◌, ◌++◌, inl, inr, sym, ◌∙◌, subst, append-nil}
 use Rattle.std.specs.Prelude.{Option}
-use Rattle.item_stream.specs.Items.{ItemStream}
+use Rattle.items.specs.Items.{ItemStream}
 use Rattle.server_core.specs.declared.flow.Flow.{Flow}
 use Rattle.server_core.specs.declared.flow.Flow.TheVariants as Flows
 use Rattle.server_core.specs.Talk.{Talk, PointOf}

@@ -2,8 +2,8 @@
 use Rattle.std.specs.Prelude.{◌≡◌, ◌⊎◌, ℕ, ◌<◌, Bool, true, false, List, [], ◌∷◌, ◌++◌, length, flat_map, Option}
 use Rattle.std.specs.Io.KnownBytes.{Appends}
 use Rattle.faults.specs.Counts.{RoseBy}
-use Rattle.item_stream.specs.Items.{ItemStream, after_items}
-use Rattle.item_stream.specs.Rounds.{until_last, has_last, Rounds, sum_rounds}
+use Rattle.items.specs.Items.{ItemStream, after_items}
+use Rattle.items.specs.Rounds.{until_last, has_last, Rounds, sum_rounds}
 use Rattle.server_core.specs.Talk.{Talk, PointOf}
 use Rattle.server_core.specs.declared.flow.Flow.{Flow}
 use Rattle.server_core.specs.declared.flow.Flow.TheVariants as Flows

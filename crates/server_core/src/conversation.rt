@@ -1,4 +1,4 @@
-use item_stream::Ending;
+use items::Ending;
 use request_form::{NoMemory, Said};
 use std::sync::Wait;
 use std::thread::Threads;
@@ -12,7 +12,7 @@ use std::thread::Threads;
 pub trait Conversation {
     ghost use Rattle.std.specs.Prelude.{◌≡◌, ℕ, List, [], OnOk, IfOk};
     ghost use denote.Param.Send.{IsSync};
-    ghost use Rattle.item_stream.specs.Items.{ItemStream, IsFed, IsNextItem, IsEndOf};
+    ghost use Rattle.items.specs.Items.{ItemStream, IsFed, IsNextItem, IsEndOf};
     ghost use Rattle.server_core.specs.Talk.{Talk, IsAnswer};
 
     /// What is heard.

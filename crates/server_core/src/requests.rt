@@ -9,7 +9,7 @@ ghost use Rattle.server_core.specs.Served.{Served, end_read_faults, end_write_fa
 use crate::conversation::Conversation;
 use crate::flow::End;
 use crate::serve::converse;
-use item_stream::Ending;
+use items::Ending;
 use ports::stream::{Sink, Source};
 use request_form::{Dialect, Heard, NoMemory, Reply, Request, Said, Service};
 use std::alloc::Global;

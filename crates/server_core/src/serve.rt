@@ -1,7 +1,7 @@
 use crate::conversation::Conversation;
 use crate::flow::{End, Flow};
 use crate::gather::Gathered;
-use item_stream::Ending;
+use items::Ending;
 use ports::stream::{Sink, Source, Taken};
 use request_form::{NoMemory, Said};
 use std::alloc::Global;

@@ -21,7 +21,7 @@ at_drop ranges k within =
 pub one_of_them : (ranges : List (ℕ × ℕ)) (k : ℕ) → k < length ranges → Contains ranges (slice_index_or ranges k (0, 0))
 one_of_them ranges k within = All-contains_itself ranges k (0, 0) within
 
-none_of_both : (x : Bool) (end : ℕ) (o : Option ℕ) → (if x then Some end else o) ≡ None → (x ≡ false) × (o ≡ None)
+pub none_of_both : (x : Bool) (end : ℕ) (o : Option ℕ) → (if x then Some end else o) ≡ None → (x ≡ false) × (o ≡ None)
 none_of_both true end o e = cc
 none_of_both false end o e = (refl, e)
 

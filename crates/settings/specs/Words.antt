@@ -9,7 +9,7 @@ use Rattle.settings.specs.declared.table.Key.TheVariants.{Page, Providers, Repli
 use Rattle.settings.specs.declared.table.Choice.{Choice}
 use Rattle.settings.specs.declared.table.Choice.TheVariants.{Settings, Listen}
 use Rattle.settings.specs.Table.{command_named, options_of, choice_name, is_needed, keys, key_name, range_of, fits}
-use Rattle.numeral.specs.Numerals.{number_of}
+use Rattle.items.specs.Numerals.{number_of}
 use Rattle.settings.specs.Values.{GivenValues}
 
 -- a text, as its bytes

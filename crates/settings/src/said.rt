@@ -12,7 +12,7 @@ use crate::table::{Choice, KEYS, Key};
 use crate::values::{Given, Text};
 use crate::words::WordsFault;
 use clap::ArgMatches;
-use numeral::number;
+use items::number;
 use std::alloc::{AllocError, Global};
 
 // The number that is given to a key, if there is one. None where what is given isn't a number of the key's range.

@@ -1,5 +1,5 @@
 // What was given, and the settings that come of it.
-ghost use Rattle.std.specs.Prelude.{◌≡◌, ℕ, ◌<◌, ◌^◌, [], Some, option_map, string_bytes, unwrap_or};
+ghost use Rattle.std.specs.Prelude.{◌≡◌, ℕ, ◌<◌, ◌^◌, [], Some, string_bytes};
 ghost use Rattle.std.specs.Option.{ForSome};
 ghost use Rattle.settings.specs.Values.{nothing, with_number, IsOf};
 
@@ -44,13 +44,6 @@ impl Text {
             None => "",
             Some(text) => text.as_str(),
         }
-    }
-
-    /// Gives the text back, where one was given. Takes no memory.
-    pub fn into_string(self) -> Option<String>
-        ensures { unwrap_or (option_map string_bytes result) [] ≡ self }
-    {
-        self.text
     }
 }
 

@@ -1,6 +1,5 @@
 -- Lists of rows, of updates and of where these fall.
-use Rattle.std.proofs.Common.{◌≡◌, ℕ, zero, suc, ◌+◌, ◌<◌, ◌≤◌, List, [], ◌∷◌, ◌++◌, length, take, drop, map, arith, refl, sym, ap, ◌∙◌}
-use Rattle.std.specs.List.{range_with_len}
+use Rattle.std.proofs.Common.{◌≡◌, ℕ, zero, suc, ◌+◌, ◌<◌, ◌≤◌, List, [], ◌∷◌, ◌++◌, length, take, drop, map, refl, sym, ap, ◌∙◌}
 use Rattle.std.proofs.lemmas.List.{length-map, get_or-map, get_or_append_left, take-append-drop}
 use Rattle.std.proofs.Math.Seq.{get_or-append_seam}
 use Rattle.blob_model.specs.Content.{Update}
@@ -28,14 +27,6 @@ update_told rows k lt = get_or-map update_of_row rows k no_row no_update lt
 pub update_at_front : (us more : List Update) (k : ℕ) → k ≤ length us → update_at (us ++ more) k ≡ update_at us k
 update_at_front us more zero le = refl
 update_at_front us more (suc k) le = get_or_append_left us more no_update k le
-
--- ---- lists
--- what a function makes of some numbers, one after another, by what it makes of each
-pub map_range : {X : Type 0} (f g : ℕ → X) (a n : ℕ) → ((i : ℕ) → a ≤ i → i < a + n → f i ≡ g i) → map f (range_with_len a n) ≡ map g (range_with_len a n)
-map_range f g a zero same = refl
-map_range f g a (suc n) same =
-    ap (λ x. x ∷ map f (range_with_len (a + 1) n)) (same a (omega arith) (omega arith))
-    ∙ ap (λ l. g a ∷ l) (map_range f g (a + 1) n (λ i le lt. same i (omega arith) (omega arith)))
 
 pub map_same : {X Y : Type 0} (f g : X → Y) (xs : List X) → ((x : X) → f x ≡ g x) → map f xs ≡ map g xs
 map_same f g [] same = refl

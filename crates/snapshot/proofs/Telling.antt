@@ -16,7 +16,8 @@ use Rattle.node_store.specs.UpdateRows.{UpdateRow}
 use Rattle.range_log.proofs.Bytes.{content_next, length-extents, extent_is}
 use Rattle.snapshot.specs.Versions.{row_at, update_of_row, updates}
 use Rattle.snapshot.specs.Laws.{AreRowsOf, TellUpdates}
-use Rattle.snapshot.proofs.Lists.{length-updates, update_told, map_range, map_same}
+use Rattle.snapshot.proofs.Lists.{length-updates, update_told, map_same}
+use Rattle.radix_list.proofs.Grouping.{map_range}
 use Rattle.snapshot.proofs.Growing.{touch_stays, row_stays, folds_kept}
 
 -- ---- all that rows tell

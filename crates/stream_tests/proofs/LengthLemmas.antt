@@ -1,7 +1,7 @@
 -- Lines that are heard as their lengths.
 use Rattle.std.proofs.Common.{◌≡◌, ◌∙◌, ℕ, ◌+◌, ◌<◌, ◌==◌, nat_lt, Bool, cond, true, false, List, [], ◌∷◌, ◌++◌, length, length-append, refl, ap, arith}
 use Rattle.std.proofs.lemmas.Bool.Decides.{nat_tests}
-use Rattle.item_stream.specs.Items.{after_item}
+use Rattle.items.specs.Items.{after_item}
 use Rattle.stream_tests.specs.Lengths.{heard_behind}
 
 cut_where : (count : ℕ) (bytes : List ℕ) → (heard_behind count bytes).whole ≡ [] → (heard_behind count bytes).cut ≡ nat_lt 0 (count + length bytes)

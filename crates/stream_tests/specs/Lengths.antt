@@ -1,7 +1,7 @@
 -- Lines that are heard as their lengths: a newline ends each, an empty one is the last, and each is answered by the greatest length so far.
 use Rattle.std.specs.Prelude.{◌≡◌, ℕ, ◌+◌, ◌==◌, nat_lt, max, if◌then◌else◌, List, [], ◌∷◌, ◌++◌}
 use Rattle.std.specs.Fmt.{decimal}
-use Rattle.item_stream.specs.Items.{ItemStream, after_item}
+use Rattle.items.specs.Items.{ItemStream, after_item}
 use Rattle.server_core.specs.Talk.{Talk}
 
 -- what bytes say behind so many of a line

@@ -4,7 +4,7 @@ ghost use Rattle.std.specs.Prelude.{◌≡◌, []};
 
 use crate::unasked::Unasked;
 use frame_wire::FrameDialect;
-use ports::memory::{MemSink, MemSource};
+use memory_ports::{MemSink, MemSource};
 use ports::pair::Pair;
 use request_form::Dialect;
 use script_text::ScriptDialect;

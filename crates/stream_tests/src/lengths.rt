@@ -4,8 +4,8 @@ ghost use Rattle.std.specs.Prelude.{IfOk, ◌≡◌, []};
 ghost use Rattle.stream_tests.specs.Lengths.{heard_behind};
 
 use blob_model::Bytes;
-use item_stream::{Chunk, Ending};
-use ports::memory::{MemSink, MemSource};
+use items::{Chunk, Ending};
+use memory_ports::{MemSink, MemSource};
 use ports::pair::Pair;
 use request_form::{NoMemory, Said};
 use server_core::{Conversation, End, converse};

@@ -2,7 +2,7 @@
 
 ghost use Rattle.std.specs.Prelude.{◌<◌};
 
-use ports::memory::MemSource;
+use memory_ports::MemSource;
 use ports::stream::{Ends, Sink, Source, Taken, Written};
 use std::alloc::{AllocError, Global};
 

@@ -2,10 +2,10 @@
 use Rattle.std.proofs.Common.{true, false, Bool}
 use Rattle.std.proofs.Common.{◌≡◌, ◌⊎◌, ℕ, zero, suc, ◌+◌, ◌-◌, ◌*◌, ◌/◌, ◌<◌, ◌≤◌, List, [], ◌∷◌, ◌++◌, length, take, drop, max, min, arith, inl, inr, refl, ap, sym, subst, ◌∙◌}
 use Rattle.std.specs.Prelude.{◌==◌, ◌&&◌, not, if◌then◌else◌}
-use Rattle.std.specs.List.{Contains, filter}
+use Rattle.std.specs.List.{Contains}
 use Rattle.std.proofs.lemmas.Bool.{cases_lt, eq-eqb}
 use Rattle.std.proofs.lemmas.List.{get_or_append_left, get_or-take, take-take, length-take-le}
-use Rattle.std.proofs.lemmas.List.Elements.{All-contains, All-contains_itself, All-filter, filter_passes, Contains-append_cases}
+use Rattle.std.proofs.lemmas.List.Elements.{Contains-append_cases}
 use Rattle.blob_model.specs.Content.{Update, put, content, content_from, size_of}
 use Rattle.tree_geom.specs.declared.touch.Touch.{Touch}
 use Rattle.tree_geom.specs.declared.range.Range.{Range}
@@ -28,20 +28,12 @@ use Rattle.tree_weaver.specs.Planned.{own_depth, own_extent, own_folded, own_fol
 use Rattle.tree_weaver.proofs.Plans.{folds_told}
 use Rattle.tree_weaver.specs.Anew.{IsStoredAnew, KnowsBefore, IsChanged, bytes_anew}
 use Rattle.tree_weaver.specs.Woven.{IsAmong}
+use Rattle.range_log.proofs.Folds.{single, filter_only}
+use Rattle.range_log.proofs.Nodes.{not_both}
 
 -- ---- lists
 pub none_in : (i : ℕ) → Contains [] i → ⊥
 none_in i c = let lt : c.0 < 0 = c.1 in omega arith
-
-single : (x i : ℕ) → Contains (x ∷ []) i → x ≡ i
-single x i (zero, lt, e) = e
-single x i (suc k, lt, e) = absurd (omega (arith, lt))
-
-filter_only : (f : ℕ → Bool) (l : List ℕ) (i : ℕ) → Contains (filter f l) i → Contains l i × (f i ≡ true)
-filter_only f l i c = (
-  All-contains (Contains l) (filter f l) i (All-filter f (Contains l) l (All-contains_itself l)) c,
-  All-contains (λ x. f x ≡ true) (filter f l) i (filter_passes f l) c,
-)
 
 edges_are : (b : Bool) (first last i : ℕ) → Contains (if b then first ∷ [] else first ∷ last ∷ []) i → (first ≡ i) ⊎ (last ≡ i)
 edges_are true first last i c = inl (single first i c)
@@ -79,9 +71,6 @@ all_covered p at len size old i some le is past reach =
 uncovered : (whole rest : Bool) → (not whole && rest) ≡ true → whole ≡ false
 uncovered true rest e = sym e
 uncovered false rest e = refl
-
-not_both : (b : Bool) → b ≡ true → b ≡ false → ⊥
-not_both b e f = grind (arith, e, f)
 
 pub changed : EachTouchIs → TouchesAre → SizesAre → ExtentsStand → (t : NumberedUpdate) (i : ℕ) → IsValidTicket t → IsStoredAnew t i → length t.snapshot.rows + 1 ≡ t.version → IsChanged t i
 changed each are sizes stand t i is anew before =

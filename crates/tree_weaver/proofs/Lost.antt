@@ -7,7 +7,7 @@ use Rattle.page_store.specs.House.{House}
 use Rattle.page_store.specs.Page.{IsAmong}
 use Rattle.page_store.specs.Stored.{Stored, LieAmong}
 use Rattle.page_fan.specs.Counts.{NoneFell, RoseAt}
-use Rattle.page_writer.specs.Lost.{NoneTook}
+use Rattle.page_fan.specs.Lost.{NoneTook}
 use Rattle.border_hints.specs.Numbered.{NumberedUpdate}
 use Rattle.range_reader.proofs.Counting.{page_since, risen_since}
 use Rattle.tree_weaver.specs.Anew.{FoldFailed, Unread, Unfetched, Untaken, OnLostFold}

@@ -21,6 +21,8 @@ use Rattle.range_log.specs.Rows.{back_by, covered, edge_pages, fold_at, pages_in
 use Rattle.range_log.specs.Laws.{EachTouchIs, SizesAre}
 use Rattle.border_hints.specs.Numbered.{NumberedUpdate, own_touch, log_upto, IsTicketAmong, IsValidTicket}
 use Rattle.tree_weaver.specs.Planned.{own_extent, own_folds, own_node, own_nodes, own_ranges, ranges_of}
+use Rattle.range_log.proofs.Exact.{row-levels}
+use Rattle.snapshot.proofs.Lists.{map_same}
 
 -- ---- what the updates tell that a ticket stands for
 -- a node, by where the update falls, the touches, the size after it and its version
@@ -69,14 +71,6 @@ folds_made p us k = refl
 folds_own : (t : NumberedUpdate) → made_folds t.snapshot.page_size (own_extent t) (log_upto t) t.size t.version ≡ own_folds t
 unfolding made_folded made_folds
 folds_own t = refl
-
-keys_of_touch : (p : ℕ) (log : List Touch) (k : ℕ) → row_keys_of p log k ≡ levels_of p (touch_at log k) (suc (height_of p (size_at log k)))
-unfolding row_keys_of
-keys_of_touch p log k = refl
-
-map_same : {X Y : Type 0} (f g : X → Y) (xs : List X) → ((x : X) → f x ≡ g x) → map f xs ≡ map g xs
-map_same f g [] same = refl
-map_same f g (x ∷ xs) same = ap (λ y. y ∷ map f xs) (same x) ∙ ap (λ l. g x ∷ l) (map_same f g xs same)
 
 map_id : {X : Type 0} (xs : List X) → map (λ x. x) xs ≡ xs
 map_id [] = refl
@@ -129,7 +123,7 @@ module _ (each : EachTouchIs) (sizes : SizesAre) (t : NumberedUpdate) (is : IsVa
       let p : ℕ = t.snapshot.page_size in
       let k : ℕ = t.version in
       let keys : row_keys_of p (touches p us) k ≡ own_ranges t =
-      keys_of_touch p (touches p us) k ∙ ap (λ (u : Touch). levels_of p u (suc (height_of p u.size))) own_touch_in in
+      row-levels p (touches p us) k ∙ ap (λ (u : Touch). levels_of p u (suc (height_of p u.size))) own_touch_in in
       let same : (r : Range) → node_of p us k r ≡ own_node t r = λ r.
       made_of p us k r
       ∙ ap (λ x. made_node p x (touches p us) (size_after us k) k r) st.own

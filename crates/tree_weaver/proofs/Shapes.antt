@@ -4,7 +4,7 @@ use Rattle.std.specs.Prelude.{◌==◌, not, if◌then◌else◌}
 use Rattle.std.proofs.lemmas.Bool.{cases_order, false≢true}
 use Rattle.std.proofs.lemmas.Bool.Decides.{nat_tests}
 use Rattle.std.proofs.lemmas.Nat.{mul-le, pow_pos}
-use Rattle.std.proofs.Math.Nat.{pow-succ', div-mul-le_self, lt-div-mul-add, mul-div_cancel}
+use Rattle.std.proofs.Math.Nat.{div-mul-le_self, lt-div-mul-add, mul-div_cancel}
 use Rattle.tree_geom.specs.declared.range.Range.{Range}
 use Rattle.tree_geom.specs.declared.touch.Touch.{Touch}
 use Rattle.tree_geom.specs.Geometry.{tree_range, page_range, height_of, span_of, covers, touched_by, leaves_open, Meets}
@@ -18,9 +18,7 @@ use Rattle.border_hints.specs.Borders.{IsRowRange, BorderLinks, AreBorders}
 use Rattle.border_hints.proofs.Depths.{depth_whole}
 use Rattle.tree_weaver.specs.Planned.{own_link, own_back, own_depth, own_leaf, own_inner, own_node}
 use Rattle.tree_geom.proofs.Spans.{page_pos, size_pos}
-
-pub double : (p h : ℕ) → p * 2 ^ (h + 1) ≡ 2 * (p * 2 ^ h)
-double p h = let e : h + 1 ≡ suc h = omega arith in rw (e, pow-succ' 2 h) (omega arith)
+use Rattle.border_hints.proofs.Published.{double}
 
 -- ---- the pages of some bytes
 pub page_low : (at p i : ℕ) → 1 ≤ p → at / p ≤ i → at < i * p + p

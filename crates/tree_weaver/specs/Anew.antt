@@ -5,7 +5,7 @@ use Rattle.blob_model.specs.Content.{put}
 use Rattle.range_log.specs.Extents.{Extent}
 use Rattle.range_log.specs.Rows.{folds_of, leaf_start, leaf_from, leaf_len}
 use Rattle.page_store.specs.Stored.{Stored, bytes_of_pages}
-use Rattle.page_writer.specs.Lost.{NoneTook}
+use Rattle.page_fan.specs.Lost.{NoneTook}
 use Rattle.snapshot.specs.Versions.{size_now}
 use Rattle.border_hints.specs.Numbered.{NumberedUpdate, IsTicketAmong}
 use Rattle.range_reader.specs.Reading.{page_in}

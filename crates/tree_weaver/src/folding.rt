@@ -15,9 +15,8 @@ ghost use Rattle.tree_weaver.specs.Put.{WasPut};
 
 use border_hints::Ticket;
 use node_store::{Folds, NoMemory, NodeHouse};
-use page_fan::{BesideDoor, Doors, StoreFault, fetch};
+use page_fan::{BesideDoor, Doors, StoreFault, fetch, store_page};
 use page_store::{Door, Houses, StoredPage};
-use page_writer::store_page;
 use provider_manager::SharedLoads;
 use range_reader::{ReadRoom, read};
 use std::alloc::Global;

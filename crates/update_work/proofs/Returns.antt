@@ -18,10 +18,6 @@ Entries = List (ℕ × Event)
 
 -- ---- entries and events
 
-pub no_front : (xs ys : List Event) → xs ++ ys ≡ [] → xs ≡ []
-no_front [] ys e = refl
-no_front (x ∷ xs) ys e = absurd (let no : (x ∷ (xs ++ ys)) ≡ [] = e in cc)
-
 pub events_tagged : (es : List Event) → events (tagged es) ≡ es
 events_tagged [] = refl
 events_tagged (e ∷ es) = ap (λ (l : List Event). e ∷ l) (events_tagged es)

@@ -14,22 +14,20 @@ use Rattle.range_log.specs.Open.{open_at}
 use Rattle.range_log.specs.Updates.{extents, extent_of, Replayable}
 use Rattle.range_log.proofs.Bytes.{size_is, length-extents}
 use Rattle.range_log.proofs.Grown.{size-touches}
-use Rattle.range_log.proofs.Growth.{rows_stay, extents_grow}
+use Rattle.range_log.proofs.Growth.{rows_stay, extents_grow, extent_of_front, size_front}
 use Rattle.node_store.specs.UpdateRows.{UpdateRow}
-use Rattle.snapshot.specs.Versions.{row_at, updates_of, older_version, under_blob, IsRowOf, IsVersion}
-use Rattle.snapshot.specs.Versions.{size_now as version_size}
+use Rattle.snapshot.specs.Versions.{row_at, updates_of, older_version, under_blob, IsRowOf, IsVersion, size_now as version_size}
 use Rattle.snapshot.specs.Laws.{AreRowsOf, TellUpdates}
 use Rattle.snapshot.proofs.Growing.{IsRowOf-shorter}
 use Rattle.snapshot.proofs.Telling.{told}
-use Rattle.publisher.specs.Windows.{Numbered, finished_of, published_of, leading, version_of, waiting_of, window_on, with_finished}
-use Rattle.publisher.specs.Windows.{is_finished as is_done}
+use Rattle.publisher.specs.Windows.{Numbered, finished_of, published_of, leading, version_of, waiting_of, window_on, with_finished, is_finished as is_done}
 use Rattle.publisher.proofs.Growing.{new_stands}
 use Rattle.publisher.proofs.Leading.{published_counts}
 use Rattle.publisher.proofs.Standing.{rows_published, stands_finished}
-use Rattle.range_log.proofs.Growth.{extent_of_front, size_front}
 use Rattle.tree_geom.proofs.Spans.{page_pos}
 use Rattle.version_manager.specs.DeskInvariant.{Keeps}
-use Rattle.version_manager.proofs.BlobsSizes.{prefix_within, prefix_set, prefix_true, prefix_whole, all_present, opens_count, opens_touch, sizes_grow}
+use Rattle.version_manager.proofs.BlobsSizes.{prefix_set, prefix_true, prefix_whole, all_present, opens_count, opens_touch, sizes_grow}
+use Rattle.blob_model.proofs.Marks.{prefix_within}
 
 -- rows of updates are those of the first of them
 rows_of_front : (p v : ℕ) (us : List Update) (rows : List UpdateRow) → v ≤ length us → length rows ≤ v → AreRowsOf p us rows → AreRowsOf p (take v us) rows

@@ -14,12 +14,6 @@ use Rattle.node_store.specs.UpdateRows.{UpdateRow}
 use Rattle.publisher.specs.Windows.{opens_from}
 use Rattle.publisher.specs.WindowInvariant.{present}
 
--- ---- the prefix that is all true
-pub prefix_within : (bs : List Bool) → true_prefix bs ≤ length bs
-prefix_within [] = omega arith
-prefix_within (true ∷ bs) = omega (arith, prefix_within bs)
-prefix_within (false ∷ bs) = omega arith
-
 pub prefix_more : (bs : List Bool) → true_prefix (bs ++ false ∷ []) ≡ true_prefix bs
 prefix_more [] = refl
 prefix_more (true ∷ bs) = ap (λ n. 1 + n) (prefix_more bs)

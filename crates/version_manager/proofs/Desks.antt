@@ -1,5 +1,5 @@
 -- What a desk keeps as its history goes on.
-use Rattle.std.proofs.Common.{◌≡◌, ℕ, ◌+◌, ◌-◌, ◌^◌, ◌<◌, ◌≤◌, ◌==◌, Bool, true, false, List, [], ◌∷◌, ◌++◌, length, map, set, get_or, suc, refl, sym, ◌∙◌, ap, subst, arith, length-append}
+use Rattle.std.proofs.Common.{◌≡◌, ℕ, ◌+◌, ◌-◌, ◌^◌, ◌<◌, ◌≤◌, ◌==◌, false, List, [], ◌∷◌, ◌++◌, length, map, set, get_or, suc, refl, sym, ◌∙◌, ap, subst, arith, length-append}
 use Rattle.std.specs.Prelude.{Some, None, slice_get}
 use Rattle.std.proofs.Math.ListN.{length-set}
 use Rattle.std.proofs.lemmas.List.{get_or_default, map-append, length-map}
@@ -14,7 +14,8 @@ use Rattle.version_manager.specs.declared.entry.Entry.{Entry}
 use Rattle.version_manager.specs.Desks.{no_window}
 use Rattle.version_manager.specs.Entries.{event_of}
 use Rattle.version_manager.specs.DeskInvariant.{IsBlobKept, Keeps, KeepsDesk}
-use Rattle.version_manager.proofs.Stores.{get-set_is, get-set_other, get-push_last, get-push_other}
+use Rattle.version_manager.proofs.Stores.{get-set_is, get-push_last}
+use Rattle.blob_model.proofs.Marks.{get-set_other, get-push_other, by_test}
 
 -- ---- one blob and its window
 pub keeps_of : (limits : Bounds) (p id : ℕ) (b : Blob) (w : Numbered) → IsBlobKept limits p id b w → Keeps limits w b
@@ -30,11 +31,6 @@ pushed_event old new entry e = ap (map event_of) e ∙ map-append event_of old (
 -- one entry more than a history that has room for it
 pub short_yet : (old new : List Entry) (entry : Entry) → new ≡ old ++ entry ∷ [] → length old + 1 < 2 ^ 38 → length (map event_of new) < 2 ^ 38
 short_yet old new entry e room = omega (arith, length-map new event_of, ap length e, length-append old (entry ∷ []))
-
--- ---- the windows
-pub by_test : (P : Type 0) (t : Bool) → (t ≡ true → P) → (t ≡ false → P) → P
-by_test P true f g = f refl
-by_test P false f g = g refl
 
 blob_of : (s : Store) (blob : ℕ) → 1 ≤ blob → blob_at s blob ≡ slice_get s.blobs (blob - 1)
 blob_of s blob some = let t : (blob == 0) ≡ false = grind (arith, nat_tests) in rw t refl

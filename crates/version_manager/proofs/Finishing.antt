@@ -1,7 +1,6 @@
 -- The finish of a numbered version.
 use Rattle.std.proofs.Common.{◌≡◌, ℕ, ◌-◌, ◌<◌, ◌≤◌, ◌==◌, Bool, true, false, List, [], ◌∷◌, ◌++◌, length, get_or, set, refl, sym, ◌∙◌, ap, subst, arith}
 use Rattle.std.specs.Prelude.{Option, Some, None, nat_lt}
-use Rattle.std.proofs.lemmas.List.{get_or-set_same}
 use Rattle.std.proofs.lemmas.Bool.Decides.{nat_tests}
 use Rattle.blob_model.specs.Limits.{Bounds}
 use Rattle.blob_model.specs.Content.{Update}
@@ -15,21 +14,16 @@ use Rattle.blob_model.specs.declared.call.Outcome.TheVariants as Outcomes
 use Rattle.blob_model.specs.declared.call.Refusal.TheVariants as Refusals
 use Rattle.node_store.specs.UpdateRows.{UpdateRow}
 use Rattle.snapshot.specs.Versions.{IsRowOf}
-use Rattle.publisher.specs.Windows.{Numbered}
-use Rattle.publisher.specs.Windows.{is_finished as is_done}
+use Rattle.publisher.specs.Windows.{Numbered, is_finished as is_done}
 use Rattle.border_hints.specs.Numbered.{NumberedUpdate}
 use Rattle.boxcar.specs.Table.{Shelves}
 use Rattle.page_store.specs.House.{House}
 use Rattle.version_manager.specs.Desks.{DeskState, updates_or_none, finished_or_not, is_finished_in, IsTicketOf, IsRowFor}
 use Rattle.version_manager.specs.DeskInvariant.{Keeps, KeepsDesk}
 use Rattle.version_manager.proofs.Blobs.{finished_is}
-use Rattle.version_manager.proofs.Stores.{store_after, legal_after, unless_none, unless_some, in_blob_here, blob_at-with}
-use Rattle.version_manager.proofs.Desks.{by_test, kept_of, absent, replaced, at_index, IsHere, IsAt}
-
-pub finished_true : (b : Blob) (version : ℕ) → 1 ≤ version → version ≤ length b.finished → is_finished (finish b version) version ≡ true
-finished_true b version some within =
-    let t : (version == 0) ≡ false = grind (arith, nat_tests) in
-    rw t (get_or-set_same b.finished (version - 1) true false (omega arith))
+use Rattle.version_manager.proofs.Stores.{store_after, legal_after, unless_none, unless_some, in_blob_here}
+use Rattle.blob_model.proofs.Marks.{blob_at-with, by_test}
+use Rattle.version_manager.proofs.Desks.{kept_of, absent, replaced, at_index, IsHere, IsAt}
 
 -- a numbered version that isn't finished may be
 pub finish_goes : (s : Store) (caller blob version : ℕ) (o : Option Blob) → blob_at s blob ≡ o → 1 ≤ version → version ≤ length (updates_or_none o) → finished_or_not o version ≡ false

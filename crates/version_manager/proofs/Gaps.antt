@@ -6,6 +6,7 @@ use Rattle.blob_model.specs.declared.call.Event.{Event}
 use Rattle.turn_lock.specs.History.{entries_by}
 use Rattle.version_manager.specs.Laws.{GapsAreOfOthers, EntriesAreEvents}
 use Rattle.version_manager.specs.Log.{tag, tagged, events}
+use Rattle.blob_model.proofs.Marks.{by_test}
 
 first_tag : (x : ℕ × Event) (xs : List (ℕ × Event)) → x ∷ xs ≡ tagged (events (x ∷ xs)) → x ≡ tag x.1
 first_tag x xs e = cc
@@ -17,10 +18,6 @@ later_tags x xs e = cc
 pub rest_tagged : (xs ys : List (ℕ × Event)) → xs ++ ys ≡ tagged (events (xs ++ ys)) → ys ≡ tagged (events ys)
 rest_tagged [] ys e = e
 rest_tagged (x ∷ xs) ys e = rest_tagged xs ys (later_tags x (xs ++ ys) e)
-
-by_test : (P : Type 0) (t : Bool) → (t ≡ true → P) → (t ≡ false → P) → P
-by_test P true f g = f refl
-by_test P false f g = g refl
 
 filled : {X : Type 0} (x : X) (xs : List X) → x ∷ xs ≡ [] → ⊥
 filled x xs e = cc

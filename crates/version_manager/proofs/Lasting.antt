@@ -19,8 +19,8 @@ use Rattle.range_log.specs.Updates.{update_at, extents, no_update}
 use Rattle.border_hints.specs.Numbered.{IsTicketAmong}
 use Rattle.version_manager.specs.Desks.{updates_or_none, updates_in, finished_or_not}
 use Rattle.version_manager.specs.Laws.{TicketsStay, UnfinishedStay}
-use Rattle.version_manager.proofs.Stores.{store_from-append, item_under, blob_at-with, get-set_other, get-push_other}
-use Rattle.version_manager.proofs.Desks.{by_test}
+use Rattle.blob_model.proofs.Marks.{get-set_other, get-push_other, item_under, blob_at-with, by_test, apart_from}
+use Rattle.blob_model.proofs.Stays.{store_from-append}
 
 -- ---- tickets
 same_update : (us later : List Update) (v : ℕ) → v ≤ length us → update_at (us ++ later) v ≡ update_at us v
@@ -71,9 +71,6 @@ open_more s blob version x o =
     let within : blob - 1 < length s.blobs = slice_get_within s.blobs (blob - 1) o.b i.1 in
     let apart : blob - 1 ≡ length s.blobs → ⊥ = λ e. omega arith in
     record { b = o.b; at = rw i.0 (get-push_other s.blobs (blob - 1) x apart ∙ i.1); numbered = o.numbered; waits = o.waits }
-
-apart_from : (id other : ℕ) → id - 1 ≡ other - 1 → (id == 0) ≡ false → (other == 0) ≡ false → (id == other) ≡ false → ⊥
-apart_from id other e some there apart = grind (arith, nat_tests)
 
 -- where one blob is replaced
 open_with : (s : Store) (other : ℕ) (before after : Blob) → blob_at s other ≡ Some before → (blob version : ℕ) → IsOpen s blob version

@@ -1,5 +1,5 @@
 -- The numbering of an update.
-use Rattle.std.proofs.Common.{◌≡◌, ℕ, ◌+◌, ◌-◌, ◌<◌, ◌≤◌, ◌==◌, Bool, false, List, [], ◌∷◌, ◌++◌, length, map, take, get_or, set, zero, suc, refl, sym, ◌∙◌, ap, subst, arith, length-append}
+use Rattle.std.proofs.Common.{◌≡◌, ℕ, ◌+◌, ◌-◌, ◌<◌, ◌≤◌, ◌==◌, Bool, false, List, [], ◌∷◌, ◌++◌, length, map, take, get_or, set, zero, suc, refl, sym, ◌∙◌, ap, subst, arith, length-append, Global}
 use Rattle.std.specs.Prelude.{Option, Some, None, is_some}
 use Rattle.std.proofs.Math.Seq.{take-length}
 use Rattle.std.proofs.lemmas.List.{get_or_push, length-map}
@@ -17,7 +17,6 @@ use Rattle.blob_model.specs.declared.call.Outcome.TheVariants as Outcomes
 use Rattle.blob_model.specs.declared.call.Refusal.{Refusal}
 use Rattle.blob_model.specs.declared.call.Refusal.TheVariants as Refusals
 use Rattle.range_log.specs.Updates.{update_at, extents, no_update}
-use Rattle.std.proofs.Common.{Global}
 use Rattle.std.specs.declared.sync.Arc.{Arc}
 use Rattle.std.specs.Arc.{arc_value}
 use Rattle.page_store.specs.declared.stored.Pages.{Pages}
@@ -31,7 +30,8 @@ use Rattle.version_manager.specs.Desks.{DeskState, updates_or_none, updates_in, 
 use Rattle.version_manager.specs.declared.fault.DeskFault.{DeskFault}
 use Rattle.version_manager.specs.declared.fault.DeskFault.TheVariants.{Refused, NoMemory}
 use Rattle.version_manager.specs.DeskInvariant.{Keeps, KeepsDesk, update_tests}
-use Rattle.version_manager.proofs.Stores.{store_after, legal_after, unless_none, unless_some, in_blob_here, in_blob_none, store_limits, blob_at-with}
+use Rattle.version_manager.proofs.Stores.{store_after, legal_after, unless_none, unless_some, in_blob_here, in_blob_none, store_limits}
+use Rattle.blob_model.proofs.Marks.{blob_at-with}
 use Rattle.version_manager.proofs.Desks.{pushed_event, absent, kept_of, replaced, IsHere}
 
 -- ---- the entry of a numbering

@@ -16,8 +16,8 @@ use Rattle.publisher.specs.Windows.{Numbered, leading, window_on, version_of, wi
 use Rattle.snapshot.specs.Versions.{older_version, under_blob}
 use Rattle.tree_geom.specs.declared.touch.Touch.{Touch}
 use Rattle.version_manager.specs.Origins.{LieUnderOrigins, parents_after, parents_from, parents_of, stored_under, AreUnder, KeepsOrigins}
-use Rattle.version_manager.proofs.Desks.{by_test}
-use Rattle.version_manager.proofs.Stores.{get-set_is, get-set_other, get-push_last, get-push_other}
+use Rattle.blob_model.proofs.Marks.{by_test, get-set_other, get-push_other}
+use Rattle.version_manager.proofs.Stores.{get-set_is, get-push_last}
 
 -- ---- the history
 pub from_append : (parents : List (Option Parent)) (xs ys : List Event) → parents_from parents (xs ++ ys) ≡ parents_from (parents_from parents xs) ys

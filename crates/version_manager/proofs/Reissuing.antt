@@ -24,15 +24,14 @@ use Rattle.range_log.proofs.Bytes.{size_is, length-extents, extent_is, bounds_ho
 use Rattle.range_log.proofs.Grown.{touch-touches}
 use Rattle.range_log.proofs.Growth.{rows_stay, extents_grow, extent_of_front}
 use Rattle.snapshot.specs.Versions.{Version, IsVersion}
-use Rattle.border_hints.specs.Numbered.{NumberedUpdate, log_with, own_touch}
-use Rattle.border_hints.specs.Numbered.{IsTicketAmong}
+use Rattle.border_hints.specs.Numbered.{NumberedUpdate, log_with, own_touch, IsTicketAmong}
 use Rattle.publisher.specs.Windows.{Numbered, published_of, version_of, waiting_of, opens_from}
 use Rattle.publisher.proofs.Growing.{touches_first}
 use Rattle.version_manager.specs.declared.waiting.WaitingUpdate.{WaitingUpdate}
 use Rattle.version_manager.specs.Desks.{DeskState, updates_in, updates_or_none, finished_or_not, opens_below, IsTicketOf, IsUnfinished}
 use Rattle.version_manager.specs.DeskInvariant.{Keeps, IsWaitingUpdate}
 use Rattle.version_manager.proofs.BlobsTests.{first_hit}
-use Rattle.version_manager.proofs.Desks.{by_test}
+use Rattle.blob_model.proofs.Marks.{by_test}
 use Rattle.version_manager.proofs.BlobsSizes.{opens_touches, opens_touch, opens_first}
 use Rattle.version_manager.proofs.Blobs.{leads, waiting_count, log_size, replayable_taken}
 use Rattle.version_manager.proofs.BlobsNext.{front}

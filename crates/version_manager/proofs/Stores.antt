@@ -1,9 +1,9 @@
 -- What the store of a history becomes by one event more.
-use Rattle.std.proofs.Common.{◌≡◌, ℕ, ◌-◌, ◌==◌, Bool, true, false, if◌then◌else◌, List, [], ◌∷◌, ◌++◌, length, set, zero, suc, refl, ◌∙◌, ap}
+use Rattle.std.proofs.Common.{◌≡◌, ℕ, ◌-◌, ◌==◌, false, if◌then◌else◌, List, [], ◌∷◌, ◌++◌, length, set, zero, suc, refl, ◌∙◌, ap}
 use Rattle.std.specs.Prelude.{Option, Some, None, slice_get}
 use Rattle.std.proofs.lemmas.Option.{none-some, same_Some}
 use Rattle.blob_model.specs.Limits.{Bounds}
-use Rattle.blob_model.specs.Store.{Store, Blob, blob_at, empty_store, with_blob}
+use Rattle.blob_model.specs.Store.{Store, Blob, blob_at, empty_store}
 use Rattle.blob_model.specs.Answer.{Answered, Test, answer, refuse, first_refusal, unless_refused, in_blob}
 use Rattle.blob_model.specs.History.{caller_of, call_of, store_from, store_of, is_refused, MayCall, IsLegalFrom, IsLegal}
 use Rattle.blob_model.specs.declared.call.Call.{Call}
@@ -12,11 +12,7 @@ use Rattle.blob_model.specs.declared.call.Event.{Event}
 use Rattle.blob_model.specs.declared.call.Outcome.{Outcome}
 use Rattle.blob_model.specs.declared.call.Refusal.{Refusal}
 use Rattle.blob_model.specs.declared.call.Refusal.TheVariants as Refusals
-
--- ---- a longer history
-pub store_from-append : (s : Store) (xs ys : List Event) → store_from s (xs ++ ys) ≡ store_from (store_from s xs) ys
-store_from-append s [] ys = refl
-store_from-append s (x ∷ xs) ys = store_from-append (answer s (caller_of x) (call_of x)).0 xs ys
+use Rattle.blob_model.proofs.Stays.{store_from-append}
 
 legal-append : (s : Store) (xs ys : List Event) → IsLegalFrom s xs → IsLegalFrom (store_from s xs) ys → IsLegalFrom s (xs ++ ys)
 legal-append s [] ys h k = k
@@ -71,40 +67,11 @@ from_limits s (e ∷ es) = from_limits (answer s (caller_of e) (call_of e)).0 es
 pub store_limits : (limits : Bounds) (h : List Event) → (store_of limits h).limits ≡ limits
 store_limits limits h = from_limits (empty_store limits) h
 
--- ---- items of lists
-pub get-set_same : {X : Type 0} (xs : List X) (i : ℕ) (x y : X) → slice_get xs i ≡ Some x → slice_get (set xs i y) i ≡ Some y
-get-set_same [] i x y h = absurd (none-some x h)
-get-set_same (a ∷ xs) zero x y h = refl
-get-set_same (a ∷ xs) (suc i) x y h = get-set_same xs i x y h
-
 pub get-set_is : {X : Type 0} (xs : List X) (i : ℕ) (x y : X) → slice_get (set xs i y) i ≡ Some x → y ≡ x
 get-set_is [] i x y h = absurd (none-some x h)
 get-set_is (a ∷ xs) zero x y h = same_Some y x h
 get-set_is (a ∷ xs) (suc i) x y h = get-set_is xs i x y h
 
-pub get-set_other : {X : Type 0} (xs : List X) (i j : ℕ) (y : X) → (j ≡ i → ⊥) → slice_get (set xs i y) j ≡ slice_get xs j
-get-set_other [] i j y ne = refl
-get-set_other (a ∷ xs) zero zero y ne = absurd (ne refl)
-get-set_other (a ∷ xs) zero (suc j) y ne = refl
-get-set_other (a ∷ xs) (suc i) zero y ne = refl
-get-set_other (a ∷ xs) (suc i) (suc j) y ne = get-set_other xs i j y (λ e. ne (ap suc e))
-
 pub get-push_last : {X : Type 0} (xs : List X) (y : X) → slice_get (xs ++ y ∷ []) (length xs) ≡ Some y
 get-push_last [] y = refl
 get-push_last (x ∷ xs) y = get-push_last xs y
-
-pub get-push_other : {X : Type 0} (xs : List X) (i : ℕ) (y : X) → (i ≡ length xs → ⊥) → slice_get (xs ++ y ∷ []) i ≡ slice_get xs i
-get-push_other [] zero y ne = absurd (ne refl)
-get-push_other [] (suc i) y ne = refl
-get-push_other (x ∷ xs) zero y ne = refl
-get-push_other (x ∷ xs) (suc i) y ne = get-push_other xs i y (λ e. ne (ap suc e))
-
--- ---- blobs of stores
-pub item_under : {X : Type 0} (none : Bool) (o : Option X) (x : X) → (if none then None else o) ≡ Some x → (none ≡ false) × (o ≡ Some x)
-item_under true o x h = absurd (none-some x h)
-item_under false o x h = (refl, h)
-
-pub blob_at-with : (s : Store) (blob : ℕ) (b b' : Blob) → blob_at s blob ≡ Some b → blob_at (with_blob s blob b') blob ≡ Some b'
-blob_at-with s blob b b' h =
-    let at = item_under (blob == 0) (slice_get s.blobs (blob - 1)) b h in
-    rw at.0 (get-set_same s.blobs (blob - 1) b b' at.1)

@@ -24,10 +24,11 @@ use Rattle.publisher.specs.Windows.{Numbered, published_of, window_on, with_numb
 use Rattle.version_manager.specs.declared.waiting.WaitingUpdate.{WaitingUpdate}
 use Rattle.version_manager.specs.Desks.{updates_or_none}
 use Rattle.version_manager.specs.DeskInvariant.{KeepsDesk, IsWaitingUpdate, AreWaiting, KeepsWaiting}
-use Rattle.version_manager.proofs.BlobsSizes.{prefix_within, prefix_more, prefix_set, prefix_whole, all_present}
-use Rattle.version_manager.proofs.Desks.{by_test, IsAt}
+use Rattle.version_manager.proofs.BlobsSizes.{prefix_more, prefix_set, prefix_whole, all_present}
+use Rattle.blob_model.proofs.Marks.{prefix_within, get-set_other, get-push_other, by_test}
+use Rattle.version_manager.proofs.Desks.{IsAt}
 use Rattle.version_manager.specs.Stays.{Longer, longer, same_update}
-use Rattle.version_manager.proofs.Stores.{get-set_is, get-set_other, get-push_last, get-push_other}
+use Rattle.version_manager.proofs.Stores.{get-set_is, get-push_last}
 
 get-drop : {X : Type 0} (n : ℕ) (xs : List X) (i : ℕ) → slice_get (drop n xs) i ≡ slice_get xs (n + i)
 get-drop zero xs i = let e : zero + i ≡ i = omega arith in sym (ap (slice_get xs) e)

@@ -1,14 +1,14 @@
 -- What a watch came to, and why it ended early, once its store is closed.
-use Rattle.std.proofs.Common.{◌≡◌, ◌≢◌, ◌⊎◌, inl, inr, ℕ, zero, suc, ◌+◌, ◌*◌, ◌<◌, ◌≤◌, ◌==◌, Bool, true, false, List, [], ◌∷◌, ◌++◌, length, refl, sym, ap, subst, ◌∙◌, append_assoc, append-nil, arith, Contains, get_or}
+use Rattle.std.proofs.Common.{◌≡◌, ◌≢◌, ◌⊎◌, inl, inr, ℕ, zero, suc, ◌+◌, ◌*◌, ◌<◌, ◌≤◌, ◌==◌, true, false, List, [], ◌∷◌, ◌++◌, length, refl, sym, ap, subst, ◌∙◌, append_assoc, append-nil, arith, Contains, get_or}
 use Rattle.std.specs.Prelude.{Option, Some, None, Result, Ok, Err, All}
-use Rattle.std.proofs.lemmas.Bool.{eq-eqb, eqb-true, true≢false}
-use Rattle.std.proofs.lemmas.List.{append_cancel_left, length-append, length-map}
-use Rattle.std.proofs.lemmas.List.Elements.{All-push, filter-append}
+use Rattle.std.proofs.lemmas.Bool.{true≢false}
+use Rattle.std.proofs.lemmas.List.{length-append, length-map}
+use Rattle.std.proofs.lemmas.List.Elements.{All-push}
 use Rattle.blob_model.specs.Content.{size_of}
 use Rattle.blob_model.specs.Limits.{Bounds, greatest}
 use Rattle.blob_model.specs.Store.{Blob, blob_at, empty_store}
 use Rattle.blob_model.specs.Answer.{answer}
-use Rattle.blob_model.specs.History.{store_of, caller_of, events_by, IsLegal, is_refused}
+use Rattle.blob_model.specs.History.{store_of, events_by, IsLegal, is_refused}
 use Rattle.blob_model.specs.declared.call.Call.TheVariants as Calls
 use Rattle.blob_model.specs.declared.call.Event.{Event}
 use Rattle.blob_model.specs.declared.call.Event.TheVariants as Events
@@ -28,21 +28,25 @@ use Rattle.request_form.specs.declared.form.Reply.TheVariants as Replies
 use Rattle.request_form.specs.declared.form.Fault.{Fault}
 use Rattle.request_form.specs.declared.form.Fault.TheVariants as Faults
 use Rattle.workload_law.specs.Ends.{IsOutside, NoPage, UpdateHindered, CreateHindered}
-use Rattle.workload_law.proofs.Closing.{nobodys_are_none}
+use Rattle.workload_law.proofs.Closing.{nobodys_are_none, no_front}
 use Rattle.workload_law.proofs.Lost.{outside_as}
 use Rattle.workload_law.proofs.OneCaller.{legal_front}
-use Rattle.update_work.proofs.Returns.{none_by, events_append, no_front}
-use Rattle.watch_law.specs.declared.plan.WatchPlan.{WatchPlan}
-use Rattle.watch_law.specs.declared.plan.WatchSummary.{WatchSummary}
-use Rattle.watch_law.specs.Watch.{IsSized, piece_of, range_of, IsWatchPage, HasWritten, HaveCome, IsUnderway, IsWatch, summary_of}
-use Rattle.watch_law.specs.Notes.{NotesState, IsPiece, HasDone}
-use Rattle.watch_law.specs.Laws.{ComeTogether, WatchesAreDone, BlobsAreThere, NothingElseHinders, IsDone, VersionsAreSized, PieceOutcome, PiecesAreTold}
+use Rattle.update_work.proofs.Returns.{none_by, events_append}
+use Rattle.workload_law.specs.declared.watch_plan.WatchPlan.{WatchPlan}
+use Rattle.workload_law.specs.declared.watch_plan.WatchSummary.{WatchSummary}
+use Rattle.workload_law.specs.Watch.{IsSized, piece_of, range_of, IsWatchPage, HasWritten, HaveCome, IsUnderway, IsWatch, summary_of}
+use Rattle.workload_law.specs.WatchNotes.{NotesState, IsPiece, HasDone}
+use Rattle.workload_law.specs.WatchLaws.{ComeTogether, WatchesAreDone, BlobsAreThere, NothingElseHinders, IsDone, VersionsAreSized, PieceOutcome, PiecesAreTold}
 use Rattle.watch_run.specs.Stages.{Entries, Owner, IsUnopened, IsWatched}
 use Rattle.watch_run.specs.Stops.{IsPageSeen, Stops}
 use Rattle.watch_run.specs.Noting.{IsPieceSeen}
 use Rattle.watch_run.specs.Ending.{IsSeenLast, HasWrittenAll, EndsBy, WatchEnds, TellsWatch, NotesSeen}
+use Rattle.watch_run.proofs.Compared.{same_content}
 use Rattle.watch_run.proofs.Noted.{all_noted_as}
-use Rattle.watch_run.proofs.Refusals.{same_fault}
+use Rattle.update_work.proofs.Updates.{same_fault}
+use Rattle.request_form.proofs.Own.{events_by-append}
+use Rattle.workload_law.proofs.WatchTogether.{or_not}
+use Rattle.workload_law.proofs.CallEnds.{none_after}
 
 -- two summaries that tell the same
 same_summary : (a b : WatchSummary) → a.size ≡ b.size → a.versions ≡ b.versions → a.agree ≡ b.agree → a ≡ b
@@ -59,22 +63,8 @@ by_number (suc made) (suc caller) = more (by_number made caller)
     more (inr (inl past)) = inr (inl (omega (arith, past)))
     more (inr (inr within)) = inr (inr (omega arith, omega (arith, within.1)))
 
-no_rest : (xs ys : List Event) → xs ++ ys ≡ [] → ys ≡ []
-no_rest [] ys e = e
-no_rest (x ∷ xs) ys e = absurd (let no : (x ∷ (xs ++ ys)) ≡ [] = e in cc)
-
-no_more : (xs ys : List Event) → xs ++ ys ≡ xs → ys ≡ []
-no_more xs ys e = append_cancel_left xs ys [] (e ∙ sym (append-nil xs))
-
-split_by : (caller : ℕ) (xs ys : List Event) → events_by caller (xs ++ ys) ≡ events_by caller xs ++ events_by caller ys
-split_by caller xs ys = filter-append (λ e. caller_of e == caller) xs ys
-
 begins_events : (xs ys : Entries) (b : Begins xs ys) → events ys ≡ events xs ++ events b.0
 begins_events xs ys b = ap (λ (l : Entries). events l) b.1 ∙ events_append xs b.0
-
-or_not : (n m : ℕ) (P : Type 0) → (n ≡ m → P) → (n ≢ m → P) → (t : Bool) → (n == m) ≡ t → P
-or_not n m P same apart true is = same (eqb-true n m is)
-or_not n m P same apart false is = apart (λ e. true≢false (sym (eq-eqb n m e) ∙ is))
 
 none_is_some : (b : Blob) (o : Option Blob) → o ≡ Some b → o ≡ None → ⊥
 none_is_some b o is none = (let no : Some b ≡ None = sym is ∙ none in cc)
@@ -107,11 +97,8 @@ not_told plan fault op outcome (PieceOutcome.unpublished last le is) told other 
     other (op + 1) last (same_fault fault (Faults.NotPublished (op + 1) last) (told ∙ ap (λ (o : Outcome). reply_of o) is))
 
 -- what it is given are an update's bytes
-same_bytes : (a b : List ℕ) → Replies.Content a ≡ Replies.Content b → a ≡ b
-same_bytes a b e = cc
-
 bytes_told : (plan : WatchPlan) (op : ℕ) (bytes : List ℕ) (outcome : Outcome) → PieceOutcome plan op outcome → Replies.Content bytes ≡ reply_of outcome → IsPiece plan op bytes
-bytes_told plan op bytes outcome (PieceOutcome.read is) told = same_bytes bytes (piece_of plan op) (told ∙ ap (λ (o : Outcome). reply_of o) is)
+bytes_told plan op bytes outcome (PieceOutcome.read is) told = same_content bytes (piece_of plan op) (told ∙ ap (λ (o : Outcome). reply_of o) is)
 bytes_told plan op bytes outcome (PieceOutcome.unpublished last le is) told =
     absurd (let no : Replies.Content bytes ≡ Replies.Refused (Faults.NotPublished (op + 1) last) = told ∙ ap (λ (o : Outcome). reply_of o) is in cc)
 
@@ -262,7 +249,7 @@ module _ (are : EntriesAreEvents) (plan : WatchPlan) (sized : IsSized plan) (f :
           (λ two. subst (λ (n : ℕ). events_by n (events old ++ events all.begins.0) ≡ events_by n (events old)) (sym two) (ap (λ (h : List Event). events_by 2 h) (sym whole_is) ∙ sym all.same))
           (λ not_two.
           let none : events_by c (events old ++ events all.begins.0) ≡ [] = ap (λ (h : List Event). events_by c h) (sym whole_is) ∙ none_by_others c not_one not_two in
-          none ∙ sym (no_front (events_by c (events old)) (events_by c (events all.begins.0)) (sym (split_by c (events old) (events all.begins.0)) ∙ none))) (c == 2) refl) (c == 1) refl
+          none ∙ sym (no_front (events_by c (events old)) (events_by c (events all.begins.0)) (sym (events_by-append c (events old) (events all.begins.0)) ∙ none))) (c == 2) refl) (c == 1) refl
 
       old_is : history ≡ events old
       old_is = whole_is ∙ (ap (λ (l : List Event). events old ++ l) (nobodys_are_none (events old) (events all.begins.0) rest_none) ∙ append-nil (events old))
@@ -276,7 +263,7 @@ module _ (are : EntriesAreEvents) (plan : WatchPlan) (sized : IsSized plan) (f :
           let both : events old ++ (events from.0 ++ events to.0) ≡ events old =
           sym (append_assoc (events old) (events from.0) (events to.0)) ∙ (ap (λ (l : List Event). l ++ events to.0) (sym one) ∙ (sym two ∙ old_is))
           in
-          let none : events from.0 ≡ [] = no_front (events from.0) (events to.0) (no_more (events old) (events from.0 ++ events to.0) both) in
+          let none : events from.0 ≡ [] = no_front (events from.0) (events to.0) (none_after (events old) (events from.0 ++ events to.0) both) in
           one ∙ (ap (λ (l : List Event). events old ++ l) none ∙ (append-nil (events old) ∙ sym old_is))
 
       mid_is : events last.mid ≡ history

@@ -35,12 +35,12 @@ use Rattle.read_board.specs.Reads.{Goes, goes_by}
 use Rattle.read_board.specs.Refreshes.{updates_of}
 use Rattle.read_board.specs.Laws.{Agrees}
 use Rattle.workload_law.specs.Ends.{IsOutside}
-use Rattle.workload_law.proofs.ReadBack.{found}
-use Rattle.watch_law.proofs.Pieces.{two_pass}
+use Rattle.workload_law.proofs.ReadBack.{found, passes}
 use Rattle.update_work.proofs.Returns.{events_append}
 use Rattle.watch_run.specs.Agreeing.{IsVersionIn, IsSeenBy}
 use Rattle.watch_run.specs.declared.last.Last.{Last}
-use Rattle.watch_run.proofs.Refusals.{TurnRefused, turn_refused, same_fault}
+use Rattle.watch_run.proofs.Refusals.{TurnRefused, turn_refused}
+use Rattle.update_work.proofs.Updates.{same_fault}
 
 abbrev Entries : Type 0
 Entries = List (ℕ × Event)
@@ -85,7 +85,7 @@ whole_outcome s version b at out =
     let second : (range_past_size b version 0 n).refuses ≡ false = grind (arith, nat_tests) in
     ap (λ (a : Answered). a.1)
     (found s 1 b (λ b. unless_refused s (not_published b version ∷ range_past_size b version 0 n ∷ []) (s, Outcomes.Content (bytes_of b version 0 n))) at
-    ∙ two_pass s (not_published b version) (range_past_size b version 0 n) (s, Outcomes.Content (bytes_of b version 0 n)) first second)
+    ∙ passes s (not_published b version) (range_past_size b version 0 n) (s, Outcomes.Content (bytes_of b version 0 n)) first second)
     ∙ ap (λ (l : List ℕ). Outcomes.Content l) (take_all n (content b.updates version) (omega arith))
 
 -- no refusal of the store is that of a session
@@ -117,9 +117,6 @@ store_counts_none (Refusals.Already x) = refl
 not_lost : (r : Refusal) (page : ℕ) → fault_of r ≡ Faults.PageFault page → ⊥
 not_lost r page is = omega (arith, store_counts_none r, ap (λ (x : Fault). page_faults x) is)
 
-same_content : (a b : List ℕ) → Replies.Content a ≡ Replies.Content b → a ≡ b
-same_content a b e = cc
-
 -- a read of no more bytes than a read may have isn't too long
 short_read : (s s' : Session) (version count : ℕ) (fault : Fault) → count ≤ max_read → Answers AllOther s (Requests.Read 1 version 0 count) (Replies.Refused fault) s' → fault ≡ Faults.ReadTooLong count → ⊥
 short_read s s' version count fault few answers is = by_test (nat_lt max_read count) refl answers
@@ -134,6 +131,9 @@ short_read s s' version count fault few answers is = by_test (nat_lt max_read co
         → Unless (if t then Some (Faults.ReadTooLong count) else None) s (Replies.Refused fault) s' (AfterGap AllOther s (ReadTurn s 1 version 0 count) (Replies.Refused fault) s') → ⊥
     by_test true long x = grind (arith, nat_tests)
     by_test false long a = by_turn a.others a.turn a.may a.said
+
+pub same_content : (a b : List ℕ) → Replies.Content a ≡ Replies.Content b → a ≡ b
+same_content a b e = cc
 
 -- so the whole of a version is read that was published in a history that the session has seen
 abbrev pub TurnTells : ℕ → List ℕ → Result (List ℕ) Fault → Type 0

@@ -11,7 +11,7 @@ use Rattle.read_board.specs.declared.refresh.Refresh.{Refresh}
 use Rattle.read_board.specs.Refreshing.{AllHold}
 use Rattle.read_board.specs.Telling.{BoardReadsTell}
 use Rattle.update_work.specs.Updates.{told_faults}
-use Rattle.watch_law.specs.declared.plan.WatchPlan.{WatchPlan}
+use Rattle.workload_law.specs.declared.watch_plan.WatchPlan.{WatchPlan}
 use Rattle.watch_run.specs.Idling.{Idles}
 use Rattle.watch_run.specs.Readers.{WatcherState, StandsAt, HasMet, HasWatched, HaveWatched}
 use Rattle.watch_run.specs.Stages.{Entries, IsIdle}

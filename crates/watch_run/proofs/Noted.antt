@@ -35,10 +35,10 @@ use Rattle.read_board.specs.Refreshes.{version_of, updates_of}
 use Rattle.read_board.specs.Refreshing.{Holds, AllHold}
 use Rattle.read_board.specs.Telling.{BoardReadsTell}
 use Rattle.update_work.specs.Callers.{Told}
-use Rattle.watch_law.specs.declared.plan.WatchPlan.{WatchPlan}
-use Rattle.watch_law.specs.declared.plan.WatchSummary.{WatchSummary}
-use Rattle.watch_law.specs.Watch.{range_of}
-use Rattle.watch_law.specs.Notes.{NotesState, noted, HasNotedOne, HasNoted, HaveNoted}
+use Rattle.workload_law.specs.declared.watch_plan.WatchPlan.{WatchPlan}
+use Rattle.workload_law.specs.declared.watch_plan.WatchSummary.{WatchSummary}
+use Rattle.workload_law.specs.Watch.{range_of}
+use Rattle.workload_law.specs.WatchNotes.{NotesState, noted, HasNotedOne, HasNoted, HaveNoted}
 use Rattle.watch_run.specs.Crews.{IsReadyToWatch, CameToEnd, AllCameToEnd}
 use Rattle.watch_run.specs.Ending.{Finishes, NotesOf, NotesSeen}
 use Rattle.watch_run.specs.Idling.{Idles}

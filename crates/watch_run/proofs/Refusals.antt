@@ -32,9 +32,10 @@ use Rattle.read_board.specs.Reads.{Goes, goes_by}
 use Rattle.read_board.specs.Refreshes.{updates_of}
 use Rattle.workload_law.specs.Ends.{IsOutside}
 use Rattle.update_work.specs.Callers.{Told}
-use Rattle.watch_law.specs.Watch.{range_of}
+use Rattle.workload_law.specs.Watch.{range_of}
 use Rattle.watch_run.specs.Readers.{ReadHindered}
 use Rattle.watch_run.specs.Stops.{IsPageSeen, IsRefusedIn}
+use Rattle.update_work.proofs.Updates.{same_fault}
 
 -- ---- by a turn
 -- Why a session's read of a range was refused, by what it has seen then.
@@ -44,9 +45,6 @@ pub data TurnRefused (limits : Bounds) (p : ℕ) (seen : List Event) (range : Ra
   starved : fault ≡ Faults.NoMemory → TurnRefused limits p seen range fault
   lost : (page : ℕ) (bytes : List ℕ) → fault ≡ Faults.PageFault page → read_outcome (store_of limits seen) range ≡ Outcomes.Content bytes → p * page < range.offset + range.count
       → TurnRefused limits p seen range fault
-
-pub same_fault : (a b : Fault) → Replies.Refused a ≡ Replies.Refused b → a ≡ b
-same_fault a b e = cc
 
 pub turn_refused : (s s' : Session) (range : Range) (fault : Fault) → Answers AllOther s (Requests.Read range.blob range.version range.offset range.count) (Replies.Refused fault) s'
     → TurnRefused s.fixed.limits s.fixed.page s'.seen range fault

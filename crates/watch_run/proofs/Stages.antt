@@ -19,8 +19,8 @@ use Rattle.workload_law.specs.Sessions.{FinishesItsOwn}
 use Rattle.update_work.specs.Making.{HasDoneOwn, HasNotMade, MakingEnds}
 use Rattle.update_work.specs.Callers.{CameBack}
 use Rattle.update_work.proofs.Returns.{none_by, same_by, came_back, owns_back, tags_of_front, events_append}
-use Rattle.watch_law.specs.declared.plan.WatchPlan.{WatchPlan}
-use Rattle.watch_law.specs.Watch.{HasBegun}
+use Rattle.workload_law.specs.declared.watch_plan.WatchPlan.{WatchPlan}
+use Rattle.workload_law.specs.Watch.{HasBegun}
 use Rattle.watch_run.specs.Stages.{Entries, Owner, IsOpened, IsCalled, IsUnopened, OpensAs, IsWatched, IsIdle, ComesBack, LeavesWatch}
 
 -- ---- a pass that came back

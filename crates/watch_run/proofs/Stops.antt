@@ -25,13 +25,14 @@ use Rattle.read_board.specs.Reads.{goes_by}
 use Rattle.read_board.specs.Telling.{ReadsByList, BoardReadsTell}
 use Rattle.workload_law.specs.Ends.{IsOutside}
 use Rattle.workload_law.proofs.Lost.{outside_as}
-use Rattle.watch_law.specs.Watch.{range_of}
+use Rattle.workload_law.specs.Watch.{range_of}
 use Rattle.watch_run.specs.Agreeing.{IsPageOfLast, IsSeenIn}
 use Rattle.watch_run.specs.Readers.{ReadHindered}
 use Rattle.watch_run.specs.Stages.{Entries}
 use Rattle.watch_run.specs.Stops.{IsPageSeen, IsRefusedIn, Stops}
 use Rattle.watch_run.specs.declared.last.Last.{Last}
-use Rattle.watch_run.proofs.Refusals.{IsThere, same_fault, content_there, page_there}
+use Rattle.watch_run.proofs.Refusals.{IsThere, content_there, page_there}
+use Rattle.update_work.proofs.Updates.{same_fault}
 
 -- ---- as more is seen
 pub page_on : (f : DeskFixed) (seen seen' : Entries) → Begins seen seen' → (page : ℕ) → IsPageSeen f seen page → IsPageSeen f seen' page

@@ -18,10 +18,10 @@ use Rattle.workload_law.specs.Closing.{OwnsStay}
 use Rattle.workload_law.specs.Ends.{IsOutside, UpdateHindered}
 use Rattle.workload_law.specs.Sessions.{FinishesItsOwn}
 use Rattle.update_work.specs.Updates.{told_faults}
-use Rattle.watch_law.specs.declared.plan.WatchPlan.{WatchPlan}
-use Rattle.watch_law.specs.declared.plan.WatchSummary.{WatchSummary}
-use Rattle.watch_law.specs.Watch.{piece_of, HasWritten, HasBegun}
-use Rattle.watch_law.specs.Notes.{NotesState}
+use Rattle.workload_law.specs.declared.watch_plan.WatchPlan.{WatchPlan}
+use Rattle.workload_law.specs.declared.watch_plan.WatchSummary.{WatchSummary}
+use Rattle.workload_law.specs.Watch.{piece_of, HasWritten, HasBegun}
+use Rattle.workload_law.specs.WatchNotes.{NotesState}
 use Rattle.watch_run.specs.Ending.{HasWrittenAll, EndsBy, FinishHindered, Finishes, WatchEnds}
 use Rattle.watch_run.specs.Keeping.{RefreshHindered}
 use Rattle.update_work.specs.Callers.{Told}

@@ -12,8 +12,8 @@ use Rattle.workload_law.specs.Closing.{IdleOwnsAll}
 use Rattle.update_work.specs.Updates.{update_events, IsUpdated, IsStopped}
 use Rattle.update_work.specs.Callers.{IsFresh}
 use Rattle.update_work.specs.declared.updating.Stopped.{Stopped}
-use Rattle.watch_law.specs.declared.plan.WatchPlan.{WatchPlan}
-use Rattle.watch_law.specs.Watch.{piece_of, operation, HasWritten, HasBegun}
+use Rattle.workload_law.specs.declared.watch_plan.WatchPlan.{WatchPlan}
+use Rattle.workload_law.specs.Watch.{piece_of, operation, HasWritten, HasBegun}
 use Rattle.watch_run.specs.Writing.{Wrote, StoppedWriting}
 
 -- ---- events of more operations

@@ -16,10 +16,10 @@ use Rattle.request_form.specs.declared.form.Fault.{Fault}
 use Rattle.workload_law.specs.Ends.{IsOutside, NoPage, UpdateHindered}
 use Rattle.read_board.specs.declared.refresh.Refresh.{Refresh}
 use Rattle.read_board.specs.Refreshes.{version_of}
-use Rattle.watch_law.specs.declared.plan.WatchPlan.{WatchPlan}
-use Rattle.watch_law.specs.declared.plan.WatchSummary.{WatchSummary}
-use Rattle.watch_law.specs.Watch.{piece_of, IsWatch, IsWatchPage, HasWritten, summary_of}
-use Rattle.watch_law.specs.Notes.{NotesState, HaveNoted}
+use Rattle.workload_law.specs.declared.watch_plan.WatchPlan.{WatchPlan}
+use Rattle.workload_law.specs.declared.watch_plan.WatchSummary.{WatchSummary}
+use Rattle.workload_law.specs.Watch.{piece_of, IsWatch, IsWatchPage, HasWritten, summary_of}
+use Rattle.workload_law.specs.WatchNotes.{NotesState, HaveNoted}
 use Rattle.watch_run.specs.declared.last.Last.{Last}
 use Rattle.watch_run.specs.Agreeing.{IsToldBy, IsSeenIn}
 use Rattle.watch_run.specs.Crews.{AllCameToEnd}

@@ -12,7 +12,7 @@ use Rattle.read_board.specs.Keeping.{KeeperState}
 use Rattle.read_board.specs.Refreshing.{AllHold}
 use Rattle.watch_run.specs.Idling.{Idles}
 use Rattle.update_work.specs.Callers.{Told}
-use Rattle.watch_law.specs.declared.plan.WatchPlan.{WatchPlan}
+use Rattle.workload_law.specs.declared.watch_plan.WatchPlan.{WatchPlan}
 
 -- The keeper may refresh by this session, and all its refreshes are of blob 1.
 pub record MayRefresh {D : Type 0} (k : KeeperState) (s : SessionState D) : Type 0 where

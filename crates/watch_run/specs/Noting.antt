@@ -15,8 +15,8 @@ use Rattle.read_board.specs.declared.refresh.Refresh.{Refresh}
 use Rattle.read_board.specs.Keeping.{StandingState}
 use Rattle.read_board.specs.Reads.{goes_by}
 use Rattle.read_board.specs.Refreshes.{updates_of}
-use Rattle.watch_law.specs.Watch.{range_of}
-use Rattle.watch_law.specs.Notes.{noted}
+use Rattle.workload_law.specs.Watch.{range_of}
+use Rattle.workload_law.specs.WatchNotes.{noted}
 use Rattle.watch_run.specs.Stages.{Entries}
 
 -- ---- one read

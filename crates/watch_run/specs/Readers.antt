@@ -11,8 +11,8 @@ use Rattle.read_board.specs.Reads.{goes_by}
 use Rattle.read_board.specs.Refreshes.{updates_of}
 use Rattle.workload_law.specs.Ends.{IsOutside}
 use Rattle.update_work.specs.Updates.{told_faults}
-use Rattle.watch_law.specs.declared.plan.WatchPlan.{WatchPlan}
-use Rattle.watch_law.specs.Notes.{HasNoted}
+use Rattle.workload_law.specs.declared.watch_plan.WatchPlan.{WatchPlan}
+use Rattle.workload_law.specs.WatchNotes.{HasNoted}
 use Rattle.watch_run.specs.Idling.{Idles}
 use Rattle.watch_run.specs.Stops.{IsPageSeen, IsRefusedIn}
 use Rattle.watch_run.specs.Noting.{PieceRead}

@@ -12,8 +12,8 @@ use Rattle.request_form.specs.declared.form.Fault.{Fault}
 use Rattle.client_session.specs.Sessions.{StoreState, SessionState}
 use Rattle.workload_law.specs.Ends.{IsOutside, NoPage, CreateHindered}
 use Rattle.workload_law.specs.Sessions.{FinishesItsOwn}
-use Rattle.watch_law.specs.declared.plan.WatchPlan.{WatchPlan}
-use Rattle.watch_law.specs.Watch.{HasBegun}
+use Rattle.workload_law.specs.declared.watch_plan.WatchPlan.{WatchPlan}
+use Rattle.workload_law.specs.Watch.{HasBegun}
 
 abbrev pub Entries : Type 0
 Entries = List (ℕ × Event)

@@ -12,7 +12,7 @@ use Rattle.request_form.specs.declared.form.Reply.TheVariants as Replies
 use Rattle.request_form.specs.declared.form.Fault.{Fault}
 use Rattle.request_form.specs.declared.form.Fault.TheVariants as Faults
 use Rattle.workload_law.specs.Ends.{IsOutside}
-use Rattle.watch_law.specs.Watch.{range_of}
+use Rattle.workload_law.specs.Watch.{range_of}
 use Rattle.watch_run.specs.Stages.{Entries}
 
 -- a page of a version of blob 1 that was published in a history that was seen

@@ -12,8 +12,8 @@ use Rattle.workload_law.specs.Sessions.{FinishesItsOwn}
 use Rattle.workload_law.specs.Ends.{UpdateHindered}
 use Rattle.update_work.specs.Updates.{IsReady, told_faults}
 use Rattle.update_work.specs.Callers.{Told}
-use Rattle.watch_law.specs.declared.plan.WatchPlan.{WatchPlan}
-use Rattle.watch_law.specs.Watch.{piece_of, HasWritten, HasBegun}
+use Rattle.workload_law.specs.declared.watch_plan.WatchPlan.{WatchPlan}
+use Rattle.workload_law.specs.Watch.{piece_of, HasWritten, HasBegun}
 
 -- The writer's session has done its first operations: what it saw has gone on, its own events are those of the operations, and it finished its own alone.
 pub record Wrote (plan : WatchPlan) (op : ℕ) (s s' : Session) : Type 0 where

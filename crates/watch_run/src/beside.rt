@@ -3,7 +3,7 @@ ghost use Rattle.std.specs.Prelude.{◌≡◌, ◌≤◌, ◌<◌, ◌+◌, ◌^
 ghost use denote.Param.Send.{IsSync};
 ghost use Rattle.faults.specs.Counts.{RoseBy};
 ghost use Rattle.client_session.specs.Sessions.{session_of, Continues};
-ghost use Rattle.watch_law.specs.Watch.{IsSized};
+ghost use Rattle.workload_law.specs.Watch.{IsSized};
 ghost use Rattle.update_work.specs.Updates.{told_faults};
 ghost use Rattle.update_work.specs.Callers.{IsFresh};
 ghost use Rattle.watch_run.specs.Writing.{WriteEnds, HasWrittenBy};
@@ -22,7 +22,7 @@ use request_form::Fault;
 use std::sync::Wait;
 use std::thread;
 use std::thread::Threads;
-use watch_law::WatchPlan;
+use workload_law::WatchPlan;
 
 // The writer writes by a session that is handed over and comes back.
 fn write_by<'a, R: Threads + Wait + Sync, D: BesideDoor, G: Gate>(

@@ -10,7 +10,7 @@ use ports::gate::Gate;
 use read_board::{Keeper, RefreshFault};
 use request_form::Fault;
 use std::sync::Wait;
-use watch_law::WatchPlan;
+use workload_law::WatchPlan;
 use workload_law::laws::sessions_own;
 
 /// Refreshes the watched blob once, and answers the version.

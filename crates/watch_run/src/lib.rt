@@ -16,5 +16,5 @@ mod watching;
 mod writing;
 
 pub use notes::WatchNotes;
-pub use watch_law::{WatchPlan, WatchSummary};
 pub use watching::{WatchFault, watch, watch_noted};
+pub use workload_law::{WatchPlan, WatchSummary};

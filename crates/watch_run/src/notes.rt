@@ -5,7 +5,7 @@ ghost use Rattle.request_form.specs.Replies.{page_faults};
 ghost use Rattle.request_form.specs.declared.form.Fault.TheVariants.{NotPublished};
 ghost use Rattle.update_work.specs.Updates.{told_faults};
 ghost use Rattle.read_board.specs.Refreshes.{version_of};
-ghost use Rattle.watch_law.specs.Notes.{noted};
+ghost use Rattle.workload_law.specs.WatchNotes.{noted};
 ghost use Rattle.watch_run.specs.Readers.{ReadHindered, HasRead};
 ghost use Rattle.watch_run.specs.Noting.{ReadIsNoted};
 
@@ -52,7 +52,7 @@ struct GaveBytes;
 
 impl<'a> Names<Longer<'a>> for GaveBytes {
     ghost use Rattle.std.specs.Prelude.{◌++◌, Some};
-    ghost use Rattle.watch_law.specs.Notes.{noted};
+    ghost use Rattle.workload_law.specs.WatchNotes.{noted};
 
     ghost numbers = { λ l. l.before.now.numbers ++ noted l.version (Some l.bytes.now) };
 }
@@ -68,7 +68,7 @@ struct GaveNone;
 
 impl<'a> Names<PassedOver<'a>> for GaveNone {
     ghost use Rattle.std.specs.Prelude.{◌++◌, None};
-    ghost use Rattle.watch_law.specs.Notes.{noted};
+    ghost use Rattle.workload_law.specs.WatchNotes.{noted};
 
     ghost numbers = { λ l. l.before.now.numbers ++ noted l.version None };
 }
@@ -189,7 +189,7 @@ pub struct WatchNotes {
 }
 
 impl Model for WatchNotes {
-    ghost use Rattle.watch_law.specs.Notes.{NotesState};
+    ghost use Rattle.workload_law.specs.WatchNotes.{NotesState};
 
     ghost Value = { NotesState };
 

@@ -1,7 +1,7 @@
 // The work of a watch's readers.
 ghost use Rattle.std.specs.Prelude.{IfOk, IfErr};
 ghost use Rattle.update_work.specs.Updates.{told_faults};
-ghost use Rattle.watch_law.specs.Notes.{HasNoted};
+ghost use Rattle.workload_law.specs.WatchNotes.{HasNoted};
 ghost use Rattle.watch_run.specs.Noting.{PieceRead};
 ghost use Rattle.watch_run.specs.Readers.{ReadHindered, HasRead, HasWatched, HaveWatched};
 
@@ -15,7 +15,7 @@ use std::sync::Wait;
 use std::sync::ledger::Blank;
 use std::thread;
 use std::thread::Threads;
-use watch_law::WatchPlan;
+use workload_law::WatchPlan;
 
 /// A reader of a watch, with what it read or why it stopped. Before it reads it has read nothing.
 #[derive(Drop)]

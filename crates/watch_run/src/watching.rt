@@ -2,8 +2,8 @@
 ghost use Rattle.std.specs.Prelude.{◌≡◌, ◌≤◌, ◌<◌, ◌+◌, ◌-◌, ◌*◌, ◌^◌, ◌∷◌, [], ℕ, IfOk, IfErr, All, vec_len};
 ghost use Rattle.blob_model.specs.Limits.{greatest};
 ghost use Rattle.client_session.specs.Sessions.{IsOwnerOf};
-ghost use Rattle.watch_law.specs.Watch.{IsSized, IsWatchPage};
-ghost use Rattle.watch_law.specs.Notes.{HasDone};
+ghost use Rattle.workload_law.specs.Watch.{IsSized, IsWatchPage};
+ghost use Rattle.workload_law.specs.WatchNotes.{HasDone};
 ghost use Rattle.update_work.specs.Updates.{told_faults};
 ghost use Rattle.read_board.specs.Refreshing.{AllHold, Refreshed};
 ghost use Rattle.store_sessions.specs.Made.{IsNewSession};
@@ -36,9 +36,9 @@ use store_sessions::{end_session, open_session};
 pub use update_work::EarlyEnd as WatchFault;
 use update_work::early_end;
 use version_manager::Desk;
-use watch_law::laws::{pieces_are_told, watches_are_done, watches_close};
-use watch_law::{WatchPlan, WatchSummary};
 use workload_law::laws::loads_close;
+use workload_law::watch_laws::{pieces_are_told, watches_are_done, watches_close};
+use workload_law::{WatchPlan, WatchSummary};
 
 // One more session refreshes the blob, reads the whole of it, and ends.
 fn read_back<R: Threads + Wait + Sync, W: Wait + Drop, M: DoorMaker, G: Gate>(

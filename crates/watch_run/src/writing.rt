@@ -3,7 +3,7 @@ ghost use Rattle.std.specs.Prelude.{◌≡◌, ◌≤◌, sum_by};
 ghost use denote.Param.Send.{IsSync};
 ghost use Rattle.faults.specs.Counts.{RoseBy};
 ghost use Rattle.client_session.specs.Sessions.{session_of, Continues};
-ghost use Rattle.watch_law.specs.Watch.{IsSized};
+ghost use Rattle.workload_law.specs.Watch.{IsSized};
 ghost use Rattle.update_work.specs.Updates.{told_faults};
 ghost use Rattle.update_work.specs.Callers.{IsFresh};
 ghost use Rattle.watch_run.specs.Writing.{WriteEnds};
@@ -16,7 +16,7 @@ use request_form::Fault;
 use std::sync::Wait;
 use std::thread::Threads;
 use update_work::update;
-use watch_law::WatchPlan;
+use workload_law::WatchPlan;
 use workload_law::laws::loads_close;
 
 /// The blob that is watched.

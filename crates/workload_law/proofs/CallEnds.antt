@@ -29,7 +29,9 @@ use Rattle.workload_law.specs.Ends.{IsOutside, IsPageOf, RefusedAt, CreateHinder
 use Rattle.workload_law.proofs.Marks.{already_by_events}
 use Rattle.workload_law.proofs.Lost.{outside_as, fold_within}
 use Rattle.workload_law.proofs.OneCaller.{IsNext, is_next}
-use Rattle.workload_law.proofs.OwnEvents.{both as own_both, gap_has_none, numbering_is_own, update_is_own, gap_stays, finishes_stay, event_is_own, event_stays, reports_stay}
+use Rattle.request_form.proofs.Own.{events_by-append as own_both}
+use Rattle.workload_law.proofs.OwnEvents.{gap_has_none, numbering_is_own, update_is_own, gap_stays, finishes_stay, event_is_own, event_stays, reports_stay}
+use Rattle.request_form.proofs.Looks.{other-append}
 
 -- the session afterwards, but for its tickets
 record Goes (s : Session) (more : List Event) (s' : Session) : Type 0 where
@@ -377,11 +379,7 @@ all_other : (caller : ℕ) (es : List Event) → events_by caller es ≡ [] → 
 all_other caller [] none = tt
 all_other caller (e ∷ es) none = let apart = apart_from caller e es (caller_of e == caller) refl none in (apart.0, all_other caller es apart.1)
 
-other_both : (caller : ℕ) (xs ys : List Event) → AllOther caller xs → AllOther caller ys → AllOther caller (xs ++ ys)
-other_both caller [] ys x y = y
-other_both caller (e ∷ xs) ys x y = (x.0, other_both caller xs ys x.1 y)
-
-none_after : (xs ys : List Event) → xs ++ ys ≡ xs → ys ≡ []
+pub none_after : (xs ys : List Event) → xs ++ ys ≡ xs → ys ≡ []
 none_after [] ys e = e
 none_after (x ∷ xs) ys e = none_after xs ys (cc)
 
@@ -400,7 +398,7 @@ module _ (s mid : Session) (blob : ℕ) (place : Place) (bytes : List ℕ) (numb
   since : (s' : Session) (l : Leaves mid [] s') → (s'.seen ≡ h.before ++ Events.Assign s.caller blob place bytes ∷ (h.later ++ l.more)) × AllOther s.caller (h.later ++ l.more)
   since s' l = (
     l.seen ∙ (ap (λ (x : List Event). x ++ l.more) h.split ∙ append_assoc h.before (Events.Assign s.caller blob place bytes ∷ h.later) l.more),
-    other_both s.caller h.later l.more h.is_gap (subst (λ (c : ℕ). AllOther c l.more) caller_stays (others_since mid s' l)),
+    other-append s.caller h.later l.more h.is_gap (subst (λ (c : ℕ). AllOther c l.more) caller_stays (others_since mid s' l)),
   )
 
   pub holds_stay : (s' : Session) → Leaves mid [] s' → s'.tickets ≡ mid.tickets → Holds s blob place bytes number version s'
@@ -478,7 +476,7 @@ module _ (s mid : Session) (blob : ℕ) (place : Place) (bytes : List ℕ) (numb
         let all : List Event = h.later ++ others in
         let split : mid.seen ++ others ≡ h.before ++ this ∷ all = ap (λ (x : List Event). x ++ others) h.split ∙ append_assoc h.before (this ∷ h.later) others in
         let seen : s'.seen ≡ h.before ++ this ∷ (all ++ []) = goes.seen ∙ (split ∙ ap (λ (x : List Event). h.before ++ this ∷ x) (sym (append-nil all))) in
-        let both : AllOther s.caller all = other_both s.caller h.later others h.is_gap (subst (λ (c : ℕ). AllOther c others) caller_stays gap) in
+        let both : AllOther s.caller all = other-append s.caller h.later others h.is_gap (subst (λ (c : ℕ). AllOther c others) caller_stays gap) in
         let refused : repair_refusal (store_of s.fixed.limits (h.before ++ this ∷ all)) blob version ≡ Some (Refusals.Already version) =
         subst (λ (x : List Event). repair_refusal (store_of s.fixed.limits x) blob version ≡ Some (Refusals.Already version)) split
         (subst (λ (f : Fixed). repair_refusal (store_of f.limits (mid.seen ++ others)) blob version ≡ Some (Refusals.Already version)) h.leaves.fixed already) in

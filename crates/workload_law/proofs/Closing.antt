@@ -29,7 +29,8 @@ use Rattle.workload_law.specs.Load.{all_ops, IsSized, zeros_of, opening, opened_
 use Rattle.workload_law.specs.Sessions.{FinishesItsOwn}
 use Rattle.workload_law.specs.Ends.{RefusedAt, CreateHindered, UpdateHindered, IsOutside, NoPage, IsPageOf}
 use Rattle.workload_law.specs.Closing.{OpeningHindered, OperationHindered}
-use Rattle.workload_law.proofs.Blobs.{event_updates, finish_accepted, some_is}
+use Rattle.workload_law.proofs.Blobs.{event_updates, finish_accepted}
+use Rattle.blob_model.proofs.Stays.{some_is}
 use Rattle.workload_law.proofs.Cells.{cell_fits}
 use Rattle.workload_law.proofs.Grid.{grid_length, cell_length}
 use Rattle.workload_law.proofs.Lost.{outside_as, append_ends}
@@ -143,7 +144,7 @@ nobody_finished history legal owns caller blob place bytes before between rest s
     true≢false (sym found ∙ nobody_else greatest history legal owns caller blob version at size place bytes before between (rest ++ more) whole numbered gap)
 
 -- ---- nothing else hinders the opening
-no_front : (xs ys : List Event) → xs ++ ys ≡ [] → xs ≡ []
+pub no_front : (xs ys : List Event) → xs ++ ys ≡ [] → xs ≡ []
 no_front [] ys e = refl
 no_front (x ∷ xs) ys e = cc
 

@@ -22,3 +22,8 @@ pub mod PrintedLines
 pub mod Lost
 pub mod CallEnds
 pub mod Closing
+pub mod WatchWritten
+pub mod WatchTogether
+pub mod WatchGoing
+pub mod WatchPieces
+mod Rows

@@ -27,7 +27,8 @@ use Rattle.request_form.specs.declared.form.Fault.{Fault}
 use Rattle.workload_law.specs.Ends.{IsOutside}
 use Rattle.workload_law.proofs.Appends.{put_end}
 use Rattle.workload_law.proofs.Blobs.{event_updates}
-use Rattle.workload_law.proofs.OneCaller.{store_of_both, IsPlaced, is_placed}
+use Rattle.workload_law.proofs.OneCaller.{IsPlaced, is_placed}
+use Rattle.blob_model.proofs.Stays.{store_from-append}
 use Rattle.workload_law.proofs.Summing.{whole_content}
 
 -- a fault of the outside is one still where more pages can be lost
@@ -97,7 +98,7 @@ module _ (stay : OldVersionsStay) (limits : Bounds) (caller blob : ℕ) (place :
 
   blob_then : blob_at (store_of limits (before ++ this ∷ [])) blob ≡ Some (and_update its_place.here update)
   blob_then =
-      ap (λ (s : Store). blob_at s blob) (store_of_both (empty_store limits) before (this ∷ []))
+      ap (λ (s : Store). blob_at s blob) (store_from-append (empty_store limits) before (this ∷ []))
       ∙ (event_updates (store_of limits before) this blob its_place.here its_place.there (ap is_refused numbered)
       ∙ ap (λ (t : Bool). Some (if t then and_update its_place.here update else its_place.here)) (eq-eqb blob blob refl))
 

@@ -18,7 +18,7 @@ pub record IsBegun {X : Type 0} (key : X → ℕ) (workers ops : ℕ) (make : �
   pub parts : (worker : ℕ) → 1 ≤ worker → worker ≤ workers → (rest : List X) × (part key (worker + 1) xs ++ rest ≡ map (make worker) (range_with_len 0 ops))
   pub none : (k : ℕ) → (k < 2) ⊎ (2 + workers ≤ k) → part key k xs ≡ []
 
-all_left : {X : Type 0} (P : X → Type 0) (xs ys : List X) → All P (xs ++ ys) → All P xs
+pub all_left : {X : Type 0} (P : X → Type 0) (xs ys : List X) → All P (xs ++ ys) → All P xs
 all_left P xs ys all = subst (λ l. All P l) (take_at xs ys (length xs) refl) (All-take P (length xs) (xs ++ ys) all)
 
 module _ {X : Type 0} (key : X → ℕ) (workers ops : ℕ) (make : ℕ → ℕ → X) (xs : List X) (begun : IsBegun key workers ops make xs) where

@@ -18,12 +18,13 @@ use Rattle.blob_model.specs.declared.call.Refusal.TheVariants as Refusals
 use Rattle.workload_law.specs.Numbered.{IsNumberedBy}
 use Rattle.workload_law.proofs.Blobs.{updated_all}
 use Rattle.workload_law.proofs.Counted.{updates_in, store_updated, all_updates}
+use Rattle.blob_model.proofs.Stays.{some_is, store_from-append}
 
 -- ---- two places in one list
 head_is : (x y : Event) (xs ys : List Event) → x ∷ xs ≡ y ∷ ys → x ≡ y
 head_is x y xs ys e = cc
 
-tail_is : (x y : Event) (xs ys : List Event) → x ∷ xs ≡ y ∷ ys → xs ≡ ys
+pub tail_is : (x y : Event) (xs ys : List Event) → x ∷ xs ≡ y ∷ ys → xs ≡ ys
 tail_is x y xs ys e = cc
 
 -- one is the other, or stands before it
@@ -52,10 +53,6 @@ legal_later s (x ∷ xs) ys legal = legal_later (answer s (caller_of x) (call_of
 pub legal_front : (s : Store) (xs ys : List Event) → IsLegalFrom s (xs ++ ys) → IsLegalFrom s xs
 legal_front s [] ys legal = tt
 legal_front s (x ∷ xs) ys legal = (legal.0, legal_front (answer s (caller_of x) (call_of x)).0 xs ys legal.1)
-
-pub store_of_both : (s : Store) (xs ys : List Event) → store_from s (xs ++ ys) ≡ store_from (store_from s xs) ys
-store_of_both s [] ys = refl
-store_of_both s (x ∷ xs) ys = store_of_both (answer s (caller_of x) (call_of x)).0 xs ys
 
 -- ---- a numbering is of the next version of a blob that is there, and falls where its place says
 pub record IsPlaced (s : Store) (blob : ℕ) (place : Place) (version at : ℕ) : Type 0 where
@@ -91,9 +88,6 @@ is_next s caller blob place bytes version at size e =
     let it : IsPlaced s blob place version at = is_placed s caller blob place bytes version at size e in
     record { here = it.here; there = it.there; next = it.next }
 
-some_same : (o : Option Blob) (a b : Blob) → o ≡ Some a → o ≡ Some b → a ≡ b
-some_same o a b p q = cc
-
 first_counts : (own : Bool) (u : Update) (us : List Update) → own ≡ true → 1 ≤ length ((let l : List Update = (if own then u ∷ [] else []) in l) ++ us)
 first_counts true u us e = omega arith
 first_counts false u us e = (let no : ⊥ = cc in absurd no)
@@ -105,9 +99,9 @@ later_greater : (limits : Bounds) (before between : List Event) (caller blob : �
 later_greater limits before between caller blob place bytes version next legal first second =
     let es : List Event = Events.Assign caller blob place bytes ∷ between in
     let at : blob_at (store_of limits (before ++ es)) blob ≡ Some (updated_all blob first.here es) =
-    ap (λ (s : Store). blob_at s blob) (store_of_both (empty_store limits) before es)
+    ap (λ (s : Store). blob_at s blob) (store_from-append (empty_store limits) before es)
     ∙ store_updated (store_of limits before) es blob first.here first.there (legal_later (empty_store limits) before es legal) in
-    let is : second.here ≡ updated_all blob first.here es = some_same (blob_at (store_of limits (before ++ es)) blob) second.here (updated_all blob first.here es) second.there at in
+    let is : second.here ≡ updated_all blob first.here es = some_is (blob_at (store_of limits (before ++ es)) blob) second.here (updated_all blob first.here es) second.there at in
     let long : assigned second.here ≡ length (first.here.updates ++ updates_in blob es) = ap (λ (b : Blob). assigned b) is ∙ ap length (all_updates blob first.here es) in
     let more : 1 ≤ length (updates_in blob es) = first_counts (blob == blob) (record { caller = caller; place = place; bytes = bytes }) (updates_in blob between) (eq-eqb blob blob refl) in
     omega (arith, long, more, first.next, second.next, length-append first.here.updates (updates_in blob es))

@@ -1,8 +1,8 @@
 -- A session's own events, and whose versions it finishes.
-use Rattle.std.proofs.Common.{◌≡◌, ◌≢◌, ℕ, ◌==◌, zero, suc, Bool, true, false, cond, ◌&&◌, List, [], ◌∷◌, ◌++◌, refl, sym, ap, subst, ◌∙◌, inl, inr, arith, append_assoc, append-nil}
+use Rattle.std.proofs.Common.{◌≡◌, ◌≢◌, ℕ, ◌==◌, zero, suc, true, false, ◌&&◌, List, [], ◌∷◌, ◌++◌, refl, sym, ap, subst, ◌∙◌, inl, inr, arith, append_assoc, append-nil}
 use Rattle.std.specs.List.{Contains}
-use Rattle.std.proofs.lemmas.Bool.{eq-eqb, ne_eqb, eqb-true, and_parts, or_cases, false_from_ne_true}
-use Rattle.std.proofs.lemmas.List.Elements.{filter-append, Contains-append_cases, Contains-append_left, Contains-append_right, Contains-push_cases}
+use Rattle.std.proofs.lemmas.Bool.{eqb-true, and_parts, or_cases, false_from_ne_true}
+use Rattle.std.proofs.lemmas.List.Elements.{Contains-append_cases, Contains-append_left, Contains-append_right, Contains-push_cases}
 use Rattle.blob_model.specs.Limits.{Bounds}
 use Rattle.blob_model.specs.Answer.{answer}
 use Rattle.blob_model.specs.History.{caller_of, store_of, IsLegal, finishes, events_by, AllOther}
@@ -14,39 +14,29 @@ use Rattle.blob_model.specs.declared.call.Place.{Place}
 use Rattle.workload_law.specs.Numbered.{IsNumberedBy}
 use Rattle.workload_law.specs.Sessions.{FinishesItsOwn}
 use Rattle.workload_law.proofs.OneCaller.{one_caller, numbered_stays}
-
--- ---- own events
-none_own : (caller : ℕ) (others : List Event) → AllOther caller others → events_by caller others ≡ []
-none_own caller [] all = refl
-none_own caller (e ∷ es) all = ap (λ (t : Bool). cond t (e ∷ events_by caller es) (events_by caller es)) (ne_eqb (caller_of e) caller all.0) ∙ none_own caller es all.1
-
-pub both : (caller : ℕ) (xs ys : List Event) → events_by caller (xs ++ ys) ≡ events_by caller xs ++ events_by caller ys
-both caller xs ys = filter-append (λ e. caller_of e == caller) xs ys
+use Rattle.request_form.proofs.Own.{none_own, events_by-append, own_first}
 
 pub gap_has_none : (caller : ℕ) (seen others : List Event) → AllOther caller others → events_by caller (seen ++ others) ≡ events_by caller seen
 gap_has_none caller seen others all =
-    both caller seen others ∙ (ap (λ (l : List Event). events_by caller seen ++ l) (none_own caller others all) ∙ append-nil (events_by caller seen))
-
-own_head : (caller : ℕ) (e : Event) (es : List Event) → caller_of e ≡ caller → events_by caller (e ∷ es) ≡ e ∷ events_by caller es
-own_head caller e es own = ap (λ (t : Bool). cond t (e ∷ events_by caller es) (events_by caller es)) (eq-eqb (caller_of e) caller own)
+    events_by-append caller seen others ∙ (ap (λ (l : List Event). events_by caller seen ++ l) (none_own caller others all) ∙ append-nil (events_by caller seen))
 
 -- after a gap, own events come first
 after_gap : (caller : ℕ) (seen others more : List Event) → AllOther caller others → events_by caller (seen ++ (others ++ more)) ≡ events_by caller seen ++ events_by caller more
 after_gap caller seen others more all =
-    both caller seen (others ++ more)
-    ∙ ap (λ (l : List Event). events_by caller seen ++ l) (both caller others more ∙ ap (λ (l : List Event). l ++ events_by caller more) (none_own caller others all))
+    events_by-append caller seen (others ++ more)
+    ∙ ap (λ (l : List Event). events_by caller seen ++ l) (events_by-append caller others more ∙ ap (λ (l : List Event). l ++ events_by caller more) (none_own caller others all))
 
 pub event_is_own : (caller : ℕ) (seen others : List Event) (event : Event) → AllOther caller others → caller_of event ≡ caller
     → events_by caller (seen ++ (others ++ event ∷ [])) ≡ events_by caller seen ++ event ∷ []
 event_is_own caller seen others event gap own =
-    after_gap caller seen others (event ∷ []) gap ∙ ap (λ (l : List Event). events_by caller seen ++ l) (own_head caller event [] own)
+    after_gap caller seen others (event ∷ []) gap ∙ ap (λ (l : List Event). events_by caller seen ++ l) (own_first caller event [] own)
 
 pub numbering_is_own : (caller blob : ℕ) (place : Place) (bytes : List ℕ) (seen others later : List Event) → AllOther caller others → AllOther caller later
     → events_by caller (seen ++ (others ++ Events.Assign caller blob place bytes ∷ later)) ≡ events_by caller seen ++ Events.Assign caller blob place bytes ∷ []
 numbering_is_own caller blob place bytes seen others later gap next =
     after_gap caller seen others (Events.Assign caller blob place bytes ∷ later) gap
     ∙ ap (λ (l : List Event). events_by caller seen ++ l)
-    (own_head caller (Events.Assign caller blob place bytes) later refl ∙ ap (λ (l : List Event). Events.Assign caller blob place bytes ∷ l) (none_own caller later next))
+    (own_first caller (Events.Assign caller blob place bytes) later refl ∙ ap (λ (l : List Event). Events.Assign caller blob place bytes ∷ l) (none_own caller later next))
 
 pub update_is_own : (caller blob version : ℕ) (place : Place) (bytes : List ℕ) (seen others later : List Event) → AllOther caller others → AllOther caller later
     → events_by caller (seen ++ (others ++ Events.Assign caller blob place bytes ∷ (later ++ Events.Finish caller blob version ∷ [])))
@@ -55,10 +45,10 @@ update_is_own caller blob version place bytes seen others later gap next =
     let last : List Event = Events.Finish caller blob version ∷ [] in
     after_gap caller seen others (Events.Assign caller blob place bytes ∷ (later ++ last)) gap
     ∙ ap (λ (l : List Event). events_by caller seen ++ l)
-    (own_head caller (Events.Assign caller blob place bytes) (later ++ last) refl
+    (own_first caller (Events.Assign caller blob place bytes) (later ++ last) refl
     ∙ ap (λ (l : List Event). Events.Assign caller blob place bytes ∷ l)
-    (both caller later last
-    ∙ (ap (λ (l : List Event). l ++ events_by caller last) (none_own caller later next) ∙ own_head caller (Events.Finish caller blob version) [] refl)))
+    (events_by-append caller later last
+    ∙ (ap (λ (l : List Event). l ++ events_by caller last) (none_own caller later next) ∙ own_first caller (Events.Finish caller blob version) [] refl)))
 
 -- ---- whose versions are finished
 -- an event among others' is another's

@@ -23,7 +23,7 @@ use Rattle.workload_law.proofs.Summing.{summary_holds}
 pub found : (s : Store) (id : ℕ) (b : Blob) (f : Blob → Answered) → blob_at s id ≡ Some b → in_blob s id f ≡ f b
 found s id b f at = ap (λ (o : Option Blob). let a : Answered = elim o [ None ↦ refuse s (Refusals.NoBlob id) | Some b ↦ f b ] in a) at
 
-passes : (s : Store) (t u : Test) (done : Answered) → t.refuses ≡ false → u.refuses ≡ false → unless_refused s (t ∷ u ∷ []) done ≡ done
+pub passes : (s : Store) (t u : Test) (done : Answered) → t.refuses ≡ false → u.refuses ≡ false → unless_refused s (t ∷ u ∷ []) done ≡ done
 passes s t u done first second = rw (first, second) refl
 
 recent : (s : Store) (caller id : ℕ) (b : Blob) (version size : ℕ) → blob_at s id ≡ Some b → published b ≡ version → size_of b.updates version ≡ size

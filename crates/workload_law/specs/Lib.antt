@@ -7,3 +7,7 @@ pub mod Laws
 pub mod Said
 pub mod Ends
 pub mod Closing
+pub mod Watch
+pub mod WatchLaws
+pub mod WatchSaid
+pub mod WatchNotes

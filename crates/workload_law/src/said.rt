@@ -35,7 +35,7 @@ fn grid_line(alloc: Global, summary: &Summary) -> Result<String, AllocError>
 }
 
 /// The three lines of a load: its plan, its log and its grid, each with its end.
-pub fn lines(alloc: Global, plan: &LoadPlan, summary: &Summary) -> Result<String, AllocError>
+pub fn load_lines(alloc: Global, plan: &LoadPlan, summary: &Summary) -> Result<String, AllocError>
     ensures { IfOk result (λ text. string_bytes text ≡ said plan.now summary.now) }
 {
     let mut text = plan_line(alloc, plan)?;

@@ -20,7 +20,8 @@ use Rattle.workload_law.specs.Sessions.{FinishesItsOwn}
 use Rattle.workload_law.specs.Ends.{IsOutside}
 use Rattle.workload_law.specs.Closing.{SeenAlone, NobodysAreNone, OpeningsAreFirst, OwnsStay, IdleOwnsAll, NothingElseHindersOpenings, NothingElseHinders, OperationHindered}
 use Rattle.workload_run.specs.Stages.{IsOpened, IsHalfOpened, HaveCome, HaveDone, HaveStopped, HasLooked, TellsSummary, ClosesAs, AreFinishedByOwn}
-use Rattle.update_work.proofs.Returns.{no_front, none_by, owns_back}
+use Rattle.update_work.proofs.Returns.{none_by, owns_back}
+use Rattle.workload_law.proofs.Closing.{no_front}
 
 -- ---- callers
 

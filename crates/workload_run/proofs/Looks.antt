@@ -1,7 +1,6 @@
 -- The last session's look at the log and at the grid.
 use Rattle.std.proofs.Common.{◌≡◌, ℕ, ◌≤◌, nat_lt, if◌then◌else◌, Bool, true, false, List, [], ◌++◌, length, refl, sym, ap, subst, ◌∙◌, append_assoc, append-nil, arith}
 use Rattle.std.specs.Prelude.{Option, Some, None, Result, Ok, Err}
-use Rattle.std.proofs.lemmas.List.{append_cancel_left}
 use Rattle.std.proofs.lemmas.Bool.Decides.{nat_tests}
 use Rattle.blob_model.specs.Answer.{answer}
 use Rattle.blob_model.specs.History.{store_of, AllOther}
@@ -23,17 +22,15 @@ use Rattle.workload_law.specs.Ends.{LooksLeaveNone, IsOutside}
 use Rattle.workload_law.specs.Closing.{ReadsAreShort}
 use Rattle.update_work.specs.Making.{HasDoneOwn}
 use Rattle.workload_run.specs.Look.{recent_told, IsUntold}
-use Rattle.update_work.proofs.Returns.{no_front}
+use Rattle.workload_law.proofs.Closing.{no_front}
 use Rattle.update_work.proofs.Updates.{leaves_same, same_fault}
+use Rattle.workload_law.proofs.CallEnds.{none_after}
 
 -- ---- nothing more was seen
 
-no_more : (xs ys : List Event) → xs ++ ys ≡ xs → ys ≡ []
-no_more xs ys e = append_cancel_left xs ys [] (e ∙ sym (append-nil xs))
-
 module _ (xs mid ys a b : List Event) (one : mid ≡ xs ++ a) (two : ys ≡ mid ++ b) (same : ys ≡ xs) where
   all_none : a ++ b ≡ []
-  all_none = no_more xs (a ++ b) (sym (append_assoc xs a b) ∙ (ap (λ (l : List Event). l ++ b) (sym one) ∙ (sym two ∙ same)))
+  all_none = none_after xs (a ++ b) (sym (append_assoc xs a b) ∙ (ap (λ (l : List Event). l ++ b) (sym one) ∙ (sym two ∙ same)))
 
   pub mid_same : mid ≡ xs
   mid_same = one ∙ (ap (λ (l : List Event). xs ++ l) (no_front a b all_none) ∙ append-nil xs)
@@ -99,7 +96,7 @@ module _ (s mid : Session) (blob : ℕ) (outcome : Outcome) (look : LookAnswer A
 
   said_alone : mid.seen ≡ s.seen → reply_of outcome ≡ reply_of (outcome_at s [] (Calls.Recent blob))
   said_alone same =
-      let none : look.others ≡ [] = no_more s.seen look.others (sym (ap (λ (x : Session). x.seen) look.seen) ∙ same) in
+      let none : look.others ≡ [] = none_after s.seen look.others (sym (ap (λ (x : Session). x.seen) look.seen) ∙ same) in
       look.said ∙ ap (λ (l : List Event). reply_of (outcome_at s l (Calls.Recent blob))) none
 
   pub told_recent : mid.seen ≡ s.seen → (version size : ℕ) → recent_told blob outcome ≡ Ok (version, size) → outcome_at s [] (Calls.Recent blob) ≡ Outcomes.Recent version size
@@ -134,7 +131,7 @@ module _ (s s' : Session) (blob version size : ℕ) where
     read_left looks none answers = left_by looks none (read_fault size) answers
 
   alone : (others : List Event) → s' ≡ sees s others → s'.seen ≡ s.seen → outcome_at s others read_call ≡ outcome_at s [] read_call
-  alone others seen same = ap (λ (l : List Event). outcome_at s l read_call) (no_more s.seen others (sym (ap (λ (x : Session). x.seen) seen) ∙ same))
+  alone others seen same = ap (λ (l : List Event). outcome_at s l read_call) (none_after s.seen others (sym (ap (λ (x : Session). x.seen) seen) ∙ same))
 
   -- what was read
   module _ (bytes : List ℕ) where

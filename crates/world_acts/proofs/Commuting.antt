@@ -27,12 +27,12 @@ use Rattle.blob_core.specs.declared.step.Step.TheVariants as Moves
 use Rattle.blob_core.proofs.Lists.{number_means, fold_means, key_means, entry_new, entry_old, one_value, none_some, entry_kept, update_means, update_itself}
 use Rattle.blob_core.proofs.Taken.{assign_done}
 use Rattle.blob_core.proofs.Growing.{Cited}
-use Rattle.blob_core.proofs.Keeping.{with_node_is, with_update_is}
+use Rattle.blob_core.proofs.Keeping.{with_node_is, with_update_is, next_free}
 use Rattle.world_acts.specs.Worlds.{HasAllOf}
 use Rattle.world_acts.specs.Commuting.{IsPut, IsSameWorld, PutsCommute, SameWorldsGoOn}
 use Rattle.world_acts.proofs.Steps.{world_append, allowed_append}
 use Rattle.world_acts.proofs.Folding.{with_fold_is, known_after}
-use Rattle.world_acts.proofs.Growing.{stands, step_grows, next_is_new}
+use Rattle.world_acts.proofs.Growing.{stands, step_grows}
 
 -- ---- what no put changes
 put_store : (p : ℕ) (w : World) (step : Step) → IsPut step → (after p w step).store ≡ w.store
@@ -494,7 +494,7 @@ module _ (c : Cited) (hold : StepsHold) (stay : ReachedStays) (p : ℕ) where
       let (b, is, fits, store) = assign_done u.store caller blob place (bytes_of_pages u.pages pages) ok.1 in
       let too : blob_at v.store blob ≡ Some b = ap (λ (s : Store). blob_at s blob) (sym same.store) ∙ is in
       let key : UpdateKey = record { blob = blob; version = assigned b + 1 } in
-      let none : kept_at v.updates blob (assigned b + 1) ≡ None = next_is_new p v blob b (stands c p v of_v) too (kept_at v.updates blob (assigned b + 1)) refl in
+      let none : kept_at v.updates blob (assigned b + 1) ≡ None = next_free p v blob b (stands c p v of_v) too (kept_at v.updates blob (assigned b + 1)) refl in
       record {
         pages = same.there.pages;
         updates = λ id n kept e.

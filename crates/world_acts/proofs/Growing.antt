@@ -1,7 +1,7 @@
 -- What a world has stays in it, whatever allowed steps follow.
-use Rattle.std.proofs.Common.{◌≡◌, ℕ, ◌+◌, ◌≤◌, List, [], ◌∷◌, refl, sym, ap, subst, arith, inl, inr}
-use Rattle.std.specs.Prelude.{Option, Some, None}
-use Rattle.blob_model.specs.Store.{Blob, blob_at, assigned}
+use Rattle.std.proofs.Common.{◌≡◌, ℕ, ◌+◌, ◌≤◌, List, [], ◌∷◌, refl, sym, subst, inl, inr}
+use Rattle.std.specs.Prelude.{Some}
+use Rattle.blob_model.specs.Store.{assigned}
 use Rattle.tree_geom.specs.declared.node.Node.{Node}
 use Rattle.tree_geom.specs.declared.node.NodeKey.{NodeKey}
 use Rattle.blob_core.specs.World.{World, UpdateEntry, empty_world, fold_at, kept_at, node_at, same_number, same_update, same_fold, same_key, bytes_of_pages}
@@ -12,10 +12,10 @@ use Rattle.blob_core.specs.declared.world.FoldKey.{FoldKey}
 use Rattle.blob_core.specs.declared.world.UpdateKey.{UpdateKey}
 use Rattle.blob_core.specs.declared.step.Step.{Step}
 use Rattle.blob_core.specs.declared.step.Step.TheVariants as Moves
-use Rattle.blob_core.proofs.Lists.{number_means, update_means, fold_means, key_means, entry_kept, one_value}
+use Rattle.blob_core.proofs.Lists.{number_means, update_means, fold_means, key_means, entry_kept}
 use Rattle.blob_core.proofs.Growing.{Cited}
 use Rattle.blob_core.proofs.Taken.{assign_done}
-use Rattle.blob_core.proofs.Keeping.{Stands, UpdateStands, empty_stands, with_update_is, with_node_is}
+use Rattle.blob_core.proofs.Keeping.{Stands, UpdateStands, empty_stands, with_update_is, with_node_is, next_free}
 use Rattle.blob_core.proofs.Running.{step_stands, stands_after}
 use Rattle.world_acts.specs.Worlds.{HasAllOf, WorldsOnlyGrow}
 use Rattle.world_acts.proofs.Steps.{worlds_are_reached}
@@ -37,15 +37,6 @@ has_further u v w a b = record {
   nodes = λ key n is. b.nodes key n (a.nodes key n is);
 }
 
--- the next version of a blob has nothing kept beside it yet
-pub next_is_new : (p : ℕ) (w : World) (blob : ℕ) (b : Blob) → Stands p w → blob_at w.store blob ≡ Some b → (o : Option UpdateEntry) → kept_at w.updates blob (assigned b + 1) ≡ o
-    → kept_at w.updates blob (assigned b + 1) ≡ None
-next_is_new p w blob b s is None e = e
-next_is_new p w blob b s is (Some kept) e =
-    let (x, at, le) = s.known blob (assigned b + 1) kept e in
-    let same : assigned x ≡ assigned b = ap (λ (y : Blob). assigned y) (one_value (blob_at w.store blob) x b at is) in
-    absurd (omega arith)
-
 pub step_grows : (p : ℕ) (w : World) (step : Step) → Stands p w → IsAllowed p w step → HasAllOf w (after p w step)
 step_grows p w (Moves.PagePut page bytes) s ok = record {
   pages = λ n b is. entry_kept same_number w.pages page bytes n b (number_means page n) ok.0 is;
@@ -64,7 +55,7 @@ step_grows p w (Moves.Assign caller blob place pages) s ok =
           (let K : List (UpdateKey × UpdateEntry) → Type 0 = λ l. kept_at l id v ≡ Some kept in
           let q : UpdateKey = record { blob = id; version = v } in
           subst K (sym (with_update_is p w blob pages b is))
-          (entry_kept same_update w.updates key (next_kept p b pages) q kept (update_means key q) (next_is_new p w blob b s is (kept_at w.updates blob (assigned b + 1)) refl) e));
+          (entry_kept same_update w.updates key (next_kept p b pages) q kept (update_means key q) (next_free p w blob b s is (kept_at w.updates blob (assigned b + 1)) refl) e));
       folded = λ id v page bytes e. e;
       nodes = λ k n e. e;
     }

@@ -7,8 +7,7 @@ ghost use Rattle.world_acts.specs.Turns.{CreatesAreSteps, BranchesAreSteps, Numb
 ghost use Rattle.world_acts.specs.Puts.{HintsStay, FoldPutsAreSteps, NodePutsAreSteps, FoldsFollow};
 ghost use Rattle.world_acts.specs.Reads.{ReadsAreSteps, WalksAgree};
 
-use range_log::laws as rows;
-use tree_walk::laws as walks;
+use range_log::{laws as rows, walks};
 
 /// For whoever follows a store from its start: the empty world is one of the empty history. Each world of a history is reached by allowed
 /// steps, so all that `blob_core::steps_hold` promises is true of it; its store is the history's, and so are the parents of its blobs.

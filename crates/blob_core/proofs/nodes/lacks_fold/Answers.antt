@@ -4,7 +4,8 @@ use Rattle.range_log.specs.Log.{touch_at}
 use Rattle.range_log.specs.Rows.{folded_of}
 use Rattle.range_log.specs.Updates.{extents}
 use Rattle.blob_core.specs.World.{IsKnown, fold_at, log_of}
-use Rattle.blob_core.proofs.Rowing.{has_version, page_of, same_page, not_true, not_false}
+use Rattle.blob_core.proofs.Rowing.{has_version, page_of, not_true, not_false}
+use Rattle.range_log.proofs.Nodes.{same_page}
 use Rattle.blob_core.proofs.nodes.lacks_fold.Goals as goal
 
 pub folds_page-requires-clause-version : goal.folds_page-requires-clause-version

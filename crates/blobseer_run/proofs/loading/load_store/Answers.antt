@@ -20,7 +20,7 @@ came_of page plan history is_history loaded finishes = record { is_history = is_
 pub returns-in-Ok-clause-did : goal.returns-in-Ok-clause-did
 returns-in-Ok-clause-did g c =
     let lines = ap (said _) c.in-Ok.ensures.summary in
-    let told = c.tell_lines.ensures.told _ c.lines.ensures in
+    let told = c.tell_lines.ensures.told _ c.load_lines.ensures in
     let came = came_of _ _ _ c.in-Ok.ensures.history c.in-Ok.ensures.loaded c.in-Ok.ensures.finishes in
     let did = whole_there _ _ _ _ (record { given = refl; left = refl; reads = refl; ends = refl }) refl _ _ lines c.in-Ok.desk.history came told in
     at_plan DidLoad _ _ _ _ _ _ _ c.requires.store.page_size (ap (λ (s : SettingsValues). plan_of s) c.settings.view_is) did

@@ -4,10 +4,10 @@ use Rattle.blob_model.specs.Limits.{greatest}
 use Rattle.blob_model.specs.declared.call.Event.{Event}
 use Rattle.version_manager.specs.Log.{IsHistory}
 use Rattle.settings.specs.Values.{SettingsValues}
-use Rattle.watch_law.specs.Said.{said}
-use Rattle.watch_law.specs.Watch.{IsWatch}
-use Rattle.watch_law.specs.Notes.{NotesState, HasDone}
-use Rattle.watch_law.specs.declared.plan.WatchPlan.{WatchPlan}
+use Rattle.workload_law.specs.WatchSaid.{said}
+use Rattle.workload_law.specs.Watch.{IsWatch}
+use Rattle.workload_law.specs.WatchNotes.{NotesState, HasDone}
+use Rattle.workload_law.specs.declared.watch_plan.WatchPlan.{WatchPlan}
 use Rattle.blobseer_run.specs.Watching.{plan_of, CameToWatch, DidWatch}
 use Rattle.blobseer_run.proofs.Early.{ended_so}
 use Rattle.blobseer_run.proofs.Lendings.{all_sessions, ended_early}
@@ -25,7 +25,7 @@ pub returns-in-Ok-clause-did : goal.returns-in-Ok-clause-did
 returns-in-Ok-clause-did g c =
     let end = c.in-Ok.ensures.came in
     let lines = ap (said _) end.summary in
-    let told = c.tell_lines.ensures.told _ c.lines.ensures in
+    let told = c.tell_lines.ensures.told _ c.watch_lines.ensures in
     let came = came_of _ _ _ _ end.history end.watched c.in-Ok.ensures.did in
     let did = whole_there _ _ _ _ (record { given = refl; left = refl; reads = refl; ends = refl }) refl _ _ lines c.in-Ok.desk.history came told in
     at_plan DidWatch _ _ _ _ _ _ _ c.requires.store.page_size (ap (λ (s : SettingsValues). plan_of s) c.settings.view_is) did

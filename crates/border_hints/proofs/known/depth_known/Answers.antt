@@ -10,7 +10,7 @@ use Rattle.border_hints.specs.Numbered.{log_of}
 use Rattle.border_hints.specs.Borders.{newest_known}
 use Rattle.border_hints.proofs.Tickets.{length-log_of}
 use Rattle.border_hints.proofs.Published.{log_grown, newest_leaf}
-use Rattle.border_hints.proofs.Depths.{depth_none}
+use Rattle.range_log.proofs.Depths.{depth_none}
 use Rattle.border_hints.proofs.known.depth_known.Goals as goal
 
 -- the depth at the newest version for the page

@@ -1,6 +1,6 @@
 use Rattle.std.proofs.Common.{◌<◌, ℕ, List, length, subst, arith}
 use Rattle.std.proofs.lemmas.List.{take_all}
-use Rattle.text_lines.specs.Text.{IsWithout}
+use Rattle.items.specs.Text.{IsWithout}
 use Rattle.file_text.proofs.FieldLemmas.{cut_at, cut_none}
 use Rattle.file_text.proofs.fields.cut.Goals as goal
 

@@ -1,6 +1,6 @@
 use Rattle.std.proofs.Common.{arith, ap, ◌∙◌}
 use Rattle.frame_wire.specs.Said.{field}
-use Rattle.framing.proofs.Numbers.{bytes_again}
+use Rattle.items.proofs.Numbers.{bytes_again}
 use Rattle.frame_wire.proofs.number.number.Goals as goal
 
 pub returns : goal.returns

@@ -1,5 +1,5 @@
 use Rattle.std.proofs.Common.{◌∙◌, ◌+◌, ℕ, List, [], ◌∷◌, ◌++◌, ap}
-use Rattle.framing.specs.Begun.{frame_part}
+use Rattle.items.specs.BegunFrame.{frame_part}
 use Rattle.frame_wire.proofs.ReplyLemmas.{framed_bytes}
 use Rattle.frame_wire.proofs.reply.content_parts.Goals as goal
 

@@ -1,6 +1,6 @@
 use Rattle.std.proofs.Common.{◌≡◌, ◌∙◌, ◌+◌, ◌*◌, ℕ, List, ◌∷◌, ◌++◌, length, take, get_or, ap, arith}
 use Rattle.frame_wire.specs.Said.{field, fields}
-use Rattle.framing.specs.Begun.{frame_part}
+use Rattle.items.specs.BegunFrame.{frame_part}
 use Rattle.frame_wire.proofs.ReplyLemmas.{numbers_more, framed_numbers}
 use Rattle.frame_wire.proofs.reply.numbers_frame.Goals as goal
 

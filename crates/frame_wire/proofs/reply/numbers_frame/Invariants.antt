@@ -1,6 +1,6 @@
 use Rattle.std.proofs.Common.{◌≡◌, ◌+◌, ◌*◌, ◌∷◌, length, take}
 use Rattle.frame_wire.specs.Said.{fields}
-use Rattle.framing.specs.Begun.{frame_part}
+use Rattle.items.specs.BegunFrame.{frame_part}
 use Rattle.frame_wire.proofs.reply.numbers_frame.Given as goal
 
 abbrev pub invariant-loop-number : goal.invariant-loop-number

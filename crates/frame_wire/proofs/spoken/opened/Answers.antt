@@ -3,7 +3,7 @@ use Rattle.std.specs.Str.{bytes_eq}
 use Rattle.std.proofs.lemmas.List.{take_all}
 use Rattle.std.proofs.Common.{length-drop}
 use Rattle.std.proofs.lemmas.Slice.Eq.{bytes_eq-Decides}
-use Rattle.framing.specs.Framing.{framed}
+use Rattle.items.specs.Framing.{framed}
 use Rattle.frame_wire.specs.Frames.{hello, request_frames, second_frames}
 use Rattle.frame_wire.proofs.SpokenLemmas.{opened_first, opened_more, opened_second, not_back}
 use Rattle.frame_wire.proofs.spoken.opened.Goals as goal

@@ -1,5 +1,5 @@
 use Rattle.std.proofs.Common.{◌∙◌, ℕ, List, length, refl, sym, ap, arith, inl, inr, true≢false}
-use Rattle.framing.proofs.HeardLemmas.{whole_is}
+use Rattle.items.proofs.FramesHeard.{whole_is}
 use Rattle.page_node.specs.declared.form.NodeFault.TheVariants as Faults
 use Rattle.page_node.specs.declared.form.NodeReply.TheVariants as Replies
 use Rattle.node_door.proofs.Replies.{same_test}

@@ -9,7 +9,7 @@ pub loop-index-preserved : goal.loop-index-preserved
 loop-index-preserved g c =
     let put = c.put_group.ensures in
     let within : c.loop-index.index < length c.loop-index.stands = omega (arith, c.loop-index.invariant.long) in
-    changed_next (HasPut g.D.Door.is_true g.D.Door.faults g.D.Door.called c.args.houses.now c.args.p c.args.buffer.now c.args.puts.now) c.args.stands.now c.loop-index.stands c.loop-index.index c.index-stands-index.result c.put_group.new.stand within
+    changed_next (HasPut g.D.Door.is_true g.D.Door.faults g.D.Door.called c.args.houses.now c.args.p c.args.buffer.now c.args.puts.now) c.args.stands.now c.loop-index.stands c.loop-index.index c.index-stands-index.result c.put_group.new.self within
     c.loop-index.invariant (record { truth = put.truth_stays; replies = put.replies; each = put.each; calls = put.called })
 
 pub returns-clause-truth_stays : goal.returns-clause-truth_stays

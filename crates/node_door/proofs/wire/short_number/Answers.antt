@@ -1,7 +1,7 @@
 use Rattle.std.proofs.Common.{ℕ, [], arith, ap, ◌∙◌, append-nil}
 use Rattle.byteorder.specs.Endian.{big_bytes}
-use Rattle.framing.specs.Begun.{frame_part}
-use Rattle.framing.proofs.Numbers.{bytes_again}
+use Rattle.items.specs.BegunFrame.{frame_part}
+use Rattle.items.proofs.Numbers.{bytes_again}
 use Rattle.node_door.proofs.wire.short_number.Goals as goal
 
 pub returns : goal.returns

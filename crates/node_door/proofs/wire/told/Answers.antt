@@ -1,5 +1,5 @@
 use Rattle.std.proofs.Common.{◌∙◌, ◌∷◌, ◌+◌, ℕ, List, length, sym, ap, subst, inl, inr, true≢false}
-use Rattle.framing.specs.Begun.{frame_part}
+use Rattle.items.specs.BegunFrame.{frame_part}
 use Rattle.frame_wire.specs.Said.{frame_of}
 use Rattle.node_door.specs.Link.{IsOther}
 use Rattle.node_door.proofs.Replies.{whole_is_frame, bye_other, told_outside, is_same, same_test}

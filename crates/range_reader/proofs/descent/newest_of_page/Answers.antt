@@ -3,7 +3,7 @@ use Rattle.tree_geom.specs.Geometry.{tree_range}
 use Rattle.tree_geom.specs.Laws.{LowHalvesAlign, HighHalvesAlign}
 use Rattle.range_log.specs.Log.{newest_of}
 use Rattle.range_log.specs.Laws.{ExtentsStand}
-use Rattle.tree_walk.specs.Walk.{LinksStep}
+use Rattle.range_log.specs.Walk.{LinksStep}
 use Rattle.snapshot.specs.Versions.{Version, RowIn, size_now, HasNodeFor, NodesLieIn, IsVersion}
 use Rattle.range_reader.specs.Reading.{log_of}
 use Rattle.range_reader.proofs.Among.{in_rows}

@@ -1,7 +1,7 @@
 use Rattle.std.proofs.Common.{is_some, arith}
 use Rattle.std.proofs.lemmas.List.{length-map}
 use Rattle.publisher.specs.Windows.{finished_of}
-use Rattle.version_manager.proofs.BlobsSizes.{prefix_within}
+use Rattle.blob_model.proofs.Marks.{prefix_within}
 use Rattle.version_manager.proofs.looks.held_by.Goals as goal
 
 pub overflow_add-result : goal.overflow_add-result

@@ -1,4 +1,4 @@
-use Rattle.watch_law.specs.Notes.{HasNoted}
+use Rattle.workload_law.specs.WatchNotes.{HasNoted}
 use Rattle.watch_run.specs.Noting.{PieceRead}
 use Rattle.watch_run.specs.Readers.{HasRead}
 use Rattle.watch_run.proofs.reading.read_versions.Given as goal

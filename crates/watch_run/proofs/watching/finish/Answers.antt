@@ -2,7 +2,7 @@ use Rattle.std.proofs.Common.{◌∙◌, ℕ, List, vec_len, sym, ap, subst, ari
 use Rattle.std.specs.Prelude.{All}
 use Rattle.request_form.specs.Replies.{page_faults}
 use Rattle.read_board.specs.Fronts.{BoardId}
-use Rattle.watch_law.specs.Notes.{NotesState}
+use Rattle.workload_law.specs.WatchNotes.{NotesState}
 use Rattle.watch_run.specs.Crews.{IsDoneWatching, AllCameToEnd}
 use Rattle.watch_run.specs.Ending.{FinishHindered}
 use Rattle.watch_run.proofs.Crews.{all_done_on, all_done_end}

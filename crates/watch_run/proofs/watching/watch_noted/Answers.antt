@@ -8,7 +8,7 @@ use Rattle.watch_run.proofs.Closed.{closed, closed_is, closed_done}
 use Rattle.update_work.specs.declared.ending.EarlyEnd.{EarlyEnd}
 use Rattle.update_work.proofs.Early.{early_of}
 use Rattle.update_work.proofs.Returns.{closed_history, events_tagged}
-use Rattle.watch_law.specs.Watch.{IsWatch, IsWatchPage}
+use Rattle.workload_law.specs.Watch.{IsWatch, IsWatchPage}
 use Rattle.update_work.specs.Ending.{EndsEarly}
 use Rattle.watch_run.proofs.watching.watch_noted.Goals as goal
 

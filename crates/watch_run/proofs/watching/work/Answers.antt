@@ -13,7 +13,7 @@ use Rattle.read_board.specs.Refreshing.{AllHold}
 use Rattle.watch_run.specs.Readers.{WatcherState, StandsAt, HasMet}
 use Rattle.update_work.proofs.Returns.{none_by}
 use Rattle.update_work.proofs.Fresh.{fresh_at}
-use Rattle.watch_law.specs.Notes.{HaveNoted}
+use Rattle.workload_law.specs.WatchNotes.{HaveNoted}
 use Rattle.watch_run.specs.Noting.{IsPieceSeen}
 use Rattle.watch_run.specs.Ending.{Finishes, NotesOf}
 use Rattle.watch_run.specs.Doors.{EndDoors}

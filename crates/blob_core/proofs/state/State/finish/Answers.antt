@@ -9,7 +9,8 @@ use Rattle.blob_core.specs.Standing.{IsSound}
 use Rattle.blob_core.specs.Acts.{IsDone}
 use Rattle.blob_core.specs.declared.step.Step.TheVariants as Moves
 use Rattle.blob_core.specs.contracts.state.State.{the_view}
-use Rattle.blob_core.proofs.Taken.{blob_some, item_of}
+use Rattle.blob_core.proofs.Taken.{blob_some}
+use Rattle.blob_model.proofs.Stays.{item_of}
 use Rattle.blob_core.proofs.Acting.{IsFound, numbered_is, finish_is_done, not_finishable, same_there}
 use Rattle.blob_core.proofs.state.State.finish.Goals as goal
 use Rattle.blob_core.proofs.state.State.finish.Goals.{then-is_marked-via-then-is_marked, then-is_marked-via-else-is_marked+then-not-are_there}

@@ -18,7 +18,8 @@ use Rattle.blob_core.specs.declared.world.UpdateKey.{UpdateKey}
 use Rattle.blob_core.specs.declared.step.Step.TheVariants as Moves
 use Rattle.blob_core.specs.contracts.state.State.{the_view}
 use Rattle.blob_core.proofs.Acting.{number_done}
-use Rattle.blob_core.proofs.Taken.{blob_some, item_of}
+use Rattle.blob_core.proofs.Taken.{blob_some}
+use Rattle.blob_model.proofs.Stays.{item_of}
 use Rattle.blob_core.proofs.Onward.{on_err}
 use Rattle.blob_core.proofs.state.State.number.Goals as goal
 

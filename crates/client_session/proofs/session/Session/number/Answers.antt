@@ -3,7 +3,7 @@ use Rattle.std.proofs.lemmas.List.{length-map}
 use Rattle.blob_model.specs.History.{AllOther}
 use Rattle.blob_model.specs.declared.call.Event.{Event}
 use Rattle.page_store.specs.Stored.{Cut}
-use Rattle.page_writer.specs.Put.{ArePut}
+use Rattle.page_fan.specs.Put.{ArePut}
 use Rattle.turn_lock.specs.Shown.{PassView}
 use Rattle.turn_lock.proofs.Histories.{begins_both}
 use Rattle.version_manager.specs.declared.journal.DeskFixed.{DeskFixed}

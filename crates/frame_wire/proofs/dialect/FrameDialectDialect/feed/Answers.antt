@@ -1,5 +1,5 @@
 use Rattle.std.proofs.Common.{◌∙◌, OnOk, sym, ap, subst}
-use Rattle.item_stream.specs.Items.{IsFed}
+use Rattle.items.specs.Items.{IsFed}
 use Rattle.frame_wire.specs.Fed.{Fed, heard_by, fed_by}
 use Rattle.frame_wire.specs.declared.spoken.Spoken.TheVariants.{Second}
 use Rattle.frame_wire.proofs.SpokenLemmas.{fed_second}

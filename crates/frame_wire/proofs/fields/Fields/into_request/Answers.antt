@@ -1,5 +1,5 @@
 use Rattle.std.proofs.Common.{◌∙◌, refl, sym, ap}
-use Rattle.framing.specs.Come.{Come}
+use Rattle.items.specs.Come.{Come}
 use Rattle.frame_wire.specs.Requests.{request_of}
 use Rattle.frame_wire.proofs.RequestLemmas.{AllSmall, decoded_asks}
 use Rattle.frame_wire.proofs.fields.Fields.into_request.Goals as goal

@@ -1,5 +1,5 @@
 use Rattle.std.proofs.Common.{◌∙◌, sym, ap}
-use Rattle.framing.specs.Come.{Come}
+use Rattle.items.specs.Come.{Come}
 use Rattle.frame_wire.specs.Requests.{second_request_of}
 use Rattle.frame_wire.proofs.PairLemmas.{ranges_asked, repair_asked, pairs_decoded}
 use Rattle.frame_wire.proofs.pairs.Pairs.into_request.Goals as goal

@@ -1,6 +1,6 @@
 use Rattle.std.proofs.Common.{◌≡◌, ◌∙◌, ◌+◌, ◌<◌, ◌≤◌, ℕ, List, length, take, drop, refl, sym, ap, subst, arith, take-append-drop, length-append}
 use Rattle.std.proofs.lemmas.List.{length-take-le}
-use Rattle.framing.specs.Framing.{length_of, item_of, is_whole}
+use Rattle.items.specs.Framing.{length_of, item_of, is_whole}
 use Rattle.page_node.specs.Node.{is_quit}
 use Rattle.page_node.specs.Frames.{node_frames}
 use Rattle.node_door.specs.Loop.{Replied}

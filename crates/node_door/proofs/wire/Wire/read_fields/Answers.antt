@@ -1,7 +1,7 @@
 use Rattle.std.proofs.Common.{◌∙◌, ◌∷◌, ◌+◌, ℕ, List, [], take, sym, ap, arith}
 use Rattle.std.proofs.lemmas.List.{length-take-le}
-use Rattle.framing.specs.Begun.{frame_part}
-use Rattle.framing.proofs.BegunLemmas.{frame_part-append}
+use Rattle.items.specs.BegunFrame.{frame_part}
+use Rattle.items.proofs.FrameBegun.{frame_part-append}
 use Rattle.node_door.proofs.Passing.{hears_told}
 use Rattle.node_door.proofs.Replies.{has_few}
 use Rattle.node_door.proofs.wire.Wire.read_fields.Goals as goal

@@ -1,5 +1,5 @@
 use Rattle.std.proofs.Common.{◌∙◌, ◌∷◌, [], ℕ, sym, ap, arith}
-use Rattle.framing.specs.Begun.{frame_part}
+use Rattle.items.specs.BegunFrame.{frame_part}
 use Rattle.node_door.proofs.Passing.{hears_behind, hears_cast}
 use Rattle.node_door.proofs.wire.Wire.read_reply.Goals as goal
 

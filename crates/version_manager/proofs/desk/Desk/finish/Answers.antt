@@ -23,7 +23,8 @@ use Rattle.version_manager.specs.Origins.{parents_of, AreUnder}
 use Rattle.version_manager.proofs.Blobs.{finish_kept, published_is, assigned_is, finished_is}
 use Rattle.version_manager.proofs.Desks.{pushed_event, short_yet}
 use Rattle.version_manager.proofs.Numbering.{even_of}
-use Rattle.version_manager.proofs.Finishing.{ticket_place, ticket_mark, finishable, finished_true, finish_already, finish_outcome, finish_keeps, finish_there}
+use Rattle.version_manager.proofs.Finishing.{ticket_place, ticket_mark, finishable, finish_already, finish_outcome, finish_keeps, finish_there}
+use Rattle.blob_model.proofs.Marks.{finished_same}
 use Rattle.version_manager.proofs.Houses.{AreRowsIn, finished_in, window_lies}
 use Rattle.version_manager.proofs.Origins.{finished_under, unfinished_none, origins_at, origins_set, origins_after}
 use Rattle.version_manager.proofs.Orders.{order_more}
@@ -300,7 +301,7 @@ returns-in-Ok-finish-clause-finished c =
     let entry : Entry = record { caller = c.args.caller; change = Changes.Finish blob v } in
     let history = pushed_event d.history.items c.push_reserved.new.self.items entry (c.push_reserved.ensures.items ∙ ap (λ (l : List Entry). l ++ entry ∷ []) c.make_room.ensures.items) in
     let O : ℕ → ℕ → Type 0 = λ i n. finished_or_not (blob_at (store_of d.limits (map event_of c.push_reserved.new.self.items)) i) n ≡ true in
-    let here : O blob v = ap (λ (l : List Event). finished_or_not (blob_at (store_of d.limits l) blob) v) history ∙ ap (λ o. finished_or_not o v) there ∙ finished_true b v first (omega (arith, f.within, marks)) in
+    let here : O blob v = ap (λ (l : List Event). finished_or_not (blob_at (store_of d.limits l) blob) v) history ∙ ap (λ o. finished_or_not o v) there ∙ finished_same b v first (omega (arith, f.within, marks)) in
     subst (λ (n : ℕ). O t.blob n) is (subst (λ (i : ℕ). O i v) on here)
 
 pub returns-then-is_finished-clause-already : goal.returns-then-is_finished-clause-already

@@ -1,5 +1,0 @@
-pub mod Numbers
-pub mod HeardLemmas
-pub mod BegunLemmas
-mod TakenLemmas
-mod ReaderLemmas

@@ -1,4 +1,0 @@
-pub mod Framing
-pub mod Come
-pub mod Begun
-pub mod Taken

@@ -1,0 +1,10 @@
+pub mod Items
+pub mod Rounds
+pub mod Numerals
+pub mod Lines
+pub mod Text
+pub mod BegunLine
+pub mod Framing
+pub mod Come
+pub mod BegunFrame
+pub mod Taken

@@ -1,3 +1,0 @@
-pub mod OnePage
-pub mod Placements
-pub mod WherePut

@@ -1,4 +1,0 @@
-pub mod HeardLemmas
-pub mod TextLemmas
-mod LineLemmas
-mod LinesLemmas

@@ -1,9 +1,0 @@
-use Rattle.std.proofs.Common.{subst}
-use Rattle.text_lines.specs.Text.{IsWithout}
-use Rattle.text_lines.proofs.LineLemmas.{line_without}
-use Rattle.text_lines.proofs.line.Line.stands.Goals as goal
-
-pub returns : goal.returns
-returns g c =
-    let l = c.self.inside in
-    subst (IsWithout 10) c.self.view_is (line_without g.B.Body.lining.limit g.B.Body.text l.begun l.length l.returned c.self.invariant.begun_well)

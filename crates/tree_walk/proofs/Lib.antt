@@ -1,6 +1,0 @@
-pub mod Parts
-pub mod Walk
-pub mod Descent
-pub mod Steps
-pub mod Visits
-pub mod Weaving

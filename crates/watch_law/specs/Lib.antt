@@ -1,4 +1,0 @@
-pub mod Watch
-pub mod Laws
-pub mod Said
-pub mod Notes

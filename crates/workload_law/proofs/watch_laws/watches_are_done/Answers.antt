@@ -1,0 +1,5 @@
+use Rattle.workload_law.proofs.WatchWritten.{watch_done}
+use Rattle.workload_law.proofs.watch_laws.watches_are_done.Goals as goal
+
+pub returns : goal.returns
+returns c = watch_done
