@@ -185,23 +185,23 @@ numbers_text-push (m ∷ ns) n more =
     ∙ sym (append_assoc (decimal m) (32 ∷ numbers_text ns) (decimal n ++ 32 ∷ more))
 
 -- the same line asks the same
-same_asks : (text other : List ℕ) → text ≡ other → AsksAs text other
+pub same_asks : (text other : List ℕ) → text ≡ other → AsksAs text other
 same_asks text other e more = ap (λ (l : List ℕ). request_of (fields_of (l ++ more))) e
 
 one_longer : (text other : List ℕ) (byte : ℕ) → text ++ byte ∷ [] ≡ other → length other ≡ length text + 1
 one_longer text other byte e = ap (λ (l : List ℕ). length l) (sym e) ∙ length-append text (byte ∷ [])
 
--- a part that is one byte longer
-text_grows : (operation : Operation) (ns : List ℕ) (part part' : Part) (bytes bytes' : List ℕ) (byte : ℕ) → part_text part bytes ++ byte ∷ [] ≡ part_text part' bytes'
-    → fields_text operation ns part bytes ++ byte ∷ [] ≡ fields_text operation ns part' bytes'
+-- a part behind which more bytes have come
+pub text_grows : (operation : Operation) (ns : List ℕ) (part part' : Part) (bytes bytes' more : List ℕ) → part_text part bytes ++ more ≡ part_text part' bytes'
+    → fields_text operation ns part bytes ++ more ≡ fields_text operation ns part' bytes'
 unfolding fields_text
-text_grows operation ns part part' bytes bytes' byte e =
-    text_splits operation ns part bytes (byte ∷ []) ∙ ap (λ (l : List ℕ). command_of operation ++ 32 ∷ (numbers_text ns ++ l)) e
+text_grows operation ns part part' bytes bytes' more e =
+    text_splits operation ns part bytes more ∙ ap (λ (l : List ℕ). command_of operation ++ 32 ∷ (numbers_text ns ++ l)) e
 
 grows : (operation : Operation) (ns : List ℕ) (part part' : Part) (bytes : List ℕ) (byte : ℕ) → part_text part bytes ++ byte ∷ [] ≡ part_text part' bytes → IsDecoded operation ns part' bytes
     → Adds operation ns part bytes byte ns bytes (Some part')
 grows operation ns part part' bytes byte e d =
-    let same = text_grows operation ns part part' bytes bytes byte e in
+    let same = text_grows operation ns part part' bytes bytes (byte ∷ []) e in
     (same_asks (fields_text operation ns part bytes ++ byte ∷ []) (fields_text operation ns part' bytes) same, d, one_longer (fields_text operation ns part bytes) (fields_text operation ns part' bytes) byte same)
 
 -- one more digit of a number

@@ -6,20 +6,20 @@ use Rattle.std.specs.Result.{result_ok}
 use Rattle.std.proofs.lemmas.Bool.{and_parts, cases_lt, eqb-true, false≢true}
 use Rattle.std.proofs.lemmas.Bool.Decides.{nat_tests}
 use Rattle.std.proofs.lemmas.List.{take_all}
-use Rattle.std.proofs.lemmas.List.Elements.{All-nil, All-head, All-tail, All-more}
+use Rattle.std.proofs.lemmas.List.Elements.{All-head, All-tail, All-more}
 use Rattle.hex.specs.Hex.{hex_digit_value, is_hex_digit, pair_value, IsBytes}
 use Rattle.hex.proofs.HexLemmas.{decode_of-ok}
 use Rattle.request_form.specs.declared.operation.Operation.{Operation}
 use Rattle.script_text.specs.Requests.{request_of}
 use Rattle.script_text.specs.Lines.{fields_of}
-use Rattle.script_text.specs.Decoded.{AsksAs, fields_text, IsDecoded, Decodes, TakesPairs}
+use Rattle.script_text.specs.Decoded.{AsksAs, fields_text, IsDecoded, Decodes, TakesRun}
 use Rattle.script_text.specs.declared.fields.Part.{Part}
 use Rattle.script_text.specs.declared.fields.Part.TheVariants.{Digits}
 use Rattle.script_text.proofs.BytesLemmas.{with_byte, pairs, decode_of-is}
 use Rattle.script_text.proofs.DecodedLemmas.{pair_begins, pair_comes}
 
 -- more of a text behind what stands for its beginning
-asks_after : (text front mid back new : List ℕ) → AsksAs (text ++ front) mid → AsksAs (mid ++ back) new → AsksAs (text ++ (front ++ back)) new
+pub asks_after : (text front mid back new : List ℕ) → AsksAs (text ++ front) mid → AsksAs (mid ++ back) new → AsksAs (text ++ (front ++ back)) new
 asks_after text front mid back new first second more =
     ap (λ (l : List ℕ). request_of (fields_of l)) (append_assoc text (front ++ back) more)
     ∙ ap (λ (l : List ℕ). request_of (fields_of (text ++ l))) (append_assoc front back more)
@@ -97,24 +97,22 @@ pairs_decoded operation ns part bytes digits bytes' e d h =
 
 -- pairs are taken off the front of a piece
 pub pairs_taken : (operation : Operation) (ns : List ℕ) (part : Part) (bytes digits bytes' piece : List ℕ) (count : ℕ) → part ≡ Digits None → IsDecoded operation ns part bytes → Decodes bytes digits bytes'
-    → digits ≡ take count piece → count ≡ length digits → count ≤ length piece → TakesPairs (fields_text operation ns part bytes) piece (fields_text operation ns part bytes') count
+    → digits ≡ take count piece → count ≡ length digits → count ≤ length piece → TakesRun (fields_text operation ns part bytes) piece (fields_text operation ns part bytes') count
 pairs_taken operation ns part bytes digits bytes' piece count e d h front all within =
     let is = subst (λ (p : Part). IsDecoded operation ns p bytes) e d in
     let c = come operation ns bytes digits bytes' is h in
-    let ok = decode_of-ok digits h.spelled h.spells in
-    subst (λ (p : Part). TakesPairs (fields_text operation ns p bytes) piece (fields_text operation ns p bytes') count) (sym e)
+    subst (λ (p : Part). TakesRun (fields_text operation ns p bytes) piece (fields_text operation ns p bytes') count) (sym e)
     (record {
       within = within;
-      digits = subst (λ (l : List ℕ). AllPass is_hex_digit l) front ok.1;
       asks = subst (λ (l : List ℕ). AsksAs (text operation ns bytes ++ l) (text operation ns bytes')) front c.asks;
       longer = c.longer ∙ ap (λ (n : ℕ). length (text operation ns bytes) + n) (sym all);
     })
 
 -- or none are
-pub none_taken : (line piece line' : List ℕ) → line' ≡ line → TakesPairs line piece line' 0
+pub none_taken : (line piece line' : List ℕ) → line' ≡ line → TakesRun line piece line' 0
 none_taken line piece line' e =
-    subst (λ (l : List ℕ). TakesPairs line piece l 0) (sym e)
-    (record { within = omega arith; digits = All-nil (λ c. is_hex_digit c ≡ true); asks = asks_same line; longer = omega arith })
+    subst (λ (l : List ℕ). TakesRun line piece l 0) (sym e)
+    (record { within = omega arith; asks = asks_same line; longer = omega arith })
 
 -- ---- digits that decode
 

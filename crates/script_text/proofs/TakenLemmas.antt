@@ -2,7 +2,7 @@
 use Rattle.std.proofs.Common.{◌≡◌, ◌≢◌, ◌∙◌, ◌⊎◌, inl, inr, ℕ, ◌+◌, ◌-◌, ◌<◌, ◌≤◌, ◌==◌, Bool, true, false, List, [], ◌∷◌, ◌++◌, length, take, drop, slice_index, Option, None, Some, sym, ap, subst, arith, append_assoc, append-nil, take-add, take-append-drop, length-append, length-drop}
 use Rattle.std.specs.Bool.{MatchBool}
 use Rattle.std.specs.List.{All}
-use Rattle.std.proofs.lemmas.List.{length-take-le, take_all, take_more}
+use Rattle.std.proofs.lemmas.List.{drop_more, length-take-le, take_all, take_more}
 use Rattle.std.proofs.lemmas.List.Elements.{All-drop}
 use Rattle.items.specs.Text.{IsWithout, SpellsBad, TakesText, Takes}
 use Rattle.items.proofs.Texts.{strip-plain}
@@ -10,11 +10,11 @@ use Rattle.request_form.specs.declared.form.Request.{Request}
 use Rattle.script_text.specs.Requests.{request_of}
 use Rattle.script_text.specs.Lines.{fields_of, heard_as, script_lines}
 use Rattle.script_text.specs.Begun.{IsPlain, IsLetter}
-use Rattle.script_text.specs.Decoded.{AsksAs, AsksNothing, AddsByte, TakesPairs}
+use Rattle.script_text.specs.Decoded.{AsksAs, AsksNothing, AddsByte, TakesRun}
 use Rattle.script_text.proofs.TextLemmas.{word_stops}
 use Rattle.script_text.proofs.DecodedLemmas.{letters_plain, command_plain}
 
--- one byte behind pairs of which none came
+-- one byte behind a run that has none
 byte_asks : (text mid rest : List ℕ) (b : ℕ) → AsksAs (text ++ []) mid → (more : List ℕ) → request_of (fields_of ((text ++ b ∷ []) ++ more)) ≡ request_of (fields_of ((mid ++ b ∷ []) ++ more))
 byte_asks text mid rest b asks more =
     ap (λ (l : List ℕ). request_of (fields_of l)) (append_assoc text (b ∷ []) more ∙ ap (λ (l : List ℕ). l ++ b ∷ more) (sym (append-nil text)))
@@ -28,9 +28,9 @@ bad_behind text rest b none more =
     ∙ ap (λ (l : List ℕ). heard_as (request_of (fields_of l))) (append_assoc (text ++ b ∷ []) rest more)
     ∙ ap (λ (r : Option Request). heard_as r) (none (rest ++ more))
 
-pub byte_stops : (text piece mid text' : List ℕ) (pairs : ℕ) → 0 < length piece → pairs ≡ 0 → TakesPairs text piece mid pairs → AddsByte mid (slice_index piece 0) text' false → Takes script_lines text piece text' None
-byte_stops text [] mid text' pairs some none t a = absurd (omega arith)
-byte_stops text (b ∷ rest) mid text' pairs some none t a =
+pub byte_stops : (text piece mid text' : List ℕ) (run : ℕ) → 0 < length piece → run ≡ 0 → TakesRun text piece mid run → AddsByte mid (slice_index piece 0) text' false → Takes script_lines text piece text' None
+byte_stops text [] mid text' run some none t a = absurd (omega arith)
+byte_stops text (b ∷ rest) mid text' run some none t a =
     let asks : AsksAs (text ++ []) mid = subst (λ (n : ℕ). AsksAs (text ++ take n (b ∷ rest)) mid) none t.asks in
     bad_behind text rest b (λ more. byte_asks text mid rest b asks more ∙ a more)
 
@@ -98,9 +98,6 @@ takes_all text piece text' taken some_bytes all (inr t) = t
 
 -- ---- words
 
-same_word : (word word' piece : List ℕ) (count : ℕ) → count ≡ 0 → word' ≡ word ++ take count piece → word' ≡ word
-same_word word word' piece count none is = is ∙ ap (λ (n : ℕ). word ++ take n piece) none ∙ append-nil word
-
 -- letters come to those of a command
 pub letters_come : (word word' piece : List ℕ) (count : ℕ) → 0 < count → count ≤ length piece → word' ≡ word ++ take count piece → All IsLetter word' → Takes script_lines word piece word' (Some count)
 letters_come word word' piece count some_bytes within is letters =
@@ -115,44 +112,6 @@ letters_come word word' piece count some_bytes within is letters =
       ends = λ _. strip-plain word' plain.no_return;
     }
 
-letter_stops : (word piece : List ℕ) → 0 < length piece → AsksNothing (word ++ slice_index piece 0 ∷ []) → SpellsBad script_lines (word ++ piece)
-letter_stops word [] some_bytes none = absurd (omega arith)
-letter_stops word (x ∷ rest) some_bytes none = bad_behind word rest x none
-
--- a byte that is no letter, or for which there is no room
-pub word_ends : (word word' piece : List ℕ) (count : ℕ) → 0 < length piece → count ≡ 0 → word' ≡ word ++ take count piece → All IsLetter word'
-    → (count < length piece → (IsLetter (slice_index piece count) → ⊥) ⊎ (12 ≤ length word')) → slice_index piece 0 ≢ 32 → SpellsBad script_lines (word ++ piece)
-word_ends word word' piece count some_bytes none is letters stops other =
-    let why = subst (λ (n : ℕ). (IsLetter (slice_index piece n) → ⊥) ⊎ (12 ≤ length word')) none (stops (omega arith)) in
-    letter_stops word piece some_bytes
-    (subst (λ (l : List ℕ). AsksNothing (l ++ slice_index piece 0 ∷ [])) (same_word word word' piece count none is) (word_stops word' (slice_index piece 0) letters other why))
-
--- a space behind what is no command with fields
-pub unknown_ends : (word word' piece : List ℕ) (count : ℕ) → 0 < length piece → count ≡ 0 → word' ≡ word ++ take count piece → slice_index piece 0 ≡ 32
-    → AsksNothing (word' ++ 32 ∷ []) → SpellsBad script_lines (word ++ piece)
-unknown_ends word word' piece count some_bytes none is space asks =
-    letter_stops word piece some_bytes
-    (subst (λ (b : ℕ). AsksNothing (word ++ b ∷ [])) (sym space) (subst (λ (l : List ℕ). AsksNothing (l ++ 32 ∷ [])) (same_word word word' piece count none is) asks))
-
-one_taken : (word piece : List ℕ) → 0 < length piece → slice_index piece 0 ≡ 32 → word ++ take 1 piece ≡ word ++ 32 ∷ []
-one_taken word [] some_bytes space = absurd (omega arith)
-one_taken word (b ∷ rest) some_bytes space = ap (λ (x : ℕ). word ++ x ∷ []) space
-
--- the space behind a command
-pub space_comes : (word word' piece text : List ℕ) (count : ℕ) → 0 < length piece → count ≡ 0 → word' ≡ word ++ take count piece → All IsLetter word' → slice_index piece 0 ≡ 32
-    → text ≡ word' ++ 32 ∷ [] → Takes script_lines word piece text (Some 1)
-space_comes word word' piece text count some_bytes none is letters space behind =
-    let same : text ≡ word ++ 32 ∷ [] = behind ∙ ap (λ (l : List ℕ). l ++ 32 ∷ []) (same_word word word' piece count none is) in
-    let plain : IsPlain text = subst IsPlain (sym behind) (command_plain word' letters) in
-    record {
-      some = omega arith;
-      within = omega arith;
-      longer = ap (λ (l : List ℕ). length l) same ∙ length-append word (32 ∷ []);
-      spells = λ more. ap (λ (l : List ℕ). script_lines.spelled (l ++ more)) (one_taken word piece some_bytes space ∙ sym same);
-      is_text = record { no_feed = plain.no_feed; no_mark = plain.no_mark };
-      ends = λ _. strip-plain text plain.no_return;
-    }
-
 -- one letter more
 pub letter_more : (old piece word word' : List ℕ) (count : ℕ) → count < length piece → word ≡ old ++ take count piece → word' ≡ word ++ slice_index piece count ∷ []
     → word' ≡ old ++ take (count + 1) piece
@@ -161,6 +120,46 @@ letter_more old piece word word' count within is pushed =
     ∙ ap (λ (l : List ℕ). l ++ slice_index piece count ∷ []) is
     ∙ append_assoc old (take count piece) (slice_index piece count ∷ [])
     ∙ ap (λ (l : List ℕ). old ++ l) (sym (take_more piece count 0 within))
+
+-- where a word stops inside a piece
+word_cut : (word word' piece : List ℕ) (count : ℕ) → count < length piece → word' ≡ word ++ take count piece → word ++ piece ≡ word' ++ slice_index piece count ∷ drop (count + 1) piece
+word_cut word word' piece count within is =
+    ap (λ (l : List ℕ). word ++ l) (sym (take-append-drop count piece))
+    ∙ sym (append_assoc word (take count piece) (drop count piece))
+    ∙ ap (λ (l : List ℕ). l ++ drop count piece) (sym is)
+    ∙ ap (λ (l : List ℕ). word' ++ l) (drop_more piece count 0 within)
+
+letter_stops : (word word' piece : List ℕ) (count : ℕ) → count < length piece → word' ≡ word ++ take count piece → AsksNothing (word' ++ slice_index piece count ∷ []) → SpellsBad script_lines (word ++ piece)
+letter_stops word word' piece count within is none =
+    subst (λ (l : List ℕ). SpellsBad script_lines l) (sym (word_cut word word' piece count within is)) (bad_behind word' (drop (count + 1) piece) (slice_index piece count) none)
+
+-- a byte that is no letter, or for which there is no room
+pub word_ends : (word word' piece : List ℕ) (count : ℕ) → count < length piece → word' ≡ word ++ take count piece → All IsLetter word'
+    → (count < length piece → (IsLetter (slice_index piece count) → ⊥) ⊎ (12 ≤ length word')) → slice_index piece count ≢ 32 → SpellsBad script_lines (word ++ piece)
+word_ends word word' piece count within is letters stops other =
+    letter_stops word word' piece count within is (word_stops word' (slice_index piece count) letters other (stops within))
+
+-- a space behind what is no command with fields
+pub unknown_ends : (word word' piece : List ℕ) (count : ℕ) → count < length piece → word' ≡ word ++ take count piece → slice_index piece count ≡ 32
+    → AsksNothing (word' ++ 32 ∷ []) → SpellsBad script_lines (word ++ piece)
+unknown_ends word word' piece count within is space asks =
+    letter_stops word word' piece count within is (subst (λ (b : ℕ). AsksNothing (word' ++ b ∷ [])) (sym space) asks)
+
+-- the space behind a command
+pub space_comes : (word word' piece text : List ℕ) (count : ℕ) → count < length piece → word' ≡ word ++ take count piece → All IsLetter word' → slice_index piece count ≡ 32
+    → text ≡ word' ++ 32 ∷ [] → Takes script_lines word piece text (Some (count + 1))
+space_comes word word' piece text count within is letters space behind =
+    let same : word ++ take (count + 1) piece ≡ text = sym (letter_more word piece word' text count within is (behind ∙ ap (λ (b : ℕ). word' ++ b ∷ []) (sym space))) in
+    let plain : IsPlain text = subst IsPlain (sym behind) (command_plain word' letters) in
+    let front = length-take-le (count + 1) piece (omega arith) in
+    record {
+      some = omega arith;
+      within = omega arith;
+      longer = ap (λ (l : List ℕ). length l) (sym same) ∙ length-append word (take (count + 1) piece) ∙ ap (λ (n : ℕ). length word + n) front;
+      spells = λ more. ap (λ (l : List ℕ). script_lines.spelled (l ++ more)) same;
+      is_text = record { no_feed = plain.no_feed; no_mark = plain.no_mark };
+      ends = λ _. strip-plain text plain.no_return;
+    }
 
 pub letter_goes : (length_of_word byte : ℕ) (letter : Bool) → length_of_word < 12 → MatchBool letter (IsLetter byte) (IsLetter byte → ⊥)
     → MatchBool letter (IsLetter byte × (length_of_word < 12)) ((IsLetter byte → ⊥) ⊎ (12 ≤ length_of_word))

@@ -1,6 +1,6 @@
 -- What is kept of a command's fields, and the text in whose place it stands.
 use Rattle.std.specs.Prelude.{◌≡◌, ◌≢◌, ◌⊎◌, ◌<◌, ◌≤◌, ◌+◌, ◌^◌, ℕ, Bool, true, false, List, [], ◌∷◌, ◌++◌, length, take, Option, Some, None, Ok, codes}
-use Rattle.std.specs.List.{All, AllPass}
+use Rattle.std.specs.List.{All}
 use Rattle.std.specs.Option.{option_to_list, IfSome}
 use Rattle.std.specs.Fmt.{decimal}
 use Rattle.hex.specs.Hex.{encode_lower, decode_of, is_hex_digit, IsBytes}
@@ -92,9 +92,13 @@ pub record Decodes (bytes digits bytes' : List ℕ) : Type 0 where
   pub spells : decode_of digits ≡ Ok spelled
   pub behind : bytes' ≡ bytes ++ spelled
 
--- pairs of digits have come off the front of a piece
-pub record TakesPairs (text piece text' : List ℕ) (count : ℕ) : Type 0 where
+-- a run of bytes has come off the front of a piece
+pub record TakesRun (text piece text' : List ℕ) (count : ℕ) : Type 0 where
   pub within : count ≤ length piece
-  pub digits : AllPass is_hex_digit (take count piece)
   pub asks : AsksAs (text ++ take count piece) text'
   pub longer : length text' ≡ length text + count
+
+-- the same of a number's digits, and maybe the space that ends it, with what has come then
+pub record TakesNumber (operation : Operation) (numbers : List ℕ) (number : Option ℕ) (piece numbers' : List ℕ) (part' : Part) (count : ℕ) : Type 0 where
+  pub run : TakesRun (fields_text operation numbers (Number number) []) piece (fields_text operation numbers' part' []) count
+  pub decoded : IsDecoded operation numbers' part' []

@@ -10,20 +10,21 @@ pub fn operation_of(word: &[u8]) -> Option<Operation>
         ((operation : Operation) → word.now ≢ command_of operation)
         (λ operation. word.now ≡ command_of operation) }
 {
-    if word == b"create".as_slice() {
-        Some(Operation::Create)
-    } else if word == b"append".as_slice() {
+    // Those that come most often stand first.
+    if word == b"append".as_slice() {
         Some(Operation::Append)
+    } else if word == b"read".as_slice() {
+        Some(Operation::Read)
     } else if word == b"write".as_slice() {
         Some(Operation::Write)
+    } else if word == b"create".as_slice() {
+        Some(Operation::Create)
     } else if word == b"start-append".as_slice() {
         Some(Operation::StartAppend)
     } else if word == b"start-write".as_slice() {
         Some(Operation::StartWrite)
     } else if word == b"finish".as_slice() {
         Some(Operation::Finish)
-    } else if word == b"read".as_slice() {
-        Some(Operation::Read)
     } else if word == b"recent".as_slice() {
         Some(Operation::Recent)
     } else if word == b"size".as_slice() {

@@ -12,7 +12,8 @@ ghost use Rattle.script_text.specs.Lines.{fields_of, script_lines};
 ghost use Rattle.script_text.specs.Begun.{IsPlain};
 ghost use Rattle.script_text.specs.Commands.{command_of};
 ghost use Rattle.script_text.specs.Decoded.{digits_of, SpellsNoNumber, IsDecoded, IsFieldBehind, BeginsPair};
-ghost use Rattle.script_text.specs.Decoded.{EndsNumber, Adds, AddsByte, AsksNothing, Decodes, TakesPairs};
+ghost use Rattle.script_text.specs.Decoded.{EndsNumber, Adds, AddsByte, AsksNothing, Decodes, TakesRun, TakesNumber};
+ghost use Rattle.script_text.specs.declared.fields.Part.TheVariants.{Number};
 
 use arrayvec::ArrayVec;
 use blob_model::Bytes;
@@ -82,6 +83,29 @@ fn more_digits(number: Option<u64>, byte: u8) -> Option<u64>
     }
 }
 
+// A number, and how many digits have come to it.
+#[derive(Clone, Copy)]
+struct Counted {
+    number: Option<u64>,
+    count: usize,
+}
+
+// The number that its digits so far and those at the front of a piece spell, as far as they do.
+fn count_digits(number: Option<u64>, piece: &[u8]) -> Counted
+    ensures within { result.count ≤ length piece.now }
+    ensures digits { digits_of number ++ take result.count piece.now ≡ digits_of result.number }
+{
+    let mut counted = Counted { number, count: 0 };
+    'digits: while counted.count < piece.len() {
+        let Some(more) = more_digits(counted.number, piece[counted.count]) else {
+            break;
+        };
+        counted.number = Some(more);
+        counted.count += 1;
+    }
+    counted
+}
+
 // The field that comes behind so many numbers, if one may.
 fn field_behind(operation: Operation, count: usize) -> Option<Part>
     requires { count ≤ numbers_of operation }
@@ -109,6 +133,38 @@ fn end_number(
     let part = field_behind(operation, numbers.len() + 1)?;
     numbers.push(number);
     Some(part)
+}
+
+// The part that has come, once so many bytes were taken off the front of a piece.
+#[derive(Clone, Copy)]
+struct Taken {
+    part: Part,
+    count: usize,
+}
+
+// Takes the digits at the front of a piece behind those of a number, and the space that ends it where another field may follow.
+fn take_number(
+    operation: Operation,
+    numbers: &mut ArrayVec<u64, 4>,
+    number: Option<u64>,
+    piece: &[u8],
+) -> Taken
+    requires { IsDecoded operation numbers.old.items (Number number) [] }
+    ensures { TakesNumber operation numbers.old.items number piece.now numbers.new.items result.part result.count }
+{
+    let Counted { number, count } = count_digits(number, piece);
+    if count < piece.len() && piece[count] == b' ' {
+        if let Some(part) = end_number(operation, numbers, number) {
+            return Taken {
+                part,
+                count: count + 1,
+            };
+        }
+    }
+    Taken {
+        part: Part::Number(number),
+        count,
+    }
 }
 
 // The first digit of a pair, or `-` where no digit has come.
@@ -310,10 +366,10 @@ impl Fields {
         }
     }
 
-    // Takes pairs of hex digits off the front of a piece. Answers how many bytes they are: none where the first byte isn't the
-    // first digit of a pair.
-    fn take_pairs(&mut self, piece: &[u8]) -> Result<usize, NoMemory>
-        ensures takes { IfOk result (λ count. TakesPairs self.old piece.now self.new count) }
+    // Takes pairs of hex digits, or a number's digits and its end, off the front of a piece. Answers how many bytes they are: none
+    // where the first one is neither.
+    fn take_run(&mut self, piece: &[u8]) -> Result<usize, NoMemory>
+        ensures takes { IfOk result (λ count. TakesRun self.old piece.now self.new count) }
         ensures plain { IsPlain self.new }
     {
         match self.part {
@@ -321,6 +377,11 @@ impl Fields {
                 let digits = pairs_of(piece);
                 push_pairs(&mut self.bytes, digits)?;
                 Ok(digits.len())
+            }
+            Part::Number(number) => {
+                let taken = take_number(self.operation, &mut self.numbers, number, piece);
+                self.part = taken.part;
+                Ok(taken.count)
             }
             _ => Ok(0),
         }
@@ -341,15 +402,15 @@ impl Fields {
         Ok(Some(taken))
     }
 
-    // Takes bytes of the line off the front of a piece: pairs of hex digits, or one byte. Answers how many, or none where the
-    // line is no request, however it goes on.
+    // Takes bytes of the line off the front of a piece: a run of digits, or one byte. Answers how many, or none where the line is no
+    // request, however it goes on.
     fn take_part(&mut self, piece: &[u8]) -> Result<Option<usize>, NoMemory>
         requires { 0 < length piece.now }
         ensures { IfOk result (λ count. Takes script_lines self.old piece.now self.new count) }
     {
-        let pairs = self.take_pairs(piece)?;
-        if pairs > 0 {
-            return Ok(Some(pairs));
+        let count = self.take_run(piece)?;
+        if count > 0 {
+            return Ok(Some(count));
         }
         if self.add(piece[0])? {
             return Ok(Some(1));

@@ -86,21 +86,38 @@ fn take_part(alloc: Global, begun: &mut Begun, piece: &[u8]) -> Result<Option<us
         Begun::Asked(fields) => fields.take(piece),
         Begun::Word(word) => {
             let count = add_letters(word, piece);
-            if count > 0 {
+            if count == piece.len() {
                 return Ok(Some(count));
             }
-            if piece[0] != b' ' {
+            if piece[count] != b' ' {
                 return Ok(None);
             }
             match asked(alloc, word.as_slice()) {
                 None => Ok(None),
                 Some(fields) => {
                     *begun = Begun::Asked(fields);
-                    Ok(Some(1))
+                    Ok(Some(count + 1))
                 }
             }
         }
     }
+}
+
+// Takes all bytes of a piece. Says how many they are, or none where the line is no request, however it goes on.
+fn take_all(alloc: Global, begun: &mut Begun, piece: &[u8]) -> Result<Option<usize>, NoMemory>
+    requires begun { IsBegun begun.old }
+    requires some { 0 < length piece.now }
+    ensures takes { IfOk result (λ count. Takes script_lines (begun_text begun.old) piece.now (begun_text begun.new) count) }
+    ensures begun { IsBegun begun.new }
+{
+    let mut taken = 0;
+    'piece: while taken < piece.len() {
+        match take_part(alloc, begun, &piece[taken..])? {
+            Some(count) => taken += count,
+            None => return Ok(None),
+        }
+    }
+    Ok(Some(taken))
 }
 
 // The request of a command without fields, if it makes one.
@@ -187,7 +204,7 @@ impl Body for Line {
     }
 
     fn take(&mut self, alloc: Global, piece: &[u8]) -> Result<Option<usize>, NoMemory> {
-        take_part(alloc, &mut self.begun, piece)
+        take_all(alloc, &mut self.begun, piece)
     }
 
     fn into_item(self, _: Global) -> Result<Heard, NoMemory> {

@@ -1,9 +1,9 @@
-ghost use Rattle.std.specs.Prelude.{◌≡◌, ◌++◌, ◌∷◌, [], IfOk, OnOk, codes};
+ghost use Rattle.std.specs.Prelude.{◌≡◌, ◌<◌, ◌*◌, ◌++◌, ◌∷◌, [], length, slice_index, IfOk, OnOk, codes};
 ghost use Rattle.std.specs.Fmt.{decimal};
 ghost use Rattle.std.specs.String.{string_bytes};
+ghost use Rattle.hex.specs.Hex.{lower_digits, encode_lower};
 ghost use Rattle.script_text.specs.Said.{fault_text, hex_text, update_text, started_text, status_text, said};
 
-use hex::encode_to_slice;
 use itoa::Buffer;
 use request_form::{Fault, Reply};
 use std::alloc::{AllocError, Global};
@@ -45,6 +45,30 @@ fn fault_line(alloc: Global, fault: &Fault) -> Result<String, AllocError>
     }
 }
 
+// The hex digit that counts so much.
+#[inline(always)]
+fn hex_digit(value: u8) -> u8
+    requires { value < 16 }
+    ensures { result ≡ slice_index lower_digits value }
+{
+    if value < 10 {
+        b'0' + value
+    } else {
+        b'a' + (value - 10)
+    }
+}
+
+// Writes bytes as hex digits into room for twice as many.
+fn write_digits(bytes: &[u8], out: &mut [u8])
+    requires { length out.old ≡ 2 * length bytes.now }
+    ensures { out.new ≡ encode_lower bytes.now }
+{
+    'bytes: for i in 0..bytes.len() {
+        out[2 * i] = hex_digit(bytes[i] / 16);
+        out[2 * i + 1] = hex_digit(bytes[i] % 16);
+    }
+}
+
 // The line of a read's bytes.
 fn data_line(alloc: Global, bytes: &[u8]) -> Result<Vec<u8>, AllocError>
     ensures { IfOk result (λ line. line.items ≡ codes "data " ++ hex_text bytes.now ++ 10 ∷ []) }
@@ -58,9 +82,7 @@ fn data_line(alloc: Global, bytes: &[u8]) -> Result<Vec<u8>, AllocError>
     let mut line = Vec::with_capacity(alloc, room)?;
     line.extend_from_slice(b"data ")?;
     line.resize(room - 1, 0)?;
-    if encode_to_slice(bytes, &mut line.as_mut_slice()[5..]).is_err() {
-        return Err(AllocError);
-    }
+    write_digits(bytes, &mut line.as_mut_slice()[5..]);
     line.push(b'\n')?;
     Ok(line)
 }
