@@ -11,6 +11,7 @@ mod dialect;
 mod fields;
 mod line;
 mod reply;
+mod written;
 
 pub use dialect::ScriptDialect;
 pub use reply::reply_line;

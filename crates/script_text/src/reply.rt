@@ -1,10 +1,10 @@
-ghost use Rattle.std.specs.Prelude.{◌≡◌, ◌<◌, ◌*◌, ◌++◌, ◌∷◌, [], length, slice_index, IfOk, OnOk, codes};
+ghost use Rattle.std.specs.Prelude.{◌≡◌, ◌<◌, ◌≤◌, ◌+◌, ◌*◌, ◌++◌, ◌∷◌, [], length, slice_index, IfOk, codes};
 ghost use Rattle.std.specs.Fmt.{decimal};
 ghost use Rattle.std.specs.String.{string_bytes};
 ghost use Rattle.hex.specs.Hex.{lower_digits, encode_lower};
 ghost use Rattle.script_text.specs.Said.{fault_text, hex_text, update_text, started_text, status_text, said};
 
-use itoa::Buffer;
+use crate::written::Written;
 use request_form::{Fault, Reply};
 use std::alloc::{AllocError, Global};
 
@@ -87,35 +87,24 @@ fn data_line(alloc: Global, bytes: &[u8]) -> Result<Vec<u8>, AllocError>
     Ok(line)
 }
 
-// Adds words and a number behind them.
-fn push_number(line: &mut Vec<u8>, words: &[u8], number: u64) -> Result<(), AllocError>
-    ensures { OnOk result (line.new.items ≡ line.old.items ++ words.now ++ decimal number) }
+// Puts what is said of an update before what stands there.
+fn put_update(line: &mut Written, version: u64, at: u64, size: u64)
+    requires { length line.old ≤ 20 }
+    ensures text { line.new ≡ update_text version at size ++ line.old }
+    ensures short { length line.new ≤ length line.old + 78 }
 {
-    let mut digits = Buffer::new();
-    line.extend_from_slice(words)?;
-    line.extend_from_slice(digits.format(number).as_bytes())
-}
-
-// A line of up to four words with a number of up to twenty digits behind each fits without being moved.
-const ROOM: usize = 120;
-
-// Adds what is said of an update, and the line's end.
-fn push_update(line: &mut Vec<u8>, version: u64, at: u64, size: u64) -> Result<(), AllocError>
-    ensures { OnOk result (line.new.items ≡ line.old.items ++ update_text version at size ++ 10 ∷ []) }
-{
-    push_number(line, b"version ", version)?;
-    push_number(line, b" at ", at)?;
-    push_number(line, b" size ", size)?;
-    line.extend_from_slice(b"\n")
+    line.put_number(b" size ", size);
+    line.put_number(b" at ", at);
+    line.put_number(b"version ", version);
 }
 
 // What is said of an update.
 fn update_line(alloc: Global, version: u64, at: u64, size: u64) -> Result<Vec<u8>, AllocError>
     ensures { IfOk result (λ line. line.items ≡ update_text version at size ++ 10 ∷ []) }
 {
-    let mut line = Vec::with_capacity(alloc, ROOM)?;
-    push_update(&mut line, version, at, size)?;
-    Ok(line)
+    let mut line = Written::end();
+    put_update(&mut line, version, at, size);
+    line.to_vec(alloc)
 }
 
 // What is said of an update that is only started.
@@ -128,11 +117,11 @@ fn started_line(
 ) -> Result<Vec<u8>, AllocError>
     ensures { IfOk result (λ line. line.items ≡ started_text ticket version at size ++ 10 ∷ []) }
 {
-    let mut line = Vec::with_capacity(alloc, ROOM)?;
-    push_number(&mut line, b"ticket ", ticket)?;
-    line.extend_from_slice(b" ")?;
-    push_update(&mut line, version, at, size)?;
-    Ok(line)
+    let mut line = Written::end();
+    put_update(&mut line, version, at, size);
+    line.put(b" ");
+    line.put_number(b"ticket ", ticket);
+    line.to_vec(alloc)
 }
 
 // What is said of how far a blob's updates are.
@@ -144,33 +133,31 @@ fn status_line(
 ) -> Result<Vec<u8>, AllocError>
     ensures { IfOk result (λ line. line.items ≡ status_text assigned published held ++ 10 ∷ []) }
 {
-    let mut line = Vec::with_capacity(alloc, ROOM)?;
-    push_number(&mut line, b"status assigned ", assigned)?;
-    push_number(&mut line, b" published ", published)?;
-    push_number(&mut line, b" held ", held)?;
-    line.extend_from_slice(b"\n")?;
-    Ok(line)
+    let mut line = Written::end();
+    line.put_number(b" held ", held);
+    line.put_number(b" published ", published);
+    line.put_number(b"status assigned ", assigned);
+    line.to_vec(alloc)
 }
 
 // A line of words and a number.
 fn number_line(alloc: Global, words: &[u8], number: u64) -> Result<Vec<u8>, AllocError>
+    requires { length words.now ≤ 20 }
     ensures { IfOk result (λ line. line.items ≡ words.now ++ decimal number ++ 10 ∷ []) }
 {
-    let mut line = Vec::with_capacity(alloc, ROOM)?;
-    push_number(&mut line, words, number)?;
-    line.extend_from_slice(b"\n")?;
-    Ok(line)
+    let mut line = Written::end();
+    line.put_number(words, number);
+    line.to_vec(alloc)
 }
 
 // What is said of the last version that is published.
 fn recent_line(alloc: Global, version: u64, size: u64) -> Result<Vec<u8>, AllocError>
     ensures { IfOk result (λ line. line.items ≡ codes "recent " ++ decimal version ++ codes " size " ++ decimal size ++ 10 ∷ []) }
 {
-    let mut line = Vec::with_capacity(alloc, ROOM)?;
-    push_number(&mut line, b"recent ", version)?;
-    push_number(&mut line, b" size ", size)?;
-    line.extend_from_slice(b"\n")?;
-    Ok(line)
+    let mut line = Written::end();
+    line.put_number(b" size ", size);
+    line.put_number(b"recent ", version);
+    line.to_vec(alloc)
 }
 
 /// A reply's line, with its end.
