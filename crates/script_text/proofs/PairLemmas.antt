@@ -1,9 +1,8 @@
 -- Pairs of hex digits behind what has come of a line.
-use Rattle.std.proofs.Common.{◌≡◌, ◌∙◌, ℕ, zero, suc, ◌+◌, ◌-◌, ◌*◌, ◌<◌, ◌≤◌, ◌==◌, ◌&&◌, not, Bool, true, false, List, [], ◌∷◌, ◌++◌, length, take, slice_index, get_or, unwrap_or, inl, inr, Option, Some, None, is_some, Result, Ok, refl, sym, ap, subst, arith, append_assoc, append-nil}
+use Rattle.std.proofs.Common.{◌≡◌, ◌∙◌, ℕ, suc, ◌+◌, ◌*◌, ◌%◌, ◌/◌, ◌<◌, ◌≤◌, ◌&&◌, not, Bool, true, false, List, [], ◌∷◌, ◌++◌, length, take, get_or, unwrap_or, Option, Some, None, is_some, Result, Ok, refl, sym, ap, subst, arith, append_assoc, append-nil}
 use Rattle.std.specs.Bool.{MatchBool, OnTrue}
 use Rattle.std.specs.List.{AllPass}
 use Rattle.std.specs.Result.{result_ok}
-use Rattle.std.proofs.lemmas.Bool.{and_parts, cases_lt, eqb-true, false≢true}
 use Rattle.std.proofs.lemmas.Bool.Decides.{nat_tests}
 use Rattle.std.proofs.lemmas.List.{take_all}
 use Rattle.std.proofs.lemmas.List.Elements.{All-head, All-tail, All-more}
@@ -116,53 +115,16 @@ none_taken line piece line' e =
 
 -- ---- digits that decode
 
-value_within : (c v : ℕ) → hex_digit_value c ≡ Some v → (48 ≤ c) × (c ≤ 102)
-value_within c v h = (grind (arith, nat_tests), grind (arith, nat_tests))
+value_is : (c v : ℕ) → hex_digit_value c ≡ Some v → v ≡ c % 16 + c / 64 * 9
+value_is c v h = grind (arith, nat_tests)
 
-within_by : (c : ℕ) (o : Option ℕ) → hex_digit_value c ≡ o → is_some o ≡ true → (48 ≤ c) × (c ≤ 102)
-within_by c (Some v) e h = value_within c v e
-within_by c None e h = absurd (cc)
+counts_by : (c : ℕ) (o : Option ℕ) → hex_digit_value c ≡ o → is_some o ≡ true → hex_digit_value c ≡ Some (c % 16 + c / 64 * 9)
+counts_by c (Some v) e h = e ∙ ap (λ (x : ℕ). Some x) (value_is c v e)
+counts_by c None e h = absurd (cc)
 
--- digits lie between `0` and `f`
-digit_within : (c : ℕ) → is_hex_digit c ≡ true → (48 ≤ c) × (c ≤ 102)
-digit_within c h = within_by c (hex_digit_value c) refl h
-
--- what the bytes from `0` on count as digits
-abbrev values : List ℕ
-values =
-    0 ∷ 1 ∷ 2 ∷ 3 ∷ 4 ∷ 5 ∷ 6 ∷ 7 ∷ 8 ∷ 9 ∷ 0 ∷ 0 ∷ 0 ∷ 0 ∷ 0 ∷ 0 ∷ 0
-    ∷ 10 ∷ 11 ∷ 12 ∷ 13 ∷ 14 ∷ 15 ∷ 0 ∷ 0 ∷ 0 ∷ 0 ∷ 0 ∷ 0 ∷ 0 ∷ 0 ∷ 0 ∷ 0 ∷ 0 ∷ 0 ∷ 0 ∷ 0 ∷ 0 ∷ 0 ∷ 0 ∷ 0 ∷ 0 ∷ 0 ∷ 0 ∷ 0 ∷ 0 ∷ 0 ∷ 0 ∷ 0
-    ∷ 10 ∷ 11 ∷ 12 ∷ 13 ∷ 14 ∷ 15 ∷ []
-
--- one of them is told right, where it is a digit
-abbrev told : ℕ → Option ℕ → Bool
-told n None = true
-told n (Some v) = v == slice_index values n
-
-abbrev all_told : ℕ → Bool
-all_told zero = true
-all_told (suc n) = told n (hex_digit_value (n + 48)) && all_told n
-
-all_told-at : (n k : ℕ) → all_told n ≡ true → k < n → told k (hex_digit_value (k + 48)) ≡ true
-all_told-at zero k h lt = absurd (omega arith)
-all_told-at (suc n) k h lt =
-    let parts = and_parts (told n (hex_digit_value (n + 48))) (all_told n) h in
-    elim (cases_lt k n) [
-      | inl below ↦ all_told-at n k parts.1 below
-      | inr top ↦ let same : n ≡ k = omega arith in subst (λ (m : ℕ). told m (hex_digit_value (m + 48)) ≡ true) same parts.0
-    ]
-
-told_some : (n : ℕ) (o : Option ℕ) → is_some o ≡ true → told n o ≡ true → o ≡ Some (slice_index values n)
-told_some n (Some v) there h = ap (λ (x : ℕ). Some x) (eqb-true v (slice_index values n) h)
-told_some n None there h = absurd (false≢true there)
-
--- what a digit counts stands in the table
-pub digit_counts : (c : ℕ) → is_hex_digit c ≡ true → hex_digit_value c ≡ Some (slice_index values (c - 48))
-digit_counts c h =
-    let within = digit_within c h in
-    let same : (c - 48) + 48 ≡ c = omega (arith, within.0) in
-    let here = subst (λ (x : ℕ). told (c - 48) (hex_digit_value x) ≡ true) same (all_told-at 55 (c - 48) refl (omega (arith, within.1))) in
-    told_some (c - 48) (hex_digit_value c) h here
+-- what a digit counts
+pub digit_counts : (c : ℕ) → is_hex_digit c ≡ true → hex_digit_value c ≡ Some (c % 16 + c / 64 * 9)
+digit_counts c h = counts_by c (hex_digit_value c) refl h
 
 -- and is less than 16
 pub digit_few : (c v : ℕ) → hex_digit_value c ≡ Some v → v < 16

@@ -1,5 +1,5 @@
 -- A run of a number's digits, and the space that ends it.
-use Rattle.std.proofs.Common.{◌≡◌, ◌∙◌, ℕ, ◌+◌, ◌^◌, ◌<◌, ◌≤◌, List, [], ◌∷◌, ◌++◌, length, take, slice_index, Option, Some, None, sym, ap, subst, arith, append_assoc, length-append}
+use Rattle.std.proofs.Common.{◌≡◌, ◌∙◌, ℕ, ◌+◌, ◌^◌, ◌<◌, ◌≤◌, List, [], ◌∷◌, ◌++◌, length, take, slice_index, Option, Some, None, sym, ap, subst, arith, length-append}
 use Rattle.std.specs.Option.{IfSome}
 use Rattle.std.proofs.lemmas.List.{length-take-le, take_more}
 use Rattle.request_form.specs.declared.operation.Operation.{Operation}
@@ -8,11 +8,6 @@ use Rattle.script_text.specs.declared.fields.Part.{Part}
 use Rattle.script_text.specs.declared.fields.Part.TheVariants.{Number}
 use Rattle.script_text.proofs.DecodedLemmas.{same_asks, text_grows, ends_number}
 use Rattle.script_text.proofs.PairLemmas.{asks_after}
-
--- one more digit of a piece
-pub digit_comes : (digits piece now then : List ℕ) (count : ℕ) → count < length piece → digits ++ take count piece ≡ now → now ++ slice_index piece count ∷ [] ≡ then → digits ++ take (count + 1) piece ≡ then
-digit_comes digits piece now then count within before more =
-    ap (λ (l : List ℕ). digits ++ l) (take_more piece count 0 within) ∙ sym (append_assoc digits (take count piece) (slice_index piece count ∷ [])) ∙ ap (λ (l : List ℕ). l ++ slice_index piece count ∷ []) before ∙ more
 
 -- digits have come
 pub digits_come : (operation : Operation) (ns piece : List ℕ) (n n' : Option ℕ) (count : ℕ) → IsDecoded operation ns (Number n) [] → IfSome n' (λ m. m < 2 ^ 64) → count ≤ length piece
