@@ -4,3 +4,4 @@ pub mod UpdateRows
 pub mod RowKept
 pub mod NodesKept
 pub mod Shapes
+pub mod Runs

@@ -19,9 +19,13 @@ names_of slots = map (λ (s : Named). s.id) slots
 abbrev pub version_told : List ℕ → ℕ
 version_told tag = first tag
 
--- the place that it tells behind the version
+-- how many slots the row has, which it tells next
+abbrev pub room_told : List ℕ → ℕ
+room_told tag = first (others tag)
+
+-- the place that it tells behind these
 abbrev pub place_told : List ℕ → List ℕ
-place_told tag = others tag
+place_told tag = others (others tag)
 
 -- the names of the slots of a block whose place that is: behind where the block was pushed
 abbrev pub slots_there : List ℕ → List ℕ

@@ -5,23 +5,15 @@ ghost use Rattle.boxcar.specs.Table.{Shows};
 ghost use Rattle.node_store.specs.House.{IsIn};
 
 use crate::NoMemory;
+use crate::run::{AnyNode, Put, Run};
 use boxcar::Pushed;
-use boxcar::slot::{OnceSlot, SlotRule, Written};
+use boxcar::slot::OnceSlot;
 use boxcar::tag::{Names, Tag};
 use std::alloc::Global;
 use std::marker::Model;
 use std::sync::atomic::{AtomicUsize, Ordering};
 use std::sync::{Arc, Wait};
 use tree_geom::Node;
-
-/// Any node may lie in a slot.
-pub struct AnyNode;
-
-impl SlotRule<Node> for AnyNode {
-    ghost use Rattle.std.specs.Prelude.{⊤};
-
-    ghost holds = { λ _ _. ⊤ };
-}
 
 // How many shards a house has.
 const SHARDS: usize = 16;
@@ -73,7 +65,7 @@ impl Block {
     }
 
     // Gives out the next `count` slots, and tells the number of the first. None where there are too few.
-    fn take(&self, count: usize) -> Option<usize>
+    fn take(&self, count: usize) -> Option<u32>
         ensures { IfSome result (λ first. first + count ≤ length self.now) }
     {
         let room = self.slots.len();
@@ -83,7 +75,7 @@ impl Block {
         let first = self.taken.fetch_add(count, Ordering::SeqCst);
         // another thread may have taken slots in between
         if fits(room, first, count) {
-            Some(first)
+            u32::try_from(first).ok()
         } else {
             None
         }
@@ -119,25 +111,26 @@ impl Model for Shard {
 struct Room {
     block: Pushed<Block>,
     slots: Arc<Slots>,
-    first: usize,
+    first: u32,
 }
 
-// The version of a row, and the block of its slots.
+// The version of a row, how many slots it has, and the block of its slots.
 #[derive(Drop)]
 struct Placing {
     version: u64,
+    room: usize,
     block: Pushed<Block>,
 }
 
-// A row's tag tells its version, then where the block of its slots was pushed in its shard, by the number of its bucket and the name of
-// the slot that holds the bucket, and then the names of the block's own slots.
+// A row's tag tells its version and how many slots it has, then where the block of its slots was pushed in its shard, by the number of
+// its bucket and the name of the slot that holds the bucket, and then the names of the block's own slots.
 struct Place;
 
 impl Names<Placing> for Place {
     ghost use Rattle.std.specs.Prelude.{◌∷◌};
     ghost use Rattle.node_store.specs.Placed.{names_of};
 
-    ghost numbers = { λ p. p.version ∷ p.block.bucket ∷ p.block.row ∷ names_of p.block.value };
+    ghost numbers = { λ p. p.version ∷ p.room ∷ p.block.bucket ∷ p.block.row ∷ names_of p.block.value };
 }
 
 impl Shard {
@@ -205,12 +198,17 @@ impl Shard {
 /// one atomic step, and never changes; it is read without a lock while other threads put more.
 pub struct NodeHouse {
     shards: Vec<Shard>,
+    // what stands in a row in place of puts to come; it has no bytes
+    other_put: Put,
 }
 
 // By hand, so that it is one call wherever a house is let go: a derived drop stands, with all its calls, at each such place.
 impl Drop for NodeHouse {
     fn drop(self) {
-        let NodeHouse { shards: _ } = self;
+        let NodeHouse {
+            shards: _,
+            other_put: _,
+        } = self;
     }
 }
 
@@ -228,35 +226,20 @@ impl Model for NodeHouse {
     ghost invariant = { λ h. length h.shards.items ≡ 16 };
 }
 
-// What a put shows: the node that lies in a slot. It has no bytes.
-#[derive(Drop)]
-struct Put {
-    written: Written<Node>,
-}
-
-impl Model for Put {
-    ghost use Rattle.node_store.specs.Placed.{PutNode};
-
-    ghost Value = { PutNode };
-
-    ghost view = { λ p. record { slot = p.written.of; node = p.written.value } };
-}
-
 /// The nodes of one row that were put so far, which lie in one house: it stands for them, for all time and in every thread. They lie
 /// side by side, each in a slot of its own that is set once, and there are slots for all nodes of the row from the start.
 #[derive(Drop)]
 pub struct RowNodes {
     // the row holds the slots itself, so that a look at a node goes there at once
     slots: Arc<Slots>,
-    first: usize,
-    puts: Vec<Put>,
-    // the version, where the block of the slots stands in its shard, and the names of its slots, for proofs alone: it has no bytes
+    run: Run,
+    // the version, how many slots there are, where their block stands in its shard, and the names of its slots, for proofs alone: it
+    // has no bytes
     tag: Tag,
 }
 
 impl Model for RowNodes {
-    ghost use Rattle.std.specs.Prelude.{◌≡◌, vec_capacity};
-    ghost use Rattle.node_store.specs.Placed.{PlacedNodes, nodes_put, place_told, spot_of, version_told};
+    ghost use Rattle.node_store.specs.Placed.{PlacedNodes, nodes_put, place_told, room_told, spot_of, version_told};
     ghost use Rattle.node_store.specs.NodesKept.{KeepsPuts};
 
     ghost Value = { PlacedNodes };
@@ -264,8 +247,8 @@ impl Model for RowNodes {
     ghost view = { λ r.
         record {
           version = version_told r.tag.numbers;
-          room = vec_capacity r.puts;
-          nodes = nodes_put r.puts.items;
+          room = room_told r.tag.numbers;
+          nodes = nodes_put r.run.puts;
           spot = spot_of (version_told r.tag.numbers) (place_told r.tag.numbers);
         } };
 
@@ -299,7 +282,8 @@ impl NodeHouse {
         for _shard in 0..SHARDS {
             shards.push_reserved(Shard::new(alloc)?);
         }
-        Ok(NodeHouse { shards })
+        let other_put = Put::other()?;
+        Ok(NodeHouse { shards, other_put })
     }
 
     /// Room for `count` nodes of a row of that version, of which none is put yet. It may wait for another thread's push. Where memory
@@ -316,17 +300,20 @@ impl NodeHouse {
         ensures room { IfOk result (λ row. row.room ≡ count) }
         ensures none { IfOk result (λ row. row.nodes ≡ []) }
     {
-        let puts = Vec::with_capacity(alloc, count)?;
         let Room {
             block,
             slots,
             first,
         } = self.shards[shard_of(version)].take(rt, alloc, count)?;
-        let placing = Placing { version, block };
+        let run = Run::new(alloc, first, count, &self.other_put)?;
+        let placing = Placing {
+            version,
+            room: count,
+            block,
+        };
         Ok(RowNodes {
             slots,
-            first,
-            puts,
+            run,
             tag: Tag::of::<Placing, Place>(&placing),
         })
     }
@@ -339,13 +326,10 @@ impl NodeHouse {
         ensures put { OnOk result (row.new ≡ record row.old { nodes = row.old.nodes ++ node ∷ [] }) }
         ensures same { OnErr result (row.new ≡ row.old) }
     {
-        match row.slots[row.first + row.puts.len()].set_written(node) {
-            Ok(written) => {
-                row.puts.push_reserved(Put { written });
-                Ok(())
-            }
-            Err(_node) => Err(NoMemory),
-        }
+        let slot = row.run.slot(row.run.count());
+        let put = Put::set(&row.slots[slot], node)?;
+        row.run.push(put);
+        Ok(())
     }
 
     /// The node that was put. It waits for nobody and takes no memory.
@@ -356,7 +340,7 @@ impl NodeHouse {
     {
         let row = node.nodes;
         let index = node.index as usize;
-        *row.slots[row.first + index].value(&row.puts[index].written)
+        row.run.put(index).look(&row.slots[row.run.slot(index)])
     }
 }
 
@@ -366,7 +350,7 @@ impl RowNodes {
     pub fn count(&self) -> u64
         ensures { result ≡ length self.now.nodes }
     {
-        self.puts.len() as u64
+        self.run.count() as u64
     }
 
     /// The node of that number, counted from 0. There are more than `index`. It takes no memory.

@@ -9,6 +9,7 @@ mod folds;
 mod house;
 mod index;
 mod row;
+mod run;
 mod shape;
 
 pub use faults::NoMemory;
