@@ -5,3 +5,5 @@ pub mod RowKept
 pub mod NodesKept
 pub mod Shapes
 pub mod Runs
+pub mod Plain
+pub mod Slots

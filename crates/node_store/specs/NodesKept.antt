@@ -1,15 +1,28 @@
 -- What the nodes of a row keep.
-use Rattle.std.specs.Prelude.{◌≡◌, ℕ, ◌+◌, ◌<◌, ◌≤◌, length, slice_index_or}
+use Rattle.std.specs.Prelude.{◌≡◌, ℕ, List, vec_capacity}
 use Rattle.std.specs.Arc.{arc_value}
-use Rattle.boxcar.specs.Table.{id_at}
-use Rattle.node_store.specs.Placed.{no_put, names_of, place_told, room_told, slots_there}
+use Rattle.tree_geom.specs.declared.node.Node.{Node}
+use Rattle.node_store.specs.Placed.{names_of, place_told, slots_there}
+use Rattle.node_store.specs.Slots.{all_slots}
+use Rattle.node_store.specs.Runs.{KeepsFew, KeepsMany, few_nodes, many_nodes}
+use Rattle.node_store.specs.declared.slots.Slots.{Slots}
+use Rattle.node_store.specs.declared.house.Kept.{Kept}
+use Rattle.node_store.specs.declared.house.Kept.TheVariants.{Few, Many}
 use Rattle.node_store.specs.declared.house.RowNodes.TheInside.{Inside}
 
--- the row's slots are those of the block whose place in the house its tag tells; node i lies in the slot that is i after the row's
--- first, and there are slots and room for as many as the tag tells
+abbrev pub nodes_of : Kept → List Node
+nodes_of (Few few) = few_nodes few
+nodes_of (Many many) = many_nodes many.value
+
+abbrev pub room_of : Kept → ℕ
+room_of (Few few) = few.room
+room_of (Many many) = vec_capacity many.value.puts
+
+abbrev pub KeepsSlots : Slots → Kept → Type 0
+KeepsSlots slots (Few few) = KeepsFew slots few
+KeepsSlots slots (Many many) = KeepsMany slots many.value
+
+-- the row's slots are those of the block whose place in the house its tag tells, and its nodes lie there
 pub record KeepsPuts (r : Inside) : Type 0 where
-  pub there : names_of (arc_value r.slots).items ≡ slots_there (place_told r.tag.numbers)
-  pub few : length r.run.puts ≤ room_told r.tag.numbers
-  pub room : room_told r.tag.numbers ≤ r.run.room
-  pub within : r.run.first + room_told r.tag.numbers ≤ length (arc_value r.slots).items
-  pub each : (i : ℕ) → i < length r.run.puts → (slice_index_or r.run.puts i no_put).slot ≡ id_at (arc_value r.slots).items (r.run.first + i)
+  pub there : names_of (all_slots (arc_value r.slots)) ≡ slots_there (place_told r.tag.numbers)
+  pub kept : KeepsSlots (arc_value r.slots) r.kept

@@ -19,13 +19,9 @@ names_of slots = map (λ (s : Named). s.id) slots
 abbrev pub version_told : List ℕ → ℕ
 version_told tag = first tag
 
--- how many slots the row has, which it tells next
-abbrev pub room_told : List ℕ → ℕ
-room_told tag = first (others tag)
-
--- the place that it tells behind these
+-- the place that it tells behind the version
 abbrev pub place_told : List ℕ → List ℕ
-place_told tag = others (others tag)
+place_told tag = others tag
 
 -- the names of the slots of a block whose place that is: behind where the block was pushed
 abbrev pub slots_there : List ℕ → List ℕ
@@ -50,16 +46,3 @@ pub record PlacedNode : Type 0 where
 -- what stands in place of a node that there is none of
 abbrev pub no_node : Node
 no_node = Inner 0 0
-
--- a node that was put, and the name of its slot
-pub record PutNode : Type 0 where
-  pub slot : ℕ
-  pub node : Node
-
--- what stands in place of one that there is none of
-abbrev pub no_put : PutNode
-no_put = record { slot = 0; node = no_node }
-
--- the nodes alone
-abbrev pub nodes_put : List PutNode → List Node
-nodes_put puts = map (λ (p : PutNode). p.node) puts

@@ -1,13 +1,16 @@
 // The house of all nodes, and references to them.
-ghost use Rattle.std.specs.Prelude.{◌≡◌, ◌+◌, ◌%◌, ◌<◌, ◌≤◌, [], ◌∷◌, ◌++◌, length, IfOk, OnOk, OnErr, IfSome, Some, slice_get, IsTrue};
+ghost use Rattle.std.specs.Prelude.{◌≡◌, ◌+◌, ◌%◌, ◌<◌, ◌≤◌, [], ◌∷◌, ◌++◌, length, IfOk, OnOk, OnErr, IfSome, Some, slice_get};
 ghost use Rattle.std.specs.Arc.{arc_value};
 ghost use Rattle.boxcar.specs.Table.{Shows};
 ghost use Rattle.node_store.specs.House.{IsIn};
+ghost use Rattle.node_store.specs.Slots.{all_slots};
+ghost use Rattle.node_store.specs.NodesKept.{KeepsSlots, room_of, nodes_of};
 
 use crate::NoMemory;
-use crate::run::{AnyNode, Put, Run};
+use crate::puts::FEW;
+use crate::run::{Few, Many, Others};
+use crate::slots::{First, Sizes, Slots};
 use boxcar::Pushed;
-use boxcar::slot::OnceSlot;
 use boxcar::tag::{Names, Tag};
 use std::alloc::Global;
 use std::marker::Model;
@@ -18,20 +21,9 @@ use tree_geom::Node;
 // How many shards a house has.
 const SHARDS: usize = 16;
 
-// How many slots a block has that rows share.
-const BLOCK: usize = 256;
-
-// How many nodes a row may have to get slots in a shared block. A row of more gets a block of its own, so that at most so many slots
-// of a shared block are left unused where the next row needs more than there are.
-const SHARED: usize = 32;
-
-// Slots that lie side by side. Each is set once at most.
-type Slots = Vec<OnceSlot<Node, AnyNode>>;
-
-// Slots that the house and the rows that got some of them hold in common, and how many of them were given out, from the first on.
+// Slots that the house and the rows that got some of them hold in common.
 #[derive(Drop)]
 struct Block {
-    taken: AtomicUsize,
     slots: Arc<Slots>,
 }
 
@@ -40,53 +32,13 @@ impl Model for Block {
     ghost use Rattle.std.specs.Arc.{arc_value};
     ghost use Rattle.std.specs.Coded.{coded_list};
     ghost use Rattle.boxcar.specs.Slot.{Named, named_coded};
+    ghost use Rattle.node_store.specs.Slots.{all_slots};
 
     ghost Value = { List Named };
 
     ghost coded = { coded_list named_coded };
 
-    ghost view = { λ b. (arc_value b.slots).items };
-}
-
-impl Block {
-    // So many free slots, of which the first `taken` are given out.
-    fn new(alloc: Global, count: usize, taken: usize) -> Result<Block, NoMemory>
-        ensures { IfOk result (λ block. length block ≡ count) }
-    {
-        let tag = Tag::empty();
-        let mut slots = Vec::with_capacity(alloc, count)?;
-        for _slot in 0..count {
-            slots.push_reserved(OnceSlot::new(&tag));
-        }
-        Ok(Block {
-            taken: AtomicUsize::new(taken),
-            slots: Arc::new(alloc, slots)?,
-        })
-    }
-
-    // Gives out the next `count` slots, and tells the number of the first. None where there are too few.
-    fn take(&self, count: usize) -> Option<u32>
-        ensures { IfSome result (λ first. first + count ≤ length self.now) }
-    {
-        let room = self.slots.len();
-        if !fits(room, self.taken.load(Ordering::SeqCst), count) {
-            return None;
-        }
-        let first = self.taken.fetch_add(count, Ordering::SeqCst);
-        // another thread may have taken slots in between
-        if fits(room, first, count) {
-            u32::try_from(first).ok()
-        } else {
-            None
-        }
-    }
-}
-
-// Whether `count` of `room` slots are left after the first `taken`.
-fn fits(room: usize, taken: usize, count: usize) -> bool
-    ensures { IsTrue result → taken + count ≤ room }
-{
-    taken <= room && count <= room - taken
+    ghost view = { λ b. all_slots (arc_value b.slots) };
 }
 
 // The nodes of the versions of one remainder.
@@ -107,30 +59,36 @@ impl Model for Shard {
     ghost view = { λ s. s.blocks };
 }
 
-// Slots for the nodes of one row: those of a block, and the number of the first of them there.
+// Slots for the nodes of one row: those of a block, and the numbers of the first of them there.
 struct Room {
     block: Pushed<Block>,
     slots: Arc<Slots>,
-    first: u32,
+    first: First,
 }
 
-// The version of a row, how many slots it has, and the block of its slots.
+// What a row without nodes gets: its slots, and the block that they are of.
+struct NewRow {
+    block: Pushed<Block>,
+    slots: Arc<Slots>,
+    kept: Kept,
+}
+
+// The version of a row, and the block of its slots.
 #[derive(Drop)]
 struct Placing {
     version: u64,
-    room: usize,
     block: Pushed<Block>,
 }
 
-// A row's tag tells its version and how many slots it has, then where the block of its slots was pushed in its shard, by the number of
-// its bucket and the name of the slot that holds the bucket, and then the names of the block's own slots.
+// A row's tag tells its version, then where the block of its slots was pushed in its shard, by the number of its bucket and the name of
+// the slot that holds the bucket, and then the names of the block's own slots.
 struct Place;
 
 impl Names<Placing> for Place {
     ghost use Rattle.std.specs.Prelude.{◌∷◌};
     ghost use Rattle.node_store.specs.Placed.{names_of};
 
-    ghost numbers = { λ p. p.version ∷ p.room ∷ p.block.bucket ∷ p.block.row ∷ names_of p.block.value };
+    ghost numbers = { λ p. p.version ∷ p.block.bucket ∷ p.block.row ∷ names_of p.block.value };
 }
 
 impl Shard {
@@ -142,33 +100,87 @@ impl Shard {
         })
     }
 
-    // `count` slots that nobody else gets.
+    // `count` slots of each of the small kinds, which rows share.
     fn take<R: Wait>(&self, rt: &R, alloc: Global, count: usize) -> Result<Room, NoMemory>
+        requires { count ≤ 32 }
         ensures here { IfOk result (λ room. Shows self.now room.block) }
-        ensures its { IfOk result (λ room. (arc_value room.slots).items ≡ room.block.value) }
-        ensures within { IfOk result (λ room. room.first + count ≤ length room.block.value) }
+        ensures its { IfOk result (λ room. all_slots (arc_value room.slots) ≡ room.block.value) }
+        ensures inners { IfOk result (λ room. room.first.inner + count ≤ length (arc_value room.slots).inners.items) }
+        ensures leaves { IfOk result (λ room. room.first.leaf + count ≤ length (arc_value room.slots).leaves.items) }
     {
-        if count > SHARED {
-            return self.push(rt, Block::new(alloc, count, count)?);
-        }
         if let Some(room) = self.take_open(count) {
             return Ok(room);
         }
-        let room = self.push(rt, Block::new(alloc, BLOCK, count)?)?;
+        let sizes = match self.blocks.get(self.open.load(Ordering::SeqCst)) {
+            Some(open) => open.slots.sizes_after(),
+            None => Sizes::first(),
+        };
+        let room = self.push(rt, alloc, Slots::shared(alloc, sizes, count)?)?;
         self.open.store(room.block.index(), Ordering::SeqCst);
         Ok(room)
+    }
+
+    // Room for a row of few nodes.
+    fn room_for_few<R: Wait>(
+        &self,
+        rt: &R,
+        alloc: Global,
+        count: usize,
+        others: &Others,
+    ) -> Result<NewRow, NoMemory>
+        requires { count ≤ 32 }
+        ensures here { IfOk result (λ row. Shows self.now row.block) }
+        ensures its { IfOk result (λ row. all_slots (arc_value row.slots) ≡ row.block.value) }
+        ensures keeps { IfOk result (λ row. KeepsSlots (arc_value row.slots) row.kept) }
+        ensures room { IfOk result (λ row. room_of row.kept ≡ count) }
+        ensures none { IfOk result (λ row. nodes_of row.kept ≡ []) }
+    {
+        let Room {
+            block,
+            slots,
+            first,
+        } = self.take(rt, alloc, count)?;
+        let kept = Kept::Few(Few::new(first, count, others));
+        Ok(NewRow { block, slots, kept })
+    }
+
+    // Room for a row of many nodes, which gets a block of its own.
+    fn room_for_many<R: Wait>(
+        &self,
+        rt: &R,
+        alloc: Global,
+        count: usize,
+    ) -> Result<NewRow, NoMemory>
+        ensures here { IfOk result (λ row. Shows self.now row.block) }
+        ensures its { IfOk result (λ row. all_slots (arc_value row.slots) ≡ row.block.value) }
+        ensures keeps { IfOk result (λ row. KeepsSlots (arc_value row.slots) row.kept) }
+        ensures room { IfOk result (λ row. room_of row.kept ≡ count) }
+        ensures none { IfOk result (λ row. nodes_of row.kept ≡ []) }
+    {
+        let many = Box::new(alloc, Many::new(alloc, count)?)?;
+        let Room {
+            block,
+            slots,
+            first: _,
+        } = self.push(rt, alloc, Slots::own(alloc, count)?)?;
+        Ok(NewRow {
+            block,
+            slots,
+            kept: Kept::Many(many),
+        })
     }
 
     // `count` slots of the block that rows share.
     fn take_open(&self, count: usize) -> Option<Room>
         ensures here { IfSome result (λ room. Shows self.now room.block) }
-        ensures its { IfSome result (λ room. (arc_value room.slots).items ≡ room.block.value) }
-        ensures within { IfSome result (λ room. room.first + count ≤ length room.block.value) }
+        ensures its { IfSome result (λ room. all_slots (arc_value room.slots) ≡ room.block.value) }
+        ensures inners { IfSome result (λ room. room.first.inner + count ≤ length (arc_value room.slots).inners.items) }
+        ensures leaves { IfSome result (λ room. room.first.leaf + count ≤ length (arc_value room.slots).leaves.items) }
     {
         let block = self.blocks.witness(self.open.load(Ordering::SeqCst))?;
         let open = self.blocks.value(&block);
         let slots = Arc::try_clone(&open.slots).ok()?;
-        let first = open.take(count)?;
+        let first = slots.take(count)?;
         Some(Room {
             block,
             slots,
@@ -176,18 +188,22 @@ impl Shard {
         })
     }
 
-    // A new block, from its first slot on.
-    fn push<R: Wait>(&self, rt: &R, block: Block) -> Result<Room, NoMemory>
+    // A new block of these slots, from its first on.
+    fn push<R: Wait>(&self, rt: &R, alloc: Global, slots: Slots) -> Result<Room, NoMemory>
         ensures here { IfOk result (λ room. Shows self.now room.block) }
-        ensures its { IfOk result (λ room. (arc_value room.slots).items ≡ room.block.value) }
-        ensures whole { IfOk result (λ room. (room.block.value ≡ block) × (room.first ≡ 0)) }
+        ensures its { IfOk result (λ room. all_slots (arc_value room.slots) ≡ room.block.value) }
+        ensures slots { IfOk result (λ room. arc_value room.slots ≡ slots) }
+        ensures first { IfOk result (λ room. (room.first.inner ≡ 0) × (room.first.leaf ≡ 0)) }
     {
-        let slots = Arc::try_clone(&block.slots)?;
+        let slots = Arc::new(alloc, slots)?;
+        let block = Block {
+            slots: Arc::try_clone(&slots)?,
+        };
         match self.blocks.push_shown(rt, block) {
             Ok(block) => Ok(Room {
                 block,
                 slots,
-                first: 0,
+                first: First { inner: 0, leaf: 0 },
             }),
             Err(_) => Err(NoMemory),
         }
@@ -199,7 +215,7 @@ impl Shard {
 pub struct NodeHouse {
     shards: Vec<Shard>,
     // what stands in a row in place of puts to come; it has no bytes
-    other_put: Put,
+    others: Others,
 }
 
 // By hand, so that it is one call wherever a house is let go: a derived drop stands, with all its calls, at each such place.
@@ -207,7 +223,7 @@ impl Drop for NodeHouse {
     fn drop(self) {
         let NodeHouse {
             shards: _,
-            other_put: _,
+            others: _,
         } = self;
     }
 }
@@ -226,29 +242,36 @@ impl Model for NodeHouse {
     ghost invariant = { λ h. length h.shards.items ≡ 16 };
 }
 
+// The nodes of a row, by how many there is room for.
+#[derive(Drop)]
+enum Kept {
+    Few(Few),
+    Many(Box<Many>),
+}
+
 /// The nodes of one row that were put so far, which lie in one house: it stands for them, for all time and in every thread. They lie
-/// side by side, each in a slot of its own that is set once, and there are slots for all nodes of the row from the start.
+/// side by side, in a row of few nodes the inner ones and the leaves apart, each in a slot of its own that is set once, and there are
+/// slots for all nodes of the row from the start.
 #[derive(Drop)]
 pub struct RowNodes {
     // the row holds the slots itself, so that a look at a node goes there at once
     slots: Arc<Slots>,
-    run: Run,
-    // the version, how many slots there are, where their block stands in its shard, and the names of its slots, for proofs alone: it
-    // has no bytes
+    kept: Kept,
+    // the version, where the block of the slots stands in its shard, and the names of its slots, for proofs alone: it has no bytes
     tag: Tag,
 }
 
 impl Model for RowNodes {
-    ghost use Rattle.node_store.specs.Placed.{PlacedNodes, nodes_put, place_told, room_told, spot_of, version_told};
-    ghost use Rattle.node_store.specs.NodesKept.{KeepsPuts};
+    ghost use Rattle.node_store.specs.Placed.{PlacedNodes, place_told, spot_of, version_told};
+    ghost use Rattle.node_store.specs.NodesKept.{KeepsPuts, room_of, nodes_of};
 
     ghost Value = { PlacedNodes };
 
     ghost view = { λ r.
         record {
           version = version_told r.tag.numbers;
-          room = room_told r.tag.numbers;
-          nodes = nodes_put r.run.puts;
+          room = room_of r.kept;
+          nodes = nodes_of r.kept;
           spot = spot_of (version_told r.tag.numbers) (place_told r.tag.numbers);
         } };
 
@@ -282,8 +305,8 @@ impl NodeHouse {
         for _shard in 0..SHARDS {
             shards.push_reserved(Shard::new(alloc)?);
         }
-        let other_put = Put::other()?;
-        Ok(NodeHouse { shards, other_put })
+        let others = Others::new()?;
+        Ok(NodeHouse { shards, others })
     }
 
     /// Room for `count` nodes of a row of that version, of which none is put yet. It may wait for another thread's push. Where memory
@@ -300,36 +323,33 @@ impl NodeHouse {
         ensures room { IfOk result (λ row. row.room ≡ count) }
         ensures none { IfOk result (λ row. row.nodes ≡ []) }
     {
-        let Room {
-            block,
-            slots,
-            first,
-        } = self.shards[shard_of(version)].take(rt, alloc, count)?;
-        let run = Run::new(alloc, first, count, &self.other_put)?;
-        let placing = Placing {
-            version,
-            room: count,
-            block,
+        let shard = &self.shards[shard_of(version)];
+        let NewRow { block, slots, kept } = if count <= FEW {
+            shard.room_for_few(rt, alloc, count, &self.others)?
+        } else {
+            shard.room_for_many(rt, alloc, count)?
         };
+        let placing = Placing { version, block };
         Ok(RowNodes {
             slots,
-            run,
+            kept,
             tag: Tag::of::<Placing, Place>(&placing),
         })
     }
 
     /// Puts the next node of the row, by one atomic step on a slot that all threads share. It waits for nobody and takes no memory.
-    /// After an `Err` nothing has changed.
+    /// After an `Err` nothing has changed. A row of up to 32 nodes keeps them in few bytes, and has no room for a node that no update
+    /// has there: an inner node behind a leaf, a version of 2^32 or more, or a second piece that doesn't begin the page after the first's.
     pub fn put(&self, row: &mut RowNodes, node: Node) -> Result<(), NoMemory>
         requires here { IsIn self.now row.old.spot }
         requires room { length row.old.nodes < row.old.room }
         ensures put { OnOk result (row.new ≡ record row.old { nodes = row.old.nodes ++ node ∷ [] }) }
         ensures same { OnErr result (row.new ≡ row.old) }
     {
-        let slot = row.run.slot(row.run.count());
-        let put = Put::set(&row.slots[slot], node)?;
-        row.run.push(put);
-        Ok(())
+        match &mut row.kept {
+            Kept::Few(few) => few.put(&row.slots, node),
+            Kept::Many(many) => many.put(&row.slots, node),
+        }
     }
 
     /// The node that was put. It waits for nobody and takes no memory.
@@ -340,7 +360,10 @@ impl NodeHouse {
     {
         let row = node.nodes;
         let index = node.index as usize;
-        row.run.put(index).look(&row.slots[row.run.slot(index)])
+        match &row.kept {
+            Kept::Few(few) => few.node(&row.slots, index),
+            Kept::Many(many) => many.node(&row.slots, index),
+        }
     }
 }
 
@@ -350,7 +373,10 @@ impl RowNodes {
     pub fn count(&self) -> u64
         ensures { result ≡ length self.now.nodes }
     {
-        self.run.count() as u64
+        match &self.kept {
+            Kept::Few(few) => few.count(),
+            Kept::Many(many) => many.count(),
+        }
     }
 
     /// The node of that number, counted from 0. There are more than `index`. It takes no memory.

@@ -8,9 +8,12 @@
 mod folds;
 mod house;
 mod index;
+mod puts;
 mod row;
 mod run;
 mod shape;
+mod slots;
+mod stored;
 
 pub use faults::NoMemory;
 pub use folds::Folds;

@@ -1,183 +1,193 @@
-// The puts of a row: what shows which node lies in which of its slots.
-ghost use Rattle.std.specs.Prelude.{◌≡◌, ◌+◌, ◌<◌, ◌≤◌, [], ◌∷◌, ◌++◌, length, IfOk, Some, slice_get, slice_set};
+// The nodes of a row that were put so far, where they lie in its slots.
+ghost use Rattle.std.specs.Prelude.{◌≡◌, ◌<◌, ◌≤◌, [], ◌∷◌, ◌++◌, length, IfOk, OnOk, OnErr, Some, slice_get, vec_capacity};
+ghost use Rattle.node_store.specs.Runs.{KeepsFew, KeepsMany, few_nodes, many_nodes};
 
 use crate::NoMemory;
-use boxcar::slot::{OnceSlot, SlotRule, Written};
+use crate::puts::{FEW, Puts};
+use crate::slots::{AnyNode, First, Slots};
+use crate::stored::{Links, PlainLeaf};
+use boxcar::slot::{OnceSlot, Written};
 use boxcar::tag::Tag;
 use std::alloc::Global;
-use std::array;
-use std::marker::Model;
 use tree_geom::Node;
 
-/// Any node may lie in a slot.
-pub struct AnyNode;
-
-impl SlotRule<Node> for AnyNode {
-    ghost use Rattle.std.specs.Prelude.{⊤};
-
-    ghost holds = { λ _ _. ⊤ };
-}
-
-/// What a put shows: the node that lies in a slot. It has no bytes.
+/// What stands in place of puts to come. It has no bytes.
 #[derive(Drop)]
-pub(crate) struct Put {
-    written: Written<Node>,
+pub(crate) struct Others {
+    inner: Written<Links>,
+    leaf: Written<PlainLeaf>,
 }
 
-impl Model for Put {
-    ghost use Rattle.node_store.specs.Placed.{PutNode};
-
-    ghost Value = { PutNode };
-
-    ghost view = { λ p. record { slot = p.written.of; node = p.written.value } };
-}
-
-impl Put {
-    /// A put into a slot of its own, which stands for none in particular.
-    pub(crate) fn other() -> Result<Put, NoMemory> {
-        let slot = OnceSlot::<Node, AnyNode>::new(&Tag::empty());
-        Put::set(&slot, Node::Inner { left: 0, right: 0 })
+impl Others {
+    /// Puts into slots of their own, which stand for none in particular.
+    pub(crate) fn new() -> Result<Others, NoMemory> {
+        Ok(Others {
+            inner: set(&OnceSlot::new(&Tag::empty()), Links::none())?,
+            leaf: set(&OnceSlot::new(&Tag::empty()), PlainLeaf::none())?,
+        })
     }
+}
 
-    /// Puts a node into a slot. It fails where the slot has one.
-    pub(crate) fn set(slot: &OnceSlot<Node, AnyNode>, node: Node) -> Result<Put, NoMemory>
-        ensures { IfOk result (λ put. (put.slot ≡ slot.now.id) × (put.node ≡ node)) }
+/// The nodes of a row that has room for few: its inner nodes come before its leaves, each kind in slots side by side.
+#[derive(Drop)]
+pub(crate) struct Few {
+    first: First,
+    room: u8,
+    inners: Puts<Links>,
+    leaves: Puts<PlainLeaf>,
+}
+
+impl Few {
+    /// No nodes, and room for so many.
+    pub(crate) fn new(first: First, room: usize, others: &Others) -> Few
+        requires { room ≤ 32 }
+        ensures first { result.first ≡ first }
+        ensures room { result.room ≡ room }
+        ensures inners { result.inners ≡ [] }
+        ensures leaves { result.leaves ≡ [] }
     {
-        match slot.set_written(node) {
-            Ok(written) => Ok(Put { written }),
-            Err(_node) => Err(NoMemory),
+        Few {
+            first,
+            room: room as u8,
+            inners: Puts::none(&others.inner),
+            leaves: Puts::none(&others.leaf),
         }
     }
 
-    /// The node that was put into this slot.
+    /// How many nodes there are.
     #[inline(always)]
-    pub(crate) fn look(&self, slot: &OnceSlot<Node, AnyNode>) -> Node
-        requires { self.now.slot ≡ slot.now.id }
-        ensures { result ≡ self.now.node }
+    pub(crate) fn count(&self) -> u64
+        ensures { result ≡ length (few_nodes self.now) }
     {
-        *slot.value(&self.written)
+        u64::from(self.inners.count()) + u64::from(self.leaves.count())
     }
 
-    // The same once more.
-    fn again(&self) -> Put {
-        Put {
-            written: self.written.again(),
+    /// Puts the next node. It fails where its slot has one, or where the node is none that a row of an update has there: an inner node
+    /// behind a leaf, or one whose form has too few bytes for it.
+    pub(crate) fn put(&mut self, slots: &Slots, node: Node) -> Result<(), NoMemory>
+        requires keeps { KeepsFew slots.now self.old }
+        requires room { length (few_nodes self.old) < self.old.room }
+        ensures keeps { KeepsFew slots.now self.new }
+        ensures room { self.new.room ≡ self.old.room }
+        ensures put { OnOk result (few_nodes self.new ≡ few_nodes self.old ++ node ∷ []) }
+        ensures same { OnErr result (self.new ≡ self.old) }
+    {
+        if let Some(links) = Links::of(&node) {
+            return self.put_inner(slots, links);
         }
+        match PlainLeaf::of(&node) {
+            Some(leaf) => self.put_leaf(slots, leaf),
+            None => Err(NoMemory),
+        }
+    }
+
+    // Puts an inner node, where there is no leaf yet.
+    fn put_inner(&mut self, slots: &Slots, node: Links) -> Result<(), NoMemory>
+        requires keeps { KeepsFew slots.now self.old }
+        requires room { length (few_nodes self.old) < self.old.room }
+        ensures keeps { KeepsFew slots.now self.new }
+        ensures room { self.new.room ≡ self.old.room }
+        ensures put { OnOk result (few_nodes self.new ≡ few_nodes self.old ++ node ∷ []) }
+        ensures same { OnErr result (self.new ≡ self.old) }
+    {
+        if self.leaves.count() != 0 {
+            return Err(NoMemory);
+        }
+        let slot = self.first.inner as usize + usize::from(self.inners.count());
+        let put = set(&slots.inners[slot], node)?;
+        self.inners.push(put);
+        Ok(())
+    }
+
+    // Puts a leaf. The first one tells how many inner nodes there are, so that other rows can have the slots that this one doesn't need.
+    fn put_leaf(&mut self, slots: &Slots, node: PlainLeaf) -> Result<(), NoMemory>
+        requires keeps { KeepsFew slots.now self.old }
+        requires room { length (few_nodes self.old) < self.old.room }
+        ensures keeps { KeepsFew slots.now self.new }
+        ensures room { self.new.room ≡ self.old.room }
+        ensures put { OnOk result (few_nodes self.new ≡ few_nodes self.old ++ node ∷ []) }
+        ensures same { OnErr result (self.new ≡ self.old) }
+    {
+        let (inners, leaves) = (self.inners.count(), self.leaves.count());
+        let slot = self.first.leaf as usize + usize::from(leaves);
+        let put = set(&slots.leaves[slot], node)?;
+        if leaves == 0 {
+            slots.take_back(&self.first, self.room, inners, self.room - inners);
+        }
+        self.leaves.push(put);
+        Ok(())
+    }
+
+    /// Node `index`, counted from 0.
+    #[inline(always)]
+    pub(crate) fn node(&self, slots: &Slots, index: usize) -> Node
+        requires keeps { KeepsFew slots.now self.now }
+        requires there { index < length (few_nodes self.now) }
+        ensures { slice_get (few_nodes self.now) index ≡ Some result }
+    {
+        let inners = usize::from(self.inners.count());
+        if index < inners {
+            let slot = self.first.inner as usize + index;
+            return slots.inners[slot].value(self.inners.at(index)).node();
+        }
+        let slot = self.first.leaf as usize + (index - inners);
+        slots.leaves[slot]
+            .value(self.leaves.at(index - inners))
+            .node()
     }
 }
 
-// How many puts stand in a row itself. Those of a larger one stand in a list, since a list asks for memory, though a put has no bytes.
-const FEW: usize = 40;
-
-// The number of a row's first slot, and the puts. Behind the first `count` of a few stand others, of no slot of the row.
+/// The nodes of a row that has room for many, in slots side by side, from the first on.
 #[derive(Drop)]
-enum Kept {
-    Few {
-        first: u32,
-        count: u32,
-        puts: [Put; FEW],
-    },
-    Many {
-        first: u32,
-        puts: Box<Vec<Put>>,
-    },
+pub(crate) struct Many {
+    puts: Vec<Written<Node>>,
 }
 
-/// The puts of a row so far, of slots that lie side by side, and the number of the first of these.
-#[derive(Drop)]
-pub(crate) struct Run {
-    kept: Kept,
-}
-
-impl Model for Run {
-    ghost use Rattle.std.specs.Prelude.{◌≤◌, length};
-    ghost use Rattle.node_store.specs.Runs.{SlotRun, run_of, KeepsCount};
-
-    ghost Value = { SlotRun };
-
-    ghost view = { λ r. run_of r.kept };
-
-    ghost invariant = { λ r. KeepsCount r.kept };
-}
-
-impl Run {
-    /// No puts, of slots from that one on, and room for so many. What stands in place of puts is made from `other`.
-    pub(crate) fn new(alloc: Global, first: u32, room: usize, other: &Put) -> Result<Run, NoMemory>
-        ensures first { IfOk result (λ run. run.first ≡ first) }
-        ensures room { IfOk result (λ run. room ≤ run.room) }
-        ensures none { IfOk result (λ run. run.puts ≡ []) }
+impl Many {
+    /// No nodes, and room for so many.
+    pub(crate) fn new(alloc: Global, room: usize) -> Result<Many, NoMemory>
+        ensures none { IfOk result (λ many. many.puts.items ≡ []) }
+        ensures room { IfOk result (λ many. vec_capacity many.puts ≡ room) }
     {
-        if room <= FEW {
-            let puts = array::from_fn(|_| other.again());
-            let count = 0;
-            return Ok(Run {
-                kept: Kept::Few { first, count, puts },
-            });
-        }
-        let puts = Box::new(alloc, Vec::with_capacity(alloc, room)?)?;
-        Ok(Run {
-            kept: Kept::Many { first, puts },
+        Ok(Many {
+            puts: Vec::with_capacity(alloc, room)?,
         })
     }
 
-    /// How many puts there are.
-    #[inline(always)]
-    pub(crate) fn count(&self) -> usize
-        ensures { result ≡ length self.now.puts }
+    /// How many nodes there are.
+    pub(crate) fn count(&self) -> u64
+        ensures { result ≡ length (many_nodes self.now) }
     {
-        match &self.kept {
-            Kept::Few { count, .. } => *count as usize,
-            Kept::Many { puts, .. } => puts.len(),
-        }
+        self.puts.len() as u64
     }
 
-    /// The number of the slot of put `index`, counted from 0.
-    #[inline(always)]
-    pub(crate) fn slot(&self, index: usize) -> usize
-        requires { index ≤ length self.now.puts }
-        ensures { result ≡ self.now.first + index }
+    /// Puts the next node. It fails where its slot has one.
+    pub(crate) fn put(&mut self, slots: &Slots, node: Node) -> Result<(), NoMemory>
+        requires keeps { KeepsMany slots.now self.old }
+        requires room { length (many_nodes self.old) < vec_capacity self.old.puts }
+        ensures keeps { KeepsMany slots.now self.new }
+        ensures room { vec_capacity self.new.puts ≡ vec_capacity self.old.puts }
+        ensures put { OnOk result (many_nodes self.new ≡ many_nodes self.old ++ node ∷ []) }
+        ensures same { OnErr result (self.new ≡ self.old) }
     {
-        match &self.kept {
-            Kept::Few { first, .. } => *first as usize + index,
-            Kept::Many { first, .. } => *first as usize + index,
-        }
+        let put = set(&slots.nodes[self.puts.len()], node)?;
+        self.puts.push_reserved(put);
+        Ok(())
     }
 
-    /// Put `index`, counted from 0.
-    #[inline(always)]
-    pub(crate) fn put(&self, index: usize) -> &Put
-        requires { index < length self.now.puts }
-        ensures { slice_get self.now.puts index ≡ Some result.now }
+    /// Node `index`, counted from 0.
+    pub(crate) fn node(&self, slots: &Slots, index: usize) -> Node
+        requires keeps { KeepsMany slots.now self.now }
+        requires there { index < length (many_nodes self.now) }
+        ensures { slice_get (many_nodes self.now) index ≡ Some result }
     {
-        match &self.kept {
-            Kept::Few { puts, .. } => match puts.get(index) {
-                Some(put) => put,
-                None => unreachable!(),
-            },
-            Kept::Many { puts, .. } => &puts[index],
-        }
-    }
-
-    /// Adds a put at the end.
-    pub(crate) fn push(&mut self, put: Put)
-        requires { length self.old.puts < self.old.room }
-        ensures { self.new ≡ record self.old { puts = self.old.puts ++ put ∷ [] } }
-    {
-        let at = self.count();
-        match &mut self.kept {
-            Kept::Few { puts, .. } => set_item(puts, at, put),
-            Kept::Many { puts, .. } => puts.push_reserved(put),
-        }
-        if let Kept::Few { count, .. } = &mut self.kept {
-            *count += 1;
-        }
+        *slots.nodes[index].value(&self.puts[index])
     }
 }
 
-// Sets item `at`.
-fn set_item<T: Drop>(items: &mut [T], at: usize, item: T)
-    requires { at < length items.old }
-    ensures { items.new ≡ slice_set items.old at item }
+// Sets a slot. It fails where the slot is set already.
+fn set<T: Drop>(slot: &OnceSlot<T, AnyNode>, value: T) -> Result<Written<T>, NoMemory>
+    ensures { IfOk result (λ put. (put.of ≡ slot.now.id) × (put.value ≡ value)) }
 {
-    items[at] = item;
+    slot.set_written(value).map_err(|_value| NoMemory)
 }
