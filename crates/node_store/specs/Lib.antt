@@ -7,3 +7,4 @@ pub mod Shapes
 pub mod Runs
 pub mod Plain
 pub mod Slots
+pub mod RowPages

@@ -1,11 +1,11 @@
 // The nodes of one update, by range.
-ghost use Rattle.std.specs.Prelude.{◌≡◌, ℕ, ◌+◌, ◌*◌, ◌^◌, ◌<◌, ◌≤◌, [], length, IfOk, MatchOption, Some, unwrap_or, slice_get};
+ghost use Rattle.std.specs.Prelude.{◌≡◌, ℕ, ◌+◌, ◌*◌, ◌^◌, ◌<◌, ◌≤◌, [], length, IfOk, MatchOption, Some, slice_get};
 ghost use Rattle.std.specs.List.{zip};
-ghost use Rattle.std.specs.Option.{option_map};
 ghost use Rattle.std.specs.Arc.{arc_value};
 ghost use Rattle.tree_geom.specs.Geometry.{tree_range};
 ghost use Rattle.range_log.specs.Rows.{levels_of};
 ghost use Rattle.node_store.specs.UpdateRows.{bytes_of_page, stored_of, IsNodeFor, HasNoNodeFor, HasRangesOf};
+ghost use Rattle.node_store.specs.RowPages.{pages_in, folds_in};
 ghost use Rattle.page_store.specs.Stored.{bytes_of_pages};
 
 use crate::NoMemory;
@@ -21,6 +21,33 @@ use std::sync::Arc;
 use std::sync::ledger::Ledger;
 use tree_geom::{PageSize, Range, Steps, Touch};
 
+// The update's pages and those of the blob that it stores anew.
+#[derive(Drop)]
+struct Both {
+    pages: Arc<Pages>,
+    folds: Folds,
+}
+
+// The pages of a row. Most rows store no page of the blob anew.
+#[derive(Drop)]
+enum Stored {
+    Own(Arc<Pages>),
+    Folding(Box<Both>),
+}
+
+impl Stored {
+    // The update's own.
+    #[inline(always)]
+    fn pages(&self) -> &Pages
+        ensures { result.now ≡ pages_in self.now }
+    {
+        match self {
+            Stored::Own(pages) => pages,
+            Stored::Folding(both) => &both.pages,
+        }
+    }
+}
+
 /// All nodes of one update, where they lie in the house, the update's pages, and the pages of the blob that it stores anew.
 ///
 /// The nodes stand by the size of their ranges, the largest first, and then by offset, and there is one for each range of a tree of
@@ -29,9 +56,7 @@ use tree_geom::{PageSize, Range, Steps, Touch};
 pub struct Row {
     blob: u64,
     offset: u64,
-    pages: Arc<Pages>,
-    // None where there are none, as in most rows
-    folds: Option<Box<Folds>>,
+    stored: Stored,
     // what a look at a node needs stands side by side
     nodes: RowNodes,
     shape: Shape,
@@ -43,8 +68,7 @@ impl Drop for Row {
         let Row {
             blob: _,
             offset: _,
-            pages: _,
-            folds: _,
+            stored: _,
             nodes: _,
             shape: _,
         } = self;
@@ -52,12 +76,11 @@ impl Drop for Row {
 }
 
 impl Model for Row {
-    ghost use Rattle.std.specs.Prelude.{◌+◌, [], unwrap_or};
+    ghost use Rattle.std.specs.Prelude.{◌+◌};
     ghost use Rattle.std.specs.List.{zip};
-    ghost use Rattle.std.specs.Arc.{arc_value};
     ghost use Rattle.range_log.specs.Rows.{levels_of};
     ghost use Rattle.node_store.specs.UpdateRows.{UpdateRow};
-    ghost use Rattle.std.specs.Option.{option_map};
+    ghost use Rattle.node_store.specs.RowPages.{pages_in, folds_in};
     ghost use Rattle.node_store.specs.RowKept.{KeepsRow};
 
     ghost Value = { UpdateRow };
@@ -70,8 +93,8 @@ impl Model for Row {
           touch = r.shape.touch;
           nodes = zip (levels_of r.shape.page_size r.shape.touch (r.shape.height + 1)) r.nodes.nodes;
           spot = r.nodes.spot;
-          pages = arc_value r.pages;
-          folds = unwrap_or (option_map (λ b. b.value) r.folds) [];
+          pages = pages_in r.stored;
+          folds = folds_in r.stored;
         } };
 
     ghost invariant = { KeepsRow };
@@ -109,12 +132,11 @@ impl Row {
           folds = folds;
         }) }
     {
-        let folds = kept(alloc, folds)?;
+        let stored = kept(alloc, pages, folds)?;
         Ok(Row {
             blob,
             offset,
-            pages,
-            folds,
+            stored,
             nodes,
             shape: Shape::of(touch, version, height, p),
         })
@@ -193,16 +215,16 @@ impl Row {
     pub fn pages(&self) -> &Pages
         ensures { result.now ≡ self.now.pages }
     {
-        &self.pages
+        self.stored.pages()
     }
 
     /// The pages of the blob that the update stores anew, or None where there are none.
     pub fn folds(&self) -> Option<&Folds>
         ensures { MatchOption result (self.now.folds ≡ []) (λ folds. folds.now ≡ self.now.folds) }
     {
-        match &self.folds {
-            Some(folds) => Some(folds),
-            None => None,
+        match &self.stored {
+            Stored::Own(_pages) => None,
+            Stored::Folding(both) => Some(&both.folds),
         }
     }
 
@@ -215,24 +237,25 @@ impl Row {
         ensures bytes { q < length self.now.pages.pages
             → result.now.bytes ≡ bytes_of_page self.now.pages.page_size (bytes_of_pages self.now.pages.pages) q }
     {
-        let count = self.pages.count();
+        let pages = self.stored.pages();
+        let count = pages.count();
         if q < count {
-            self.pages.page(q)
-        } else {
-            match &self.folds {
-                Some(folds) => folds.page(q - count),
-                None => unreachable!(),
-            }
+            return pages.page(q);
+        }
+        match &self.stored {
+            Stored::Own(_pages) => unreachable!(),
+            Stored::Folding(both) => both.folds.page(q - count),
         }
     }
 }
 
 // The pages as a row keeps them.
-fn kept(alloc: Global, folds: Folds) -> Result<Option<Box<Folds>>, NoMemory>
-    ensures { IfOk result (λ kept. unwrap_or (option_map (λ b. b.value) kept) [] ≡ folds) }
+fn kept(alloc: Global, pages: Arc<Pages>, folds: Folds) -> Result<Stored, NoMemory>
+    ensures pages { IfOk result (λ stored. pages_in stored ≡ arc_value pages) }
+    ensures folds { IfOk result (λ stored. folds_in stored ≡ folds) }
 {
     if folds.count() == 0 {
-        return Ok(None);
+        return Ok(Stored::Own(pages));
     }
-    Ok(Some(Box::new(alloc, folds)?))
+    Ok(Stored::Folding(Box::new(alloc, Both { pages, folds })?))
 }
